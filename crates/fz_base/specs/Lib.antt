@@ -1,0 +1,10 @@
+pub mod Agreement
+pub mod Buffer
+pub mod Counts
+pub mod Kind
+pub mod MemSink
+pub mod MemSource
+pub mod MemText
+pub mod Meter
+pub mod Sink
+pub mod Source

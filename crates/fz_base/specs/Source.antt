@@ -1,0 +1,24 @@
+-- What the calls of a source answer and log. Held bytes and ranges are none where a source does not tell them.
+use Rattle.std.specs.Prelude.{ℕ, ◌≡◌, ◌⊎◌, List, [], ◌∷◌, ◌++◌, length, take, drop, Option, Some, IfSome, Result, Ok, Err}
+use Rattle.std.specs.Option.{option_map}
+
+-- the buffer has the held bytes from a place on
+abbrev pub Reads : Option (List ℕ) → ℕ → List ℕ → Type 0
+Reads held at buffer = IfSome held (λ bytes. buffer ≡ take (length buffer) (drop at bytes))
+
+-- the ranges read, with one more: where it starts, and its length
+abbrev pub logged : ℕ → ℕ → Option (List (ℕ × ℕ)) → Option (List (ℕ × ℕ))
+logged at count ranges = option_map (λ rs. rs ++ (at, count) ∷ []) ranges
+
+-- a failed read logs its range or leaves the list as it was
+abbrev pub MayLog : ℕ → ℕ → Option (List (ℕ × ℕ)) → Option (List (ℕ × ℕ)) → Type 0
+MayLog at count old new = (new ≡ old) ⊎ (new ≡ logged at count old)
+
+-- where the bytes are told, there are so many
+abbrev pub HoldsLength : Option (List ℕ) → ℕ → Type 0
+HoldsLength held count = IfSome held (λ bytes. length bytes ≡ count)
+
+-- the attached length after a call of `attach`: what it answered, or as before
+abbrev pub attached_by : {E : Type 0} → Result ℕ E → Option ℕ → Option ℕ
+attached_by (Ok count) before = Some count
+attached_by (Err e) before = before

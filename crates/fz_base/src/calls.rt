@@ -1,0 +1,107 @@
+//! The counts of an object, and the numbered calls of one in memory that are told to fail.
+ghost use Rattle.std.specs.Prelude.{◌≡◌, ◌+◌, ◌-◌, ◌^◌, ◌↔◌, IfOk, Ok, IsErr, IsErrOf, IsTrue, Contains, min};
+ghost use Rattle.fz_base.specs.Counts.{HasCause};
+ghost use Rattle.fz_base.specs.declared.failure.Failed.TheVariants.{Fault, NoMemory};
+
+use crate::Failed;
+use std::io;
+
+/// How often the calls of an object failed, and how often they found no memory.
+#[derive(Drop)]
+pub(crate) struct Counts {
+    pub(crate) faults: u64,
+    pub(crate) wants: u64,
+}
+
+impl Counts {
+    pub(crate) fn new() -> Counts
+        ensures faults { result.faults ≡ 0 }
+        ensures wants { result.wants ≡ 0 }
+    {
+        Counts {
+            faults: 0,
+            wants: 0,
+        }
+    }
+
+    /// Counts a fault and answers it.
+    pub(crate) fn fault<T>(&mut self) -> Result<T, Failed>
+        ensures answer { IsErrOf result Fault }
+        ensures wants { self.new.wants ≡ self.old.wants }
+        ensures cause { HasCause self.old.faults self.new.faults self.old.wants self.new.wants result }
+    {
+        self.faults = self.faults.saturating_add(1);
+        Err(Failed::Fault)
+    }
+
+    /// Counts a want and answers it.
+    pub(crate) fn want<T>(&mut self) -> Result<T, Failed>
+        ensures answer { IsErrOf result NoMemory }
+        ensures faults { self.new.faults ≡ self.old.faults }
+        ensures cause { HasCause self.old.faults self.new.faults self.old.wants self.new.wants result }
+    {
+        self.wants = self.wants.saturating_add(1);
+        Err(Failed::NoMemory)
+    }
+
+    /// Counts what the system answered to one call: want of memory as a want, all else as a fault.
+    pub(crate) fn noted<T>(&mut self, answer: io::Result<T>) -> Result<T, Failed>
+        ensures value { IfOk result (λ v. answer ≡ Ok v) }
+        ensures cause { HasCause self.old.faults self.new.faults self.old.wants self.new.wants result }
+    {
+        match answer {
+            Ok(value) => Ok(value),
+            Err(error) if error.kind() == io::ErrorKind::OutOfMemory => self.want(),
+            Err(_) => self.fault(),
+        }
+    }
+}
+
+/// The calls of an object in memory, counted from 0, and the numbers of those that fail.
+#[derive(Drop)]
+pub(crate) struct Calls {
+    pub(crate) failing: Vec<u32>,
+    pub(crate) next: u64,
+    pub(crate) counts: Counts,
+}
+
+impl Calls {
+    pub(crate) fn new(failing: Vec<u32>) -> Calls
+        ensures failing { result.failing.items ≡ failing.items }
+        ensures next { result.next ≡ 0 }
+        ensures faults { result.counts.faults ≡ 0 }
+        ensures wants { result.counts.wants ≡ 0 }
+    {
+        Calls {
+            failing,
+            next: 0,
+            counts: Counts::new(),
+        }
+    }
+
+    /// Counts one call, and fails where its number is among those that fail.
+    pub(crate) fn begin(&mut self) -> Result<(), Failed>
+        ensures exact { IsErr result ↔ Contains self.old.failing.items self.old.next }
+        ensures fault { IsErr result → IsErrOf result Fault }
+        ensures failing { self.new.failing.items ≡ self.old.failing.items }
+        ensures next { self.new.next ≡ min (self.old.next + 1) (2 ^ 64 - 1) }
+        ensures wants { self.new.counts.wants ≡ self.old.counts.wants }
+        ensures cause { HasCause self.old.counts.faults self.new.counts.faults self.old.counts.wants self.new.counts.wants result }
+    {
+        let number = self.next;
+        self.next = self.next.saturating_add(1);
+        if is_among(&self.failing, number) {
+            return self.counts.fault();
+        }
+        Ok(())
+    }
+}
+
+fn is_among(failing: &[u32], number: u64) -> bool
+    ensures { IsTrue result ↔ Contains failing.now number }
+{
+    match u32::try_from(number) {
+        Ok(number) => failing.contains(&number),
+        Err(_) => false,
+    }
+}

@@ -1,0 +1,83 @@
+//! A source over a file of the system.
+ghost use Rattle.std.specs.Prelude.{◌≡◌, ◌^◌, ◌≤◌, None, IfOk};
+ghost use Rattle.std.specs.Option.{option_map};
+
+use crate::calls::Counts;
+use crate::{Failed, Source};
+use std::fs::File;
+use std::io;
+use std::io::ErrorKind;
+use std::os::unix::fs::FileExt;
+use std::rt::Files;
+
+/// A longer file is not attached.
+const MAX_LEN: u64 = 1 << 62;
+
+#[derive(Drop)]
+struct Opened {
+    file: File,
+    size: u64,
+}
+
+/// A source over a file, which it opens for reading. It tells neither its bytes nor its ranges: that
+/// the file holds what is read is trusted.
+#[derive(Drop)]
+pub struct FileSource<R: Files<File = File>> {
+    rt: R,
+    opened: Option<Opened>,
+    counts: Counts,
+}
+
+impl<R: Files<File = File>> FileSource<R> {
+    /// A source that is not attached yet.
+    pub fn new(rt: R) -> FileSource<R>
+        ensures attached { ⟦<FileSource<R> as Source>⟧.attached result ≡ None }
+        ensures faults { ⟦<FileSource<R> as Source>⟧.faults result ≡ 0 }
+        ensures wants { ⟦<FileSource<R> as Source>⟧.wants result ≡ 0 }
+    {
+        FileSource {
+            rt,
+            opened: None,
+            counts: Counts::new(),
+        }
+    }
+}
+
+fn open<R: Files<File = File>>(rt: &R, name: &str) -> io::Result<Opened>
+    ensures { IfOk result (λ o. o.size ≤ 2 ^ 62) }
+{
+    let file = File::open(rt, name)?;
+    let size = file.metadata()?.len();
+    if size > MAX_LEN {
+        return Err(io::Error::from(ErrorKind::Unsupported));
+    }
+    Ok(Opened { file, size })
+}
+
+impl<R: Files<File = File>> Source for FileSource<R> {
+    ghost held = { λ _. None };
+
+    ghost ranges = { λ _. None };
+
+    ghost attached = { λ s. option_map (λ o. o.size) s.opened };
+
+    ghost faults = { λ s. s.counts.faults };
+
+    ghost wants = { λ s. s.counts.wants };
+
+    fn attach(&mut self, name: &str) -> Result<u64, Failed> {
+        let opened = self.counts.noted(open(&self.rt, name))?;
+        let size = opened.size;
+        self.opened = Some(opened);
+        Ok(size)
+    }
+
+    fn read_at(&mut self, at: u64, into: &mut [u8]) -> Result<(), Failed> {
+        let Some(opened) = &self.opened else {
+            unreachable!()
+        };
+        self.counts.noted(opened.file.read_exact_at(into, at))
+    }
+
+    ghost agrees = { λ _ _ _. tt };
+}

@@ -1,0 +1,41 @@
+//! The ground of fz: places and faults, the ends that a job reads and writes, and metered buffers.
+//!
+//! Reading order: `kind`, `fault`, `failure`; the traits `source`, `sink`, `text`, `gate`; the
+//! objects in memory `mem_source`, `fixed_source`, `mem_sink`, `mem_text`; the adapters
+//! `file_source`, `file_sink`, `std_text`; `buffer` and `meter`.
+#![tactic(auto)]
+
+mod buffer;
+mod calls;
+mod failure;
+mod fault;
+mod file_sink;
+mod file_source;
+mod fixed_source;
+mod gate;
+mod kind;
+mod mem_sink;
+mod mem_source;
+mod mem_text;
+mod meter;
+mod sink;
+mod source;
+mod std_text;
+mod text;
+
+pub use buffer::{Bytes, Numbers};
+pub use failure::{Failed, NoMemory, Short, Stop};
+pub use fault::{Fault, Place};
+pub use file_sink::FileSink;
+pub use file_source::FileSource;
+pub use fixed_source::FixedSource;
+pub use gate::{FreeGate, Gate};
+pub use kind::Kind;
+pub use mem_sink::MemSink;
+pub use mem_source::MemSource;
+pub use mem_text::MemText;
+pub use meter::Meter;
+pub use sink::Sink;
+pub use source::Source;
+pub use std_text::StdText;
+pub use text::Text;

@@ -1,0 +1,162 @@
+//! A sink in memory, whose calls can be told to fail.
+ghost use Rattle.std.specs.Prelude.{◌≡◌, ◌+◌, ◌-◌, ◌^◌, ◌<◌, ◌≤◌, ◌||◌, ◌↔◌, ◌++◌, IsTrue, length as len, take, drop, replicate, Some, [], false, OnOk, OnErr, IsErrOf, Contains, min, is_ok, if◌then◌else◌};
+ghost use Rattle.fz_base.specs.Counts.{HasCause, Rose};
+ghost use Rattle.fz_base.specs.Sink.{overwrite, written, MayWrite, emptied, KeepsFront};
+ghost use Rattle.fz_base.specs.declared.failure.Failed.TheVariants.{Fault};
+
+use crate::calls::Calls;
+use crate::{Failed, Sink};
+use std::alloc::{AllocError, Global};
+
+/// A sink in memory. It tells its contents, and fails in the calls of `create`, `write_at` and
+/// `finish`, counted together from 0, that it is told to.
+#[derive(Drop)]
+pub struct MemSink {
+    data: Vec<u8>,
+    created: bool,
+    keep: u32,
+    calls: Calls,
+}
+
+impl MemSink {
+    ghost use Rattle.fz_base.specs.MemSink.{sink_failing, sink_calls, sink_keep};
+
+    /// An empty sink. The calls whose numbers are in `failing` will fail, and a failing `write_at`
+    /// keeps the first `keep` bytes.
+    pub fn new(alloc: Global, failing: Vec<u32>, keep: u32) -> MemSink
+        ensures contents { ⟦<MemSink as Sink>⟧.contents result ≡ Some [] }
+        ensures created { ⟦<MemSink as Sink>⟧.created result ≡ false }
+        ensures faults { ⟦<MemSink as Sink>⟧.faults result ≡ 0 }
+        ensures wants { ⟦<MemSink as Sink>⟧.wants result ≡ 0 }
+        ensures failing { sink_failing result ≡ failing.items }
+        ensures calls { sink_calls result ≡ 0 }
+        ensures keep { sink_keep result ≡ keep }
+    {
+        MemSink {
+            data: Vec::new(alloc),
+            created: false,
+            keep,
+            calls: Calls::new(failing),
+        }
+    }
+
+    /// What was written.
+    pub fn contents(&self) -> &[u8]
+        ensures { ⟦<MemSink as Sink>⟧.contents self.now ≡ Some result.now }
+    {
+        &self.data
+    }
+
+    /// How often a call failed.
+    pub fn faults(&self) -> u64
+        ensures { result ≡ ⟦<MemSink as Sink>⟧.faults self.now }
+    {
+        self.calls.counts.faults
+    }
+}
+
+// Grows the contents with zeros to a length that it does not have yet.
+fn extend(contents: &mut Vec<u8>, to: usize) -> Result<(), AllocError>
+    ensures ok { OnOk result (contents.new.items ≡ contents.old.items ++ replicate (to - len contents.old.items) 0) }
+    ensures err { OnErr result (contents.new.items ≡ contents.old.items) }
+{
+    if contents.len() < to {
+        contents.resize(to, 0)?;
+    }
+    Ok(())
+}
+
+// Puts the bytes over those at a place.
+fn place(contents: &mut [u8], at: usize, bytes: &[u8])
+    requires { at + len bytes.now ≤ len contents.old }
+    ensures { contents.new ≡ take at contents.old ++ (bytes.now ++ drop (at + len bytes.now) contents.old) }
+{
+    contents[at..at + bytes.len()].copy_from_slice(bytes);
+}
+
+// Writes the bytes at a place, or nothing where there is no memory for them.
+fn put(contents: &mut Vec<u8>, at: u64, bytes: &[u8]) -> Result<(), AllocError>
+    ensures ok { OnOk result (contents.new.items ≡ overwrite at bytes.now contents.old.items) }
+    ensures err { OnErr result (contents.new.items ≡ contents.old.items) }
+{
+    if bytes.is_empty() {
+        return Ok(());
+    }
+    let at = at as usize;
+    let end = at.checked_add(bytes.len()).ok_or(AllocError)?;
+    extend(contents, end)?;
+    place(contents, at, bytes);
+    Ok(())
+}
+
+impl Sink for MemSink {
+    ghost use Rattle.fz_base.specs.MemSink.{sink_failing, sink_calls, sink_keep};
+
+    ghost contents = { λ s. Some s.data.items };
+
+    ghost created = { λ s. s.created };
+
+    ghost faults = { λ s. s.calls.counts.faults };
+
+    ghost wants = { λ s. s.calls.counts.wants };
+
+    fn create(&mut self, _name: &str) -> Result<(), Failed>
+        ensures contents { Some self.new.data.items ≡ (if is_ok result then emptied (Some self.old.data.items) else Some self.old.data.items) }
+        ensures created { self.new.created ≡ (is_ok result || self.old.created) }
+        ensures cause { HasCause self.old.calls.counts.faults self.new.calls.counts.faults self.old.calls.counts.wants self.new.calls.counts.wants result }
+
+        ensures exact { IsErrOf result Fault ↔ Contains (sink_failing self.old) (sink_calls self.old) }
+        ensures failing { sink_failing self.new ≡ sink_failing self.old }
+        ensures calls { sink_calls self.new ≡ min (sink_calls self.old + 1) (2 ^ 64 - 1) }
+        ensures keep { sink_keep self.new ≡ sink_keep self.old }
+    {
+        self.calls.begin()?;
+        self.data.clear();
+        self.created = true;
+        Ok(())
+    }
+
+    fn write_at(&mut self, at: u64, bytes: &[u8]) -> Result<(), Failed>
+        requires created { IsTrue self.old.created }
+        requires some { 0 < len bytes.now }
+        ensures written { OnOk result (Some self.new.data.items ≡ written at bytes.now (Some self.old.data.items)) }
+        ensures partly { OnErr result (MayWrite at bytes.now (Some self.old.data.items) (Some self.new.data.items)) }
+        ensures created { self.new.created ≡ self.old.created }
+        ensures cause { HasCause self.old.calls.counts.faults self.new.calls.counts.faults self.old.calls.counts.wants self.new.calls.counts.wants result }
+
+        ensures exact { IsErrOf result Fault ↔ Contains (sink_failing self.old) (sink_calls self.old) }
+        // A failing call keeps the front of the bytes, where there is memory for it.
+        ensures kept { IsErrOf result Fault → KeepsFront at (take (sink_keep self.old) bytes.now) (Some self.old.data.items) (Some self.new.data.items) self.old.calls.counts.wants self.new.calls.counts.wants }
+        ensures failing { sink_failing self.new ≡ sink_failing self.old }
+        ensures calls { sink_calls self.new ≡ min (sink_calls self.old + 1) (2 ^ 64 - 1) }
+        ensures keep { sink_keep self.new ≡ sink_keep self.old }
+    {
+        match self.calls.begin() {
+            Ok(()) => match put(&mut self.data, at, bytes) {
+                Ok(()) => Ok(()),
+                Err(_) => self.calls.counts.want(),
+            },
+            Err(failed) => {
+                let front = bytes.len().min(self.keep as usize);
+                if put(&mut self.data, at, &bytes[..front]).is_err() {
+                    let _ = self.calls.counts.want::<()>();
+                }
+                Err(failed)
+            }
+        }
+    }
+
+    fn finish(&mut self) -> Result<(), Failed>
+        requires { IsTrue self.old.created }
+        ensures contents { Some self.new.data.items ≡ Some self.old.data.items }
+        ensures created { self.new.created ≡ self.old.created }
+        ensures cause { HasCause self.old.calls.counts.faults self.new.calls.counts.faults self.old.calls.counts.wants self.new.calls.counts.wants result }
+
+        ensures exact { IsErrOf result Fault ↔ Contains (sink_failing self.old) (sink_calls self.old) }
+        ensures failing { sink_failing self.new ≡ sink_failing self.old }
+        ensures calls { sink_calls self.new ≡ min (sink_calls self.old + 1) (2 ^ 64 - 1) }
+        ensures keep { sink_keep self.new ≡ sink_keep self.old }
+    {
+        self.calls.begin()
+    }
+}

@@ -1,0 +1,118 @@
+//! A source in memory, whose calls can be told to fail.
+ghost use Rattle.std.specs.Prelude.{ℕ, ◌≡◌, ◌+◌, ◌-◌, ◌^◌, ◌≤◌, ◌<◌, ◌↔◌, length as len, vec_len, Some, None, [], IfOk, OnOk, OnErr, IsErrOf, Contains, min};
+ghost use Rattle.std.specs.Option.{ForSome};
+ghost use Rattle.fz_base.specs.Counts.{HasCause};
+ghost use Rattle.fz_base.specs.Source.{Reads, logged, MayLog, HoldsLength, attached_by};
+ghost use Rattle.fz_base.specs.declared.failure.Failed.TheVariants.{Fault};
+
+use crate::calls::Calls;
+use crate::{Failed, Source};
+use std::alloc::Global;
+
+/// A source over bytes in memory. It tells its bytes and the ranges that were read, and fails in
+/// the calls of `attach` and `read_at`, counted together from 0, that it is told to.
+#[derive(Drop)]
+pub struct MemSource {
+    bytes: Vec<u8>,
+    size: Option<u64>,
+    ranges: Vec<(u64, u64)>,
+    calls: Calls,
+    ghost short: { vec_len bytes ≤ 2 ^ 62 },
+    ghost whole: { ForSome size (λ n. n ≡ len bytes.items) },
+}
+
+impl MemSource {
+    ghost use Rattle.fz_base.specs.MemSource.{source_failing, source_calls};
+
+    /// A source that holds these bytes. The calls whose numbers are in `failing` will fail.
+    pub fn new(alloc: Global, bytes: Vec<u8>, failing: Vec<u32>) -> MemSource
+        requires { vec_len bytes ≤ 2 ^ 62 }
+        ensures held { ⟦<MemSource as Source>⟧.held result ≡ Some bytes.items }
+        ensures ranges { ⟦<MemSource as Source>⟧.ranges result ≡ Some [] }
+        ensures attached { ⟦<MemSource as Source>⟧.attached result ≡ None }
+        ensures faults { ⟦<MemSource as Source>⟧.faults result ≡ 0 }
+        ensures wants { ⟦<MemSource as Source>⟧.wants result ≡ 0 }
+        ensures failing { source_failing result ≡ failing.items }
+        ensures calls { source_calls result ≡ 0 }
+    {
+        MemSource {
+            bytes,
+            size: None,
+            ranges: Vec::new(alloc),
+            calls: Calls::new(failing),
+        }
+    }
+
+    /// The ranges read so far, each by its start and length.
+    pub fn reads(&self) -> &[(u64, u64)]
+        ensures { ⟦<MemSource as Source>⟧.ranges self.now ≡ Some result.now }
+    {
+        &self.ranges
+    }
+
+    /// How often a call failed.
+    pub fn faults(&self) -> u64
+        ensures { result ≡ ⟦<MemSource as Source>⟧.faults self.now }
+    {
+        self.calls.counts.faults
+    }
+}
+
+impl Source for MemSource {
+    ghost use Rattle.fz_base.specs.MemSource.{source_failing, source_calls};
+    ghost use Rattle.fz_base.specs.Agreement.{agrees_of};
+
+    ghost held = { λ s. Some s.bytes.items };
+
+    ghost ranges = { λ s. Some s.ranges.items };
+
+    ghost attached = { λ s. s.size };
+
+    ghost faults = { λ s. s.calls.counts.faults };
+
+    ghost wants = { λ s. s.calls.counts.wants };
+
+    fn attach(&mut self, _name: &str) -> Result<u64, Failed>
+        ensures attached { self.new.size ≡ attached_by result self.old.size }
+        ensures limit { IfOk result (λ n. n ≤ 2 ^ 62) }
+        ensures told { IfOk result (HoldsLength (Some self.old.bytes.items)) }
+        ensures held { Some self.new.bytes.items ≡ Some self.old.bytes.items }
+        ensures ranges { Some self.new.ranges.items ≡ Some self.old.ranges.items }
+        ensures cause { HasCause self.old.calls.counts.faults self.new.calls.counts.faults self.old.calls.counts.wants self.new.calls.counts.wants result }
+
+        ensures exact { IsErrOf result Fault ↔ Contains (source_failing self.old) (source_calls self.old) }
+        ensures failing { source_failing self.new ≡ source_failing self.old }
+        ensures calls { source_calls self.new ≡ min (source_calls self.old + 1) (2 ^ 64 - 1) }
+    {
+        self.calls.begin()?;
+        let size = self.bytes.len() as u64;
+        self.size = Some(size);
+        Ok(size)
+    }
+
+    fn read_at(&mut self, at: u64, into: &mut [u8]) -> Result<(), Failed>
+        requires within { (n : ℕ) × (self.old.size ≡ Some n) × (at + len into.old ≤ n) }
+        requires some { 0 < len into.old }
+        ensures bytes { OnOk result (Reads (Some self.old.bytes.items) at into.new) }
+        ensures logged { OnOk result (Some self.new.ranges.items ≡ logged at (len into.old) (Some self.old.ranges.items)) }
+        ensures log_err { OnErr result (MayLog at (len into.old) (Some self.old.ranges.items) (Some self.new.ranges.items)) }
+        ensures held { Some self.new.bytes.items ≡ Some self.old.bytes.items }
+        ensures attached { self.new.size ≡ self.old.size }
+        ensures cause { HasCause self.old.calls.counts.faults self.new.calls.counts.faults self.old.calls.counts.wants self.new.calls.counts.wants result }
+
+        ensures exact { IsErrOf result Fault ↔ Contains (source_failing self.old) (source_calls self.old) }
+        ensures failing { source_failing self.new ≡ source_failing self.old }
+        ensures calls { source_calls self.new ≡ min (source_calls self.old + 1) (2 ^ 64 - 1) }
+    {
+        self.calls.begin()?;
+        if self.ranges.push((at, into.len() as u64)).is_err() {
+            return self.calls.counts.want();
+        }
+        let from = at as usize;
+        let to = from + into.len();
+        into.copy_from_slice(&self.bytes[from..to]);
+        Ok(())
+    }
+
+    ghost agrees = { λ s n e. agrees_of s.size (len s.bytes.items) n s.whole e };
+}

@@ -1,0 +1,43 @@
+//! Where a job writes to: bytes at places.
+ghost use Rattle.std.specs.Prelude.{ℕ, ◌≡◌, ◌<◌, ◌||◌, Bool, IsTrue, List, length as len, Option, OnOk, OnErr, is_ok, if◌then◌else◌};
+ghost use Rattle.fz_base.specs.Counts.{HasCause};
+ghost use Rattle.fz_base.specs.Sink.{written, MayWrite, emptied};
+
+use crate::Failed;
+
+/// Bytes that are written at places. An object in memory tells its contents; a real file does not.
+pub trait Sink {
+    /// The contents, where they are told.
+    ghost contents: { Self → Option (List ℕ) };
+
+    /// Whether a `create` has succeeded.
+    ghost created: { Self → Bool };
+
+    /// How often a call failed.
+    ghost faults: { Self → ℕ };
+
+    /// How often a call found no memory.
+    ghost wants: { Self → ℕ };
+
+    /// Makes the output by its name, empty.
+    fn create(&mut self, name: &str) -> Result<(), Failed>
+        ensures contents { contents self.new ≡ (if is_ok result then emptied (contents self.old) else contents self.old) }
+        ensures created { created self.new ≡ (is_ok result || created self.old) }
+        ensures cause { HasCause (faults self.old) (faults self.new) (wants self.old) (wants self.new) result };
+
+    /// Writes all bytes from `at` on. A gap between the old end and `at` reads as 0.
+    fn write_at(&mut self, at: u64, bytes: &[u8]) -> Result<(), Failed>
+        requires created { IsTrue (created self.old) }
+        requires some { 0 < len bytes.now }
+        ensures written { OnOk result (contents self.new ≡ written at bytes.now (contents self.old)) }
+        ensures partly { OnErr result (MayWrite at bytes.now (contents self.old) (contents self.new)) }
+        ensures created { created self.new ≡ created self.old }
+        ensures cause { HasCause (faults self.old) (faults self.new) (wants self.old) (wants self.new) result };
+
+    /// Ends the output; after Ok a real file is on the disk.
+    fn finish(&mut self) -> Result<(), Failed>
+        requires { IsTrue (created self.old) }
+        ensures contents { contents self.new ≡ contents self.old }
+        ensures created { created self.new ≡ created self.old }
+        ensures cause { HasCause (faults self.old) (faults self.new) (wants self.old) (wants self.new) result };
+}

@@ -1,0 +1,48 @@
+//! Where a job reads from: bytes at places.
+ghost use Rattle.std.specs.Prelude.{ℕ, ◌≡◌, ◌+◌, ◌^◌, ◌≤◌, ◌<◌, List, length as len, Option, Some, IfOk, OnOk, OnErr};
+ghost use Rattle.fz_base.specs.Counts.{HasCause};
+ghost use Rattle.fz_base.specs.Source.{Reads, logged, MayLog, HoldsLength, attached_by};
+
+use crate::Failed;
+
+/// Bytes that are read at places. An object in memory tells its bytes and the ranges that were
+/// read; a real file tells neither.
+pub trait Source {
+    /// The held bytes, where they are told.
+    ghost held: { Self → Option (List ℕ) };
+
+    /// The ranges read, each by its start and length, where they are told.
+    ghost ranges: { Self → Option (List (ℕ × ℕ)) };
+
+    /// The attached length, or none before the first `attach` that succeeded.
+    ghost attached: { Self → Option ℕ };
+
+    /// How often a call failed.
+    ghost faults: { Self → ℕ };
+
+    /// How often a call found no memory.
+    ghost wants: { Self → ℕ };
+
+    /// Opens the source by its name and answers its length in bytes.
+    fn attach(&mut self, name: &str) -> Result<u64, Failed>
+        ensures attached { attached self.new ≡ attached_by result (attached self.old) }
+        ensures limit { IfOk result (λ n. n ≤ 2 ^ 62) }
+        ensures told { IfOk result (HoldsLength (held self.old)) }
+        ensures held { held self.new ≡ held self.old }
+        ensures ranges { ranges self.new ≡ ranges self.old }
+        ensures cause { HasCause (faults self.old) (faults self.new) (wants self.old) (wants self.new) result };
+
+    /// Reads the bytes from `at` on into the whole of `into`.
+    fn read_at(&mut self, at: u64, into: &mut [u8]) -> Result<(), Failed>
+        requires within { (n : ℕ) × (attached self.old ≡ Some n) × (at + len into.old ≤ n) }
+        requires some { 0 < len into.old }
+        ensures bytes { OnOk result (Reads (held self.old) at into.new) }
+        ensures logged { OnOk result (ranges self.new ≡ logged at (len into.old) (ranges self.old)) }
+        ensures log_err { OnErr result (MayLog at (len into.old) (ranges self.old) (ranges self.new)) }
+        ensures held { held self.new ≡ held self.old }
+        ensures attached { attached self.new ≡ attached self.old }
+        ensures cause { HasCause (faults self.old) (faults self.new) (wants self.old) (wants self.new) result };
+
+    /// A source that is attached and tells its bytes tells as many as its attached length.
+    ghost agrees: { (s : Self) (n : ℕ) → attached s ≡ Some n → HoldsLength (held s) n };
+}

@@ -1,0 +1,45 @@
+//! A text over standard output.
+ghost use Rattle.std.specs.Prelude.{◌≡◌, None};
+
+use crate::calls::Counts;
+use crate::{Failed, Text};
+use std::io;
+use std::io::Write;
+
+/// Standard output. It tells no contents.
+#[derive(Drop)]
+pub struct StdText<R: Print + Drop> {
+    rt: R,
+    counts: Counts,
+}
+
+impl<R: Print + Drop> StdText<R> {
+    /// The text of this runtime's standard output.
+    pub fn new(rt: R) -> StdText<R>
+        ensures faults { ⟦<StdText<R> as Text>⟧.faults result ≡ 0 }
+        ensures wants { ⟦<StdText<R> as Text>⟧.wants result ≡ 0 }
+    {
+        StdText {
+            rt,
+            counts: Counts::new(),
+        }
+    }
+}
+
+fn print_all<R: Print>(rt: &R, bytes: &[u8]) -> io::Result<()> {
+    let mut out = io::writer(rt);
+    out.write_all(bytes)?;
+    out.flush()
+}
+
+impl<R: Print + Drop> Text for StdText<R> {
+    ghost contents = { λ _. None };
+
+    ghost faults = { λ t. t.counts.faults };
+
+    ghost wants = { λ t. t.counts.wants };
+
+    fn put(&mut self, bytes: &[u8]) -> Result<(), Failed> {
+        self.counts.noted(print_all(&self.rt, bytes))
+    }
+}
