@@ -8,3 +8,4 @@ pub mod MemText
 pub mod Meter
 pub mod Sink
 pub mod Source
+pub mod Stop

@@ -1,4 +1,7 @@
 //! What a call answers where it could not do its work.
+ghost use Rattle.std.specs.Prelude.{◌≡◌};
+ghost use Rattle.fz_base.specs.Stop.{stop_of_read, stop_of_write, stop_of_short};
+
 use crate::Fault;
 use thiserror::Error;
 
@@ -46,4 +49,37 @@ pub enum Stop {
     /// There was no memory.
     #[error("NoMemory")]
     NoMemory,
+}
+
+impl Stop {
+    /// What a failed read makes of the call that read.
+    pub fn reading(failed: Failed) -> Stop
+        ensures { result ≡ stop_of_read failed }
+    {
+        match failed {
+            Failed::Fault => Stop::ReadFault,
+            Failed::NoMemory => Stop::NoMemory,
+        }
+    }
+
+    /// What a failed write makes of the call that wrote.
+    pub fn writing(failed: Failed) -> Stop
+        ensures { result ≡ stop_of_write failed }
+    {
+        match failed {
+            Failed::Fault => Stop::WriteFault,
+            Failed::NoMemory => Stop::NoMemory,
+        }
+    }
+}
+
+impl From<Short> for Stop {
+    ghost from_gives = { λ short stop. stop ≡ stop_of_short short };
+
+    fn from(short: Short) -> Stop {
+        match short {
+            Short::NoMemory => Stop::NoMemory,
+            Short::OverLimit { live, asked, limit } => Stop::OverLimit { live, asked, limit },
+        }
+    }
 }
