@@ -1,6 +1,6 @@
 //! The counts of an object, and the numbered calls of one in memory that are told to fail.
-ghost use Rattle.std.specs.Prelude.{◌≡◌, ◌+◌, ◌-◌, ◌^◌, ◌↔◌, IfOk, Ok, IsErr, IsErrOf, IsTrue, Contains, min};
-ghost use Rattle.fz_base.specs.Counts.{HasCause};
+ghost use Rattle.std.specs.Prelude.{◌≡◌, ◌+◌, ◌-◌, ◌^◌, ◌↔◌, IfOk, Ok, IsOk, IsErr, IsErrOf, IsTrue, Contains, min};
+ghost use Rattle.fz_base.specs.Counts.{HasCause, CountsFault, counted};
 ghost use Rattle.fz_base.specs.declared.failure.Failed.TheVariants.{Fault, NoMemory};
 
 use crate::Failed;
@@ -27,6 +27,7 @@ impl Counts {
     /// Counts a fault and answers it.
     pub(crate) fn fault<T>(&mut self) -> Result<T, Failed>
         ensures answer { IsErrOf result Fault }
+        ensures faults { self.new.faults ≡ counted self.old.faults }
         ensures wants { self.new.wants ≡ self.old.wants }
         ensures cause { HasCause self.old.faults self.new.faults self.old.wants self.new.wants result }
     {
@@ -46,6 +47,7 @@ impl Counts {
 
     /// Counts what the system answered to one call: want of memory as a want, all else as a fault.
     pub(crate) fn noted<T>(&mut self, answer: io::Result<T>) -> Result<T, Failed>
+        ensures ok { IsOk answer → IsOk result }
         ensures value { IfOk result (λ v. answer ≡ Ok v) }
         ensures cause { HasCause self.old.faults self.new.faults self.old.wants self.new.wants result }
     {
@@ -84,7 +86,8 @@ impl Calls {
         ensures exact { IsErr result ↔ Contains self.old.failing.items self.old.next }
         ensures fault { IsErr result → IsErrOf result Fault }
         ensures failing { self.new.failing.items ≡ self.old.failing.items }
-        ensures next { self.new.next ≡ min (self.old.next + 1) (2 ^ 64 - 1) }
+        ensures next { self.new.next ≡ counted self.old.next }
+        ensures counted { CountsFault self.old.failing.items self.old.next self.old.counts.faults self.new.counts.faults }
         ensures wants { self.new.counts.wants ≡ self.old.counts.wants }
         ensures cause { HasCause self.old.counts.faults self.new.counts.faults self.old.counts.wants self.new.counts.wants result }
     {

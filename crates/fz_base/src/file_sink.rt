@@ -21,6 +21,7 @@ pub struct FileSink<R: Files<File = File>> {
 impl<R: Files<File = File>> FileSink<R> {
     /// A sink that has made no file yet.
     pub fn new(rt: R) -> FileSink<R>
+        ensures contents { ⟦<FileSink<R> as Sink>⟧.contents result ≡ None }
         ensures created { ⟦<FileSink<R> as Sink>⟧.created result ≡ false }
         ensures faults { ⟦<FileSink<R> as Sink>⟧.faults result ≡ 0 }
         ensures wants { ⟦<FileSink<R> as Sink>⟧.wants result ≡ 0 }

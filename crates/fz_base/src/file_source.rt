@@ -31,6 +31,8 @@ pub struct FileSource<R: Files<File = File>> {
 impl<R: Files<File = File>> FileSource<R> {
     /// A source that is not attached yet.
     pub fn new(rt: R) -> FileSource<R>
+        ensures held { ⟦<FileSource<R> as Source>⟧.held result ≡ None }
+        ensures ranges { ⟦<FileSource<R> as Source>⟧.ranges result ≡ None }
         ensures attached { ⟦<FileSource<R> as Source>⟧.attached result ≡ None }
         ensures faults { ⟦<FileSource<R> as Source>⟧.faults result ≡ 0 }
         ensures wants { ⟦<FileSource<R> as Source>⟧.wants result ≡ 0 }

@@ -19,7 +19,10 @@ impl FixedSource {
     pub fn new(bytes: Vec<u8>) -> FixedSource
         requires { vec_len bytes ≤ 2 ^ 62 }
         ensures held { ⟦<FixedSource as Source>⟧.held result ≡ Some bytes.items }
+        ensures ranges { ⟦<FixedSource as Source>⟧.ranges result ≡ None }
         ensures attached { ⟦<FixedSource as Source>⟧.attached result ≡ None }
+        ensures faults { ⟦<FixedSource as Source>⟧.faults result ≡ 0 }
+        ensures wants { ⟦<FixedSource as Source>⟧.wants result ≡ 0 }
     {
         FixedSource { bytes, size: None }
     }

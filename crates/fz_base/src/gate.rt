@@ -1,7 +1,8 @@
 //! A place that each worker passes before each tile.
 
-/// Called by a worker before it works on a tile. It promises nothing but to return.
-pub trait Gate {
+/// Called by a worker before it works on a tile. It promises nothing but to return. Threads share
+/// one gate.
+pub trait Gate: Sync {
     /// The worker's number and the tile's number in its image.
     fn pass(&self, worker: u32, tile: u32);
 }

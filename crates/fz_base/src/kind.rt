@@ -15,7 +15,7 @@ pub enum Kind {
     BadCard,
     /// A name that stands once stands twice, or ZSIMPLE and ZTENSION both stand.
     Duplicate,
-    /// In an image to be packed, a byte of the header after END is not blank.
+    /// In an image to be packed, a byte of the header after the letters END is not blank.
     HeaderFill,
     /// In an image to be packed, a fill byte after the data is not 0.
     DataFill,
@@ -27,11 +27,11 @@ pub enum Kind {
     AlreadyPacked,
     /// A number passes a limit.
     Limit,
-    /// HDU 0 holds random groups.
+    /// HDU 0 has NAXIS1 0 and GROUPS T: random groups.
     Groups,
-    /// ZCMPTYPE names a codec that is not supported, or BYTEPIX is 8.
+    /// ZCMPTYPE is not the name of a supported codec, or BYTEPIX is 8.
     UnknownCodec,
-    /// The packed image is quantised, scaled or masked.
+    /// ZBITPIX is -32 or -64, or a scaling or mask column or card stands.
     Quantised,
     /// A binary table has ZTABLE T.
     CompressedTable,

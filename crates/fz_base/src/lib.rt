@@ -1,7 +1,7 @@
 //! The ground of fz: places and faults, the ends that a job reads and writes, and metered buffers.
 //!
-//! Reading order: `kind`, `fault`, `failure`; the traits `source`, `sink`, `text`, `gate`; the
-//! objects in memory `mem_source`, `fixed_source`, `mem_sink`, `mem_text`; the adapters
+//! Reading order: `kind`, `fault`, `failure`; the traits `source`, `sink`, `text`, `gate`; `calls`
+//! and the objects in memory `mem_source`, `fixed_source`, `mem_sink`, `mem_text`; the adapters
 //! `file_source`, `file_sink`, `std_text`; `buffer` and `meter`.
 #![tactic(auto)]
 
@@ -21,6 +21,8 @@ mod meter;
 mod sink;
 mod source;
 mod std_text;
+#[cfg(test)]
+mod tests;
 mod text;
 
 pub use buffer::{Bytes, Numbers};

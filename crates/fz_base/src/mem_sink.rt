@@ -1,10 +1,10 @@
 //! A sink in memory, whose calls can be told to fail.
-ghost use Rattle.std.specs.Prelude.{◌≡◌, ◌+◌, ◌-◌, ◌^◌, ◌<◌, ◌≤◌, ◌||◌, ◌↔◌, ◌++◌, IsTrue, length as len, take, drop, replicate, Some, [], false, OnOk, OnErr, IsErrOf, Contains, min, is_ok, if◌then◌else◌};
-ghost use Rattle.fz_base.specs.Counts.{HasCause, Rose};
+ghost use Rattle.std.specs.Prelude.{◌≡◌, ◌+◌, ◌-◌, ◌^◌, ◌<◌, ◌≤◌, ◌||◌, ◌↔◌, ◌++◌, IsTrue, length as len, take, drop, replicate, Some, [], false, OnOk, OnErr, IsErr, IsErrOf, Contains, min, is_ok, if◌then◌else◌};
+ghost use Rattle.fz_base.specs.Counts.{HasCause, CountsFault, Rose};
 ghost use Rattle.fz_base.specs.Sink.{overwrite, written, MayWrite, emptied, KeepsFront};
-ghost use Rattle.fz_base.specs.declared.failure.Failed.TheVariants.{Fault};
+ghost use Rattle.fz_base.specs.declared.failure.Failed.TheVariants.{Fault, NoMemory};
 
-use crate::calls::Calls;
+use crate::calls::{Calls, Counts};
 use crate::{Failed, Sink};
 use std::alloc::{AllocError, Global};
 
@@ -89,6 +89,19 @@ fn put(contents: &mut Vec<u8>, at: u64, bytes: &[u8]) -> Result<(), AllocError>
     Ok(())
 }
 
+// Writes what a failing call keeps, or counts a want where there is no memory for it.
+fn put_front(contents: &mut Vec<u8>, counts: &mut Counts, at: u64, bytes: &[u8], keep: u32)
+    ensures kept { KeepsFront at (take keep bytes.now) (Some contents.old.items) (Some contents.new.items) counts.old.wants counts.new.wants }
+    ensures faults { counts.new.faults ≡ counts.old.faults }
+    ensures wants { counts.old.wants ≤ counts.new.wants }
+    ensures wants_stay { counts.old.wants ≡ 2 ^ 64 - 1 → counts.new.wants ≡ 2 ^ 64 - 1 }
+{
+    let kept = bytes.len().min(keep as usize);
+    if put(contents, at, &bytes[..kept]).is_err() {
+        let _ = counts.want::<()>();
+    }
+}
+
 impl Sink for MemSink {
     ghost use Rattle.fz_base.specs.MemSink.{sink_failing, sink_calls, sink_keep};
 
@@ -105,7 +118,9 @@ impl Sink for MemSink {
         ensures created { self.new.created ≡ (is_ok result || self.old.created) }
         ensures cause { HasCause self.old.calls.counts.faults self.new.calls.counts.faults self.old.calls.counts.wants self.new.calls.counts.wants result }
 
+        ensures only_faults { IsErr result → IsErrOf result Fault }
         ensures exact { IsErrOf result Fault ↔ Contains (sink_failing self.old) (sink_calls self.old) }
+        ensures counted { CountsFault (sink_failing self.old) (sink_calls self.old) self.old.calls.counts.faults self.new.calls.counts.faults }
         ensures failing { sink_failing self.new ≡ sink_failing self.old }
         ensures calls { sink_calls self.new ≡ min (sink_calls self.old + 1) (2 ^ 64 - 1) }
         ensures keep { sink_keep self.new ≡ sink_keep self.old }
@@ -125,6 +140,9 @@ impl Sink for MemSink {
         ensures cause { HasCause self.old.calls.counts.faults self.new.calls.counts.faults self.old.calls.counts.wants self.new.calls.counts.wants result }
 
         ensures exact { IsErrOf result Fault ↔ Contains (sink_failing self.old) (sink_calls self.old) }
+        ensures counted { CountsFault (sink_failing self.old) (sink_calls self.old) self.old.calls.counts.faults self.new.calls.counts.faults }
+        // Without memory nothing is written.
+        ensures nothing { IsErrOf result NoMemory → self.new.data.items ≡ self.old.data.items }
         // A failing call keeps the front of the bytes, where there is memory for it.
         ensures kept { IsErrOf result Fault → KeepsFront at (take (sink_keep self.old) bytes.now) (Some self.old.data.items) (Some self.new.data.items) self.old.calls.counts.wants self.new.calls.counts.wants }
         ensures failing { sink_failing self.new ≡ sink_failing self.old }
@@ -137,10 +155,7 @@ impl Sink for MemSink {
                 Err(_) => self.calls.counts.want(),
             },
             Err(failed) => {
-                let front = bytes.len().min(self.keep as usize);
-                if put(&mut self.data, at, &bytes[..front]).is_err() {
-                    let _ = self.calls.counts.want::<()>();
-                }
+                put_front(&mut self.data, &mut self.calls.counts, at, bytes, self.keep);
                 Err(failed)
             }
         }
@@ -152,7 +167,9 @@ impl Sink for MemSink {
         ensures created { self.new.created ≡ self.old.created }
         ensures cause { HasCause self.old.calls.counts.faults self.new.calls.counts.faults self.old.calls.counts.wants self.new.calls.counts.wants result }
 
+        ensures only_faults { IsErr result → IsErrOf result Fault }
         ensures exact { IsErrOf result Fault ↔ Contains (sink_failing self.old) (sink_calls self.old) }
+        ensures counted { CountsFault (sink_failing self.old) (sink_calls self.old) self.old.calls.counts.faults self.new.calls.counts.faults }
         ensures failing { sink_failing self.new ≡ sink_failing self.old }
         ensures calls { sink_calls self.new ≡ min (sink_calls self.old + 1) (2 ^ 64 - 1) }
         ensures keep { sink_keep self.new ≡ sink_keep self.old }

@@ -1,7 +1,7 @@
 //! A source in memory, whose calls can be told to fail.
-ghost use Rattle.std.specs.Prelude.{ℕ, ◌≡◌, ◌+◌, ◌-◌, ◌^◌, ◌≤◌, ◌<◌, ◌↔◌, length as len, vec_len, Some, None, [], IfOk, OnOk, OnErr, IsErrOf, Contains, min};
+ghost use Rattle.std.specs.Prelude.{ℕ, ◌≡◌, ◌+◌, ◌-◌, ◌^◌, ◌≤◌, ◌<◌, ◌↔◌, length as len, vec_len, Some, None, [], IfOk, OnOk, OnErr, IsErr, IsErrOf, Contains, min};
 ghost use Rattle.std.specs.Option.{ForSome};
-ghost use Rattle.fz_base.specs.Counts.{HasCause};
+ghost use Rattle.fz_base.specs.Counts.{HasCause, CountsFault};
 ghost use Rattle.fz_base.specs.Source.{Reads, logged, MayLog, HoldsLength, attached_by};
 ghost use Rattle.fz_base.specs.declared.failure.Failed.TheVariants.{Fault};
 
@@ -80,7 +80,9 @@ impl Source for MemSource {
         ensures ranges { Some self.new.ranges.items ≡ Some self.old.ranges.items }
         ensures cause { HasCause self.old.calls.counts.faults self.new.calls.counts.faults self.old.calls.counts.wants self.new.calls.counts.wants result }
 
+        ensures only_faults { IsErr result → IsErrOf result Fault }
         ensures exact { IsErrOf result Fault ↔ Contains (source_failing self.old) (source_calls self.old) }
+        ensures counted { CountsFault (source_failing self.old) (source_calls self.old) self.old.calls.counts.faults self.new.calls.counts.faults }
         ensures failing { source_failing self.new ≡ source_failing self.old }
         ensures calls { source_calls self.new ≡ min (source_calls self.old + 1) (2 ^ 64 - 1) }
     {
@@ -100,7 +102,10 @@ impl Source for MemSource {
         ensures attached { self.new.size ≡ self.old.size }
         ensures cause { HasCause self.old.calls.counts.faults self.new.calls.counts.faults self.old.calls.counts.wants self.new.calls.counts.wants result }
 
+        // A failing call logs nothing.
+        ensures unlogged { OnErr result (self.new.ranges.items ≡ self.old.ranges.items) }
         ensures exact { IsErrOf result Fault ↔ Contains (source_failing self.old) (source_calls self.old) }
+        ensures counted { CountsFault (source_failing self.old) (source_calls self.old) self.old.calls.counts.faults self.new.calls.counts.faults }
         ensures failing { source_failing self.new ≡ source_failing self.old }
         ensures calls { source_calls self.new ≡ min (source_calls self.old + 1) (2 ^ 64 - 1) }
     {

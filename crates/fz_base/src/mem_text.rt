@@ -1,6 +1,6 @@
 //! A text in memory, whose calls can be told to fail.
 ghost use Rattle.std.specs.Prelude.{◌≡◌, ◌+◌, ◌-◌, ◌^◌, ◌↔◌, Some, [], OnOk, OnErr, IsErrOf, Contains, min};
-ghost use Rattle.fz_base.specs.Counts.{HasCause};
+ghost use Rattle.fz_base.specs.Counts.{HasCause, CountsFault};
 ghost use Rattle.fz_base.specs.Sink.{appended, MayAppend};
 ghost use Rattle.fz_base.specs.declared.failure.Failed.TheVariants.{Fault};
 
@@ -63,6 +63,7 @@ impl Text for MemText {
         ensures cause { HasCause self.old.calls.counts.faults self.new.calls.counts.faults self.old.calls.counts.wants self.new.calls.counts.wants result }
 
         ensures exact { IsErrOf result Fault ↔ Contains (text_failing self.old) (text_calls self.old) }
+        ensures counted { CountsFault (text_failing self.old) (text_calls self.old) self.old.calls.counts.faults self.new.calls.counts.faults }
         // A failing call appends nothing.
         ensures nothing { OnErr result (self.new.data.items ≡ self.old.data.items) }
         ensures failing { text_failing self.new ≡ text_failing self.old }

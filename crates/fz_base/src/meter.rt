@@ -17,13 +17,12 @@ pub struct Meter {
 
 impl Model for Meter {
     ghost use Rattle.fz_base.specs.Meter.{Gauge, IsGauge};
-    ghost use Rattle.std.specs.Prelude.{◌≤◌};
 
     ghost Value = { Gauge };
 
     ghost view = { λ m. record { live = m.live; peak = m.peak; limit = m.limit } };
 
-    ghost invariant = { λ m. (m.live ≤ m.peak) × (m.peak ≤ m.limit) };
+    ghost invariant = { λ m. IsGauge (record { live = m.live; peak = m.peak; limit = m.limit }) };
 }
 
 impl Meter {

@@ -16,6 +16,7 @@ pub struct StdText<R: Print + Drop> {
 impl<R: Print + Drop> StdText<R> {
     /// The text of this runtime's standard output.
     pub fn new(rt: R) -> StdText<R>
+        ensures contents { ⟦<StdText<R> as Text>⟧.contents result ≡ None }
         ensures faults { ⟦<StdText<R> as Text>⟧.faults result ≡ 0 }
         ensures wants { ⟦<StdText<R> as Text>⟧.wants result ≡ 0 }
     {
