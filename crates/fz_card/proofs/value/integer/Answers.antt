@@ -1,0 +1,8 @@
+use Rattle.fz_card.proofs.Integers.{read_integer, read_no_integer}
+use Rattle.fz_card.proofs.value.integer.Goals as goal
+
+pub returns-clause-value : goal.returns-clause-value
+returns-clause-value c = read_integer c.args.text.now c.parsed.result (rw (← c.without_sign.ensures) c.if-without_sign-gt-MOST_DIGITS.false) c.parsed.ensures
+
+pub returns-clause-none : goal.returns-clause-none
+returns-clause-none c = read_no_integer c.args.text.now c.parsed.result (rw (← c.without_sign.ensures) c.if-without_sign-gt-MOST_DIGITS.false) c.parsed.ensures

@@ -1,0 +1,5 @@
+pub mod Layout
+pub mod Value
+pub mod Plain
+pub mod Made
+pub mod Reading

@@ -1,0 +1,54 @@
+//! A line of `N` bytes that is written from the left over blanks.
+ghost use Rattle.std.specs.Prelude.{◌≡◌, ◌+◌, ◌-◌, ◌≤◌, ℕ, List, [], ◌++◌, length, take, drop};
+ghost use Rattle.fz_card.specs.Layout.{blanks, filled};
+
+use std::marker::Model;
+
+/// The bytes that were written so far; behind them are blanks.
+#[derive(Drop)]
+pub(crate) struct Line<const N: usize> {
+    bytes: [u8; N],
+    len: usize,
+}
+
+impl<const N: usize> Model for Line<N> {
+    ghost Value = { List ℕ };
+
+    ghost view = { λ l. take l.len l.bytes };
+
+    ghost invariant = { λ l. (l.len ≤ N) × (drop l.len l.bytes ≡ blanks (N - l.len)) };
+}
+
+impl<const N: usize> Line<N> {
+    pub(crate) fn new() -> Self
+        ensures { result ≡ [] }
+    {
+        Line {
+            bytes: [b' '; N],
+            len: 0,
+        }
+    }
+
+    pub(crate) fn push(&mut self, text: &[u8])
+        requires { length self.old + length text.now ≤ N }
+        ensures { self.new ≡ self.old ++ text.now }
+    {
+        let end = self.len + text.len();
+        let bytes = &mut self.bytes[..];
+        bytes[self.len..end].copy_from_slice(text);
+        self.len = end;
+    }
+
+    pub(crate) fn push_blanks(&mut self, count: usize)
+        requires { length self.old + count ≤ N }
+        ensures { self.new ≡ self.old ++ blanks count }
+    {
+        self.len += count;
+    }
+
+    pub(crate) fn bytes(&self) -> [u8; N]
+        ensures { result ≡ filled N self.now }
+    {
+        self.bytes
+    }
+}

@@ -1,0 +1,61 @@
+//! Cards that are made of a name and a value, without a comment, in the fixed format (FITS 4.0, section 4.2).
+ghost use Rattle.std.specs.Prelude.{◌≡◌, ◌≤◌, ◌++◌, length, codes};
+ghost use Rattle.fz_card.specs.Made.{IsShort, IsCardText, value_card, right_aligned, int_card_bytes, logical_card_bytes, text_card_bytes};
+
+use crate::card::{CARD_LEN, Card, Name};
+use crate::line::Line;
+use itoa::Buffer;
+
+/// A card with an integer, which ends in column 30.
+pub fn int_card(name: Name, value: i64) -> Card
+    requires { IsShort value }
+    ensures { result.bytes ≡ int_card_bytes name.bytes value }
+{
+    let mut buffer = Buffer::new();
+    number_card(name, buffer.format(value).as_bytes())
+}
+
+/// A card with `T` or `F` in column 30.
+pub fn logical_card(name: Name, value: bool) -> Card
+    ensures { result.bytes ≡ logical_card_bytes name.bytes value }
+{
+    number_card(name, if value { b"T" } else { b"F" })
+}
+
+/// A card with a text: its opening quote in column 11, blanks up to 8 characters, the closing quote.
+pub fn text_card(name: Name, text: &[u8]) -> Card
+    requires { IsCardText text.now }
+    ensures { result.bytes ≡ text_card_bytes name.bytes text.now }
+{
+    let mut line = value_line(name);
+    line.push(b"'");
+    line.push(text);
+    line.push_blanks(8usize.saturating_sub(text.len()));
+    line.push(b"'");
+    Card {
+        bytes: line.bytes(),
+    }
+}
+
+/// The start of a card with a value: the name and `= `.
+fn value_line(name: Name) -> Line<CARD_LEN>
+    ensures { result ≡ name.bytes ++ codes "= " }
+{
+    let mut line = Line::new();
+    line.push(&name.bytes);
+    line.push(b"= ");
+    line
+}
+
+/// A card whose value ends in column 30.
+fn number_card(name: Name, text: &[u8]) -> Card
+    requires { length text.now ≤ 20 }
+    ensures { result.bytes ≡ value_card name.bytes (right_aligned 20 text.now) }
+{
+    let mut line = value_line(name);
+    line.push_blanks(20 - text.len());
+    line.push(text);
+    Card {
+        bytes: line.bytes(),
+    }
+}

@@ -1,0 +1,175 @@
+//! One table of cases for each public call.
+use crate::{Card, Name, int_card, logical_card, numbered, text_card};
+
+/// A card that begins with this text and is blank behind it.
+fn card(text: &[u8]) -> Card {
+    let mut bytes = [b' '; 80];
+    let len = text.len().min(80);
+    bytes[..len].copy_from_slice(&text[..len]);
+    Card { bytes }
+}
+
+#[test]
+fn names(rt: HostRuntime) {
+    let cases: [(&[u8], Name); 4] = [
+        (b"SIMPLE  =                    T", Name::SIMPLE),
+        (b"ZDITHER0=                    1", Name::ZDITHER0),
+        (b"END", Name::END),
+        (
+            b"NAXIS1  =",
+            Name {
+                bytes: *b"NAXIS1  ",
+            },
+        ),
+    ];
+    for (text, name) in cases {
+        assert_eq!(rt; card(text).name(), name);
+    }
+    assert!(rt; card(b"ENDS").name() != Name::END);
+}
+
+#[test]
+fn integers(rt: HostRuntime) {
+    let cases: [(&[u8], Option<i64>); 34] = [
+        (b"BITPIX  =                   16", Some(16)),
+        (b"BITPIX  =                  -32 / bits", Some(-32)),
+        (b"NAXIS   = 2", Some(2)),
+        (b"NAXIS   =  2/axes", Some(2)),
+        (b"NAXIS   = 016", Some(16)),
+        (b"NAXIS   = -0", Some(0)),
+        (b"NAXIS   = +7", Some(7)),
+        (b"NAXIS   = 2 /", Some(2)),
+        (b"NAXIS   = 2 / 3 / 4", Some(2)),
+        (
+            b"NAXIS   = 999999999999999999",
+            Some(999_999_999_999_999_999),
+        ),
+        (
+            b"NAXIS   = -999999999999999999",
+            Some(-999_999_999_999_999_999),
+        ),
+        (b"NAXIS   = 000000000000000001", Some(1)),
+        (
+            b"NAXIS   =                                                                     12",
+            Some(12),
+        ),
+        (b"NAXIS   = 1000000000000000000", None),
+        (b"NAXIS   = 0000000000000000001", None),
+        (b"NAXIS   = -1000000000000000000", None),
+        (b"NAXIS   = \t2", None),
+        (b"NAXIS   = 2\t", None),
+        (b"NAXIS   =2", None),
+        (b"NAXIS    = 2", None),
+        (b"NAXIS     2", None),
+        (b"NAXIS   =\t2", None),
+        (b"NAXIS   = 2 3", None),
+        (b"NAXIS   = + 2", None),
+        (b"NAXIS   = 2.", None),
+        (b"NAXIS   = 2E1", None),
+        (b"NAXIS   = T", None),
+        (b"NAXIS   = '2'", None),
+        (b"NAXIS   = +", None),
+        (b"NAXIS   = -+2", None),
+        (b"NAXIS   = ", None),
+        (b"NAXIS   = / 2", None),
+        (b"NAXIS   = 2\x00", None),
+        (b"NAXIS   = \xb2", None),
+    ];
+    for (text, value) in cases {
+        assert_eq!(rt; card(text).int(), value);
+    }
+}
+
+#[test]
+fn logicals(rt: HostRuntime) {
+    let cases: [(&[u8], Option<bool>); 13] = [
+        (b"SIMPLE  =                    T", Some(true)),
+        (b"SIMPLE  =                    T / conforms", Some(true)),
+        (b"EXTEND  =                    F", Some(false)),
+        (b"EXTEND  = F/", Some(false)),
+        (b"SIMPLE  =                    T F", None),
+        (b"SIMPLE  = TRUE", None),
+        (b"SIMPLE  = t", None),
+        (b"SIMPLE  = 'T'", None),
+        (b"SIMPLE  = 1", None),
+        (b"SIMPLE  = ", None),
+        (b"SIMPLE  =T", None),
+        (b"SIMPLE    T", None),
+        (b"SIMPLE  = \tT", None),
+    ];
+    for (text, value) in cases {
+        assert_eq!(rt; card(text).logical(), value);
+    }
+}
+
+#[test]
+fn integer_cards(rt: HostRuntime) {
+    let cases: [(Card, &[u8]); 4] = [
+        (int_card(Name::NAXIS, 2), b"NAXIS   =                    2"),
+        (
+            int_card(Name::BITPIX, -64),
+            b"BITPIX  =                  -64",
+        ),
+        (
+            int_card(Name::PCOUNT, 999_999_999_999_999_999),
+            b"PCOUNT  =   999999999999999999",
+        ),
+        (
+            int_card(Name::GCOUNT, -999_999_999_999_999_999),
+            b"GCOUNT  =  -999999999999999999",
+        ),
+    ];
+    for (made, text) in cases {
+        assert_eq!(rt; made, card(text));
+    }
+}
+
+#[test]
+fn logical_cards(rt: HostRuntime) {
+    let cases: [(Card, &[u8]); 2] = [
+        (
+            logical_card(Name::SIMPLE, true),
+            b"SIMPLE  =                    T",
+        ),
+        (
+            logical_card(Name::EXTEND, false),
+            b"EXTEND  =                    F",
+        ),
+    ];
+    for (made, text) in cases {
+        assert_eq!(rt; made, card(text));
+    }
+}
+
+#[test]
+fn text_cards(rt: HostRuntime) {
+    let cases: [(Card, &[u8]); 4] = [
+        (text_card(Name::XTENSION, b"IMAGE"), b"XTENSION= 'IMAGE   '"),
+        (
+            text_card(Name::XTENSION, b"BINTABLE"),
+            b"XTENSION= 'BINTABLE'",
+        ),
+        (
+            text_card(Name::ZCMPTYPE, b"NOCOMPRESS"),
+            b"ZCMPTYPE= 'NOCOMPRESS'",
+        ),
+        (text_card(Name::EXTNAME, b""), b"EXTNAME = '        '"),
+    ];
+    for (made, text) in cases {
+        assert_eq!(rt; made, card(text));
+    }
+}
+
+#[test]
+fn numbered_names(rt: HostRuntime) {
+    let cases: [(Name, &[u8; 8]); 5] = [
+        (numbered(b"NAXIS", 1), b"NAXIS1  "),
+        (numbered(b"ZNAXIS", 10), b"ZNAXIS10"),
+        (numbered(b"TFORM", 999), b"TFORM999"),
+        (numbered(b"", 12345678), b"12345678"),
+        (numbered(b"ZVAL", 0), b"ZVAL0   "),
+    ];
+    for (name, bytes) in cases {
+        assert_eq!(rt; name, Name { bytes: *bytes });
+    }
+}

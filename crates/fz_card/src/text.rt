@@ -1,0 +1,58 @@
+//! The text of a value that has no quotes: what stands in the value field before a comment, without the
+//! blanks around it.
+ghost use Rattle.std.specs.Prelude.{◌≡◌, ◌==◌, position};
+ghost use Rattle.fz_card.specs.Plain.{before_comment, skip_blanks, cut_blanks, ReadsPlainText};
+
+use crate::card::Card;
+
+/// What stands in columns 9 and 10 of a card with a value (FITS 4.0, section 4.1.2.2).
+const VALUE_INDICATOR: [u8; 2] = *b"= ";
+
+impl Card {
+    /// The text of the value, or `None` where columns 9 and 10 say that there is no value.
+    pub(crate) fn value_text(&self) -> Option<&[u8]>
+        ensures { ReadsPlainText self.now.bytes result }
+    {
+        let (front, field) = self.bytes.split_at(10);
+        if &front[8..] == VALUE_INDICATOR.as_slice() {
+            Some(without_last_blanks(without_first_blanks(without_comment(field))))
+        } else {
+            None
+        }
+    }
+}
+
+/// The front of the field up to the first `/`.
+fn without_comment(field: &[u8]) -> &[u8]
+    ensures { result.now ≡ before_comment field.now }
+{
+    match comment_start(field) {
+        Some(start) => &field[..start],
+        None => field,
+    }
+}
+
+fn comment_start(field: &[u8]) -> Option<usize>
+    ensures { result ≡ position (λ b. b == 47) field.now }
+{
+    field.iter().position(|byte| *byte == b'/')
+}
+
+fn without_first_blanks(mut text: &[u8]) -> &[u8]
+    ensures { result.now ≡ skip_blanks text.entry.now }
+{
+    while let [b' ', rest @ ..] = text {
+        text = rest;
+    }
+    text
+}
+
+fn without_last_blanks(text: &[u8]) -> &[u8]
+    ensures { result.now ≡ cut_blanks text.now }
+{
+    let mut len = text.len();
+    while len > 0 && text[len - 1] == b' ' {
+        len -= 1;
+    }
+    &text[..len]
+}
