@@ -10,9 +10,8 @@ use Rattle.std.proofs.lemmas.Str.{IsUtf8-from_ascii}
 use Rattle.std.proofs.lemmas.Str.Ascii.{IsAscii-nil, IsAscii-cons}
 use Rattle.std.proofs.lemmas.Str.Parse.{digit_from_value, digits_value_short, numerals_by_value, tells_digits}
 use Rattle.std.proofs.lemmas.Fmt.{decimal_is_IsNumeral, length-decimal-le, IsAscii-from_digits}
-use Rattle.fz_card.specs.Value.{IsIntegerText, Signs}
+use Rattle.fz_card.specs.Value.{IsShort, IsIntegerText, Signs}
 use Rattle.fz_card.specs.Plain.{ReadsSigned}
-use Rattle.fz_card.specs.Made.{IsShort}
 use Rattle.fz_card.proofs.Splits.{IsPlain}
 
 eqb-other : (a b : ℕ) → 48 ≤ a → b < 48 → eqb a b ≡ false
@@ -124,3 +123,18 @@ read_integer text (Some v) short reads = integer_reads text v (record { numeral 
 pub read_no_integer : (text : List ℕ) (read : Option ℤ) → length (without_leading_sign text) ≤ 18 → ReadsSigned text read → IfNone read ((v : ℤ) → ¬ (IsIntegerText text v))
 read_no_integer text None short reads = λ v is. let numeral = (reads_integer text v is).numeral in reads (numeral, reads_fits text numeral short)
 read_no_integer text (Some v) short reads = tt
+
+short_sign : (minus : Bool) (n : ℕ) → n < 10 ^ 18 → IsShort (cond minus (neg_ℤ (pos n)) (pos n))
+short_sign false n short = short
+short_sign true zero short = short
+short_sign true (suc n) short = short
+
+-- an integer has at most 18 digits
+pub integer_short : (text : List ℕ) (v : ℤ) → IsIntegerText text v → IsShort v
+integer_short text v is =
+    let reads = reads_integer text v is in
+    subst IsShort (sym reads.value) (short_sign _ _ (digits_value_short (numerals_by_value (AllDigits 10) tells_digits) (without_leading_sign text) 18 reads.numeral.1 reads.short))
+
+pub read_short : (text : List ℕ) (read : Option ℤ) → IfSome read (IsIntegerText text) → IfSome read IsShort
+read_short text None is = tt
+read_short text (Some v) is = integer_short text v is

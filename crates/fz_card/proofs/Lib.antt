@@ -5,3 +5,4 @@ pub mod Integers
 pub mod Values
 pub mod Lines
 pub mod Readings
+pub mod Texts

@@ -6,8 +6,8 @@ use Rattle.std.proofs.Math.Nat.{pow-le-pow_right}
 use Rattle.std.proofs.lemmas.Fmt.{length-decimal-le}
 use Rattle.std.proofs.lemmas.List.{append_assoc, append-nil, drop_at, take_at, drop-drop, length-append}
 use Rattle.fz_card.specs.Layout.{blanks, filled, card_name, value_field}
-use Rattle.fz_card.specs.Value.{HasValueText, IntegerValue, LogicalValue, logical_text}
-use Rattle.fz_card.specs.Made.{IsShort, value_card, right_aligned, int_card_bytes, logical_card_bytes, text_card_bytes, FitsName, numbered_name}
+use Rattle.fz_card.specs.Value.{IsShort, HasValueText, IntegerValue, LogicalValue, logical_text}
+use Rattle.fz_card.specs.Made.{value_card, right_aligned, int_card_bytes, logical_card_bytes, text_card_bytes, FitsName, numbered_name}
 use Rattle.fz_card.proofs.Blanks.{length-filled, length-padded, length-blanks}
 use Rattle.fz_card.proofs.Integers.{decimal_integer, length-signed_decimal}
 

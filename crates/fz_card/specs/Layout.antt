@@ -1,9 +1,10 @@
 -- The columns of a card: its name, its value indicator and its value field (FITS 4.0, section 4.1.2).
 use Rattle.std.specs.Prelude.{◌≡◌, ℕ, ◌-◌, List, ◌++◌, length, take, drop, replicate, codes}
+use Rattle.std.specs.Str.{byte}
 
 -- so many blanks: a blank is the space alone
 abbrev pub blanks : ℕ → List ℕ
-blanks count = replicate count 32
+blanks count = replicate count (byte " ")
 
 -- the text with blanks behind it, up to the length
 abbrev pub filled : ℕ → List ℕ → List ℕ

@@ -1,20 +1,20 @@
 -- The bytes of cards and names that are made, without a comment (FITS 4.0, section 4.2).
-use Rattle.std.specs.Prelude.{◌≢◌, ℕ, suc, ◌-◌, ◌^◌, ◌<◌, ◌≤◌, ℤ, pos, negsuc, Bool, not, ◌==◌, IsTrue, List, ◌++◌, length, codes, decimal, slice_index}
+use Rattle.std.specs.Prelude.{◌≢◌, ℕ, ◌-◌, ◌^◌, ◌<◌, ◌≤◌, ℤ, Bool, not, ◌==◌, IsTrue, List, ◌++◌, length, codes, decimal, slice_index}
 use Rattle.std.specs.Fmt.{signed_decimal}
 use Rattle.std.specs.List.{list_all}
+use Rattle.std.specs.Str.{byte}
 use Rattle.fz_card.specs.Layout.{blanks, filled, padded}
 use Rattle.fz_card.specs.Value.{logical_text}
 
--- at most 18 digits
-abbrev pub IsShort : ℤ → Type 0
-IsShort (pos n) = n < 10 ^ 18
-IsShort (negsuc n) = suc n < 10 ^ 18
+-- whether no byte of the text is a quote
+abbrev pub is_unquoted : List ℕ → Bool
+is_unquoted text = list_all (λ b. not (b == byte "'")) text
 
 -- a text that a card can hold: at most 68 bytes, none of them a quote, and no blank at its end
 pub record IsCardText (text : List ℕ) : Type 0 where
   pub fits : length text ≤ 68
-  pub unquoted : IsTrue (list_all (λ b. not (b == 39)) text)
-  pub trimmed : slice_index text (length text - 1) ≢ 32
+  pub unquoted : IsTrue (is_unquoted text)
+  pub trimmed : slice_index text (length text - 1) ≢ byte " "
 
 -- the text with blanks before it, up to the length
 abbrev pub right_aligned : ℕ → List ℕ → List ℕ

@@ -1,6 +1,7 @@
 -- The text of a value without quotes, found from the left: for functions inside the crate.
 use Rattle.std.specs.Prelude.{◌≡◌, ℕ, ◌==◌, ◌&&◌, if◌then◌else◌, List, [], ◌∷◌, length, Option, MatchOption, ℤ, FitsSigned}
 use Rattle.std.specs.Int.{w64}
+use Rattle.std.specs.Str.{byte}
 use Rattle.std.specs.Str.Parse.{IsNumeral, signed_digits_value, without_leading_sign}
 use Rattle.std.specs.Borrow.{Bor}
 use Rattle.fz_card.specs.Layout.{HasValueIndicator, value_field}
@@ -8,17 +9,17 @@ use Rattle.fz_card.specs.Layout.{HasValueIndicator, value_field}
 -- what stands before the first `/`
 abbrev pub before_comment : List ℕ → List ℕ
 before_comment [] = []
-before_comment (b ∷ bs) = if b == 47 then [] else b ∷ before_comment bs
+before_comment (b ∷ bs) = if b == byte "/" then [] else b ∷ before_comment bs
 
 -- the text without the blanks at its front
 abbrev pub skip_blanks : List ℕ → List ℕ
 skip_blanks [] = []
-skip_blanks (b ∷ bs) = if b == 32 then skip_blanks bs else b ∷ bs
+skip_blanks (b ∷ bs) = if b == byte " " then skip_blanks bs else b ∷ bs
 
 -- the text without the blanks at its end
 abbrev pub cut_blanks : List ℕ → List ℕ
 cut_blanks [] = []
-cut_blanks (b ∷ bs) = if b == 32 && (length (cut_blanks bs) == 0) then [] else b ∷ cut_blanks bs
+cut_blanks (b ∷ bs) = if b == byte " " && (length (cut_blanks bs) == 0) then [] else b ∷ cut_blanks bs
 
 -- what stands in the field before a comment, without the blanks around it
 abbrev pub plain_text : List ℕ → List ℕ

@@ -1,5 +1,5 @@
 -- The values of a card, by a split of its value field (FITS 4.0, sections 4.1.2.3 and 4.2).
-use Rattle.std.specs.Prelude.{◌≡◌, ℕ, ◌≤◌, ◌⊎◌, ℤ, pos, neg_ℤ, Bool, List, [], ◌∷◌, ◌++◌, length, codes, ⊤, if◌then◌else◌}
+use Rattle.std.specs.Prelude.{◌≡◌, ℕ, suc, ◌^◌, ◌<◌, ◌≤◌, ◌⊎◌, ℤ, pos, negsuc, neg_ℤ, Bool, List, [], ◌∷◌, ◌++◌, length, codes, ⊤, if◌then◌else◌}
 use Rattle.std.specs.Str.{byte}
 use Rattle.std.specs.Str.Parse.{IsNumeral, digits_value}
 use Rattle.fz_card.specs.Layout.{blanks, HasValueIndicator, value_field}
@@ -25,6 +25,11 @@ pub record HasValueText (card text : List ℕ) : Type 0 where
 -- the sign before a number n makes it v: `-` turns it, `+` and no sign keep it
 abbrev pub Signs : List ℕ → ℕ → ℤ → Type 0
 Signs sign n v = (((sign ≡ []) ⊎ (sign ≡ codes "+")) × (v ≡ pos n)) ⊎ ((sign ≡ codes "-") × (v ≡ neg_ℤ (pos n)))
+
+-- at most 18 digits
+abbrev pub IsShort : ℤ → Type 0
+IsShort (pos n) = n < 10 ^ 18
+IsShort (negsuc n) = suc n < 10 ^ 18
 
 -- an integer: an optional sign, then 1 to 18 decimal digits
 pub record IsIntegerText (text : List ℕ) (v : ℤ) : Type 0 where

@@ -6,16 +6,19 @@ pub const CARD_LEN: usize = 80;
 /// The length of a name in bytes.
 pub const NAME_LEN: usize = 8;
 
+/// The byte of a card at which its value field begins.
+pub(crate) const FIELD_START: usize = 10;
+
 /// The name of a card: columns 1 to 8, filled with blanks (FITS 4.0, section 4.1.2.1).
 #[derive(Clone, Copy, Debug, PartialEq, Eq)]
 pub struct Name {
-    pub bytes: [u8; 8],
+    pub bytes: [u8; NAME_LEN],
 }
 
 /// A card of a header: 80 bytes, of which any may be anything (FITS 4.0, section 4.1).
 #[derive(Clone, Copy, Debug, PartialEq, Eq)]
 pub struct Card {
-    pub bytes: [u8; 80],
+    pub bytes: [u8; CARD_LEN],
 }
 
 impl Card {

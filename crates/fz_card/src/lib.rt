@@ -10,7 +10,7 @@ mod names;
 mod text;
 mod value;
 
-pub use card::{Card, Name};
+pub use card::{CARD_LEN, Card, NAME_LEN, Name};
 pub use keywords::keywords_law;
 pub use made::{int_card, logical_card, text_card};
 pub use names::numbered;

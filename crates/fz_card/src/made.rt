@@ -1,10 +1,17 @@
 //! Cards that are made of a name and a value, without a comment, in the fixed format (FITS 4.0, section 4.2).
 ghost use Rattle.std.specs.Prelude.{◌≡◌, ◌≤◌, ◌++◌, length, codes};
-ghost use Rattle.fz_card.specs.Made.{IsShort, IsCardText, value_card, right_aligned, int_card_bytes, logical_card_bytes, text_card_bytes};
+ghost use Rattle.fz_card.specs.Value.{IsShort};
+ghost use Rattle.fz_card.specs.Made.{IsCardText, value_card, right_aligned, int_card_bytes, logical_card_bytes, text_card_bytes};
 
 use crate::card::{CARD_LEN, Card, Name};
 use crate::line::Line;
 use itoa::Buffer;
+
+/// The length of columns 11 to 30, at the end of which a number stands.
+const NUMBER_LEN: usize = 20;
+
+/// The fewest characters between the quotes of a text.
+const SHORTEST_TEXT: usize = 8;
 
 /// A card with an integer, which ends in column 30.
 pub fn int_card(name: Name, value: i64) -> Card
@@ -30,7 +37,7 @@ pub fn text_card(name: Name, text: &[u8]) -> Card
     let mut line = value_line(name);
     line.push(b"'");
     line.push(text);
-    line.push_blanks(8usize.saturating_sub(text.len()));
+    line.push_blanks(SHORTEST_TEXT.saturating_sub(text.len()));
     line.push(b"'");
     Card {
         bytes: line.bytes(),
@@ -49,11 +56,11 @@ fn value_line(name: Name) -> Line<CARD_LEN>
 
 /// A card whose value ends in column 30.
 fn number_card(name: Name, text: &[u8]) -> Card
-    requires { length text.now ≤ 20 }
+    requires { length text.now ≤ NUMBER_LEN }
     ensures { result.bytes ≡ value_card name.bytes (right_aligned 20 text.now) }
 {
     let mut line = value_line(name);
-    line.push_blanks(20 - text.len());
+    line.push_blanks(NUMBER_LEN - text.len());
     line.push(text);
     Card {
         bytes: line.bytes(),

@@ -3,7 +3,7 @@
 ghost use Rattle.std.specs.Prelude.{◌≡◌, ◌==◌, position};
 ghost use Rattle.fz_card.specs.Plain.{before_comment, skip_blanks, cut_blanks, ReadsPlainText};
 
-use crate::card::Card;
+use crate::card::{Card, FIELD_START, NAME_LEN};
 
 /// What stands in columns 9 and 10 of a card with a value (FITS 4.0, section 4.1.2.2).
 const VALUE_INDICATOR: [u8; 2] = *b"= ";
@@ -13,8 +13,8 @@ impl Card {
     pub(crate) fn value_text(&self) -> Option<&[u8]>
         ensures { ReadsPlainText self.now.bytes result }
     {
-        let (front, field) = self.bytes.split_at(10);
-        if &front[8..] == VALUE_INDICATOR.as_slice() {
+        let (front, field) = self.bytes.split_at(FIELD_START);
+        if &front[NAME_LEN..] == VALUE_INDICATOR.as_slice() {
             Some(without_last_blanks(without_first_blanks(without_comment(field))))
         } else {
             None

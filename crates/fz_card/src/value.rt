@@ -1,10 +1,10 @@
 //! The integer and the logical value of a card.
 ghost use Rattle.std.specs.Prelude.{◌≡◌, ◌≢◌, ◌↔◌, ℕ, ℤ, List, Bool, length, IfSome, IfNone};
-ghost use Rattle.fz_card.specs.Value.{IntegerValue, LogicalValue, IsIntegerText, logical_text};
+ghost use Rattle.fz_card.specs.Value.{IntegerValue, LogicalValue, IsIntegerText, IsShort, logical_text};
 ghost use Rattle.std.specs.Str.Parse.{without_leading_sign};
 ghost use Rattle.fz_card.specs.Plain.{ReadsSigned};
 ghost use Rattle.fz_card.specs.Reading.{integer_of, logical_of};
-ghost use Rattle.fz_card.specs.Made.{int_card_bytes, logical_card_bytes, IsShort};
+ghost use Rattle.fz_card.specs.Made.{int_card_bytes, logical_card_bytes};
 
 use crate::card::Card;
 
@@ -14,6 +14,7 @@ impl Card {
         ensures value { IfSome result (IntegerValue self.now.bytes) }
         ensures none { IfNone result ((v : ℤ) → ¬ (IntegerValue self.now.bytes v)) }
         ensures function { result ≡ integer_of self.now.bytes }
+        ensures short { IfSome result IsShort }
     {
         integer(self.value_text()?)
     }

@@ -1,4 +1,5 @@
 use Rattle.std.proofs.Common.{sym, ◌∙◌}
+use Rattle.fz_card.proofs.Integers.{read_short}
 use Rattle.fz_card.proofs.Readings.{integer_of-read, integer_of-none}
 use Rattle.fz_card.proofs.Values.{int_some, int_none}
 use Rattle.fz_card.proofs.card.Card.int.Goals as goal
@@ -17,3 +18,6 @@ returns-clause-function c =
     let card = c.args.self.now.bytes in
     let text = c.in_ok-value_text.field-0.now in
     integer_of-read card c.integer.result (int_some card text c.integer.result c.in_ok-value_text.ensures.0 c.in_ok-value_text.ensures.1 c.integer.ensures.value) (int_none card text c.integer.result c.in_ok-value_text.ensures.1 c.integer.ensures.none)
+
+pub returns-clause-short : goal.returns-clause-short
+returns-clause-short c = read_short c.in_ok-value_text.field-0.now c.integer.result c.integer.ensures.value

@@ -1,0 +1,13 @@
+//! What the program does: the words of a command line become a job, the job a status, and the status
+//! a line and a number.
+//!
+#![tactic(auto)]
+
+mod kind_name;
+mod line;
+mod run_job;
+mod status;
+mod words;
+
+pub use run_job::run;
+pub use status::Status;

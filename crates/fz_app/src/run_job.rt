@@ -1,0 +1,93 @@
+//! The top call: it does all that the program does.
+ghost use Rattle.std.specs.Prelude.{◌≡◌, ◌≢◌, ◌≤◌, ◌^◌, [], IfSome};
+ghost use Rattle.fz_base.specs.Counts.{Rose};
+ghost use Rattle.fz_app.specs.Status.{IsRefused, TellsLimit};
+ghost use Rattle.fz_pack.specs.Options.{IsFirstPath};
+ghost use Rattle.fz_app.specs.declared.status.Status.TheVariants.{Different, ReadFault, WriteFault};
+
+use crate::line::line_of;
+use crate::status::{Status, stopped};
+use crate::words::{Job, job_of};
+use fz_base::{Gate, Meter, Sink, Source, Stop, Text};
+use fz_pack::{PackOptions, pack};
+use std::alloc::Global;
+use std::thread::Threads;
+
+/// Does what the words ask for, reads the source, writes the sink and prints to the text, and answers
+/// how that ended. The words are those after the program's name.
+///
+/// For each status but Done and Different one line is put to the text at the end; if that fails, the
+/// status stays.
+pub fn run<R: Threads + Sync, S: Source, K: Sink, T: Text, G: Gate>(
+    _rt: &R,
+    _alloc: Global,
+    words: &[String],
+    source: &mut S,
+    sink: &mut K,
+    text: &mut T,
+    _gate: &G,
+    meter: &mut Meter,
+) -> Status
+    requires empty { IfSome (K.contents sink.old) (λ c. c ≡ []) }
+    requires unused { (meter.old.live ≡ 0) × (meter.old.peak ≡ 0) }
+
+    ensures live { meter.new.live ≡ 0 }
+    ensures limit { meter.new.limit ≡ meter.old.limit }
+
+    ensures different { result ≢ Different }
+    ensures refused { IsRefused result → (S.faults source.new ≡ S.faults source.old) × (K.faults sink.new ≡ K.faults sink.old) }
+    ensures read_fault { result ≡ ReadFault → Rose (S.faults source.old) (S.faults source.new) }
+    ensures write_fault { result ≡ WriteFault → Rose (K.faults sink.old) (K.faults sink.new) }
+    ensures over_limit { TellsLimit meter.old.limit (2 ^ 30) result }
+{
+    let status = match job_of(words) {
+        None => Status::Usage,
+        Some(
+            Job::Pack {
+                options,
+                input,
+                output,
+            },
+        ) => run_pack(&options, input, output, source, sink, meter),
+    };
+    report(text, &status);
+    status
+}
+
+// Packs the file of one name into one of another.
+fn run_pack<S: Source, K: Sink>(
+    options: &PackOptions,
+    input: &str,
+    output: &str,
+    source: &mut S,
+    sink: &mut K,
+    meter: &mut Meter,
+) -> Status
+    requires empty { IfSome (K.contents sink.old) (λ c. c ≡ []) }
+    requires nothing_live { meter.old.live ≡ 0 }
+    requires options { IsFirstPath options.now }
+    ensures live { meter.new.live ≡ 0 }
+    ensures limit { meter.new.limit ≡ meter.old.limit }
+    ensures different { result ≢ Different }
+    ensures refused { IsRefused result → (S.faults source.new ≡ S.faults source.old) × (K.faults sink.new ≡ K.faults sink.old) }
+    ensures read_fault { result ≡ ReadFault → Rose (S.faults source.old) (S.faults source.new) }
+    ensures write_fault { result ≡ WriteFault → Rose (K.faults sink.old) (K.faults sink.new) }
+    ensures over_limit { TellsLimit meter.old.limit (2 ^ 30) result }
+{
+    let length = match source.attach(input) {
+        Ok(length) => length,
+        Err(failed) => return stopped(Stop::reading(failed)),
+    };
+    match pack(source, length, output, sink, meter, options) {
+        Ok(()) => Status::Done,
+        Err(stop) => stopped(stop),
+    }
+}
+
+// Puts the line of the status, if it has one. If that fails, nothing else can be told.
+fn report<T: Text>(text: &mut T, status: &Status) {
+    let line = line_of(status);
+    if !line.is_empty() {
+        let _ = text.put(line.as_str().as_bytes());
+    }
+}

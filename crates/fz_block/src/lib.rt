@@ -1,0 +1,16 @@
+//! HDUs of a file: the header at a place, read and checked, and where its data and the next HDU stand.
+//!
+//! Reading order: `axes`, `header`, `cards`, `blocks`, `read`.
+#![tactic(auto)]
+
+mod axes;
+mod blocks;
+mod cards;
+mod header;
+mod read;
+
+pub use axes::Axes;
+pub use blocks::{BLOCK_LEN, header_blocks};
+pub use cards::card;
+pub use header::{Header, Sort, data_start, next_start};
+pub use read::read_header;

@@ -1,0 +1,63 @@
+-- The form of a descriptor column can stand in a card.
+use Rattle.std.proofs.Common.{◌≡◌, ◌≢◌, ℕ, ◌+◌, ◌-◌, ◌*◌, ◌<◌, ◌≤◌, ◌^◌, Bool, true, false, not, ◌==◌, ◌&&◌, IsTrue, List, [], ◌∷◌, ◌++◌, length, codes, decimal, refl, sym, ◌∙◌, ap, arith, rules, length-append}
+use Rattle.std.specs.Str.{all_ascii_digits}
+use Rattle.std.specs.List.{list_all}
+use Rattle.std.specs.Char.{is_ascii_digit}
+use Rattle.std.proofs.lemmas.Bool.Decides.{nat_tests}
+use Rattle.std.specs.Prelude.{slice_index}
+use Rattle.std.proofs.lemmas.Str.Parse.{IsNumeralModel, numerals_by_fold}
+use Rattle.std.proofs.lemmas.Fmt.{digits_decimal, length-decimal-le}
+use Rattle.std.proofs.lemmas.List.Folds.{list_all-append}
+use Rattle.std.proofs.Math.Seq.{get_or-append_seam}
+use Rattle.fz_card.specs.Made.{IsCardText}
+use Rattle.fz_pack.specs.Forms.{descriptor_form}
+
+abbrev read_on : ℕ → List ℕ → ℕ
+read_on n [] = n
+read_on n (c ∷ cs) = read_on (10 * n + (c - 48)) cs
+
+own : IsNumeralModel (λ ds. all_ascii_digits ds ≡ true) (read_on 0)
+own = numerals_by_fold _ (search rules) read_on (search rules)
+
+-- no quote
+abbrev unquoted : ℕ → Bool
+unquoted b = not (b == 39)
+
+digit_unquoted : (d : ℕ) → is_ascii_digit d ≡ true → unquoted d ≡ true
+digit_unquoted d h = grind (arith, nat_tests)
+
+digits_unquoted : (ds : List ℕ) → all_ascii_digits ds ≡ true → list_all unquoted ds ≡ true
+digits_unquoted [] h = refl
+digits_unquoted (d ∷ ds) h =
+    let both : (is_ascii_digit d ≡ true) × (all_ascii_digits ds ≡ true) = search rules in
+    rw (digit_unquoted d both.0) (digits_unquoted ds both.1)
+
+unquoted-append : (xs ys : List ℕ) → list_all unquoted xs ≡ true → list_all unquoted ys ≡ true → list_all unquoted (xs ++ ys) ≡ true
+unquoted-append xs ys px py = rw (list_all-append, px) py
+
+-- a text that ends with a bracket does not end with a blank
+bracket_last : (front : List ℕ) → slice_index (front ++ 41 ∷ []) (length (front ++ 41 ∷ []) - 1) ≡ 41
+bracket_last front =
+    let last : length (front ++ 41 ∷ []) - 1 ≡ length front = simp length-append (omega arith) in
+    ap (λ i. slice_index (front ++ 41 ∷ []) i) last ∙ get_or-append_seam front 41 [] 0
+
+bracket_text : (front : List ℕ) → length front ≤ 67 → list_all unquoted front ≡ true → IsCardText (front ++ 41 ∷ [])
+bracket_text front short plain = record {
+  fits = simp length-append (omega arith);
+  unquoted = search (rules, unquoted-append front (41 ∷ []) plain refl);
+  trimmed = λ e. absurd (omega (arith, bracket_last front, e));
+}
+
+length-form_front : (letter digits : List ℕ) → length letter ≡ 1 → length (codes "1P" ++ letter ++ codes "(" ++ digits) ≡ 4 + length digits
+length-form_front letter digits one = simp length-append (omega arith)
+
+plain_front : (letter digits : List ℕ) → list_all unquoted letter ≡ true → list_all unquoted digits ≡ true → list_all unquoted (codes "1P" ++ letter ++ codes "(" ++ digits) ≡ true
+plain_front letter digits pl pd =
+    unquoted-append (codes "1P" ++ letter ++ codes "(") digits (unquoted-append (codes "1P" ++ letter) (codes "(") (unquoted-append (codes "1P") letter refl pl) refl) pd
+
+-- a form with a letter that is no quote is a text that a card can hold
+pub form_is_text : (letter : List ℕ) (most : ℕ) → length letter ≡ 1 → IsTrue (list_all (λ b. not (b == 39)) letter) → most < 2 ^ 32 → IsCardText (descriptor_form letter most)
+form_is_text letter most one plain small =
+    bracket_text (codes "1P" ++ letter ++ codes "(" ++ decimal most)
+    (omega (arith, length-form_front letter (decimal most) one, length-decimal-le 10 most (omega arith) (omega arith) (omega arith)))
+    (plain_front letter (decimal most) (search rules) (digits_unquoted (decimal most) (digits_decimal own most (omega arith))))

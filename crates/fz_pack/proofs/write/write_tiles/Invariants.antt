@@ -1,0 +1,12 @@
+-- The ends are as at the start: attached, created, and with no count risen.
+use Rattle.std.proofs.Common.{◌≡◌, length}
+use Rattle.fz_pack.proofs.write.write_tiles.Given as goal
+
+abbrev pub invariant-loop-tile : goal.invariant-loop-tile
+invariant-loop-tile g l = record {
+  held : g.S.Source.held l.source ≡ g.S.Source.held l.initial.source;
+  attached : g.S.Source.attached l.source ≡ g.S.Source.attached l.initial.source;
+  reads : g.S.Source.faults l.source ≡ g.S.Source.faults l.initial.source;
+  created : g.K.Sink.created l.sink ≡ g.K.Sink.created l.initial.sink;
+  writes : g.K.Sink.faults l.sink ≡ g.K.Sink.faults l.initial.sink;
+}

@@ -1,0 +1,4 @@
+pub mod Forms
+pub mod Layout
+pub mod Options
+pub mod Workspace
