@@ -6,6 +6,7 @@ pub mod MemSink
 pub mod MemSource
 pub mod MemText
 pub mod Meter
+pub mod Refusal
 pub mod Sink
 pub mod Source
 pub mod Stop

@@ -100,3 +100,12 @@ TellsLimit limit most (Err ReadFault) = ⊤
 TellsLimit limit most (Err WriteFault) = ⊤
 TellsLimit limit most (Err (OverLimit live asked told)) = (told ≡ limit) × (limit < live + asked) × (live + asked ≤ most)
 TellsLimit limit most (Err NoMemory) = ⊤
+
+-- a fact of an answer Ok or Refused
+abbrev pub IfAnswered : {X : Type 0} → Result X Stop → Type 0 → Type 0
+IfAnswered (Ok x) P = P
+IfAnswered (Err (Refused x)) P = P
+IfAnswered (Err ReadFault) P = ⊤
+IfAnswered (Err WriteFault) P = ⊤
+IfAnswered (Err (OverLimit live asked limit)) P = ⊤
+IfAnswered (Err NoMemory) P = ⊤

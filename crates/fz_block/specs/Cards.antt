@@ -1,11 +1,26 @@
--- The cards of a header: 80 bytes each, 36 in a block (FITS 4.0, sections 3.3.1 and 4.1).
-use Rattle.std.specs.Prelude.{ℕ, ◌+◌, ◌*◌, ◌≡◌, List, take, drop, codes}
+-- The cards of a header: 80 bytes each, 36 in a block, up to the first that is named END (FITS 4.0, sections 3.3.1 and 4.1).
+use Rattle.std.specs.Prelude.{ℕ, zero, suc, ◌*◌, ◌/◌, Bool, List, length, take, drop, codes, bytes_eq, Option, Some, None, if◌then◌else◌}
+use Rattle.std.specs.Option.{option_map}
 use Rattle.fz_card.specs.Layout.{card_name, padded}
+use Rattle.fz_card.specs.Made.{numbered_name}
 
 -- the card of this index
 abbrev pub card_at : List ℕ → ℕ → List ℕ
 card_at header i = take 80 (drop (80 * i) header)
 
--- the card of this index has this name
-abbrev pub IsNamed : List ℕ → ℕ → List ℕ → Type 0
-IsNamed header i name = card_name (card_at header i) ≡ padded name
+-- whether the card has this name
+abbrev pub is_named : List ℕ → List ℕ → Bool
+is_named name card = bytes_eq (card_name card) (padded name)
+
+-- whether the card has this name with a number, as NAXIS1
+abbrev pub is_numbered : List ℕ → ℕ → List ℕ → Bool
+is_numbered stem i card = bytes_eq (card_name card) (numbered_name stem i)
+
+-- the index of the first of so many cards that is named END
+unfoldable pub end_among : ℕ → List ℕ → Option ℕ
+end_among zero cards = None
+end_among (suc n) cards = if is_named (codes "END") (take 80 cards) then Some 0 else option_map suc (end_among n (drop 80 cards))
+
+-- the index of END in a header, if it has one
+abbrev pub end_of : List ℕ → Option ℕ
+end_of header = end_among (length header / 80) header

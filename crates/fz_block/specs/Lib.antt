@@ -1,3 +1,4 @@
 pub mod Cards
+pub mod FirstPath
 pub mod Header
 pub mod Small

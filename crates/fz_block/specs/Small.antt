@@ -1,5 +1,5 @@
 -- The headers that are taken for now: a primary image of 16-bit pixels with two axes and no other cards.
-use Rattle.std.specs.Prelude.{ℕ, ℤ, pos, ◌≡◌, ◌+◌, ◌*◌, ◌<◌, ◌≤◌, slice_index}
+use Rattle.std.specs.Prelude.{ℕ, pos, ◌≡◌, ◌*◌, ◌<◌, ◌≤◌, slice_index}
 use Rattle.fz_block.specs.declared.header.Header.{Header}
 
 -- the pixels of a row, and the rows

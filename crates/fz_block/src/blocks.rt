@@ -1,10 +1,13 @@
 //! The blocks of a header.
-ghost use Rattle.std.specs.Prelude.{◌≡◌, ◌+◌, ◌*◌, ◌≤◌, ◌<◌, Some, length as len, IfOk, IfSome};
-ghost use Rattle.fz_base.specs.Stop.{ReadsOnly};
+ghost use Rattle.std.specs.Prelude.{◌≡◌, ◌+◌, ◌*◌, ◌≤◌, ◌<◌, ◌&&◌, false, codes, unwrap_or, Some, length as len, IfOk, IfSome};
+ghost use Rattle.fz_base.specs.Stop.{ReadsOnly, IsDefined};
+ghost use Rattle.fz_card.specs.Reading.{logical_of};
+ghost use Rattle.fz_block.specs.Cards.{is_named};
+ghost use Rattle.fz_block.specs.FirstPath.{first_block_of, header_blocks_of};
 
-use crate::cards::{CARD_LEN, card};
+use crate::cards::{card, end_card, is_named};
 use fz_base::{Fault, Kind, Place, Source, Stop};
-use fz_card::Name;
+use fz_card::{Card, Name};
 
 /// The length of a block in bytes (FITS 4.0, section 3.1).
 pub const BLOCK_LEN: usize = 2880;
@@ -25,37 +28,50 @@ pub fn header_blocks<S: Source>(
     requires first { (hdu ≡ 0) × (start ≡ 0) }
     ensures range { IfOk result (λ n. (0 < n) × (n ≤ 256) × (start + 2880 * n ≤ length)) }
     ensures one_block { IfOk result (λ n. n ≡ 1) }
+    ensures exact { IfSome (S.held source.old) (λ g. IsDefined (header_blocks_of g) result) }
     ensures held { S.held source.new ≡ S.held source.old }
     ensures attached { S.attached source.new ≡ S.attached source.old }
     ensures cause { ReadsOnly (S.faults source.old) (S.faults source.new) (S.wants source.old) (S.wants source.new) result }
 {
-    let refused = |at, kind| Err(Stop::Refused(Fault { hdu, at, kind }));
     if length < BLOCK_LEN as u64 {
-        return refused(Place::Byte(length), Kind::Truncated);
+        return Err(Stop::Refused(Fault {
+            hdu,
+            at: Place::Byte(length),
+            kind: Kind::Truncated,
+        }));
     }
     source.read_at(start, block).map_err(Stop::reading)?;
-    if !is_simple(block) {
-        return refused(Place::Card(0), Kind::NotFits);
+    match blocks_from(block) {
+        Ok(blocks) => Ok(blocks),
+        Err(fault) => Err(Stop::Refused(fault)),
+    }
+}
+
+// What the first block of HDU 0 says: one block, or why it is refused.
+fn blocks_from(block: &[u8]) -> Result<u32, Fault>
+    requires { len block.now ≡ 2880 }
+    ensures { result ≡ first_block_of block.now }
+{
+    if !is_simple_card(&card(block, 0)) {
+        return Err(Fault {
+            hdu: 0,
+            at: Place::Card(0),
+            kind: Kind::NotFits,
+        });
     }
     if end_card(block).is_none() {
-        return refused(Place::Byte(0), Kind::Unbuilt);
+        return Err(Fault {
+            hdu: 0,
+            at: Place::Byte(0),
+            kind: Kind::Unbuilt,
+        });
     }
     Ok(1)
 }
 
-// Whether card 0 is SIMPLE with the value T.
-fn is_simple(block: &[u8]) -> bool
-    requires { 80 ≤ len block.now }
+// Whether the card is SIMPLE with the value T.
+fn is_simple_card(card: &Card) -> bool
+    ensures { result ≡ (is_named (codes "SIMPLE") card.now.bytes && unwrap_or (logical_of card.now.bytes) false) }
 {
-    let first = card(block, 0);
-    first.name() == Name::SIMPLE && first.logical() == Some(true)
-}
-
-/// The index of the first card named END, if the cards have one.
-pub(crate) fn end_card(cards: &[u8]) -> Option<u32>
-    requires { len cards.now ≤ 737280 }
-    ensures { IfSome result (λ i. 80 * (i + 1) ≤ len cards.now) }
-{
-    let count = (cards.len() / CARD_LEN) as u32;
-    (0..count).find(|i| card(cards, *i).name() == Name::END)
+    is_named(card, &Name::SIMPLE) && card.logical().unwrap_or(false)
 }

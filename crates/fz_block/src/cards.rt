@@ -1,8 +1,9 @@
 //! The cards of a header that stands in a buffer.
-ghost use Rattle.std.specs.Prelude.{◌≡◌, ◌+◌, ◌*◌, ◌≤◌, ◌<◌, length, IfSome};
-ghost use Rattle.fz_block.specs.Cards.{card_at};
+ghost use Rattle.std.specs.Prelude.{◌≡◌, ◌+◌, ◌*◌, ◌≤◌, length, bytes_eq};
+ghost use Rattle.fz_card.specs.Layout.{card_name};
+ghost use Rattle.fz_block.specs.Cards.{card_at, end_of, end_among};
 
-use fz_card::Card;
+use fz_card::{Card, Name};
 
 /// The length of a card in bytes.
 pub(crate) const CARD_LEN: usize = 80;
@@ -16,4 +17,26 @@ pub fn card(buf: &[u8], i: u32) -> Card
     let mut bytes = [b' '; CARD_LEN];
     bytes.copy_from_slice(&buf[start..start + CARD_LEN]);
     Card { bytes }
+}
+
+/// Whether the card has this name.
+pub(crate) fn is_named(card: &Card, name: &Name) -> bool
+    ensures { result ≡ bytes_eq (card_name card.now.bytes) name.now.bytes }
+{
+    card.bytes[..8] == name.bytes[..]
+}
+
+/// The index of the first card named END, if the cards have one.
+#[tactic(auto, using(crate::proofs::Ends::ends))]
+pub(crate) fn end_card(cards: &[u8]) -> Option<u32>
+    requires { length cards.now ≤ 737280 }
+    ensures { result ≡ end_of cards.now }
+{
+    let count = (cards.len() / CARD_LEN) as u32;
+    for i in 0..count {
+        if is_named(&card(cards, i), &Name::END) {
+            return Some(i);
+        }
+    }
+    None
 }

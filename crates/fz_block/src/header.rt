@@ -52,8 +52,8 @@ pub fn next_start(h: &Header) -> u64
     data_start(h) + whole_blocks(h.data_len)
 }
 
-// A length with the fill to whole blocks.
-fn whole_blocks(len: u64) -> u64
+/// A length with the fill to whole blocks.
+pub(crate) fn whole_blocks(len: u64) -> u64
     requires { whole_blocks_of len ≤ 2 ^ 62 }
     ensures { result ≡ whole_blocks_of len }
 {

@@ -1,15 +1,22 @@
 //! The facts of a header, read and checked.
-ghost use Rattle.std.specs.Prelude.{◌≡◌, ◌+◌, ◌*◌, ◌≤◌, ◌<◌, ◌^◌, Some, length as len, IfOk, IsSome, IfSome};
-ghost use Rattle.fz_base.specs.Stop.{ReadsOnly};
+ghost use Rattle.std.specs.Prelude.{◌≡◌, ◌+◌, ◌*◌, ◌≤◌, ◌<◌, ◌^◌, Some, length as len, IfOk, IfSome};
+ghost use Rattle.fz_base.specs.Stop.{ReadsOnly, IsDefined, IfAnswered};
 ghost use Rattle.fz_base.specs.Source.{Reads};
+ghost use Rattle.fz_base.specs.Refusal.{refusal};
+ghost use Rattle.fz_card.specs.Reading.{integer_of};
+ghost use Rattle.fz_block.specs.Cards.{end_of};
 ghost use Rattle.fz_block.specs.Header.{next_start_of};
 ghost use Rattle.fz_block.specs.Small.{IsSmallImage};
+ghost use Rattle.fz_block.specs.FirstPath.{header_of, small_axes_of, axis_in, small_data_len};
+ghost use Rattle.fz_block.specs.FirstPath.{small_header as small_header_of, small_end as small_end_of, says as says_of};
+ghost use Rattle.fz_block.specs.FirstPath.{has_small_cards as has_small_cards_of, has_small_names as has_small_names_of};
 
-use crate::blocks::{BLOCK_LEN, end_card};
-use crate::cards::card;
-use crate::{Axes, Header, Sort, next_start};
+use crate::blocks::BLOCK_LEN;
+use crate::cards::{card, end_card, is_named};
+use crate::header::whole_blocks;
+use crate::{Axes, Header, Sort};
 use fz_base::{Fault, Kind, Place, Source, Stop};
-use fz_card::{Name, numbered};
+use fz_card::{Card, Name, numbered};
 
 /// The longest axis 1 that is packed for now: one row is one tile.
 const MAX_COLUMNS: u32 = 67_108_864;
@@ -35,7 +42,8 @@ pub fn read_header<S: Source>(
     requires blocks { len buf.old ≡ 2880 }
     requires within { start + len buf.old ≤ length }
     requires first { (hdu ≡ 0) × (start ≡ 0) }
-    ensures buf { IfOk result (λ _. Reads (S.held source.old) start buf.new) }
+    ensures read { IfAnswered result (Reads (S.held source.old) start buf.new) }
+    ensures header { IsDefined (header_of length buf.new) result }
     ensures small { IfOk result IsSmallImage }
     ensures within { IfOk result (λ h. next_start_of h ≤ length) }
     ensures held { S.held source.new ≡ S.held source.old }
@@ -43,34 +51,47 @@ pub fn read_header<S: Source>(
     ensures cause { ReadsOnly (S.faults source.old) (S.faults source.new) (S.wants source.old) (S.wants source.new) result }
 {
     source.read_at(start, buf).map_err(Stop::reading)?;
-    header_in(buf, length, hdu, start).map_err(Stop::Refused)
+    match header_in(buf, length) {
+        Ok(header) => Ok(header),
+        Err(fault) => Err(Stop::Refused(fault)),
+    }
 }
 
-// The facts of the header whose cards are these.
-fn header_in(buf: &[u8], length: u64, hdu: u32, start: u64) -> Result<Header, Fault>
-    requires blocks { len buf.now ≡ 2880 }
-    requires first { (hdu ≡ 0) × (start ≡ 0) }
+// The facts of the header whose cards are these, in a file of so many bytes.
+fn header_in(buf: &[u8], length: u64) -> Result<Header, Fault>
+    requires { len buf.now ≡ 2880 }
+    ensures exact { result ≡ header_of length buf.now }
     ensures small { IfOk result IsSmallImage }
     ensures within { IfOk result (λ h. next_start_of h ≤ length) }
 {
     let Some(cards) = end_card(buf) else {
-        return Err(Fault {
-            hdu,
-            at: Place::Card(0),
-            kind: Kind::BadCard,
-        });
+        return Err(refused(Place::Card(0), Kind::BadCard));
     };
     let Some((columns, rows)) = small_axes(buf, cards) else {
-        return Err(Fault {
-            hdu,
-            at: Place::Byte(0),
-            kind: Kind::Unbuilt,
-        });
+        return Err(refused(Place::Byte(0), Kind::Unbuilt));
     };
-    let header = Header {
-        hdu,
-        start,
-        cards,
+    if length < small_end(columns, rows) {
+        return Err(refused(Place::Byte(length), Kind::Truncated));
+    }
+    Ok(small_header(columns, rows))
+}
+
+// A refusal of HDU 0.
+fn refused(at: Place, kind: Kind) -> Fault
+    ensures { result ≡ refusal 0 at kind }
+{
+    Fault { hdu: 0, at, kind }
+}
+
+// The facts of the header of a small image.
+fn small_header(columns: u32, rows: u32) -> Header
+    requires { columns ≤ 67108864 }
+    ensures { result ≡ small_header_of columns rows }
+{
+    Header {
+        hdu: 0,
+        start: 0,
+        cards: 5,
         blocks: 1,
         sort: Sort::Primary,
         bitpix: 16,
@@ -81,59 +102,80 @@ fn header_in(buf: &[u8], length: u64, hdu: u32, start: u64) -> Result<Header, Fa
         pcount: 0,
         gcount: 1,
         data_len: data_len(columns, rows),
-    };
-    if next_start(&header) > length {
-        return Err(Fault {
-            hdu,
-            at: Place::Byte(length),
-            kind: Kind::Truncated,
-        });
     }
-    Ok(header)
 }
 
-// The two axes of a header of exactly the cards SIMPLE, BITPIX 16, NAXIS 2, NAXIS1 and NAXIS2,
-// where the image is small enough.
+// The two axes of a small image, if the header is that of one. END is the card of this index.
 fn small_axes(buf: &[u8], cards: u32) -> Option<(u32, u32)>
     requires blocks { len buf.now ≡ 2880 }
-    ensures cards { IsSome result → cards ≡ 5 }
-    ensures axes { IfSome result (λ a. (0 < a.0) × (a.0 ≤ 67108864) × (0 < a.1) × (2 * (a.0 * a.1) ≤ 2147483647)) }
+    requires end { end_of buf.now ≡ Some cards }
+    ensures axes { result ≡ small_axes_of buf.now }
+    ensures small { IfSome result (λ a. (0 < a.0) × (a.0 ≤ 67108864) × (0 < a.1) × (small_data_len a.0 a.1 ≤ 2147483647)) }
 {
-    let names = [
-        Name::SIMPLE,
-        Name::BITPIX,
-        Name::NAXIS,
-        numbered(b"NAXIS", 1),
-        numbered(b"NAXIS", 2),
-    ];
-    let as_named = (0..5u32).all(|i| card(buf, i).name() == names[i as usize]);
-    if cards != 5 || !as_named {
+    if !has_small_cards(buf, cards) {
         return None;
     }
-    let value = |i| card(buf, i).int();
-    if value(1)? != 16 || value(2)? != 2 {
-        return None;
-    }
-    let columns = in_range(value(3)?, MAX_COLUMNS)?;
-    let rows = in_range(value(4)?, MAX_ROWS)?;
+    let columns = axis(&card(buf, 3), MAX_COLUMNS)?;
+    let rows = axis(&card(buf, 4), MAX_ROWS)?;
     if data_len(columns, rows) > MAX_DATA {
         return None;
     }
     Some((columns, rows))
 }
 
-// The length of an axis, if it is from 1 to the greatest.
-fn in_range(len: i64, most: u32) -> Option<u32>
-    ensures { IfSome result (λ n. (0 < n) × (n ≤ most)) }
+// Whether the cards are those of an image of 16-bit pixels with two axes.
+fn has_small_cards(buf: &[u8], cards: u32) -> bool
+    requires blocks { len buf.now ≡ 2880 }
+    requires end { end_of buf.now ≡ Some cards }
+    ensures { result ≡ has_small_cards_of buf.now }
 {
-    let len = u32::try_from(len).ok()?;
+    cards == 5 && has_small_names(buf) && says(&card(buf, 1), 16) && says(&card(buf, 2), 2)
+}
+
+// Whether the first five cards have the names of a small image.
+fn has_small_names(buf: &[u8]) -> bool
+    requires { len buf.now ≡ 2880 }
+    ensures { result ≡ has_small_names_of buf.now }
+{
+    is_named(&card(buf, 0), &Name::SIMPLE)
+        && is_named(&card(buf, 1), &Name::BITPIX)
+        && is_named(&card(buf, 2), &Name::NAXIS)
+        && is_named(&card(buf, 3), &numbered(b"NAXIS", 1))
+        && is_named(&card(buf, 4), &numbered(b"NAXIS", 2))
+}
+
+// Whether the card has this integer value.
+fn says(card: &Card, value: i64) -> bool
+    ensures { result ≡ says_of value (integer_of card.now.bytes) }
+{
+    match card.int() {
+        Some(found) => found == value,
+        None => false,
+    }
+}
+
+// The length of an axis, if the card's value is from 1 to the greatest.
+fn axis(card: &Card, most: u32) -> Option<u32>
+    ensures value { result ≡ axis_in most (integer_of card.now.bytes) }
+    ensures fits { IfSome result (λ n. (0 < n) × (n ≤ most)) }
+{
+    let len = u32::try_from(card.int()?).ok()?;
     (1..=most).contains(&len).then_some(len)
 }
 
 // The bytes of so many rows of 16-bit pixels.
 fn data_len(columns: u32, rows: u32) -> u64
     requires { columns ≤ 67108864 }
-    ensures { result ≡ 2 * (columns * rows) }
+    ensures value { result ≡ small_data_len columns rows }
+    ensures fits { result < 2 ^ 59 }
 {
     2 * (u64::from(columns) * u64::from(rows))
+}
+
+// The byte after the data and their fill.
+fn small_end(columns: u32, rows: u32) -> u64
+    requires { columns ≤ 67108864 }
+    ensures { result ≡ small_end_of columns rows }
+{
+    BLOCK_LEN as u64 + whole_blocks(data_len(columns, rows))
 }
