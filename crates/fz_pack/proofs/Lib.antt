@@ -1,1 +1,3 @@
+pub mod ChecksInOrder
+pub mod FirstFaults
 pub mod Forms

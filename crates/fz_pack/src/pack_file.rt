@@ -1,8 +1,10 @@
 //! The job: look first, then write.
-ghost use Rattle.std.specs.Prelude.{ℕ, ◌≡◌, ◌+◌, ◌*◌, ◌≤◌, ◌<◌, ◌^◌, Some, [], length as len, IfSome, IfErr, OnOk, IsErrOf};
+ghost use Rattle.std.specs.Prelude.{ℕ, ◌≡◌, ◌+◌, ◌*◌, ◌≤◌, ◌<◌, ◌^◌, Some, [], length as len, IfSome, IfErr, Ok, OnOk, IsErrOf};
 ghost use Rattle.fz_base.specs.Counts.{Rose};
 ghost use Rattle.fz_base.specs.Stop.{StoppedJob, IsRefused, TellsLimit};
 ghost use Rattle.fz_base.specs.declared.failure.Stop.TheVariants.{ReadFault, WriteFault};
+ghost use Rattle.fz_block.specs.FirstPath.{header_blocks_of};
+ghost use Rattle.fz_pack.specs.FirstFault.{TellsFirstFault};
 ghost use Rattle.fz_pack.specs.Options.{IsFirstPath};
 
 use crate::layout::Layout;
@@ -34,6 +36,7 @@ pub fn pack<S: Source, K: Sink>(
     ensures live { meter.new.live ≡ 0 }
     ensures limit { meter.new.limit ≡ meter.old.limit }
 
+    ensures first_fault { TellsFirstFault (S.held source.old) result }
     ensures refused { IsRefused result → (S.faults source.new ≡ S.faults source.old) × (K.faults sink.new ≡ K.faults sink.old) }
     ensures read_fault { IsErrOf result ReadFault → Rose (S.faults source.old) (S.faults source.new) }
     ensures write_fault { IsErrOf result WriteFault → Rose (K.faults sink.old) (K.faults sink.new) }
@@ -58,6 +61,7 @@ fn with_block<S: Source, K: Sink>(
     requires attached { S.attached source.old ≡ Some length }
     requires block { len block.old ≡ 2880 }
     requires live { meter.old.live ≤ 2880 }
+    ensures first_fault { TellsFirstFault (S.held source.old) result }
     ensures live { meter.new.live ≡ meter.old.live }
     ensures limit { meter.new.limit ≡ meter.old.limit }
     ensures cause { IfErr result (StoppedJob (S.faults source.old) (S.faults source.new) (K.faults sink.old) (K.faults sink.new) meter.old.limit (2 ^ 30)) }
@@ -83,7 +87,9 @@ fn with_header<S: Source, K: Sink>(
     requires block { len block.old ≡ 2880 }
     requires buf { len buf.old ≡ 2880 }
     requires within { 2880 ≤ length }
+    requires blocks { IfSome (S.held source.old) (λ g. header_blocks_of g ≡ Ok 1) }
     requires live { meter.old.live ≤ 5760 }
+    ensures first_fault { TellsFirstFault (S.held source.old) result }
     ensures live { meter.new.live ≡ meter.old.live }
     ensures limit { meter.new.limit ≡ meter.old.limit }
     ensures cause { IfErr result (StoppedJob (S.faults source.old) (S.faults source.new) (K.faults sink.old) (K.faults sink.new) meter.old.limit (2 ^ 30)) }

@@ -1,5 +1,5 @@
 -- The ends are as at the start: attached, created, and with no count risen.
-use Rattle.std.proofs.Common.{◌≡◌, length}
+use Rattle.std.proofs.Common.{◌≡◌}
 use Rattle.fz_pack.proofs.write.write_tiles.Given as goal
 
 abbrev pub invariant-loop-tile : goal.invariant-loop-tile
