@@ -1,11 +1,11 @@
 -- The first fault of a file, from what the calls on its header and on what stands behind it answer.
-use Rattle.std.proofs.Common.{◌≡◌, ℕ, ◌+◌, ◌<◌, ◌≤◌, Bool, true, false, not, ◌==◌, ◌&&◌, nat_lt, List, [], ◌∷◌, length, take, drop, Option, Some, None, is_none, IfSome, IfErr, Result, Ok, Err, refl, sym, ◌∙◌, ap, arith, if◌then◌else◌}
+use Rattle.std.proofs.Common.{◌≡◌, ℕ, ◌+◌, Bool, true, false, not, ◌==◌, ◌&&◌, nat_lt, List, [], ◌∷◌, length, take, drop, Option, Some, None, is_none, IfSome, Result, Ok, Err, refl, sym, ◌∙◌, ap, if◌then◌else◌}
 use Rattle.fz_base.specs.Source.{Reads, HoldsLength}
 use Rattle.fz_base.specs.Refusal.{refusal, first_refusal}
-use Rattle.fz_base.specs.Stop.{IsDefined, IfAnswered, StoppedWriting, stop_of_short, ReadsAndWrites}
+use Rattle.fz_base.specs.Stop.{IsDefined, IfAnswered, stop_of_short, ReadsAndWrites}
 use Rattle.fz_base.specs.declared.fault.Fault.{Fault}
 use Rattle.fz_base.specs.declared.fault.Place.TheVariants.{Byte, Card}
-use Rattle.fz_base.specs.declared.kind.Kind.TheVariants.{NotFits, Truncated, BadCard, Unbuilt}
+use Rattle.fz_base.specs.declared.kind.Kind.TheVariants.{NotFits, Truncated, Unbuilt}
 use Rattle.fz_base.specs.declared.failure.Short.{Short}
 use Rattle.fz_base.specs.declared.failure.Short.TheVariants.{NoMemory as NoRoom, OverLimit as PastLimit}
 use Rattle.fz_base.specs.declared.failure.Stop.{Stop}
@@ -14,7 +14,7 @@ use Rattle.fz_block.specs.declared.header.Header.{Header}
 use Rattle.fz_block.specs.Header.{data_start_of, next_start_of}
 use Rattle.fz_block.specs.Cards.{end_of}
 use Rattle.fz_block.specs.FirstPath.{is_simple, small_axes_of, sized_header, header_of, small_header, header_blocks_of}
-use Rattle.fz_pack.specs.FirstFault.{is_filled, has_blank_fill, is_closed, rest_of, checks_of, first_fault, data_end, image_end, TellsFirstFault}
+use Rattle.fz_pack.specs.FirstFault.{is_filled, has_blank_fill, is_closed, rest_of, first_fault, data_end, image_end, TellsFirstFault}
 
 -- three checks made one after another
 three_fault : (a b c : Bool) (x y z w : Fault) (n : ℕ) (rest : List (Bool × Fault)) →

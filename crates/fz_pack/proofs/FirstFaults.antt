@@ -1,16 +1,15 @@
 -- The checks in their order, from what the calls on the header say of a file.
-use Rattle.std.proofs.Common.{◌≡◌, ◌≢◌, ℕ, ◌+◌, ◌-◌, ◌*◌, ◌<◌, ◌≤◌, Bool, true, false, not, ◌==◌, ◌&&◌, nat_lt, List, [], ◌∷◌, length, take, drop, Option, Some, None, is_none, IfSome, Result, Ok, Err, refl, sym, ◌∙◌, ap, arith, rules, if◌then◌else◌}
-use Rattle.std.specs.List.{list_all}
+use Rattle.std.proofs.Common.{◌≡◌, ◌≢◌, ℕ, ◌+◌, ◌-◌, ◌≤◌, Bool, true, false, not, ◌==◌, List, length, drop, Option, Some, None, IfSome, Result, Ok, Err, refl, sym, ◌∙◌, ap, arith, if◌then◌else◌}
 use Rattle.std.proofs.lemmas.List.{take_all, drop_all, length-drop}
 use Rattle.fz_base.specs.Source.{Reads, HoldsLength}
-use Rattle.fz_base.specs.Refusal.{refusal, first_refusal}
+use Rattle.fz_base.specs.Refusal.{refusal}
 use Rattle.fz_base.specs.Stop.{IsDefined, stop_of_read}
 use Rattle.fz_base.specs.declared.failure.Failed.{Failed}
 use Rattle.fz_base.specs.declared.failure.Failed.TheVariants.{Fault as IsFault, NoMemory as IsWant}
 use Rattle.fz_base.specs.declared.fault.Fault.{Fault}
 use Rattle.std.proofs.lemmas.Bool.Decides.{nat_tests}
-use Rattle.fz_base.specs.declared.fault.Place.TheVariants.{Byte, Card}
-use Rattle.fz_base.specs.declared.kind.Kind.TheVariants.{NotFits, Truncated, Unbuilt}
+use Rattle.fz_base.specs.declared.fault.Place.TheVariants.{Byte}
+use Rattle.fz_base.specs.declared.kind.Kind.TheVariants.{Unbuilt}
 use Rattle.fz_block.specs.declared.header.Header.{Header}
 use Rattle.fz_block.specs.Header.{data_start_of, next_start_of}
 use Rattle.fz_pack.specs.FirstFault.{is_filled, has_blank_fill, rest_of}

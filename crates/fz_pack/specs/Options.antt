@@ -1,7 +1,6 @@
 -- What the options of `pack` may be for now.
 use Rattle.std.specs.Prelude.{◌≡◌, None}
 use Rattle.fz_pack.specs.declared.options.PackOptions.{PackOptions}
-use Rattle.fz_pack.specs.declared.options.CodecWord.{CodecWord}
 use Rattle.fz_pack.specs.declared.options.CodecWord.TheVariants.{None as NoCodec}
 use Rattle.std.specs.Prelude.{false}
 

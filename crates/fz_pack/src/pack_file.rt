@@ -6,6 +6,8 @@ ghost use Rattle.fz_base.specs.declared.failure.Stop.TheVariants.{ReadFault, Wri
 ghost use Rattle.fz_block.specs.FirstPath.{header_blocks_of};
 ghost use Rattle.fz_pack.specs.FirstFault.{TellsFirstFault};
 ghost use Rattle.fz_pack.specs.Options.{IsFirstPath};
+ghost use Rattle.fz_pack.specs.Order.{IfUnmade};
+ghost use Rattle.fz_pack.specs.Takings.{TellsTaking};
 
 use crate::layout::Layout;
 use crate::options::PackOptions;
@@ -41,6 +43,11 @@ pub fn pack<S: Source, K: Sink>(
     ensures read_fault { IsErrOf result ReadFault → Rose (S.faults source.old) (S.faults source.new) }
     ensures write_fault { IsErrOf result WriteFault → Rose (K.faults sink.old) (K.faults sink.new) }
     ensures over_limit { TellsLimit meter.old.limit (2 ^ 30) result }
+    ensures taking { TellsTaking result }
+
+    ensures unmade { IfUnmade result ((K.created sink.new ≡ K.created sink.old) × (K.contents sink.new ≡ K.contents sink.old)) }
+    ensures source { (S.held source.new ≡ S.held source.old) × (S.attached source.new ≡ S.attached source.old) }
+    ensures counts_kept { (S.faults source.old ≤ S.faults source.new) × (K.faults sink.old ≤ K.faults sink.new) }
 {
     let _options = options;
     let mut block = meter.bytes(BLOCK_LEN as u64)?;
@@ -60,8 +67,12 @@ fn with_block<S: Source, K: Sink>(
 ) -> Result<(), Stop>
     requires attached { S.attached source.old ≡ Some length }
     requires block { len block.old ≡ 2880 }
-    requires live { meter.old.live ≤ 2880 }
+    requires live { meter.old.live ≡ 2880 }
     ensures first_fault { TellsFirstFault (S.held source.old) result }
+    ensures taking { TellsTaking result }
+    ensures unmade { IfUnmade result ((K.created sink.new ≡ K.created sink.old) × (K.contents sink.new ≡ K.contents sink.old)) }
+    ensures source { (S.held source.new ≡ S.held source.old) × (S.attached source.new ≡ S.attached source.old) }
+    ensures counts_kept { (S.faults source.old ≤ S.faults source.new) × (K.faults sink.old ≤ K.faults sink.new) }
     ensures live { meter.new.live ≡ meter.old.live }
     ensures limit { meter.new.limit ≡ meter.old.limit }
     ensures cause { IfErr result (StoppedJob (S.faults source.old) (S.faults source.new) (K.faults sink.old) (K.faults sink.new) meter.old.limit (2 ^ 30)) }
@@ -88,8 +99,12 @@ fn with_header<S: Source, K: Sink>(
     requires buf { len buf.old ≡ 2880 }
     requires within { 2880 ≤ length }
     requires blocks { IfSome (S.held source.old) (λ g. header_blocks_of g ≡ Ok 1) }
-    requires live { meter.old.live ≤ 5760 }
+    requires live { meter.old.live ≡ 5760 }
     ensures first_fault { TellsFirstFault (S.held source.old) result }
+    ensures taking { TellsTaking result }
+    ensures unmade { IfUnmade result ((K.created sink.new ≡ K.created sink.old) × (K.contents sink.new ≡ K.contents sink.old)) }
+    ensures source { (S.held source.new ≡ S.held source.old) × (S.attached source.new ≡ S.attached source.old) }
+    ensures counts_kept { (S.faults source.old ≤ S.faults source.new) × (K.faults sink.old ≤ K.faults sink.new) }
     ensures live { meter.new.live ≡ meter.old.live }
     ensures limit { meter.new.limit ≡ meter.old.limit }
     ensures cause { IfErr result (StoppedJob (S.faults source.old) (S.faults source.new) (K.faults sink.old) (K.faults sink.new) meter.old.limit (2 ^ 30)) }
