@@ -1,3 +1,4 @@
 pub mod Lines
+pub mod Outcome
 pub mod Status
 pub mod Words

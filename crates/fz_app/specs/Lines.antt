@@ -1,5 +1,7 @@
 -- The lines that the program prints for the status of a run.
-use Rattle.std.specs.Prelude.{ℕ, List, [], ◌++◌, codes, decimal}
+use Rattle.std.specs.Prelude.{ℕ, ◌≡◌, ◌⊎◌, List, [], ◌∷◌, ◌++◌, codes, decimal, Option}
+use Rattle.fz_base.specs.Counts.{Rose}
+use Rattle.fz_base.specs.Sink.{appended, MayAppend}
 use Rattle.fz_base.specs.Kind.{kind_number}
 use Rattle.fz_base.specs.declared.kind.Kind.{Kind}
 use Rattle.fz_base.specs.declared.kind.Kind.TheVariants.{NotFits, Truncated, LongHeader, BadCard, Duplicate, HeaderFill, DataFill, TrailingBytes, Reserved, AlreadyPacked, Limit as PastLimit, Groups, UnknownCodec, Quantised, CompressedTable, BadTable, RowCount, DescriptorRange, TileMissing, GzipTile, CodeShort, CodeValue, LineList, PixelRange, TileSize, MisplacedPrimary, NotPacked, OutOfBox, PlioOffset, Unbuilt}
@@ -64,3 +66,11 @@ status_line WriteFault = codes "write fault\n"
 status_line (OverLimit live asked limit) =
     codes "over limit: live " ++ decimal live ++ codes " asked " ++ decimal asked ++ codes " limit " ++ decimal limit ++ codes "\n"
 status_line NoMemory = codes "no memory\n"
+
+-- What a text got: nothing where there is no line; else the line, and its counts stayed; or, where a count of its
+-- faults or wants rose, a prefix of the line, possibly empty.
+abbrev pub GotLine : List ℕ → Option (List ℕ) → Option (List ℕ) → ℕ → ℕ → ℕ → ℕ → Type 0
+GotLine [] old new faults faults' wants wants' = (new ≡ old) × (faults' ≡ faults) × (wants' ≡ wants)
+GotLine (b ∷ line) old new faults faults' wants wants' =
+    ((new ≡ appended (b ∷ line) old) × (faults' ≡ faults) × (wants' ≡ wants))
+    ⊎ (MayAppend (b ∷ line) old new × (Rose faults faults' ⊎ Rose wants wants'))

@@ -7,6 +7,8 @@ mod kind_name;
 mod line;
 mod run_job;
 mod status;
+#[cfg(test)]
+mod tests;
 mod words;
 
 pub use run_job::run;

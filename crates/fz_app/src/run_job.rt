@@ -1,13 +1,16 @@
 //! The top call: it does all that the program does.
-ghost use Rattle.std.specs.Prelude.{◌≡◌, ◌≢◌, ◌≤◌, ◌^◌, [], IfSome};
+ghost use Rattle.std.specs.Prelude.{◌≡◌, ◌≢◌, ◌≤◌, ◌^◌, ◌↔◌, [], None, IfSome};
 ghost use Rattle.fz_base.specs.Counts.{Rose};
+ghost use Rattle.fz_app.specs.Lines.{status_line, GotLine};
+ghost use Rattle.fz_app.specs.Outcome.{TellsFirstFault, TellsTaking, IfUnmade};
 ghost use Rattle.fz_app.specs.Status.{IsRefused, TellsLimit};
+ghost use Rattle.fz_app.specs.Words.{job_of, texts_of};
 ghost use Rattle.fz_pack.specs.Options.{IsFirstPath};
-ghost use Rattle.fz_app.specs.declared.status.Status.TheVariants.{Different, ReadFault, WriteFault};
+ghost use Rattle.fz_app.specs.declared.status.Status.TheVariants.{Different, Usage, ReadFault, WriteFault};
 
 use crate::line::line_of;
 use crate::status::{Status, stopped};
-use crate::words::{Job, job_of};
+use crate::words::{Job, find_job};
 use fz_base::{Gate, Meter, Sink, Source, Stop, Text};
 use fz_pack::{PackOptions, pack};
 use std::alloc::Global;
@@ -33,14 +36,24 @@ pub fn run<R: Threads + Sync, S: Source, K: Sink, T: Text, G: Gate>(
 
     ensures live { meter.new.live ≡ 0 }
     ensures limit { meter.new.limit ≡ meter.old.limit }
+    ensures text { GotLine (status_line result) (T.contents text.old) (T.contents text.new) (T.faults text.old) (T.faults text.new) (T.wants text.old) (T.wants text.new) }
 
     ensures different { result ≢ Different }
+    ensures usage { (result ≡ Usage) ↔ (job_of (texts_of words.now) ≡ None) }
+    // Words that are no job read, make and take nothing.
+    ensures untouched { result ≡ Usage → (source.new ≡ source.old) × (sink.new ≡ sink.old) × (meter.new ≡ meter.old) }
     ensures refused { IsRefused result → (S.faults source.new ≡ S.faults source.old) × (K.faults sink.new ≡ K.faults sink.old) }
     ensures read_fault { result ≡ ReadFault → Rose (S.faults source.old) (S.faults source.new) }
     ensures write_fault { result ≡ WriteFault → Rose (K.faults sink.old) (K.faults sink.new) }
     ensures over_limit { TellsLimit meter.old.limit (2 ^ 30) result }
+    ensures taking { TellsTaking result }
+
+    ensures first_fault { TellsFirstFault (S.held source.old) result }
+    ensures unmade { IfUnmade result ((K.created sink.new ≡ K.created sink.old) × (K.contents sink.new ≡ K.contents sink.old)) }
+    ensures source { S.held source.new ≡ S.held source.old }
+    ensures counts_kept { (S.faults source.old ≤ S.faults source.new) × (K.faults sink.old ≤ K.faults sink.new) }
 {
-    let status = match job_of(words) {
+    let status = match find_job(words) {
         None => Status::Usage,
         Some(
             Job::Pack {
@@ -68,11 +81,17 @@ fn run_pack<S: Source, K: Sink>(
     requires options { IsFirstPath options.now }
     ensures live { meter.new.live ≡ 0 }
     ensures limit { meter.new.limit ≡ meter.old.limit }
-    ensures different { result ≢ Different }
+    ensures job { (result ≢ Different) × (result ≢ Usage) }
     ensures refused { IsRefused result → (S.faults source.new ≡ S.faults source.old) × (K.faults sink.new ≡ K.faults sink.old) }
     ensures read_fault { result ≡ ReadFault → Rose (S.faults source.old) (S.faults source.new) }
     ensures write_fault { result ≡ WriteFault → Rose (K.faults sink.old) (K.faults sink.new) }
     ensures over_limit { TellsLimit meter.old.limit (2 ^ 30) result }
+    ensures taking { TellsTaking result }
+
+    ensures first_fault { TellsFirstFault (S.held source.old) result }
+    ensures unmade { IfUnmade result ((K.created sink.new ≡ K.created sink.old) × (K.contents sink.new ≡ K.contents sink.old)) }
+    ensures source { S.held source.new ≡ S.held source.old }
+    ensures counts_kept { (S.faults source.old ≤ S.faults source.new) × (K.faults sink.old ≤ K.faults sink.new) }
 {
     let length = match source.attach(input) {
         Ok(length) => length,
@@ -85,7 +104,9 @@ fn run_pack<S: Source, K: Sink>(
 }
 
 // Puts the line of the status, if it has one. If that fails, nothing else can be told.
-fn report<T: Text>(text: &mut T, status: &Status) {
+fn report<T: Text>(text: &mut T, status: &Status)
+    ensures { GotLine (status_line status.now) (T.contents text.old) (T.contents text.new) (T.faults text.old) (T.faults text.new) (T.wants text.old) (T.wants text.new) }
+{
     let line = line_of(status);
     if !line.is_empty() {
         let _ = text.put(line.as_str().as_bytes());

@@ -1,6 +1,7 @@
 //! The words of the command line. For now they are exactly `pack --codec none IN OUT`.
-ghost use Rattle.std.specs.Prelude.{IfSome};
-ghost use Rattle.fz_app.specs.Words.{IsFirstJob};
+ghost use Rattle.std.specs.Prelude.{◌≡◌, IfSome};
+ghost use Rattle.std.specs.Option.{option_map};
+ghost use Rattle.fz_app.specs.Words.{IsFirstJob, job_of, names_of, texts_of, is_operand as may_be_name};
 
 use fz_pack::{CodecWord, PackOptions};
 
@@ -15,8 +16,9 @@ pub(crate) enum Job<'a> {
 }
 
 /// The job of the words, if they are one.
-pub(crate) fn job_of(words: &[String]) -> Option<Job<'_>>
-    ensures { IfSome result IsFirstJob }
+pub(crate) fn find_job(words: &[String]) -> Option<Job<'_>>
+    ensures built { IfSome result IsFirstJob }
+    ensures names { option_map names_of result ≡ job_of (texts_of words.now) }
 {
     let [command, option, codec, input, output] = words else {
         return None;
@@ -44,6 +46,8 @@ const STORED_ROWS: PackOptions = PackOptions {
 };
 
 // Whether the word can be a file's name.
-fn is_operand(word: &str) -> bool {
-    !word.is_empty() && !word.starts_with('-')
+fn is_operand(word: &str) -> bool
+    ensures { result ≡ may_be_name word.now }
+{
+    !matches!(word.as_bytes(), [] | [b'-', ..])
 }

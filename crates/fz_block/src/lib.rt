@@ -8,6 +8,8 @@ mod blocks;
 mod cards;
 mod header;
 mod read;
+#[cfg(test)]
+mod tests;
 
 pub use axes::Axes;
 pub use blocks::{BLOCK_LEN, header_blocks};

@@ -12,6 +12,8 @@ mod pack_file;
 mod packed_header;
 mod pixels;
 mod rest;
+#[cfg(test)]
+mod tests;
 mod workspace;
 mod write;
 
