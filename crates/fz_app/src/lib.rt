@@ -1,6 +1,7 @@
 //! What the program does: the words of a command line become a job, the job a status, and the status
 //! a line and a number.
 //!
+//! Reading order: `status`, `words`, `run_job`, `line`, `kind_name`.
 #![tactic(auto)]
 
 mod kind_name;

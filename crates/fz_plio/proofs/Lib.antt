@@ -1,0 +1,16 @@
+pub mod WordLemmas
+pub mod ReadingLemmas
+pub mod EffectLemmas
+pub mod RefusalLemmas
+pub mod MeaningLemmas
+pub mod DecodingLemmas
+pub mod WritingLemmas
+pub mod ProducerLemmas
+pub mod RunLemmas
+pub mod NumberLemmas
+pub mod LengthLemmas
+pub mod ListLemmas
+pub mod WritesLemmas
+pub mod FilledLemmas
+pub mod WritableLemmas
+pub mod LawLemmas
