@@ -1,5 +1,6 @@
 -- What the status of a run says of the file and of the meter.
-use Rattle.std.specs.Prelude.{ℕ, ◌≡◌, List, Option, Some, None, IfSome, ⊤}
+use Rattle.std.specs.Prelude.{ℕ, ◌≡◌, ◌⊎◌, List, Option, Some, None, IfSome, ⊤}
+use Rattle.fz_base.specs.declared.fault.Fault.{Fault}
 use Rattle.fz_pack.specs.FirstFault.{first_fault}
 use Rattle.fz_pack.specs.Takings.{IsTaking}
 use Rattle.fz_app.specs.declared.status.Status.{Status}
@@ -15,6 +16,23 @@ TellsFirstFault held ReadFault = ⊤
 TellsFirstFault held WriteFault = ⊤
 TellsFirstFault held (OverLimit live asked limit) = ⊤
 TellsFirstFault held NoMemory = ⊤
+
+-- a fact of a job that was done
+abbrev pub OnDone : Status → Type 0 → Type 0
+OnDone Done P = P
+OnDone Different P = ⊤
+OnDone Usage P = ⊤
+OnDone (Refused x) P = ⊤
+OnDone ReadFault P = ⊤
+OnDone WriteFault P = ⊤
+OnDone (OverLimit live asked limit) P = ⊤
+OnDone NoMemory P = ⊤
+
+-- The status where neither source nor sink failed and the limit allows all buffers: a file without a fault is packed,
+-- and another is refused for its first; want of memory alone may stop that.
+abbrev pub IsAnswer : Option Fault → Status → Type 0
+IsAnswer None status = (status ≡ Done) ⊎ (status ≡ NoMemory)
+IsAnswer (Some x) status = (status ≡ Refused x) ⊎ (status ≡ NoMemory)
 
 -- a status that tells of the limit tells a taking of the job
 abbrev pub TellsTaking : Status → Type 0

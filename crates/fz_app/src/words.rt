@@ -1,7 +1,7 @@
 //! The words of the command line. For now they are exactly `pack --codec none IN OUT`.
 ghost use Rattle.std.specs.Prelude.{◌≡◌, IfSome};
 ghost use Rattle.std.specs.Option.{option_map};
-ghost use Rattle.fz_app.specs.Words.{IsFirstJob, job_of, names_of, texts_of, is_operand as may_be_name};
+ghost use Rattle.fz_app.specs.Words.{IsFirstJob, job_of, asked_of, texts_of, is_operand as may_be_name};
 
 use fz_pack::{CodecWord, PackOptions};
 
@@ -18,7 +18,7 @@ pub(crate) enum Job<'a> {
 /// The job of the words, if they are one.
 pub(crate) fn find_job(words: &[String]) -> Option<Job<'_>>
     ensures built { IfSome result IsFirstJob }
-    ensures names { option_map names_of result ≡ job_of (texts_of words.now) }
+    ensures asked { option_map asked_of result ≡ job_of (texts_of words.now) }
 {
     let [command, option, codec, input, output] = words else {
         return None;

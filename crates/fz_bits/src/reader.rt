@@ -94,8 +94,10 @@ impl<'a> BitReader<'a> {
     {
         self.load(32);
         if self.pending == 0 {
-            let (zeros, reader) = self.zeros_ahead(max)?;
-            *self = reader;
+            // The copy keeps the fields of `self` in registers: its address is handed out.
+            let mut ahead = *self;
+            let zeros = ahead.zeros_ahead(max)?;
+            *self = ahead;
             return Ok(zeros);
         }
         let rest = 63 - self.pending.leading_zeros();
@@ -108,16 +110,18 @@ impl<'a> BitReader<'a> {
         Ok(zeros)
     }
 
-    /// `zeros` where all pending bits are zeros: the zeros, and the reader behind the one.
+    /// `zeros` where all pending bits are zeros.
     #[cold]
+    #[inline(never)]
     #[tactic(auto, using(crate::proofs::ReaderLemmas::lengths))]
-    fn zeros_ahead(self, max: u32) -> Result<(u32, BitReader<'a>), ZeroStop>
-        requires { self.pending ≡ 0 }
-        ensures bits { IfOk result (λ p. left self.entry ≡ replicate p.0 false ++ true ∷ left p.1) }
-        ensures most { IfOk result (λ p. p.0 ≤ max) }
-        ensures place { IfOk result (λ p. place p.1 ≡ place self.entry + p.0 + 1) }
-        ensures too_many { IsErrOf result ZeroStop.TooMany ↔ HasZeros max (left self.entry) }
-        ensures ended { IsErrOf result ZeroStop.Ended ↔ IsZeros max (left self.entry) }
+    fn zeros_ahead(&mut self, max: u32) -> Result<u32, ZeroStop>
+        requires { self.old.pending ≡ 0 }
+        ensures bits { IfOk result (λ n. left self.old ≡ replicate n false ++ true ∷ left self.new) }
+        ensures most { IfOk result (λ n. n ≤ max) }
+        ensures place { IfOk result (λ n. place self.new ≡ place self.old + n + 1) }
+        ensures too_many { IsErrOf result ZeroStop.TooMany ↔ HasZeros max (left self.old) }
+        ensures ended { IsErrOf result ZeroStop.Ended ↔ IsZeros max (left self.old) }
+        ensures err { OnErr result (IsUnmoved self.old self.new) }
     {
         let rest = &self.code[self.at..];
         let Some(zero_bytes) = first_set(rest) else {
@@ -130,13 +134,10 @@ impl<'a> BitReader<'a> {
         if zeros > u64::from(max) {
             return Err(ZeroStop::TooMany);
         }
-        let reader = BitReader {
-            code: self.code,
-            at: self.at + zero_bytes + 1,
-            pending: back(u64::from(byte), 7 - lead),
-            count: 7 - lead,
-        };
-        Ok((zeros as u32, reader))
+        self.at += zero_bytes + 1;
+        self.pending = back(u64::from(byte), 7 - lead);
+        self.count = 7 - lead;
+        Ok(zeros as u32)
     }
 
     /// Loads more bits, so that `width` are pending or none is left in the slice.

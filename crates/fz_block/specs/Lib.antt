@@ -1,4 +1,5 @@
 pub mod Cards
 pub mod FirstPath
+pub mod Hdus
 pub mod Header
 pub mod Small

@@ -1,5 +1,5 @@
 -- The form of a descriptor column can stand in a card.
-use Rattle.std.proofs.Common.{◌≡◌, ℕ, ◌+◌, ◌-◌, ◌*◌, ◌<◌, ◌≤◌, ◌^◌, Bool, true, not, ◌==◌, IsTrue, List, [], ◌∷◌, ◌++◌, length, codes, decimal, refl, ◌∙◌, ap, arith, rules, length-append}
+use Rattle.std.proofs.Common.{◌≡◌, ℕ, ◌+◌, ◌-◌, ◌*◌, ◌<◌, ◌≤◌, ◌^◌, Bool, true, false, not, ◌==◌, IsTrue, List, [], ◌∷◌, ◌++◌, length, codes, decimal, refl, ◌∙◌, ap, arith, rules, length-append}
 use Rattle.std.specs.Str.{all_ascii_digits}
 use Rattle.std.specs.List.{list_all}
 use Rattle.std.specs.Char.{is_ascii_digit}
@@ -10,7 +10,7 @@ use Rattle.std.proofs.lemmas.Fmt.{digits_decimal, length-decimal-le}
 use Rattle.std.proofs.lemmas.List.Folds.{list_all-append}
 use Rattle.std.proofs.Math.Seq.{get_or-append_seam}
 use Rattle.fz_card.specs.Made.{IsCardText}
-use Rattle.fz_pack.specs.Forms.{descriptor_form}
+use Rattle.fz_packed.specs.PackedHeader.{descriptor_form}
 
 abbrev read_on : ℕ → List ℕ → ℕ
 read_on n [] = n
@@ -56,7 +56,7 @@ plain_front letter digits pl pd =
     unquoted-append (codes "1P" ++ letter ++ codes "(") digits (unquoted-append (codes "1P" ++ letter) (codes "(") (unquoted-append (codes "1P") letter refl pl) refl) pd
 
 -- a form with a letter that is no quote is a text that a card can hold
-pub form_is_text : (letter : List ℕ) (most : ℕ) → length letter ≡ 1 → IsTrue (list_all (λ b. not (b == 39)) letter) → most < 2 ^ 32 → IsCardText (descriptor_form letter most)
+pub form_is_text : (letter : List ℕ) (most : ℕ) → length letter ≡ 1 → IsTrue (list_all (λ b. not (b == 39)) letter) → most < 2 ^ 32 → IsCardText (descriptor_form false letter most)
 form_is_text letter most one plain small =
     bracket_text (codes "1P" ++ letter ++ codes "(" ++ decimal most)
     (omega (arith, length-form_front letter (decimal most) one, length-decimal-le 10 most (omega arith) (omega arith) (omega arith)))

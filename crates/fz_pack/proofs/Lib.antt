@@ -1,3 +1,15 @@
+pub mod CardLemmas
 pub mod ChecksInOrder
 pub mod FirstFaults
 pub mod Forms
+pub mod HeaderBytes
+pub mod PackedOutput
+pub mod RenamedCards
+pub mod RowTiles
+pub mod SmallFile
+pub mod SmallImage
+pub mod SmallOutput
+pub mod SmallPacked
+pub mod Stages
+pub mod TileLemmas
+pub mod Totals

@@ -1,7 +1,11 @@
+pub mod CardBytes
+pub mod Complete
 pub mod FirstFault
-pub mod Forms
 pub mod Layout
 pub mod Options
 pub mod Order
+pub mod Output
+pub mod SmallPlan
 pub mod Takings
 pub mod Workspace
+pub mod Written

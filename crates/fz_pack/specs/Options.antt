@@ -1,7 +1,7 @@
 -- What the options of `pack` may be for now.
 use Rattle.std.specs.Prelude.{◌≡◌, None}
-use Rattle.fz_pack.specs.declared.options.PackOptions.{PackOptions}
-use Rattle.fz_pack.specs.declared.options.CodecWord.TheVariants.{None as NoCodec}
+use Rattle.fz_packed.specs.declared.options.PackOptions.{PackOptions}
+use Rattle.fz_packed.specs.declared.options.CodecWord.TheVariants.{None as NoCodec}
 use Rattle.std.specs.Prelude.{false}
 
 -- stored tiles of one row, without sums

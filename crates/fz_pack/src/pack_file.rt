@@ -4,18 +4,20 @@ ghost use Rattle.fz_base.specs.Counts.{Rose};
 ghost use Rattle.fz_base.specs.Stop.{StoppedJob, IsRefused, TellsLimit};
 ghost use Rattle.fz_base.specs.declared.failure.Stop.TheVariants.{ReadFault, WriteFault};
 ghost use Rattle.fz_block.specs.FirstPath.{header_blocks_of};
-ghost use Rattle.fz_pack.specs.FirstFault.{TellsFirstFault};
+ghost use Rattle.fz_pack.specs.FirstFault.{first_fault, TellsFirstFault};
+ghost use Rattle.fz_pack.specs.Complete.{IsAnswer};
 ghost use Rattle.fz_pack.specs.Options.{IsFirstPath};
 ghost use Rattle.fz_pack.specs.Order.{IfUnmade};
+ghost use Rattle.fz_pack.specs.Output.{HoldsStored, HoldsPacked};
 ghost use Rattle.fz_pack.specs.Takings.{TellsTaking};
 
 use crate::layout::Layout;
-use crate::options::PackOptions;
 use crate::rest::check_rest;
 use crate::workspace::Workspace;
 use crate::write::write_packed;
 use fz_base::{Meter, Sink, Source, Stop};
 use fz_block::{BLOCK_LEN, header_blocks, read_header};
+use fz_packed::PackOptions;
 
 /// Packs the file that is attached to the source into the sink, which it makes by this name.
 ///
@@ -38,7 +40,10 @@ pub fn pack<S: Source, K: Sink>(
     ensures live { meter.new.live ≡ 0 }
     ensures limit { meter.new.limit ≡ meter.old.limit }
 
+    ensures output { OnOk result (HoldsPacked options.now (S.held source.old) (K.contents sink.new)) }
     ensures first_fault { TellsFirstFault (S.held source.old) result }
+    // Where neither count of faults rose and the limit allows 2^30 bytes, the first fault alone decides.
+    ensures complete { ¬ Rose (S.faults source.old) (S.faults source.new) → ¬ Rose (K.faults sink.old) (K.faults sink.new) → 2 ^ 30 ≤ meter.old.limit → IfSome (S.held source.old) (λ g. IsAnswer (first_fault g) result) }
     ensures refused { IsRefused result → (S.faults source.new ≡ S.faults source.old) × (K.faults sink.new ≡ K.faults sink.old) }
     ensures read_fault { IsErrOf result ReadFault → Rose (S.faults source.old) (S.faults source.new) }
     ensures write_fault { IsErrOf result WriteFault → Rose (K.faults sink.old) (K.faults sink.new) }
@@ -68,6 +73,7 @@ fn with_block<S: Source, K: Sink>(
     requires attached { S.attached source.old ≡ Some length }
     requires block { len block.old ≡ 2880 }
     requires live { meter.old.live ≡ 2880 }
+    ensures output { OnOk result (HoldsStored (S.held source.old) (K.contents sink.new)) }
     ensures first_fault { TellsFirstFault (S.held source.old) result }
     ensures taking { TellsTaking result }
     ensures unmade { IfUnmade result ((K.created sink.new ≡ K.created sink.old) × (K.contents sink.new ≡ K.contents sink.old)) }
@@ -100,6 +106,7 @@ fn with_header<S: Source, K: Sink>(
     requires within { 2880 ≤ length }
     requires blocks { IfSome (S.held source.old) (λ g. header_blocks_of g ≡ Ok 1) }
     requires live { meter.old.live ≡ 5760 }
+    ensures output { OnOk result (HoldsStored (S.held source.old) (K.contents sink.new)) }
     ensures first_fault { TellsFirstFault (S.held source.old) result }
     ensures taking { TellsTaking result }
     ensures unmade { IfUnmade result ((K.created sink.new ≡ K.created sink.old) × (K.contents sink.new ≡ K.contents sink.old)) }

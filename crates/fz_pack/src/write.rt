@@ -1,15 +1,21 @@
 //! The packed file, written to the sink: byte 0 comes last.
-ghost use Rattle.std.specs.Prelude.{ℕ, ◌≡◌, ◌+◌, ◌*◌, ◌≤◌, ◌<◌, IsTrue, true, Some, length as len, OnOk};
-ghost use Rattle.fz_base.specs.Stop.{ReadsAndWrites, Writes};
+ghost use Rattle.std.specs.Prelude.{ℕ, ◌≡◌, ◌+◌, ◌*◌, ◌≤◌, ◌<◌, IsTrue, Some, IfSome, take, drop, length as len, OnOk, IfErr};
+ghost use Rattle.fz_base.specs.Stop.{ReadsAndWrites, ReadsOnly, Writes};
+ghost use Rattle.fz_tile.specs.Plain.{plain_bytes, stored_pixels};
+ghost use Rattle.fz_pack.specs.Written.{headers_written, tiles_written, tile_written, filled_to_blocks, closed, packed_bytes, stored_row, IsReadStop};
 ghost use Rattle.fz_pack.specs.Workspace.{HasSpace, SameSpace};
 ghost use Rattle.fz_pack.specs.Layout.{Fits, CanRead};
+ghost use Rattle.fz_pack.specs.SmallPlan.{small_packed_header};
+ghost use Rattle.fz_block.specs.FirstPath.{has_small_names};
+ghost use Rattle.fz_block.specs.Hdus.{header_bytes};
+ghost use Rattle.fz_packed.specs.PackedHeader.{empty_primary};
 
 use crate::layout::{Layout, ROW_LEN};
 use crate::packed_header::{write_empty_primary, write_packed_header};
-use crate::pixels::{bytes_of, numbers_of};
 use crate::workspace::Workspace;
 use fz_base::{Sink, Source, Stop};
 use fz_block::BLOCK_LEN;
+use fz_tile::{read_pixels, write_pixels};
 
 /// Creates the sink and writes the packed file. Nothing is refused any more.
 pub(crate) fn write_packed<S: Source, K: Sink>(
@@ -22,9 +28,11 @@ pub(crate) fn write_packed<S: Source, K: Sink>(
     block: &mut [u8],
 ) -> Result<(), Stop>
     requires within { CanRead (S.attached source.old) layout.now }
-    requires buf { 400 ≤ len buf.now }
+    requires names { IsTrue (has_small_names buf.now) }
+    requires buf { len buf.now ≡ 2880 }
     requires block { len block.old ≡ 2880 }
     requires space { HasSpace space.old layout.now.columns }
+    ensures output { OnOk result (IfSome (S.held source.old) (λ g. IfSome (K.contents sink.new) (λ bytes. bytes ≡ packed_bytes g buf.now layout.now))) }
     ensures held { S.held source.new ≡ S.held source.old }
     ensures attached { S.attached source.new ≡ S.attached source.old }
     ensures space { SameSpace space.old space.new }
@@ -46,10 +54,15 @@ fn write_headers<K: Sink>(
     block: &mut [u8],
 ) -> Result<(), Stop>
     requires created { IsTrue (K.created sink.old) }
-    requires buf { 400 ≤ len buf.now }
-    requires heap { layout.now.heap_len ≤ 2147483647 }
+    requires names { IsTrue (has_small_names buf.now) }
+    requires buf { len buf.now ≡ 2880 }
+    requires some { 0 < layout.now.columns }
+    requires heap { layout.now.heap_len ≡ 2 * (layout.now.columns * layout.now.rows) }
+    requires small { layout.now.heap_len ≤ 2147483647 }
     requires translated { 2880 ≤ len translated.old }
     requires block { len block.old ≡ 2880 }
+    ensures sizes { OnOk result ((len empty_primary ≡ 2880) × (len (header_bytes (small_packed_header buf.now layout.now.columns layout.now.rows)) ≡ 2880)) }
+    ensures headers { OnOk result (K.contents sink.new ≡ headers_written (small_packed_header buf.now layout.now.columns layout.now.rows) (K.contents sink.old)) }
     ensures created { K.created sink.new ≡ K.created sink.old }
     ensures cause { Writes (K.faults sink.old) (K.faults sink.new) result }
 {
@@ -65,17 +78,31 @@ fn write_last<K: Sink>(sink: &mut K, layout: &Layout, block: &mut [u8]) -> Resul
     requires created { IsTrue (K.created sink.old) }
     requires layout { (layout.now.rows_at ≡ 5760) × (layout.now.heap_len ≤ 2147483647) }
     requires block { len block.old ≡ 2880 }
+    ensures closed { OnOk result (K.contents sink.new ≡ closed layout.now (K.contents sink.old)) }
+    ensures created { K.created sink.new ≡ K.created sink.old }
+    ensures cause { Writes (K.faults sink.old) (K.faults sink.new) result }
+{
+    write_fill(sink, layout, block)?;
+    sink.write_at(0, b"S").map_err(Stop::writing)?;
+    sink.finish().map_err(Stop::writing)
+}
+
+// Writes zeros behind the heap, to whole blocks.
+fn write_fill<K: Sink>(sink: &mut K, layout: &Layout, block: &mut [u8]) -> Result<(), Stop>
+    requires created { IsTrue (K.created sink.old) }
+    requires layout { (layout.now.rows_at ≡ 5760) × (layout.now.heap_len ≤ 2147483647) }
+    requires block { len block.old ≡ 2880 }
+    ensures filled { OnOk result (K.contents sink.new ≡ filled_to_blocks layout.now (K.contents sink.old)) }
     ensures created { K.created sink.new ≡ K.created sink.old }
     ensures cause { Writes (K.faults sink.old) (K.faults sink.new) result }
 {
     let end = layout.heap_at() + layout.heap_len;
     let fill = (end.div_ceil(BLOCK_LEN as u64) * BLOCK_LEN as u64 - end) as usize;
-    if fill > 0 {
-        block.fill(0);
-        sink.write_at(end, &block[..fill]).map_err(Stop::writing)?;
+    if fill == 0 {
+        return Ok(());
     }
-    sink.write_at(0, b"S").map_err(Stop::writing)?;
-    sink.finish().map_err(Stop::writing)
+    block.fill(0);
+    sink.write_at(end, &block[..fill]).map_err(Stop::writing)
 }
 
 // Writes the tiles of the image and their rows, in order.
@@ -90,6 +117,7 @@ fn write_tiles<S: Source, K: Sink>(
     requires within { CanRead (S.attached source.old) layout.now }
     requires numbers { len numbers.old ≡ layout.now.columns }
     requires code { 2 * layout.now.columns ≤ len code.old }
+    ensures tiles { OnOk result (IfSome (S.held source.old) (λ g. K.contents sink.new ≡ tiles_written g layout.now layout.now.rows (K.contents sink.old))) }
     ensures held { S.held source.new ≡ S.held source.old }
     ensures attached { S.attached source.new ≡ S.attached source.old }
     ensures created { K.created sink.new ≡ K.created sink.old }
@@ -116,28 +144,49 @@ fn write_tile<S: Source, K: Sink>(
     requires numbers { len numbers.old ≡ layout.now.columns }
     requires code { len code.old ≡ 2 * layout.now.columns }
     requires tile { tile < layout.now.rows }
+    ensures tile { OnOk result (IfSome (S.held source.old) (λ g. K.contents sink.new ≡ tile_written g layout.now tile (K.contents sink.old))) }
     ensures held { S.held source.new ≡ S.held source.old }
     ensures attached { S.attached source.new ≡ S.attached source.old }
     ensures created { K.created sink.new ≡ K.created sink.old }
     ensures cause { ReadsAndWrites (S.faults source.old) (S.faults source.new) (K.faults sink.old) (K.faults sink.new) result }
 {
     let offset = layout.tile_offset(tile);
-    source
-        .read_at(layout.pixels_at + offset, code)
-        .map_err(Stop::reading)?;
-    numbers_of(code, numbers);
-    bytes_of(numbers, code);
+    read_tile(source, layout.pixels_at + offset, numbers, code)?;
     sink.write_at(layout.heap_at() + offset, code)
         .map_err(Stop::writing)?;
     let row = row_of(layout.columns, offset as u32);
     sink.write_at(layout.rows_at + ROW_LEN * u64::from(tile), &row)
-        .map_err(Stop::writing)
+        .map_err(Stop::writing)?;
+    Ok(())
+}
+
+// Reads the pixels of a tile and turns them into the bytes that stand for it.
+fn read_tile<S: Source>(
+    source: &mut S,
+    at: u64,
+    numbers: &mut [i32],
+    code: &mut [u8],
+) -> Result<(), Stop>
+    requires within { (n : ℕ) × (S.attached source.old ≡ Some n) × (at + len code.old ≤ n) }
+    requires some { 0 < len code.old }
+    requires code { len code.old ≡ 2 * len numbers.old }
+    ensures bytes { OnOk result (IfSome (S.held source.old) (λ g. code.new ≡ plain_bytes 16 (stored_pixels 16 (len numbers.old) (take (len code.old) (drop at g))))) }
+    ensures held { S.held source.new ≡ S.held source.old }
+    ensures attached { S.attached source.new ≡ S.attached source.old }
+    ensures cause { ReadsOnly (S.faults source.old) (S.faults source.new) (S.wants source.old) (S.wants source.new) result }
+    ensures stop { IfErr result IsReadStop }
+{
+    source.read_at(at, code).map_err(Stop::reading)?;
+    read_pixels(code, numbers);
+    write_pixels(numbers, code);
+    Ok(())
 }
 
 // The row of a stored tile: no coded elements, then how many are stored, and where.
-fn row_of(count: u32, offset: u32) -> [u8; 16] {
-    let mut row = [0; 16];
-    row[8..12].copy_from_slice(&count.to_be_bytes());
-    row[12..].copy_from_slice(&offset.to_be_bytes());
-    row
+fn row_of(count: u32, offset: u32) -> [u8; 16]
+    ensures { result ≡ stored_row count offset }
+{
+    let [c0, c1, c2, c3] = count.to_be_bytes();
+    let [o0, o1, o2, o3] = offset.to_be_bytes();
+    [0, 0, 0, 0, 0, 0, 0, 0, c0, c1, c2, c3, o0, o1, o2, o3]
 }

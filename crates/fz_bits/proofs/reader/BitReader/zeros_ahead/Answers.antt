@@ -9,7 +9,7 @@ use Rattle.fz_bits.proofs.reader.BitReader.zeros_ahead.Goals as goal
 
 pub returns-in_default-clause-too_many : goal.returns-in_default-clause-too_many
 returns-in_default-clause-too_many c =
-    let r = c.args.self in
+    let r = c.args.self.now in
     let max = c.args.max in
     let n = r.count + 8 * length (take (length r.code.now - r.at) (drop r.at r.code.now)) in
     let is : left r ≡ replicate n false = left_zeros r c.requires c.in_default.ensures in
@@ -25,7 +25,7 @@ returns-in_default-clause-too_many c =
 
 pub returns-in_default-clause-ended : goal.returns-in_default-clause-ended
 returns-in_default-clause-ended c =
-    let r = c.args.self in
+    let r = c.args.self.now in
     let max = c.args.max in
     let n = r.count + 8 * length (take (length r.code.now - r.at) (drop r.at r.code.now)) in
     let is : left r ≡ replicate n false = left_zeros r c.requires c.in_default.ensures in
@@ -38,7 +38,7 @@ returns-in_default-clause-ended c =
 
 pub returns-then-zeros-from-clause-too_many : goal.returns-then-zeros-from-clause-too_many
 returns-then-zeros-from-clause-too_many c =
-    let r = c.args.self in
+    let r = c.args.self.now in
     let i = c.in-Some.zero_bytes in
     let b = get_or (take (length r.code.now - r.at) (drop r.at r.code.now)) i 0 in
     let lead = count_leading_zeros 8 b in
@@ -49,7 +49,7 @@ returns-then-zeros-from-clause-too_many c =
 
 pub returns-then-zeros-from-clause-ended : goal.returns-then-zeros-from-clause-ended
 returns-then-zeros-from-clause-ended c =
-    let r = c.args.self in
+    let r = c.args.self.now in
     let i = c.in-Some.zero_bytes in
     let b = get_or (take (length r.code.now - r.at) (drop r.at r.code.now)) i 0 in
     let lead = count_leading_zeros 8 b in
@@ -60,7 +60,7 @@ returns-then-zeros-from-clause-ended c =
 pub returns-clause-bits : goal.returns-clause-bits
 unfolding left
 returns-clause-bits c =
-    let r = c.args.self in
+    let r = c.args.self.now in
     let i = c.in-Some.zero_bytes in
     let b = get_or (take (length r.code.now - r.at) (drop r.at r.code.now)) i 0 in
     let lead = count_leading_zeros 8 b in
@@ -68,12 +68,13 @@ returns-clause-bits c =
     let is = left_ahead r i b c.requires c.in-Some.ensures.0 c.in-Some.ensures.1 refl (omega (arith, c.in-Some.ensures.2)) (omega arith) in
     let tail = bits_of (drop (r.at + i + 1) r.code.now) in
     let zeros : r.count + 8 * i + lead ≡ c.from-2.result + 8 * i + c.from-3.result = omega (arith, c.from-2.ensures, c.from-3.ensures) in
-    let byte : b % 2 ^ rest ≡ c.back.result = sym (c.back.ensures ∙ ap (λ v. v % 2 ^ rest) c.from-5.ensures) in
-    is ∙ ap (λ k. replicate k false ++ true ∷ (number_bits rest (b % 2 ^ rest) ++ tail)) zeros ∙ ap (λ v. replicate (c.from-2.result + 8 * i + c.from-3.result) false ++ true ∷ (number_bits rest v ++ tail)) byte
+    let gone : r.at + i + 1 ≡ r.at + (i + 1) = omega arith in
+    let byte : b % 2 ^ rest ≡ c.back-self.result = sym (c.back-self.ensures ∙ ap (λ v. v % 2 ^ rest) c.from-5.ensures) in
+    is ∙ ap (λ k. replicate k false ++ true ∷ (number_bits rest (b % 2 ^ rest) ++ tail)) zeros ∙ ap (λ v. replicate (c.from-2.result + 8 * i + c.from-3.result) false ++ true ∷ (number_bits rest v ++ tail)) byte ∙ ap (λ k. replicate (c.from-2.result + 8 * i + c.from-3.result) false ++ true ∷ (number_bits rest c.back-self.result ++ bits_of (drop k r.code.now))) gone
 
 pub returns-clause-too_many : goal.returns-clause-too_many
 returns-clause-too_many c =
-    let r = c.args.self in
+    let r = c.args.self.now in
     let i = c.in-Some.zero_bytes in
     let b = get_or (take (length r.code.now - r.at) (drop r.at r.code.now)) i 0 in
     let lead = count_leading_zeros 8 b in
@@ -84,7 +85,7 @@ returns-clause-too_many c =
 
 pub returns-clause-ended : goal.returns-clause-ended
 returns-clause-ended c =
-    let r = c.args.self in
+    let r = c.args.self.now in
     let i = c.in-Some.zero_bytes in
     let b = get_or (take (length r.code.now - r.at) (drop r.at r.code.now)) i 0 in
     let lead = count_leading_zeros 8 b in

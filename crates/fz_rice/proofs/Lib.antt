@@ -1,0 +1,15 @@
+pub mod Readers
+pub mod FieldReaders
+pub mod ValueReaders
+pub mod BlockReaders
+pub mod NumbersLemmas
+pub mod CodeReaders
+pub mod MachineLemmas
+pub mod LeafLemmas
+pub mod HalfwayLemmas
+pub mod DecodeLemmas
+pub mod WritesLemmas
+pub mod ProducerLemmas
+pub mod BlocksLemmas
+pub mod EncodeLemmas
+pub mod LawLemmas

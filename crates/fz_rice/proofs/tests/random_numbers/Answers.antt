@@ -1,0 +1,22 @@
+use Rattle.std.proofs.Common.{◌≡◌, ◌^◌, ◌<◌, sym, subst, ◌∙◌, arith, rules, to_z, of_z}
+use Rattle.std.specs.List.{All}
+use Rattle.std.specs.Int.{w32}
+use Rattle.std.specs.Prelude.{FitsSigned}
+use Rattle.std.proofs.lemmas.Int.{to_z-of_z}
+use Rattle.std.proofs.lemmas.List.Elements.{All-push}
+use Rattle.fz_rice.specs.Numbers.{IsNumber}
+use Rattle.fz_rice.specs.Reading.{number}
+use Rattle.fz_rice.proofs.NumbersLemmas.{IsNumber-number, residue_lt}
+use Rattle.fz_rice.proofs.tests.random_numbers.Goals as goal
+
+pub loop-made-preserved : goal.loop-made-preserved
+loop-made-preserved g c =
+    let w = g.row.W in
+    let x = to_z w32 (of_z w32 c.number.result) in
+    let fits : FitsSigned w32 c.number.result = search rules in
+    let is : x ≡ number w c.residue.result = to_z-of_z w32 c.number.result fits ∙ c.number.ensures in
+    let small : c.residue.result < 2 ^ w = subst (λ u. u < 2 ^ w) (sym c.residue.ensures) (residue_lt w _) in
+    record {
+      len = omega (arith, c.in_ok-push.ensures.len, c.loop-made.invariant.len);
+      all = subst (All (IsNumber w)) (sym c.in_ok-push.ensures.items) (All-push (IsNumber w) c.loop-made.numbers.items x c.loop-made.invariant.all (subst (IsNumber w) (sym is) (IsNumber-number w c.residue.result c.requires small)));
+    }

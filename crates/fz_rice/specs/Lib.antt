@@ -1,0 +1,6 @@
+pub mod Numbers
+pub mod Code
+pub mod Producer
+pub mod Prefix
+pub mod Reading
+pub mod Writing

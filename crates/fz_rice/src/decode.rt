@@ -1,0 +1,196 @@
+//! Reading the blocks of a code.
+#![tactic(auto)]
+
+ghost use Rattle.std.specs.Prelude.{◌≡◌, ℕ, ◌+◌, ◌-◌, ◌*◌, ◌/◌, ◌%◌, ◌^◌, ◌<◌, ◌≤◌, ℤ, List, length, replicate, IfOk, OnOk};
+ghost use Rattle.fz_bits.specs.Reader.{left};
+ghost use Rattle.fz_rice.specs.Numbers.{IsWidth};
+ghost use Rattle.fz_rice.specs.Code.{row};
+ghost use Rattle.fz_rice.specs.Reading.{number_at, zeros_at, split_at, many_at, id_at, block_at, blocks_at, number, Reads, ReadsNumbers, ReadsAll, bit_count};
+
+use crate::coder::CodeFault;
+use crate::numbers::{greatest, id_len, next_residue, number, raw_id};
+use fz_bits::{BitReader, ZeroStop};
+
+/// Reads the numbers in blocks, the first difference from the residue `start`.
+pub fn read_blocks<const W: u32>(
+    reader: &mut BitReader,
+    start: u32,
+    block: u32,
+    numbers: &mut [i32],
+) -> Result<(), CodeFault>
+    requires width { IsWidth W }
+    requires start { start < 2 ^ W }
+    requires block { (1 ≤ block) × (block ≤ 32767) }
+    ensures numbers { ReadsAll W start
+        (blocks_at W block (length numbers.old) (length numbers.old) (left reader.old))
+        numbers.new result (left reader.new) }
+    ensures count { OnOk result (bit_count reader.new ≡ bit_count reader.old) }
+{
+    let mut last = start;
+    let mut at = 0;
+    while at < numbers.len() {
+        let end = at + (block as usize).min(numbers.len() - at);
+        last = read_block::<W>(reader, last, &mut numbers[at..end])?;
+        at = end;
+    }
+    Ok(())
+}
+
+/// Reads a block, and answers the residue of its last number.
+fn read_block<const W: u32>(
+    reader: &mut BitReader,
+    last: u32,
+    numbers: &mut [i32],
+) -> Result<u32, CodeFault>
+    requires width { IsWidth W }
+    requires last { last < 2 ^ W }
+    ensures numbers { ReadsNumbers W last (block_at W (length numbers.old) (left reader.old))
+        numbers.new result (left reader.new) }
+    ensures count { OnOk result (bit_count reader.new ≡ bit_count reader.old) }
+{
+    let id = read_id::<W>(reader)?;
+    if id == 0 {
+        repeat::<W>(last, numbers);
+        Ok(last)
+    } else if id == raw_id::<W>() {
+        read_raw::<W>(reader, last, numbers)
+    } else {
+        read_split::<W>(reader, last, id - 1, numbers)
+    }
+}
+
+/// Puts the number of a residue into each place.
+fn repeat<const W: u32>(last: u32, numbers: &mut [i32])
+    requires width { IsWidth W }
+    requires last { last < 2 ^ W }
+    ensures { numbers.new ≡ replicate (length numbers.old) (number W last) }
+{
+    let same = number::<W>(last);
+    for i in 0..numbers.len() {
+        numbers[i] = same;
+    }
+}
+
+/// Reads mapped differences in `W` bits.
+fn read_raw<const W: u32>(
+    reader: &mut BitReader,
+    start: u32,
+    numbers: &mut [i32],
+) -> Result<u32, CodeFault>
+    requires width { IsWidth W }
+    requires start { start < 2 ^ W }
+    ensures numbers { ReadsNumbers W start
+        (many_at (number_at W) (length numbers.old) (left reader.old))
+        numbers.new result (left reader.new) }
+    ensures count { OnOk result (bit_count reader.new ≡ bit_count reader.old) }
+{
+    let mut last = start;
+    for i in 0..numbers.len() {
+        let value = read_number(reader, W)?;
+        last = next_residue::<W>(last, value);
+        numbers[i] = number::<W>(last);
+    }
+    Ok(last)
+}
+
+/// Reads mapped differences in unary and `k` bits.
+fn read_split<const W: u32>(
+    reader: &mut BitReader,
+    start: u32,
+    k: u32,
+    numbers: &mut [i32],
+) -> Result<u32, CodeFault>
+    requires width { IsWidth W }
+    requires start { start < 2 ^ W }
+    requires k { k < W }
+    ensures numbers { ReadsNumbers W start
+        (many_at (split_at W k) (length numbers.old) (left reader.old))
+        numbers.new result (left reader.new) }
+    ensures count { OnOk result (bit_count reader.new ≡ bit_count reader.old) }
+{
+    let mut ahead = *reader;
+    let mut last = start;
+    for i in 0..numbers.len() {
+        let value = read_value::<W>(&mut ahead, k)?;
+        last = next_residue::<W>(last, value);
+        numbers[i] = number::<W>(last);
+    }
+    *reader = ahead;
+    Ok(last)
+}
+
+/// Reads zeros, a one and `k` bits.
+#[inline]
+fn read_value<const W: u32>(reader: &mut BitReader, k: u32) -> Result<u32, CodeFault>
+    requires width { IsWidth W }
+    requires k { k < W }
+    ensures value { Reads (split_at W k (left reader.old)) result (left reader.new) }
+    ensures fits { IfOk result (λ v. v < 2 ^ W) }
+    ensures count { OnOk result (bit_count reader.new ≡ bit_count reader.old) }
+{
+    let zeros = read_zeros(reader, greatest::<W>() >> k)?;
+    let low = read_number(reader, k)?;
+    Ok((zeros << k) | low)
+}
+
+/// Reads zeros and the one behind them.
+#[inline]
+fn read_zeros(reader: &mut BitReader, max: u32) -> Result<u32, CodeFault>
+    ensures zeros { Reads (zeros_at max (left reader.old)) result (left reader.new) }
+    ensures most { IfOk result (λ n. n ≤ max) }
+    ensures count { OnOk result (bit_count reader.new ≡ bit_count reader.old) }
+{
+    match reader.zeros(max) {
+        Ok(zeros) => Ok(zeros),
+        Err(ZeroStop::TooMany) => Err(CodeFault::Unlawful),
+        Err(ZeroStop::Ended) => Err(CodeFault::Ended),
+    }
+}
+
+/// Reads a number of so many bits.
+#[inline]
+pub fn read_number(reader: &mut BitReader, width: u32) -> Result<u32, CodeFault>
+    requires { width ≤ 32 }
+    ensures number { Reads (number_at width (left reader.old)) result (left reader.new) }
+    ensures fits { IfOk result (λ v. v < 2 ^ width) }
+    ensures count { OnOk result (bit_count reader.new ≡ bit_count reader.old) }
+{
+    match reader.get(width) {
+        Ok(number) => Ok(number),
+        Err(_) => Err(CodeFault::Ended),
+    }
+}
+
+/// Reads an id.
+fn read_id<const W: u32>(reader: &mut BitReader) -> Result<u32, CodeFault>
+    requires width { IsWidth W }
+    ensures id { Reads (id_at (row W).id_len (row W).raw_id (left reader.old)) result
+        (left reader.new) }
+    ensures lawful { IfOk result (λ id. id ≤ (row W).raw_id) }
+    ensures count { OnOk result (bit_count reader.new ≡ bit_count reader.old) }
+{
+    match reader.get(id_len::<W>()) {
+        Ok(id) if id <= raw_id::<W>() => Ok(id),
+        Ok(_) => Err(CodeFault::Unlawful),
+        Err(_) => Err(cut_id::<W>(reader)),
+    }
+}
+
+/// Why there is no id where the bits end in it: `Unlawful` where no lawful id begins with them.
+#[cold]
+fn cut_id<const W: u32>(reader: &BitReader) -> CodeFault
+    requires width { IsWidth W }
+    requires cut { length (left reader.now) < (row W).id_len }
+    ensures { id_at (row W).id_len (row W).raw_id (left reader.now) ≡ Err result }
+{
+    for missing in 1..id_len::<W>() {
+        let mut ahead = *reader;
+        if let Ok(front) = ahead.get(id_len::<W>() - missing) {
+            if front << missing > raw_id::<W>() {
+                return CodeFault::Unlawful;
+            }
+            return CodeFault::Ended;
+        }
+    }
+    CodeFault::Ended
+}

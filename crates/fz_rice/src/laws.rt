@@ -1,0 +1,30 @@
+//! Laws of the code.
+#![tactic(auto)]
+
+ghost use Rattle.std.specs.Prelude.{◌≡◌, ℕ, ◌+◌, ◌/◌, ◌<◌, ◌≤◌, Bool, ℤ, List, [], ◌++◌, length, All};
+ghost use Rattle.fz_rice.specs.Numbers.{IsWidth, IsNumber};
+ghost use Rattle.fz_rice.specs.Code.{IsRiceCode};
+ghost use Rattle.fz_rice.specs.Producer.{rice_bits, rice_code};
+ghost use Rattle.fz_rice.specs.Prefix.{BeginsWith};
+
+/// No code of so many numbers is a proper prefix of another one, and a code has one list of them.
+pub fn one_code_law()
+    ensures { (w block : ℕ) (xs ys : List ℤ) (code rest : List Bool) → IsWidth w → 1 ≤ block
+        → length xs ≡ length ys → IsRiceCode w block xs code → IsRiceCode w block ys (code ++ rest)
+        → (xs ≡ ys) × (rest ≡ []) }
+{}
+
+/// What `encode` writes is a code of the numbers, and zeros behind it.
+pub fn producer_law()
+    ensures { (w block : ℕ) (xs : List ℤ) → IsWidth w → 1 ≤ block → All (IsNumber w) xs
+        → IsRiceCode w block xs (rice_bits w block xs)
+        × ((fill : List Bool) × (rice_code w block xs ≡ rice_bits w block xs ++ fill)) }
+{}
+
+/// Numbers that are read from what `encode` wrote, with any bits behind it, are the numbers again.
+pub fn round_trip_law()
+    ensures { (w block : ℕ) (xs ys : List ℤ) (rest : List Bool) (bytes : ℕ) → IsWidth w → 1 ≤ block
+        → All (IsNumber w) xs → length ys ≡ length xs
+        → BeginsWith w block ys bytes (rice_code w block xs ++ rest)
+        → (ys ≡ xs) × (bytes ≡ length (rice_code w block xs) / 8) }
+{}

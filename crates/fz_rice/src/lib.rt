@@ -1,0 +1,15 @@
+//! The RICE_1 code of lists of numbers, at 8, 16 and 32 bits (FITS 4.0, section 10.4.1).
+//!
+//! Reading order: `coder`, `numbers`, `encode`, `decode`, `laws`.
+#![tactic(auto)]
+
+mod coder;
+mod decode;
+mod encode;
+mod laws;
+mod numbers;
+#[cfg(test)]
+mod tests;
+
+pub use coder::{CodeFault, Coder};
+pub use laws::{one_code_law, producer_law, round_trip_law};
