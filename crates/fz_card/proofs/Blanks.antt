@@ -28,7 +28,8 @@ line-filled n len bytes text front size within rest =
 pub drop-blanks : (n len more : ℕ) (bytes : List ℕ) → drop len bytes ≡ blanks (n - len) → drop (len + more) bytes ≡ blanks (n - (len + more))
 drop-blanks n len more bytes rest =
     let gap : n - len - more ≡ n - (len + more) = omega arith in
-    sym (drop-drop more len bytes) ∙ (ap (drop more) rest ∙ (drop-replicate more (n - len) 32 ∙ ap blanks gap))
+    let moved : drop more (blanks (n - len)) ≡ blanks (n - (len + more)) = rw (drop-replicate {X = ℕ} more (n - len) 32, gap) in
+    rw (← drop-drop more len bytes, rest) moved
 
 -- the next bytes of a line that has blanks there
 pub take-blanks : (n len more : ℕ) (bytes text : List ℕ) → take len bytes ≡ text → len + more ≤ n → drop len bytes ≡ blanks (n - len) → take (len + more) bytes ≡ text ++ blanks more

@@ -82,7 +82,7 @@ reads_fits text numeral short = fits_sign _ _ (digits_value_short (numerals_by_v
 pub integer_once : (text : List ℕ) (v w : ℤ) → IsIntegerText text v → IsIntegerText text w → v ≡ w
 integer_once text v w first second = (reads_integer text v first).value ∙ sym (reads_integer text w second).value
 
-digits_plain : (digits : List ℕ) → AllDigits 10 digits → IsPlain digits
+pub digits_plain : (digits : List ℕ) → AllDigits 10 digits → IsPlain digits
 digits_plain [] all = tt
 digits_plain (d ∷ digits) (digit, all) =
     let range : IsInRange 48 57 d = digit_from_value d digit in

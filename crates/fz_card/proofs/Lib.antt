@@ -6,3 +6,9 @@ pub mod Values
 pub mod Lines
 pub mod Readings
 pub mod Texts
+pub mod Numbers
+pub mod TableNames
+pub mod QuotedTexts
+pub mod TextValues
+pub mod ZeroTexts
+pub mod ZeroValues

@@ -36,7 +36,7 @@ pub cut_blanks-blank : (bs : List ℕ) → cut_blanks (bs ++ 32 ∷ []) ≡ cut_
 cut_blanks-blank [] = refl
 cut_blanks-blank (b ∷ bs) = ap (λ (l : List ℕ). cond (eqb b 32 && eqb (length l) 0) [] (b ∷ l)) (cut_blanks-blank bs)
 
-cut_blanks-cons : (b : ℕ) (bs : List ℕ) → 0 < length bs → cond (eqb b 32 && eqb (length bs) 0) [] (b ∷ bs) ≡ b ∷ bs
+pub cut_blanks-cons : (b : ℕ) (bs : List ℕ) → 0 < length bs → cond (eqb b 32 && eqb (length bs) 0) [] (b ∷ bs) ≡ b ∷ bs
 cut_blanks-cons b bs some = grind (arith, nat_tests)
 
 -- what ends with another byte stays whole

@@ -1,6 +1,7 @@
 -- The functions that give a card's value give the value by the split of its field.
 use Rattle.std.proofs.Common.{◌≡◌, ℕ, ◌<◌, ◌≤◌, Bool, true, false, cond, ltb, leb, List, length, take, drop, sym, refl, arith}
 use Rattle.std.specs.Prelude.{ℤ, ◌&&◌, Option, Some, None, IfSome, IfNone, bytes_eq, codes}
+use Rattle.std.specs.Option.{option_map}
 use Rattle.std.specs.Str.{all_ascii_digits}
 use Rattle.std.specs.Str.Parse.{IsNumeral, without_leading_sign, digits_value, signed_digits_value}
 use Rattle.std.proofs.lemmas.Bool.Decides.{nat_tests}
@@ -13,26 +14,26 @@ use Rattle.fz_card.specs.Reading.{has_value_indicator, is_short_numeral, integer
 use Rattle.fz_card.proofs.Integers.{reads_integer, integer_reads, integer_plain}
 use Rattle.fz_card.proofs.Values.{value_text-found, has_plain_text, logical_plain}
 
-some-if : {X : Type 0} (test : Bool) (x v : X) → cond test (Some x) None ≡ Some v → (test ≡ true) × (x ≡ v)
+pub some-if : {X : Type 0} (test : Bool) (x v : X) → cond test (Some x) None ≡ Some v → (test ≡ true) × (x ≡ v)
 some-if true x v e = (refl, cc)
 some-if false x v e = cc
 
-inner-if : {X : Type 0} (test : Bool) (r : Option X) (v : X) → cond test r None ≡ Some v → (test ≡ true) × (r ≡ Some v)
+pub inner-if : {X : Type 0} (test : Bool) (r : Option X) (v : X) → cond test r None ≡ Some v → (test ≡ true) × (r ≡ Some v)
 inner-if true r v e = (refl, e)
 inner-if false r v e = cc
 
-and-true : (a b : Bool) → (a && b) ≡ true → (a ≡ true) × (b ≡ true)
+pub and-true : (a b : Bool) → (a && b) ≡ true → (a ≡ true) × (b ≡ true)
 and-true true true e = (refl, refl)
 and-true true false e = cc
 and-true false b e = cc
 
-digits : IsNumeralModel (λ ds. all_ascii_digits ds ≡ true) (digits_value 10)
+pub digits : IsNumeralModel (λ ds. all_ascii_digits ds ≡ true) (digits_value 10)
 digits = numerals_by_value (λ ds. all_ascii_digits ds ≡ true) tells_all_ascii_digits
 
-lt-true : (a b : ℕ) → ltb a b ≡ true → a < b
+pub lt-true : (a b : ℕ) → ltb a b ≡ true → a < b
 lt-true a b e = grind (arith, nat_tests)
 
-le-true : (a b : ℕ) → leb a b ≡ true → a ≤ b
+pub le-true : (a b : ℕ) → leb a b ≡ true → a ≤ b
 le-true a b e = grind (arith, nat_tests)
 
 tests-true : (a : Bool) (m n : ℕ) → a ≡ true → 0 < m → m ≤ n → (a && (ltb 0 m && leb m n)) ≡ true
@@ -103,7 +104,7 @@ value-logical_of card b value =
     rw ((bytes_eq-Decides (take 2 (drop 8 card)) (codes "= ")).1 value.indicator, value_text-found card (logical_text b) value (logical_plain b)) (is-logical_in b)
 
 -- an option that has just the values of a fact is the one that a function gives of them
-same_option : {X : Type 0} (Value : X → Type 0) (read given : Option X) → IfSome read Value → IfNone read ((x : X) → ¬ (Value x)) → ((x : X) → given ≡ Some x → Value x) → ((x : X) → Value x → given ≡ Some x) → read ≡ given
+pub same_option : {X : Type 0} (Value : X → Type 0) (read given : Option X) → IfSome read Value → IfNone read ((x : X) → ¬ (Value x)) → ((x : X) → given ≡ Some x → Value x) → ((x : X) → Value x → given ≡ Some x) → read ≡ given
 same_option Value None None some none is value = refl
 same_option Value None (Some x) some none is value = absurd (none x (is x refl))
 same_option Value (Some x) given some none is value = sym (value x some)
@@ -114,7 +115,7 @@ integer_of-read card read some none = same_option (IntegerValue card) read (inte
 pub logical_of-read : (card : List ℕ) (read : Option Bool) → IfSome read (LogicalValue card) → IfNone read ((b : Bool) → ¬ (LogicalValue card b)) → read ≡ logical_of card
 logical_of-read card read some none = same_option (LogicalValue card) read (logical_of card) some none (logical_of-value card) (value-logical_of card)
 
-none-if : {X : Type 0} (test : Bool) (r : Option X) → (test ≡ true → ⊥) → cond test r None ≡ None
+pub none-if : {X : Type 0} (test : Bool) (r : Option X) → (test ≡ true → ⊥) → cond test r None ≡ None
 none-if true r no_value = absurd (no_value refl)
 none-if false r no_value = refl
 
@@ -128,3 +129,12 @@ pub logical_of-none : (card : List ℕ) → ¬ (HasValueIndicator card) → logi
 unfolding logical_of
 logical_of-none card no_value =
     none-if (has_value_indicator card) (logical_in (plain_text (value_field card))) (λ e. no_value ((bytes_eq-Decides (take 2 (drop 8 card)) (codes "= ")).0 e))
+
+-- what a call read is what a function gives
+pub read_is : {X Y : Type 0} (f : X → Y) (Is : Y → Type 0) (read : Option X) (found : Option Y) → option_map f read ≡ found → ((y : Y) → found ≡ Some y → Is y) → IfSome read (λ x. Is (f x))
+read_is f Is None found e is = tt
+read_is f Is (Some x) found e is = is (f x) (sym e)
+
+pub read_none : {X Y : Type 0} (f : X → Y) (Is : Y → Type 0) (read : Option X) (found : Option Y) → option_map f read ≡ found → ((y : Y) → Is y → found ≡ Some y) → IfNone read ((y : Y) → ¬ (Is y))
+read_none f Is None found e is = λ y h. let found_y = is y h in cc
+read_none f Is (Some x) found e is = tt

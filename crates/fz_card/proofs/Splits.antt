@@ -33,24 +33,24 @@ before_comment-behind [] = record { rest = []; parts = refl; comment = tt }
 before_comment-behind (b ∷ bs) = behind-step (eqb b 47) b bs (eqb-same b 47) (before_comment-behind bs)
 
 -- blanks stand before a text
-record After (bs rest : List ℕ) : Type 0 where
-  count : ℕ
-  parts : bs ≡ blanks count ++ rest
+pub record After (bs rest : List ℕ) : Type 0 where
+  pub count : ℕ
+  pub parts : bs ≡ blanks count ++ rest
 
 after-step : (test : Bool) (b : ℕ) (bs : List ℕ) → (test ≡ true → b ≡ 32) → After bs (skip_blanks bs) → After (b ∷ bs) (cond test (skip_blanks bs) (b ∷ bs))
 after-step true b bs blank h = record { count = suc h.count; parts = let e : b ≡ 32 = blank refl in rw e (ap (λ (l : List ℕ). 32 ∷ l) h.parts) }
 after-step false b bs blank h = record { count = 0; parts = refl }
 
-skip_blanks-after : (bs : List ℕ) → After bs (skip_blanks bs)
+pub skip_blanks-after : (bs : List ℕ) → After bs (skip_blanks bs)
 skip_blanks-after [] = record { count = 0; parts = refl }
 skip_blanks-after (b ∷ bs) = after-step (eqb b 32) b bs (eqb-same b 32) (skip_blanks-after bs)
 
 -- blanks stand behind a text
-record Before (bs front : List ℕ) : Type 0 where
-  count : ℕ
-  parts : bs ≡ front ++ blanks count
+pub record Before (bs front : List ℕ) : Type 0 where
+  pub count : ℕ
+  pub parts : bs ≡ front ++ blanks count
 
-nil-of-cut : (cut : List ℕ) → eqb (length cut) 0 ≡ true → cut ≡ []
+pub nil-of-cut : (cut : List ℕ) → eqb (length cut) 0 ≡ true → cut ≡ []
 nil-of-cut cut h = nil_from_length cut (eqb-same (length cut) 0 h)
 
 before-step : (blank none : Bool) (b : ℕ) (bs cut : List ℕ) → (blank ≡ true → b ≡ 32) → (none ≡ true → cut ≡ []) → Before bs cut → Before (b ∷ bs) (cond (blank && none) [] (b ∷ cut))
@@ -64,7 +64,7 @@ before-step true true b bs cut blank none h = record {
 before-step true false b bs cut blank none h = record { count = h.count; parts = ap (λ (l : List ℕ). b ∷ l) h.parts }
 before-step false none b bs cut blank nil h = record { count = h.count; parts = ap (λ (l : List ℕ). b ∷ l) h.parts }
 
-cut_blanks-before : (bs : List ℕ) → Before bs (cut_blanks bs)
+pub cut_blanks-before : (bs : List ℕ) → Before bs (cut_blanks bs)
 cut_blanks-before [] = record { count = 0; parts = refl }
 cut_blanks-before (b ∷ bs) = before-step (eqb b 32) (eqb (length (cut_blanks bs)) 0) b bs (cut_blanks bs) (eqb-same b 32) (nil-of-cut (cut_blanks bs)) (cut_blanks-before bs)
 
@@ -92,15 +92,15 @@ before_comment-comment : (rest : List ℕ) → IsComment rest → before_comment
 before_comment-comment [] h = refl
 before_comment-comment (b ∷ rest) h = rw h
 
-skip_blanks-blanks : (count : ℕ) (rest : List ℕ) → skip_blanks (blanks count ++ rest) ≡ skip_blanks rest
+pub skip_blanks-blanks : (count : ℕ) (rest : List ℕ) → skip_blanks (blanks count ++ rest) ≡ skip_blanks rest
 skip_blanks-blanks zero rest = refl
 skip_blanks-blanks (suc count) rest = skip_blanks-blanks count rest
 
-cut_blanks-blanks : (count : ℕ) → cut_blanks (blanks count) ≡ []
+pub cut_blanks-blanks : (count : ℕ) → cut_blanks (blanks count) ≡ []
 cut_blanks-blanks zero = refl
 cut_blanks-blanks (suc count) = rw (cut_blanks-blanks count)
 
-cut_blanks-plain : (text : List ℕ) (count : ℕ) → IsPlain text → cut_blanks (text ++ blanks count) ≡ text
+pub cut_blanks-plain : (text : List ℕ) (count : ℕ) → IsPlain text → cut_blanks (text ++ blanks count) ≡ text
 cut_blanks-plain [] count plain = cut_blanks-blanks count
 cut_blanks-plain (b ∷ text) count (blank, _, plain) = rw (eqb-other b 32 blank, cut_blanks-plain text count plain)
 
@@ -108,7 +108,7 @@ skip_blanks-all : (count : ℕ) → skip_blanks (blanks count) ≡ []
 skip_blanks-all zero = refl
 skip_blanks-all (suc count) = skip_blanks-all count
 
-skip_blanks-other : (b : ℕ) (rest : List ℕ) → b ≢ 32 → skip_blanks (b ∷ rest) ≡ b ∷ rest
+pub skip_blanks-other : (b : ℕ) (rest : List ℕ) → b ≢ 32 → skip_blanks (b ∷ rest) ≡ b ∷ rest
 skip_blanks-other b rest blank = rw (eqb-other b 32 blank)
 
 trimmed-plain : (text : List ℕ) (count : ℕ) → IsPlain text → cut_blanks (skip_blanks (text ++ blanks count)) ≡ text

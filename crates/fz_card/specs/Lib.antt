@@ -1,5 +1,9 @@
 pub mod Layout
 pub mod Value
 pub mod Plain
+pub mod Quoted
+pub mod Zeros
 pub mod Made
 pub mod Reading
+pub mod Tables
+pub mod Naming

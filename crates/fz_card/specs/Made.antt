@@ -1,10 +1,10 @@
 -- The bytes of cards and names that are made, without a comment (FITS 4.0, section 4.2).
-use Rattle.std.specs.Prelude.{◌≢◌, ℕ, ◌-◌, ◌^◌, ◌<◌, ◌≤◌, ℤ, Bool, not, ◌==◌, IsTrue, List, ◌++◌, length, codes, decimal, slice_index}
+use Rattle.std.specs.Prelude.{ℕ, ◌-◌, ◌^◌, ◌<◌, ◌≤◌, ℤ, Bool, not, ◌==◌, IsTrue, List, ◌++◌, length, codes, decimal}
 use Rattle.std.specs.Fmt.{signed_decimal}
 use Rattle.std.specs.List.{list_all}
 use Rattle.std.specs.Str.{byte}
 use Rattle.fz_card.specs.Layout.{blanks, filled, padded}
-use Rattle.fz_card.specs.Value.{logical_text}
+use Rattle.fz_card.specs.Value.{logical_text, IsTrimmed}
 
 -- whether no byte of the text is a quote
 abbrev pub is_unquoted : List ℕ → Bool
@@ -14,7 +14,7 @@ is_unquoted text = list_all (λ b. not (b == byte "'")) text
 pub record IsCardText (text : List ℕ) : Type 0 where
   pub fits : length text ≤ 68
   pub unquoted : IsTrue (is_unquoted text)
-  pub trimmed : slice_index text (length text - 1) ≢ byte " "
+  pub trimmed : IsTrimmed text
 
 -- the text with blanks before it, up to the length
 abbrev pub right_aligned : ℕ → List ℕ → List ℕ

@@ -1,8 +1,8 @@
 -- The text of a value without quotes, found from the left: for functions inside the crate.
-use Rattle.std.specs.Prelude.{◌≡◌, ℕ, ◌==◌, ◌&&◌, if◌then◌else◌, List, [], ◌∷◌, length, Option, MatchOption, ℤ, FitsSigned}
+use Rattle.std.specs.Prelude.{◌≡◌, ℕ, ◌==◌, ◌&&◌, if◌then◌else◌, List, [], ◌∷◌, length, Option, MatchOption, ℤ, FitsSigned, ◌<◌, ◌^◌}
 use Rattle.std.specs.Int.{w64}
 use Rattle.std.specs.Str.{byte}
-use Rattle.std.specs.Str.Parse.{IsNumeral, signed_digits_value, without_leading_sign}
+use Rattle.std.specs.Str.Parse.{IsNumeral, digits_value, signed_digits_value, without_leading_plus, without_leading_sign}
 use Rattle.std.specs.Borrow.{Bor}
 use Rattle.fz_card.specs.Layout.{HasValueIndicator, value_field}
 
@@ -25,6 +25,11 @@ cut_blanks (b ∷ bs) = if b == byte " " && (length (cut_blanks bs) == 0) then [
 abbrev pub plain_text : List ℕ → List ℕ
 plain_text field = cut_blanks (skip_blanks (before_comment field))
 
+-- the value field of the card, or nothing where the card has no value
+abbrev pub ReadsField : List ℕ → Option (Bor (List ℕ)) → Type 0
+ReadsField card read = MatchOption read (¬ (HasValueIndicator card))
+    (λ field. HasValueIndicator card × (field.now ≡ value_field card))
+
 -- the text of the card's value, or nothing where the card has no value
 abbrev pub ReadsPlainText : List ℕ → Option (Bor (List ℕ)) → Type 0
 ReadsPlainText card read = MatchOption read (¬ (HasValueIndicator card))
@@ -34,3 +39,8 @@ ReadsPlainText card read = MatchOption read (¬ (HasValueIndicator card))
 abbrev pub ReadsSigned : List ℕ → Option ℤ → Type 0
 ReadsSigned text read = MatchOption read (¬ (IsNumeral 10 (without_leading_sign text) × FitsSigned w64 (signed_digits_value 10 text)))
     (λ v. IsNumeral 10 (without_leading_sign text) × (v ≡ signed_digits_value 10 text))
+
+-- the text is digits, maybe after a `+`, that write a number of 32 bits, which was read; else nothing was
+abbrev pub ReadsNumeral : List ℕ → Option ℕ → Type 0
+ReadsNumeral text read = MatchOption read (¬ (IsNumeral 10 (without_leading_plus text) × (digits_value 10 (without_leading_plus text) < 2 ^ 32)))
+    (λ n. IsNumeral 10 (without_leading_plus text) × (n ≡ digits_value 10 (without_leading_plus text)))

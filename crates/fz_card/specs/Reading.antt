@@ -4,6 +4,8 @@ use Rattle.std.specs.Str.{all_ascii_digits}
 use Rattle.std.specs.Str.Parse.{without_leading_sign, signed_digits_value}
 use Rattle.fz_card.specs.Layout.{value_field}
 use Rattle.fz_card.specs.Plain.{plain_text}
+use Rattle.fz_card.specs.Quoted.{text_in}
+use Rattle.fz_card.specs.Zeros.{zero_in}
 
 -- whether columns 9 and 10 say that the card has a value
 abbrev pub has_value_indicator : List ℕ → Bool
@@ -28,3 +30,11 @@ integer_of card = if has_value_indicator card then integer_in (plain_text (value
 -- the logical value of a card, if it has one
 unfoldable pub logical_of : List ℕ → Option Bool
 logical_of card = if has_value_indicator card then logical_in (plain_text (value_field card)) else None
+
+-- the characters of the text value of a card, if it has one
+unfoldable pub text_of : List ℕ → Option (List ℕ)
+text_of card = if has_value_indicator card then text_in (value_field card) else None
+
+-- whether the value of a card is zero, if it has a value that is not blank
+unfoldable pub zero_of : List ℕ → Option Bool
+zero_of card = if has_value_indicator card then zero_in (plain_text (value_field card)) else None

@@ -1,5 +1,5 @@
 -- The values of a card, by a split of its value field (FITS 4.0, sections 4.1.2.3 and 4.2).
-use Rattle.std.specs.Prelude.{◌≡◌, ℕ, suc, ◌^◌, ◌<◌, ◌≤◌, ◌⊎◌, ℤ, pos, negsuc, neg_ℤ, Bool, List, [], ◌∷◌, ◌++◌, length, codes, ⊤, if◌then◌else◌}
+use Rattle.std.specs.Prelude.{◌≡◌, ℕ, suc, ◌^◌, ◌<◌, ◌≤◌, ◌⊎◌, ℤ, pos, negsuc, neg_ℤ, Bool, List, [], ◌∷◌, ◌++◌, length, codes, ⊤, if◌then◌else◌, ◌==◌, ◌≢◌, ◌+◌, ◌-◌, replicate, slice_index, true, false}
 use Rattle.std.specs.Str.{byte}
 use Rattle.std.specs.Str.Parse.{IsNumeral, digits_value}
 use Rattle.fz_card.specs.Layout.{blanks, HasValueIndicator, value_field}
@@ -53,3 +53,67 @@ logical_text b = if b then codes "T" else codes "F"
 -- the card has the logical value b
 abbrev pub LogicalValue : List ℕ → Bool → Type 0
 LogicalValue card b = HasValueText card (logical_text b)
+
+-- characters as they stand between quotes: each quote is written twice
+abbrev pub doubled : List ℕ → List ℕ
+doubled [] = []
+doubled (b ∷ bs) = if b == byte "'" then b ∷ b ∷ doubled bs else b ∷ doubled bs
+
+-- the last byte is no blank
+abbrev pub IsTrimmed : List ℕ → Type 0
+IsTrimmed text = slice_index text (length text - 1) ≢ byte " "
+
+-- characters between quotes, where blanks at the end do not count
+pub record IsQuoted (text characters : List ℕ) : Type 0 where
+  pub trailing : ℕ
+  pub parts : text ≡ codes "'" ++ (doubled (characters ++ blanks trailing) ++ codes "'")
+  pub trimmed : IsTrimmed characters
+
+-- the card has these characters as its text value
+pub record TextValue (card characters : List ℕ) : Type 0 where
+  pub text : List ℕ
+  pub has : HasValueText card text
+  pub is : IsQuoted text characters
+
+-- an optional sign: nothing, `+` or `-`
+abbrev pub IsSign : List ℕ → Type 0
+IsSign sign = (sign ≡ []) ⊎ ((sign ≡ codes "+") ⊎ (sign ≡ codes "-"))
+
+-- an exponent: `E` or `D`, an optional sign and digits
+pub record IsExponent (text : List ℕ) : Type 0 where
+  pub letter : List ℕ
+  pub sign : List ℕ
+  pub digits : List ℕ
+  pub parts : text ≡ letter ++ (sign ++ digits)
+  pub is_letter : (letter ≡ codes "E") ⊎ (letter ≡ codes "D")
+  pub is_sign : IsSign sign
+  pub numeral : IsNumeral 10 digits
+
+-- a number that is zero: an optional sign, zeros with at most one point among or beside them, an optional exponent
+pub record IsZeroText (text : List ℕ) : Type 0 where
+  pub sign : List ℕ
+  pub whole : ℕ
+  pub point : List ℕ
+  pub fraction : ℕ
+  pub exponent : List ℕ
+  pub parts : text ≡ sign ++ (replicate whole (byte "0") ++ (point ++ (replicate fraction (byte "0") ++ exponent)))
+  pub is_sign : IsSign sign
+  pub is_point : (point ≡ []) ⊎ (point ≡ codes ".")
+  pub some : 0 < whole + fraction
+  pub is_exponent : (exponent ≡ []) ⊎ IsExponent exponent
+
+-- the value of the card is a number that is zero
+pub record HasZero (card : List ℕ) : Type 0 where
+  pub text : List ℕ
+  pub has : HasValueText card text
+  pub is : IsZeroText text
+
+-- the card has a value, and something stands in the field before a comment
+pub record HasValue (card : List ℕ) : Type 0 where
+  pub indicator : HasValueIndicator card
+  pub not_blank : ¬ (SplitsRound [] (value_field card))
+
+-- whether the value of the card is zero
+abbrev pub ZeroValue : List ℕ → Bool → Type 0
+ZeroValue card true = HasZero card
+ZeroValue card false = HasValue card × ¬ (HasZero card)

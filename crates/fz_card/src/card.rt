@@ -9,6 +9,9 @@ pub const NAME_LEN: usize = 8;
 /// The byte of a card at which its value field begins.
 pub(crate) const FIELD_START: usize = 10;
 
+/// The length of the value field in bytes: columns 11 to 80.
+pub const FIELD_LEN: usize = CARD_LEN - FIELD_START;
+
 /// The name of a card: columns 1 to 8, filled with blanks (FITS 4.0, section 4.1.2.1).
 #[derive(Clone, Copy, Debug, PartialEq, Eq)]
 pub struct Name {

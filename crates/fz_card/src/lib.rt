@@ -1,5 +1,5 @@
-//! Cards of a FITS header. Read `card`, then `value` and `text` (what a card says), then `line` and `made`
-//! (cards that are made), then `names` and `keywords`.
+//! Cards of a FITS header. Read `card`, then `text`, `value`, `quoted` and `zero` (what a card says), then `line`
+//! and `made` (cards that are made), then `names`, `keywords` and `tables`.
 #![tactic(auto)]
 
 mod card;
@@ -7,14 +7,22 @@ mod keywords;
 mod line;
 mod made;
 mod names;
+mod quoted;
+mod tables;
 mod text;
 mod value;
+mod zero;
 
-pub use card::{CARD_LEN, Card, NAME_LEN, Name};
+pub use card::{CARD_LEN, Card, FIELD_LEN, NAME_LEN, Name};
 pub use keywords::keywords_law;
 pub use made::{int_card, logical_card, text_card};
 pub use names::numbered;
+pub use quoted::{text_card_law, text_law};
+pub use tables::{is_dropped, is_reserved, names_law, renamed, restored, tables_law};
 pub use value::{int_card_law, int_law, logical_card_law, logical_law};
+pub use zero::zero_law;
 
+#[cfg(test)]
+mod table_tests;
 #[cfg(test)]
 mod tests;

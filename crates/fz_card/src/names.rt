@@ -1,9 +1,12 @@
-//! Names that are made of a stem and a number.
-ghost use Rattle.std.specs.Prelude.{◌≡◌};
+//! Names that are made of a stem and a number, and the number of such a name.
+ghost use Rattle.std.specs.Prelude.{◌≡◌, ◌<◌, ◌≤◌, MatchBool, slice_index};
 ghost use Rattle.fz_card.specs.Made.{FitsName, numbered_name};
+ghost use Rattle.fz_card.specs.Plain.{ReadsNumeral};
+ghost use Rattle.fz_card.specs.Naming.{number_behind};
 
 use crate::card::Name;
 use crate::line::Line;
+use crate::text::without_last_blanks;
 use itoa::Buffer;
 
 /// The stem and the decimal digits of `i`, filled with blanks, as `NAXIS1`; both fit into 8 bytes.
@@ -18,4 +21,35 @@ pub fn numbered(stem: &[u8], i: u32) -> Name
     Name {
         bytes: line.bytes(),
     }
+}
+
+/// The number of a name that is made of the stem and a number above 0, as 12 of `NAXIS12`.
+pub(crate) fn number_behind(name: Name, stem: &[u8]) -> Option<u32>
+    ensures { result ≡ number_behind stem.now name.bytes }
+{
+    let digits = without_last_blanks(name.bytes.strip_prefix(stem)?);
+    if begins_above_zero(digits) {
+        whole_number(digits)
+    } else {
+        None
+    }
+}
+
+/// Whether the first byte is a digit and no zero.
+fn begins_above_zero(digits: &[u8]) -> bool
+    ensures { MatchBool result
+        ((48 < slice_index digits.now 0) × (slice_index digits.now 0 ≤ 57))
+        (48 < slice_index digits.now 0 → ¬ (slice_index digits.now 0 ≤ 57)) }
+{
+    matches!(digits, [b'1'..=b'9', ..])
+}
+
+/// The number that the digits write, if it fits; the first of them is no sign.
+fn whole_number(digits: &[u8]) -> Option<u32>
+    ensures { ReadsNumeral digits.now result }
+{
+    let Ok(text) = str::from_utf8(digits) else {
+        return None;
+    };
+    text.parse().ok()
 }

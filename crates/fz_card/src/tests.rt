@@ -1,8 +1,8 @@
 //! One table of cases for each public call.
-use crate::{Card, Name, int_card, logical_card, numbered, text_card};
+use crate::{Card, FIELD_LEN, Name, int_card, logical_card, numbered, text_card};
 
 /// A card that begins with this text and is blank behind it.
-fn card(text: &[u8]) -> Card {
+pub(crate) fn card(text: &[u8]) -> Card {
     let mut bytes = [b' '; 80];
     let len = text.len().min(80);
     bytes[..len].copy_from_slice(&text[..len]);
@@ -171,5 +171,85 @@ fn numbered_names(rt: HostRuntime) {
     ];
     for (name, bytes) in cases {
         assert_eq!(rt; name, Name { bytes: *bytes });
+    }
+}
+
+#[test]
+fn texts(rt: HostRuntime) {
+    let cases: [(&[u8], Option<&[u8]>); 21] = [
+        (
+            b"XTENSION= 'IMAGE   '           / extension",
+            Some(b"IMAGE"),
+        ),
+        (b"EXTNAME = 'it''s '", Some(b"it's")),
+        (b"EXTNAME = ''", Some(b"")),
+        (b"EXTNAME = '    '", Some(b"")),
+        (b"EXTNAME = '  a'", Some(b"  a")),
+        (b"EXTNAME =      'far' ", Some(b"far")),
+        (b"EXTNAME = 'a/b'/c", Some(b"a/b")),
+        (b"EXTNAME = ''''", Some(b"'")),
+        (b"EXTNAME = ''''''", Some(b"''")),
+        (b"EXTNAME = 'a '' '", Some(b"a '")),
+        (b"EXTNAME = '\t'", Some(b"\t")),
+        (
+            b"EXTNAME = '12345678901234567890123456789012345678901234567890123456789012345678'",
+            Some(b"12345678901234567890123456789012345678901234567890123456789012345678"),
+        ),
+        (b"EXTNAME = 'open", None),
+        (b"EXTNAME = 'open''", None),
+        (b"EXTNAME = 'a' b", None),
+        (b"EXTNAME = 'a'b", None),
+        (b"EXTNAME = 'a'\t", None),
+        (b"EXTNAME = T", None),
+        (b"EXTNAME = ", None),
+        (b"EXTNAME = / 'a'", None),
+        (b"EXTNAME   'a'", None),
+    ];
+    for (text, value) in cases {
+        let mut into = [0u8; FIELD_LEN];
+        let len = card(text).text(&mut into);
+        assert_eq!(rt; len.map(|len: usize| &into[..len]), value);
+    }
+}
+
+#[test]
+fn zeros(rt: HostRuntime) {
+    let cases: [(&[u8], Option<bool>); 33] = [
+        (b"BZERO   = 0", Some(true)),
+        (b"BZERO   =                    0 / offset", Some(true)),
+        (b"BZERO   = -0.", Some(true)),
+        (b"BZERO   = +0", Some(true)),
+        (b"BZERO   = .00", Some(true)),
+        (b"BZERO   = 000.000/", Some(true)),
+        (b"BZERO   = 0E5", Some(true)),
+        (b"BZERO   = 0.0D+10", Some(true)),
+        (b"BZERO   = 0.E-99999999999999999999", Some(true)),
+        (b"BZERO   = 1", Some(false)),
+        (b"BZERO   = 32768", Some(false)),
+        (b"BZERO   = '0'", Some(false)),
+        (b"BZERO   = ''", Some(false)),
+        (b"BZERO   = T", Some(false)),
+        (b"BZERO   = 0.0.0", Some(false)),
+        (b"BZERO   = 0E", Some(false)),
+        (b"BZERO   = 0E+", Some(false)),
+        (b"BZERO   = 0e5", Some(false)),
+        (b"BZERO   = 0E5.", Some(false)),
+        (b"BZERO   = 0F5", Some(false)),
+        (b"BZERO   = .", Some(false)),
+        (b"BZERO   = -", Some(false)),
+        (b"BZERO   = E5", Some(false)),
+        (b"BZERO   = .E5", Some(false)),
+        (b"BZERO   = - 0", Some(false)),
+        (b"BZERO   = 0 0", Some(false)),
+        (b"BZERO   = 0.01", Some(false)),
+        (b"BZERO   = \t", Some(false)),
+        (b"BZERO   = ", None),
+        (b"BZERO   =           / nothing", None),
+        (b"BZERO   =0", None),
+        (b"BZERO     0", None),
+        (b"BZERO", None),
+    ];
+    for (text, value) in cases {
+        assert_eq!(rt; card(text).zero(), value);
     }
 }

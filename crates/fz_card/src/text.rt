@@ -1,7 +1,7 @@
 //! The text of a value that has no quotes: what stands in the value field before a comment, without the
 //! blanks around it.
 ghost use Rattle.std.specs.Prelude.{◌≡◌, ◌==◌, position};
-ghost use Rattle.fz_card.specs.Plain.{before_comment, skip_blanks, cut_blanks, ReadsPlainText};
+ghost use Rattle.fz_card.specs.Plain.{before_comment, skip_blanks, cut_blanks, plain_text, ReadsField, ReadsPlainText};
 
 use crate::card::{Card, FIELD_START, NAME_LEN};
 
@@ -9,17 +9,31 @@ use crate::card::{Card, FIELD_START, NAME_LEN};
 const VALUE_INDICATOR: [u8; 2] = *b"= ";
 
 impl Card {
-    /// The text of the value, or `None` where columns 9 and 10 say that there is no value.
-    pub(crate) fn value_text(&self) -> Option<&[u8]>
-        ensures { ReadsPlainText self.now.bytes result }
+    /// The value field, or `None` where columns 9 and 10 say that there is no value.
+    pub(crate) fn value_field(&self) -> Option<&[u8]>
+        ensures { ReadsField self.now.bytes result }
     {
         let (front, field) = self.bytes.split_at(FIELD_START);
         if &front[NAME_LEN..] == VALUE_INDICATOR.as_slice() {
-            Some(without_last_blanks(without_first_blanks(without_comment(field))))
+            Some(field)
         } else {
             None
         }
     }
+
+    /// The text of the value, or `None` where columns 9 and 10 say that there is no value.
+    pub(crate) fn value_text(&self) -> Option<&[u8]>
+        ensures { ReadsPlainText self.now.bytes result }
+    {
+        Some(plain_text(self.value_field()?))
+    }
+}
+
+/// What stands in the field before a comment, without the blanks around it.
+pub(crate) fn plain_text(field: &[u8]) -> &[u8]
+    ensures { result.now ≡ plain_text field.now }
+{
+    without_last_blanks(without_first_blanks(without_comment(field)))
 }
 
 /// The front of the field up to the first `/`.
@@ -38,7 +52,7 @@ fn comment_start(field: &[u8]) -> Option<usize>
     field.iter().position(|byte| *byte == b'/')
 }
 
-fn without_first_blanks(mut text: &[u8]) -> &[u8]
+pub(crate) fn without_first_blanks(mut text: &[u8]) -> &[u8]
     ensures { result.now ≡ skip_blanks text.entry.now }
 {
     while let [b' ', rest @ ..] = text {
@@ -47,7 +61,7 @@ fn without_first_blanks(mut text: &[u8]) -> &[u8]
     text
 }
 
-fn without_last_blanks(text: &[u8]) -> &[u8]
+pub(crate) fn without_last_blanks(text: &[u8]) -> &[u8]
     ensures { result.now ≡ cut_blanks text.now }
 {
     let mut len = text.len();

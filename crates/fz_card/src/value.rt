@@ -55,7 +55,8 @@ fn integer(text: &[u8]) -> Option<i64>
     parsed(text)
 }
 
-fn without_sign(text: &[u8]) -> &[u8]
+/// The text without a sign at its front.
+pub(crate) fn without_sign(text: &[u8]) -> &[u8]
     ensures { result.now ≡ without_leading_sign text.now }
 {
     match text {

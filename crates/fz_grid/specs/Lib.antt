@@ -1,2 +1,9 @@
 pub mod Arrays
+pub mod Division
 pub mod Grid
+pub mod Nth
+pub mod Overlap
+pub mod Region
+pub mod Runs
+pub mod Span
+pub mod Walks
