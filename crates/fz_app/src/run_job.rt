@@ -2,10 +2,12 @@
 ghost use Rattle.std.specs.Prelude.{◌≡◌, ◌≢◌, ◌≤◌, ◌^◌, ◌↔◌, [], None, IfSome};
 ghost use Rattle.fz_base.specs.Counts.{Rose};
 ghost use Rattle.fz_app.specs.Lines.{status_line, GotLine};
-ghost use Rattle.fz_app.specs.Outcome.{IsAnswer, OnDone, TellsFirstFault, TellsTaking, IfUnmade};
+ghost use Rattle.fz_app.specs.Outcome.{IsAnswer, IsShutOrWhole, OnDone, OnOther, TellsFirstFault, TellsFirstPast, TellsTaking, IfUnmade};
 ghost use Rattle.fz_app.specs.Status.{IsRefused, TellsLimit};
 ghost use Rattle.fz_app.specs.Words.{job_of, texts_of};
+ghost use Rattle.fz_pack.specs.FirstByte.{IsShutOrPacked};
 ghost use Rattle.fz_pack.specs.FirstFault.{first_fault};
+ghost use Rattle.fz_pack.specs.FirstTaking.{takings_of};
 ghost use Rattle.fz_pack.specs.Options.{IsFirstPath};
 ghost use Rattle.fz_pack.specs.Output.{HoldsPacked};
 ghost use Rattle.fz_app.specs.declared.status.Status.TheVariants.{Different, Usage, ReadFault, WriteFault};
@@ -49,8 +51,12 @@ pub fn run<R: Threads + Sync, S: Source, K: Sink, T: Text, G: Gate>(
     ensures write_fault { result ≡ WriteFault → Rose (K.faults sink.old) (K.faults sink.new) }
     ensures over_limit { TellsLimit meter.old.limit (2 ^ 30) result }
     ensures taking { TellsTaking result }
+    // OverLimit comes exactly where a taking passes the limit, and tells the first.
+    ensures first_past { IfSome (S.held source.old) (λ g. TellsFirstPast meter.old.limit (takings_of g) result) }
 
     ensures output { IfSome (job_of (texts_of words.now)) (λ asked. OnDone result (HoldsPacked asked.options (S.held source.old) (K.contents sink.new))) }
+    // What was cut short does not begin with the S of a FITS file.
+    ensures first_byte { OnOther result (IsShutOrWhole (job_of (texts_of words.now)) (S.held source.old) (K.contents sink.new)) }
     ensures first_fault { TellsFirstFault (S.held source.old) result }
     // Where neither count of faults rose and the limit allows 2^30 bytes, the first fault alone decides.
     ensures complete { ¬ (job_of (texts_of words.now) ≡ None) → ¬ Rose (S.faults source.old) (S.faults source.new) → ¬ Rose (K.faults sink.old) (K.faults sink.new) → 2 ^ 30 ≤ meter.old.limit → IfSome (S.held source.old) (λ g. IsAnswer (first_fault g) result) }
@@ -92,8 +98,10 @@ fn run_pack<S: Source, K: Sink>(
     ensures write_fault { result ≡ WriteFault → Rose (K.faults sink.old) (K.faults sink.new) }
     ensures over_limit { TellsLimit meter.old.limit (2 ^ 30) result }
     ensures taking { TellsTaking result }
+    ensures first_past { IfSome (S.held source.old) (λ g. TellsFirstPast meter.old.limit (takings_of g) result) }
 
     ensures output { OnDone result (HoldsPacked options.now (S.held source.old) (K.contents sink.new)) }
+    ensures first_byte { OnOther result (IsShutOrPacked options.now (S.held source.old) (K.contents sink.new)) }
     ensures first_fault { TellsFirstFault (S.held source.old) result }
     ensures complete { ¬ Rose (S.faults source.old) (S.faults source.new) → ¬ Rose (K.faults sink.old) (K.faults sink.new) → 2 ^ 30 ≤ meter.old.limit → IfSome (S.held source.old) (λ g. IsAnswer (first_fault g) result) }
     ensures unmade { IfUnmade result ((K.created sink.new ≡ K.created sink.old) × (K.contents sink.new ≡ K.contents sink.old)) }

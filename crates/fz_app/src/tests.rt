@@ -4,6 +4,7 @@ ghost use Rattle.std.specs.Prelude.{◌≤◌, ◌*◌, ◌^◌, length};
 use crate::{Status, run};
 use fz_base::{Fault, FreeGate, Kind, MemSink, MemSource, MemText, Meter, Place};
 use std::alloc::{AllocError, Global};
+use std::process::Abort;
 use std::test::Fail;
 use std::thread::Threads;
 
@@ -100,30 +101,30 @@ fn block_of(cards: &[&[u8]]) -> [u8; 2880]
 /// Two rows of the pixels 0, 1, 0, 1.
 const PIXELS: [u8; 16] = [0, 0, 0, 1, 0, 0, 0, 1, 0, 0, 0, 1, 0, 0, 0, 1];
 
-/// A primary image of 4 by 2 pixels with this BITPIX card.
-fn image(bitpix: &[u8]) -> [u8; 5760] {
+/// The first card of each primary.
+const SIMPLE: &[u8] = b"SIMPLE  =                    T";
+
+/// The cards of the small file.
+const SMALL: [&[u8]; 6] = [
+    SIMPLE,
+    b"BITPIX  =                   16",
+    b"NAXIS   =                    2",
+    b"NAXIS1  =                    4",
+    b"NAXIS2  =                    2",
+    b"END",
+];
+
+/// The small file: a primary image of 4 by 2 pixels.
+fn small_file() -> [u8; 5760] {
     let mut file = [0; 5760];
-    let cards: [&[u8]; 6] = [
-        b"SIMPLE  =                    T",
-        bitpix,
-        b"NAXIS   =                    2",
-        b"NAXIS1  =                    4",
-        b"NAXIS2  =                    2",
-        b"END",
-    ];
-    file[..2880].copy_from_slice(&block_of(&cards));
+    file[..2880].copy_from_slice(&block_of(&SMALL));
     file[2880..2896].copy_from_slice(&PIXELS);
     file
 }
 
-/// The small file.
-fn small_file() -> [u8; 5760] {
-    image(b"BITPIX  =                   16")
-}
-
 /// The cards of the empty primary before the packed table.
 const PRIMARY: [&[u8]; 5] = [
-    b"SIMPLE  =                    T",
+    SIMPLE,
     b"BITPIX  =                    8",
     b"NAXIS   =                    0",
     b"EXTEND  =                    T",
@@ -194,7 +195,7 @@ fn statuses_have_numbers(rt: HostRuntime) {
 }
 
 #[test]
-fn small_file_is_packed(rt: HostRuntime) -> Result<(), Fail> {
+fn ample_memory_packs_the_small_file(rt: HostRuntime) -> Result<(), Fail> {
     let outcome = outcome_of(&rt, &PACK, &small_file(), FREE)?;
     assert_eq!(rt; outcome.status, Status::Done);
     let packed = packed_file(rt.alloc())?;
@@ -204,35 +205,152 @@ fn small_file_is_packed(rt: HostRuntime) -> Result<(), Fail> {
     Ok(())
 }
 
+// With ample memory this says no more than the test above; `tools/fail_allocations` lets allocations
+// of the run fail.
+#[test]
+fn nothing_is_live_without_memory(rt: HostRuntime) -> Result<(), Fail> {
+    let outcome = outcome_of(&rt, &PACK, &small_file(), FREE)?;
+    assert!(rt; matches!(outcome.status, Status::Done | Status::NoMemory));
+    assert_eq!(rt; outcome.live, 0);
+    Ok(())
+}
+
+/// A file that is refused: one block of cards, filled with this byte or cut to so many bytes; and its
+/// line.
+type Row<'a> = (&'a [&'a [u8]], usize, u8, &'a str);
+
+const REFUSED: [Row<'static>; 14] = [
+    (&SMALL, 2879, 0, "refused: 2 Truncated hdu 0 byte 2879\n"),
+    (&SMALL, 5759, 0, "refused: 2 Truncated hdu 0 byte 5759\n"),
+    (&[], 0, 0, "refused: 2 Truncated hdu 0 byte 0\n"),
+    (&[SIMPLE], 2880, 0, "refused: 2 Truncated hdu 0 byte 2880\n"),
+    (&[], 2880, 0, "refused: 1 NotFits hdu 0 card 0\n"),
+    (
+        &[SIMPLE],
+        256 * 2880,
+        b' ',
+        "refused: 3 LongHeader hdu 0 byte 0\n",
+    ),
+    (
+        &[SIMPLE, b"END"],
+        2880,
+        0,
+        "refused: 4 BadCard hdu 0 card 1\n",
+    ),
+    (
+        &SMALL,
+        5770,
+        0,
+        "refused: 8 TrailingBytes hdu 1 byte 5760\n",
+    ),
+    (&TEN_AXES, 2880, 0, "refused: 11 Limit hdu 0 card 2\n"),
+    (&NINE_LONG_AXES, 2880, 0, "refused: 11 Limit hdu 0 card 2\n"),
+    (&RANDOM_GROUPS, 5760, 0, "refused: 12 Groups hdu 0 card 5\n"),
+    (&BYTES, 5760, 0, "refused: 30 Unbuilt hdu 0 byte 0\n"),
+    (&SMALL, 5760, 1, "refused: 30 Unbuilt hdu 0 byte 0\n"),
+    (&SAYS_MORE, 5760, 0, "refused: 30 Unbuilt hdu 0 byte 0\n"),
+];
+
+const TEN_AXES: [&[u8]; 4] = [
+    SIMPLE,
+    b"BITPIX  =                    8",
+    b"NAXIS   =                   10",
+    b"END",
+];
+
+/// An image of more bytes than a file has places.
+const NINE_LONG_AXES: [&[u8]; 13] = [
+    SIMPLE,
+    b"BITPIX  =                    8",
+    b"NAXIS   =                    9",
+    b"NAXIS1  =           2147483647",
+    b"NAXIS2  =           2147483647",
+    b"NAXIS3  =           2147483647",
+    b"NAXIS4  =           2147483647",
+    b"NAXIS5  =           2147483647",
+    b"NAXIS6  =           2147483647",
+    b"NAXIS7  =           2147483647",
+    b"NAXIS8  =           2147483647",
+    b"NAXIS9  =           2147483647",
+    b"END",
+];
+
+const RANDOM_GROUPS: [&[u8]; 7] = [
+    SIMPLE,
+    b"BITPIX  =                   16",
+    b"NAXIS   =                    2",
+    b"NAXIS1  =                    0",
+    b"NAXIS2  =                    2",
+    b"GROUPS  =                    T",
+    b"END",
+];
+
+/// An image of 8-bit pixels.
+const BYTES: [&[u8]; 6] = [
+    SIMPLE,
+    b"BITPIX  =                    8",
+    b"NAXIS   =                    2",
+    b"NAXIS1  =                    4",
+    b"NAXIS2  =                    2",
+    b"END",
+];
+
+/// The small file with a letter after END.
+const SAYS_MORE: [&[u8]; 6] = [
+    SIMPLE,
+    b"BITPIX  =                   16",
+    b"NAXIS   =                    2",
+    b"NAXIS1  =                    4",
+    b"NAXIS2  =                    2",
+    b"END     x",
+];
+
+/// Asks that a file is refused with this line, and that nothing is written or live.
+fn assert_refused<R: Threads + Sync + AllocGlobal + Abort>(
+    rt: &R,
+    file: &[u8],
+    line: &str,
+) -> Result<(), Fail>
+    requires { length file.now ≤ 2 ^ 62 }
+{
+    let outcome = outcome_of(rt, &PACK, file, FREE)?;
+    assert_eq!(rt; outcome.text.contents(), line.as_bytes());
+    assert_eq!(rt; outcome.status.number(), 3, "{line}");
+    assert_eq!(rt; outcome.sink.contents(), b"".as_slice(), "{line}");
+    assert_eq!(rt; outcome.live, 0, "{line}");
+    Ok(())
+}
+
 #[test]
 fn other_files_are_refused(rt: HostRuntime) -> Result<(), Fail> {
-    let small = small_file();
-    let bytes = image(b"BITPIX  =                    8");
-    let mut longer = [0; 5770];
-    longer[..5760].copy_from_slice(&small);
-    let rows: [(&[u8], &str); 6] = [
-        (&small[..2879], "refused: 2 Truncated hdu 0 byte 2879\n"),
-        (&small[..5759], "refused: 2 Truncated hdu 0 byte 5759\n"),
-        (b"", "refused: 2 Truncated hdu 0 byte 0\n"),
-        (&[b' '; 2880], "refused: 1 NotFits hdu 0 card 0\n"),
-        (&bytes, "refused: 30 Unbuilt hdu 0 byte 0\n"),
-        (&longer, "refused: 30 Unbuilt hdu 0 byte 0\n"),
-    ];
-    for (file, line) in rows {
-        assert!(rt; file.len() <= 5770);
-        let outcome = outcome_of(&rt, &PACK, file, FREE)?;
-        assert_eq!(rt; outcome.text.contents(), line.as_bytes());
-        assert_eq!(rt; outcome.status.number(), 3, "{line}");
-        assert_eq!(rt; outcome.sink.contents(), b"".as_slice(), "{line}");
-        assert_eq!(rt; outcome.live, 0, "{line}");
+    for (cards, len, fill, line) in REFUSED {
+        assert!(rt; cards.len() <= 36);
+        let mut file = block_of(cards).to_vec(rt.alloc())?;
+        file.resize(len, fill)?;
+        assert!(rt; file.len() <= 256 * 2880);
+        assert_refused(&rt, &file, line)?;
+    }
+    Ok(())
+}
+
+#[test]
+fn files_of_two_hdus_are_refused(rt: HostRuntime) -> Result<(), Fail> {
+    for (len, line) in [
+        (8640, "refused: 30 Unbuilt hdu 0 byte 0\n"),
+        (8639, "refused: 2 Truncated hdu 1 byte 8639\n"),
+    ] {
+        let mut file = packed_file(rt.alloc())?;
+        file.resize(len, 0)?;
+        assert!(rt; file.len() <= 8640);
+        assert_refused(&rt, &file, line)?;
     }
     Ok(())
 }
 
 #[test]
 fn calls_of_the_source_fail_in_turn(rt: HostRuntime) -> Result<(), Fail> {
-    // One `attach`, and reads of the block, the header, the fill and the two tiles.
-    for call in 0..6 {
+    // One `attach`, and reads of the block and the header, of both again, of the fill and of the two tiles.
+    for call in 0..8 {
         let on = Conditions {
             source: call,
             ..FREE
@@ -247,9 +365,9 @@ fn calls_of_the_source_fail_in_turn(rt: HostRuntime) -> Result<(), Fail> {
         assert!(rt; !outcome.sink.contents().starts_with(b"S"), "call {call}");
         assert_eq!(rt; outcome.live, 0, "call {call}");
     }
-    let on = Conditions { source: 6, ..FREE };
+    let on = Conditions { source: 8, ..FREE };
     let outcome = outcome_of(&rt, &PACK, &small_file(), on)?;
-    assert_eq!(rt; outcome.status, Status::Done, "no seventh call");
+    assert_eq!(rt; outcome.status, Status::Done, "no ninth call");
     Ok(())
 }
 

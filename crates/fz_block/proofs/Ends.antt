@@ -12,7 +12,7 @@ pub from-zero : (found : Option ℕ) → from 0 found ≡ found
 from-zero None = refl
 from-zero (Some k) = ap Some (zero-add k)
 
-from-suc : (i : ℕ) (found : Option ℕ) → from i (option_map suc found) ≡ from (i + 1) found
+pub from-suc : (i : ℕ) (found : Option ℕ) → from i (option_map suc found) ≡ from (i + 1) found
 from-suc i None = refl
 from-suc i (Some k) = let e : i + suc k ≡ i + 1 + k = omega arith in ap Some e
 

@@ -1,2 +1,16 @@
+pub mod Among
+pub mod AxisLists
 pub mod Ends
-pub mod FirstBlock
+pub mod Exits
+pub mod Firsts
+pub mod Groups
+pub mod HduLemmas
+pub mod HeaderLemmas
+pub mod MandatoryLemmas
+pub mod OneList
+pub mod Products
+pub mod Refusals
+pub mod Room
+pub mod Search
+pub mod Walks
+pub mod Wholes

@@ -1,5 +1,5 @@
 -- The cards of a header: 80 bytes each, 36 in a block, up to the first that is named END (FITS 4.0, sections 3.3.1 and 4.1).
-use Rattle.std.specs.Prelude.{ℕ, zero, suc, ◌*◌, ◌/◌, Bool, List, length, take, drop, codes, bytes_eq, Option, Some, None, if◌then◌else◌}
+use Rattle.std.specs.Prelude.{ℕ, zero, suc, ◌*◌, ◌/◌, Bool, List, length, take, drop, codes, bytes_eq, Option, Some, None, unwrap_or, if◌then◌else◌}
 use Rattle.std.specs.Option.{option_map}
 use Rattle.fz_card.specs.Layout.{card_name, padded}
 use Rattle.fz_card.specs.Made.{numbered_name}
@@ -24,3 +24,12 @@ end_among (suc n) cards = if is_named (codes "END") (take 80 cards) then Some 0 
 -- the index of END in a header, if it has one
 abbrev pub end_of : List ℕ → Option ℕ
 end_of header = end_among (length header / 80) header
+
+-- the index of the first of so many cards that has this property
+unfoldable pub first_among : (List ℕ → Bool) → ℕ → List ℕ → Option ℕ
+first_among has zero cards = None
+first_among has (suc n) cards = if has (take 80 cards) then Some 0 else option_map suc (first_among has n (drop 80 cards))
+
+-- the index of the first card before END that has this property
+abbrev pub first_card : (List ℕ → Bool) → List ℕ → Option ℕ
+first_card has header = first_among has (unwrap_or (end_of header) 0) header

@@ -1,5 +1,9 @@
 pub mod Cards
-pub mod FirstPath
+pub mod Checks
+pub mod Facts
 pub mod Hdus
 pub mod Header
-pub mod Small
+pub mod Mandatory
+pub mod Scan
+pub mod Values
+pub mod Walk

@@ -1,21 +1,30 @@
 //! The blocks of a header.
-ghost use Rattle.std.specs.Prelude.{◌≡◌, ◌+◌, ◌*◌, ◌≤◌, ◌<◌, ◌&&◌, false, codes, unwrap_or, Some, length as len, IfOk, IfSome};
+ghost use Rattle.std.specs.Prelude.{◌≡◌, ◌⊎◌, ◌+◌, ◌*◌, ◌≤◌, ◌<◌, Ok, Some, take, drop, codes, bytes_eq, length as len, IfOk, IfErr, IfSome};
+ghost use Rattle.fz_base.specs.Counts.{HasCause};
 ghost use Rattle.fz_base.specs.Stop.{ReadsOnly, IsDefined};
-ghost use Rattle.fz_card.specs.Reading.{logical_of};
-ghost use Rattle.fz_block.specs.Cards.{is_named};
-ghost use Rattle.fz_block.specs.FirstPath.{first_block_of, header_blocks_of};
+ghost use Rattle.fz_block.specs.Checks.{header_blocks_of};
+ghost use Rattle.fz_block.specs.Scan.{begin_says, block_says, next_block_says};
 
-use crate::cards::{card, end_card, is_named};
-use fz_base::{Fault, Kind, Place, Source, Stop};
-use fz_card::{Card, Name};
+use crate::cards::{card, end_card, is_set};
+use crate::refused::refused;
+use fz_base::{Failed, Fault, Kind, Place, Source, Stop};
+use fz_card::Name;
 
 /// The length of a block in bytes (FITS 4.0, section 3.1).
 pub const BLOCK_LEN: usize = 2880;
 
+/// The most HDUs of a file.
+const MAX_HDUS: u32 = 65_536;
+
+/// The most blocks of a header.
+const MAX_BLOCKS: u32 = 256;
+
 /// Reads the header at `start` block by block, and answers the number of its blocks up to the one
-/// with END. For now the header is that of HDU 0, and has one block: more are refused as Unbuilt.
+/// with END (FITS 4.0, sections 3.3.1 and 3.4.1).
 ///
-/// Refused: the file has no whole block (Truncated), card 0 is not SIMPLE with T (NotFits).
+/// Refused, in this order: this is the 65,537th HDU (Limit); bytes after an HDU do not begin with
+/// `XTENSION` (TrailingBytes); a block of the header passes the end of the file (Truncated); card 0 of
+/// HDU 0 is not SIMPLE with T (NotFits); 256 blocks have no END (LongHeader).
 pub fn header_blocks<S: Source>(
     source: &mut S,
     length: u64,
@@ -25,53 +34,125 @@ pub fn header_blocks<S: Source>(
 ) -> Result<u32, Stop>
     requires attached { S.attached source.old ≡ Some length }
     requires block { len block.old ≡ 2880 }
-    requires first { (hdu ≡ 0) × (start ≡ 0) }
+    requires within { (start < length) ⊎ ((hdu ≡ 0) × (start ≡ 0)) }
     ensures range { IfOk result (λ n. (0 < n) × (n ≤ 256) × (start + 2880 * n ≤ length)) }
-    ensures one_block { IfOk result (λ n. n ≡ 1) }
-    ensures exact { IfSome (S.held source.old) (λ g. IsDefined (header_blocks_of g) result) }
+    ensures exact { IfSome (S.held source.old) (λ g. IsDefined (header_blocks_of hdu start g) result) }
     ensures held { S.held source.new ≡ S.held source.old }
     ensures attached { S.attached source.new ≡ S.attached source.old }
     ensures cause { ReadsOnly (S.faults source.old) (S.faults source.new) (S.wants source.old) (S.wants source.new) result }
 {
-    if length < BLOCK_LEN as u64 {
-        return Err(Stop::Refused(Fault {
-            hdu,
-            at: Place::Byte(length),
-            kind: Kind::Truncated,
-        }));
+    check_begin(source, length, hdu, start)?;
+    search_end(source, length, hdu, start, block)
+}
+
+// A header may begin here: this HDU is not one too many, and an extension begins with XTENSION.
+fn check_begin<S: Source>(source: &mut S, length: u64, hdu: u32, start: u64) -> Result<(), Stop>
+    requires attached { S.attached source.old ≡ Some length }
+    requires within { (start < length) ⊎ ((hdu ≡ 0) × (start ≡ 0)) }
+    ensures exact { IfSome (S.held source.old) (λ g. IsDefined (begin_says hdu start g) result) }
+    ensures held { S.held source.new ≡ S.held source.old }
+    ensures attached { S.attached source.new ≡ S.attached source.old }
+    ensures cause { ReadsOnly (S.faults source.old) (S.faults source.new) (S.wants source.old) (S.wants source.new) result }
+{
+    if hdu >= MAX_HDUS {
+        let fault = refused(hdu, Place::Byte(start), Kind::Limit);
+        return Err(Stop::Refused(fault));
     }
-    source.read_at(start, block).map_err(Stop::reading)?;
-    match blocks_from(block) {
-        Ok(blocks) => Ok(blocks),
+    if hdu == 0 {
+        return Ok(());
+    }
+    match begins_extension(source, length, start) {
+        Ok(true) => Ok(()),
+        Ok(false) => {
+            let fault = refused(hdu, Place::Byte(start), Kind::TrailingBytes);
+            Err(Stop::Refused(fault))
+        }
+        Err(failed) => Err(Stop::reading(failed)),
+    }
+}
+
+// The number of blocks up to the one with END.
+fn search_end<S: Source>(
+    source: &mut S,
+    length: u64,
+    hdu: u32,
+    start: u64,
+    block: &mut [u8],
+) -> Result<u32, Stop>
+    requires attached { S.attached source.old ≡ Some length }
+    requires block { len block.old ≡ 2880 }
+    requires within { start ≤ length }
+    requires begins { IfSome (S.held source.old) (λ g. begin_says hdu start g ≡ Ok tt) }
+    ensures range { IfOk result (λ n. (0 < n) × (n ≤ 256) × (start + 2880 * n ≤ length)) }
+    ensures exact { IfSome (S.held source.old) (λ g. IsDefined (header_blocks_of hdu start g) result) }
+    ensures held { S.held source.new ≡ S.held source.old }
+    ensures attached { S.attached source.new ≡ S.attached source.old }
+    ensures cause { ReadsOnly (S.faults source.old) (S.faults source.new) (S.wants source.old) (S.wants source.new) result }
+{
+    for b in 0..MAX_BLOCKS {
+        if has_end(source, length, hdu, start, b, block)? {
+            return Ok(b + 1);
+        }
+    }
+    let fault = refused(hdu, Place::Byte(start), Kind::LongHeader);
+    Err(Stop::Refused(fault))
+}
+
+// Whether XTENSION begins at this byte.
+fn begins_extension<S: Source>(source: &mut S, length: u64, start: u64) -> Result<bool, Failed>
+    requires attached { S.attached source.old ≡ Some length }
+    requires within { start < length }
+    ensures exact { IfOk result (λ b. IfSome (S.held source.old) (λ g. b ≡ bytes_eq (take 8 (drop start g)) (codes "XTENSION"))) }
+    ensures held { S.held source.new ≡ S.held source.old }
+    ensures attached { S.attached source.new ≡ S.attached source.old }
+    ensures cause { HasCause (S.faults source.old) (S.faults source.new) (S.wants source.old) (S.wants source.new) result }
+{
+    if length - start < 8 {
+        return Ok(false);
+    }
+    let mut first = [0; 8];
+    source.read_at(start, &mut first)?;
+    Ok(first == Name::XTENSION.bytes)
+}
+
+// Reads block b of a header, and tells whether it has END.
+fn has_end<S: Source>(
+    source: &mut S,
+    length: u64,
+    hdu: u32,
+    start: u64,
+    b: u32,
+    block: &mut [u8],
+) -> Result<bool, Stop>
+    requires attached { S.attached source.old ≡ Some length }
+    requires block { len block.old ≡ 2880 }
+    requires within { start + 2880 * b ≤ length }
+    requires few { b < 256 }
+    ensures within { IfOk result (λ e. start + 2880 * (b + 1) ≤ length) }
+    ensures exact { IfSome (S.held source.old) (λ g. IsDefined (next_block_says hdu start b g) result) }
+    ensures len { len block.new ≡ 2880 }
+    ensures held { S.held source.new ≡ S.held source.old }
+    ensures attached { S.attached source.new ≡ S.attached source.old }
+    ensures cause { ReadsOnly (S.faults source.old) (S.faults source.new) (S.wants source.old) (S.wants source.new) result }
+{
+    let at = start + BLOCK_LEN as u64 * u64::from(b);
+    if length - at < BLOCK_LEN as u64 {
+        return Err(Stop::Refused(refused(hdu, Place::Byte(length), Kind::Truncated)));
+    }
+    source.read_at(at, block).map_err(Stop::reading)?;
+    match end_in(hdu, b, block) {
+        Ok(has_end) => Ok(has_end),
         Err(fault) => Err(Stop::Refused(fault)),
     }
 }
 
-// What the first block of HDU 0 says: one block, or why it is refused.
-fn blocks_from(block: &[u8]) -> Result<u32, Fault>
+// What block b of the header of an HDU says: whether it has END, or why it is refused.
+fn end_in(hdu: u32, b: u32, block: &[u8]) -> Result<bool, Fault>
     requires { len block.now ≡ 2880 }
-    ensures { result ≡ first_block_of block.now }
+    ensures { result ≡ block_says hdu b block.now }
 {
-    if !is_simple_card(&card(block, 0)) {
-        return Err(Fault {
-            hdu: 0,
-            at: Place::Card(0),
-            kind: Kind::NotFits,
-        });
+    if hdu == 0 && b == 0 && !is_set(&card(block, 0), &Name::SIMPLE) {
+        return Err(refused(hdu, Place::Card(0), Kind::NotFits));
     }
-    if end_card(block).is_none() {
-        return Err(Fault {
-            hdu: 0,
-            at: Place::Byte(0),
-            kind: Kind::Unbuilt,
-        });
-    }
-    Ok(1)
-}
-
-// Whether the card is SIMPLE with the value T.
-fn is_simple_card(card: &Card) -> bool
-    ensures { result ≡ (is_named (codes "SIMPLE") card.now.bytes && unwrap_or (logical_of card.now.bytes) false) }
-{
-    is_named(card, &Name::SIMPLE) && card.logical().unwrap_or(false)
+    Ok(end_card(block).is_some())
 }

@@ -1,6 +1,7 @@
 //! The cards of a header that stands in a buffer.
-ghost use Rattle.std.specs.Prelude.{◌≡◌, ◌+◌, ◌*◌, ◌≤◌, length, bytes_eq};
+ghost use Rattle.std.specs.Prelude.{◌≡◌, ◌+◌, ◌*◌, ◌≤◌, ◌&&◌, false, length, bytes_eq, unwrap_or};
 ghost use Rattle.fz_card.specs.Layout.{card_name};
+ghost use Rattle.fz_card.specs.Reading.{logical_of};
 ghost use Rattle.fz_block.specs.Cards.{card_at, end_of, end_among};
 
 use fz_card::{Card, Name};
@@ -39,4 +40,11 @@ pub(crate) fn end_card(cards: &[u8]) -> Option<u32>
         }
     }
     None
+}
+
+/// Whether the card has this name and the value T.
+pub(crate) fn is_set(card: &Card, name: &Name) -> bool
+    ensures { result ≡ (bytes_eq (card_name card.now.bytes) name.now.bytes && unwrap_or (logical_of card.now.bytes) false) }
+{
+    is_named(card, name) && card.logical().unwrap_or(false)
 }

@@ -54,7 +54,7 @@ pub fn next_start(h: &Header) -> u64
 
 /// A length with the fill to whole blocks.
 pub(crate) fn whole_blocks(len: u64) -> u64
-    requires { whole_blocks_of len ≤ 2 ^ 62 }
+    requires { whole_blocks_of len ≤ 2 ^ 63 }
     ensures { result ≡ whole_blocks_of len }
 {
     len.div_ceil(BLOCK_LEN as u64) * BLOCK_LEN as u64

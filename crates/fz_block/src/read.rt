@@ -1,36 +1,38 @@
 //! The facts of a header, read and checked.
-ghost use Rattle.std.specs.Prelude.{◌≡◌, ◌+◌, ◌*◌, ◌≤◌, ◌<◌, ◌^◌, Some, length as len, IfOk, IfSome};
+ghost use Rattle.std.specs.Prelude.{ℕ, ◌≡◌, ◌+◌, ◌*◌, ◌-◌, ◌≤◌, ◌<◌, ◌^◌, true, false, Some, None, IsNone, take, min, codes, length as len, IfOk, IfSome};
+ghost use Rattle.std.specs.Result.{MatchResult};
 ghost use Rattle.fz_base.specs.Stop.{ReadsOnly, IsDefined, IfAnswered};
 ghost use Rattle.fz_base.specs.Source.{Reads};
-ghost use Rattle.fz_base.specs.Refusal.{refusal};
-ghost use Rattle.fz_card.specs.Reading.{integer_of};
-ghost use Rattle.fz_block.specs.Cards.{end_of};
-ghost use Rattle.fz_block.specs.Header.{next_start_of};
-ghost use Rattle.fz_block.specs.Small.{IsSmallImage};
-ghost use Rattle.fz_block.specs.FirstPath.{header_of, small_axes_of, axis_in, small_data_len};
-ghost use Rattle.fz_block.specs.FirstPath.{small_header as small_header_of, small_end as small_end_of, says as says_of};
-ghost use Rattle.fz_block.specs.FirstPath.{has_small_cards as has_small_cards_of, has_small_names as has_small_names_of};
+ghost use Rattle.fz_base.specs.Refusal.{first_refusal};
+ghost use Rattle.fz_block.specs.Cards.{end_of, first_among};
+ghost use Rattle.fz_block.specs.Hdus.{axes_of, places as places_of};
+ghost use Rattle.fz_block.specs.Checks.{header_of, ends_in_last_block, group_checks, end_checks, is_set as is_set_of};
+ghost use Rattle.fz_block.specs.Facts.{IsHeaderOf, nine_axes, sort_of};
+ghost use Rattle.fz_block.specs.Header.{next_start_of, whole_blocks_of};
+ghost use Rattle.fz_block.specs.Values.{said_len};
 
 use crate::blocks::BLOCK_LEN;
-use crate::cards::{card, end_card, is_named};
+use crate::cards::{CARD_LEN, card, end_card, is_set};
 use crate::header::whole_blocks;
+use crate::mandatory::{Mandatory, mandatory_cards};
+use crate::refused::refused;
 use crate::{Axes, Header, Sort};
 use fz_base::{Fault, Kind, Place, Source, Stop};
-use fz_card::{Card, Name, numbered};
+use fz_card::{FIELD_LEN, Name};
 
-/// The longest axis 1 that is packed for now: one row is one tile.
-const MAX_COLUMNS: u32 = 67_108_864;
+/// The cards of a block.
+const CARDS_IN_BLOCK: usize = BLOCK_LEN / CARD_LEN;
 
-/// The most rows.
-const MAX_ROWS: u32 = 2_147_483_647;
+/// The last place of a file at which data may end.
+const MAX_PLACE: u64 = 1 << 62;
 
-/// The most bytes of data.
-const MAX_DATA: u64 = 2_147_483_647;
-
-/// Reads the header that has so many blocks, and answers its facts. For now it is that of a primary
-/// image of 16-bit pixels with two axes and no other cards: all else is refused as Unbuilt.
+/// Reads the header that has so many blocks as the buffer, and answers its facts.
 ///
-/// Refused: the data with their fill pass the end of the file (Truncated).
+/// Refused, in this order: a mandatory card is missing, is in another place or has no allowed value
+/// (BadCard); there are more than 9 axes, or an axis is longer than 2^31 - 1 (Limit); a primary has
+/// random groups (Groups); the data would end after byte 2^62 (Limit), or end after the file
+/// (Truncated). A source that gives other bytes than before, without END in the last block, is refused
+/// with BadCard at card 0.
 pub fn read_header<S: Source>(
     source: &mut S,
     length: u64,
@@ -39,143 +41,145 @@ pub fn read_header<S: Source>(
     buf: &mut [u8],
 ) -> Result<Header, Stop>
     requires attached { S.attached source.old ≡ Some length }
-    requires blocks { len buf.old ≡ 2880 }
+    requires blocks { (n : ℕ) × (0 < n) × (n ≤ 256) × (len buf.old ≡ 2880 * n) }
     requires within { start + len buf.old ≤ length }
-    requires first { (hdu ≡ 0) × (start ≡ 0) }
     ensures read { IfAnswered result (Reads (S.held source.old) start buf.new) }
-    ensures header { IsDefined (header_of length buf.new) result }
-    ensures small { IfOk result IsSmallImage }
-    ensures within { IfOk result (λ h. next_start_of h ≤ length) }
+    ensures header { IsDefined (header_of hdu start length buf.new) result }
+    ensures facts { IfOk result (λ h. IsHeaderOf buf.new h × (h.hdu ≡ hdu) × (h.start ≡ start)) }
+    ensures within { IfOk result (λ h. (next_start_of h ≤ length) × (next_start_of h ≤ 2 ^ 62)) }
     ensures held { S.held source.new ≡ S.held source.old }
     ensures attached { S.attached source.new ≡ S.attached source.old }
     ensures cause { ReadsOnly (S.faults source.old) (S.faults source.new) (S.wants source.old) (S.wants source.new) result }
 {
     source.read_at(start, buf).map_err(Stop::reading)?;
-    match header_in(buf, length) {
-        Ok(header) => Ok(header),
-        Err(fault) => Err(Stop::Refused(fault)),
-    }
+    header_in(buf, length, hdu, start).map_err(Stop::Refused)
 }
 
-// The facts of the header whose cards are these, in a file of so many bytes.
-fn header_in(buf: &[u8], length: u64) -> Result<Header, Fault>
-    requires { len buf.now ≡ 2880 }
-    ensures exact { result ≡ header_of length buf.now }
-    ensures small { IfOk result IsSmallImage }
-    ensures within { IfOk result (λ h. next_start_of h ≤ length) }
+// The facts of the header of an HDU in a file of so many bytes, or the first check that refuses.
+fn header_in(buf: &[u8], length: u64, hdu: u32, start: u64) -> Result<Header, Fault>
+    requires blocks { (n : ℕ) × (0 < n) × (n ≤ 256) × (len buf.now ≡ 2880 * n) }
+    requires within { start + len buf.now ≤ length }
+    ensures exact { result ≡ header_of hdu start length buf.now }
+    ensures facts { IfOk result (λ h. IsHeaderOf buf.now h × (h.hdu ≡ hdu) × (h.start ≡ start)) }
+    ensures within { IfOk result (λ h. (next_start_of h ≤ length) × (next_start_of h ≤ 2 ^ 62)) }
 {
-    let Some(cards) = end_card(buf) else {
-        return Err(refused(Place::Card(0), Kind::BadCard));
+    let Some(cards) = end_in_last_block(buf) else {
+        return Err(refused(hdu, Place::Card(0), Kind::BadCard));
     };
-    let Some((columns, rows)) = small_axes(buf, cards) else {
-        return Err(refused(Place::Byte(0), Kind::Unbuilt));
+    let said = mandatory_cards(buf, hdu)?;
+    check_groups(buf, hdu, cards, &said.axes)?;
+    let data_len = data_len(&said);
+    check_end(hdu, start + buf.len() as u64, data_len, length)?;
+    Ok(Header {
+        hdu,
+        start,
+        cards,
+        blocks: (buf.len() / BLOCK_LEN) as u32,
+        sort: sort(buf, hdu),
+        bitpix: said.bitpix,
+        axes: said.axes,
+        pcount: said.pcount,
+        gcount: said.gcount,
+        data_len,
+    })
+}
+
+// The index of END, if it stands in the last block.
+fn end_in_last_block(buf: &[u8]) -> Option<u32>
+    requires { (n : ℕ) × (0 < n) × (n ≤ 256) × (len buf.now ≡ 2880 * n) }
+    ensures none { IsNone result → ends_in_last_block buf.now ≡ false }
+    ensures some { IfSome result (λ i. (ends_in_last_block buf.now ≡ true) × (end_of buf.now ≡ Some i)) }
+{
+    end_card(buf).filter(|i| BLOCK_LEN * (*i as usize / CARDS_IN_BLOCK + 1) == buf.len())
+}
+
+// A primary without a first axis is refused where a card says that it has random groups.
+fn check_groups(buf: &[u8], hdu: u32, cards: u32, axes: &Axes) -> Result<(), Fault>
+    requires buf { (2880 ≤ len buf.now) × (80 * (cards + 1) ≤ len buf.now) }
+    requires end { end_of buf.now ≡ Some cards }
+    requires axes { axes.now ≡ nine_axes (axes_of buf.now) }
+    requires few { axes.now.n ≤ 9 }
+    ensures { MatchResult result (λ _. first_refusal (group_checks hdu buf.now) ≡ None) (λ x. first_refusal (group_checks hdu buf.now) ≡ Some x) }
+{
+    if hdu > 0 || axes.n == 0 || axes.len[0] > 0 {
+        return Ok(());
+    }
+    match groups_card(buf, cards) {
+        Some(i) => Err(refused(0, Place::Card(i), Kind::Groups)),
+        None => Ok(()),
+    }
+}
+
+// The first of so many cards that is GROUPS with T.
+#[tactic(auto, using(crate::proofs::Firsts::firsts))]
+fn groups_card(buf: &[u8], cards: u32) -> Option<u32>
+    requires { 80 * cards ≤ len buf.now }
+    ensures { result ≡ first_among (is_set_of (codes "GROUPS")) cards buf.now }
+{
+    for i in 0..cards {
+        if is_set(&card(buf, i), &Name::GROUPS) {
+            return Some(i);
+        }
+    }
+    None
+}
+
+// The length of the data, or the greatest number where it is longer.
+fn data_len(said: &Mandatory) -> u64
+    requires { said.now.axes.n ≤ 9 }
+    ensures { result ≡ min (said_len said.now) (2 ^ 64 - 1) }
+{
+    if said.axes.n == 0 {
+        return 0;
+    }
+    let elements = said.pcount.saturating_add(places(&said.axes));
+    let pixel_len = u64::from(said.bitpix.unsigned_abs() / 8);
+    pixel_len.saturating_mul(said.gcount.saturating_mul(elements))
+}
+
+// The product of the lengths of the axes, or the greatest number where it is larger.
+fn places(axes: &Axes) -> u64
+    requires { axes.now.n ≤ 9 }
+    ensures { result ≡ min (places_of (take axes.now.n axes.now.len)) (2 ^ 64 - 1) }
+{
+    let mut product: u64 = 1;
+    for i in 0..axes.n as usize {
+        product = product.saturating_mul(u64::from(axes.len[i]));
+    }
+    product
+}
+
+// The data that begin here end, with their fill, at byte 2^62 at most, and within the file.
+fn check_end(hdu: u32, data_start: u64, data_len: u64, length: u64) -> Result<(), Fault>
+    ensures { MatchResult result (λ _. first_refusal (end_checks hdu length (data_start + whole_blocks_of data_len)) ≡ None) (λ x. first_refusal (end_checks hdu length (data_start + whole_blocks_of data_len)) ≡ Some x) }
+{
+    if data_start > MAX_PLACE
+        || data_len > MAX_PLACE
+        || data_start + whole_blocks(data_len) > MAX_PLACE
+    {
+        return Err(refused(hdu, Place::Card(2), Kind::Limit));
+    }
+    if data_start + whole_blocks(data_len) > length {
+        return Err(refused(hdu, Place::Byte(length), Kind::Truncated));
+    }
+    Ok(())
+}
+
+// What the HDU is: an extension says it in its first card.
+fn sort(buf: &[u8], hdu: u32) -> Sort
+    requires { 2880 ≤ len buf.now }
+    ensures { result ≡ sort_of hdu buf.now }
+{
+    if hdu == 0 {
+        return Sort::Primary;
+    }
+    let mut text = [0; FIELD_LEN];
+    let Some(count) = card(buf, 0).text(&mut text) else {
+        return Sort::Other;
     };
-    if length < small_end(columns, rows) {
-        return Err(refused(Place::Byte(length), Kind::Truncated));
+    match &text[..count] {
+        b"IMAGE" => Sort::Image,
+        b"BINTABLE" => Sort::BinTable,
+        _ => Sort::Other,
     }
-    Ok(small_header(columns, rows))
-}
-
-// A refusal of HDU 0.
-fn refused(at: Place, kind: Kind) -> Fault
-    ensures { result ≡ refusal 0 at kind }
-{
-    Fault { hdu: 0, at, kind }
-}
-
-// The facts of the header of a small image.
-fn small_header(columns: u32, rows: u32) -> Header
-    requires { columns ≤ 67108864 }
-    ensures { result ≡ small_header_of columns rows }
-{
-    Header {
-        hdu: 0,
-        start: 0,
-        cards: 5,
-        blocks: 1,
-        sort: Sort::Primary,
-        bitpix: 16,
-        axes: Axes {
-            n: 2,
-            len: [columns, rows, 0, 0, 0, 0, 0, 0, 0],
-        },
-        pcount: 0,
-        gcount: 1,
-        data_len: data_len(columns, rows),
-    }
-}
-
-// The two axes of a small image, if the header is that of one. END is the card of this index.
-fn small_axes(buf: &[u8], cards: u32) -> Option<(u32, u32)>
-    requires blocks { len buf.now ≡ 2880 }
-    requires end { end_of buf.now ≡ Some cards }
-    ensures axes { result ≡ small_axes_of buf.now }
-    ensures small { IfSome result (λ a. (0 < a.0) × (a.0 ≤ 67108864) × (0 < a.1) × (small_data_len a.0 a.1 ≤ 2147483647)) }
-{
-    if !has_small_cards(buf, cards) {
-        return None;
-    }
-    let columns = axis(&card(buf, 3), MAX_COLUMNS)?;
-    let rows = axis(&card(buf, 4), MAX_ROWS)?;
-    if data_len(columns, rows) > MAX_DATA {
-        return None;
-    }
-    Some((columns, rows))
-}
-
-// Whether the cards are those of an image of 16-bit pixels with two axes.
-fn has_small_cards(buf: &[u8], cards: u32) -> bool
-    requires blocks { len buf.now ≡ 2880 }
-    requires end { end_of buf.now ≡ Some cards }
-    ensures { result ≡ has_small_cards_of buf.now }
-{
-    cards == 5 && has_small_names(buf) && says(&card(buf, 1), 16) && says(&card(buf, 2), 2)
-}
-
-// Whether the first five cards have the names of a small image.
-fn has_small_names(buf: &[u8]) -> bool
-    requires { len buf.now ≡ 2880 }
-    ensures { result ≡ has_small_names_of buf.now }
-{
-    is_named(&card(buf, 0), &Name::SIMPLE)
-        && is_named(&card(buf, 1), &Name::BITPIX)
-        && is_named(&card(buf, 2), &Name::NAXIS)
-        && is_named(&card(buf, 3), &numbered(b"NAXIS", 1))
-        && is_named(&card(buf, 4), &numbered(b"NAXIS", 2))
-}
-
-// Whether the card has this integer value.
-fn says(card: &Card, value: i64) -> bool
-    ensures { result ≡ says_of value (integer_of card.now.bytes) }
-{
-    match card.int() {
-        Some(found) => found == value,
-        None => false,
-    }
-}
-
-// The length of an axis, if the card's value is from 1 to the greatest.
-fn axis(card: &Card, most: u32) -> Option<u32>
-    ensures value { result ≡ axis_in most (integer_of card.now.bytes) }
-    ensures fits { IfSome result (λ n. (0 < n) × (n ≤ most)) }
-{
-    let len = u32::try_from(card.int()?).ok()?;
-    (1..=most).contains(&len).then_some(len)
-}
-
-// The bytes of so many rows of 16-bit pixels.
-fn data_len(columns: u32, rows: u32) -> u64
-    requires { columns ≤ 67108864 }
-    ensures value { result ≡ small_data_len columns rows }
-    ensures fits { result < 2 ^ 59 }
-{
-    2 * (u64::from(columns) * u64::from(rows))
-}
-
-// The byte after the data and their fill.
-fn small_end(columns: u32, rows: u32) -> u64
-    requires { columns ≤ 67108864 }
-    ensures { result ≡ small_end_of columns rows }
-{
-    BLOCK_LEN as u64 + whole_blocks(data_len(columns, rows))
 }

@@ -1,88 +1,158 @@
--- The first fault of a file, from what the calls on its header and on what stands behind it answer.
-use Rattle.std.proofs.Common.{◌≡◌, ℕ, ◌+◌, Bool, true, false, not, ◌==◌, ◌&&◌, nat_lt, List, [], ◌∷◌, length, take, drop, Option, Some, None, is_none, IfSome, Result, Ok, Err, refl, sym, ◌∙◌, ap, if◌then◌else◌}
+-- The first fault of a file, from what the calls on its headers and on what stands behind them answer.
+use Rattle.std.proofs.Common.{◌≡◌, ℕ, ◌+◌, ◌*◌, ◌/◌, ◌≤◌, ◌<◌, Bool, true, false, not, ◌==◌, ◌&&◌, List, [], ◌∷◌, length, take, drop, Option, Some, None, is_some, unwrap_or, IfSome, Result, Ok, Err, refl, sym, subst, ◌∙◌, ap, arith, if◌then◌else◌}
 use Rattle.fz_base.specs.Source.{Reads, HoldsLength}
 use Rattle.fz_base.specs.Refusal.{refusal, first_refusal}
-use Rattle.fz_base.specs.Stop.{IsDefined, IfAnswered, stop_of_short, ReadsAndWrites}
+use Rattle.fz_base.specs.Stop.{IsDefined, IfAnswered, StoppedReading, ReadsOnly, stop_of_short, ReadsAndWrites}
 use Rattle.fz_base.specs.declared.fault.Fault.{Fault}
-use Rattle.fz_base.specs.declared.fault.Place.TheVariants.{Byte, Card}
-use Rattle.fz_base.specs.declared.kind.Kind.TheVariants.{NotFits, Truncated, Unbuilt}
+use Rattle.fz_base.specs.declared.fault.Place.TheVariants.{Byte}
+use Rattle.fz_base.specs.declared.kind.Kind.TheVariants.{Unbuilt}
 use Rattle.fz_base.specs.declared.failure.Short.{Short}
 use Rattle.fz_base.specs.declared.failure.Short.TheVariants.{NoMemory as NoRoom, OverLimit as PastLimit}
 use Rattle.fz_base.specs.declared.failure.Stop.{Stop}
 use Rattle.fz_base.specs.declared.failure.Stop.TheVariants.{Refused, ReadFault, WriteFault, OverLimit, NoMemory}
 use Rattle.fz_block.specs.declared.header.Header.{Header}
-use Rattle.fz_block.specs.Header.{data_start_of, next_start_of}
-use Rattle.fz_block.specs.Cards.{end_of}
-use Rattle.fz_block.specs.FirstPath.{is_simple, small_axes_of, sized_header, header_of, small_header, header_blocks_of}
-use Rattle.fz_pack.specs.FirstFault.{is_filled, has_blank_fill, is_closed, rest_of, first_fault, data_end, image_end, TellsFirstFault}
+use Rattle.fz_block.specs.Header.{next_start_of}
+use Rattle.fz_block.specs.Cards.{end_of, end_among}
+use Rattle.fz_block.specs.Facts.{IsHeaderOf}
+use Rattle.fz_block.specs.Checks.{unless_refused, blocks_to_end, block_checks, header_room, header_blocks_of, header_of, header_in, hdu_at, and_those_after, headers_from, headers_of}
+use Rattle.fz_block.proofs.Room.{end_in_block}
+use Rattle.fz_pack.specs.FirstFault.{is_filled, has_blank_fill, is_closed, built_checks, or_else, rest_of, first_fault, data_end, image_end, TellsFirstFault}
+use Rattle.fz_pack.specs.Headers.{checked, HeadersPass}
+use Rattle.fz_pack.specs.SmallImage.{small_axes_of, small_header}
+use Rattle.fz_pack.proofs.SmallFile.{small_of}
 
--- three checks made one after another
-three_fault : (a b c : Bool) (x y z w : Fault) (n : ℕ) (rest : List (Bool × Fault)) →
-    ◌≡◌ {A = Result ℕ Fault} (if a then Err x else (if b then Err y else (if c then Err z else Ok n))) (Err w) → first_refusal ((a, x) ∷ (b, y) ∷ (c, z) ∷ rest) ≡ Some w
-three_fault true b c x y z w n rest e = cc
-three_fault false true c x y z w n rest e = cc
-three_fault false false true x y z w n rest e = cc
-three_fault false false false x y z w n rest e = cc
+-- the checks of the headers, and those that follow
+headers_refuse : (headers : Result (List Header) Fault) (later : Option Fault) (x : Fault) → checked headers ≡ Err x → or_else headers later ≡ Some x
+headers_refuse (Ok hs) later x e = cc
+headers_refuse (Err fault) later x e = cc
 
-three_pass : (a b c : Bool) (x y z : Fault) (n m : ℕ) (rest : List (Bool × Fault)) →
-    ◌≡◌ {A = Result ℕ Fault} (if a then Err x else (if b then Err y else (if c then Err z else Ok n))) (Ok m) →
-    (first_refusal ((a, x) ∷ (b, y) ∷ (c, z) ∷ rest) ≡ first_refusal rest) × (c ≡ false)
-three_pass true b c x y z n m rest e = cc
-three_pass false true c x y z n m rest e = cc
-three_pass false false true x y z n m rest e = cc
-three_pass false false false x y z n m rest e = (refl, refl)
+headers_passed : (headers : Result (List Header) Fault) (later : Option Fault) → checked headers ≡ Ok (tt {0}) → or_else headers later ≡ later
+headers_passed (Ok hs) later e = refl
+headers_passed (Err fault) later e = cc
 
--- the checks behind the first three
-abbrev later_checks : List ℕ → List ℕ → List (Bool × Fault)
-later_checks file header =
-    (is_none (small_axes_of header), refusal 0 (Byte 0) Unbuilt)
-    ∷ (nat_lt (length file) (image_end (small_axes_of header)), refusal 0 (Byte (length file)) Truncated)
-    ∷ (not (is_closed file header (small_axes_of header)), refusal 0 (Byte 0) Unbuilt)
-    ∷ []
-
-blocks_fault : (g : List ℕ) (w : Fault) → header_blocks_of g ≡ Err w → first_fault g ≡ Some w
+-- where the headers pass, the last check decides
+last_decides : (g : List ℕ) → checked (headers_of 65535 g) ≡ Ok (tt {0}) → first_fault g ≡ first_refusal (built_checks g)
 unfolding first_fault
-blocks_fault g w e =
-    three_fault (nat_lt (length g) 2880) (not (is_simple (take 2880 g))) (is_none (end_of (take 2880 g)))
-    (refusal 0 (Byte (length g)) Truncated) (refusal 0 (Card 0) NotFits) (refusal 0 (Byte 0) Unbuilt) w 1 (later_checks g (take 2880 g)) e
+last_decides g e = headers_passed (headers_of 65535 g) (first_refusal (built_checks g)) e
 
-blocks_pass : (g : List ℕ) (n : ℕ) → header_blocks_of g ≡ Ok n → (first_fault g ≡ first_refusal (later_checks g (take 2880 g))) × (is_none (end_of (take 2880 g)) ≡ false)
+-- `check_headers` stopped
+pub headers_stopped : (held : Option (List ℕ)) (stop : Stop) → IfSome held (λ g. IsDefined (checked (headers_of 65535 g)) (Err stop)) → TellsFirstFault {X = Unit {0}} held (Err stop)
 unfolding first_fault
-blocks_pass g n e =
-    three_pass (nat_lt (length g) 2880) (not (is_simple (take 2880 g))) (is_none (end_of (take 2880 g)))
-    (refusal 0 (Byte (length g)) Truncated) (refusal 0 (Card 0) NotFits) (refusal 0 (Byte 0) Unbuilt) 1 n (later_checks g (take 2880 g)) e
+headers_stopped None (Refused x) e = tt
+headers_stopped (Some g) (Refused x) e = headers_refuse (headers_of 65535 g) (first_refusal (built_checks g)) x e
+headers_stopped held ReadFault e = tt
+headers_stopped held WriteFault e = tt
+headers_stopped held (OverLimit live asked limit) e = tt
+headers_stopped held NoMemory e = tt
 
--- the two checks of the header's values
-size_fault : (a : Bool) (x w : Fault) (h : Header) (rest : List (Bool × Fault)) →
-    ◌≡◌ {A = Result Header Fault} (if a then Err x else Ok h) (Err w) → first_refusal ((a, x) ∷ rest) ≡ Some w
-size_fault true x w h rest e = cc
-size_fault false x w h rest e = cc
+-- the header of HDU 0 passes with the others
+first_passes : (g : List ℕ) (rest : Header → Result (List Header) Fault) (h : Result Header Fault) → checked (and_those_after g rest h) ≡ Ok (tt {0}) → (k : Header) × (h ≡ Ok k)
+first_passes g rest (Ok k) e = (k, refl)
+first_passes g rest (Err x) e = cc
 
-size_pass : (a : Bool) (x : Fault) (h k : Header) (rest : List (Bool × Fault)) →
-    ◌≡◌ {A = Result Header Fault} (if a then Err x else Ok h) (Ok k) → (first_refusal ((a, x) ∷ rest) ≡ first_refusal rest) × (h ≡ k)
-size_pass true x h k rest e = cc
-size_pass false x h k rest e = (refl, cc)
+first_header : (g : List ℕ) → checked (headers_of 65535 g) ≡ Ok (tt {0}) → (k : Header) × (hdu_at 0 0 g ≡ Ok k)
+unfolding headers_from
+first_header g e = first_passes g (λ h. headers_from 65534 1 (next_start_of h) g) (hdu_at 0 0 g) e
 
-values_fault : (g header : List ℕ) (axes : Option (ℕ × ℕ)) (w : Fault) (rest : List (Bool × Fault)) → sized_header (length g) axes ≡ Err w →
-    first_refusal ((is_none axes, refusal 0 (Byte 0) Unbuilt) ∷ (nat_lt (length g) (image_end axes), refusal 0 (Byte (length g)) Truncated) ∷ rest) ≡ Some w
-values_fault g header None w rest e = cc
-values_fault g header (Some (c, r)) w rest e =
-    size_fault (nat_lt (length g) (image_end (Some (c, r)))) (refusal 0 (Byte (length g)) Truncated) w (small_header c r) rest e
+in_blocks : (g : List ℕ) (blocks : Result ℕ Fault) (k : Header) → header_in 0 0 g blocks ≡ Ok k → (n : ℕ) × (blocks ≡ Ok n) × (header_of 0 0 (length g) (take (2880 * n) (drop 0 g)) ≡ Ok k)
+in_blocks g (Ok n) k e = (n, refl, e)
+in_blocks g (Err x) k e = cc
 
-values_pass : (g header : List ℕ) (axes : Option (ℕ × ℕ)) (h : Header) (rest : List (Bool × Fault)) → sized_header (length g) axes ≡ Ok h →
-    (first_refusal ((is_none axes, refusal 0 (Byte 0) Unbuilt) ∷ (nat_lt (length g) (image_end axes), refusal 0 (Byte (length g)) Truncated) ∷ rest) ≡ first_refusal rest)
-    × (next_start_of h ≡ image_end axes) × (data_start_of h + h.data_len ≡ data_end axes)
-values_pass g header None h rest e = cc
-values_pass g header (Some (c, r)) h rest e =
-    let p = size_pass (nat_lt (length g) (image_end (Some (c, r)))) (refusal 0 (Byte (length g)) Truncated) (small_header c r) h rest e in
-    (p.0, ap next_start_of (sym p.1), ap (λ k. data_start_of k + k.data_len) (sym p.1))
+found_blocks : (g : List ℕ) → checked (headers_of 65535 g) ≡ Ok (tt {0}) → (n : ℕ) × (header_blocks_of 0 0 g ≡ Ok n) × ((k : Header) × (header_of 0 0 (length g) (take (2880 * n) (drop 0 g)) ≡ Ok k))
+unfolding hdu_at
+found_blocks g e =
+    let first : (k : Header) × (hdu_at 0 0 g ≡ Ok k) = first_header g e in
+    let parts = in_blocks g (header_blocks_of 0 0 g) first.0 first.1 in
+    (parts.0, parts.1, (first.0, parts.2))
 
--- the header's values say why a file is refused
-header_fault : (g : List ℕ) (n : ℕ) (w : Fault) → header_blocks_of g ≡ Ok n → header_of (length g) (take 2880 g) ≡ Err w → first_fault g ≡ Some w
-header_fault g n w blocks e =
-    let p = blocks_pass g n blocks in
-    let values : sized_header (length g) (small_axes_of (take 2880 g)) ≡ Err w = rw p.1 at e in
-    p.0 ∙ values_fault g (take 2880 g) (small_axes_of (take 2880 g)) w _ values
+same_ok : {X : Type 0} (a b : X) (r : Result X Fault) → r ≡ Ok a → r ≡ Ok b → a ≡ b
+same_ok a b r e f = cc
+
+not_both : {X : Type 0} (a : X) (x : Fault) (r : Result X Fault) → r ≡ Ok a → r ≡ Err x → ⊥
+not_both a x r e f = cc
+
+-- the blocks of HDU 0 are not refused any more
+pub found_again : (g : List ℕ) (x : Fault) → checked (headers_of 65535 g) ≡ Ok (tt {0}) → header_blocks_of 0 0 g ≡ Err x → ⊥
+found_again g x pass e = let parts = found_blocks g pass in not_both parts.0 x (header_blocks_of 0 0 g) parts.1 e
+
+-- `header_blocks` on HDU 0 once more
+pub known_blocks : (held : Option (List ℕ)) (n : ℕ) → IfSome held (λ g. checked (headers_of 65535 g) ≡ Ok (tt {0})) → IfSome held (λ g. header_blocks_of 0 0 g ≡ Ok n) →
+    IfSome held (HeadersPass (2880 * n))
+known_blocks None n pass found = tt
+known_blocks (Some g) n pass found =
+    let parts = found_blocks g pass in
+    let same : parts.0 ≡ n = same_ok parts.0 n (header_blocks_of 0 0 g) parts.1 found in
+    record {
+      all = pass;
+      blocks = n;
+      found = found;
+      count = refl;
+      header = parts.2.0;
+      read = ap (λ m. header_of 0 0 (length g) (take (2880 * m) (drop 0 g))) (sym same) ∙ parts.2.1;
+    }
+
+pub blocks_stopped : (held : Option (List ℕ)) (stop : Stop) → IfSome held (λ g. checked (headers_of 65535 g) ≡ Ok (tt {0})) → IfSome held (λ g. IsDefined (header_blocks_of 0 0 g) (Err stop)) →
+    TellsFirstFault {X = Unit {0}} held (Err stop)
+blocks_stopped None (Refused x) pass e = tt
+blocks_stopped (Some g) (Refused x) pass e = let parts = found_blocks g pass in absurd (not_both parts.0 x (header_blocks_of 0 0 g) parts.1 e)
+blocks_stopped held ReadFault pass e = tt
+blocks_stopped held WriteFault pass e = tt
+blocks_stopped held (OverLimit live asked limit) pass e = tt
+blocks_stopped held NoMemory pass e = tt
+
+-- `read_header` on HDU 0 once more
+pub header_stopped : (held : Option (List ℕ)) (len : ℕ) (header : List ℕ) (stop : Stop) → HoldsLength held len → IfSome held (HeadersPass (length header)) →
+    IfAnswered {X = Header} (Err stop) (Reads held 0 header) → IsDefined (header_of 0 0 len header) (Err stop) → TellsFirstFault {X = Header} held (Err stop)
+header_stopped None len header (Refused x) told pass read is = tt
+header_stopped (Some g) len header (Refused x) told pass read is =
+    let again : header_of 0 0 len header ≡ Ok pass.header = ap (header_of 0 0 len) read ∙ (ap (λ n. header_of 0 0 n (take (length header) (drop 0 g))) (sym told) ∙ pass.read) in
+    absurd (not_both pass.header x (header_of 0 0 len header) again is)
+header_stopped held len header ReadFault told pass read is = tt
+header_stopped held len header WriteFault told pass read is = tt
+header_stopped held len header (OverLimit live asked limit) told pass read is = tt
+header_stopped held len header NoMemory told pass read is = tt
+
+-- a header with END in its first block has no other
+answered : (n m : ℕ) (o : Option Fault) → unless_refused n o ≡ Ok m → n ≡ m
+answered n m None e = cc
+answered n m (Some x) e = cc
+
+none_among : end_among 0 [] ≡ None
+unfolding end_among
+none_among = refl
+
+one_block : (g : List ℕ) (i n : ℕ) → 2880 ≤ length g → end_of (take 2880 g) ≡ Some i → header_blocks_of 0 0 g ≡ Ok n → n ≡ 1
+unfolding header_blocks_of
+one_block g i n whole end found =
+    let first : (end_of (header_room 0 g) ≡ Some (36 * 0 + i)) × (i < 36) = end_in_block 0 0 i g (omega arith) whole none_among end in
+    let count : blocks_to_end (end_of (header_room 0 g)) ≡ n = answered (blocks_to_end (end_of (header_room 0 g))) n (first_refusal (block_checks 0 0 g)) found in
+    let is : blocks_to_end (end_of (header_room 0 g)) ≡ (36 * 0 + i) / 36 + 1 = ap blocks_to_end first.0 in
+    omega (arith, count, is, first)
+
+-- the file is not one small image
+not_small : (g header : List ℕ) → 2880 ≤ length g → HeadersPass (length header) g → header ≡ take (length header) (drop 0 g) →
+    (length header ≡ 2880 → small_axes_of header ≡ None) → (axes : Option (ℕ × ℕ)) → small_axes_of (take 2880 g) ≡ axes → is_some axes ≡ false
+not_small g header whole pass read none None e = refl
+not_small g header whole pass read none (Some (c, r)) e =
+    let one : pass.blocks ≡ 1 = one_block g 5 pass.blocks whole (small_of (take 2880 g) c r e).ends pass.found in
+    let block : length header ≡ 2880 = pass.count ∙ ap (λ n. 2880 * n) one in
+    let front : header ≡ take 2880 g = read ∙ ap (λ n. take n g) block in
+    let nothing : small_axes_of (take 2880 g) ≡ None = sym (ap small_axes_of front) ∙ none block in
+    let bad : ⊥ = cc (e, nothing) in
+    absurd bad
+
+unbuilt_last : (a b : Bool) (x : Fault) → a ≡ false → first_refusal ((not (a && b), x) ∷ []) ≡ Some x
+unbuilt_last a b x e = rw e refl
+
+pub image_stopped : (held : Option (List ℕ)) (len : ℕ) (header : List ℕ) (x : Fault) → HoldsLength held len → 2880 ≤ len → IfSome held (HeadersPass (length header)) →
+    Reads held 0 header → (length header ≡ 2880 → small_axes_of header ≡ None) → x ≡ refusal 0 (Byte 0) Unbuilt → TellsFirstFault {X = Header} held (Err (Refused x))
+image_stopped None len header x told whole pass read none is = tt
+image_stopped (Some g) len header x told whole pass read none is =
+    let front : 2880 ≤ length g = omega (arith, told, whole) in
+    let small : is_some (small_axes_of (take 2880 g)) ≡ false = not_small g header front pass read none (small_axes_of (take 2880 g)) refl in
+    last_decides g pass.all
+    ∙ (unbuilt_last (is_some (small_axes_of (take 2880 g))) (is_closed g (take 2880 g) (small_axes_of (take 2880 g))) (refusal 0 (Byte 0) Unbuilt) small
+    ∙ ap Some (sym is))
 
 -- what stands behind the header says why a file is refused, or that it has no fault
 closed_test : (a b c : Bool) (x : Fault) (r : Result (Unit {0}) Fault) →
@@ -93,65 +163,68 @@ closed_test true true false x r e = ((λ o. cc), (λ w o. cc))
 closed_test true false c x r e = ((λ o. cc), (λ w o. cc))
 closed_test false b c x r e = ((λ o. cc), (λ w o. cc))
 
-rest_answers : (g : List ℕ) (n : ℕ) (h : Header) (r : Result (Unit {0}) Fault) → header_blocks_of g ≡ Ok n → header_of (length g) (take 2880 g) ≡ Ok h →
-    rest_of (length g) g (take 2880 g) h ≡ r →
+rest_answers : (g : List ℕ) (c m : ℕ) (r : Result (Unit {0}) Fault) → checked (headers_of 65535 g) ≡ Ok (tt {0}) → small_axes_of (take 2880 g) ≡ Some (c, m) →
+    rest_of (length g) g (take 2880 g) (small_header c m) ≡ r →
     (r ≡ Ok (tt {0}) → first_fault g ≡ None) × ((w : Fault) → r ≡ Err w → first_fault g ≡ Some w)
-rest_answers g n h r blocks header e =
-    let p = blocks_pass g n blocks in
-    let axes : Option (ℕ × ℕ) = small_axes_of (take 2880 g) in
-    let values : sized_header (length g) axes ≡ Ok h = rw p.1 at header in
-    let v = values_pass g (take 2880 g) axes h ((not (is_closed g (take 2880 g) axes), refusal 0 (Byte 0) Unbuilt) ∷ []) values in
-    let ends : rest_of (length g) g (take 2880 g) h ≡ r = e in
-    let tests = closed_test (image_end axes == length g) (has_blank_fill (take 2880 g)) (is_filled 0 (drop (data_end axes) g)) (refusal 0 (Byte 0) Unbuilt) r (rw (v.1, v.2) at ends) in
-    ((λ o. p.0 ∙ v.0 ∙ tests.0 o), (λ w o. p.0 ∙ v.0 ∙ tests.1 w o))
+rest_answers g c m r pass axes e =
+    let last : first_fault g ≡ first_refusal ((not (is_closed g (take 2880 g) (Some (c, m))), refusal 0 (Byte 0) Unbuilt) ∷ []) =
+    last_decides g pass ∙ ap (λ a. first_refusal ((not (is_some a && is_closed g (take 2880 g) a), refusal 0 (Byte 0) Unbuilt) ∷ [])) axes in
+    let tests = closed_test (image_end (Some (c, m)) == length g) (has_blank_fill (take 2880 g)) (is_filled 0 (drop (data_end (Some (c, m))) g)) (refusal 0 (Byte 0) Unbuilt) r e in
+    ((λ o. last ∙ tests.0 o), (λ w o. last ∙ tests.1 w o))
 
--- the header that was read is the front of the file
+-- a header of one block that was read is the front of the file
 front_read : (g header : List ℕ) → length header ≡ 2880 → header ≡ take (length header) (drop 0 g) → header ≡ take 2880 g
 front_read g header whole read = read ∙ ap (λ n. take n g) whole
 
--- `header_blocks` stopped
-pub blocks_stopped : (held : Option (List ℕ)) (stop : Stop) → IfSome held (λ g. IsDefined (header_blocks_of g) (Err stop)) → TellsFirstFault {X = Unit {0}} held (Err stop)
-blocks_stopped None (Refused x) e = tt
-blocks_stopped (Some g) (Refused x) e = blocks_fault g x e
-blocks_stopped held ReadFault e = tt
-blocks_stopped held WriteFault e = tt
-blocks_stopped held (OverLimit live asked limit) e = tt
-blocks_stopped held NoMemory e = tt
-
--- `read_header` stopped
-pub header_stopped : (held : Option (List ℕ)) (len n : ℕ) (header : List ℕ) (stop : Stop) → HoldsLength held len → length header ≡ 2880 →
-    IfSome held (λ g. header_blocks_of g ≡ Ok n) → IfAnswered {X = Header} (Err stop) (Reads held 0 header) → IsDefined (header_of len header) (Err stop) →
-    TellsFirstFault {X = Unit {0}} held (Err stop)
-header_stopped None len n header (Refused x) told whole blocks read is = tt
-header_stopped (Some g) len n header (Refused x) told whole blocks read is =
-    let front : header ≡ take 2880 g = front_read g header whole read in
-    header_fault g n x blocks (rw (told, ← front) is)
-header_stopped held len n header ReadFault told whole blocks read is = tt
-header_stopped held len n header WriteFault told whole blocks read is = tt
-header_stopped held len n header (OverLimit live asked limit) told whole blocks read is = tt
-header_stopped held len n header NoMemory told whole blocks read is = tt
+rest_by_read : (g header : List ℕ) (len c m : ℕ) (h : Header) (r : Result (Unit {0}) Fault) → length g ≡ len → length header ≡ 2880 → header ≡ take (length header) (drop 0 g) →
+    small_axes_of header ≡ Some (c, m) → h ≡ small_header c m → rest_of len g header h ≡ r →
+    (small_axes_of (take 2880 g) ≡ Some (c, m)) × (rest_of (length g) g (take 2880 g) (small_header c m) ≡ r)
+rest_by_read g header len c m h r told block read axes facts e =
+    let front : header ≡ take 2880 g = front_read g header block read in
+    (sym (ap small_axes_of front) ∙ axes, (λ i. rest_of (told i) g (sym front i) (sym facts i)) ∙ e)
 
 -- `check_rest` stopped
-pub rest_stopped : (held : Option (List ℕ)) (len n : ℕ) (header : List ℕ) (h : Header) (stop : Stop) → HoldsLength held len → length header ≡ 2880 →
-    IfSome held (λ g. header_blocks_of g ≡ Ok n) → Reads held 0 header → header_of len header ≡ Ok h →
-    IfSome held (λ g. IsDefined (rest_of len g header h) (Err stop)) → TellsFirstFault {X = Unit {0}} held (Err stop)
-rest_stopped None len n header h (Refused x) told whole blocks read is rest = tt
-rest_stopped (Some g) len n header h (Refused x) told whole blocks read is rest =
-    let front : header ≡ take 2880 g = front_read g header whole read in
-    (rest_answers g n h (Err x) blocks (rw (told, ← front) is) (rw (told, ← front) rest)).1 x refl
-rest_stopped held len n header h ReadFault told whole blocks read is rest = tt
-rest_stopped held len n header h WriteFault told whole blocks read is rest = tt
-rest_stopped held len n header h (OverLimit live asked limit) told whole blocks read is rest = tt
-rest_stopped held len n header h NoMemory told whole blocks read is rest = tt
+pub rest_stopped : (held : Option (List ℕ)) (len c m : ℕ) (header : List ℕ) (h : Header) (stop : Stop) → HoldsLength held len → IfSome held (HeadersPass (length header)) →
+    Reads held 0 header → length header ≡ 2880 → small_axes_of header ≡ Some (c, m) → h ≡ small_header c m →
+    IfSome held (λ g. IsDefined (rest_of len g header h) (Err stop)) → TellsFirstFault {X = Header} held (Err stop)
+rest_stopped None len c m header h (Refused x) told pass read block axes facts rest = tt
+rest_stopped (Some g) len c m header h (Refused x) told pass read block axes facts rest =
+    let here = rest_by_read g header len c m h (Err x) told block read axes facts rest in
+    (rest_answers g c m (Err x) pass.all here.0 here.1).1 x refl
+rest_stopped held len c m header h ReadFault told pass read block axes facts rest = tt
+rest_stopped held len c m header h WriteFault told pass read block axes facts rest = tt
+rest_stopped held len c m header h (OverLimit live asked limit) told pass read block axes facts rest = tt
+rest_stopped held len c m header h NoMemory told pass read block axes facts rest = tt
 
 -- all checks passed
-pub all_passed : (held : Option (List ℕ)) (len n : ℕ) (header : List ℕ) (h : Header) → HoldsLength held len → length header ≡ 2880 →
-    IfSome held (λ g. header_blocks_of g ≡ Ok n) → Reads held 0 header → header_of len header ≡ Ok h →
+pub all_passed : (held : Option (List ℕ)) (len c m : ℕ) (header : List ℕ) (h : Header) → HoldsLength held len → IfSome held (HeadersPass (length header)) →
+    Reads held 0 header → length header ≡ 2880 → small_axes_of header ≡ Some (c, m) → h ≡ small_header c m →
     IfSome held (λ g. rest_of len g header h ≡ Ok (tt {0})) → IfSome held (λ g. first_fault g ≡ None)
-all_passed None len n header h told whole blocks read is rest = tt
-all_passed (Some g) len n header h told whole blocks read is rest =
-    let front : header ≡ take 2880 g = front_read g header whole read in
-    (rest_answers g n h (Ok (tt {0})) blocks (rw (told, ← front) is) (rw (told, ← front) rest)).0 refl
+all_passed None len c m header h told pass read block axes facts rest = tt
+all_passed (Some g) len c m header h told pass read block axes facts rest =
+    let here = rest_by_read g header len c m h (Ok (tt {0})) told block read axes facts rest in
+    (rest_answers g c m (Ok (tt {0})) pass.all here.0 here.1).0 refl
+
+-- END of a header that was read
+some_index : (o : Option ℕ) → is_some o ≡ true → o ≡ Some (unwrap_or o 0)
+some_index None e = cc
+some_index (Some i) e = refl
+
+pub end_known : (header : List ℕ) (h : Header) → IsHeaderOf header h → end_of header ≡ Some h.cards
+end_known header h is = some_index (end_of header) is.whole.has ∙ ap (λ (k : Header). Some k.cards) (sym is.facts)
+
+-- a second call that only reads stopped, after one that failed no read
+pub reads_after : {X : Type 0} (f0 f1 f2 w0 w1 w2 : ℕ) (r : Result X Stop) (stop : Stop) → r ≡ Err stop → f1 ≡ f0 → w1 ≡ w0 → f1 ≤ f2 → w1 ≤ w2 →
+    StoppedReading f1 f2 w1 w2 stop → ReadsOnly f0 f2 w0 w2 r
+reads_after {X} f0 f1 f2 w0 w1 w2 r stop is same_f same_w more_f more_w why =
+    let here : StoppedReading f0 f2 w0 w2 stop = subst (λ n. StoppedReading n f2 w0 w2 stop) same_f (subst (λ n. StoppedReading f1 f2 n w2 stop) same_w why) in
+    let only : ReadsOnly {X = X} f0 f2 w0 w2 (Err stop) = record {
+      faults_kept = omega (arith, same_f, more_f);
+      wants_kept = omega (arith, same_w, more_w);
+      ok = tt;
+      stop = here;
+    } in
+    subst (λ (k : Result X Stop). ReadsOnly f0 f2 w0 w2 k) (sym is) only
 
 -- a buffer that was not given is no refusal
 pub short_stopped : (held : Option (List ℕ)) (short : Short) → TellsFirstFault {X = Unit {0}} held (Err (stop_of_short short))

@@ -7,7 +7,7 @@ use Rattle.std.proofs.lemmas.Fmt.{decimal_digit}
 use Rattle.fz_card.specs.Layout.{card_name, padded}
 use Rattle.fz_card.specs.Made.{numbered_name}
 use Rattle.fz_block.specs.Cards.{card_at, is_named, is_numbered}
-use Rattle.fz_block.specs.FirstPath.{has_small_names}
+use Rattle.fz_pack.specs.SmallImage.{has_small_names}
 use Rattle.fz_packed.specs.Names.{packed_card, renamed_by, renamings}
 use Rattle.fz_pack.specs.CardBytes.{with_z}
 use Rattle.fz_pack.specs.SmallPlan.{small_cards}

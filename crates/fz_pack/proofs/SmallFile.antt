@@ -1,23 +1,17 @@
 -- A file that is one small image: its plan, its cards and its one HDU, by the facts of its header.
-use Rattle.std.proofs.Common.{◌≡◌, ℕ, ◌+◌, ◌*◌, ◌/◌, ◌≤◌, min, ℤ, pos, negsuc, Bool, true, false, ◌&&◌, ◌==◌, nat_lt, nat_le, List, [], ◌∷◌, ◌++◌, length, take, drop, map, Option, Some, None, is_none, is_some, not, unwrap_or, Result, Ok, Err, refl, sym, subst, ◌∙◌, ap, arith, rules, if◌then◌else◌}
+use Rattle.std.proofs.Common.{◌≡◌, ℕ, ◌+◌, ◌*◌, ◌/◌, ◌≤◌, min, ℤ, pos, negsuc, Bool, true, false, ◌&&◌, ◌==◌, nat_lt, nat_le, List, [], ◌∷◌, ◌++◌, length, take, drop, map, Option, Some, None, is_some, unwrap_or, refl, sym, subst, ◌∙◌, ap, arith, rules, if◌then◌else◌}
 use Rattle.std.specs.List.{range_with_len}
 use Rattle.std.proofs.lemmas.Bool.Decides.{nat_tests, Decides-int_eq}
 use Rattle.std.proofs.lemmas.List.{append-nil, take-append-drop, length-take-le, length-drop}
-use Rattle.fz_base.specs.Refusal.{refusal, first_refusal}
-use Rattle.fz_base.specs.declared.fault.Fault.{Fault}
-use Rattle.fz_base.specs.declared.fault.Place.TheVariants.{Byte, Card}
-use Rattle.fz_base.specs.declared.kind.Kind.TheVariants.{NotFits, Truncated, BadCard, Unbuilt}
 use Rattle.fz_card.specs.Reading.{integer_of}
 use Rattle.fz_block.specs.Cards.{card_at, end_of, end_among}
-use Rattle.fz_block.specs.Header.{whole_blocks_of, next_start_of}
+use Rattle.fz_block.specs.Header.{whole_blocks_of}
 use Rattle.fz_block.specs.Hdus.{IsHeader, AreHdusOf, size_in, size_at, axes_of, places, cards_of, data_len_of}
-use Rattle.fz_block.specs.FirstPath.{is_simple, says, has_small_names, has_small_cards, axis_in, small_data_len, small_size, small_axes_of, small_header, small_end, sized_header, header_of}
-use Rattle.fz_block.specs.declared.header.Header.{Header}
+use Rattle.fz_pack.specs.SmallImage.{says, has_small_names, has_small_cards, axis_in, small_data_len, small_size, small_axes_of, small_end}
 use Rattle.fz_packed.specs.Plan.{plan_of, plain_len, cut_tile, asked_tile}
 use Rattle.fz_packed.specs.declared.options.PackOptions.{PackOptions}
 use Rattle.fz_packed.specs.declared.options.CodecWord.TheVariants.{None as NoCodec}
 use Rattle.fz_pack.specs.SmallPlan.{small_plan, small_cards}
-use Rattle.fz_pack.specs.FirstFault.{image_end, is_filled, has_blank_fill, is_closed, first_fault}
 
 -- what the cards of a small image of so many columns and rows say
 pub record IsSmall (header : List ℕ) (c r : ℕ) : Type 0 where
@@ -33,19 +27,6 @@ pub record IsSmall (header : List ℕ) (c r : ℕ) : Type 0 where
   pub some_rows : 1 ≤ r
   pub most_rows : r ≤ 2147483647
   pub most_bytes : small_data_len c r ≤ 2147483647
-
--- a header that is taken, its columns and rows, and what follows from them
-pub record Taken (n : ℕ) (header : List ℕ) (h : Header) : Type 0 where
-  pub columns : ℕ
-  pub rows : ℕ
-  pub facts : h ≡ small_header columns rows
-  pub fits : small_end columns rows ≤ n
-  pub small : IsSmall header columns rows
-
--- a test that did not refuse
-not_refused : (a : Bool) (x : Fault) (k : Result Header Fault) (h : Header) → (if a then Err x else k) ≡ Ok h → (a ≡ false) × (k ≡ Ok h)
-not_refused true x k h e = cc
-not_refused false x k h e = (refl, e)
 
 passed : {X : Type 0} (a : Bool) (o : Option X) (x : X) → (if a then o else None) ≡ Some x → (a ≡ true) × (o ≡ Some x)
 passed true o x e = (refl, e)
@@ -94,15 +75,6 @@ lengths_said (Some a) (Some b) c r e =
     let below : small_data_len a b ≤ 2147483647 = le_said (small_data_len a b) 2147483647 p.0 in
     (ap (λ q. Some q.0) pair, ap (λ q. Some q.1) pair, subst (λ (q : ℕ × ℕ). small_data_len q.0 q.1 ≤ 2147483647) pair below)
 
--- the columns and rows that the facts of a header tell
-sized : (n : ℕ) (axes : Option (ℕ × ℕ)) (h : Header) → sized_header n axes ≡ Ok h → (c : ℕ) × (r : ℕ) × (axes ≡ Some (c, r)) × (h ≡ small_header c r) × (small_end c r ≤ n)
-sized n None h e = cc
-sized n (Some (c, r)) h e =
-    let p = not_refused (nat_lt n (small_end c r)) (refusal 0 (Byte n) Truncated) (Ok (small_header c r)) h e in
-    let test : nat_lt n (small_end c r) ≡ false = p.0 in
-    let facts : h ≡ small_header c r = cc (p.1) in
-    (c, r, refl, facts, grind (arith, nat_tests))
-
 -- what the cards say where the lengths of the axes are known
 pub small_of : (header : List ℕ) (c r : ℕ) → small_axes_of header ≡ Some (c, r) → IsSmall header c r
 small_of header c r e =
@@ -127,13 +99,6 @@ small_of header c r e =
       most_rows = down.2;
       most_bytes = sizes.2;
     }
-
--- a header that is taken is one of a small image
-pub taken : (n : ℕ) (header : List ℕ) (h : Header) → header_of n header ≡ Ok h → Taken n header h
-taken n header h e =
-    let p = not_refused (is_none (end_of header)) (refusal 0 (Card 0) BadCard) (sized_header n (small_axes_of header)) h e in
-    let s = sized n (small_axes_of header) h p.1 in
-    record { columns = s.0; rows = s.1; facts = s.3; fits = s.4; small = small_of header s.0 s.1 s.2 }
 
 -- the lengths of the axes
 pub small_axes : (header : List ℕ) (c r : ℕ) → IsSmall header c r → axes_of header ≡ c ∷ r ∷ []
@@ -199,79 +164,3 @@ alone_small file c r whole small is =
       parts = append-nil (take 2880 file ++ drop 2880 file) ∙ take-append-drop 2880 file;
       each = (record { header = block_is_header (take 2880 file) block small.ends; payload = payload }, tt);
     }
-
--- the same from the facts that a file's header tells
-pub alone_taken : (file : List ℕ) (h : Header) → 2880 ≤ length file → (t : Taken (length file) (take 2880 file) h) → next_start_of h ≡ length file →
-    AreHdusOf file (record { header = take 2880 file; payload = drop 2880 file } ∷ [])
-alone_taken file h whole t ends =
-    let is : length file ≡ small_end t.columns t.rows = sym ends ∙ ap next_start_of t.facts in
-    alone_small file t.columns t.rows whole t.small is
-
--- a file without a fault: its columns and rows, and what follows from them
-pub record IsSmallFile (file : List ℕ) : Type 0 where
-  pub columns : ℕ
-  pub rows : ℕ
-  pub whole : 2880 ≤ length file
-  pub simple : is_simple (take 2880 file) ≡ true
-  pub small : IsSmall (take 2880 file) columns rows
-  pub ends : length file ≡ small_end columns rows
-  pub blank : has_blank_fill (take 2880 file) ≡ true
-  pub zeros : is_filled 0 (drop (2880 + small_data_len columns rows) file) ≡ true
-
--- six checks that passed
-six_passed : (a b c d e f : Bool) (x y z u v w : Fault) → first_refusal ((a, x) ∷ (b, y) ∷ (c, z) ∷ (d, u) ∷ (e, v) ∷ (f, w) ∷ []) ≡ None →
-    (a ≡ false) × (b ≡ false) × (d ≡ false) × (e ≡ false) × (f ≡ false)
-six_passed true b c d e f x y z u v w h = cc
-six_passed false true c d e f x y z u v w h = cc
-six_passed false false true d e f x y z u v w h = cc
-six_passed false false false true e f x y z u v w h = cc
-six_passed false false false false true f x y z u v w h = cc
-six_passed false false false false false true x y z u v w h = cc
-six_passed false false false false false false x y z u v w h = (refl, refl, refl, refl, refl)
-
-some_of : {X : Type 0} (o : Option X) → is_none o ≡ false → (x : X) × (o ≡ Some x)
-some_of None h = cc
-some_of (Some x) h = (x, refl)
-
-not_false : (a : Bool) → not a ≡ false → a ≡ true
-not_false true h = refl
-not_false false h = cc
-
-le_not_below : (a b : ℕ) → nat_lt a b ≡ false → b ≤ a
-le_not_below a b h = grind (arith, nat_tests)
-
-same_number : (a b : ℕ) → (a == b) ≡ true → a ≡ b
-same_number a b h = grind (arith, nat_tests)
-
--- what holds of a file that is closed, by its columns and rows
-closed_facts : (file : List ℕ) (c r : ℕ) → is_closed file (take 2880 file) (Some (c, r)) ≡ true →
-    (length file ≡ small_end c r) × (has_blank_fill (take 2880 file) ≡ true) × (is_filled 0 (drop (2880 + small_data_len c r) file) ≡ true)
-closed_facts file c r e =
-    let first = both_true (small_end c r == length file) (has_blank_fill (take 2880 file) && is_filled 0 (drop (2880 + small_data_len c r) file)) e in
-    let second = both_true (has_blank_fill (take 2880 file)) (is_filled 0 (drop (2880 + small_data_len c r) file)) first.1 in
-    (sym (same_number (small_end c r) (length file) first.0), second.0, second.1)
-
-pub without_fault : (file : List ℕ) → first_fault file ≡ None → IsSmallFile file
-unfolding first_fault
-without_fault file e =
-    let axes : Option (ℕ × ℕ) = small_axes_of (take 2880 file) in
-    let p = six_passed (nat_lt (length file) 2880) (not (is_simple (take 2880 file))) (is_none (end_of (take 2880 file))) (is_none axes)
-    (nat_lt (length file) (image_end axes)) (not (is_closed file (take 2880 file) axes)) (refusal 0 (Byte (length file)) Truncated) (refusal 0 (Card 0) NotFits)
-    (refusal 0 (Byte 0) Unbuilt) (refusal 0 (Byte 0) Unbuilt) (refusal 0 (Byte (length file)) Truncated) (refusal 0 (Byte 0) Unbuilt) e in
-    let size = some_of axes p.2 in
-    let here : is_closed file (take 2880 file) (Some size.0) ≡ true = ap (is_closed file (take 2880 file)) (sym size.1) ∙ not_false (is_closed file (take 2880 file) axes) p.4 in
-    let closed = closed_facts file size.0.0 size.0.1 here in
-    record {
-      columns = size.0.0;
-      rows = size.0.1;
-      whole = le_not_below (length file) 2880 p.0;
-      simple = not_false (is_simple (take 2880 file)) p.1;
-      small = small_of (take 2880 file) size.0.0 size.0.1 size.1;
-      ends = closed.0;
-      blank = closed.1;
-      zeros = closed.2;
-    }
-
--- a file without a fault is one HDU
-pub alone_without_fault : (file : List ℕ) → first_fault file ≡ None → AreHdusOf file (record { header = take 2880 file; payload = drop 2880 file } ∷ [])
-alone_without_fault file e = let s = without_fault file e in alone_small file s.columns s.rows s.whole s.small s.ends

@@ -13,7 +13,7 @@ use Rattle.fz_packed.specs.PackedHeader.{packed_header, empty_primary}
 use Rattle.fz_packed.specs.PackedFile.{IsPackedFile, array_of, stored_code, tile_codes, totals_of, zero_filled, packed_table, packed_primary}
 use Rattle.fz_packed.specs.declared.options.PackOptions.{PackOptions}
 use Rattle.fz_block.specs.declared.header.Header.{Header}
-use Rattle.fz_block.specs.FirstPath.{small_data_len, small_end, small_header}
+use Rattle.fz_pack.specs.SmallImage.{small_data_len, small_end, small_header}
 use Rattle.fz_pack.specs.Layout.{layout_of}
 use Rattle.fz_pack.specs.Options.{IsFirstPath}
 use Rattle.fz_pack.specs.SmallPlan.{small_plan, small_totals, small_cards, small_packed_header}
@@ -21,7 +21,7 @@ use Rattle.fz_pack.specs.Written.{tile_bytes, stored_row, row_codes}
 use Rattle.fz_pack.proofs.Stages.{length-tile_bytes}
 use Rattle.fz_pack.specs.declared.layout.Layout.{Layout}
 use Rattle.fz_pack.proofs.RowTiles.{row_tile}
-use Rattle.fz_pack.proofs.SmallImage.{tile_count_small}
+use Rattle.fz_pack.proofs.SmallGrid.{tile_count_small}
 use Rattle.fz_pack.proofs.SmallFile.{IsSmall, plan_small, cards_small, alone_small}
 use Rattle.fz_pack.proofs.Totals.{totals_small}
 

@@ -1,16 +1,17 @@
--- The checks of `pack` that are made for now, each a condition on the bytes of the file, in their order.
-use Rattle.std.specs.Prelude.{ℕ, ◌≡◌, ◌==◌, ◌&&◌, not, nat_lt, ◌+◌, Bool, List, [], ◌∷◌, length, take, drop, Option, Some, None, is_none, IfSome, Result, Ok, Err, ⊤, if◌then◌else◌}
+-- The checks of `pack` that are made for now, each a condition on the bytes of the file, in their order: first those that every
+-- job makes of every HDU, and then whether the file is one that is packed for now.
+use Rattle.std.specs.Prelude.{ℕ, ◌≡◌, ◌==◌, ◌&&◌, not, ◌+◌, Bool, List, [], ◌∷◌, length, take, drop, Option, Some, None, is_some, IfSome, Result, Ok, Err, ⊤, if◌then◌else◌}
 use Rattle.std.specs.List.{list_all}
 use Rattle.fz_base.specs.Refusal.{refusal, first_refusal}
 use Rattle.fz_base.specs.declared.fault.Fault.{Fault}
-use Rattle.fz_base.specs.declared.fault.Place.TheVariants.{Byte, Card}
-use Rattle.fz_base.specs.declared.kind.Kind.TheVariants.{NotFits, Truncated, Unbuilt}
+use Rattle.fz_base.specs.declared.fault.Place.TheVariants.{Byte}
+use Rattle.fz_base.specs.declared.kind.Kind.TheVariants.{Unbuilt}
 use Rattle.fz_base.specs.declared.failure.Stop.{Stop}
 use Rattle.fz_base.specs.declared.failure.Stop.TheVariants.{Refused, ReadFault, WriteFault, OverLimit, NoMemory}
 use Rattle.fz_block.specs.declared.header.Header.{Header}
 use Rattle.fz_block.specs.Header.{data_start_of, next_start_of}
-use Rattle.fz_block.specs.Cards.{end_of}
-use Rattle.fz_block.specs.FirstPath.{is_simple, small_axes_of, small_data_len, small_end}
+use Rattle.fz_block.specs.Checks.{headers_of}
+use Rattle.fz_pack.specs.SmallImage.{small_axes_of, small_data_len, small_end}
 
 -- the byte after the data, and the byte after their fill, of the small image that the header describes
 abbrev pub data_end : Option (ℕ × ℕ) → ℕ
@@ -41,20 +42,22 @@ rest_of length file header h =
     else if not (is_filled 0 (drop (data_start_of h + h.data_len) file)) then Err (refusal 0 (Byte 0) Unbuilt)
     else Ok tt
 
--- the checks of a file whose first block is this header
-abbrev pub checks_of : List ℕ → List ℕ → List (Bool × Fault)
-checks_of file header =
-    (nat_lt (length file) 2880, refusal 0 (Byte (length file)) Truncated)
-    ∷ (not (is_simple header), refusal 0 (Card 0) NotFits)
-    ∷ (is_none (end_of header), refusal 0 (Byte 0) Unbuilt)
-    ∷ (is_none (small_axes_of header), refusal 0 (Byte 0) Unbuilt)
-    ∷ (nat_lt (length file) (image_end (small_axes_of header)), refusal 0 (Byte (length file)) Truncated)
-    ∷ (not (is_closed file header (small_axes_of header)), refusal 0 (Byte 0) Unbuilt)
-    ∷ []
+-- the file whose first block is this header is one small image and nothing else
+abbrev pub is_built : List ℕ → List ℕ → Bool
+is_built file header = is_some (small_axes_of header) && is_closed file header (small_axes_of header)
 
--- the first fault of the file, or none
+-- the last check
+abbrev pub built_checks : List ℕ → List (Bool × Fault)
+built_checks file = (not (is_built file (take 2880 file)), refusal 0 (Byte 0) Unbuilt) ∷ []
+
+-- the fault of the headers, or else of the checks that follow
+abbrev pub or_else : Result (List Header) Fault → Option Fault → Option Fault
+or_else (Err fault) later = Some fault
+or_else (Ok headers) later = later
+
+-- The first fault of the file, or none. A file to be packed has at most 65,535 HDUs.
 unfoldable pub first_fault : List ℕ → Option Fault
-first_fault file = first_refusal (checks_of file (take 2880 file))
+first_fault file = or_else (headers_of 65535 file) (first_refusal (built_checks file))
 
 -- Where the bytes are told, a file that was packed has no fault, and one that was refused was refused for its first.
 abbrev pub TellsFirstFault : {X : Type 0} → Option (List ℕ) → Result X Stop → Type 0

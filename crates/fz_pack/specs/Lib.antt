@@ -1,10 +1,15 @@
 pub mod CardBytes
 pub mod Complete
+pub mod FirstByte
 pub mod FirstFault
+pub mod FirstTaking
+pub mod Headers
 pub mod Layout
 pub mod Options
+pub mod Looking
 pub mod Order
 pub mod Output
+pub mod SmallImage
 pub mod SmallPlan
 pub mod Takings
 pub mod Workspace

@@ -1,5 +1,5 @@
--- The buffers that `pack` takes from its meter, in order: one block, the header, the translated header, and the numbers
--- and the bytes of one tile.
+-- The buffers that `pack` takes from its meter: one block, a header of at most 256 blocks, the translated header of one block,
+-- and the numbers and the bytes of one tile.
 use Rattle.std.specs.Prelude.{ℕ, ◌≡◌, ◌+◌, ◌*◌, ◌<◌, ◌≤◌, ◌⊎◌, Result, Ok, Err, ⊤}
 use Rattle.fz_base.specs.declared.failure.Short.{Short}
 use Rattle.fz_base.specs.declared.failure.Short.TheVariants.{NoMemory as NoRoom, OverLimit as PastLimit}
@@ -13,7 +13,7 @@ IsTileTaking pixels live asked = ((live ≡ 11520) × (asked ≡ 4 * pixels)) �
 -- a taking of `pack`: what is live before it, and what is asked
 abbrev pub IsTaking : ℕ → ℕ → Type 0
 IsTaking live asked =
-    ((live ≡ 0) × (asked ≡ 2880)) ⊎ (((live ≡ 2880) × (asked ≡ 2880)) ⊎ (((live ≡ 5760) × (asked ≡ 5760))
+    ((live ≡ 0) × (asked ≡ 2880)) ⊎ (((live ≡ 2880) × ((blocks : ℕ) × (0 < blocks) × (blocks ≤ 256) × (asked ≡ 2880 * blocks))) ⊎ (((live ≡ 5760) × (asked ≡ 5760))
     ⊎ ((pixels : ℕ) × (0 < pixels) × (pixels ≤ 67108864) × IsTileTaking pixels live asked)))
 
 -- a buffer that was not given was one of these takings

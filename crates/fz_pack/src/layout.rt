@@ -1,7 +1,7 @@
 //! Where the parts of the packed file stand.
 ghost use Rattle.std.specs.Prelude.{ℕ, ◌≡◌, ◌+◌, ◌*◌, ◌≤◌, ◌<◌};
 ghost use Rattle.fz_block.specs.Header.{next_start_of};
-ghost use Rattle.fz_block.specs.Small.{IsSmallImage};
+ghost use Rattle.fz_pack.specs.SmallImage.{IsSmallImage};
 ghost use Rattle.fz_pack.specs.Layout.{layout_of, Fits};
 
 use fz_block::{BLOCK_LEN, Header, data_start};

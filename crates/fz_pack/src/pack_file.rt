@@ -1,22 +1,27 @@
 //! The job: look first, then write.
-ghost use Rattle.std.specs.Prelude.{ℕ, ◌≡◌, ◌+◌, ◌*◌, ◌≤◌, ◌<◌, ◌^◌, Some, [], length as len, IfSome, IfErr, Ok, OnOk, IsErrOf};
+ghost use Rattle.std.specs.Prelude.{ℕ, ◌≡◌, ◌+◌, ◌*◌, ◌≤◌, ◌<◌, ◌^◌, Some, None, [], take, length as len, IfSome, IfErr, OnOk, OnErr, IsErrOf};
 ghost use Rattle.fz_base.specs.Counts.{Rose};
+ghost use Rattle.fz_base.specs.Source.{Reads};
 ghost use Rattle.fz_base.specs.Stop.{StoppedJob, IsRefused, TellsLimit};
 ghost use Rattle.fz_base.specs.declared.failure.Stop.TheVariants.{ReadFault, WriteFault};
-ghost use Rattle.fz_block.specs.FirstPath.{header_blocks_of};
+ghost use Rattle.fz_pack.specs.FirstByte.{StaysShut, StopsShut, IsShutOrPacked};
 ghost use Rattle.fz_pack.specs.FirstFault.{first_fault, TellsFirstFault};
 ghost use Rattle.fz_pack.specs.Complete.{IsAnswer};
+ghost use Rattle.fz_pack.specs.FirstTaking.{takings_of, later_takings, tile_takings, image_takings, piled, TellsFirstPast};
+ghost use Rattle.fz_pack.specs.Headers.{HeadersPass};
 ghost use Rattle.fz_pack.specs.Options.{IsFirstPath};
 ghost use Rattle.fz_pack.specs.Order.{IfUnmade};
 ghost use Rattle.fz_pack.specs.Output.{HoldsStored, HoldsPacked};
+ghost use Rattle.fz_pack.specs.SmallImage.{IsBuilt, IsSmallImage, columns_of, small_axes_of};
 ghost use Rattle.fz_pack.specs.Takings.{TellsTaking};
 
+use crate::headers::check_headers;
 use crate::layout::Layout;
-use crate::rest::check_rest;
+use crate::small_image::built_header;
 use crate::workspace::Workspace;
 use crate::write::write_packed;
 use fz_base::{Meter, Sink, Source, Stop};
-use fz_block::{BLOCK_LEN, header_blocks, read_header};
+use fz_block::{BLOCK_LEN, Header, header_blocks};
 use fz_packed::PackOptions;
 
 /// Packs the file that is attached to the source into the sink, which it makes by this name.
@@ -41,6 +46,8 @@ pub fn pack<S: Source, K: Sink>(
     ensures limit { meter.new.limit ≡ meter.old.limit }
 
     ensures output { OnOk result (HoldsPacked options.now (S.held source.old) (K.contents sink.new)) }
+    // What was cut short does not begin with the S of a FITS file.
+    ensures first_byte { OnErr result (IsShutOrPacked options.now (S.held source.old) (K.contents sink.new)) }
     ensures first_fault { TellsFirstFault (S.held source.old) result }
     // Where neither count of faults rose and the limit allows 2^30 bytes, the first fault alone decides.
     ensures complete { ¬ Rose (S.faults source.old) (S.faults source.new) → ¬ Rose (K.faults sink.old) (K.faults sink.new) → 2 ^ 30 ≤ meter.old.limit → IfSome (S.held source.old) (λ g. IsAnswer (first_fault g) result) }
@@ -49,6 +56,8 @@ pub fn pack<S: Source, K: Sink>(
     ensures write_fault { IsErrOf result WriteFault → Rose (K.faults sink.old) (K.faults sink.new) }
     ensures over_limit { TellsLimit meter.old.limit (2 ^ 30) result }
     ensures taking { TellsTaking result }
+    // OverLimit comes exactly where a taking passes the limit, and tells the first.
+    ensures first_past { IfSome (S.held source.old) (λ g. TellsFirstPast meter.old.limit (takings_of g) result) }
 
     ensures unmade { IfUnmade result ((K.created sink.new ≡ K.created sink.old) × (K.contents sink.new ≡ K.contents sink.old)) }
     ensures source { (S.held source.new ≡ S.held source.old) × (S.attached source.new ≡ S.attached source.old) }
@@ -74,8 +83,10 @@ fn with_block<S: Source, K: Sink>(
     requires block { len block.old ≡ 2880 }
     requires live { meter.old.live ≡ 2880 }
     ensures output { OnOk result (HoldsStored (S.held source.old) (K.contents sink.new)) }
+    ensures stopped { OnErr result (StopsShut (S.held source.old) (K.contents sink.old) (K.contents sink.new)) }
     ensures first_fault { TellsFirstFault (S.held source.old) result }
     ensures taking { TellsTaking result }
+    ensures first_past { IfSome (S.held source.old) (λ g. TellsFirstPast meter.old.limit (later_takings g) result) }
     ensures unmade { IfUnmade result ((K.created sink.new ≡ K.created sink.old) × (K.contents sink.new ≡ K.contents sink.old)) }
     ensures source { (S.held source.new ≡ S.held source.old) × (S.attached source.new ≡ S.attached source.old) }
     ensures counts_kept { (S.faults source.old ≤ S.faults source.new) × (K.faults sink.old ≤ K.faults sink.new) }
@@ -83,6 +94,7 @@ fn with_block<S: Source, K: Sink>(
     ensures limit { meter.new.limit ≡ meter.old.limit }
     ensures cause { IfErr result (StoppedJob (S.faults source.old) (S.faults source.new) (K.faults sink.old) (K.faults sink.new) meter.old.limit (2 ^ 30)) }
 {
+    check_headers(source, length, meter, block)?;
     let blocks = header_blocks(source, length, 0, 0, block)?;
     let mut buf = meter.bytes(BLOCK_LEN as u64 * u64::from(blocks))?;
     let answer = with_header(source, length, name, sink, meter, block, buf.as_mut_slice());
@@ -90,7 +102,8 @@ fn with_block<S: Source, K: Sink>(
     answer
 }
 
-// Makes the checks of the header and of what stands behind it, and goes on with the other buffers.
+// Reads the header of HDU 0 once more, makes the last checks, and goes on where the file is one that is
+// packed for now.
 fn with_header<S: Source, K: Sink>(
     source: &mut S,
     length: u64,
@@ -102,13 +115,15 @@ fn with_header<S: Source, K: Sink>(
 ) -> Result<(), Stop>
     requires attached { S.attached source.old ≡ Some length }
     requires block { len block.old ≡ 2880 }
-    requires buf { len buf.old ≡ 2880 }
-    requires within { 2880 ≤ length }
-    requires blocks { IfSome (S.held source.old) (λ g. header_blocks_of g ≡ Ok 1) }
-    requires live { meter.old.live ≡ 5760 }
+    requires blocks { (n : ℕ) × (0 < n) × (n ≤ 256) × (len buf.old ≡ 2880 * n) }
+    requires within { len buf.old ≤ length }
+    requires headers { IfSome (S.held source.old) (HeadersPass (len buf.old)) }
+    requires live { meter.old.live ≡ 2880 + len buf.old }
     ensures output { OnOk result (HoldsStored (S.held source.old) (K.contents sink.new)) }
+    ensures stopped { OnErr result (StopsShut (S.held source.old) (K.contents sink.old) (K.contents sink.new)) }
     ensures first_fault { TellsFirstFault (S.held source.old) result }
     ensures taking { TellsTaking result }
+    ensures first_past { IfSome (S.held source.old) (λ g. TellsFirstPast meter.old.limit (piled meter.old.live (tile_takings (first_fault g) (small_axes_of (take 2880 g)))) result) }
     ensures unmade { IfUnmade result ((K.created sink.new ≡ K.created sink.old) × (K.contents sink.new ≡ K.contents sink.old)) }
     ensures source { (S.held source.new ≡ S.held source.old) × (S.attached source.new ≡ S.attached source.old) }
     ensures counts_kept { (S.faults source.old ≤ S.faults source.new) × (K.faults sink.old ≤ K.faults sink.new) }
@@ -116,9 +131,41 @@ fn with_header<S: Source, K: Sink>(
     ensures limit { meter.new.limit ≡ meter.old.limit }
     ensures cause { IfErr result (StoppedJob (S.faults source.old) (S.faults source.new) (K.faults sink.old) (K.faults sink.new) meter.old.limit (2 ^ 30)) }
 {
-    let header = read_header(source, length, 0, 0, buf)?;
-    check_rest(source, length, &header, buf, block)?;
-    let layout = Layout::of(&header);
+    let header = built_header(source, length, buf, block)?;
+    with_image(source, length, name, sink, meter, block, buf, &header)
+}
+
+// Takes the buffers of an image that passed all checks, and packs it.
+fn with_image<S: Source, K: Sink>(
+    source: &mut S,
+    length: u64,
+    name: &str,
+    sink: &mut K,
+    meter: &mut Meter,
+    block: &mut [u8],
+    buf: &[u8],
+    header: &Header,
+) -> Result<(), Stop>
+    requires attached { S.attached source.old ≡ Some length }
+    requires block { len block.old ≡ 2880 }
+    requires read { Reads (S.held source.old) 0 buf.now }
+    requires built { IsBuilt length buf.now header.now }
+    requires small { IsSmallImage header.now }
+    requires passed { IfSome (S.held source.old) (λ g. first_fault g ≡ None) }
+    requires live { meter.old.live ≡ 5760 }
+    ensures output { OnOk result (HoldsStored (S.held source.old) (K.contents sink.new)) }
+    ensures stopped { OnErr result (StopsShut (S.held source.old) (K.contents sink.old) (K.contents sink.new)) }
+    ensures first_fault { TellsFirstFault (S.held source.old) result }
+    ensures taking { TellsTaking result }
+    ensures first_past { TellsFirstPast meter.old.limit (piled meter.old.live (image_takings (columns_of header.now))) result }
+    ensures unmade { IfUnmade result ((K.created sink.new ≡ K.created sink.old) × (K.contents sink.new ≡ K.contents sink.old)) }
+    ensures source { (S.held source.new ≡ S.held source.old) × (S.attached source.new ≡ S.attached source.old) }
+    ensures counts_kept { (S.faults source.old ≤ S.faults source.new) × (K.faults sink.old ≤ K.faults sink.new) }
+    ensures live { meter.new.live ≡ meter.old.live }
+    ensures limit { meter.new.limit ≡ meter.old.limit }
+    ensures cause { IfErr result (StoppedJob (S.faults source.old) (S.faults source.new) (K.faults sink.old) (K.faults sink.new) meter.old.limit (2 ^ 30)) }
+{
+    let layout = Layout::of(header);
     let mut space = Workspace::take(meter, buf.len() as u64, layout.columns)?;
     let answer = write_packed(source, name, sink, buf, &layout, &mut space, block);
     space.give(meter);

@@ -4,7 +4,7 @@ ghost use Rattle.std.specs.Prelude.{◌≡◌, ◌*◌, ◌<◌, ◌≤◌, ◌=
 ghost use Rattle.std.specs.Prelude.{length as len};
 ghost use Rattle.std.specs.List.{list_all};
 ghost use Rattle.fz_card.specs.Made.{IsCardText};
-ghost use Rattle.fz_block.specs.FirstPath.{has_small_names};
+ghost use Rattle.fz_pack.specs.SmallImage.{has_small_names};
 ghost use Rattle.fz_block.specs.Hdus.{header_bytes};
 ghost use Rattle.fz_packed.specs.Names.{packed_card as packed_card_of};
 ghost use Rattle.fz_packed.specs.PackedHeader.{table_cards as table_cards_of, column_cards as column_cards_of};
@@ -58,7 +58,7 @@ pub(crate) fn write_packed_header(buf: &[u8], layout: &Layout, out: &mut [u8]) -
 }
 
 // The cards that every binary table has.
-#[tactic(auto, using(crate::proofs::SmallImage::tile_count_small))]
+#[tactic(auto, using(crate::proofs::SmallGrid::tile_count_small))]
 fn table_cards(layout: &Layout) -> [Card; 8]
     requires some { 0 < layout.now.columns }
     requires heap { layout.now.heap_len ≡ 2 * (layout.now.columns * layout.now.rows) }

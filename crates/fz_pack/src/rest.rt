@@ -1,9 +1,12 @@
 //! The last checks of an image to be packed: nothing stands behind it, and its fill is blank or zero.
-ghost use Rattle.std.specs.Prelude.{◌≡◌, ◌+◌, ◌*◌, ◌-◌, ◌≤◌, ◌<◌, ◌^◌, Some, drop, length as len, IfOk, IfSome};
+ghost use Rattle.std.specs.Prelude.{◌≡◌, ◌+◌, ◌*◌, ◌-◌, ◌≤◌, ◌<◌, ◌^◌, Some, drop, length as len, IfOk, IfSome, OnOk};
 ghost use Rattle.fz_base.specs.Counts.{HasCause};
 ghost use Rattle.fz_base.specs.Stop.{ReadsOnly, IsDefined};
+ghost use Rattle.fz_base.specs.Refusal.{refusal};
+ghost use Rattle.fz_base.specs.declared.fault.Place.TheVariants.{Byte};
+ghost use Rattle.fz_base.specs.declared.kind.Kind.TheVariants.{Unbuilt};
 ghost use Rattle.fz_block.specs.Header.{data_start_of, next_start_of};
-ghost use Rattle.fz_block.specs.Small.{IsSmallImage};
+ghost use Rattle.fz_pack.specs.SmallImage.{IsSmallImage};
 ghost use Rattle.fz_pack.specs.FirstFault.{is_filled, rest_of};
 
 use fz_base::{Failed, Fault, Kind, Place, Source, Stop};
@@ -23,19 +26,15 @@ pub(crate) fn check_rest<S: Source>(
 ) -> Result<(), Stop>
     requires attached { S.attached source.old ≡ Some length }
     requires small { IsSmallImage header.now }
-    requires within { next_start_of header.now ≤ length }
     requires buf { len buf.now ≡ 2880 }
     requires block { len block.old ≡ 2880 }
     ensures exact { IfSome (S.held source.old) (λ g. IsDefined (rest_of length g buf.now header.now) result) }
     ensures held { S.held source.new ≡ S.held source.old }
     ensures attached { S.attached source.new ≡ S.attached source.old }
+    ensures ends { OnOk result (next_start_of header.now ≡ length) }
     ensures cause { ReadsOnly (S.faults source.old) (S.faults source.new) (S.wants source.old) (S.wants source.new) result }
 {
-    let unbuilt = Err(Stop::Refused(Fault {
-        hdu: 0,
-        at: Place::Byte(0),
-        kind: Kind::Unbuilt,
-    }));
+    let unbuilt = Err(Stop::Refused(unbuilt()));
     if next_start(header) != length {
         return unbuilt;
     }
@@ -48,6 +47,17 @@ pub(crate) fn check_rest<S: Source>(
         Ok(true) => Ok(()),
         Ok(false) => unbuilt,
         Err(failed) => Err(Stop::reading(failed)),
+    }
+}
+
+/// The refusal of what is not packed for now.
+pub(crate) fn unbuilt() -> Fault
+    ensures { result ≡ refusal 0 (Byte 0) Unbuilt }
+{
+    Fault {
+        hdu: 0,
+        at: Place::Byte(0),
+        kind: Kind::Unbuilt,
     }
 }
 

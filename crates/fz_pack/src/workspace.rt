@@ -1,5 +1,6 @@
 //! The buffers of an image that is packed.
-ghost use Rattle.std.specs.Prelude.{◌≡◌, ◌+◌, ◌*◌, ◌≤◌, ◌<◌, ◌^◌, max, length as len, IfOk, IfErr, OnErr};
+ghost use Rattle.std.specs.Prelude.{◌≡◌, ◌+◌, ◌*◌, ◌≤◌, ◌<◌, ◌^◌, max, [], ◌∷◌, length as len, IfOk, IfErr, OnErr};
+ghost use Rattle.fz_pack.specs.FirstTaking.{image_takings, piled, TellsShort};
 ghost use Rattle.fz_pack.specs.Takings.{IsShortTaking};
 ghost use Rattle.fz_pack.specs.Workspace.{size_of, ShortFor};
 
@@ -24,6 +25,7 @@ impl Workspace {
         ensures limit { meter.new.limit ≡ meter.old.limit }
         ensures refused { IfErr result (ShortFor meter.old (header_len + 12 * pixels + 2944)) }
         ensures taking { IfErr result IsShortTaking }
+        ensures first_past { TellsShort meter.old.limit (piled meter.old.live (image_takings pixels)) result }
         ensures same { OnErr result (meter.new.live ≡ meter.old.live) }
     {
         let translated = meter.bytes(header_len + 2880)?;
@@ -66,6 +68,7 @@ fn take_tile(meter: &mut Meter, pixels: u32) -> Result<(Numbers, Bytes), Short>
     ensures limit { meter.new.limit ≡ meter.old.limit }
     ensures refused { IfErr result (ShortFor meter.old (12 * pixels + 64)) }
     ensures taking { IfErr result IsShortTaking }
+    ensures first_past { TellsShort meter.old.limit (piled meter.old.live (4 * pixels ∷ (8 * pixels + 64) ∷ [])) result }
     ensures same { OnErr result (meter.new.live ≡ meter.old.live) }
 {
     let numbers = meter.numbers(u64::from(pixels))?;

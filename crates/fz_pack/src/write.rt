@@ -1,12 +1,13 @@
 //! The packed file, written to the sink: byte 0 comes last.
-ghost use Rattle.std.specs.Prelude.{ℕ, ◌≡◌, ◌+◌, ◌*◌, ◌≤◌, ◌<◌, IsTrue, Some, IfSome, take, drop, length as len, OnOk, IfErr};
+ghost use Rattle.std.specs.Prelude.{ℕ, ◌≡◌, ◌+◌, ◌*◌, ◌≤◌, ◌<◌, ◌^◌, ◌⊎◌, IsTrue, Some, IfSome, take, drop, length as len, OnOk, OnErr, IfErr};
 ghost use Rattle.fz_base.specs.Stop.{ReadsAndWrites, ReadsOnly, Writes};
 ghost use Rattle.fz_tile.specs.Plain.{plain_bytes, stored_pixels};
 ghost use Rattle.fz_pack.specs.Written.{headers_written, tiles_written, tile_written, filled_to_blocks, closed, packed_bytes, stored_row, IsReadStop};
 ghost use Rattle.fz_pack.specs.Workspace.{HasSpace, SameSpace};
+ghost use Rattle.fz_pack.specs.FirstByte.{IsShut, StaysShut};
 ghost use Rattle.fz_pack.specs.Layout.{Fits, CanRead};
 ghost use Rattle.fz_pack.specs.SmallPlan.{small_packed_header};
-ghost use Rattle.fz_block.specs.FirstPath.{has_small_names};
+ghost use Rattle.fz_pack.specs.SmallImage.{has_small_names};
 ghost use Rattle.fz_block.specs.Hdus.{header_bytes};
 ghost use Rattle.fz_packed.specs.PackedHeader.{empty_primary};
 
@@ -15,6 +16,7 @@ use crate::packed_header::{write_empty_primary, write_packed_header};
 use crate::workspace::Workspace;
 use fz_base::{Sink, Source, Stop};
 use fz_block::BLOCK_LEN;
+use fz_table::{Descriptor, write_row};
 use fz_tile::{read_pixels, write_pixels};
 
 /// Creates the sink and writes the packed file. Nothing is refused any more.
@@ -33,6 +35,7 @@ pub(crate) fn write_packed<S: Source, K: Sink>(
     requires block { len block.old ≡ 2880 }
     requires space { HasSpace space.old layout.now.columns }
     ensures output { OnOk result (IfSome (S.held source.old) (λ g. IfSome (K.contents sink.new) (λ bytes. bytes ≡ packed_bytes g buf.now layout.now))) }
+    ensures stopped { OnErr result (StaysShut (K.contents sink.old) (K.contents sink.new) ⊎ IfSome (S.held source.old) (λ g. IfSome (K.contents sink.new) (λ bytes. bytes ≡ packed_bytes g buf.now layout.now))) }
     ensures held { S.held source.new ≡ S.held source.old }
     ensures attached { S.attached source.new ≡ S.attached source.old }
     ensures space { SameSpace space.old space.new }
@@ -63,6 +66,7 @@ fn write_headers<K: Sink>(
     requires block { len block.old ≡ 2880 }
     ensures sizes { OnOk result ((len empty_primary ≡ 2880) × (len (header_bytes (small_packed_header buf.now layout.now.columns layout.now.rows)) ≡ 2880)) }
     ensures headers { OnOk result (K.contents sink.new ≡ headers_written (small_packed_header buf.now layout.now.columns layout.now.rows) (K.contents sink.old)) }
+    ensures shut { StaysShut (K.contents sink.old) (K.contents sink.new) }
     ensures created { K.created sink.new ≡ K.created sink.old }
     ensures cause { Writes (K.faults sink.old) (K.faults sink.new) result }
 {
@@ -79,6 +83,7 @@ fn write_last<K: Sink>(sink: &mut K, layout: &Layout, block: &mut [u8]) -> Resul
     requires layout { (layout.now.rows_at ≡ 5760) × (layout.now.heap_len ≤ 2147483647) }
     requires block { len block.old ≡ 2880 }
     ensures closed { OnOk result (K.contents sink.new ≡ closed layout.now (K.contents sink.old)) }
+    ensures stopped { OnErr result (StaysShut (K.contents sink.old) (K.contents sink.new) ⊎ (K.contents sink.new ≡ closed layout.now (K.contents sink.old))) }
     ensures created { K.created sink.new ≡ K.created sink.old }
     ensures cause { Writes (K.faults sink.old) (K.faults sink.new) result }
 {
@@ -93,6 +98,7 @@ fn write_fill<K: Sink>(sink: &mut K, layout: &Layout, block: &mut [u8]) -> Resul
     requires layout { (layout.now.rows_at ≡ 5760) × (layout.now.heap_len ≤ 2147483647) }
     requires block { len block.old ≡ 2880 }
     ensures filled { OnOk result (K.contents sink.new ≡ filled_to_blocks layout.now (K.contents sink.old)) }
+    ensures shut { StaysShut (K.contents sink.old) (K.contents sink.new) }
     ensures created { K.created sink.new ≡ K.created sink.old }
     ensures cause { Writes (K.faults sink.old) (K.faults sink.new) result }
 {
@@ -118,6 +124,7 @@ fn write_tiles<S: Source, K: Sink>(
     requires numbers { len numbers.old ≡ layout.now.columns }
     requires code { 2 * layout.now.columns ≤ len code.old }
     ensures tiles { OnOk result (IfSome (S.held source.old) (λ g. K.contents sink.new ≡ tiles_written g layout.now layout.now.rows (K.contents sink.old))) }
+    ensures shut { StaysShut (K.contents sink.old) (K.contents sink.new) }
     ensures held { S.held source.new ≡ S.held source.old }
     ensures attached { S.attached source.new ≡ S.attached source.old }
     ensures created { K.created sink.new ≡ K.created sink.old }
@@ -145,6 +152,7 @@ fn write_tile<S: Source, K: Sink>(
     requires code { len code.old ≡ 2 * layout.now.columns }
     requires tile { tile < layout.now.rows }
     ensures tile { OnOk result (IfSome (S.held source.old) (λ g. K.contents sink.new ≡ tile_written g layout.now tile (K.contents sink.old))) }
+    ensures shut { StaysShut (K.contents sink.old) (K.contents sink.new) }
     ensures held { S.held source.new ≡ S.held source.old }
     ensures attached { S.attached source.new ≡ S.attached source.old }
     ensures created { K.created sink.new ≡ K.created sink.old }
@@ -183,10 +191,19 @@ fn read_tile<S: Source>(
 }
 
 // The row of a stored tile: no coded elements, then how many are stored, and where.
-fn row_of(count: u32, offset: u32) -> [u8; 16]
+fn row_of(count: u32, offset: u32) -> [u8; ROW_LEN as usize]
+    requires { (count < 2 ^ 31) × (offset < 2 ^ 31) }
     ensures { result ≡ stored_row count offset }
 {
-    let [c0, c1, c2, c3] = count.to_be_bytes();
-    let [o0, o1, o2, o3] = offset.to_be_bytes();
-    [0, 0, 0, 0, 0, 0, 0, 0, c0, c1, c2, c3, o0, o1, o2, o3]
+    let mut row = [0; ROW_LEN as usize];
+    let coded = Descriptor {
+        count: 0,
+        offset: 0,
+    };
+    let stored = Descriptor {
+        count: u64::from(count),
+        offset: u64::from(offset),
+    };
+    write_row(&mut row, false, &coded, &stored);
+    row
 }

@@ -1,0 +1,12 @@
+pub mod PixelLemmas
+pub mod PlainLemmas
+pub mod BytesLemmas
+pub mod RecordLemmas
+pub mod FaultLemmas
+pub mod RangeLemmas
+pub mod CodeLemmas
+pub mod WordLemmas
+pub mod PlaceLemmas
+pub mod DecodeLemmas
+pub mod EncodeLemmas
+pub mod LawLemmas

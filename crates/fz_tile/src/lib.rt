@@ -1,8 +1,25 @@
-//! The numbers of a tile and the bytes that stand for it. For now a tile is stored as its plain bytes, at 16 bits.
+//! The numbers of a tile and the bytes that stand for it in the heap, both ways (FITS 4.0, sections 10.1.3 and 5.2).
+//!
+//! Reading order: `codec`, `coded`, `fault`; then `encode`, `decode`, `plain`, `range`, `laws`. `pixels` is older: the bytes
+//! of pixels of 16 bits.
 #![tactic(auto)]
 
+mod codec;
+mod coded;
+mod decode;
+mod encode;
+mod fault;
+mod laws;
 mod pixels;
+mod plain;
+mod range;
 #[cfg(test)]
 mod tests;
 
+pub use codec::Codec;
+pub use coded::{Coded, Place2};
+pub use decode::decode_tile;
+pub use encode::encode_tile;
+pub use fault::TileFault;
+pub use laws::{one_record_law, tile_code_law};
 pub use pixels::{read_pixels, write_pixels};

@@ -1,5 +1,13 @@
-//! One table of cases for both calls.
-use crate::{read_pixels, write_pixels};
+//! Rows of tiles and records that were worked out by hand.
+ghost use Rattle.std.specs.Prelude.{◌≡◌, ◌≤◌, length, All, pos};
+ghost use Rattle.fz_rice.specs.Numbers.{IsNumber};
+ghost use Rattle.fz_tile.specs.Codecs.{CanWrite};
+
+use crate::{
+    Codec, Coded, Place2, TileFault, decode_tile, encode_tile, one_record_law, read_pixels,
+    tile_code_law, write_pixels,
+};
+use std::process::Abort;
 
 #[test]
 fn pixels(rt: HostRuntime) {
@@ -25,4 +33,176 @@ fn pixels(rt: HostRuntime) {
     let mut written = [7; 16];
     write_pixels(&numbers, &mut written);
     assert_eq!(rt; written, bytes);
+}
+
+/// RICE_1 in blocks of 32.
+const fn rice(bytepix: u32) -> Codec
+    ensures { result ≡ Codec.Rice 32 bytepix }
+{
+    Codec::Rice { block: 32, bytepix }
+}
+
+/// Encodes a tile of 16 bits, and compares its place and its bytes.
+fn expect_bytes(rt: &impl Abort, codec: Codec, numbers: &[i32], place: Place2, bytes: &[u8])
+    requires codec { CanWrite codec (pos 16) }
+    requires some { 1 ≤ length numbers.now }
+    requires few { length numbers.now ≤ 40 }
+    requires pixels { All (IsNumber 16) numbers.now }
+{
+    let mut out = [0xa5; 400];
+    let coded = encode_tile(codec, 16, numbers, &mut out);
+    assert_eq!(rt; coded.place, place);
+    assert_eq!(rt; &out[..coded.len as usize], bytes);
+}
+
+#[test]
+fn tiles_of_16_bits(rt: HostRuntime) {
+    expect_bytes(
+        &rt,
+        rice(2),
+        &[0, 1, 0, 1],
+        Place2::Coded,
+        &[0x00, 0x00, 0x19, 0x48],
+    );
+    expect_bytes(
+        &rt,
+        rice(2),
+        &[1000, 1000, 1003],
+        Place2::Coded,
+        &[0x03, 0xe8, 0x1c, 0x08],
+    );
+    // The code is 00 00 F0 00 0F FF F0, longer than the plain bytes.
+    expect_bytes(
+        &rt,
+        rice(2),
+        &[0, -32768],
+        Place2::Stored,
+        &[0x00, 0x00, 0x80, 0x00],
+    );
+    // The list has 22 bytes.
+    expect_bytes(
+        &rt,
+        Codec::Plio,
+        &[0, 0, 5, 5, 0],
+        Place2::Stored,
+        &[0, 0, 0, 0, 0, 5, 0, 5, 0, 0],
+    );
+    // No list can hold -1.
+    expect_bytes(
+        &rt,
+        Codec::Plio,
+        &[3, -1],
+        Place2::Stored,
+        &[0x00, 0x03, 0xff, 0xff],
+    );
+    expect_bytes(&rt, Codec::Plain, &[258], Place2::Stored, &[0x01, 0x02]);
+}
+
+#[test]
+fn tile_of_8_bits(rt: HostRuntime) {
+    let mut out = [0xa5; 72];
+    let coded = encode_tile(rice(1), 8, &[7], &mut out);
+    assert_eq!(rt;
+        coded,
+        Coded {
+            place: Place2::Stored,
+            len: 1
+        }
+    );
+    assert_eq!(rt; out[0], 0x07);
+}
+
+#[test]
+fn tile_of_64_bits(rt: HostRuntime) {
+    // 1099511627776 and -1, each as two halves
+    let pixels = [256, 0, -1, -1];
+    let bytes = [
+        0x00, 0x00, 0x01, 0x00, 0x00, 0x00, 0x00, 0x00, 0xff, 0xff, 0xff, 0xff, 0xff, 0xff, 0xff,
+        0xff,
+    ];
+    let mut out = [0xa5; 80];
+    let coded = encode_tile(Codec::Plain, 64, &pixels, &mut out);
+    assert_eq!(rt;
+        coded,
+        Coded {
+            place: Place2::Stored,
+            len: 16
+        }
+    );
+    assert_eq!(rt; &out[..16], bytes.as_slice());
+    let mut numbers = [7; 4];
+    let read = decode_tile(Codec::Plain, 64, Place2::Stored, &bytes, 16, &mut numbers);
+    assert_eq!(rt; read, Ok(()));
+    assert_eq!(rt; numbers, pixels);
+    let cut = decode_tile(
+        Codec::Plain,
+        64,
+        Place2::Stored,
+        &bytes[..8],
+        8,
+        &mut numbers,
+    );
+    assert_eq!(rt; cut, Err(TileFault::TileSize));
+}
+
+#[test]
+fn codes_of_rice(rt: HostRuntime) {
+    let mut numbers = [7; 3];
+    let code = [0x03, 0xe8, 0x1c, 0x08];
+    let read = decode_tile(rice(2), 16, Place2::Coded, &code, 4, &mut numbers);
+    assert_eq!(rt; read, Ok(()));
+    assert_eq!(rt; numbers, [1000, 1000, 1003]);
+    let narrow = decode_tile(rice(2), 8, Place2::Coded, &code, 4, &mut numbers);
+    assert_eq!(rt; narrow, Err(TileFault::PixelRange));
+
+    let mut numbers = [7; 4];
+    let code = [0x00, 0x00, 0x00, 0x05, 0x00];
+    let read = decode_tile(rice(4), 32, Place2::Coded, &code, 5, &mut numbers);
+    assert_eq!(rt; read, Ok(()));
+    assert_eq!(rt; numbers, [5; 4]);
+    let code = [0x00, 0x00, 0x00, 0x05, 0xd8];
+    let unlawful = decode_tile(rice(4), 32, Place2::Coded, &code, 5, &mut numbers);
+    assert_eq!(rt; unlawful, Err(TileFault::CodeValue));
+    let code = [0x7f, 0x00, 0x19, 0x48];
+    let read = decode_tile(rice(2), 16, Place2::Coded, &code, 4, &mut numbers);
+    assert_eq!(rt; read, Ok(()));
+    assert_eq!(rt; numbers, [32512, 32513, 32512, 32513]);
+    let short = decode_tile(rice(2), 16, Place2::Coded, &code[..2], 2, &mut numbers);
+    assert_eq!(rt; short, Err(TileFault::CodeShort));
+}
+
+#[test]
+fn records_longer_than_what_is_read(rt: HostRuntime) {
+    // 1000, 1000, 1003 at 32 bits
+    let mut record = [0; 88];
+    record[..6].copy_from_slice(&[0x00, 0x00, 0x03, 0xe8, 0x0e, 0x04]);
+    let mut numbers = [7; 3];
+    let read = decode_tile(rice(4), 16, Place2::Coded, &record, 1_000_006, &mut numbers);
+    assert_eq!(rt; read, Ok(()));
+    assert_eq!(rt; numbers, [1000, 1000, 1003]);
+    // id 1, and zeros without an end
+    record[4] = 0x08;
+    record[5] = 0x00;
+    let cut = decode_tile(rice(4), 16, Place2::Coded, &record, 88, &mut numbers);
+    assert_eq!(rt; cut, Err(TileFault::CodeShort));
+    let longer = decode_tile(rice(4), 16, Place2::Coded, &record, 89, &mut numbers);
+    assert_eq!(rt; longer, Err(TileFault::CodeValue));
+}
+
+#[test]
+fn lists_of_plio(rt: HostRuntime) {
+    let mut numbers = [7; 3];
+    let mut list = [0, 0, 0, 7, 0xff, 0x9c, 0, 8, 0, 0, 0, 0, 0, 0, 0x40, 0x02];
+    let read = decode_tile(Codec::Plio, 16, Place2::Coded, &list, 16, &mut numbers);
+    assert_eq!(rt; read, Ok(()));
+    assert_eq!(rt; numbers, [1, 1, 0]);
+    list[15] = 0x04;
+    let past = decode_tile(Codec::Plio, 16, Place2::Coded, &list, 16, &mut numbers);
+    assert_eq!(rt; past, Err(TileFault::LineList));
+}
+
+#[test]
+fn laws() {
+    one_record_law();
+    tile_code_law();
 }

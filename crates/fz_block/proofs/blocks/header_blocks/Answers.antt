@@ -1,23 +1,13 @@
--- Where the source tells its bytes, they have the attached length, and the block that was read is their front.
-use Rattle.std.proofs.Common.{Ok, Err, arith, rules}
-use Rattle.fz_base.specs.Source.{Reads}
-use Rattle.fz_block.proofs.FirstBlock.{too_short, by_first_block}
+-- Where no header may begin, the search does not begin.
+use Rattle.std.proofs.Common.{◌≡◌, ℕ, Result, Err, sym, subst, rules, IfSome}
+use Rattle.fz_base.specs.Stop.{IsDefined}
+use Rattle.fz_base.specs.declared.failure.Stop.{Stop}
+use Rattle.fz_block.specs.Checks.{header_blocks_of}
+use Rattle.fz_block.proofs.Search.{search_never_begins}
 use Rattle.fz_block.proofs.blocks.header_blocks.Goals as goal
 
-pub returns-then-length-clause-exact : goal.returns-then-length-clause-exact
-returns-then-length-clause-exact g c =
-    too_short (g.S.Source.held c.args.source.now) c.args.length c.args.hdu (g.met.S.Source.agrees c.args.source.now c.args.length c.requires.attached) c.requires.first.0 (omega arith)
-
-pub returns-in-Ok-clause-exact : goal.returns-in-Ok-clause-exact
-returns-in-Ok-clause-exact g c =
-    let read : Reads (g.S.Source.held c.args.source.now) c.args.start c.read_at.new.into = search rules in
-    by_first_block (g.S.Source.held c.args.source.now) c.args.length c.read_at.new.into (Ok c.in-Ok.blocks)
-    (g.met.S.Source.agrees c.args.source.now c.args.length c.requires.attached) (omega arith) (omega arith)
-    (rw c.requires.first.1 at read) c.in-Ok.ensures
-
-pub returns-in-Err-clause-exact : goal.returns-in-Err-clause-exact
-returns-in-Err-clause-exact g c =
-    let read : Reads (g.S.Source.held c.args.source.now) c.args.start c.read_at.new.into = search rules in
-    by_first_block (g.S.Source.held c.args.source.now) c.args.length c.read_at.new.into (Err c.in-Err.fault)
-    (g.met.S.Source.agrees c.args.source.now c.args.length c.requires.attached) (omega arith) (omega arith)
-    (rw c.requires.first.1 at read) c.in-Err.ensures
+pub returns-in_err-check_begin-clause-exact : goal.returns-in_err-check_begin-clause-exact
+returns-in_err-check_begin-clause-exact g c =
+    let stopped : c.from_residual.result ≡ Err c.in_err-check_begin.field-0.0 = search rules in
+    subst (λ (r : Result ℕ Stop). IfSome (g.S.Source.held c.args.source.now) (λ f. IsDefined (header_blocks_of c.args.hdu c.args.start f) r)) (sym stopped)
+    (search_never_begins (g.S.Source.held c.args.source.now) c.args.hdu c.args.start c.in_err-check_begin.field-0.0 c.in_err-check_begin.ensures.exact)

@@ -1,0 +1,57 @@
+-- Where the source tells its bytes, the search answers what the definition says.
+use Rattle.std.proofs.Common.{◌≡◌, ℕ, List, Option, Result, Ok, Err, refl, sym, subst, arith, rules, IfSome}
+use Rattle.fz_base.specs.Stop.{IsDefined}
+use Rattle.fz_base.specs.declared.failure.Stop.{Stop}
+use Rattle.fz_block.specs.Checks.{header_blocks_of}
+use Rattle.fz_block.specs.Scan.{next_block_says}
+use Rattle.fz_block.proofs.Search.{search_begins, search_stops, search_ends, search_goes_on, search_fails}
+use Rattle.fz_block.proofs.blocks.search_end.Goals as goal
+
+pub loop-b-init : goal.loop-b-init
+loop-b-init g c = record {
+  held = refl;
+  attached = refl;
+  faults = refl;
+  wants = refl;
+  within = omega (arith, c.requires.within);
+  searched = search_begins (g.S.Source.held c.args.source.now) c.args.length c.args.hdu c.args.start
+      (g.met.S.Source.agrees c.args.source.now c.args.length c.requires.attached) c.requires.within;
+}
+
+pub returns-in_err-has_end-clause-exact : goal.returns-in_err-has_end-clause-exact
+returns-in_err-has_end-clause-exact g c =
+    let stopped : c.from_residual.result ≡ Err c.in_err-has_end.field-0.0 = search rules in
+    let held : Option (List ℕ) = g.S.Source.held c.args.source.now in
+    let says : IfSome held (λ f. IsDefined (next_block_says c.args.hdu c.args.start c.loop-b.b f) (Err c.in_err-has_end.field-0.0)) =
+    subst (λ (h : Option (List ℕ)). IfSome h (λ f. IsDefined (next_block_says c.args.hdu c.args.start c.loop-b.b f) (Err c.in_err-has_end.field-0.0)))
+    c.loop-b.invariant.held c.in_err-has_end.ensures.exact in
+    subst (λ (r : Result ℕ Stop). IfSome held (λ f. IsDefined (header_blocks_of c.args.hdu c.args.start f) r)) (sym stopped)
+    (search_stops held c.args.hdu c.args.start c.loop-b.b c.in_err-has_end.field-0.0 c.requires.begins c.loop-b.invariant.searched (omega arith) says)
+
+pub returns-then-branch-clause-exact : goal.returns-then-branch-clause-exact
+returns-then-branch-clause-exact g c =
+    let says : IfSome (g.S.Source.held c.args.source.now) (λ f. next_block_says c.args.hdu c.args.start c.loop-b.b f ≡ Ok c.in_ok-has_end.field-0) =
+    subst (λ (h : Option (List ℕ)). IfSome h (λ f. next_block_says c.args.hdu c.args.start c.loop-b.b f ≡ Ok c.in_ok-has_end.field-0))
+    c.loop-b.invariant.held c.in_ok-has_end.ensures.exact in
+    search_ends (g.S.Source.held c.args.source.now) c.args.hdu c.args.start c.loop-b.b c.in_ok-has_end.field-0 c.if-branch.true c.requires.begins
+    c.loop-b.invariant.searched (omega arith) says
+
+pub loop-b-preserved : goal.loop-b-preserved
+loop-b-preserved g c =
+    let says : IfSome (g.S.Source.held c.args.source.now) (λ f. next_block_says c.args.hdu c.args.start c.loop-b.b f ≡ Ok c.in_ok-has_end.field-0) =
+    subst (λ (h : Option (List ℕ)). IfSome h (λ f. next_block_says c.args.hdu c.args.start c.loop-b.b f ≡ Ok c.in_ok-has_end.field-0))
+    c.loop-b.invariant.held c.in_ok-has_end.ensures.exact in
+    record {
+      held = search rules;
+      attached = search rules;
+      faults = search rules;
+      wants = search rules;
+      within = search rules;
+      searched = search_goes_on (g.S.Source.held c.args.source.now) c.args.hdu c.args.start c.loop-b.b c.in_ok-has_end.field-0 c.if-branch.false
+          c.loop-b.invariant.searched says;
+    }
+
+pub returns-clause-exact : goal.returns-clause-exact
+returns-clause-exact g c =
+    search_fails (g.S.Source.held c.args.source.now) c.args.hdu c.args.start c.loop-b.b c.refused-fault.result (omega arith) c.requires.begins
+    c.loop-b.invariant.searched c.refused-fault.ensures

@@ -1,0 +1,9 @@
+pub mod Totals
+pub mod Carries
+pub mod Rows
+pub mod ByteCharacters
+pub mod CardTexts
+pub mod VerdictLemmas
+pub mod SumTexts
+pub mod AllOnes
+pub mod DatasumLaw

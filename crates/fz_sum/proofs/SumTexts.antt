@@ -1,0 +1,159 @@
+-- The number that a text gives: the function gives it exactly where the text does.
+use Rattle.std.proofs.Common.{◌≡◌, ℕ, ◌^◌, ◌<◌, ◌≢◌, Bool, true, false, cond, eqb, ltb, List, [], ◌∷◌, length, take, get_or, sym, refl, ap, ◌∙◌, subst, arith}
+use Rattle.std.specs.Prelude.{◌&&◌, Option, Some, None, IfSome, IfNone}
+use Rattle.std.specs.Char.{is_ascii_digit}
+use Rattle.std.specs.List.{list_all}
+use Rattle.std.specs.Option.{option_and_then, option_map}
+use Rattle.std.specs.Str.{all_ascii_digits}
+use Rattle.std.specs.Str.Parse.{IsNumeral, digits_value, without_leading_plus}
+use Rattle.std.proofs.lemmas.Bool.Decides.{nat_tests}
+use Rattle.std.proofs.lemmas.Str.Parse.{without_leading_plus_none}
+use Rattle.fz_card.specs.Plain.{skip_blanks}
+use Rattle.fz_card.specs.Reading.{text_of}
+use Rattle.fz_card.proofs.Readings.{some-if, and-true, lt-true, digits}
+use Rattle.fz_card.proofs.Splits.{skip_blanks-after, skip_blanks-blanks}
+use Rattle.fz_card.proofs.TextValues.{text_of-value, value-text_of}
+use Rattle.fz_sum.specs.Texts.{GivesSum, CardGivesSum, sum_of_digits, ReadsWhole, sum_of_text, sum_of_card}
+
+pub all-digits : (text : List ℕ) → list_all is_ascii_digit text ≡ all_ascii_digits text
+all-digits [] = refl
+all-digits (b ∷ bs) = ap (λ (rest : Bool). is_ascii_digit b && rest) (all-digits bs)
+
+-- digits begin with no sign
+first-digit : (text : List ℕ) → all_ascii_digits text ≡ true → get_or text 0 0 ≢ 43
+first-digit [] e same = omega arith
+first-digit (b ∷ bs) e same =
+    let parts = and-true (is_ascii_digit b) (all_ascii_digits bs) e in
+    let f : is_ascii_digit b ≡ is_ascii_digit 43 = ap is_ascii_digit same in
+    let g : is_ascii_digit 43 ≡ true = sym f ∙ parts.0 in
+    cc
+
+-- so many digits that write a number of 32 bits
+tests-true : (a b c : Bool) → a ≡ true → b ≡ true → c ≡ true → (a && (b && c)) ≡ true
+tests-true a b c e f g = rw (e, f, g) refl
+
+positive : (n : ℕ) → 0 < n → ltb 0 n ≡ true
+positive n some = grind (arith, nat_tests)
+
+below : (m n : ℕ) → m < n → ltb m n ≡ true
+below m n lt = grind (arith, nat_tests)
+
+some-of : (test : Bool) (n : ℕ) → test ≡ true → Some n ≡ cond test (Some n) None
+some-of test n e = rw e refl
+
+none-of : (test : Bool) (n : ℕ) → ¬ (test ≡ true) → None ≡ cond test (Some n) None
+none-of true n never = absurd (never refl)
+none-of false n never = refl
+
+-- the digits of a sum of 32 bits
+pub record IsSum (text : List ℕ) (sum : ℕ) : Type 0 where
+  pub numeral : IsNumeral 10 text
+  pub value : sum ≡ digits_value 10 text
+  pub fits : sum < 2 ^ 32
+
+pub digits-sum : (text : List ℕ) (sum : ℕ) → sum_of_digits text ≡ Some sum → IsSum text sum
+digits-sum text sum e =
+    let value = digits_value 10 text in
+    let parts = some-if (all_ascii_digits text && (ltb 0 (length text) && ltb value (2 ^ 32))) value sum e in
+    let tests = and-true (all_ascii_digits text) (ltb 0 (length text) && ltb value (2 ^ 32)) parts.0 in
+    let bounds = and-true (ltb 0 (length text)) (ltb value (2 ^ 32)) tests.1 in
+    record {
+      numeral = (lt-true 0 (length text) bounds.0, digits.to text tests.0);
+      value = sym parts.1;
+      fits = subst (λ (n : ℕ). n < 2 ^ 32) parts.1 (lt-true value (2 ^ 32) bounds.1);
+    }
+
+pub sum-digits : (text : List ℕ) (sum : ℕ) → IsSum text sum → sum_of_digits text ≡ Some sum
+sum-digits text sum is =
+    let value = digits_value 10 text in
+    let small = subst (λ (n : ℕ). n < 2 ^ 32) is.value is.fits in
+    sym (some-of (all_ascii_digits text && (ltb 0 (length text) && ltb value (2 ^ 32))) value (tests-true (all_ascii_digits text) (ltb 0 (length text)) (ltb value (2 ^ 32)) (digits.from text is.numeral.1) (positive (length text) is.numeral.0) (below value (2 ^ 32) small))) ∙ ap Some (sym is.value)
+
+-- what was read of digits
+pub read-digits : (text : List ℕ) (read : Option ℕ) → ReadsWhole text read → all_ascii_digits text ≡ true → read ≡ sum_of_digits text
+read-digits text None never e =
+    let plain : without_leading_plus text ≡ text = without_leading_plus_none text (first-digit text e) in
+    let refused = subst (λ (t : List ℕ). (IsNumeral 10 t × (digits_value 10 t < 2 ^ 32)) → ⊥) plain never in
+    none-of (all_ascii_digits text && (ltb 0 (length text) && ltb (digits_value 10 text) (2 ^ 32))) (digits_value 10 text) (λ tests. refuted refused tests)
+  where
+    refuted : ((IsNumeral 10 text × (digits_value 10 text < 2 ^ 32)) → ⊥) → (all_ascii_digits text && (ltb 0 (length text) && ltb (digits_value 10 text) (2 ^ 32))) ≡ true → ⊥
+    refuted refused tests =
+        let parts = and-true (all_ascii_digits text) (ltb 0 (length text) && ltb (digits_value 10 text) (2 ^ 32)) tests in
+        let bounds = and-true (ltb 0 (length text)) (ltb (digits_value 10 text) (2 ^ 32)) parts.1 in
+        refused ((lt-true 0 (length text) bounds.0, digits.to text parts.0), lt-true (digits_value 10 text) (2 ^ 32) bounds.1)
+read-digits text (Some n) whole e =
+    let plain : without_leading_plus text ≡ text = without_leading_plus_none text (first-digit text e) in
+    let is = subst (λ (t : List ℕ). (IsNumeral 10 t × (digits_value 10 t < 2 ^ 32)) × (n ≡ digits_value 10 t)) plain whole in
+    sym (sum-digits text n (record { numeral = is.0.0; value = is.1; fits = subst (λ (k : ℕ). k < 2 ^ 32) (sym is.1) is.0.1 }))
+
+pub no-digits : (text : List ℕ) → all_ascii_digits text ≡ false → None ≡ sum_of_digits text
+no-digits text e = rw e refl
+
+-- digits begin with no blank
+unblank : (text : List ℕ) → all_ascii_digits text ≡ true → skip_blanks text ≡ text
+unblank [] e = refl
+unblank (b ∷ bs) e = by_test (eqb b 32) (other b (and-true (is_ascii_digit b) (all_ascii_digits bs) e).0)
+  where
+    other : (x : ℕ) → is_ascii_digit x ≡ true → eqb x 32 ≡ false
+    other x digit = grind (arith, nat_tests)
+
+    by_test : (test : Bool) → test ≡ false → cond test (skip_blanks bs) (b ∷ bs) ≡ b ∷ bs
+    by_test test f = rw f refl
+
+pub text-gives : (text : List ℕ) (sum : ℕ) → sum_of_text text ≡ Some sum → GivesSum text sum
+unfolding sum_of_text
+text-gives text sum e =
+    let after = skip_blanks-after text in
+    let is = digits-sum (skip_blanks text) sum e in
+    record { before = after.count; digits = skip_blanks text; parts = after.parts; numeral = is.numeral; value = is.value; fits = is.fits }
+
+pub gives-text : (text : List ℕ) (sum : ℕ) → GivesSum text sum → sum_of_text text ≡ Some sum
+unfolding sum_of_text
+gives-text text sum gives =
+    let skipped : skip_blanks text ≡ gives.digits =
+    ap skip_blanks gives.parts ∙ (skip_blanks-blanks gives.before gives.digits ∙ unblank gives.digits (digits.from gives.digits gives.numeral.1)) in
+    ap sum_of_digits skipped ∙ sum-digits gives.digits sum (record { numeral = gives.numeral; value = gives.value; fits = gives.fits })
+
+-- the same of a card
+and-then-some : (read : Option (List ℕ)) (sum : ℕ) → option_and_then sum_of_text read ≡ Some sum → (text : List ℕ) × (read ≡ Some text) × (sum_of_text text ≡ Some sum)
+and-then-some None sum e = cc
+and-then-some (Some text) sum e = (text, refl, e)
+
+pub card-gives : (card : List ℕ) (sum : ℕ) → sum_of_card card ≡ Some sum → CardGivesSum card sum
+unfolding sum_of_card
+card-gives card sum e =
+    let found = and-then-some (text_of card) sum e in
+    record { text = found.0; has = text_of-value card found.0 found.1; gives = text-gives found.0 sum found.2 }
+
+pub gives-card : (card : List ℕ) (sum : ℕ) → CardGivesSum card sum → sum_of_card card ≡ Some sum
+unfolding sum_of_card
+gives-card card sum gives =
+    ap (option_and_then sum_of_text) (value-text_of card gives.text gives.has) ∙ gives-text gives.text sum gives.gives
+
+-- what a function answers whose result is known
+pub text-value : (text : List ℕ) (read : Option ℕ) → read ≡ sum_of_text text → IfSome read (GivesSum text)
+text-value text None e = tt
+text-value text (Some sum) e = text-gives text sum (sym e)
+
+pub text-none : (text : List ℕ) (read : Option ℕ) → read ≡ sum_of_text text → IfNone read ((sum : ℕ) → ¬ (GivesSum text sum))
+text-none text None e = λ sum gives. let f = gives-text text sum gives in cc
+text-none text (Some sum) e = tt
+
+pub card-value : (card : List ℕ) (read : Option ℕ) → read ≡ sum_of_card card → IfSome read (CardGivesSum card)
+card-value card None e = tt
+card-value card (Some sum) e = card-gives card sum (sym e)
+
+pub card-none : (card : List ℕ) (read : Option ℕ) → read ≡ sum_of_card card → IfNone read ((sum : ℕ) → ¬ (CardGivesSum card sum))
+card-none card None e = λ sum gives. let f = gives-card card sum gives in cc
+card-none card (Some sum) e = tt
+
+-- a card without a text, and one whose text was read into a buffer
+pub card-untold : (card buffer : List ℕ) (len read : Option ℕ) → option_map (λ (n : ℕ). take n buffer) len ≡ text_of card → len ≡ None → read ≡ None → read ≡ sum_of_card card
+unfolding sum_of_card
+card-untold card buffer len read text e f =
+    f ∙ ap (option_and_then sum_of_text) (sym (ap (option_map (λ (n : ℕ). take n buffer)) e) ∙ text)
+
+pub card-told : (card buffer : List ℕ) (len read : Option ℕ) (n : ℕ) → option_map (λ (n : ℕ). take n buffer) len ≡ text_of card → len ≡ Some n → read ≡ sum_of_text (take n buffer) → read ≡ sum_of_card card
+unfolding sum_of_card
+card-told card buffer len read n text e f =
+    f ∙ ap (option_and_then sum_of_text) (sym (ap (option_map (λ (n : ℕ). take n buffer)) e) ∙ text)

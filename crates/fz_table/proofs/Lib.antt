@@ -1,0 +1,5 @@
+pub mod Descriptors
+pub mod Digits
+pub mod Headers
+pub mod Places
+pub mod Tables

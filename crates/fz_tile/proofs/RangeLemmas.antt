@@ -1,0 +1,43 @@
+-- The ranges of 8 and 16 bits by comparisons.
+use Rattle.std.proofs.Common.{refl, ◌≡◌, ℕ, ◌+◌, ◌<◌, false, List, length, get_or, ℤ, pos, negsuc, int_lt, inl, inr, sym, subst, arith, unsigned_abs}
+use Rattle.std.specs.List.{All}
+use Rattle.std.proofs.lemmas.Int.{ints}
+use Rattle.std.proofs.lemmas.Bool.{cases_lt}
+use Rattle.std.proofs.lemmas.List.{get_or_default}
+use Rattle.fz_rice.specs.Numbers.{IsNumber}
+use Rattle.fz_tile.specs.Pixels.{IsBitpix}
+use Rattle.fz_tile.proofs.PixelLemmas.{by_bitpix}
+
+pub is_byte : (z : ℤ) → int_lt z (pos 0) ≡ false → int_lt (pos 255) z ≡ false → IsNumber 8 z
+is_byte (pos n) low high = omega (arith, ints, high)
+is_byte (negsuc n) low high = absurd (omega (arith, ints, low))
+
+pub is_short : (z : ℤ) → int_lt z (negsuc 32767) ≡ false → int_lt (pos 32767) z ≡ false → IsNumber 16 z
+is_short (pos n) low high = omega (arith, ints, high)
+is_short (negsuc n) low high = (λ (e : 16 ≡ 8). omega (arith, e), omega (arith, ints, low))
+
+-- one more number is in range
+pub one_more : (w i : ℕ) (xs : List ℤ) → i < length xs → ((k : ℕ) (d : ℤ) → k < i → IsNumber w (get_or xs k d)) → IsNumber w (get_or xs i (pos 0)) → (k : ℕ) (d : ℤ) → k < i + 1 → IsNumber w (get_or xs k d)
+one_more w i xs within before here k d h = elim (cases_lt k i) [
+  | inl less ↦ before k d less
+  | inr same ↦
+      let e : k ≡ i = omega arith in
+      subst (λ (j : ℕ). IsNumber w (get_or xs j d)) (sym e) (subst (IsNumber w) (get_or_default xs i (pos 0) d within) here)
+]
+
+-- a number of 32 bits is one of 64 bits
+wider : (z : ℤ) → IsNumber 32 z → IsNumber 64 z
+wider (pos n) is = omega (arith, is)
+wider (negsuc n) is = (λ (e : 64 ≡ 8). omega (arith, e), omega (arith, is.1))
+
+-- what was found at 8 and 16 bits is the answer; other sizes have all numbers of 32 bits
+pub in_bytes : (bitpix : ℤ) (xs : List ℤ) → bitpix ≡ pos 8 → All (IsNumber 8) xs → All (IsNumber (unsigned_abs bitpix)) xs
+in_bytes bitpix xs e all = subst (λ (b : ℤ). All (IsNumber (unsigned_abs b)) xs) (sym e) all
+
+pub in_shorts : (bitpix : ℤ) (xs : List ℤ) → bitpix ≡ pos 16 → All (IsNumber 16) xs → All (IsNumber (unsigned_abs bitpix)) xs
+in_shorts bitpix xs e all = subst (λ (b : ℤ). All (IsNumber (unsigned_abs b)) xs) (sym e) all
+
+pub in_words : (bitpix : ℤ) (xs : List ℤ) → IsBitpix bitpix → (bitpix ≡ pos 8 → ⊥) → (bitpix ≡ pos 16 → ⊥) → All (IsNumber 32) xs → All (IsNumber (unsigned_abs bitpix)) xs
+in_words bitpix xs size no_byte no_short all =
+    by_bitpix (λ z. (z ≡ pos 8 → ⊥) → (z ≡ pos 16 → ⊥) → All (IsNumber (unsigned_abs z)) xs)
+    (λ f _. absurd (f refl)) (λ _ f. absurd (f refl)) (λ _ _. all) (λ _ _ k d h. wider (get_or xs k d) (all k d h)) bitpix size no_byte no_short

@@ -1,0 +1,9 @@
+-- The law, over the definitions alone.
+use Rattle.fz_tile.proofs.LawLemmas.{tile_code_holds, tile_code_alone}
+use Rattle.fz_tile.proofs.laws.tile_code_law.Goals as goal
+
+pub returns-clause-holds : goal.returns-clause-holds
+returns-clause-holds c = tile_code_holds
+
+pub returns-clause-no_other : goal.returns-clause-no_other
+returns-clause-no_other c = tile_code_alone

@@ -1,0 +1,7 @@
+-- The bytes so far store the numbers so far.
+use Rattle.std.proofs.Common.{◌≡◌, ◌*◌, take}
+use Rattle.fz_tile.specs.Plain.{plain_bytes}
+use Rattle.fz_tile.proofs.plain.write_words.Given as goal
+
+abbrev pub invariant-loop-i : goal.invariant-loop-i
+invariant-loop-i l = take (4 * l.i) l.out ≡ plain_bytes 32 (take l.i l.numbers)
