@@ -99,8 +99,8 @@ fn tiles_of_16_bits(rt: HostRuntime) {
 }
 
 #[test]
-fn tile_of_8_bits(rt: HostRuntime) {
-    let mut out = [0xa5; 72];
+fn tiles_of_8_bits(rt: HostRuntime) {
+    let mut out = [0xa5; 88];
     let coded = encode_tile(rice(1), 8, &[7], &mut out);
     assert_eq!(rt;
         coded,
@@ -110,6 +110,29 @@ fn tile_of_8_bits(rt: HostRuntime) {
         }
     );
     assert_eq!(rt; out[0], 0x07);
+    let coded = encode_tile(rice(1), 8, &[7, 7, 7], &mut out);
+    assert_eq!(rt;
+        coded,
+        Coded {
+            place: Place2::Coded,
+            len: 2
+        }
+    );
+    assert_eq!(rt; &out[..2], [0x07, 0x00].as_slice());
+}
+
+#[test]
+fn tile_of_32_bits(rt: HostRuntime) {
+    let mut out = [0xa5; 96];
+    let coded = encode_tile(rice(4), 32, &[5, 5, 5, 5], &mut out);
+    assert_eq!(rt;
+        coded,
+        Coded {
+            place: Place2::Coded,
+            len: 5
+        }
+    );
+    assert_eq!(rt; &out[..5], [0x00, 0x00, 0x00, 0x05, 0x00].as_slice());
 }
 
 #[test]
@@ -190,6 +213,41 @@ fn records_longer_than_what_is_read(rt: HostRuntime) {
 }
 
 #[test]
+fn plain_bytes(rt: HostRuntime) {
+    let mut numbers = [7; 1];
+    let read = decode_tile(rice(1), 8, Place2::Stored, &[0xc8], 1, &mut numbers);
+    assert_eq!(rt; read, Ok(()));
+    assert_eq!(rt; numbers, [200]);
+    let read = decode_tile(
+        Codec::Plain,
+        16,
+        Place2::Coded,
+        &[0xff, 0x38],
+        2,
+        &mut numbers,
+    );
+    assert_eq!(rt; read, Ok(()));
+    assert_eq!(rt; numbers, [-200]);
+    let bytes = [0xff, 0xff, 0xff, 0x38];
+    let read = decode_tile(Codec::Plio, 32, Place2::Stored, &bytes, 4, &mut numbers);
+    assert_eq!(rt; read, Ok(()));
+    assert_eq!(rt; numbers, [-200]);
+    let longer = decode_tile(Codec::Plain, 8, Place2::Stored, &bytes, 4, &mut numbers);
+    assert_eq!(rt; longer, Err(TileFault::TileSize));
+    let longer = decode_tile(rice(2), 16, Place2::Stored, &bytes, 4, &mut numbers);
+    assert_eq!(rt; longer, Err(TileFault::TileSize));
+    let shorter = decode_tile(
+        Codec::Plain,
+        32,
+        Place2::Coded,
+        &bytes[..3],
+        3,
+        &mut numbers,
+    );
+    assert_eq!(rt; shorter, Err(TileFault::TileSize));
+}
+
+#[test]
 fn lists_of_plio(rt: HostRuntime) {
     let mut numbers = [7; 3];
     let mut list = [0, 0, 0, 7, 0xff, 0x9c, 0, 8, 0, 0, 0, 0, 0, 0, 0x40, 0x02];
@@ -199,6 +257,22 @@ fn lists_of_plio(rt: HostRuntime) {
     list[15] = 0x04;
     let past = decode_tile(Codec::Plio, 16, Place2::Coded, &list, 16, &mut numbers);
     assert_eq!(rt; past, Err(TileFault::LineList));
+}
+
+#[test]
+fn long_records_of_plio(rt: HostRuntime) {
+    // the high value 300, twice
+    let mut record = [0; 88];
+    record[..18].copy_from_slice(&[
+        0, 0, 0, 7, 0xff, 0x9c, 0, 9, 0, 0, 0, 0, 0, 0, 0x21, 0x2b, 0x40, 0x02,
+    ]);
+    let mut numbers = [7; 3];
+    // 1001 is odd, but of the record an even number of bytes is read.
+    let read = decode_tile(Codec::Plio, 16, Place2::Coded, &record, 1001, &mut numbers);
+    assert_eq!(rt; read, Ok(()));
+    assert_eq!(rt; numbers, [300, 300, 0]);
+    let narrow = decode_tile(Codec::Plio, 8, Place2::Coded, &record, 1001, &mut numbers);
+    assert_eq!(rt; narrow, Err(TileFault::PixelRange));
 }
 
 #[test]
