@@ -1,6 +1,6 @@
 #!/usr/bin/env bash
-# Times fz_rice and the same loop in C at -O2 on this machine: 16M noisy 16-bit pixels in row tiles of
-# 4,096. Both run in a scratch folder. The condition of `encode` that each number is in range is left
+# Times fz_rice and two programs in C at -O2 on this machine: 16M noisy 16-bit pixels in row tiles of
+# 4,096. All run in a scratch folder. The condition of `encode` that each number is in range is left
 # out of the copy there: its body does not need it, and a proof for the noise would be all of the work.
 set -eu
 root=$(cd "$(dirname "$0")/../.." && pwd)
@@ -19,6 +19,9 @@ cat > "$scratch/rice.c" <<'END'
 #define TILE 4096
 #define SLOT 8320
 #define TILES 4096
+#define GROUP 16
+#define GROUPS 256
+#define PASSES 40
 typedef struct { uint8_t *out; size_t len, at; uint64_t pending; uint32_t count; } W;
 static inline int put(W *w, uint32_t v, uint32_t width) {
   size_t freeb = w->len - w->at; if (freeb > (1ull<<32)) freeb = 1ull<<32;
@@ -54,13 +57,62 @@ static long decode(const uint8_t *code, size_t len, uint32_t block, int32_t *x, 
       uint32_t h = v >> 1; uint32_t d = v & 1 ? 0xffff - h : h; last = (last + d) & 0xffff; p[i] = (int16_t)last; }
     at += m; }
   return r.at; }
-static double now(void) { struct timespec t; clock_gettime(CLOCK_MONOTONIC, &t); return t.tv_sec + 1e-9 * t.tv_nsec; }
-int main(void) { size_t n = (size_t)TILE * TILES; int32_t *x = malloc(4 * n), *b = malloc(4 * n); uint8_t *c = malloc((size_t)SLOT * TILES); size_t *l = malloc(8 * TILES);
-  uint32_t w = 2463534242u; for (size_t i = 0; i < n; i++) { w ^= w << 13; w ^= w >> 17; w ^= w << 5; x[i] = 1000 + (w & 31) + (w >> 5 & 31) + (w >> 10 & 31) + ((i / 64) & 1023); }
-  for (int k = 0; k < 8; k++) { double a = now(); size_t s = 0; for (size_t t = 0; t < TILES; t++) { l[t] = encode(x + t * TILE, TILE, 32, c + t * SLOT, SLOT); s += l[t]; } double e = now(); for (size_t t = 0; t < TILES; t++) if (decode(c + t * SLOT, l[t], 32, b + t * TILE, TILE) < 0) puts("fault"); double f = now(); printf("C encode %.0f us decode %.0f us bytes %zu same %d\n", (e - a) * 1e6, (f - e) * 1e6, s, !memcmp(x, b, 4 * n)); } }
+/* The algorithm of the C tools, written anew: bytes go out and come in one by one, over shorts. */
+typedef struct { uint8_t *at; int bits, room; } Out;
+static void out_number(Out *o, int value, int width) {
+  int bits = o->bits, room = o->room;
+  if (room + width > 32) { bits = (int)((unsigned)bits << room) | ((value >> (width - room)) & ((1 << room) - 1)); *o->at++ = bits & 0xff; width -= room; room = 8; }
+  bits = (int)((unsigned)bits << width) | (value & ((1 << width) - 1)); room -= width;
+  while (room <= 0) { *o->at++ = (bits >> -room) & 0xff; room += 8; }
+  o->bits = bits; o->room = room; }
+static long tool_encode(const int16_t *x, int n, int block, uint8_t *out, int len) {
+  Out o = {out, 0, 8}; unsigned *diff = malloc(block * sizeof *diff); int16_t last = x[0]; int m = block;
+  out_number(&o, x[0], 16);
+  for (int i = 0; i < n; i += block) { if (n - i < block) m = n - i;
+    double sum = 0; for (int j = 0; j < m; j++) { int16_t next = x[i + j], d = next - last; diff[j] = (unsigned)(d < 0 ? ~((unsigned)d << 1) : (unsigned)d << 1); sum += diff[j]; last = next; }
+    double mean = (sum - m / 2 - 1) / m; if (mean < 0) mean = 0; unsigned short half = (unsigned short)mean >> 1; int k; for (k = 0; half > 0; k++) half >>= 1;
+    if (k >= 14) { out_number(&o, 15, 4); for (int j = 0; j < m; j++) out_number(&o, diff[j], 16); }
+    else if (k == 0 && sum == 0) out_number(&o, 0, 4);
+    else { out_number(&o, k + 1, 4); int mask = (1 << k) - 1, bits = o.bits, room = o.room;
+      for (int j = 0; j < m; j++) { int v = diff[j], top = v >> k;
+        if (room >= top + 1) { bits <<= top + 1; bits |= 1; room -= top + 1; }
+        else { bits <<= room; *o.at++ = bits & 0xff; for (top -= room; top >= 8; top -= 8) *o.at++ = 0; bits = 1; room = 7 - top; }
+        if (k > 0) { bits <<= k; bits |= v & mask; room -= k; while (room <= 0) { *o.at++ = (bits >> -room) & 0xff; room += 8; } } }
+      if (o.at > out + len) { free(diff); return -1; }
+      o.bits = bits; o.room = room; } }
+  if (o.room < 8) *o.at++ = (o.bits << o.room) & 0xff;
+  free(diff); return o.at - out; }
+static int top_bit[256];
+static int tool_decode(const uint8_t *c, int len, int block, int16_t *x, int n) {
+  const uint8_t *end = c + len; unsigned last = c[0] << 8 | c[1]; c += 2; unsigned b = *c++; int have = 8;
+  for (int i = 0; i < n;) { have -= 4; while (have < 0) { b = b << 8 | *c++; have += 8; }
+    int k = (int)(b >> have) - 1; b &= (1u << have) - 1; int stop = i + block < n ? i + block : n;
+    if (k < 0) for (; i < stop; i++) x[i] = last;
+    else if (k == 14) for (; i < stop; i++) { int s = 16 - have; unsigned d = b << s; for (s -= 8; s >= 0; s -= 8) { b = *c++; d |= b << s; } if (have > 0) { b = *c++; d |= b >> -s; b &= (1u << have) - 1; } else b = 0; d = d & 1 ? ~(d >> 1) : d >> 1; x[i] = d + last; last = x[i]; }
+    else for (; i < stop; i++) { while (!b) { have += 8; b = *c++; } int z = have - top_bit[b]; have -= z + 1; b ^= 1u << have; have -= k; while (have < 0) { b = b << 8 | *c++; have += 8; } unsigned d = (unsigned)z << k | b >> have; b &= (1u << have) - 1; d = d & 1 ? ~(d >> 1) : d >> 1; x[i] = d + last; last = x[i]; }
+    if (c > end) return -1; }
+  return 0; }
+static double now(void) { struct timespec t; clock_gettime(CLOCK_MONOTONIC, &t); return 1e6 * t.tv_sec + 1e-3 * t.tv_nsec; }
+static void least(double *least, double taken) { if (taken < *least) *least = taken; }
+int main(void) { size_t n = (size_t)TILE * TILES; int32_t *x = malloc(4 * n), *b = calloc(n, 4); int16_t *y = malloc(2 * n), *d = calloc(n, 2);
+  uint8_t *c = calloc(TILES, SLOT), *e = calloc(TILES, SLOT); long *l = malloc(8 * TILES), *m = malloc(8 * TILES);
+  static double loop_out[GROUPS], loop_in[GROUPS], tool_out[GROUPS], tool_in[GROUPS]; int faults = 0;
+  for (int i = 0; i < 256; i++) while (i >> top_bit[i]) top_bit[i]++;
+  uint32_t w = 2463534242u; for (size_t i = 0; i < n; i++) { w ^= w << 13; w ^= w >> 17; w ^= w << 5; y[i] = x[i] = 1000 + (w & 31) + (w >> 5 & 31) + (w >> 10 & 31) + ((i / 64) & 1023); }
+  for (int g = 0; g < GROUPS; g++) loop_out[g] = loop_in[g] = tool_out[g] = tool_in[g] = 1e9;
+  for (int p = 0; p < PASSES; p++) for (int g = 0; g < GROUPS; g++) { size_t from = g * GROUP, to = from + GROUP;
+    double a = now(); for (size_t t = from; t < to; t++) l[t] = encode(x + t * TILE, TILE, 32, c + t * SLOT, SLOT);
+    least(&loop_out[g], now() - a); a = now(); for (size_t t = from; t < to; t++) faults += decode(c + t * SLOT, l[t], 32, b + t * TILE, TILE) < 0;
+    least(&loop_in[g], now() - a); a = now(); for (size_t t = from; t < to; t++) m[t] = tool_encode(y + t * TILE, TILE, 32, e + t * SLOT, SLOT);
+    least(&tool_out[g], now() - a); a = now(); for (size_t t = from; t < to; t++) faults += tool_decode(e + t * SLOT, m[t], 32, d + t * TILE, TILE) < 0;
+    least(&tool_in[g], now() - a); }
+  double s[4] = {0}; for (int g = 0; g < GROUPS; g++) { s[0] += loop_out[g]; s[1] += loop_in[g]; s[2] += tool_out[g]; s[3] += tool_in[g]; }
+  int same = !memcmp(x, b, 4 * n) && !memcmp(y, d, 2 * n) && !memcmp(l, m, 8 * TILES); for (size_t t = 0; t < TILES; t++) same = same && !memcmp(c + t * SLOT, e + t * SLOT, l[t]);
+  printf("the same loop in C: encode %.0f us, decode %.0f us\nthe C tools' algorithm: encode %.0f us, decode %.0f us\nfaults %d same %d\n", s[0], s[1], s[2], s[3], faults, same); }
 END
 cc -O2 -o "$scratch/rice_c" "$scratch/rice.c"
 cd "$scratch/crates/rice_bench"
 rt run > "$scratch/log" 2>&1 || { tail -5 "$scratch/log"; exit 1; }
 ./out/rice_bench
 "$scratch/rice_c"
+./out/rice_bench

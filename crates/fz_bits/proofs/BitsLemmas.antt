@@ -1,12 +1,13 @@
 -- Lemmas on the bits of numbers and bytes.
-use Rattle.std.proofs.Common.{◌≡◌, ℕ, zero, suc, ◌+◌, ◌*◌, ◌/◌, ◌%◌, ◌^◌, ◌<◌, ◌≤◌, true, false, List, [], ◌∷◌, ◌++◌, length, take, drop, replicate, inl, inr, refl, sym, ap, ◌∙◌, arith, append_assoc, length-append, add-one}
+use Rattle.std.proofs.Common.{◌≡◌, ℕ, zero, suc, ◌+◌, ◌*◌, ◌/◌, ◌%◌, ◌^◌, ◌<◌, ◌≤◌, true, false, List, [], ◌∷◌, ◌++◌, length, take, drop, get_or, replicate, inl, inr, refl, sym, ap, ◌∙◌, arith, append_assoc, length-append, add-one}
 use Rattle.std.proofs.Math.Nat.{div-one, pow-suc, div-eq_of_lt}
 use Rattle.std.proofs.Math.Numerals.{one-add}
-use Rattle.std.proofs.lemmas.Nat.{shr-shr, shr_split, field_of, mod-pow-add, mod_low, mod_below, shr_high, pow_pos, le-div, div_below, pow-add, mul-add-lt}
-use Rattle.std.proofs.lemmas.List.{append-nil, replicate_more, length-take-le, take-append-drop, take_at, take_all}
+use Rattle.std.proofs.lemmas.Nat.{shr-shr, shr_split, field_of, mod-pow-add, mod_low, mod_below, shr_high, pow_pos, le-div, div_below, pow-add, mul-add-lt, be_bytes_8}
+use Rattle.std.proofs.lemmas.List.{append-nil, replicate_more, length-take-le, take-append-drop, take_at, take_all, drop_all}
 use Rattle.std.proofs.Math.Nat.{mul_comm, pow-le-pow_right}
 use Rattle.std.proofs.lemmas.Bool.{cases_lt}
-use Rattle.std.specs.Int.{w32, to_be_bytes, from_be_bytes}
+use Rattle.std.proofs.Math.Seq.{drop-append_seam}
+use Rattle.std.specs.Int.{w64, to_be_bytes, from_be_bytes}
 use Rattle.fz_bits.specs.Bits.{last_bit, number_bits, bits_of}
 
 -- a number has as many bits as were asked for
@@ -108,17 +109,44 @@ bits_of-take n bytes =
       | inr h ↦ ap bits_of (take_all n bytes h) ∙ sym (take_all (8 * n) (bits_of bytes) (omega (arith, length-bits_of bytes)))
     ]
 
--- four bytes are the 32 bits of the number that they make
-pub bits_of-to_be_bytes : (v : ℕ) → bits_of (to_be_bytes w32 v) ≡ number_bits 32 v
+-- the bits of the last bytes
+pub bits_of-drop : (n : ℕ) (bytes : List ℕ) → bits_of (drop n bytes) ≡ drop (8 * n) (bits_of bytes)
+unfolding bits_of
+bits_of-drop n bytes =
+    elim (cases_lt n (length bytes)) [
+      | inl h ↦
+          let front : length (bits_of (take n bytes)) ≡ 8 * n = length-bits_of (take n bytes) ∙ ap (λ k. 8 * k) (length-take-le n bytes (omega arith)) in
+          sym (ap (drop (8 * n)) (ap bits_of (sym (take-append-drop n bytes)) ∙ bits_of-append (take n bytes) (drop n bytes)) ∙ ap (λ k. drop k (bits_of (take n bytes) ++ bits_of (drop n bytes))) (sym front) ∙ drop-append_seam (bits_of (take n bytes)) (bits_of (drop n bytes)))
+      | inr h ↦ ap bits_of (drop_all n bytes h) ∙ sym (drop_all (8 * n) (bits_of bytes) (omega (arith, length-bits_of bytes)))
+    ]
+
+-- the first bits are those of the quotient
+pub number_bits-front : (m n v : ℕ) → number_bits m (v / 2 ^ n) ≡ take m (number_bits (m + n) v)
+number_bits-front m n v =
+    sym (ap (take m) (number_bits-append m n v) ∙ take_at (number_bits m (v / 2 ^ n)) (number_bits n v) m (length-number_bits m (v / 2 ^ n)))
+
+-- the bits of a number that is shifted out of its width
+pub number_bits-shifted : (m n v : ℕ) → number_bits (n + m) (v * 2 ^ n % 2 ^ (n + m)) ≡ drop n (number_bits (n + m) v) ++ replicate n false
+number_bits-shifted m n v =
+    let e : n + m ≡ m + n = omega arith in
+    let low : number_bits (m + n) (v * 2 ^ n + 0) ≡ number_bits m v ++ number_bits n 0 = number_bits-joined m n v 0 (pow_pos n) in
+    let same : v * 2 ^ n + 0 ≡ v * 2 ^ n = omega arith in
+    let back : drop n (number_bits (n + m) v) ≡ number_bits m v = ap (drop n) (number_bits-append n m v) ∙ ap (λ k. drop k (number_bits n (v / 2 ^ m) ++ number_bits m v)) (sym (length-number_bits n (v / 2 ^ m))) ∙ drop-append_seam (number_bits n (v / 2 ^ m)) (number_bits m v) in
+    number_bits-mod (n + m) (v * 2 ^ n) ∙ ap (λ k. number_bits k (v * 2 ^ n)) e ∙ ap (number_bits (m + n)) (sym same) ∙ low ∙ ap (λ bits. number_bits m v ++ bits) (number_bits-zero n) ∙ ap (λ bits. bits ++ replicate n false) (sym back)
+
+-- eight bytes are the 64 bits of the number that they make
+pub bits_of-to_be_bytes : (v : ℕ) → bits_of (to_be_bytes w64 v) ≡ number_bits 64 v
 unfolding bits_of
 bits_of-to_be_bytes v =
-    let e1 : number_bits 32 v ≡ number_bits 24 (v / 256) ++ number_bits 8 v = number_bits-append 24 8 v in
-    let e2 : number_bits 24 (v / 256) ≡ number_bits 16 (v / 65536) ++ number_bits 8 (v / 256) = number_bits-append 16 8 (v / 256) ∙ ap (λ k. number_bits 16 k ++ number_bits 8 (v / 256)) (shr-shr v 8 8) in
-    let e3 : number_bits 16 (v / 65536) ≡ number_bits 8 (v / 16777216) ++ number_bits 8 (v / 65536) = number_bits-append 8 8 (v / 65536) ∙ ap (λ k. number_bits 8 k ++ number_bits 8 (v / 65536)) (shr-shr v 16 8) in
-    rw (number_bits-mod 8 (v / 16777216), number_bits-mod 8 (v / 65536), number_bits-mod 8 (v / 256), number_bits-mod 8 v, e1, e2, e3) (simp (append_assoc, append-nil))
+    let e1 : number_bits 64 v ≡ number_bits 56 (v / 256) ++ number_bits 8 v = number_bits-append 56 8 v in
+    let e2 : number_bits 56 (v / 256) ≡ number_bits 48 (v / 2 ^ 16) ++ number_bits 8 (v / 256) = number_bits-append 48 8 (v / 256) ∙ ap (λ k. number_bits 48 k ++ number_bits 8 (v / 256)) (shr-shr v 8 8) in
+    let e3 : number_bits 48 (v / 2 ^ 16) ≡ number_bits 40 (v / 2 ^ 24) ++ number_bits 8 (v / 2 ^ 16) = number_bits-append 40 8 (v / 2 ^ 16) ∙ ap (λ k. number_bits 40 k ++ number_bits 8 (v / 2 ^ 16)) (shr-shr v 16 8) in
+    let e4 : number_bits 40 (v / 2 ^ 24) ≡ number_bits 32 (v / 2 ^ 32) ++ number_bits 8 (v / 2 ^ 24) = number_bits-append 32 8 (v / 2 ^ 24) ∙ ap (λ k. number_bits 32 k ++ number_bits 8 (v / 2 ^ 24)) (shr-shr v 24 8) in
+    let e5 : number_bits 32 (v / 2 ^ 32) ≡ number_bits 24 (v / 2 ^ 40) ++ number_bits 8 (v / 2 ^ 32) = number_bits-append 24 8 (v / 2 ^ 32) ∙ ap (λ k. number_bits 24 k ++ number_bits 8 (v / 2 ^ 32)) (shr-shr v 32 8) in
+    let e6 : number_bits 24 (v / 2 ^ 40) ≡ number_bits 16 (v / 2 ^ 48) ++ number_bits 8 (v / 2 ^ 40) = number_bits-append 16 8 (v / 2 ^ 40) ∙ ap (λ k. number_bits 16 k ++ number_bits 8 (v / 2 ^ 40)) (shr-shr v 40 8) in
+    let e7 : number_bits 16 (v / 2 ^ 48) ≡ number_bits 8 (v / 2 ^ 56) ++ number_bits 8 (v / 2 ^ 48) = number_bits-append 8 8 (v / 2 ^ 48) ∙ ap (λ k. number_bits 8 k ++ number_bits 8 (v / 2 ^ 48)) (shr-shr v 48 8) in
+    rw (number_bits-mod 8 (v / 2 ^ 56), number_bits-mod 8 (v / 2 ^ 48), number_bits-mod 8 (v / 2 ^ 40), number_bits-mod 8 (v / 2 ^ 32), number_bits-mod 8 (v / 2 ^ 24), number_bits-mod 8 (v / 2 ^ 16), number_bits-mod 8 (v / 256), number_bits-mod 8 v, e1, e2, e3, e4, e5, e6, e7) (simp (append_assoc, append-nil))
 
-pub number_bits-from_be_bytes : (a b c d : ℕ) → a < 256 → b < 256 → c < 256 → d < 256 → number_bits 32 (from_be_bytes w32 (a ∷ b ∷ c ∷ d ∷ [])) ≡ bits_of (a ∷ b ∷ c ∷ d ∷ [])
-unfolding bits_of
-number_bits-from_be_bytes a b c d p q r s =
-    let e : a * 16777216 + b * 65536 + c * 256 + d ≡ ((a * 256 + b) * 256 + c) * 256 + d = omega arith in
-    rw (e, number_bits-joined 24 8 ((a * 256 + b) * 256 + c) d s, number_bits-joined 16 8 (a * 256 + b) c r, number_bits-joined 8 8 a b q) (simp (append_assoc, append-nil))
+pub number_bits-from_be_bytes : (bytes : List ℕ) → length bytes ≡ 8 → ((i : ℕ) → get_or bytes i 0 < 256) → number_bits 64 (from_be_bytes w64 bytes) ≡ bits_of bytes
+number_bits-from_be_bytes bytes len fits =
+    sym (bits_of-to_be_bytes (from_be_bytes w64 bytes)) ∙ ap bits_of (be_bytes_8 bytes (from_be_bytes w64 bytes) len fits refl)

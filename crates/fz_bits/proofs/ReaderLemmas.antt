@@ -1,53 +1,108 @@
 -- Lemmas on the bits that are left to a reader.
-use Rattle.std.proofs.Common.{◌≡◌, ℕ, ◌+◌, zero, suc, ◌-◌, ◌*◌, ◌/◌, ◌%◌, ◌^◌, ◌<◌, ◌≤◌, Bool, true, false, List, [], ◌∷◌, ◌++◌, length, take, drop, get_or, replicate, inl, inr, refl, sym, subst, ap, ◌∙◌, arith, append_assoc, length-append, length-drop, length-take}
-use Rattle.std.specs.Int.{w32, from_be_bytes}
-use Rattle.std.specs.Int.Count.{count_leading_zeros}
+use Rattle.std.proofs.Common.{◌≡◌, ℕ, ◌+◌, zero, suc, ◌-◌, ◌*◌, ◌%◌, ◌^◌, ◌<◌, ◌≤◌, Bool, true, false, List, [], ◌∷◌, ◌++◌, length, take, drop, get_or, replicate, inl, inr, refl, sym, subst, ap, ◌∙◌, arith, append_assoc, length-append, length-drop, length-take}
+use Rattle.std.specs.Int.Count.{count_leading_zeros, leading_of_zero}
 use Rattle.std.proofs.lemmas.Nat.{leading_top}
 use Rattle.std.proofs.lemmas.Bool.{cases_lt}
-use Rattle.std.proofs.Math.Nat.{pow-le-pow_right}
-use Rattle.std.proofs.lemmas.List.{length-replicate, take_rest, drop_more, drop-drop, take-append-drop, replicate-append-replicate, take-append-le, take-replicate, get_or_at, get_or-replicate, get_or-take}
+use Rattle.std.proofs.lemmas.List.{length-replicate, take_rest, drop_more, drop-drop, take-append-drop, replicate-append-replicate, take-append-le, take-replicate, get_or_at, get_or-replicate, get_or-take, get_or-append_right, get_or-drop, get_or_past, get_or_append_left, length-take-le, drop-append-le, drop-take, take-take}
+use Rattle.std.proofs.Math.Seq.{take-append-add, drop-append-add}
 use Rattle.fz_bits.specs.Bits.{number_bits, bits_of}
 use Rattle.fz_bits.specs.Reader.{left, HasZeros, IsZeros}
 use Rattle.fz_bits.specs.declared.reader.BitReader.{BitReader}
-use Rattle.fz_bits.proofs.BitsLemmas.{length-number_bits, length-bits_of, number_bits-append, number_bits-mod, number_bits-joined, number_bits-zero, number_bits-lead, number_bits-from_be_bytes, bits_of-append, below_wider}
+use Rattle.fz_bits.proofs.BitsLemmas.{length-bits_of, number_bits-zero, number_bits-lead, bits_of-append, bits_of-take, bits_of-drop}
 
 pub length-left : (r : BitReader) → length (left r) ≡ r.count + 8 * (length r.code.now - r.at)
 unfolding left
 length-left r =
-    length-append (number_bits r.count r.pending) (bits_of (drop r.at r.code.now)) ∙ omega (arith, length-bits_of (drop r.at r.code.now), length-drop r.at r.code.now, length-number_bits r.count r.pending)
+    length-drop (8 * r.at - r.count) (bits_of r.code.now) ∙ omega (arith, length-bits_of r.code.now, r.within, r.loaded)
 
--- one more byte is pending
-pub byte_loaded : (code : List ℕ) (at count pending b : ℕ) → at < length code → b ≡ get_or code at 0 → b < 256 → number_bits (count + 8) (pending * 256 + b) ++ bits_of (drop (at + 1) code) ≡ number_bits count pending ++ bits_of (drop at code)
-unfolding bits_of
-byte_loaded code at count pending b within is fits =
-    ap (λ bits. bits ++ bits_of (drop (at + 1) code)) (number_bits-joined count 8 pending b fits) ∙ append_assoc (number_bits count pending) (number_bits 8 b) (bits_of (drop (at + 1) code)) ∙ ap (λ bytes. number_bits count pending ++ bits_of bytes) (ap (λ k. k ∷ drop (at + 1) code) is ∙ sym (drop_more code at 0 within))
+-- bits in front of zeros, without the first ones, and zeros behind them
+pub skipped : (bits : List Bool) (count n : ℕ) → n ≤ count → count ≤ length bits → count ≤ 64 → drop n (take count bits ++ replicate (64 - count) false) ++ replicate n false ≡ take (count - n) (drop n bits) ++ replicate (64 - (count - n)) false
+skipped bits count n le within few =
+    let e : count ≡ n + (count - n) = omega arith in
+    let zeros : 64 - count + n ≡ 64 - (count - n) = omega arith in
+    ap (λ front. front ++ replicate n false) (drop-append-le n (take count bits) (replicate (64 - count) false) (omega (arith, length-take-le count bits within))) ∙ append_assoc (drop n (take count bits)) (replicate (64 - count) false) (replicate n false) ∙ ap (λ back. drop n (take count bits) ++ back) (replicate-append-replicate (64 - count) n false ∙ ap (λ k. replicate k false) zeros) ∙ ap (λ front. front ++ replicate (64 - (count - n)) false) (ap (λ k. drop n (take k bits)) e ∙ drop-take n (count - n) bits)
 
--- four bytes and the rest
-four_bytes : (code : List ℕ) (at : ℕ) → at + 4 ≤ length code → drop at code ≡ get_or code at 0 ∷ get_or code (at + 1) 0 ∷ get_or code (at + 2) 0 ∷ get_or code (at + 3) 0 ∷ drop (at + 4) code
-four_bytes code at within =
-    let step : (i j : ℕ) → i < length code → j ≡ i + 1 → drop i code ≡ get_or code i 0 ∷ drop j code = λ i j h e. drop_more code i 0 h ∙ ap (λ k. get_or code i 0 ∷ drop k code) (sym e) in
-    step at (at + 1) (omega arith) (omega arith) ∙ ap (λ l. get_or code at 0 ∷ l) (step (at + 1) (at + 2) (omega arith) (omega arith) ∙ ap (λ l. get_or code (at + 1) 0 ∷ l) (step (at + 2) (at + 3) (omega arith) (omega arith) ∙ ap (λ l. get_or code (at + 2) 0 ∷ l) (step (at + 3) (at + 4) (omega arith) (omega arith))))
+-- the first pending bits are the first that are left
+pub pending_front : (r : BitReader) (n : ℕ) → n ≤ r.count → take n (number_bits 64 r.pending) ≡ take n (left r)
+unfolding left
+pending_front r n le =
+    let bits = drop (8 * r.at - r.count) (bits_of r.code.now) in
+    let within : r.count ≤ length bits = omega (arith, length-left r) in
+    ap (take n) r.ahead ∙ take-append-le n (take r.count bits) (replicate (64 - r.count) false) (omega (arith, length-take-le r.count bits within)) ∙ take-take n r.count bits le
 
--- the number of four bytes
-pub word_is : (code : List ℕ) (at : ℕ) → at + 4 ≤ length code → ((k : ℕ) → get_or code k 0 < 256) → number_bits 32 (from_be_bytes w32 (get_or code at 0 ∷ get_or code (at + 1) 0 ∷ get_or code (at + 2) 0 ∷ get_or code (at + 3) 0 ∷ [])) ≡ bits_of (take 4 (drop at code))
-word_is code at within fits =
-    number_bits-from_be_bytes (get_or code at 0) (get_or code (at + 1) 0) (get_or code (at + 2) 0) (get_or code (at + 3) 0) (fits at) (fits (at + 1)) (fits (at + 2)) (fits (at + 3)) ∙ ap bits_of (sym (ap (take 4) (four_bytes code at within)))
+-- the bits that are left behind the pending ones
+left_behind : (r : BitReader) → drop r.count (left r) ≡ bits_of (drop r.at r.code.now)
+unfolding left
+left_behind r =
+    let e : 8 * r.at - r.count + r.count ≡ 8 * r.at = omega (arith, r.loaded) in
+    drop-drop r.count (8 * r.at - r.count) (bits_of r.code.now) ∙ ap (λ k. drop k (bits_of r.code.now)) e ∙ sym (bits_of-drop r.at r.code.now)
 
--- a word more is pending
-pub word_loaded : (code : List ℕ) (at count pending word : ℕ) → word < 2 ^ 32 → number_bits 32 word ≡ bits_of (take 4 (drop at code)) → number_bits (count + 32) (pending * 2 ^ 32 + word) ++ bits_of (drop (at + 4) code) ≡ number_bits count pending ++ bits_of (drop at code)
-word_loaded code at count pending word fits is =
-    let front : drop (at + 4) code ≡ drop 4 (drop at code) = sym (drop-drop 4 at code) in
-    ap (λ bits. bits ++ bits_of (drop (at + 4) code)) (number_bits-joined count 32 pending word fits) ∙ append_assoc (number_bits count pending) (number_bits 32 word) (bits_of (drop (at + 4) code)) ∙ ap (λ bits. number_bits count pending ++ bits) (ap (λ bits. bits ++ bits_of (drop (at + 4) code)) is ∙ ap (λ bytes. bits_of (take 4 (drop at code)) ++ bits_of bytes) front ∙ sym (bits_of-append (take 4 (drop at code)) (drop 4 (drop at code))) ∙ ap bits_of (take-append-drop 4 (drop at code)))
+-- a word that is loaded
+pub loaded : (code : List ℕ) (from read len word rest : ℕ) → from + len ≤ length code → len ≤ 8 → read ≤ 8 * len → number_bits 64 word ≡ bits_of (take len (drop from code)) ++ replicate (64 - 8 * len) false → number_bits 64 rest ≡ drop read (number_bits 64 word) ++ replicate read false → number_bits 64 rest ≡ take (8 * len - read) (drop (8 * from + read) (bits_of code)) ++ replicate (64 - (8 * len - read)) false
+loaded code from read len word rest within few some is back =
+    let bits = drop (8 * from) (bits_of code) in
+    let enough : 8 * len ≤ length bits = omega (arith, length-drop (8 * from) (bits_of code), length-bits_of code) in
+    let front : bits_of (take len (drop from code)) ≡ take (8 * len) bits = bits_of-take len (drop from code) ∙ ap (take (8 * len)) (bits_of-drop from code) in
+    back ∙ ap (λ l. drop read l ++ replicate read false) (is ∙ ap (λ l. l ++ replicate (64 - 8 * len) false) front) ∙ skipped bits (8 * len) read some enough (omega arith) ∙ ap (λ l. take (8 * len - read) l ++ replicate (64 - (8 * len - read)) false) (drop-drop read (8 * from) (bits_of code))
 
--- the front of the pending bits
-pub field_taken : (tail : List Bool) (width rest pending : ℕ) → number_bits (width + rest) pending ++ tail ≡ number_bits width (pending / 2 ^ rest) ++ (number_bits rest (pending % 2 ^ rest) ++ tail)
-field_taken tail width rest pending =
-    ap (λ bits. bits ++ tail) (number_bits-append width rest pending ∙ ap (λ bits. number_bits width (pending / 2 ^ rest) ++ bits) (sym (number_bits-mod rest pending))) ∙ append_assoc (number_bits width (pending / 2 ^ rest)) (number_bits rest (pending % 2 ^ rest)) tail
+-- a one that stands in front of zeros is one of the bits before them
+lead_lt : (front : List Bool) (count lead : ℕ) (tail : List Bool) → length front ≡ count → count ≤ 64 → front ++ replicate (64 - count) false ≡ replicate lead false ++ true ∷ tail → lead < count
+lead_lt front count lead tail len few is =
+    elim (cases_lt lead count) [
+      | inl h ↦ h
+      | inr h ↦
+          let sizes = sym (length-append front (replicate (64 - count) false)) ∙ ap length is ∙ length-append (replicate lead false) (true ∷ tail) in
+          let below : lead - count < 64 - count = omega (arith, sizes, len, length-replicate (64 - count) false, length-replicate lead false) in
+          let zero : get_or (front ++ replicate (64 - count) false) lead false ≡ false = get_or-append_right front (replicate (64 - count) false) count lead false len h ∙ get_or-replicate (64 - count) (lead - count) false false below in
+          let one : get_or (replicate lead false ++ true ∷ tail) lead false ≡ true = get_or_at (replicate lead false) true tail false lead (length-replicate lead false) in
+          let same = ap (λ l. get_or l lead false) is in
+          cc
+    ]
 
 -- zeros and the leading one of the pending bits
-pub zeros_taken : (tail : List Bool) (zeros rest pending : ℕ) → 2 ^ rest ≤ pending → pending < 2 ^ suc rest → number_bits (zeros + suc rest) pending ++ tail ≡ replicate zeros false ++ true ∷ (number_bits rest (pending % 2 ^ rest) ++ tail)
-zeros_taken tail zeros rest pending low high =
-    ap (λ bits. bits ++ tail) (number_bits-lead zeros rest pending low high) ∙ append_assoc (replicate zeros false) (true ∷ number_bits rest (pending % 2 ^ rest)) tail
+pub left_near : (r : BitReader) → r.pending < 2 ^ 64 → (r.pending ≡ 0 → ⊥) → (count_leading_zeros 64 r.pending < r.count) × (left r ≡ replicate (count_leading_zeros 64 r.pending) false ++ true ∷ drop (count_leading_zeros 64 r.pending + 1) (left r))
+left_near r fits some =
+    let lead = count_leading_zeros 64 r.pending in
+    let bits = number_bits 64 r.pending in
+    let top = leading_top 64 r.pending (omega arith) fits in
+    let e : 64 ≡ lead + suc top.0 = omega (arith, top.1) in
+    let tail = number_bits top.0 (r.pending % 2 ^ top.0) in
+    let is : bits ≡ replicate lead false ++ true ∷ tail = ap (λ k. number_bits k r.pending) e ∙ number_bits-lead lead top.0 r.pending top.2 top.3 in
+    let lt : lead < r.count = lead_lt (take r.count (drop (8 * r.at - r.count) (bits_of r.code.now))) r.count lead tail (length-take-le r.count (drop (8 * r.at - r.count) (bits_of r.code.now)) (omega (arith, length-drop (8 * r.at - r.count) (bits_of r.code.now), length-bits_of r.code.now, r.within, r.loaded))) r.few (sym r.ahead ∙ is) in
+    let front : take (lead + 1) (left r) ≡ replicate lead false ++ true ∷ [] = sym (pending_front r (lead + 1) (omega arith)) ∙ ap (take (lead + 1)) is ∙ ap (λ k. take k (replicate lead false ++ true ∷ tail)) (omega (arith, length-replicate lead false)) ∙ take-append-add (replicate lead false) (true ∷ tail) 1 in
+    (lt, sym (take-append-drop (lead + 1) (left r)) ∙ ap (λ l. l ++ drop (lead + 1) (left r)) front ∙ append_assoc (replicate lead false) (true ∷ []) (drop (lead + 1) (left r)))
+
+-- no pending bit is a one where all of them are leading zeros
+pub none_pending : (r : BitReader) → r.pending < 2 ^ 64 → r.count ≤ count_leading_zeros 64 r.pending → r.pending ≡ 0
+none_pending r fits all =
+    elim (cases_lt 0 r.pending) [
+      | inl h ↦ absurd (omega (arith, (left_near r fits (λ e. absurd (omega (arith, e, h)))).0, all))
+      | inr h ↦ omega arith
+    ]
+
+-- a pending bit is a one where they are not all leading zeros
+pub some_pending : (r : BitReader) → count_leading_zeros 64 r.pending < r.count → r.pending ≡ 0 → ⊥
+some_pending r some none =
+    let all : count_leading_zeros 64 r.pending ≡ 64 = ap (count_leading_zeros 64) none ∙ leading_of_zero 64 in
+    absurd (omega (arith, all, some, r.few))
+
+-- the bits behind zeros and a one, skipped one after the other
+pub behind_one : (bits : List Bool) (n : ℕ) (one rest : List Bool) → one ≡ drop n bits → rest ≡ drop 1 one → drop (n + 1) bits ≡ rest
+behind_one bits n one rest is_one is_rest =
+    sym (is_rest ∙ ap (drop 1) is_one ∙ drop-drop 1 n bits)
+
+-- a byte at least is pending where one was left in the slice
+pub byte_pending : (old new : BitReader) → left new ≡ left old → old.count ≡ 0 → old.at < length old.code.now → (new.count < 57 → new.at ≡ length new.code.now) → 8 ≤ new.count
+byte_pending old new same none more end =
+    elim (cases_lt new.count 57) [
+      | inl h ↦ omega (arith, sym (length-left new) ∙ ap length same ∙ length-left old, end h)
+      | inr h ↦ omega arith
+    ]
+
+-- what is left behind zeros and a one
+pub rest_is : (bits : List Bool) (n : ℕ) (rest : List Bool) → bits ≡ replicate n false ++ true ∷ rest → drop (n + 1) bits ≡ rest
+rest_is bits n rest is =
+    ap (drop (n + 1)) is ∙ ap (λ k. drop (k + 1) (replicate n false ++ true ∷ rest)) (sym (length-replicate n false)) ∙ drop-append-add (replicate n false) (true ∷ rest) 1
 
 -- zero bytes have zeros alone
 pub bits_of-zeros : (n : ℕ) → bits_of (replicate n 0) ≡ replicate (8 * n) false
@@ -62,37 +117,17 @@ zeros_joined : (a b c : ℕ) (tail : List Bool) → replicate a false ++ (replic
 zeros_joined a b c tail =
     sym (append_assoc (replicate a false) (replicate b false) (replicate c false ++ tail)) ∙ ap (λ bits. bits ++ (replicate c false ++ tail)) (replicate-append-replicate a b false) ∙ sym (append_assoc (replicate (a + b) false) (replicate c false) tail) ∙ ap (λ bits. bits ++ tail) (replicate-append-replicate (a + b) c false)
 
--- the leading bit of a number of m bits is one of them
-exponent_lt : (j m v : ℕ) → 2 ^ j ≤ v → v < 2 ^ m → j < m
-exponent_lt j m v low high =
-    elim (cases_lt j m) [
-      | inl h ↦ h
-      | inr h ↦
-          let le : 2 ^ m ≤ 2 ^ j = pow-le-pow_right (omega arith) h in
-          absurd (omega arith)
-    ]
-
--- the pending bits, where one of them is a one
-pub left_near : (r : BitReader) → (r.pending ≡ 0 → ⊥) → (63 - count_leading_zeros 64 r.pending < r.count) × (left r ≡ replicate (r.count - 1 - (63 - count_leading_zeros 64 r.pending)) false ++ true ∷ (number_bits (63 - count_leading_zeros 64 r.pending) (r.pending % 2 ^ (63 - count_leading_zeros 64 r.pending)) ++ bits_of (drop r.at r.code.now)))
-unfolding left
-left_near r some =
-    let lead = count_leading_zeros 64 r.pending in
-    let rest = 63 - lead in
-    let pos : 0 < r.pending = omega arith in
-    let top = leading_top 64 r.pending pos (below_wider r.pending r.count 64 r.fits (omega arith)) in
-    let is : top.0 ≡ rest = omega (arith, top.1) in
-    let low : 2 ^ rest ≤ r.pending = subst (λ (k : ℕ). 2 ^ k ≤ r.pending) is top.2 in
-    let high : r.pending < 2 ^ suc rest = subst (λ (k : ℕ). r.pending < 2 ^ suc k) is top.3 in
-    let lt = exponent_lt rest r.count r.pending low r.fits in
-    let e : r.count ≡ (r.count - 1 - rest) + suc rest = omega arith in
-    (lt, ap (λ k. number_bits k r.pending ++ bits_of (drop r.at r.code.now)) e ∙ zeros_taken (bits_of (drop r.at r.code.now)) (r.count - 1 - rest) rest r.pending low high)
+-- the bits that are left where no pending one is a one
+left_blank : (r : BitReader) → r.pending ≡ 0 → left r ≡ replicate r.count false ++ bits_of (drop r.at r.code.now)
+left_blank r none =
+    let zeros : take r.count (left r) ≡ replicate r.count false = sym (pending_front r r.count (omega arith)) ∙ ap (λ p. take r.count (number_bits 64 p)) none ∙ ap (take r.count) (number_bits-zero 64) ∙ take-replicate r.count 64 false r.few in
+    sym (take-append-drop r.count (left r)) ∙ ap (λ l. l ++ drop r.count (left r)) zeros ∙ ap (λ l. replicate r.count false ++ l) (left_behind r)
 
 -- all bits that are left are zeros
 pub left_zeros : (r : BitReader) → r.pending ≡ 0 → take (length r.code.now - r.at) (drop r.at r.code.now) ≡ replicate (length (take (length r.code.now - r.at) (drop r.at r.code.now))) 0 → left r ≡ replicate (r.count + 8 * length (take (length r.code.now - r.at) (drop r.at r.code.now))) false
-unfolding left
 left_zeros r none zeros =
     let n = length (take (length r.code.now - r.at) (drop r.at r.code.now)) in
-    ap (λ p. number_bits r.count p ++ bits_of (drop r.at r.code.now)) none ∙ ap (λ bits. bits ++ bits_of (drop r.at r.code.now)) (number_bits-zero r.count) ∙ ap (λ bytes. replicate r.count false ++ bits_of bytes) (sym (take_rest r.code.now r.at) ∙ zeros) ∙ ap (λ bits. replicate r.count false ++ bits) (bits_of-zeros n) ∙ replicate-append-replicate r.count (8 * n) false
+    left_blank r none ∙ ap (λ bytes. replicate r.count false ++ bits_of bytes) (sym (take_rest r.code.now r.at) ∙ zeros) ∙ ap (λ bits. replicate r.count false ++ bits) (bits_of-zeros n) ∙ replicate-append-replicate r.count (8 * n) false
 
 -- bytes of zeros, a byte, and the rest
 bytes_split : (bytes : List ℕ) (i : ℕ) → i < length bytes → take i bytes ≡ replicate i 0 → bits_of bytes ≡ replicate (8 * i) false ++ (number_bits 8 (get_or bytes i 0) ++ bits_of (drop (i + 1) bytes))
@@ -102,7 +137,6 @@ bytes_split bytes i within zeros =
 
 -- pending zeros, bytes of zeros, and a byte with a one
 pub left_ahead : (r : BitReader) (i b : ℕ) → r.pending ≡ 0 → i < length (take (length r.code.now - r.at) (drop r.at r.code.now)) → take i (take (length r.code.now - r.at) (drop r.at r.code.now)) ≡ replicate i 0 → b ≡ get_or (take (length r.code.now - r.at) (drop r.at r.code.now)) i 0 → 0 < b → b < 256 → left r ≡ replicate (r.count + 8 * i + count_leading_zeros 8 b) false ++ true ∷ (number_bits (7 - count_leading_zeros 8 b) (b % 2 ^ (7 - count_leading_zeros 8 b)) ++ bits_of (drop (r.at + i + 1) r.code.now))
-unfolding left
 left_ahead r i b none within zeros is pos fits =
     let bytes = take (length r.code.now - r.at) (drop r.at r.code.now) in
     let lead = count_leading_zeros 8 b in
@@ -114,9 +148,31 @@ left_ahead r i b none within zeros is pos fits =
     let whole : 8 ≡ lead + suc rest = omega (arith, top.1) in
     let gone : drop (i + 1) bytes ≡ drop (r.at + i + 1) r.code.now = ap (drop (i + 1)) (take_rest r.code.now r.at) ∙ drop-drop (i + 1) r.at r.code.now ∙ ap (λ k. drop k r.code.now) (omega arith) in
     let tail = bits_of (drop (r.at + i + 1) r.code.now) in
-    let byte : number_bits 8 (get_or bytes i 0) ++ bits_of (drop (i + 1) bytes) ≡ replicate lead false ++ true ∷ (number_bits rest (b % 2 ^ rest) ++ tail) = ap (λ v. number_bits 8 v ++ bits_of (drop (i + 1) bytes)) (sym is) ∙ ap (λ l. number_bits 8 b ++ bits_of l) gone ∙ ap (λ k. number_bits k b ++ tail) whole ∙ zeros_taken tail lead rest b low high in
+    let byte : number_bits 8 (get_or bytes i 0) ++ bits_of (drop (i + 1) bytes) ≡ replicate lead false ++ true ∷ (number_bits rest (b % 2 ^ rest) ++ tail) = ap (λ v. number_bits 8 v ++ bits_of (drop (i + 1) bytes)) (sym is) ∙ ap (λ l. number_bits 8 b ++ bits_of l) gone ∙ ap (λ k. number_bits k b ++ tail) whole ∙ ap (λ bits. bits ++ tail) (number_bits-lead lead rest b low high) ∙ append_assoc (replicate lead false) (true ∷ number_bits rest (b % 2 ^ rest)) tail in
     let front : bits_of (drop r.at r.code.now) ≡ replicate (8 * i) false ++ (replicate lead false ++ true ∷ (number_bits rest (b % 2 ^ rest) ++ tail)) = ap bits_of (sym (take_rest r.code.now r.at)) ∙ bytes_split bytes i within zeros ∙ ap (λ bits. replicate (8 * i) false ++ bits) byte in
-    ap (λ p. number_bits r.count p ++ bits_of (drop r.at r.code.now)) none ∙ ap (λ bits. bits ++ bits_of (drop r.at r.code.now)) (number_bits-zero r.count) ∙ ap (λ bits. replicate r.count false ++ bits) front ∙ zeros_joined r.count (8 * i) lead (true ∷ (number_bits rest (b % 2 ^ rest) ++ tail))
+    left_blank r none ∙ ap (λ bits. replicate r.count false ++ bits) front ∙ zeros_joined r.count (8 * i) lead (true ∷ (number_bits rest (b % 2 ^ rest) ++ tail))
+
+-- bytes of a slice are bytes
+pub fits_part : (bytes : List ℕ) → ((i : ℕ) → get_or bytes i 0 < 256) → (n m i : ℕ) → get_or (take n (drop m bytes)) i 0 < 256
+fits_part bytes fits n m i =
+    elim (cases_lt i n) [
+      | inl h ↦ rw (get_or-take n (drop m bytes) i 0 h, get_or-drop m bytes i 0) (fits (m + i))
+      | inr h ↦ rw (get_or_past (take n (drop m bytes)) i 0 (omega (arith, length-take n (drop m bytes)))) (omega arith)
+    ]
+
+fits_zeros : (n i : ℕ) → get_or (replicate n 0) i 0 < 256
+fits_zeros n i =
+    elim (cases_lt i n) [
+      | inl h ↦ rw (get_or-replicate {A = ℕ} n i 0 0 h) (omega arith)
+      | inr h ↦ rw (get_or_past {X = ℕ} (replicate n 0) i 0 (omega (arith, length-replicate {A = ℕ} n 0))) (omega arith)
+    ]
+
+pub fits_filled : (bytes : List ℕ) → ((i : ℕ) → get_or bytes i 0 < 256) → (n i : ℕ) → get_or (bytes ++ replicate n 0) i 0 < 256
+fits_filled bytes fits n i =
+    elim (cases_lt i (length bytes)) [
+      | inl h ↦ rw (get_or_append_left bytes (replicate n 0) 0 i h) (fits i)
+      | inr h ↦ rw (get_or-append_right bytes (replicate n 0) (length bytes) i 0 refl h) (fits_zeros n (i - length bytes))
+    ]
 
 -- Which answer a run of zeros has.
 
@@ -154,4 +210,4 @@ not_IsZeros-one max n tail zeros =
     let zero : get_or bits n false ≡ false = ap (λ l. get_or l n false) zeros.0 ∙ get_or-replicate (length bits) n false false (omega arith) in
     cc
 
-pub ruleset lengths = (length-left, below_wider)
+pub ruleset lengths = (length-left)

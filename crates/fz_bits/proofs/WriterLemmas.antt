@@ -4,7 +4,7 @@ use Rattle.std.proofs.lemmas.List.{length-take-le, take-replicate, drop-drop, re
 use Rattle.std.proofs.Math.Seq.{take-append-add}
 use Rattle.std.proofs.Math.Nat.{add-zero}
 use Rattle.std.proofs.lemmas.Nat.{pow_pos}
-use Rattle.std.specs.Int.{w32, to_be_bytes}
+use Rattle.std.specs.Int.{w64, to_be_bytes}
 use Rattle.fz_bits.specs.Bits.{number_bits, bits_of}
 use Rattle.fz_bits.specs.Writer.{written, SameBehind}
 use Rattle.fz_bits.specs.declared.writer.BitWriter.{BitWriter}
@@ -21,15 +21,14 @@ pub written_more : (front : List Bool) (count width pending value : ℕ) → val
 written_more front count width pending value fits =
     ap (λ bits. front ++ bits) (number_bits-joined count width pending value fits) ∙ sym (append_assoc front (number_bits count pending) (number_bits width value))
 
--- a word of the first 32 bits, and what is behind it
-pub flushed : (rest bits : ℕ) → bits_of (to_be_bytes w32 (bits / 2 ^ rest)) ++ number_bits rest (bits % 2 ^ rest) ≡ number_bits (32 + rest) bits
-flushed rest bits =
-    ap (λ front. front ++ number_bits rest (bits % 2 ^ rest)) (bits_of-to_be_bytes (bits / 2 ^ rest)) ∙ ap (λ back. number_bits 32 (bits / 2 ^ rest) ++ back) (number_bits-mod rest bits) ∙ sym (number_bits-append 32 rest bits)
-
--- a word written behind whole bytes
-pub word_written : (bytes word : List ℕ) (rest bits : ℕ) → word ≡ to_be_bytes w32 (bits / 2 ^ rest) → bits_of (bytes ++ word) ++ number_bits rest (bits % 2 ^ rest) ≡ bits_of bytes ++ number_bits (32 + rest) bits
-word_written bytes word rest bits is =
-    ap (λ front. front ++ number_bits rest (bits % 2 ^ rest)) (bits_of-append bytes word ∙ ap (λ w. bits_of bytes ++ bits_of w) is) ∙ append_assoc (bits_of bytes) (bits_of (to_be_bytes w32 (bits / 2 ^ rest))) (number_bits rest (bits % 2 ^ rest)) ∙ ap (λ back. bits_of bytes ++ back) (flushed rest bits)
+-- a word written behind whole bytes: the pending bits and the first of the new ones
+pub word_written : (bytes word : List ℕ) (count rest pending value : ℕ) → count ≤ 64 → value / 2 ^ rest < 2 ^ (64 - count) → word ≡ to_be_bytes w64 (pending * 2 ^ (64 - count) + value / 2 ^ rest) → bits_of (bytes ++ word) ++ number_bits rest (value % 2 ^ rest) ≡ (bits_of bytes ++ number_bits count pending) ++ number_bits (64 - count + rest) value
+word_written bytes word count rest pending value few fits is =
+    let e : 64 ≡ count + (64 - count) = omega arith in
+    let high = value / 2 ^ rest in
+    let word_bits : bits_of word ≡ number_bits count pending ++ number_bits (64 - count) high = ap bits_of is ∙ bits_of-to_be_bytes (pending * 2 ^ (64 - count) + high) ∙ ap (λ k. number_bits k (pending * 2 ^ (64 - count) + high)) e ∙ number_bits-joined count (64 - count) pending high fits in
+    let back : number_bits (64 - count) high ++ number_bits rest (value % 2 ^ rest) ≡ number_bits (64 - count + rest) value = ap (λ l. number_bits (64 - count) high ++ l) (number_bits-mod rest value) ∙ sym (number_bits-append (64 - count) rest value) in
+    ap (λ front. front ++ number_bits rest (value % 2 ^ rest)) (bits_of-append bytes word ∙ ap (λ w. bits_of bytes ++ w) word_bits ∙ sym (append_assoc (bits_of bytes) (number_bits count pending) (number_bits (64 - count) high))) ∙ append_assoc (bits_of bytes ++ number_bits count pending) (number_bits (64 - count) high) (number_bits rest (value % 2 ^ rest)) ∙ ap (λ l. (bits_of bytes ++ number_bits count pending) ++ l) back
 
 -- zeros behind zeros
 pub zeros_more : (front : List Bool) (n m : ℕ) → (front ++ replicate n false) ++ number_bits m 0 ≡ front ++ replicate (n + m) false
@@ -49,11 +48,11 @@ SameBehind-more n m old new le same =
     sym (at new) ∙ ap (drop ((m + 7) / 8 - (n + 7) / 8)) same ∙ at old
 
 -- the last bytes of a writer that is finished
-pub bits_of-last : (len count pending : ℕ) → count < 32 → pending < 2 ^ count → len ≡ (count + 7) / 8 → bits_of (take len (to_be_bytes w32 (pending * 2 ^ (32 - count)))) ≡ number_bits count pending ++ replicate (8 * len - count) false
+pub bits_of-last : (len count pending : ℕ) → count < 64 → pending < 2 ^ count → len ≡ (count + 7) / 8 → bits_of (take len (to_be_bytes w64 (pending * 2 ^ (64 - count)))) ≡ number_bits count pending ++ replicate (8 * len - count) false
 bits_of-last len count pending few fits is =
-    let whole : count + (32 - count) ≡ 32 = omega arith in
+    let whole : count + (64 - count) ≡ 64 = omega arith in
     let split : 8 * len ≡ length (number_bits count pending) + (8 * len - count) = omega (arith, length-number_bits count pending) in
-    let word : bits_of (to_be_bytes w32 (pending * 2 ^ (32 - count))) ≡ number_bits count pending ++ replicate (32 - count) false = bits_of-to_be_bytes (pending * 2 ^ (32 - count)) ∙ ap (λ k. number_bits k (pending * 2 ^ (32 - count))) (sym whole) ∙ ap (number_bits (count + (32 - count))) (sym (add-zero (pending * 2 ^ (32 - count)))) ∙ number_bits-joined count (32 - count) pending 0 (pow_pos (32 - count)) ∙ ap (λ bits. number_bits count pending ++ bits) (number_bits-zero (32 - count)) in
-    bits_of-take len (to_be_bytes w32 (pending * 2 ^ (32 - count))) ∙ ap (take (8 * len)) word ∙ ap (λ k. take k (number_bits count pending ++ replicate (32 - count) false)) split ∙ take-append-add (number_bits count pending) (replicate (32 - count) false) (8 * len - count) ∙ ap (λ bits. number_bits count pending ++ bits) (take-replicate (8 * len - count) (32 - count) false (omega arith))
+    let word : bits_of (to_be_bytes w64 (pending * 2 ^ (64 - count))) ≡ number_bits count pending ++ replicate (64 - count) false = bits_of-to_be_bytes (pending * 2 ^ (64 - count)) ∙ ap (λ k. number_bits k (pending * 2 ^ (64 - count))) (sym whole) ∙ ap (number_bits (count + (64 - count))) (sym (add-zero (pending * 2 ^ (64 - count)))) ∙ number_bits-joined count (64 - count) pending 0 (pow_pos (64 - count)) ∙ ap (λ bits. number_bits count pending ++ bits) (number_bits-zero (64 - count)) in
+    bits_of-take len (to_be_bytes w64 (pending * 2 ^ (64 - count))) ∙ ap (take (8 * len)) word ∙ ap (λ k. take k (number_bits count pending ++ replicate (64 - count) false)) split ∙ take-append-add (number_bits count pending) (replicate (64 - count) false) (8 * len - count) ∙ ap (λ bits. number_bits count pending ++ bits) (take-replicate (8 * len - count) (64 - count) false (omega arith))
 
 pub ruleset lengths = (length-written, below_wider)

@@ -1,15 +1,15 @@
 -- A bit reader is seen as the bits that are left and the number of bits read.
-use Rattle.std.specs.Prelude.{◌≡◌, ℕ, ◌+◌, ◌-◌, ◌*◌, ◌≤◌, Bool, false, List, ◌++◌, length, take, drop, replicate}
-use Rattle.fz_bits.specs.Bits.{number_bits, bits_of}
+use Rattle.std.specs.Prelude.{◌≡◌, ℕ, ◌+◌, ◌-◌, ◌*◌, ◌≤◌, Bool, false, List, length, take, drop, replicate}
+use Rattle.fz_bits.specs.Bits.{bits_of}
 use Rattle.fz_bits.specs.declared.reader.BitReader.{BitReader}
-
--- the bits that are left
-unfoldable pub left : BitReader → List Bool
-left r = number_bits r.count r.pending ++ bits_of (drop r.at r.code.now)
 
 -- how many bits were read
 abbrev pub place : BitReader → ℕ
 place r = 8 * r.at - r.count
+
+-- the bits that are left
+unfoldable pub left : BitReader → List Bool
+left r = drop (place r) (bits_of r.code.now)
 
 -- the bits that are left and the place are as before
 pub record IsUnmoved (old new : BitReader) : Type 0 where

@@ -1,27 +1,18 @@
-//! A number of up to 64 bits, taken apart at a bit and joined.
+//! A number of 64 bits, taken apart at a bit and joined.
 #![tactic(auto)]
 
-ghost use Rattle.std.specs.Prelude.{◌≡◌, ℕ, ◌+◌, ◌-◌, ◌*◌, ◌/◌, ◌%◌, ◌^◌, ◌<◌, ◌≤◌};
+ghost use Rattle.fz_bits.specs.Bits.{number_bits};
+ghost use Rattle.std.specs.Prelude.{◌≡◌, ℕ, ◌+◌, ◌-◌, ◌*◌, ◌/◌, ◌%◌, ◌^◌, ◌<◌, ◌≤◌, false, ◌++◌, take, drop, replicate};
 
 /// `high` with `width` bits of `low` behind it.
 #[inline]
-pub fn joined(high: u64, low: u32, width: u32) -> u64
-    requires width { width ≤ 32 }
+pub fn joined(high: u64, low: u64, width: u32) -> u64
+    requires width { width < 64 }
     requires high { high < 2 ^ (64 - width) }
     requires low { low < 2 ^ width }
     ensures { result ≡ high * 2 ^ width + low }
 {
-    (high << width) | u64::from(low)
-}
-
-/// The bits in front of the last `rest`.
-#[inline]
-pub fn front(bits: u64, rest: u32) -> u32
-    requires rest { rest < 64 }
-    requires fits { bits < 2 ^ (32 + rest) }
-    ensures { result ≡ bits / 2 ^ rest }
-{
-    (bits >> rest) as u32
+    (high << width) | low
 }
 
 /// The last `rest` bits.
@@ -31,4 +22,23 @@ pub fn back(bits: u64, rest: u32) -> u64
     ensures { result ≡ bits % 2 ^ rest }
 {
     bits & ((1 << rest) - 1)
+}
+
+/// The number of the first `width` bits of 64.
+#[inline]
+pub fn first(bits: u64, width: u32) -> u32
+    requires { width ≤ 32 }
+    ensures bits { number_bits width result ≡ take width (number_bits 64 bits) }
+    ensures fits { result < 2 ^ width }
+{
+    (bits >> 1 >> (63 - width)) as u32
+}
+
+/// The bits behind the first `width` of 64, and zeros behind them.
+#[inline]
+pub fn behind(bits: u64, width: u32) -> u64
+    requires { width < 64 }
+    ensures { number_bits 64 result ≡ drop width (number_bits 64 bits) ++ replicate width false }
+{
+    bits << width
 }

@@ -4,7 +4,7 @@
 ghost use Rattle.fz_bits.specs.Bits.{number_bits, bits_of};
 ghost use Rattle.std.specs.Prelude.{◌≡◌, ℕ, ◌+◌, ◌-◌, ◌*◌, ◌/◌, ◌%◌, ◌^◌, ◌<◌, ◌≤◌, ◌⊎◌, ◌↔◌, true, false, [], ◌∷◌, ◌++◌, length, take, drop, replicate, slice_index, ◌≢◌, MatchOption, IsErr, IfOk, OnErr, IsErrOf};
 
-use crate::fields::{back, front, joined};
+use crate::fields::{behind, first};
 
 /// Fewer bits are left than were asked for.
 #[derive(Clone, Copy, Debug, PartialEq, Eq)]
@@ -29,8 +29,9 @@ pub struct BitReader<'a> {
     ghost small: { length code.now ≤ 2 ^ 60 },
     ghost within: { at ≤ length code.now },
     ghost loaded: { count ≤ 8 * at },
-    ghost few: { count < 64 },
-    ghost fits: { pending < 2 ^ count },
+    ghost few: { count ≤ 64 },
+    ghost ahead: { number_bits 64 pending
+        ≡ take count (drop (8 * at - count) (bits_of code.now)) ++ replicate (64 - count) false },
 }
 
 impl<'a> BitReader<'a> {
@@ -73,10 +74,8 @@ impl<'a> BitReader<'a> {
         if self.count < width {
             return Err(Ended);
         }
-        let rest = self.count - width;
-        let value = front(self.pending, rest);
-        self.pending = back(self.pending, rest);
-        self.count = rest;
+        let value = first(self.pending, width);
+        self.skip(width);
         Ok(value)
     }
 
@@ -92,21 +91,20 @@ impl<'a> BitReader<'a> {
         ensures ended { IsErrOf result ZeroStop.Ended ↔ IsZeros max (left self.old) }
         ensures err { OnErr result (IsUnmoved self.old self.new) }
     {
-        self.load(32);
-        if self.pending == 0 {
+        self.load_one();
+        let zeros = self.pending.leading_zeros();
+        if zeros >= self.count {
             // The copy keeps the fields of `self` in registers: its address is handed out.
             let mut ahead = *self;
             let zeros = ahead.zeros_ahead(max)?;
             *self = ahead;
             return Ok(zeros);
         }
-        let rest = 63 - self.pending.leading_zeros();
-        let zeros = self.count - 1 - rest;
         if zeros > max {
             return Err(ZeroStop::TooMany);
         }
-        self.pending = back(self.pending, rest);
-        self.count = rest;
+        self.skip(zeros);
+        self.skip(1);
         Ok(zeros)
     }
 
@@ -134,10 +132,27 @@ impl<'a> BitReader<'a> {
         if zeros > u64::from(max) {
             return Err(ZeroStop::TooMany);
         }
-        self.at += zero_bytes + 1;
-        self.pending = back(u64::from(byte), 7 - lead);
-        self.count = 7 - lead;
+        self.at += zero_bytes;
+        self.pending = 0;
+        self.count = 0;
+        self.refill();
+        self.skip(lead);
+        self.skip(1);
         Ok(zeros as u32)
+    }
+
+    /// Passes over pending bits.
+    #[inline]
+    #[tactic(auto, using(crate::proofs::ReaderLemmas::lengths))]
+    fn skip(&mut self, bits: u32)
+        requires few { bits < 64 }
+        requires pending { bits ≤ self.old.count }
+        ensures left { left self.new ≡ drop bits (left self.old) }
+        ensures place { place self.new ≡ place self.old + bits }
+        ensures count { self.new.count ≡ self.old.count - bits }
+    {
+        self.pending = behind(self.pending, bits);
+        self.count -= bits;
     }
 
     /// Loads more bits, so that `width` are pending or none is left in the slice.
@@ -153,67 +168,77 @@ impl<'a> BitReader<'a> {
         }
     }
 
-    /// Loads more bits, so that 32 are pending or none is left in the slice.
+    /// Loads more bits where none of the pending ones is a one.
+    #[inline]
+    fn load_one(&mut self)
+        ensures { IsUnmoved self.old self.new }
+    {
+        if self.pending.leading_zeros() >= self.count {
+            self.refill();
+        }
+    }
+
+    /// Loads the next bits, so that 57 are pending or none is left in the slice.
     #[inline]
     #[tactic(auto, using(crate::proofs::ReaderLemmas::lengths))]
     fn refill(&mut self)
-        requires { self.old.count < 32 }
         ensures unmoved { IsUnmoved self.old self.new }
-        ensures end { self.new.count < 32 → self.new.at ≡ length self.new.code.now }
+        ensures end { self.new.count < 57 → self.new.at ≡ length self.new.code.now }
     {
-        if self.code.len() - self.at >= 4 {
-            let word = word_at(self.code, self.at);
-            self.pending = joined(self.pending, word, 32);
-            self.at += 4;
-            self.count += 32;
+        let place = self.place();
+        let from = (place / 8) as usize;
+        if self.code.len() - from >= 8 {
+            let read = (place % 8) as u32;
+            self.pending = behind(word_at(self.code, from), read);
+            self.at = from + 8;
+            self.count = 64 - read;
         } else {
-            *self = self.with_tail();
+            *self = self.at_last_word();
         }
     }
 
-    /// The reader with the last bytes of the slice pending, fewer than four.
+    /// The reader with the last bytes of the slice pending, fewer than eight.
     #[cold]
-    fn with_tail(self) -> BitReader<'a>
-        requires few { self.count < 32 }
-        requires tail { length self.code.now < self.at + 4 }
+    #[inline(never)]
+    fn at_last_word(self) -> BitReader<'a>
+        requires { length self.code.now < place self / 8 + 8 }
         ensures unmoved { IsUnmoved self.entry result }
-        ensures code { result.code ≡ self.entry.code }
         ensures end { result.at ≡ length result.code.now }
     {
-        let mut reader = self;
-        while reader.at < reader.code.len() {
-            reader = reader.with_byte();
-        }
-        reader
-    }
-
-    /// The reader with one more byte pending.
-    #[tactic(auto, using(crate::proofs::ReaderLemmas::lengths))]
-    fn with_byte(self) -> BitReader<'a>
-        requires few { self.count ≤ 55 }
-        requires more { self.at < length self.code.now }
-        ensures unmoved { IsUnmoved self.entry result }
-        ensures code { result.code ≡ self.entry.code }
-        ensures at { result.at ≡ self.entry.at + 1 }
-        ensures count { result.count ≡ self.entry.count + 8 }
-    {
-        let byte = self.code[self.at];
+        let place = self.place();
+        let read = (place % 8) as u32;
+        let bytes = &self.code[(place / 8) as usize..];
         BitReader {
             code: self.code,
-            at: self.at + 1,
-            pending: joined(self.pending, u32::from(byte), 8),
-            count: self.count + 8,
+            at: self.code.len(),
+            pending: behind(last_word(bytes), read),
+            count: 8 * bytes.len() as u32 - read,
         }
     }
 }
 
-/// The number of four bytes, the most significant first.
+/// The number of the eight bytes from `at` on.
 #[inline]
-fn word_at(bytes: &[u8], at: usize) -> u32
-    requires { at + 4 ≤ length bytes.now }
-    ensures { number_bits 32 result ≡ bits_of (take 4 (drop at bytes.now)) }
+fn word_at(bytes: &[u8], at: usize) -> u64
+    requires { at + 8 ≤ length bytes.now }
+    ensures { number_bits 64 result ≡ bits_of (take 8 (drop at bytes.now)) }
 {
-    u32::from_be_bytes([bytes[at], bytes[at + 1], bytes[at + 2], bytes[at + 3]])
+    let mut word = [0u8; 8];
+    word.copy_from_slice(&bytes[at..at + 8]);
+    u64::from_be_bytes(word)
+}
+
+/// The number of fewer than eight bytes and zeros behind them.
+#[cold]
+#[inline(never)]
+fn last_word(bytes: &[u8]) -> u64
+    requires { length bytes.now < 8 }
+    ensures { number_bits 64 result
+        ≡ bits_of bytes.now ++ replicate (64 - 8 * length bytes.now) false }
+{
+    let mut word = [0u8; 8];
+    word[..bytes.len()].copy_from_slice(bytes);
+    u64::from_be_bytes(word)
 }
 
 /// Why the bits end where all that are left are zeros.

@@ -27,6 +27,21 @@ fn words_and_long_runs(rt: HostRuntime) {
 }
 
 #[test]
+fn long_numbers(rt: HostRuntime) {
+    let mut out = [0xeeu8; 17];
+    let mut writer = BitWriter::new(&mut out);
+    assert_eq!(rt; writer.put_long(0x4000_0000_0000_0001, 63), Ok(()));
+    assert_eq!(rt; writer.put_long(0x123_4567_89ab_cdef, 57), Ok(()));
+    assert_eq!(rt; writer.put_long(0, 17), Err(Full));
+    assert_eq!(rt; writer.put_long(0xff, 8), Ok(()));
+    assert_eq!(rt; writer.finish(), 16);
+    let long = [
+        0x80, 0, 0, 0, 0, 0, 0, 0x03, 0x23, 0x45, 0x67, 0x89, 0xab, 0xcd, 0xef, 0xff, 0xee,
+    ];
+    assert_eq!(rt; out, long);
+}
+
+#[test]
 fn zeros_and_ends(rt: HostRuntime) {
     let mut reader = BitReader::new(&[0x08]);
     assert_eq!(rt; reader.zeros(3), Err(ZeroStop::TooMany));

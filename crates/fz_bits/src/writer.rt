@@ -4,7 +4,7 @@
 ghost use Rattle.fz_bits.specs.Bits.{number_bits, bits_of};
 ghost use Rattle.std.specs.Prelude.{◌≡◌, ℕ, ◌+◌, ◌-◌, ◌*◌, ◌/◌, ◌%◌, ◌^◌, ◌<◌, ◌≤◌, ◌↔◌, true, false, [], ◌∷◌, ◌++◌, length, take, drop, replicate, IsTrue, IsErr, OnOk, OnErr};
 
-use crate::fields::{back, front, joined};
+use crate::fields::{back, joined};
 
 /// The bits do not fit into the slice.
 #[derive(Clone, Copy, Debug, PartialEq, Eq)]
@@ -17,7 +17,7 @@ pub struct BitWriter<'a> {
     at: usize,
     pending: u64,
     count: u32,
-    ghost few: { count < 32 },
+    ghost few: { count < 64 },
     ghost in_out: { 8 * at + count ≤ 8 * length out.now },
     ghost fits: { pending < 2 ^ count },
 }
@@ -45,6 +45,22 @@ impl<'a> BitWriter<'a> {
     #[tactic(auto, using(crate::proofs::WriterLemmas::lengths))]
     pub fn put(&mut self, value: u32, width: u32) -> Result<(), Full>
         requires width { width ≤ 32 }
+        requires fits { value < 2 ^ width }
+        ensures same { lent self.new ≡ lent self.old }
+        ensures room { room self.new ≡ room self.old }
+        ensures ok { OnOk result (written self.new ≡ written self.old ++ number_bits width value) }
+        ensures full { IsErr result ↔ (room self.old < length (written self.old) + width) }
+        ensures err { OnErr result (written self.new ≡ written self.old) }
+        ensures behind { SameBehind (length (written self.new)) (buffer self.old) (buffer self.new) }
+    {
+        self.put_long(u64::from(value), width)
+    }
+
+    /// Appends the `width` bits of `value`, up to 63. `Full` leaves the bits as they were.
+    #[inline]
+    #[tactic(auto, using(crate::proofs::WriterLemmas::lengths))]
+    pub fn put_long(&mut self, value: u64, width: u32) -> Result<(), Full>
+        requires width { width < 64 }
         requires fits { value < 2 ^ width }
         ensures same { lent self.new ≡ lent self.old }
         ensures room { room self.new ≡ room self.old }
@@ -129,8 +145,8 @@ impl<'a> BitWriter<'a> {
     /// Appends the `width` bits of `value`, for which there is room.
     #[inline]
     #[tactic(auto, using(crate::proofs::WriterLemmas::lengths))]
-    fn push(&mut self, value: u32, width: u32)
-        requires width { width ≤ 32 }
+    fn push(&mut self, value: u64, width: u32)
+        requires width { width < 64 }
         requires fits { value < 2 ^ width }
         requires free { length (written self.old) + width ≤ room self.old }
         ensures same { lent self.new ≡ lent self.old }
@@ -138,17 +154,16 @@ impl<'a> BitWriter<'a> {
         ensures ok { written self.new ≡ written self.old ++ number_bits width value }
         ensures behind { SameBehind (length (written self.new)) (buffer self.old) (buffer self.new) }
     {
-        let bits = joined(self.pending, value, width);
         let count = self.count + width;
-        if count < 32 {
-            self.pending = bits;
+        if count < 64 {
+            self.pending = joined(self.pending, value, width);
             self.count = count;
         } else {
-            let rest = count - 32;
-            let word = front(bits, rest).to_be_bytes();
-            self.out[self.at..self.at + 4].copy_from_slice(&word);
-            self.at += 4;
-            self.pending = back(bits, rest);
+            let rest = count - 64;
+            let word = joined(self.pending, value >> rest, 64 - self.count).to_be_bytes();
+            self.out[self.at..self.at + 8].copy_from_slice(&word);
+            self.at += 8;
+            self.pending = back(value, rest);
             self.count = rest;
         }
     }
@@ -157,7 +172,7 @@ impl<'a> BitWriter<'a> {
 /// Writes the last `count` bits of `pending` and zeros to a whole byte from `at` on, and answers
 /// the place behind them.
 fn finished(out: &mut [u8], at: usize, pending: u64, count: u32) -> usize
-    requires few { count < 32 }
+    requires few { count < 64 }
     requires fits { pending < 2 ^ count }
     requires in_out { 8 * at + count ≤ 8 * length out.old }
     ensures place { result ≡ at + (count + 7) / 8 }
@@ -167,7 +182,7 @@ fn finished(out: &mut [u8], at: usize, pending: u64, count: u32) -> usize
         ≡ number_bits count pending ++ replicate (8 * (result - at) - count) false }
     ensures behind { drop result out.new ≡ drop result out.old }
 {
-    let word = ((pending << (32 - count)) as u32).to_be_bytes();
+    let word = (pending << (63 - count) << 1).to_be_bytes();
     let len = (count as usize + 7) / 8;
     out[at..at + len].copy_from_slice(&word[..len]);
     at + len

@@ -1,9 +1,9 @@
 -- Bits written one after another.
-use Rattle.std.proofs.Common.{◌≡◌, ℕ, suc, ◌+◌, ◌*◌, ◌/◌, ◌%◌, ◌^◌, ◌<◌, ◌↔◌, Bool, true, false, ℤ, List, [], ◌∷◌, ◌++◌, length, take, drop, get_or, replicate, Result, Ok, Err, IsErr, OnOk, refl, sym, subst, ap, ◌∙◌, arith, append_assoc, length-append}
+use Rattle.std.proofs.Common.{pos, bit_and, ◌≡◌, ℕ, suc, ◌+◌, ◌-◌, ◌*◌, ◌/◌, ◌%◌, ◌^◌, ◌<◌, ◌↔◌, Bool, true, false, ℤ, List, [], ◌∷◌, ◌++◌, length, take, drop, get_or, replicate, Result, Ok, Err, IsErr, OnOk, refl, sym, subst, ap, ◌∙◌, arith, append_assoc, length-append}
 use Rattle.std.specs.List.{flat_map}
 use Rattle.std.proofs.lemmas.Result.{on_ok_weaker}
 use Rattle.std.proofs.lemmas.List.{append-nil, take_more, take-append-drop}
-use Rattle.std.proofs.lemmas.Nat.{pow_pos, mod_below, mod_low}
+use Rattle.std.proofs.lemmas.Nat.{pow_pos, mod_below, mod_low, one_shl, and_mask}
 use Rattle.std.proofs.Math.Nat.{pow-suc}
 use Rattle.fz_bits.specs.Bits.{number_bits}
 use Rattle.fz_bits.specs.Writer.{written, lent, room}
@@ -13,6 +13,7 @@ use Rattle.fz_bits.proofs.BitsLemmas.{number_bits-lead, number_bits-mod}
 use Rattle.fz_bits.proofs.WriterLemmas.{length-written}
 use Rattle.fz_rice.specs.Numbers.{residue}
 use Rattle.fz_rice.specs.Code.{difference, mapped, differences, split_bits}
+use Rattle.std.proofs.Math.Seq.{take-add}
 use Rattle.fz_rice.specs.Writing.{Writes}
 
 pub writes_of : {A : Type 0} (r : Result A Full) (bits other : List Bool) (width : ℕ) (old new : BitWriter) → lent new ≡ lent old → room new ≡ room old → OnOk r (written new ≡ written old ++ other) → (IsErr r ↔ (room old < length (written old) + width)) → other ≡ bits → length bits ≡ width → Writes r bits old new
@@ -60,6 +61,10 @@ writes_unit a bits old new one = record {
   ok = one.ok;
   full = one.full;
 }
+
+-- the low bits of a value, by a mask of n bits
+pub low_bits : (n k v : ℕ) → k < n → bit_and v (1 * 2 ^ k % 2 ^ n - 1) ≡ v % 2 ^ k
+low_bits n k v h = ap (λ m. bit_and v (m - 1)) (one_shl k n h) ∙ and_mask v k
 
 -- one field of zeros, a one and k bits
 pub one_field : (k q value : ℕ) → q ≡ value / 2 ^ k → number_bits (q + 1 + k) (2 ^ k + value % 2 ^ k) ≡ split_bits k value
@@ -123,3 +128,21 @@ loop_writes {A} {B} a f w start xs i d r v old mid new within is half one =
 pub loop_stops : {A B : Type 0} (e f' : Full) (f : ℕ → List Bool) (w start : ℕ) (xs : List ℤ) (i : ℕ) (old new : BitWriter) → Writes {A = A} (Err e) (flat_map f (differences w start (take i xs))) old new → Writes {A = B} (Err f') (flat_map f (differences w start xs)) old new
 loop_stops {A} {B} e f' f w start xs i old new stop =
     subst (λ (x : List Bool). Writes {A = B} (Err f') x old new) (sym (bits-front f w start xs i)) (writes_stop e f' (flat_map f (differences w start (take i xs))) (flat_map f (differences w (last_residue w start (take i xs)) (drop i xs))) old new stop)
+
+-- the bits of four numbers
+pub four_bits : (f : ℕ → List Bool) (w start : ℕ) (xs : List ℤ) (a b c d p q r s : ℕ) → length xs ≡ 4 → a ≡ residue w (get_or xs 0 (pos 0)) → b ≡ residue w (get_or xs 1 (pos 0)) → c ≡ residue w (get_or xs 2 (pos 0)) → d ≡ residue w (get_or xs 3 (pos 0)) → p ≡ mapped w (difference w start a) → q ≡ mapped w (difference w a b) → r ≡ mapped w (difference w b c) → s ≡ mapped w (difference w c d) → f p ++ (f q ++ (f r ++ f s)) ≡ flat_map f (differences w start xs)
+four_bits f w start [] a b c d p q r s len ea eb ec ed ep eq er es = absurd (omega (arith, len))
+four_bits f w start (x ∷ []) a b c d p q r s len ea eb ec ed ep eq er es = absurd (omega (arith, len))
+four_bits f w start (x ∷ y ∷ []) a b c d p q r s len ea eb ec ed ep eq er es = absurd (omega (arith, len))
+four_bits f w start (x ∷ y ∷ z ∷ []) a b c d p q r s len ea eb ec ed ep eq er es = absurd (omega (arith, len))
+four_bits f w start (x ∷ y ∷ z ∷ u ∷ []) a b c d p q r s len ea eb ec ed ep eq er es =
+    rw (ep, eq, er, es, ea, eb, ec, ed, append-nil (f (mapped w (difference w (residue w z) (residue w u))))) refl
+four_bits f w start (x ∷ y ∷ z ∷ u ∷ t ∷ xs) a b c d p q r s len ea eb ec ed ep eq er es = absurd (omega (arith, len))
+
+-- the numbers of a part were written behind those in front of it
+pub part_writes : {A B : Type 0} (a : A) (f : ℕ → List Bool) (w start : ℕ) (xs : List ℤ) (at n last : ℕ) (r : Result B Full) (old mid new : BitWriter) → last ≡ last_residue w start (take at xs) → Writes {A = A} (Ok a) (flat_map f (differences w start (take at xs))) old mid → Writes r (flat_map f (differences w last (take n (drop at xs)))) mid new → Writes r (flat_map f (differences w start (take (at + n) xs))) old new
+part_writes {A} {B} a f w start xs at n last r old mid new follows half one =
+    let front = flat_map f (differences w start (take at xs)) in
+    let part = take n (drop at xs) in
+    let all : front ++ flat_map f (differences w last part) ≡ flat_map f (differences w start (take (at + n) xs)) = ap (λ u. front ++ flat_map f (differences w u part)) follows ∙ sym (ap (λ l. flat_map f (differences w start l)) (take-add at n xs) ∙ ap (flat_map f) (differences-append w start (take at xs) part) ∙ flat_map-append f (differences w start (take at xs)) (differences w (last_residue w start (take at xs)) part)) in
+    subst (λ (x : List Bool). Writes {A = B} r x old new) all (writes_seq a r front (flat_map f (differences w last part)) old mid new half one)

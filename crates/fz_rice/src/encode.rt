@@ -9,6 +9,7 @@ ghost use Rattle.fz_rice.specs.Code.{differences, split_bits, pieces};
 ghost use Rattle.fz_rice.specs.Producer.{chosen_id, chosen_block};
 ghost use Rattle.fz_rice.specs.Writing.{Writes};
 
+use crate::fields::Field;
 use crate::numbers::{id_len, mapped, raw_id, residue};
 use fz_bits::{BitWriter, Full};
 
@@ -118,6 +119,56 @@ fn write_split<const W: u32>(
         writer.old writer.new }
 {
     let mut last = start;
+    let mut at = 0;
+    while at < numbers.len() {
+        let end = at + (numbers.len() - at).min(4);
+        write_few::<W>(writer, last, k, &numbers[at..end])?;
+        last = residue::<W>(numbers[end - 1]);
+        at = end;
+    }
+    Ok(())
+}
+
+/// `write_split` of a few numbers. The bits of four go to the writer at once, where 63 hold them.
+#[inline]
+fn write_few<const W: u32>(
+    writer: &mut BitWriter,
+    start: u32,
+    k: u32,
+    numbers: &[i32],
+) -> Result<(), Full>
+    requires width { IsWidth W }
+    requires start { start < 2 ^ W }
+    requires k { k < W }
+    ensures { Writes result (flat_map (split_bits k) (differences W start numbers.now))
+        writer.old writer.new }
+{
+    if let [a, b, c, d] = numbers {
+        let (a, b) = (residue::<W>(*a), residue::<W>(*b));
+        let (c, d) = (residue::<W>(*c), residue::<W>(*d));
+        let front = (mapped::<W>(start, a), mapped::<W>(a, b));
+        let back = (mapped::<W>(b, c), mapped::<W>(c, d));
+        if let Some(four) = Field::of_four(k, front, back) {
+            return writer.put_long(four.bits, four.width);
+        }
+    }
+    write_each::<W>(writer, start, k, numbers)
+}
+
+/// Writes each mapped difference in unary and `k` bits, one by one.
+fn write_each<const W: u32>(
+    writer: &mut BitWriter,
+    start: u32,
+    k: u32,
+    numbers: &[i32],
+) -> Result<(), Full>
+    requires width { IsWidth W }
+    requires start { start < 2 ^ W }
+    requires k { k < W }
+    ensures { Writes result (flat_map (split_bits k) (differences W start numbers.now))
+        writer.old writer.new }
+{
+    let mut last = start;
     for number in numbers {
         let next = residue::<W>(*number);
         write_value(writer, k, mapped::<W>(last, next))?;
@@ -133,11 +184,10 @@ fn write_value(writer: &mut BitWriter, k: u32, value: u32) -> Result<(), Full>
     ensures { Writes result (split_bits k value) writer.old writer.new }
 {
     let zeros = value >> k;
-    let low = value & ((1 << k) - 1);
-    if zeros < 32 - k {
-        writer.put((1 << k) | low, zeros + 1 + k)
-    } else {
-        writer.unary(zeros)?;
-        writer.put(low, k)
+    if zeros < 63 - k {
+        let field = Field::of_value(k, value);
+        return writer.put_long(field.bits, field.width);
     }
+    writer.unary(zeros)?;
+    writer.put(value & ((1 << k) - 1), k)
 }

@@ -1,11 +1,12 @@
 //! The RICE_1 code of lists of numbers, at 8, 16 and 32 bits (FITS 4.0, section 10.4.1).
 //!
-//! Reading order: `coder`, `numbers`, `encode`, `decode`, `laws`.
+//! Reading order: `coder`, `numbers`, `fields`, `encode`, `decode`, `laws`.
 #![tactic(auto)]
 
 mod coder;
 mod decode;
 mod encode;
+mod fields;
 mod laws;
 mod numbers;
 #[cfg(test)]

@@ -8,29 +8,62 @@ use crate::{
 use fz_card::{Card, Name, int_card, text_card};
 use std::process::Abort;
 
-/// The sum of a list that is added at once.
-fn sum_of(bytes: &[u8]) -> u32
+/// The sum of a list that is added at once, at this position.
+fn sum_of(at: u64, bytes: &[u8]) -> u32
     requires { length bytes.now < 2 ^ 63 }
 {
     let mut sum = Sum::new();
-    sum.add(0, bytes);
+    sum.add(at, bytes);
+    sum.value()
+}
+
+/// The sum of a list at this position that is cut behind so many bytes, where what is behind the cut is added first.
+fn sum_from_behind(at: u32, bytes: &[u8], len: usize) -> u32
+    requires { length bytes.now < 2 ^ 63 }
+{
+    let (front, rest) = bytes.split_at(len.min(bytes.len()));
+    let at = u64::from(at);
+    let mut sum = Sum::new();
+    sum.add(at + front.len() as u64, rest);
+    sum.add(at, front);
     sum.value()
 }
 
 #[test]
 fn sums(rt: HostRuntime) {
-    let cases: [(&[u8], u32); 8] = [
-        (&[], 0),
-        (&[0, 0, 0, 0, 0], 0),
-        (&[0xff, 0xff, 0xff, 0xff], 4_294_967_295),
-        (&[0xff, 0xff, 0xff, 0xff, 0, 0, 0, 1], 1),
-        (&[0, 0, 0, 1, 0xff, 0xff, 0xff, 0xff], 1),
-        (&[1], 0x0100_0000),
-        (&[1, 2, 3, 4, 5, 6, 7], 0x0608_0a04),
-        (&[0x80, 0, 0, 0, 0x80, 0, 0, 0], 1),
+    let cases: [(u64, &[u8], u32); 13] = [
+        (0, &[], 0),
+        (0, &[0, 0, 0, 0, 0], 0),
+        (0, &[0xff, 0xff, 0xff, 0xff], 4_294_967_295),
+        (0, &[0xff, 0xff, 0xff, 0xff, 0, 0, 0, 1], 1),
+        (0, &[0, 0, 0, 1, 0xff, 0xff, 0xff, 0xff], 1),
+        (0, &[1], 0x0100_0000),
+        (0, &[1, 2, 3, 4, 5, 6, 7], 0x0608_0a04),
+        (0, &[0x80, 0, 0, 0, 0x80, 0, 0, 0], 1),
+        (2, &[1, 2, 3], 0x0300_0102),
+        (3, &[0xff, 0xff], 0xff00_00ff),
+        (5, &[1], 0x0001_0000),
+        (7, &[1, 2, 3, 4, 5], 0x0203_0406),
+        (u64::MAX, &[1, 2], 0x0200_0001),
     ];
-    for (bytes, sum) in cases {
-        assert_eq!(rt; sum_of(bytes), sum);
+    for (at, bytes, sum) in cases {
+        assert_eq!(rt; sum_of(at, bytes), sum);
+    }
+}
+
+#[test]
+fn sums_from_behind(rt: HostRuntime) {
+    let cases: [(u32, &[u8], usize, u32); 7] = [
+        (0, &[1, 2, 3, 4, 5, 6, 7], 3, 0x0608_0a04),
+        (0, &[1, 2, 3, 4, 5, 6, 7], 4, 0x0608_0a04),
+        (0, &[1, 2, 3, 4, 5, 6, 7], 5, 0x0608_0a04),
+        (2, &[1, 2, 3], 1, 0x0300_0102),
+        (2, &[1, 2, 3], 2, 0x0300_0102),
+        (1, &[0xff, 0xff, 0xff, 0xff, 0xff], 2, 0x00ff_0000),
+        (0, &[0xff, 0xff, 0xff, 0xff, 0, 0, 0, 1], 7, 1),
+    ];
+    for (at, bytes, len, sum) in cases {
+        assert_eq!(rt; sum_from_behind(at, bytes, len), sum);
     }
 }
 
@@ -194,8 +227,8 @@ fn all_ones(rt: HostRuntime) {
         fill(&mut hdu, seed);
         let at = 80 * (5 + i);
         hdu[at..at + 80].copy_from_slice(&blank_checksum_card().bytes);
-        let sum = sum_of(&hdu);
+        let sum = sum_of(0, &hdu);
         hdu[at..at + 80].copy_from_slice(&checksum_card(sum).bytes);
-        assert_eq!(rt; sum_of(&hdu), u32::MAX);
+        assert_eq!(rt; sum_of(0, &hdu), u32::MAX);
     }
 }

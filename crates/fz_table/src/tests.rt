@@ -100,7 +100,7 @@ fn table_of(alloc: Global, file: &[u8; 8640]) -> Result<(Result<Table, Fault>, O
 #[test]
 fn tables(rt: HostRuntime) {
     let alloc = rt.alloc();
-    let cases: [(&[(usize, &[u8])], Result<Table, Fault>); 25] = [
+    let cases: [(&[(usize, &[u8])], Result<Table, Fault>); 33] = [
         (&[], Ok(TABLE)),
         (&[(1, b"BITPIX  =                   16")], bad_at(1)),
         (
@@ -121,10 +121,32 @@ fn tables(rt: HostRuntime) {
         (&[(9, b"TFORM1  = 'Z'")], bad_at(9)),
         (&[(9, b"TFORM1  = '0000000001PB'")], bad_at(9)),
         (&[(9, b"TFORM1  = '000000001PB'")], Ok(TABLE)),
+        (&[(9, b"TFORM1  = 'PB'")], Ok(TABLE)),
+        (&[(9, b"TFORM1  = '1pb'")], bad_at(9)),
+        (&[(9, b"TFORM1  = ' 1PB'")], bad_at(9)),
+        (&[(9, b"TFORM1  = ''")], bad_at(9)),
         (&[(9, b"TFORM1  = '0PB(0)'")], bad_at(3)),
         (&[(3, b"NAXIS1  =                   17")], bad_at(3)),
         (&[(11, b"TFORM2  = '1PX(4)'")], bad_at(11)),
         (&[(11, b"TFORM2  = '8B'")], bad_at(11)),
+        (
+            &[(11, b"TFORM2  = '1PK(2)'")],
+            Ok(Table {
+                stored: Some(Column {
+                    at: 8,
+                    wide: false,
+                    unit: 8,
+                }),
+                ..TABLE
+            }),
+        ),
+        (
+            &[(10, b"TTYPE2  = 2"), (11, b"TFORM2  = '8B'")],
+            Ok(Table {
+                stored: None,
+                ..TABLE
+            }),
+        ),
         (&[(10, b"TTYPE2  = 'compressed_data'")], bad_at(10)),
         (&[(10, b"TTYPE2  = 'uncompressed_data'")], Ok(TABLE)),
         (
@@ -134,6 +156,15 @@ fn tables(rt: HostRuntime) {
         (
             &[(21, b"THEAP   =                   49"), (22, b"END")],
             bad_at(21),
+        ),
+        (&[(21, b"THEAP   = '40'"), (22, b"END")], bad_at(21)),
+        (
+            &[(21, b"THEAP   =                   48"), (22, b"END")],
+            Ok(Table {
+                heap_at: 5808,
+                heap_len: 0,
+                ..TABLE
+            }),
         ),
         (
             &[(21, b"THEAP   =                   40"), (22, b"END")],

@@ -4,4 +4,4 @@ use Rattle.fz_bits.proofs.fields.joined.Goals as goal
 
 pub returns : goal.returns
 returns c =
-    rw (shl_whole c.args.high (64 - c.args.width) c.args.width 64 c.requires.high (omega arith), c.from.ensures) (or_shifted c.args.high c.args.width c.args.low c.requires.low)
+    rw (shl_whole c.args.high (64 - c.args.width) c.args.width 64 c.requires.high (omega arith)) (or_shifted c.args.high c.args.width c.args.low c.requires.low)

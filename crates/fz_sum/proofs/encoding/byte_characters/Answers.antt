@@ -1,6 +1,6 @@
 use Rattle.std.proofs.Common.{[], refl, arith}
 use Rattle.fz_sum.specs.Characters.{byte_characters}
-use Rattle.fz_sum.specs.declared.encoding.TheConstants.{ROWS}
+use Rattle.fz_sum.specs.declared.encoding.fn.byte_characters.TheConstants.{ROWS}
 use Rattle.fz_sum.proofs.Rows.{row-of}
 use Rattle.fz_sum.proofs.encoding.byte_characters.Goals as goal
 

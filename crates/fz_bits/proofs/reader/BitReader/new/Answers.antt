@@ -1,8 +1,18 @@
-use Rattle.std.proofs.Common.{refl}
-use Rattle.fz_bits.specs.Bits.{number_bits}
+use Rattle.std.proofs.Common.{refl, arith}
 use Rattle.fz_bits.specs.Reader.{left}
+use Rattle.fz_bits.proofs.BitsLemmas.{number_bits-zero}
 use Rattle.fz_bits.proofs.reader.BitReader.new.Goals as goal
 
+pub invariant_of-result : goal.invariant_of-result
+invariant_of-result c =
+    record {
+      small = c.requires;
+      within = omega arith;
+      loaded = omega arith;
+      few = omega arith;
+      ahead = number_bits-zero 64;
+    }
+
 pub returns-clause-left : goal.returns-clause-left
-unfolding left number_bits
+unfolding left
 returns-clause-left c = refl

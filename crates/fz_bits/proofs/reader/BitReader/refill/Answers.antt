@@ -1,29 +1,30 @@
-use Rattle.std.proofs.Common.{◌+◌, ◌++◌, drop, ap, ◌∙◌, arith}
-use Rattle.fz_bits.specs.Bits.{number_bits, bits_of}
+use Rattle.std.proofs.Common.{◌≡◌, ◌+◌, ◌-◌, ◌*◌, ◌/◌, ◌%◌, ◌≤◌, ◌++◌, false, length, take, drop, replicate, ap, sym, ◌∙◌, arith}
+use Rattle.std.proofs.lemmas.List.{append-nil}
+use Rattle.fz_bits.specs.Bits.{bits_of}
 use Rattle.fz_bits.specs.Reader.{left}
-use Rattle.fz_bits.proofs.BitsLemmas.{joined_below, below_wider}
-use Rattle.fz_bits.proofs.ReaderLemmas.{word_loaded}
+use Rattle.fz_bits.proofs.ReaderLemmas.{loaded}
 use Rattle.fz_bits.proofs.reader.BitReader.refill.Goals as goal
-
-pub joined-self-requires-clause-high : goal.joined-self-requires-clause-high
-joined-self-requires-clause-high c = below_wider c.args.self.now.pending c.args.self.now.count 32 c.args.self.now.fits (omega arith)
 
 pub invariant_of-self : goal.invariant_of-self
 invariant_of-self c =
     let r = c.args.self.now in
+    let place = c.place-place.result in
+    let from = place / 8 in
+    let read = place % 8 in
+    let within : from + 8 ≤ length r.code.now = omega arith in
+    let e : 8 * from + read ≡ 8 * (from + 8) - (64 - read) = omega arith in
     record {
-      small = omega arith;
-      within = omega arith;
+      small = r.small;
+      within = within;
       loaded = omega arith;
       few = omega arith;
-      fits = rw c.joined-self.ensures (joined_below r.count 32 r.pending c.word_at-word.result r.fits c.word_at-word.type_inv);
+      ahead = loaded r.code.now from read 8 c.word_at.result c.behind-self.result within (omega arith) (omega arith) (c.word_at.ensures ∙ sym (append-nil (bits_of (take 8 (drop from r.code.now))))) c.behind-self.ensures ∙ ap (λ k. take (64 - read) (drop k (bits_of r.code.now)) ++ replicate (64 - (64 - read)) false) e;
     }
 
-pub returns-then-self-ge4-clause-unmoved : goal.returns-then-self-ge4-clause-unmoved
+pub returns-then-self-from-ge8-clause-unmoved : goal.returns-then-self-from-ge8-clause-unmoved
 unfolding left
-returns-then-self-ge4-clause-unmoved c =
+returns-then-self-from-ge8-clause-unmoved c =
     let r = c.args.self.now in
-    record {
-      left = ap (λ p. number_bits (r.count + 32) p ++ bits_of (drop (r.at + 4) r.code.now)) c.joined-self.ensures ∙ word_loaded r.code.now r.at r.count r.pending c.word_at-word.result c.word_at-word.type_inv c.word_at-word.ensures;
-      place = omega arith;
-    }
+    let place = c.place-place.result in
+    let e : 8 * (place / 8 + 8) - (64 - place % 8) ≡ 8 * r.at - r.count = omega (arith, c.place-place.ensures) in
+    record { left = ap (λ k. drop k (bits_of r.code.now)) e; place = e }

@@ -1,10 +1,12 @@
-use Rattle.std.proofs.Common.{◌≡◌, ◌+◌, ◌-◌, ◌*◌, ◌%◌, ◌^◌, ◌<◌, ◌≤◌, true, false, ◌∷◌, ◌++◌, length, take, drop, get_or, replicate, inl, inr, Err, refl, sym, ap, subst, ◌∙◌, arith}
+use Rattle.std.proofs.Common.{◌≡◌, ◌+◌, ◌-◌, ◌*◌, ◌%◌, ◌^◌, ◌<◌, ◌≤◌, true, false, ◌∷◌, ◌++◌, length, take, drop, get_or, replicate, inl, inr, Err, refl, sym, ap, subst, ◌∙◌, arith, length-take, length-drop}
 use Rattle.std.specs.Int.Count.{count_leading_zeros}
 use Rattle.std.proofs.lemmas.Bool.{cases_lt}
-use Rattle.std.proofs.lemmas.List.{length-replicate}
+use Rattle.std.proofs.lemmas.Nat.{leading_top}
+use Rattle.std.proofs.lemmas.List.{length-replicate, drop-drop}
 use Rattle.fz_bits.specs.Bits.{number_bits, bits_of}
 use Rattle.fz_bits.specs.Reader.{left, HasZeros, IsZeros}
-use Rattle.fz_bits.proofs.ReaderLemmas.{left_zeros, left_ahead, HasZeros-long, HasZeros-all, not_HasZeros-all, not_HasZeros-one, IsZeros-all, not_IsZeros-one}
+use Rattle.fz_bits.proofs.BitsLemmas.{number_bits-zero}
+use Rattle.fz_bits.proofs.ReaderLemmas.{behind_one, byte_pending, rest_is, left_zeros, left_ahead, HasZeros-long, HasZeros-all, not_HasZeros-all, not_HasZeros-one, IsZeros-all, not_IsZeros-one}
 use Rattle.fz_bits.proofs.reader.BitReader.zeros_ahead.Goals as goal
 
 pub returns-in_default-clause-too_many : goal.returns-in_default-clause-too_many
@@ -57,6 +59,36 @@ returns-then-zeros-from-clause-ended c =
     let is = left_ahead r i b c.requires c.in-Some.ensures.0 c.in-Some.ensures.1 refl (omega (arith, c.in-Some.ensures.2)) (omega arith) in
     (λ e. cc, λ z. absurd (not_IsZeros-one c.args.max (r.count + 8 * i + lead) (number_bits rest (b % 2 ^ rest) ++ bits_of (drop (r.at + i + 1) r.code.now)) (subst (IsZeros c.args.max) is z)))
 
+pub invariant_of-self : goal.invariant_of-self
+invariant_of-self c =
+    record {
+      small = c.args.self.now.small;
+      within = omega (arith, c.in-Some.ensures.0, length-take (length c.args.self.now.code.now - c.args.self.now.at) (drop c.args.self.now.at c.args.self.now.code.now), length-drop c.args.self.now.at c.args.self.now.code.now);
+      loaded = omega arith;
+      few = omega arith;
+      ahead = number_bits-zero 64;
+    }
+
+pub skip-requires-clause-pending : goal.skip-requires-clause-pending
+skip-requires-clause-pending c =
+    let r = c.args.self.now in
+    let i = c.in-Some.zero_bytes in
+    let b = get_or (take (length r.code.now - r.at) (drop r.at r.code.now)) i 0 in
+    let within : r.at + i < length r.code.now = omega (arith, c.in-Some.ensures.0, length-take (length r.code.now - r.at) (drop r.at r.code.now), length-drop r.at r.code.now) in
+    let top = leading_top 8 b (omega (arith, c.in-Some.ensures.2)) (omega arith) in
+    let few = byte_pending _ c.refill.new.self c.refill.ensures.unmoved.left refl within c.refill.ensures.end in
+    omega (arith, top.1, few)
+
+pub skip-requires-2-clause-pending : goal.skip-requires-2-clause-pending
+skip-requires-2-clause-pending c =
+    let r = c.args.self.now in
+    let i = c.in-Some.zero_bytes in
+    let b = get_or (take (length r.code.now - r.at) (drop r.at r.code.now)) i 0 in
+    let within : r.at + i < length r.code.now = omega (arith, c.in-Some.ensures.0, length-take (length r.code.now - r.at) (drop r.at r.code.now), length-drop r.at r.code.now) in
+    let top = leading_top 8 b (omega (arith, c.in-Some.ensures.2)) (omega arith) in
+    let few = byte_pending _ c.refill.new.self c.refill.ensures.unmoved.left refl within c.refill.ensures.end in
+    omega (arith, top.1, few, c.skip.ensures.count)
+
 pub returns-clause-bits : goal.returns-clause-bits
 unfolding left
 returns-clause-bits c =
@@ -64,13 +96,16 @@ returns-clause-bits c =
     let i = c.in-Some.zero_bytes in
     let b = get_or (take (length r.code.now - r.at) (drop r.at r.code.now)) i 0 in
     let lead = count_leading_zeros 8 b in
-    let rest = 7 - lead in
+    let n = r.count + 8 * i + lead in
     let is = left_ahead r i b c.requires c.in-Some.ensures.0 c.in-Some.ensures.1 refl (omega (arith, c.in-Some.ensures.2)) (omega arith) in
-    let tail = bits_of (drop (r.at + i + 1) r.code.now) in
-    let zeros : r.count + 8 * i + lead ≡ c.from-2.result + 8 * i + c.from-3.result = omega (arith, c.from-2.ensures, c.from-3.ensures) in
-    let gone : r.at + i + 1 ≡ r.at + (i + 1) = omega arith in
-    let byte : b % 2 ^ rest ≡ c.back-self.result = sym (c.back-self.ensures ∙ ap (λ v. v % 2 ^ rest) c.from-5.ensures) in
-    is ∙ ap (λ k. replicate k false ++ true ∷ (number_bits rest (b % 2 ^ rest) ++ tail)) zeros ∙ ap (λ v. replicate (c.from-2.result + 8 * i + c.from-3.result) false ++ true ∷ (number_bits rest v ++ tail)) byte ∙ ap (λ k. replicate (c.from-2.result + 8 * i + c.from-3.result) false ++ true ∷ (number_bits rest c.back-self.result ++ bits_of (drop k r.code.now))) gone
+    let place : 8 * (r.at + i) - 0 ≡ 8 * r.at - r.count + (r.count + 8 * i) = omega (arith, r.loaded) in
+    let moved : drop (8 * (r.at + i) - 0) (bits_of r.code.now) ≡ drop (r.count + 8 * i) (left r) = ap (λ k. drop k (bits_of r.code.now)) place ∙ sym (drop-drop (r.count + 8 * i) (8 * r.at - r.count) (bits_of r.code.now)) in
+    let one = behind_one (left c.refill.new.self) lead (left c.skip.new.self) (left c.skip-2.new.self) c.skip.ensures.left c.skip-2.ensures.left in
+    let e : r.count + 8 * i + (lead + 1) ≡ n + 1 = omega arith in
+    let gone : left c.skip-2.new.self ≡ drop (n + 1) (left r) = sym one ∙ ap (drop (lead + 1)) (c.refill.ensures.unmoved.left ∙ moved) ∙ drop-drop (lead + 1) (r.count + 8 * i) (left r) ∙ ap (λ k. drop k (left r)) e in
+    let rest = rest_is (left r) n (number_bits (7 - lead) (b % 2 ^ (7 - lead)) ++ bits_of (drop (r.at + i + 1) r.code.now)) is in
+    let zeros : n ≡ c.from-2.result + 8 * i + c.from-3.result = omega (arith, c.from-2.ensures, c.from-3.ensures) in
+    is ∙ ap (λ l. replicate n false ++ true ∷ l) (sym rest ∙ sym gone) ∙ ap (λ k. replicate k false ++ true ∷ left c.skip-2.new.self) zeros
 
 pub returns-clause-too_many : goal.returns-clause-too_many
 returns-clause-too_many c =

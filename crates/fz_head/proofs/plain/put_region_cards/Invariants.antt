@@ -1,0 +1,12 @@
+use Rattle.std.proofs.Common.{◌≡◌, ◌+◌, ◌-◌, codes, map}
+use Rattle.std.specs.Prelude.{slice_index}
+use Rattle.std.specs.List.{range_with_len}
+use Rattle.fz_head.specs.PackedHeader.{numbered_number_card}
+use Rattle.fz_head.specs.Written.{Adds}
+use Rattle.fz_head.proofs.plain.put_region_cards.Given as goal
+
+abbrev pub invariant-loop-i : goal.invariant-loop-i
+invariant-loop-i l = record {
+  adds : Adds (map (λ i. numbered_number_card (codes "NAXIS") i (slice_index l.region.len (i - 1))) (range_with_len 1 l.i)) l.fn.count l.fn.out l.written l.out;
+  number : l.written ≡ l.fn.count + l.i;
+}

@@ -1,0 +1,15 @@
+pub mod Along
+pub mod CardLists
+pub mod Conditions
+pub mod Once
+pub mod PackChecks
+pub mod Packable
+pub mod PackedChecks
+pub mod PackedHeader
+pub mod PackedPlan
+pub mod PlainHeader
+pub mod Planned
+pub mod Repeats
+pub mod TableChecks
+pub mod ThereAndBack
+pub mod Written

@@ -1,0 +1,210 @@
+//! The parameters of a Rice code that a packed header says.
+ghost use Rattle.std.specs.Prelude.{◌≡◌, ◌*◌, ◌≤◌, ◌⊎◌, [], ◌∷◌, None, Some, pos, codes, IfOk, IfSome, length as len};
+ghost use Rattle.std.specs.Result.{MatchResult};
+ghost use Rattle.fz_base.specs.Refusal.{first_refusal};
+ghost use Rattle.fz_block.specs.Facts.{IsHeaderOf};
+ghost use Rattle.fz_block.specs.Hdus.{cards_of};
+ghost use Rattle.fz_head.specs.PackedChecks.{block_checks, bytepix_checks, is_block as is_block_of, is_bytepix as is_bytepix_of, is_integer, parameter_checks, value_missing};
+ghost use Rattle.fz_head.specs.PackedPlan.{codec_named, numbered_in, parameter, parameter_in as parameter_in_of, parameter_number as parameter_number_of, said_codec, size_of, value_of_number};
+ghost use Rattle.fz_tile.specs.Codecs.{ReadsCodes};
+ghost use Rattle.fz_head.specs.Along.{smaller_of};
+ghost use Rattle.fz_head.specs.Written.{first_cards};
+
+use crate::find::has_text;
+use crate::numbers::number_up_to;
+use crate::packed_codec::{is_plio, is_rice};
+use crate::said::{at_name, integer_said, is_positive, refuse_when, size, stands};
+use fz_base::{Fault, Kind};
+use fz_block::{Header, card};
+use fz_card::{Card, Name, numbered};
+use fz_tile::Codec;
+
+/// BLOCKSIZE where no card says it.
+const DEFAULT_BLOCK: u32 = 32;
+
+/// BYTEPIX where no card says it.
+const DEFAULT_BYTEPIX: u32 = 4;
+
+/// The greatest BLOCKSIZE.
+const MAX_BLOCK: u64 = 32_767;
+
+// The number of a card ZNAMEi with this text.
+fn parameter_in(card: &Card, text: &[u8]) -> Option<u32>
+    ensures { result ≡ parameter_in_of text.now card.now.bytes }
+{
+    if has_text(card, text) {
+        number_up_to(card.name(), b"ZNAME", 999)
+    } else {
+        None
+    }
+}
+
+// The smaller of two numbers, of which one may be none.
+fn smaller(best: Option<u32>, next: Option<u32>) -> Option<u32>
+    ensures { result ≡ smaller_of best next }
+{
+    match (best, next) {
+        (Some(a), Some(b)) => Some(a.min(b)),
+        (Some(a), None) => Some(a),
+        (None, _) => next,
+    }
+}
+
+// The number of a parameter among so many cards: the least i for which ZNAMEi has this text.
+fn least_number(buf: &[u8], cards: u32, text: &[u8]) -> Option<u32>
+    requires { 80 * cards ≤ len buf.now }
+    ensures number { result ≡ parameter_number_of text.now (first_cards buf.now cards) }
+    ensures few { IfSome result (λ i. i ≤ 999) }
+{
+    let mut best = None;
+    for i in 0..cards {
+        best = smaller(best, parameter_in(&card(buf, i), text));
+    }
+    best
+}
+
+// The number of a parameter: the least i for which ZNAMEi has this text.
+fn parameter_number(buf: &[u8], header: &Header, text: &[u8]) -> Option<u32>
+    requires { IsHeaderOf buf.now header.now }
+    ensures number { result ≡ parameter_number_of text.now (cards_of buf.now) }
+    ensures few { IfSome result (λ i. i ≤ 999) }
+{
+    least_number(buf, header.cards, text)
+}
+
+// The value of the parameter of this number must be there, else its ZNAMEi is refused.
+fn require_value(buf: &[u8], header: &Header, i: u32) -> Result<(), Fault>
+    requires header { IsHeaderOf buf.now header.now }
+    requires number { i ≤ 999 }
+    ensures { MatchResult result (λ _. first_refusal (value_missing header.now.hdu (cards_of buf.now) i ∷ []) ≡ None) (λ x. first_refusal (value_missing header.now.hdu (cards_of buf.now) i ∷ []) ≡ Some x) }
+{
+    let none = !stands(buf, header, &numbered(b"ZVAL", i));
+    refuse_when(
+        none,
+        at_name(buf, header, &numbered(b"ZNAME", i), Kind::BadCard),
+    )
+}
+
+// Whether this is a BLOCKSIZE.
+fn is_block(value: Option<i64>) -> bool
+    ensures { result ≡ is_block_of value }
+{
+    is_positive(value) && size(value) <= MAX_BLOCK
+}
+
+// Whether this is a BYTEPIX that is taken.
+fn is_bytepix(value: Option<i64>) -> bool
+    ensures { result ≡ is_bytepix_of value }
+{
+    matches!(value, Some(1 | 2 | 4))
+}
+
+// Whether numbers are said to have eight bytes.
+fn has_eight_bytes(value: Option<i64>) -> bool
+    ensures { result ≡ is_integer (pos 8) value }
+{
+    matches!(value, Some(8))
+}
+
+// The BLOCKSIZE of this number.
+fn block_of(buf: &[u8], header: &Header, i: u32) -> Result<u32, Fault>
+    requires header { IsHeaderOf buf.now header.now }
+    requires number { i ≤ 999 }
+    ensures exact { MatchResult result (λ _. first_refusal (block_checks header.now.hdu (cards_of buf.now) (Some i)) ≡ None) (λ x. first_refusal (block_checks header.now.hdu (cards_of buf.now) (Some i)) ≡ Some x) }
+    ensures value { IfOk result (λ v. v ≡ size_of (numbered_in (codes "ZVAL") i (cards_of buf.now))) }
+    ensures range { IfOk result (λ v. (1 ≤ v) × (v ≤ 32767)) }
+{
+    let name = numbered(b"ZVAL", i);
+    let value = integer_said(buf, header, &name);
+    require_value(buf, header, i)?;
+    let other = !is_block(value);
+    refuse_when(other, at_name(buf, header, &name, Kind::BadCard))?;
+    Ok(size(value) as u32)
+}
+
+// The BLOCKSIZE of this number, or the default where there is none.
+fn block_or_default(buf: &[u8], header: &Header, number: Option<u32>) -> Result<u32, Fault>
+    requires header { IsHeaderOf buf.now header.now }
+    requires number { IfSome number (λ i. i ≤ 999) }
+    ensures exact { MatchResult result (λ _. first_refusal (block_checks header.now.hdu (cards_of buf.now) number) ≡ None) (λ x. first_refusal (block_checks header.now.hdu (cards_of buf.now) number) ≡ Some x) }
+    ensures value { IfOk result (λ v. v ≡ value_of_number (cards_of buf.now) 32 number) }
+    ensures range { IfOk result (λ v. (1 ≤ v) × (v ≤ 32767)) }
+{
+    match number {
+        Some(i) => block_of(buf, header, i),
+        None => Ok(DEFAULT_BLOCK),
+    }
+}
+
+// BLOCKSIZE, or its default.
+fn block(buf: &[u8], header: &Header) -> Result<u32, Fault>
+    requires { IsHeaderOf buf.now header.now }
+    ensures exact { MatchResult result (λ _. first_refusal (block_checks header.now.hdu (cards_of buf.now) (parameter_number_of (codes "BLOCKSIZE") (cards_of buf.now))) ≡ None) (λ x. first_refusal (block_checks header.now.hdu (cards_of buf.now) (parameter_number_of (codes "BLOCKSIZE") (cards_of buf.now))) ≡ Some x) }
+    ensures value { IfOk result (λ v. v ≡ parameter (codes "BLOCKSIZE") 32 (cards_of buf.now)) }
+    ensures range { IfOk result (λ v. (1 ≤ v) × (v ≤ 32767)) }
+{
+    let number = parameter_number(buf, header, b"BLOCKSIZE");
+    block_or_default(buf, header, number)
+}
+
+// The BYTEPIX of this number.
+fn bytepix_of(buf: &[u8], header: &Header, i: u32) -> Result<u32, Fault>
+    requires header { IsHeaderOf buf.now header.now }
+    requires number { i ≤ 999 }
+    ensures exact { MatchResult result (λ _. first_refusal (bytepix_checks header.now.hdu (cards_of buf.now) (Some i)) ≡ None) (λ x. first_refusal (bytepix_checks header.now.hdu (cards_of buf.now) (Some i)) ≡ Some x) }
+    ensures value { IfOk result (λ v. v ≡ size_of (numbered_in (codes "ZVAL") i (cards_of buf.now))) }
+    ensures range { IfOk result (λ v. (v ≡ 1) ⊎ ((v ≡ 2) ⊎ (v ≡ 4))) }
+{
+    let name = numbered(b"ZVAL", i);
+    let value = integer_said(buf, header, &name);
+    require_value(buf, header, i)?;
+    let eight = has_eight_bytes(value);
+    refuse_when(eight, at_name(buf, header, &name, Kind::UnknownCodec))?;
+    let other = !is_bytepix(value);
+    refuse_when(other, at_name(buf, header, &name, Kind::BadCard))?;
+    Ok(size(value) as u32)
+}
+
+// The BYTEPIX of this number, or the default where there is none.
+fn bytepix_or_default(buf: &[u8], header: &Header, number: Option<u32>) -> Result<u32, Fault>
+    requires header { IsHeaderOf buf.now header.now }
+    requires number { IfSome number (λ i. i ≤ 999) }
+    ensures exact { MatchResult result (λ _. first_refusal (bytepix_checks header.now.hdu (cards_of buf.now) number) ≡ None) (λ x. first_refusal (bytepix_checks header.now.hdu (cards_of buf.now) number) ≡ Some x) }
+    ensures value { IfOk result (λ v. v ≡ value_of_number (cards_of buf.now) 4 number) }
+    ensures range { IfOk result (λ v. (v ≡ 1) ⊎ ((v ≡ 2) ⊎ (v ≡ 4))) }
+{
+    match number {
+        Some(i) => bytepix_of(buf, header, i),
+        None => Ok(DEFAULT_BYTEPIX),
+    }
+}
+
+// BYTEPIX, or its default.
+fn bytepix(buf: &[u8], header: &Header) -> Result<u32, Fault>
+    requires { IsHeaderOf buf.now header.now }
+    ensures exact { MatchResult result (λ _. first_refusal (bytepix_checks header.now.hdu (cards_of buf.now) (parameter_number_of (codes "BYTEPIX") (cards_of buf.now))) ≡ None) (λ x. first_refusal (bytepix_checks header.now.hdu (cards_of buf.now) (parameter_number_of (codes "BYTEPIX") (cards_of buf.now))) ≡ Some x) }
+    ensures value { IfOk result (λ v. v ≡ parameter (codes "BYTEPIX") 4 (cards_of buf.now)) }
+    ensures range { IfOk result (λ v. (v ≡ 1) ⊎ ((v ≡ 2) ⊎ (v ≡ 4))) }
+{
+    let number = parameter_number(buf, header, b"BYTEPIX");
+    bytepix_or_default(buf, header, number)
+}
+
+/// The codec with its parameters, of which those of a Rice code alone are looked at.
+pub(crate) fn check_parameters(buf: &[u8], header: &Header) -> Result<Codec, Fault>
+    requires { IsHeaderOf buf.now header.now }
+    ensures exact { MatchResult result (λ _. first_refusal (parameter_checks header.now.hdu (cards_of buf.now)) ≡ None) (λ x. first_refusal (parameter_checks header.now.hdu (cards_of buf.now)) ≡ Some x) }
+    ensures value { IfOk result (λ v. v ≡ codec_named (said_codec (cards_of buf.now)) (cards_of buf.now)) }
+    ensures codes { IfOk result ReadsCodes }
+{
+    if is_rice(buf, header) {
+        let block = block(buf, header)?;
+        let bytepix = bytepix(buf, header)?;
+        return Ok(Codec::Rice { block, bytepix });
+    }
+    if is_plio(buf, header) {
+        Ok(Codec::Plio)
+    } else {
+        Ok(Codec::Plain)
+    }
+}

@@ -1,0 +1,39 @@
+//! The checks of the cards of a binary table.
+ghost use Rattle.std.specs.Prelude.{◌≡◌, ◌≤◌, ◌^◌, None, Some};
+ghost use Rattle.std.specs.Result.{MatchResult};
+ghost use Rattle.fz_base.specs.Refusal.{first_refusal};
+ghost use Rattle.fz_block.specs.Facts.{IsHeaderOf};
+ghost use Rattle.fz_block.specs.Header.{next_start_of};
+ghost use Rattle.fz_block.specs.declared.header.Sort.TheVariants.{BinTable};
+ghost use Rattle.fz_head.specs.TableChecks.{table_card_checks};
+
+use crate::find::first_set;
+use crate::packable::is_packed;
+use crate::refused::refuse_at;
+use crate::repeats::{Once, first_repeat};
+use fz_base::{Fault, Kind};
+use fz_block::Header;
+use fz_card::Name;
+
+/// Checks the cards of a binary table: it is no compressed table (else CompressedTable at ZTABLE), and in
+/// a packed header no name that stands once stands twice (Duplicate).
+pub fn table_check(buf: &[u8], header: &Header) -> Result<(), Fault>
+    requires header { IsHeaderOf buf.now header.now }
+    requires end { next_start_of header.now ≤ 2 ^ 62 }
+    requires table { header.now.sort ≡ BinTable }
+    ensures { MatchResult result (λ _. first_refusal (table_card_checks header.now buf.now) ≡ None) (λ x. first_refusal (table_card_checks header.now buf.now) ≡ Some x) }
+{
+    refuse_at(
+        header,
+        first_set(buf, header.cards, &Name::ZTABLE),
+        Kind::CompressedTable,
+    )?;
+    if !is_packed(buf, header) {
+        return Ok(());
+    }
+    refuse_at(
+        header,
+        first_repeat(buf, header.cards, Once::Table),
+        Kind::Duplicate,
+    )
+}

@@ -1,0 +1,9 @@
+pub mod CoreLemmas
+pub mod StoryLemmas
+pub mod RunningLemmas
+pub mod WindowLemmas
+pub mod MovingLemmas
+pub mod RoundLemmas
+pub mod SlotLemmas
+pub mod SizeLemmas
+pub mod TestLemmas

@@ -1,0 +1,8 @@
+use Rattle.std.proofs.Common.{◌∙◌}
+use Rattle.fz_pool.specs.Slots.{IsForEncoding}
+use Rattle.fz_pool.proofs.SizeLemmas.{more_ready}
+use Rattle.fz_pool.proofs.tests.put_tiles.Goals as goal
+
+pub loop-i-preserved : goal.loop-i-preserved
+loop-i-preserved c = let before = c.loop-i.invariant in let now = c.put_tile.ensures in
+    (now.workers ∙ before.0, now.sizes ∙ before.1, more_ready IsForEncoding c.loop-i.window.slots c.put_tile.new.window.slots c.loop-i.i now.here now.others before.2)

@@ -1,0 +1,40 @@
+-- What a call over a window asks of its first slots, and what it leaves in them.
+use Rattle.std.specs.Prelude.{◌≡◌, ℕ, ◌<◌, ◌≤◌, Bool, List, slice_index_or}
+use Rattle.fz_tile.specs.declared.fault.TileFault.{TileFault}
+use Rattle.fz_pool.specs.declared.slot.Slot.{Slot}
+use Rattle.fz_pool.specs.Slots.{numbers_for, record_of, IsForEncoding, IsEncoded, IsForDecoding, IsDecoded, HasNumbers, HasFault, IsReady, IsResult}
+
+-- each of the first slots is ready to be encoded, or to be decoded
+abbrev pub AreForEncoding : ℕ → List Slot → Type 0
+AreForEncoding count slots = (i : ℕ) (d : Slot) → i < count → IsForEncoding (slice_index_or slots i d)
+
+abbrev pub AreForDecoding : ℕ → List Slot → Type 0
+AreForDecoding count slots = (i : ℕ) (d : Slot) → i < count → IsForDecoding (slice_index_or slots i d)
+
+abbrev pub AreReady : Bool → ℕ → List Slot → Type 0
+AreReady encode count slots = (i : ℕ) (d : Slot) → i < count → IsReady encode (slice_index_or slots i d)
+
+-- each of the first slots is what comes of itself
+abbrev pub AreEncoded : ℕ → List Slot → List Slot → Type 0
+AreEncoded count old new = (i : ℕ) (d : Slot) → i < count → IsEncoded (slice_index_or old i d) (slice_index_or new i d)
+
+abbrev pub AreDecoded : ℕ → List Slot → List Slot → Type 0
+AreDecoded count old new = (i : ℕ) (d : Slot) → i < count → IsDecoded (slice_index_or old i d) (slice_index_or new i d)
+
+abbrev pub AreResults : Bool → ℕ → List Slot → List Slot → Type 0
+AreResults encode count old new = (i : ℕ) (d : Slot) → i < count → IsResult encode (slice_index_or old i d) (slice_index_or new i d)
+
+-- the other slots are as before
+abbrev pub AreSameFrom : ℕ → List Slot → List Slot → Type 0
+AreSameFrom count old new = (i : ℕ) (d : Slot) → count ≤ i → slice_index_or new i d ≡ slice_index_or old i d
+
+-- the first slots leave no fault, and so each has the numbers of its own record
+abbrev pub HaveNumbers : ℕ → List Slot → List Slot → Type 0
+HaveNumbers count old new = (i : ℕ) (d : Slot) → i < count
+    → HasNumbers (slice_index_or old i d).job (record_of (slice_index_or old i d)) (numbers_for (slice_index_or old i d) (slice_index_or new i d))
+
+-- the slot i has this fault, and all slots below it have the numbers of their own records
+pub record IsLowestFault (count : ℕ) (old new : List Slot) (i : ℕ) (fault : TileFault) : Type 0 where
+  pub near : i < count
+  pub is_fault : (d : Slot) → HasFault (slice_index_or old i d).job (record_of (slice_index_or old i d)) fault
+  pub below : HaveNumbers i old new

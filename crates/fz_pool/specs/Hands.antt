@@ -1,0 +1,65 @@
+-- What a worker's hand holds.
+use Rattle.std.specs.Prelude.{◌≡◌, ℕ, Bool, [], ◌∷◌, Option, Some}
+use mathlib.Core.Option.{some}
+use lib.ListN.{get_elem?}
+use Rattle.atomic_table.specs.Seated.{TableId}
+use Rattle.atomic_table.specs.declared.shared.Seat.{Seat}
+use Rattle.fz_pool.specs.declared.slot.Slot.{Slot}
+use Rattle.fz_pool.specs.declared.board.View.{View}
+use Rattle.fz_pool.specs.declared.board.Turn.TheVariants.{Idle, Tile, Ended, Lead}
+use Rattle.fz_pool.specs.Slots.{IsReady, IsResult}
+
+abbrev pub H : Type 0
+H = Seat (Option Slot) View
+
+-- the hand has nothing to do yet
+pub record IsIdle (h : H) : Type 0 where
+  pub turn : h.me.0.turn ≡ Idle
+  pub held : h.me.1 ≡ []
+
+-- the last draw found no tile left
+pub record HasEnded (h : H) : Type 0 where
+  pub turn : h.me.0.turn ≡ Ended
+  pub held : h.me.1 ≡ []
+
+-- the hand has drawn the tile i, and holds its slot with its start
+pub record HoldsStart (h : H) (i : ℕ) : Type 0 where
+  pub turn : h.me.0.turn ≡ Tile i
+  pub slot : Slot
+  pub at : get_elem? h.me.0.starts i ≡ some slot
+  pub ready : IsReady h.me.0.encode slot
+  pub held : h.me.1 ≡ (i, Some slot) ∷ []
+
+-- the same, with the slot's result
+pub record HoldsResult (h : H) (i : ℕ) : Type 0 where
+  pub turn : h.me.0.turn ≡ Tile i
+  pub slot : Slot
+  pub at : get_elem? h.me.0.starts i ≡ some slot
+  pub after : Slot
+  pub result : IsResult h.me.0.encode slot after
+  pub held : h.me.1 ≡ (i, Some after) ∷ []
+
+-- a worker's hand before its first draw
+pub record IsSeated (table : TableId) (encode : Bool) (h : H) : Type 0 where
+  pub at : h.table_id ≡ table
+  pub encodes : h.me.0.encode ≡ encode
+  pub idle : IsIdle h
+
+-- a worker's hand after its last draw
+pub record IsBack (table : TableId) (h : H) : Type 0 where
+  pub at : h.table_id ≡ table
+  pub ended : HasEnded h
+
+-- the first seat may still split off so many hands, and so many are not joined again
+pub record Leads (table : TableId) (encode : Bool) (left out : ℕ) (late : Bool) (h : H) : Type 0 where
+  pub at : h.table_id ≡ table
+  pub encodes : h.me.0.encode ≡ encode
+  pub turn : h.me.0.turn ≡ Lead left out late
+
+-- a seat of the same table and number, for the same slots
+pub record IsSame (h h' : H) : Type 0 where
+  pub table : h'.table_id ≡ h.table_id
+  pub id : h'.id ≡ h.id
+  pub starts : h'.me.0.starts ≡ h.me.0.starts
+  pub workers : h'.me.0.workers ≡ h.me.0.workers
+  pub encode : h'.me.0.encode ≡ h.me.0.encode

@@ -1,0 +1,175 @@
+-- The rule of the running window, and what each step tells.
+use Rattle.std.specs.Prelude.{◌≡◌, ◌≢◌, ◌⊎◌, ℕ, ◌+◌, ◌-◌, ◌<◌, ◌≤◌, Bool, true, false, List, [], ◌∷◌, take, length, slice_index, Option, Some, None}
+use mathlib.Core.Option.{some, none}
+use mathlib.Core.Option as maybe
+use lib.ListN.{get_elem?}
+use Rattle.atomic_table.specs.Table.{State, Me, Step, rest}
+use Rattle.fz_pool.specs.declared.slot.Slot.{Slot}
+use Rattle.fz_pool.specs.declared.board.Deal.{Deal}
+use Rattle.fz_pool.specs.declared.board.View.{View}
+use Rattle.fz_pool.specs.declared.board.Turn.{Turn}
+use Rattle.fz_pool.specs.declared.board.Turn.TheVariants.{Idle, Tile, Ended, Spent, Lead}
+use Rattle.fz_pool.specs.Slots.{IsReady, IsResult}
+use Rattle.fz_pool.specs.WindowCore.{Event, start, out, done, WindowState, first_state, AreEvents, last_state}
+
+-- the slots that are worked on, as they were
+abbrev pub starts_of : Deal → List Slot
+starts_of d = take d.count d.slots.value.items
+
+abbrev pub turned_to : View → Turn → View
+turned_to v t = record v { turn = t }
+
+-- the view of the first seat before any split
+abbrev pub leading : List Slot → ℕ → Bool → View
+leading starts workers encode = record { starts = starts; workers = workers; encode = encode; turn = Lead workers 0 false; seen = 0 }
+
+-- a seat that was not joined away
+abbrev pub is_out : Turn → ℕ
+is_out Idle = 1
+is_out (Tile k) = 1
+is_out Ended = 1
+is_out Spent = 0
+is_out (Lead left n late) = 0
+
+-- a seat whose last draw found no tile left
+abbrev pub is_past : Turn → ℕ
+is_past Idle = 0
+is_past (Tile k) = 0
+is_past Ended = 1
+is_past Spent = 1
+is_past (Lead left n late) = 0
+
+-- the same over all views, added up
+abbrev pub total : (Turn → ℕ) → List View → ℕ
+total f [] = 0
+total f (v ∷ vs) = f v.turn + total f vs
+
+-- the tile of a turn
+abbrev pub tile_of : Turn → Option ℕ
+tile_of Idle = None
+tile_of (Tile k) = Some k
+tile_of Ended = None
+tile_of Spent = None
+tile_of (Lead left n late) = None
+
+abbrev pub tile_if : maybe.Option View → Option ℕ
+tile_if none = None
+tile_if (some v) = tile_of v.turn
+
+-- the tile that is the turn of each seat
+abbrev pub turns : List View → ℕ → Option ℕ
+turns views j = tile_if (get_elem? views j)
+
+-- The ticket and the seats' turns show this state of the core, for so many tiles, where the worker w has the seat w + 1
+pub record Shows (count ticket : ℕ) (turn : ℕ → Option ℕ) (s : WindowState) : Type 0 where
+  pub next : s.ticket ≡ ticket
+  pub held : (w : ℕ) → s.held w ≡ turn (w + 1)
+  pub at_start : (k : ℕ) → ticket ≤ k → s.tiles k ≡ start
+  pub is_turn : (j k : ℕ) → turn j ≡ Some k → s.tiles k ≡ out
+  pub otherwise : (k : ℕ) → k < ticket → k < count → ((j : ℕ) → turn j ≢ Some k) → s.tiles k ≡ done k
+
+-- there is a list of events that leads to such a state
+pub record HasStory (workers count ticket : ℕ) (turn : ℕ → Option ℕ) : Type 0 where
+  pub events : List Event
+  pub are : AreEvents workers count (λ k. k) first_state events
+  pub shows : Shows count ticket turn (last_state workers count (λ k. k) first_state events)
+
+-- for the slots' starts, the number of workers, and whether the slots are encoded
+module _ (starts : List Slot) (workers : ℕ) (encode : Bool) where
+  -- the view holds the same as the key
+  pub record HasKey (v : View) : Type 0 where
+    pub has_starts : v.starts ≡ starts
+    pub has_workers : v.workers ≡ workers
+    pub has_encode : v.encode ≡ encode
+
+  -- what is known of the view of the seat j, by its turn
+  abbrev pub Knows : ℕ → ℕ → View → Turn → Type 0
+  Knows ticket j v Idle = HasKey v × (0 < j) × (v.seen ≤ ticket)
+  Knows ticket j v (Tile k) = HasKey v × (0 < j) × (v.seen ≤ ticket) × (k < ticket) × (k < length starts)
+  Knows ticket j v Ended = HasKey v × (0 < j) × (v.seen ≤ ticket) × (length starts ≤ ticket)
+  Knows ticket j v Spent = 0 < j
+  Knows ticket j v (Lead left n late) = HasKey v × (j ≡ 0) × (v.seen ≤ ticket) × (late ≡ true → length starts ≤ ticket)
+
+  -- Of a tile that was drawn: it is a seat's turn, or its slot is at home with its result
+  abbrev pub Gone : (ℕ → Option ℕ) → List (maybe.Option (Option Slot)) → ℕ → Type 0
+  Gone turn homes k = ((j : ℕ) × (turn j ≡ Some k))
+      ⊎ ((x y : Slot) × (get_elem? starts k ≡ some x) × (get_elem? homes k ≡ some (some (Some y))) × IsResult encode x y)
+
+  -- the first seat's view counts the others
+  pub record Led (views : List View) : Type 0 where
+    pub left : ℕ
+    pub n : ℕ
+    pub late : Bool
+    pub view : View
+    pub at : get_elem? views 0 ≡ some view
+    pub turn : view.turn ≡ Lead left n late
+    pub are_out : n ≡ total is_out views
+    pub all : left + length views ≡ workers + 1
+
+  -- the rule
+  pub record Kept (s : State (Option Slot) View) : Type 0 where
+    pub ticket : ℕ
+    pub word : slice_index s.words 0 ≡ ticket
+    pub wide : length s.words ≡ 1
+    pub deep : length s.homes ≡ length starts
+    pub small : (length starts ≤ 128) × (0 < workers) × (workers ≤ 64)
+    pub ready : (k : ℕ) (x : Slot) → get_elem? starts k ≡ some x → IsReady encode x
+    pub each : (j : ℕ) (v : View) → get_elem? s.views j ≡ some v → Knows ticket j v v.turn
+    pub apart : (i j k : ℕ) → turns s.views i ≡ Some k → turns s.views j ≡ Some k → i ≡ j
+    pub led : Led s.views
+    pub tickets : ticket ≤ length starts + total is_past s.views
+    pub fresh : (k : ℕ) (x : Slot) → ticket ≤ k → get_elem? starts k ≡ some x → get_elem? s.homes k ≡ some (some (Some x))
+    pub gone : (k : ℕ) → k < ticket → k < length starts → Gone (turns s.views) s.homes k
+    pub away : (j k : ℕ) → turns s.views j ≡ Some k → get_elem? s.homes k ≡ some none
+    pub story : HasStory workers (length starts) ticket (turns s.views)
+
+abbrev pub Sat : Type 0
+Sat = Me (Option Slot) View
+
+abbrev pub At : Type 0
+At = Step (Option Slot)
+
+-- a draw that found the word n
+pub record DrewTile (m : Sat) (n : ℕ) (m' : Sat) : Type 0 where
+  pub view : m'.0 ≡ record m.0 { turn = Tile n; seen = n + 1 }
+  pub slot : Slot
+  pub at : get_elem? m.0.starts n ≡ some slot
+  pub ready : IsReady m.0.encode slot
+  pub held : m'.1 ≡ (n, Some slot) ∷ m.1
+
+pub record DrewNone (m : Sat) (n : ℕ) (m' : Sat) : Type 0 where
+  pub view : m'.0 ≡ record m.0 { turn = Ended; seen = n + 1 }
+  pub held : m'.1 ≡ m.1
+
+pub record drew (st : At) (m : Sat) (n : ℕ) (m' : Sat) : Type 0 where
+  pub slots : st.slots ≡ length m.0.starts
+  pub few : st.slots ≤ 128
+  pub seen : m.0.seen ≤ n
+  pub tile : n < st.slots → DrewTile m n m'
+  pub late : st.slots ≤ n → DrewNone m n m'
+
+-- the slot went home
+abbrev pub homed : At → Sat → ℕ → Sat → Type 0
+homed st m n m' = m' ≡ (turned_to m.0 Idle, rest m.1)
+
+-- a seat is split off
+abbrev pub less_turn : Turn → Turn
+less_turn (Lead left n late) = Lead (left - 1) (n + 1) late
+less_turn t = t
+
+abbrev pub less : View → View
+less v = turned_to v (less_turn v.turn)
+
+abbrev pub idle_view : View → View
+idle_view v = record v { turn = Idle; seen = 0 }
+
+-- a seat is joined
+abbrev pub more_turn : Turn → Turn
+more_turn (Lead left n late) = Lead left (n - 1) true
+more_turn t = t
+
+abbrev pub more : View → View → View
+more v w = turned_to v (more_turn v.turn)
+
+abbrev pub spent : View
+spent = record { starts = []; workers = 0; encode = false; turn = Spent; seen = 0 }

@@ -1,0 +1,67 @@
+//! The tiles of a window from bytes.
+ghost use Rattle.std.specs.Prelude.{◌≡◌, ℕ, ◌*◌, ◌<◌, ◌≤◌, length, Ok, None, IfOk, IfSome, IfNone, OnOk, OnErr, slice_index_or};
+ghost use Rattle.fz_pool.specs.declared.slot.Slot.{Slot};
+ghost use Rattle.fz_pool.specs.Window.{IsFilled, slot_sizes};
+ghost use Rattle.fz_pool.specs.Calls.{AreForDecoding, AreDecoded, AreSameFrom, HaveNumbers, IsLowestFault};
+
+use crate::round::code_slots;
+use crate::{Slot, Window};
+use fz_base::{Gate, NoMemory};
+use fz_tile::TileFault;
+use std::thread::Threads;
+
+// The lowest of the first slots that has a fault.
+fn lowest_fault(slots: &[Slot], count: u32) -> Option<(u32, TileFault)>
+    requires { count ≤ length slots.now }
+    ensures none { IfNone result ((i : ℕ) (d : Slot) → i < count → (slice_index_or slots.now i d).fault ≡ None) }
+    ensures some { IfSome result (λ p. (p.0 < count) × ((d : Slot) → (slice_index_or slots.now p.0 d).fault ≡ Some p.1)
+        × ((i : ℕ) (d : Slot) → i < p.0 → (slice_index_or slots.now i d).fault ≡ None)) }
+{
+    for i in 0..count {
+        if let Some(fault) = slots[i as usize].fault {
+            return Some((i, fault));
+        }
+    }
+    None
+}
+
+/// Decodes the records of the first `count` slots, each in its own slot, by as many workers as the window
+/// has. Before each tile its worker passes the gate, with its own number and the tile's.
+///
+/// After None each of these slots holds the numbers of its own record. Else the answer is the lowest
+/// slot whose record is faulty, with its fault; the slots below it hold the numbers of their own records,
+/// and the others up to `count` some values. The other slots are as before. After `NoMemory` all slots
+/// are as before.
+pub fn decode_window<R: Threads + Sync, G: Gate>(
+    rt: &R,
+    window: &mut Window,
+    count: u32,
+    gate: &G,
+) -> Result<Option<(u32, TileFault)>, NoMemory>
+    requires filled { IsFilled window.old }
+    requires count { count ≤ 2 * window.old.workers }
+    requires ready { AreForDecoding count window.old.slots }
+    ensures numbers { IfOk result (λ o. IfNone o (HaveNumbers count window.old.slots window.new.slots)) }
+    ensures fault { IfOk result (λ o. IfSome o (λ p. IsLowestFault count window.old.slots window.new.slots p.0 p.1)) }
+    ensures decoded { OnOk result (AreDecoded count window.old.slots window.new.slots) }
+    ensures others { AreSameFrom count window.old.slots window.new.slots }
+    ensures sizes { slot_sizes window.new.slots ≡ slot_sizes window.old.slots }
+    ensures slots { length window.new.slots ≡ length window.old.slots }
+    ensures workers { window.new.workers ≡ window.old.workers }
+    ensures no_memory { OnErr result (window.new ≡ window.old) }
+{
+    let workers = window.workers();
+    let answer = code_slots(
+        rt,
+        window.alloc,
+        &mut window.slots,
+        count,
+        workers,
+        gate,
+        false,
+    );
+    match answer {
+        Ok(()) => Ok(lowest_fault(&window.slots, count)),
+        Err(stop) => Err(stop),
+    }
+}

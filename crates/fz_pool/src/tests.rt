@@ -1,0 +1,333 @@
+//! What no clause says: that workers run side by side, what the gate is told, and worked values.
+ghost use Rattle.std.specs.Prelude.{◌≡◌, ◌≢◌, ℕ, ◌*◌, ◌<◌, ◌≤◌, length, pos, replicate, slice_index_or, IfOk};
+ghost use Rattle.fz_pool.specs.declared.slot.Slot.{Slot};
+ghost use Rattle.fz_pool.specs.Slots.{IsForEncoding, IsForDecoding};
+ghost use Rattle.fz_pool.specs.Window.{IsFilled, Pool, slot_size, slot_sizes};
+ghost use Rattle.fz_pool.specs.Calls.{AreForEncoding, AreForDecoding};
+
+use crate::{Job, Slot, Window, decode_window, encode_window};
+use fz_base::{FreeGate, Gate, Meter, NoMemory, Short};
+use fz_tile::{Codec, Place2, TileFault};
+use std::alloc::{AllocError, Global};
+use std::process::Abort;
+use std::sync::atomic::{AtomicU64, Ordering};
+use std::test::Fail;
+
+// A job on one pixel of 16 bits, with a stored record of so many bytes.
+fn job_of(tile: u32, len: u32) -> Job
+    ensures { result ≡ record { tile = tile; pixels = 1; codec = Codec.Plain; bitpix = pos 16; place = Place2.Stored; len = len; total = len } }
+{
+    Job {
+        tile,
+        pixels: 1,
+        codec: Codec::Plain,
+        bitpix: 16,
+        place: Place2::Stored,
+        len,
+        total: u64::from(len),
+    }
+}
+
+// The slot gets a tile of one pixel.
+fn set_tile(slot: &mut Slot, tile: u32, value: u8)
+    requires { slot_size slot.old ≡ (2, 72) }
+    ensures ready { IsForEncoding slot.new }
+    ensures size { slot_size slot.new ≡ (2, 72) }
+{
+    slot.job = job_of(tile, 0);
+    set_first(slot.numbers.as_mut_slice(), value);
+}
+
+fn set_first(numbers: &mut [i32], value: u8)
+    requires { 1 ≤ length numbers.old }
+    ensures { slice_index_or numbers.new 0 (pos 0) ≡ pos value }
+{
+    numbers[0] = i32::from(value);
+}
+
+// The slot gets a stored record, of which so many bytes are said to count.
+fn set_record(slot: &mut Slot, tile: u32, value: u8, len: u32)
+    requires size { slot_size slot.old ≡ (2, 72) }
+    requires len { len ≤ 72 }
+    ensures ready { IsForDecoding slot.new }
+    ensures size { slot_size slot.new ≡ (2, 72) }
+{
+    slot.job = job_of(tile, len);
+    slot.code.as_mut_slice()[1] = value;
+    slot.numbers.as_mut_slice()[0] = 0;
+}
+
+// A filled window for tiles of one pixel.
+fn filled(alloc: Global, workers: u32) -> Result<Window, AllocError>
+    requires { (1 ≤ workers) × (workers ≤ 64) }
+    ensures workers { IfOk result (λ w. w.workers ≡ workers) }
+    ensures sizes { IfOk result (λ w. slot_sizes w.slots ≡ replicate (2 * workers) (2, 72)) }
+{
+    let mut meter = Meter::new(alloc, 10_240);
+    let Ok(mut window) = Window::new(alloc, workers) else {
+        return Err(AllocError);
+    };
+    match window.fill(&mut meter, 1) {
+        Ok(()) => Ok(window),
+        Err(_) => Err(AllocError),
+    }
+}
+
+// The slot i gets the tile 10 + i, with the value i.
+fn put_tile(window: &mut Window, i: u32)
+    requires near { (i < 128) × (i < 2 * window.old.workers) }
+    requires sizes { slot_sizes window.old.slots ≡ replicate (2 * window.old.workers) (2, 72) }
+    ensures workers { window.new.workers ≡ window.old.workers }
+    ensures sizes { slot_sizes window.new.slots ≡ slot_sizes window.old.slots }
+    ensures here { (d : Slot) → IsForEncoding (slice_index_or window.new.slots i d) }
+    ensures others { (k : ℕ) (d : Slot) → k ≢ i → slice_index_or window.new.slots k d ≡ slice_index_or window.old.slots k d }
+{
+    set_tile(window.slot_mut(i), 10 + i, i as u8);
+}
+
+// The slot i gets the record of that tile, of which so many bytes are said to count.
+fn put_record(window: &mut Window, i: u32, len: u32)
+    requires near { (i < 128) × (i < 2 * window.old.workers) × (len ≤ 72) }
+    requires sizes { slot_sizes window.old.slots ≡ replicate (2 * window.old.workers) (2, 72) }
+    ensures workers { window.new.workers ≡ window.old.workers }
+    ensures sizes { slot_sizes window.new.slots ≡ slot_sizes window.old.slots }
+    ensures here { (d : Slot) → IsForDecoding (slice_index_or window.new.slots i d) }
+    ensures others { (k : ℕ) (d : Slot) → k ≢ i → slice_index_or window.new.slots k d ≡ slice_index_or window.old.slots k d }
+{
+    set_record(window.slot_mut(i), 10 + i, i as u8, len);
+}
+
+// The first slots get the tiles 10, 11 and so on, with the values 0, 1 and so on.
+fn put_tiles(window: &mut Window, count: u32)
+    requires near { (count ≤ 128) × (count ≤ 2 * window.old.workers) }
+    requires sizes { slot_sizes window.old.slots ≡ replicate (2 * window.old.workers) (2, 72) }
+    ensures workers { window.new.workers ≡ window.old.workers }
+    ensures sizes { slot_sizes window.new.slots ≡ slot_sizes window.old.slots }
+    ensures ready { AreForEncoding count window.new.slots }
+{
+    for i in 0..count {
+        put_tile(window, i);
+    }
+}
+
+// The first slots get the records of these tiles, and 3 bytes in place of 2 are said to count at two of
+// them.
+fn put_records(window: &mut Window, count: u32, faulty: [u32; 2])
+    requires near { (count ≤ 128) × (count ≤ 2 * window.old.workers) }
+    requires sizes { slot_sizes window.old.slots ≡ replicate (2 * window.old.workers) (2, 72) }
+    ensures workers { window.new.workers ≡ window.old.workers }
+    ensures sizes { slot_sizes window.new.slots ≡ slot_sizes window.old.slots }
+    ensures ready { AreForDecoding count window.new.slots }
+{
+    for i in 0..count {
+        let len = if i == faulty[0] || i == faulty[1] {
+            3
+        } else {
+            2
+        };
+        put_record(window, i, len);
+    }
+}
+
+// Each of the first slots is as `put_tiles` leaves it in a window that was just filled.
+fn expect_tiles(rt: &impl Abort, window: &Window, count: u32)
+    requires near { (count ≤ 128) × (count ≤ 2 * window.now.workers) }
+    requires sizes { slot_sizes window.now.slots ≡ replicate (2 * window.now.workers) (2, 72) }
+{
+    for i in 0..count {
+        let slot = window.slot(i);
+        assert_eq!(rt; slot.job, job_of(10 + i, 0));
+        assert_eq!(rt; slot.numbers.as_slice(), [i as i32, 0].as_slice());
+        assert_eq!(rt; slot.code.as_slice(), [0; 72].as_slice());
+        assert_eq!(rt; slot.fault, None);
+    }
+}
+
+// Each of the first slots is as `put_records` leaves it, with no faulty record.
+fn expect_records(rt: &impl Abort, window: &Window, count: u32)
+    requires near { (count ≤ 128) × (count ≤ 2 * window.now.workers) }
+    requires sizes { slot_sizes window.now.slots ≡ replicate (2 * window.now.workers) (2, 72) }
+{
+    for i in 0..count {
+        let slot = window.slot(i);
+        assert_eq!(rt; slot.job, job_of(10 + i, 2));
+        assert_eq!(rt; slot.numbers.as_slice(), [0, 0].as_slice());
+        assert!(rt; slot.code.len() == 72);
+        assert_eq!(rt; &slot.code.as_slice()[..2], [0, i as u8].as_slice());
+        assert_eq!(rt; slot.fault, None);
+    }
+}
+
+// Each of the first slots has the bytes of its own tile.
+fn expect_bytes(rt: &impl Abort, window: &Window, count: u32)
+    requires near { (count ≤ 128) × (count ≤ 2 * window.now.workers) }
+    requires sizes { slot_sizes window.now.slots ≡ replicate (2 * window.now.workers) (2, 72) }
+{
+    for i in 0..count {
+        let slot = window.slot(i);
+        assert_eq!(rt; slot.job.tile, 10 + i);
+        assert_eq!(rt; slot.job.place, Place2::Stored);
+        assert_eq!(rt; slot.job.len, 2);
+        assert!(rt; slot.code.len() == 72);
+        assert_eq!(rt; &slot.code.as_slice()[..2], [0, i as u8].as_slice());
+    }
+}
+
+// Each of the first slots has the number of its own record.
+fn expect_numbers(rt: &impl Abort, window: &Window, count: u32)
+    requires near { (count ≤ 128) × (count ≤ 2 * window.now.workers) }
+    requires sizes { slot_sizes window.now.slots ≡ replicate (2 * window.now.workers) (2, 72) }
+{
+    for i in 0..count {
+        let slot = window.slot(i);
+        assert_eq!(rt; slot.job.tile, 10 + i);
+        assert_eq!(rt; slot.numbers.as_slice(), [i as i32, 0].as_slice());
+    }
+}
+
+/// Holds the call for tile 10 until three others have come, and counts the calls of each worker.
+#[derive(Drop)]
+struct Holding {
+    others: AtomicU64,
+    tiles: AtomicU64,
+    workers: AtomicU64,
+    came: AtomicU64,
+}
+
+impl Holding {
+    fn new() -> Holding {
+        Holding {
+            others: AtomicU64::new(0),
+            tiles: AtomicU64::new(0),
+            workers: AtomicU64::new(0),
+            came: AtomicU64::new(0),
+        }
+    }
+}
+
+impl Gate for Holding {
+    fn pass(&self, worker: u32, tile: u32) {
+        self.tiles.fetch_add(u64::from(tile), Ordering::SeqCst);
+        self.workers.fetch_add(one_call(worker), Ordering::SeqCst);
+        if tile != 10 {
+            self.others.fetch_add(1, Ordering::SeqCst);
+            return;
+        }
+        for _ in 0..1_000_000_000u64 {
+            if self.others.load(Ordering::SeqCst) == 3 {
+                self.came.store(1, Ordering::SeqCst);
+                return;
+            }
+        }
+    }
+}
+
+// A call of worker 0 counts 1, one of worker 1 counts 256, and there is no other worker.
+fn one_call(worker: u32) -> u64 {
+    match worker {
+        0 => 1,
+        1 => 256,
+        _ => 65_536,
+    }
+}
+
+// The three calls came while the one for tile 10 was held; the tiles 10 to 13 were told; and one worker
+// called once, the other three times.
+fn expect_came(rt: &impl Abort, gate: &Holding) {
+    assert_eq!(rt; gate.came.load(Ordering::SeqCst), 1);
+    assert_eq!(rt; gate.tiles.load(Ordering::SeqCst), 46);
+    let calls = gate.workers.load(Ordering::SeqCst);
+    assert!(rt; calls == 0x301 || calls == 0x103);
+}
+
+// It fails a body that codes all slots on one thread (`one_thread`): with 1 in place of `workers` in the
+// call of `for_each_mut` each proof still passes, and this test does not.
+#[test]
+fn gate_holds_the_first_tile(rt: HostRuntime) -> Result<(), Fail> {
+    let mut window = filled(rt.alloc(), 2)?;
+    put_tiles(&mut window, 4);
+    let gate = Holding::new();
+    assert_eq!(rt; encode_window(&rt, &mut window, 4, &gate), Ok(()));
+    expect_came(&rt, &gate);
+    expect_bytes(&rt, &window, 4);
+    put_records(&mut window, 4, [9, 9]);
+    let gate = Holding::new();
+    assert_eq!(rt; decode_window(&rt, &mut window, 4, &gate), Ok(None));
+    expect_came(&rt, &gate);
+    expect_numbers(&rt, &window, 4);
+    Ok(())
+}
+
+#[test]
+fn many_workers_and_none_to_do(rt: HostRuntime) -> Result<(), Fail> {
+    let mut window = filled(rt.alloc(), 64)?;
+    assert_eq!(rt; window.workers(), 64);
+    put_tiles(&mut window, 128);
+    assert_eq!(rt; encode_window(&rt, &mut window, 0, &FreeGate), Ok(()));
+    expect_tiles(&rt, &window, 128);
+    assert_eq!(rt; encode_window(&rt, &mut window, 128, &FreeGate), Ok(()));
+    expect_bytes(&rt, &window, 128);
+    put_records(&mut window, 128, [128, 128]);
+    assert_eq!(rt; decode_window(&rt, &mut window, 0, &FreeGate), Ok(None));
+    expect_records(&rt, &window, 128);
+    assert_eq!(rt; decode_window(&rt, &mut window, 128, &FreeGate), Ok(None));
+    expect_numbers(&rt, &window, 128);
+    Ok(())
+}
+
+// For `tools/fail_allocations`: with an allocation of the call failing, all slots are as before.
+#[test]
+fn encoding_without_memory_leaves_the_slots(rt: HostRuntime) -> Result<(), Fail> {
+    let mut window = filled(rt.alloc(), 2)?;
+    put_tiles(&mut window, 4);
+    match encode_window(&rt, &mut window, 4, &FreeGate) {
+        Ok(()) => expect_bytes(&rt, &window, 4),
+        Err(NoMemory) => expect_tiles(&rt, &window, 4),
+    }
+    Ok(())
+}
+
+// The same for decoding.
+#[test]
+fn decoding_without_memory_leaves_the_slots(rt: HostRuntime) -> Result<(), Fail> {
+    let mut window = filled(rt.alloc(), 2)?;
+    put_records(&mut window, 4, [4, 4]);
+    match decode_window(&rt, &mut window, 4, &FreeGate) {
+        Ok(fault) => {
+            assert_eq!(rt; fault, None);
+            expect_numbers(&rt, &window, 4);
+        }
+        Err(NoMemory) => expect_records(&rt, &window, 4),
+    }
+    Ok(())
+}
+
+#[test]
+fn lowest_faulty_slot_is_answered(rt: HostRuntime) -> Result<(), Fail> {
+    let mut window = filled(rt.alloc(), 3)?;
+    put_records(&mut window, 6, [2, 4]);
+    let answer = decode_window(&rt, &mut window, 6, &FreeGate);
+    assert_eq!(rt; answer, Ok(Some((2, TileFault::TileSize))));
+    expect_numbers(&rt, &window, 2);
+    Ok(())
+}
+
+#[test]
+fn window_takes_and_hands_back(rt: HostRuntime) -> Result<(), Fail> {
+    // Two workers have four slots, of 8 and 72 bytes each at one pixel.
+    let Ok(mut window) = Window::new(rt.alloc(), 2) else {
+        return Err(AllocError.into());
+    };
+    let mut meter = Meter::new(rt.alloc(), 319);
+    let (live, asked, limit) = (248, 72, 319);
+    let refused = Err(Short::OverLimit { live, asked, limit });
+    assert_eq!(rt; window.fill(&mut meter, 1), refused);
+    assert_eq!(rt; meter.live(), 0);
+    assert_eq!(rt; meter.peak(), 248);
+    let mut meter = Meter::new(rt.alloc(), 320);
+    assert_eq!(rt; window.fill(&mut meter, 1), Ok(()));
+    assert_eq!(rt; meter.live(), 320);
+    window.empty(&mut meter);
+    assert_eq!(rt; meter.live(), 0);
+    Ok(())
+}

@@ -1,0 +1,35 @@
+use Rattle.std.proofs.Common.{◌≡◌, ℕ, Bool, pos, List, get_or, length, sym, ap, ◌∙◌, arith, rules}
+use Rattle.std.specs.List.{flat_map}
+use Rattle.std.specs.Int.{w32}
+use Rattle.std.specs.Prelude.{FitsSigned}
+use Rattle.std.proofs.lemmas.Int.{to_z-of_z}
+use Rattle.fz_bits.specs.Bits.{number_bits}
+use Rattle.fz_bits.proofs.BitsLemmas.{length-number_bits}
+use Rattle.fz_rice.specs.Numbers.{residue}
+use Rattle.fz_rice.specs.Code.{differences, split_bits}
+use Rattle.fz_rice.proofs.WritesLemmas.{writes_of, four_bits}
+use Rattle.fz_rice.proofs.encode.write_few.Goals as goal
+
+pub returns-in-Some : goal.returns-in-Some
+returns-in-Some g c =
+    let w = g.row.W in
+    let start = c.args.start in
+    let xs = c.args.numbers.now in
+    let f : ℕ → List Bool = split_bits c.args.k in
+    let four = c.in-Some.four in
+    let x0 = get_or xs 0 (pos 0) in
+    let x1 = get_or xs 1 (pos 0) in
+    let x2 = get_or xs 2 (pos 0) in
+    let x3 = get_or xs 3 (pos 0) in
+    let f0 : FitsSigned w32 x0 = search rules in
+    let f1 : FitsSigned w32 x1 = search rules in
+    let f2 : FitsSigned w32 x2 = search rules in
+    let f3 : FitsSigned w32 x3 = search rules in
+    let a : c.residue-a.result ≡ residue w x0 = c.residue-a.ensures ∙ ap (residue w) (to_z-of_z w32 x0 f0) in
+    let b : c.residue-b.result ≡ residue w x1 = c.residue-b.ensures ∙ ap (residue w) (to_z-of_z w32 x1 f1) in
+    let d : c.residue-c.result ≡ residue w x2 = c.residue-c.ensures ∙ ap (residue w) (to_z-of_z w32 x2 f2) in
+    let e : c.residue-d.result ≡ residue w x3 = c.residue-d.ensures ∙ ap (residue w) (to_z-of_z w32 x3 f3) in
+    let len : length xs ≡ 4 = omega (arith, c.in-len4.len_at_least, c.in-len4.len_below) in
+    let is : number_bits four.width four.bits ≡ flat_map f (differences w start xs) = c.in-Some.ensures ∙ four_bits f w start xs c.residue-a.result c.residue-b.result c.residue-c.result c.residue-d.result c.mapped.result c.mapped-in-len4.result c.mapped-in-len4-2.result c.mapped-in-len4-3.result len a b d e c.mapped.ensures c.mapped-in-len4.ensures c.mapped-in-len4-2.ensures c.mapped-in-len4-3.ensures in
+    let put = c.put_long.ensures in
+    writes_of c.put_long.result (flat_map f (differences w start xs)) (number_bits four.width four.bits) four.width c.args.writer.now c.put_long.new.self put.same put.room put.ok put.full is (ap length (sym is) ∙ length-number_bits four.width four.bits)

@@ -1,0 +1,68 @@
+//! Bits of values, joined before they are written.
+#![tactic(auto)]
+
+ghost use Rattle.std.specs.Prelude.{◌≡◌, ℕ, ◌+◌, ◌*◌, ◌/◌, ◌^◌, ◌<◌, ◌++◌, IfSome};
+ghost use Rattle.fz_bits.specs.Bits.{number_bits};
+ghost use Rattle.fz_rice.specs.Code.{split_bits};
+
+/// The `width` bits of a number.
+#[derive(Clone, Copy)]
+pub struct Field {
+    pub bits: u64,
+    pub width: u32,
+    ghost few: { width < 64 },
+    ghost fits: { bits < 2 ^ width },
+}
+
+impl Field {
+    ghost use Rattle.fz_bits.specs.Bits.{number_bits};
+    ghost use Rattle.fz_rice.specs.Code.{split_bits};
+
+    /// `value >> k` zeros, a one, and the last `k` bits of a value.
+    #[inline]
+    pub fn of_value(k: u32, value: u32) -> Field
+        requires k { k < 32 }
+        requires few { value / 2 ^ k + 1 + k < 64 }
+        ensures bits { number_bits result.width result.bits ≡ split_bits k value }
+        ensures width { result.width ≡ value / 2 ^ k + 1 + k }
+    {
+        let low = u64::from(value) & ((1 << k) - 1);
+        Field {
+            bits: (1 << k) | low,
+            width: (value >> k) + 1 + k,
+        }
+    }
+
+    /// The bits, and those of `next` behind them.
+    #[inline]
+    pub fn joined(self, next: Field) -> Field
+        requires { self.width + next.width < 64 }
+        ensures bits { number_bits result.width result.bits
+            ≡ number_bits self.width self.bits ++ number_bits next.width next.bits }
+        ensures width { result.width ≡ self.width + next.width }
+    {
+        Field {
+            bits: (self.bits << next.width) | next.bits,
+            width: self.width + next.width,
+        }
+    }
+
+    /// The bits of four values, `None` where they are more than 63.
+    #[inline]
+    pub fn of_four(k: u32, front: (u32, u32), back: (u32, u32)) -> Option<Field>
+        requires { k < 32 }
+        ensures { IfSome result (λ field. number_bits field.width field.bits
+            ≡ split_bits k front.0 ++ (split_bits k front.1 ++ (split_bits k back.0 ++ split_bits k back.1))) }
+    {
+        let zeros = u64::from(front.0 >> k)
+            + u64::from(front.1 >> k)
+            + u64::from(back.0 >> k)
+            + u64::from(back.1 >> k);
+        if zeros + 4 * (u64::from(k) + 1) >= 64 {
+            return None;
+        }
+        let front = Field::of_value(k, front.0).joined(Field::of_value(k, front.1));
+        let back = Field::of_value(k, back.0).joined(Field::of_value(k, back.1));
+        Some(front.joined(back))
+    }
+}
