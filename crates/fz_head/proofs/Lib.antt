@@ -12,6 +12,7 @@ pub mod MadeCards
 pub mod PackAnswers
 pub mod PackedAnswers
 pub mod PackedPlans
+pub mod PlannedCodecs
 pub mod PlannedTiles
 pub mod Positions
 pub mod Ranges

@@ -79,7 +79,7 @@ rows-checked k rows shape tile header answer same axes lengths e =
     subst (λ n. first_refusal ((not (size_at header 4 == n), refusal k (Card 4) RowCount) ∷ []) ≡ answer) number one
 
 -- the bits of a pixel are those of an integer
-is-bitpix : (v : Option ℤ) → is_integer_size v ≡ true → IsBitpix (unwrap_or v (pos 0))
+pub is-bitpix : (v : Option ℤ) → is_integer_size v ≡ true → IsBitpix (unwrap_or v (pos 0))
 is-bitpix None e = cc
 is-bitpix (Some v) e = elim (or_cases (int_eq v (pos 8)) _ e) [
   | inl byte ↦ inl ((Decides-int_eq v (pos 8)).0 byte)
@@ -130,6 +130,12 @@ same-plan cards p codec bitpix shape tile primary wide =
 -- what is said of the parts of a plan
 pub same-divided : (shape tile shape' tile' : Axes) → shape ≡ shape' → tile ≡ tile' → IsDivided shape' tile' → IsDivided shape tile
 same-divided shape tile shape' tile' axes lengths divided = subst (λ a. IsDivided a tile) (sym axes) (subst (IsDivided shape') (sym lengths) divided)
+
+pub same-rows : (rows : ℕ) (shape tile shape' tile' : Axes) (x : Fault) → shape ≡ shape' → tile ≡ tile' →
+    first_refusal ((not (rows == tile_count (lengths_of shape') (lengths_of tile')), x) ∷ []) ≡ None → rows ≡ tile_count (lengths_of shape) (lengths_of tile)
+same-rows rows shape tile shape' tile' x axes lengths passed =
+    eqb-true rows (tile_count (lengths_of shape') (lengths_of tile')) (not-false (rows == tile_count (lengths_of shape') (lengths_of tile')) (clear ((not (rows == tile_count (lengths_of shape') (lengths_of tile')), x) ∷ []) passed).0)
+    ∙ (ap (λ a. tile_count (lengths_of a) (lengths_of tile')) (sym axes) ∙ ap (λ a. tile_count (lengths_of shape) (lengths_of a)) (sym lengths))
 
 pub same-readable : (k : ℕ) (cards : List (List ℕ)) (p : Plan) → p ≡ plan_of_cards cards → first_refusal (bitpix_checks k cards) ≡ None → ReadsCodes (codec_named (said_codec cards) cards) → CanRead p.codec p.bitpix
 unfolding plan_of_cards

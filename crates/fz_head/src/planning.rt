@@ -7,6 +7,7 @@ ghost use Rattle.fz_block.specs.Facts.{IsHeaderOf};
 ghost use Rattle.fz_block.specs.Header.{next_start_of};
 ghost use Rattle.fz_block.specs.Hdus.{cards_of};
 ghost use Rattle.fz_grid.specs.Region.{IsDivided, lengths_of};
+ghost use Rattle.fz_tile.specs.Codecs.{CanWrite};
 ghost use Rattle.fz_head.specs.Packable.{has_integers, is_packable, is_primary};
 ghost use Rattle.fz_head.specs.PackChecks.{name_checks, limit_checks, offset_check as offset_check_of, fill_check, is_plio, no_totals, is_axis_above, is_of_other_sort, is_reserved_card as is_reserved_card_of, is_table_name as is_table_name_of, pack_answer, reserved_index};
 ghost use Rattle.fz_head.specs.Planned.{AreOptions, codec_for as codec_for_of, is_wide as is_wide_of, pack_plan_of};
@@ -54,6 +55,7 @@ pub fn pack_plan(buf: &[u8], header: &Header, options: &PackOptions) -> Result<P
     requires options { AreOptions options.now }
     ensures exact { result ≡ pack_answer options.now header.now buf.now }
     ensures divided { IfOk result (λ p. IsDivided p.shape p.tile) }
+    ensures writable { IfOk result (λ p. CanWrite p.codec p.bitpix) }
 {
     check_names(buf, header)?;
     let plan = plan_for(header, options);

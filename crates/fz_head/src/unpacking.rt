@@ -53,6 +53,7 @@ pub fn plan_of(buf: &[u8], header: &Header, table: &Table, after_empty: bool) ->
     ensures exact { result ≡ plan_answer header.now.hdu buf.now after_empty }
     ensures divided { IfOk result (λ p. IsDivided p.shape p.tile) }
     ensures readable { IfOk result (λ p. CanRead p.codec p.bitpix) }
+    ensures rows { IfOk result (λ p. table.now.rows ≡ tile_count (lengths_of p.shape) (lengths_of p.tile)) }
 {
     check_scaling(buf, header)?;
     check_codec(buf, header)?;

@@ -68,9 +68,9 @@ all-written buf header plan region first n1 n2 n3 n4 o0 o1 o2 o3 o4 is said same
     let A1 = adds-same first lead 0 n1 o0 o1 same a1 in
     let A4 = adds-same (part_cards_of plan.primary plan.shape.n (first_cards buf header.cards)) parts n3 n4 o3 o4
     (ap (λ b. part_cards_of b plan.shape.n (first_cards buf header.cards)) said.primary ∙ (ap (λ n. part_cards_of (was_primary cards) n (first_cards buf header.cards)) said.axes ∙ ap (part_cards_of (was_primary cards) (axis_count cards)) (sym (header-cards buf header is)))) a4 in
-    let T3 = adds-then axes parts n2 n3 n4 o2 o3 o4 a3 A4 in
-    let T2 = adds-then (size_cards cards) (axes ++ parts) n1 n2 n4 o1 o2 o4 a2 T3 in
-    adds-then lead (size_cards cards ++ (axes ++ parts)) 0 n1 n4 o0 o1 o4 A1 T2 [] (written-none o0)
+    let from_axes = adds-then axes parts n2 n3 n4 o2 o3 o4 a3 A4 in
+    let from_size = adds-then (size_cards cards) (axes ++ parts) n1 n2 n4 o1 o2 o4 a2 from_axes in
+    adds-then lead (size_cards cards ++ (axes ++ parts)) 0 n1 n4 o0 o1 o4 A1 from_size [] (written-none o0)
 
 pub returns : goal.returns
 returns c =

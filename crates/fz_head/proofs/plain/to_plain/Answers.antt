@@ -68,10 +68,10 @@ all-written buf header plan n1 n2 n3 n4 n5 o0 o1 o2 o3 o4 o5 is said a1 a2 a3 a4
     let A4 = adds-same (count_cards_of plan.primary cards) (count_cards cards) n3 n4 o3 o4 (ap (λ b. count_cards_of b cards) said.primary) a4 in
     let A5 = adds-same (other_cards_of plan.primary plan.shape.n (first_cards buf header.cards)) (other_cards cards) n4 n5 o4 o5
     (ap (λ b. other_cards_of b plan.shape.n (first_cards buf header.cards)) said.primary ∙ (ap (λ n. other_cards_of (was_primary cards) n (first_cards buf header.cards)) said.axes ∙ ap (other_cards_of (was_primary cards) (axis_count cards)) (sym (header-cards buf header is)))) a5 in
-    let T4 = adds-then (count_cards cards) (other_cards cards) n3 n4 n5 o3 o4 o5 A4 A5 in
-    let T3 = adds-then axes (count_cards cards ++ other_cards cards) n2 n3 n5 o2 o3 o5 A3 T4 in
-    let T2 = adds-then (size_cards cards) (axes ++ (count_cards cards ++ other_cards cards)) n1 n2 n5 o1 o2 o5 a2 T3 in
-    adds-then (leading_card cards) (size_cards cards ++ (axes ++ (count_cards cards ++ other_cards cards))) 0 n1 n5 o0 o1 o5 a1 T2 [] (written-none o0)
+    let from_counts = adds-then (count_cards cards) (other_cards cards) n3 n4 n5 o3 o4 o5 A4 A5 in
+    let from_axes = adds-then axes (count_cards cards ++ other_cards cards) n2 n3 n5 o2 o3 o5 A3 from_counts in
+    let from_size = adds-then (size_cards cards) (axes ++ (count_cards cards ++ other_cards cards)) n1 n2 n5 o1 o2 o5 a2 from_axes in
+    adds-then (leading_card cards) (size_cards cards ++ (axes ++ (count_cards cards ++ other_cards cards))) 0 n1 n5 o0 o1 o5 a1 from_size [] (written-none o0)
 
 pub returns : goal.returns
 returns c =

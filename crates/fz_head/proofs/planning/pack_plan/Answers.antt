@@ -2,6 +2,7 @@ use Rattle.std.proofs.Common.{Ok, sym, ap, ◌∙◌, arith, rules}
 use Rattle.fz_block.specs.Hdus.{cards_of}
 use Rattle.fz_head.proofs.FrontCards.{header-end}
 use Rattle.fz_head.proofs.PackAnswers.{cards-count, has-tile, in-names, in-limits, in-offset, in-none, limits-of, offset-of, tile-of}
+use Rattle.fz_head.proofs.PlannedCodecs.{planned-writable}
 use Rattle.fz_head.proofs.PlannedTiles.{axes-few, planned-divided}
 use Rattle.fz_head.proofs.planning.pack_plan.Goals as goal
 
@@ -57,3 +58,12 @@ returns-clause-divided c =
     let here = c.in_ok-check_limits.ensures (cards_of buf) (cards-count buf h c.requires.header) in
     let answer = in-none o h buf c.in_ok-check_names.ensures (limits-of o h _ o.sums (cards_of buf) _ c.plan_for-plan.ensures here) (offset-of o h buf _ _ c.requires.header c.plan_for-plan.ensures c.in_ok-check_offset.ensures) in
     planned-divided o buf h c.plan_for-plan.result c.requires.options c.requires.header c.requires.packable (answer ∙ ap Ok (sym c.plan_for-plan.ensures))
+
+pub returns-clause-writable : goal.returns-clause-writable
+returns-clause-writable c =
+    let o = c.args.options.now in
+    let h = c.args.header.now in
+    let buf = c.args.buf.now in
+    let here = c.in_ok-check_limits.ensures (cards_of buf) (cards-count buf h c.requires.header) in
+    let answer = in-none o h buf c.in_ok-check_names.ensures (limits-of o h _ o.sums (cards_of buf) _ c.plan_for-plan.ensures here) (offset-of o h buf _ _ c.requires.header c.plan_for-plan.ensures c.in_ok-check_offset.ensures) in
+    planned-writable o buf h c.plan_for-plan.result c.requires.options c.requires.packable (answer ∙ ap Ok (sym c.plan_for-plan.ensures))

@@ -2,7 +2,7 @@ use Rattle.std.proofs.Common.{Ok, ap, sym, ◌∙◌, subst, rules}
 use Rattle.fz_block.specs.Hdus.{cards_of}
 use Rattle.fz_tile.specs.Codecs.{ReadsCodes}
 use Rattle.fz_head.proofs.PackedAnswers.{in-scaling, in-codec, in-bitpix, in-shape, in-parameters, in-sort, in-line_list, in-rows, past-scaling, past-codec, past-bitpix, past-shape, past-parameters, past-sort, past-line_list, past-all}
-use Rattle.fz_head.proofs.SaidPlans.{few-columns, rows-checked, rows-said, same-divided, same-readable}
+use Rattle.fz_head.proofs.SaidPlans.{few-columns, rows-checked, rows-said, same-divided, same-readable, same-rows}
 use Rattle.fz_head.proofs.unpacking.plan_of.Goals as goal
 
 pub check_scaling-requires-clause-few : goal.check_scaling-requires-clause-few
@@ -120,3 +120,6 @@ returns-clause-divided c = same-divided _ _ _ _ c.said_plan.ensures.axes.0 c.sai
 pub returns-clause-readable : goal.returns-clause-readable
 returns-clause-readable c =
     same-readable (c.args.header.now.hdu) (cards_of c.args.buf.now) c.said_plan.result c.said_plan.ensures.exact c.in_ok-bitpix.ensures.exact (subst ReadsCodes c.in_ok-codec.ensures.value c.in_ok-codec.ensures.codes)
+
+pub returns-clause-rows : goal.returns-clause-rows
+returns-clause-rows c = same-rows c.args.table.now.rows _ _ _ _ _ c.said_plan.ensures.axes.0 c.said_plan.ensures.axes.1 c.in_ok-check_rows.ensures
