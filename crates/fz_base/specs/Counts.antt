@@ -1,5 +1,6 @@
 -- Counts of faults and of wants. They never fall, and stand still at 2 ^ 64 - 1.
 use Rattle.std.specs.Prelude.{ℕ, ◌≡◌, ◌+◌, ◌-◌, ◌^◌, ◌≤◌, min, List, Contains, Result, OnOk, IsErrOf}
+use Rattle.fz_base.specs.declared.calls.Counts.{Counts}
 use Rattle.fz_base.specs.declared.failure.Failed.{Failed}
 use Rattle.fz_base.specs.declared.failure.Failed.TheVariants.{Fault, NoMemory}
 
@@ -7,15 +8,32 @@ use Rattle.fz_base.specs.declared.failure.Failed.TheVariants.{Fault, NoMemory}
 abbrev pub Rose : ℕ → ℕ → Type 0
 Rose before now = min (before + 1) (2 ^ 64 - 1) ≤ now
 
--- a call of an object changed its two counts as its answer says
-pub record HasCause {T : Type 0} (faults faults' wants wants' : ℕ) (result : Result T Failed) : Type 0 where
-  pub faults_kept : faults ≤ faults'
-  pub wants_kept : wants ≤ wants'
-  pub faults_stay : faults ≡ 2 ^ 64 - 1 → faults' ≡ 2 ^ 64 - 1
-  pub wants_stay : wants ≡ 2 ^ 64 - 1 → wants' ≡ 2 ^ 64 - 1
-  pub ok : OnOk result ((faults' ≡ faults) × (wants' ≡ wants))
-  pub fault : IsErrOf result Fault → Rose faults faults'
-  pub no_memory : IsErrOf result NoMemory → Rose wants wants'
+-- how often the calls of an object failed, and how often one found no memory
+pub record Tally : Type 0 where
+  pub faults : ℕ
+  pub wants : ℕ
+
+-- before the first call
+abbrev pub uncounted : Tally
+uncounted = record { faults = 0; wants = 0 }
+
+-- the tally that an object keeps
+abbrev pub tally_of : Counts → Tally
+tally_of counts = record { faults = counts.faults; wants = counts.wants }
+
+-- counts never fall, and one that reached the end of its range stays there
+pub record CountsKept (before now : Tally) : Type 0 where
+  pub faults_kept : before.faults ≤ now.faults
+  pub wants_kept : before.wants ≤ now.wants
+  pub faults_stay : before.faults ≡ 2 ^ 64 - 1 → now.faults ≡ 2 ^ 64 - 1
+  pub wants_stay : before.wants ≡ 2 ^ 64 - 1 → now.wants ≡ 2 ^ 64 - 1
+
+-- a call of an object changed its counts as its answer says
+pub record HasCause {T : Type 0} (before now : Tally) (result : Result T Failed) : Type 0 where
+  pub kept : CountsKept before now
+  pub ok : OnOk result (now ≡ before)
+  pub fault : IsErrOf result Fault → Rose before.faults now.faults
+  pub no_memory : IsErrOf result NoMemory → Rose before.wants now.wants
 
 -- one more, up to the end of the range
 abbrev pub counted : ℕ → ℕ

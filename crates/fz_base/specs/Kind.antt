@@ -1,7 +1,7 @@
 -- The refusal kinds by their fixed numbers.
 use Rattle.std.specs.Prelude.{ℕ}
 use Rattle.fz_base.specs.declared.kind.Kind.{Kind}
-use Rattle.fz_base.specs.declared.kind.Kind.TheVariants.{NotFits, Truncated, LongHeader, BadCard, Duplicate, HeaderFill, DataFill, TrailingBytes, Reserved, AlreadyPacked, Limit, Groups, UnknownCodec, Quantised, CompressedTable, BadTable, RowCount, DescriptorRange, TileMissing, GzipTile, CodeShort, CodeValue, LineList, PixelRange, TileSize, MisplacedPrimary, NotPacked, OutOfBox, PlioOffset, Unbuilt}
+use Rattle.fz_base.specs.declared.kind.Kind.TheVariants.{NotFits, Truncated, LongHeader, BadCard, Duplicate, HeaderFill, DataFill, TrailingBytes, Reserved, AlreadyPacked, Limit, Groups, UnknownCodec, Quantised, CompressedTable, BadTable, RowCount, DescriptorRange, TileMissing, GzipTile, CodeShort, CodeValue, LineList, PixelRange, TileSize, MisplacedPrimary, NotPacked, OutOfBox, PlioOffset, Unbuilt, Unpatchable, BadPatch}
 
 -- the number of a kind
 abbrev pub kind_number : Kind → ℕ
@@ -35,3 +35,5 @@ kind_number NotPacked = 27
 kind_number OutOfBox = 28
 kind_number PlioOffset = 29
 kind_number Unbuilt = 30
+kind_number Unpatchable = 31
+kind_number BadPatch = 32

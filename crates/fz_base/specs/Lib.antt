@@ -1,6 +1,7 @@
 pub mod Agreement
 pub mod Buffer
 pub mod Counts
+pub mod FirstByte
 pub mod Kind
 pub mod MemSink
 pub mod MemSource
@@ -10,3 +11,4 @@ pub mod Refusal
 pub mod Sink
 pub mod Source
 pub mod Stop
+pub mod Takings

@@ -1,5 +1,5 @@
 -- What the calls of a source answer and log. Held bytes and ranges are none where a source does not tell them.
-use Rattle.std.specs.Prelude.{ℕ, ◌≡◌, ◌⊎◌, List, [], ◌∷◌, ◌++◌, length, take, drop, Option, Some, IfSome, Result, Ok, Err}
+use Rattle.std.specs.Prelude.{ℕ, ◌≡◌, ◌+◌, ◌<◌, ◌≤◌, ◌⊎◌, All, List, [], ◌∷◌, ◌++◌, length, take, drop, Option, Some, IfSome, Result, Ok, Err}
 use Rattle.std.specs.Option.{option_map}
 
 -- the buffer has the held bytes from a place on
@@ -13,6 +13,18 @@ logged at count ranges = option_map (λ rs. rs ++ (at, count) ∷ []) ranges
 -- a failed read logs its range or leaves the list as it was
 abbrev pub MayLog : ℕ → ℕ → Option (List (ℕ × ℕ)) → Option (List (ℕ × ℕ)) → Type 0
 MayLog at count old new = (new ≡ old) ⊎ (new ≡ logged at count old)
+
+-- a range that is not empty and lies between two places
+abbrev pub IsWithin : ℕ → ℕ → ℕ × ℕ → Type 0
+IsWithin from to range = (0 < range.1) × (from ≤ range.0) × (range.0 + range.1 ≤ to)
+
+-- more ranges were read, if any, and each of them is of this kind
+abbrev pub LogsOnly : (ℕ × ℕ → Type 0) → Option (List (ℕ × ℕ)) → Option (List (ℕ × ℕ)) → Type 0
+LogsOnly Kind old new = (more : List (ℕ × ℕ)) × All Kind more × (new ≡ option_map (λ rs. rs ++ more) old)
+
+-- each of the ranges that were read lies between two places
+abbrev pub LogsWithin : ℕ → ℕ → Option (List (ℕ × ℕ)) → Option (List (ℕ × ℕ)) → Type 0
+LogsWithin from to old new = LogsOnly (IsWithin from to) old new
 
 -- where the bytes are told, there are so many
 abbrev pub HoldsLength : Option (List ℕ) → ℕ → Type 0

@@ -1,5 +1,5 @@
 -- Why a call stopped: by a fault of what it reads or writes, by want of memory, or by its meter's limit.
-use Rattle.std.specs.Prelude.{ℕ, ◌≡◌, ◌+◌, ◌<◌, ◌≤◌, Result, Ok, Err, OnOk, IfErr, ⊤}
+use Rattle.std.specs.Prelude.{ℕ, ◌≡◌, ◌+◌, ◌<◌, ◌≤◌, ◌⊎◌, Result, Ok, Err, OnOk, IfErr, ⊤}
 use Rattle.fz_base.specs.declared.fault.Fault.{Fault as Refusal}
 use Rattle.fz_base.specs.declared.failure.Failed.{Failed}
 use Rattle.fz_base.specs.declared.failure.Failed.TheVariants.{Fault as IsFault, NoMemory as IsWant}
@@ -7,7 +7,7 @@ use Rattle.fz_base.specs.declared.failure.Short.{Short}
 use Rattle.fz_base.specs.declared.failure.Short.TheVariants.{NoMemory as NoRoom, OverLimit as PastLimit}
 use Rattle.fz_base.specs.declared.failure.Stop.{Stop}
 use Rattle.fz_base.specs.declared.failure.Stop.TheVariants.{Refused, ReadFault, WriteFault, OverLimit, NoMemory}
-use Rattle.fz_base.specs.Counts.{Rose}
+use Rattle.fz_base.specs.Counts.{Rose, Tally, CountsKept}
 
 -- a failed read stops the call that read
 abbrev pub stop_of_read : Failed → Stop
@@ -24,21 +24,35 @@ abbrev pub stop_of_short : Short → Stop
 stop_of_short NoRoom = NoMemory
 stop_of_short (PastLimit live asked limit) = OverLimit live asked limit
 
--- Why a call that only reads a source stopped. Refused comes only where no count rose, ReadFault where the count of
--- faults rose, NoMemory where the count of wants rose; there is no other answer.
-abbrev pub StoppedReading : ℕ → ℕ → ℕ → ℕ → Stop → Type 0
-StoppedReading faults faults' wants wants' (Refused x) = (faults' ≡ faults) × (wants' ≡ wants)
-StoppedReading faults faults' wants wants' ReadFault = Rose faults faults'
-StoppedReading faults faults' wants wants' WriteFault = ⊥
-StoppedReading faults faults' wants wants' (OverLimit live asked limit) = ⊥
-StoppedReading faults faults' wants wants' NoMemory = Rose wants wants'
+-- Why a call that only reads a source stopped, by the source's tally. Refused comes only where no count rose, ReadFault where
+-- the count of faults rose, NoMemory where the count of wants rose; there is no other answer.
+abbrev pub StoppedReading : Tally → Tally → Stop → Type 0
+StoppedReading before now (Refused x) = now ≡ before
+StoppedReading before now ReadFault = Rose before.faults now.faults
+StoppedReading before now WriteFault = ⊥
+StoppedReading before now (OverLimit live asked limit) = ⊥
+StoppedReading before now NoMemory = Rose before.wants now.wants
 
--- a call that only reads a source changed its two counts as its answer says
-pub record ReadsOnly {X : Type 0} (faults faults' wants wants' : ℕ) (result : Result X Stop) : Type 0 where
-  pub faults_kept : faults ≤ faults'
-  pub wants_kept : wants ≤ wants'
-  pub ok : OnOk result ((faults' ≡ faults) × (wants' ≡ wants))
-  pub stop : IfErr result (StoppedReading faults faults' wants wants')
+-- a call that only reads a source changed its counts as its answer says
+pub record ReadsOnly {X : Type 0} (before now : Tally) (result : Result X Stop) : Type 0 where
+  pub kept : CountsKept before now
+  pub ok : OnOk result (now ≡ before)
+  pub stop : IfErr result (StoppedReading before now)
+
+-- Why a call stopped that reads a source and takes buffers of a meter with this limit. What the limit was passed by is said by
+-- the takings of the call.
+abbrev pub StoppedTaking : Tally → Tally → ℕ → Stop → Type 0
+StoppedTaking before now limit (Refused x) = now ≡ before
+StoppedTaking before now limit ReadFault = Rose before.faults now.faults
+StoppedTaking before now limit WriteFault = ⊥
+StoppedTaking before now limit (OverLimit live asked told) = (told ≡ limit) × (limit < live + asked)
+StoppedTaking before now limit NoMemory = ⊤
+
+-- a call that reads a source and takes buffers changed the source's counts as its answer says
+pub record ReadsAndTakes {X : Type 0} (before now : Tally) (limit : ℕ) (result : Result X Stop) : Type 0 where
+  pub kept : CountsKept before now
+  pub ok : OnOk result (now ≡ before)
+  pub stop : IfErr result (StoppedTaking before now limit)
 
 -- an answer Ok or Refused is what the definition says
 abbrev pub IsDefined : {X : Type 0} → Result X Refusal → Result X Stop → Type 0
@@ -49,47 +63,56 @@ IsDefined spec (Err WriteFault) = ⊤
 IsDefined spec (Err (OverLimit live asked limit)) = ⊤
 IsDefined spec (Err NoMemory) = ⊤
 
--- Why a job that reads a source and writes a sink stopped, by their counts of faults and its meter's limit. Refused
--- comes only where no count rose, and no taking is larger than the last number together with what is live.
-abbrev pub StoppedJob : ℕ → ℕ → ℕ → ℕ → ℕ → ℕ → Stop → Type 0
-StoppedJob reads reads' writes writes' limit most (Refused x) = (reads' ≡ reads) × (writes' ≡ writes)
-StoppedJob reads reads' writes writes' limit most ReadFault = Rose reads reads'
-StoppedJob reads reads' writes writes' limit most WriteFault = Rose writes writes'
-StoppedJob reads reads' writes writes' limit most (OverLimit live asked told) = (told ≡ limit) × (limit < live + asked) × (live + asked ≤ most)
-StoppedJob reads reads' writes writes' limit most NoMemory = ⊤
+-- Why a job that reads a source and writes a sink stopped, by their tallies and its meter's limit. Refused comes only where
+-- no count of faults rose, and no taking is larger than the last number together with what is live.
+abbrev pub StoppedJob : Tally → Tally → Tally → Tally → ℕ → ℕ → Stop → Type 0
+StoppedJob source source' sink sink' limit most (Refused x) = (source'.faults ≡ source.faults) × (sink'.faults ≡ sink.faults)
+StoppedJob source source' sink sink' limit most ReadFault = Rose source.faults source'.faults
+StoppedJob source source' sink sink' limit most WriteFault = Rose sink.faults sink'.faults
+StoppedJob source source' sink sink' limit most (OverLimit live asked told) = (told ≡ limit) × (limit < live + asked) × (live + asked ≤ most)
+StoppedJob source source' sink sink' limit most NoMemory = ⊤
 
 -- why a call that reads and writes, but takes no buffer and refuses nothing, stopped
-abbrev pub StoppedWriting : ℕ → ℕ → ℕ → ℕ → Stop → Type 0
-StoppedWriting reads reads' writes writes' (Refused x) = ⊥
-StoppedWriting reads reads' writes writes' ReadFault = Rose reads reads'
-StoppedWriting reads reads' writes writes' WriteFault = Rose writes writes'
-StoppedWriting reads reads' writes writes' (OverLimit live asked limit) = ⊥
-StoppedWriting reads reads' writes writes' NoMemory = ⊤
+abbrev pub StoppedWriting : Tally → Tally → Tally → Tally → Stop → Type 0
+StoppedWriting source source' sink sink' (Refused x) = ⊥
+StoppedWriting source source' sink sink' ReadFault = Rose source.faults source'.faults
+StoppedWriting source source' sink sink' WriteFault = Rose sink.faults sink'.faults
+StoppedWriting source source' sink sink' (OverLimit live asked limit) = ⊥
+StoppedWriting source source' sink sink' NoMemory = Rose source.wants source'.wants ⊎ Rose sink.wants sink'.wants
 
--- a call that reads and writes changed the counts of faults of its source and its sink as its answer says
-pub record ReadsAndWrites {X : Type 0} (reads reads' writes writes' : ℕ) (result : Result X Stop) : Type 0 where
-  pub reads_kept : reads ≤ reads'
-  pub writes_kept : writes ≤ writes'
-  pub ok : OnOk result ((reads' ≡ reads) × (writes' ≡ writes))
-  pub stop : IfErr result (StoppedWriting reads reads' writes writes')
+-- a call that reads and writes changed the counts of its source and its sink as its answer says
+pub record ReadsAndWrites {X : Type 0} (source source' sink sink' : Tally) (result : Result X Stop) : Type 0 where
+  pub source_kept : CountsKept source source'
+  pub sink_kept : CountsKept sink sink'
+  pub ok : OnOk result ((source' ≡ source) × (sink' ≡ sink))
+  pub stop : IfErr result (StoppedWriting source source' sink sink')
 
 -- why a call that only writes, and takes no buffer, stopped
-abbrev pub StoppedByWrite : ℕ → ℕ → Stop → Type 0
-StoppedByWrite writes writes' (Refused x) = ⊥
-StoppedByWrite writes writes' ReadFault = ⊥
-StoppedByWrite writes writes' WriteFault = Rose writes writes'
-StoppedByWrite writes writes' (OverLimit live asked limit) = ⊥
-StoppedByWrite writes writes' NoMemory = ⊤
+abbrev pub StoppedByWrite : Tally → Tally → Stop → Type 0
+StoppedByWrite before now (Refused x) = ⊥
+StoppedByWrite before now ReadFault = ⊥
+StoppedByWrite before now WriteFault = Rose before.faults now.faults
+StoppedByWrite before now (OverLimit live asked limit) = ⊥
+StoppedByWrite before now NoMemory = Rose before.wants now.wants
 
--- a call that only writes changed the count of faults of its sink as its answer says
-pub record Writes {X : Type 0} (writes writes' : ℕ) (result : Result X Stop) : Type 0 where
-  pub writes_kept : writes ≤ writes'
-  pub ok : OnOk result (writes' ≡ writes)
-  pub stop : IfErr result (StoppedByWrite writes writes')
+-- a call that only writes changed the counts of its sink as its answer says
+pub record Writes {X : Type 0} (before now : Tally) (result : Result X Stop) : Type 0 where
+  pub kept : CountsKept before now
+  pub ok : OnOk result (now ≡ before)
+  pub stop : IfErr result (StoppedByWrite before now)
 
 -- the file is refused
 abbrev pub IsRefused : {X : Type 0} → Result X Stop → Type 0
 IsRefused result = (x : Refusal) × (result ≡ Err (Refused x))
+
+-- a fact of the fault of an answer Refused
+abbrev pub IfRefused : {X : Type 0} → Result X Stop → (Refusal → Type 0) → Type 0
+IfRefused (Ok x) P = ⊤
+IfRefused (Err (Refused x)) P = P x
+IfRefused (Err ReadFault) P = ⊤
+IfRefused (Err WriteFault) P = ⊤
+IfRefused (Err (OverLimit live asked limit)) P = ⊤
+IfRefused (Err NoMemory) P = ⊤
 
 -- Where a buffer would have passed the limit, the answer tells the meter's limit, and what is live and asked passes
 -- it, but not this number.

@@ -1,6 +1,6 @@
 //! The counts of an object, and the numbered calls of one in memory that are told to fail.
 ghost use Rattle.std.specs.Prelude.{◌≡◌, ◌+◌, ◌-◌, ◌^◌, ◌↔◌, IfOk, Ok, IsOk, IsErr, IsErrOf, IsTrue, Contains, min};
-ghost use Rattle.fz_base.specs.Counts.{HasCause, CountsFault, counted};
+ghost use Rattle.fz_base.specs.Counts.{HasCause, CountsFault, counted, tally_of};
 ghost use Rattle.fz_base.specs.declared.failure.Failed.TheVariants.{Fault, NoMemory};
 
 use crate::Failed;
@@ -29,7 +29,7 @@ impl Counts {
         ensures answer { IsErrOf result Fault }
         ensures faults { self.new.faults ≡ counted self.old.faults }
         ensures wants { self.new.wants ≡ self.old.wants }
-        ensures cause { HasCause self.old.faults self.new.faults self.old.wants self.new.wants result }
+        ensures cause { HasCause (tally_of self.old) (tally_of self.new) result }
     {
         self.faults = self.faults.saturating_add(1);
         Err(Failed::Fault)
@@ -39,7 +39,7 @@ impl Counts {
     pub(crate) fn want<T>(&mut self) -> Result<T, Failed>
         ensures answer { IsErrOf result NoMemory }
         ensures faults { self.new.faults ≡ self.old.faults }
-        ensures cause { HasCause self.old.faults self.new.faults self.old.wants self.new.wants result }
+        ensures cause { HasCause (tally_of self.old) (tally_of self.new) result }
     {
         self.wants = self.wants.saturating_add(1);
         Err(Failed::NoMemory)
@@ -49,7 +49,7 @@ impl Counts {
     pub(crate) fn noted<T>(&mut self, answer: io::Result<T>) -> Result<T, Failed>
         ensures ok { IsOk answer → IsOk result }
         ensures value { IfOk result (λ v. answer ≡ Ok v) }
-        ensures cause { HasCause self.old.faults self.new.faults self.old.wants self.new.wants result }
+        ensures cause { HasCause (tally_of self.old) (tally_of self.new) result }
     {
         match answer {
             Ok(value) => Ok(value),
@@ -89,7 +89,7 @@ impl Calls {
         ensures next { self.new.next ≡ counted self.old.next }
         ensures counted { CountsFault self.old.failing.items self.old.next self.old.counts.faults self.new.counts.faults }
         ensures wants { self.new.counts.wants ≡ self.old.counts.wants }
-        ensures cause { HasCause self.old.counts.faults self.new.counts.faults self.old.counts.wants self.new.counts.wants result }
+        ensures cause { HasCause (tally_of self.old.counts) (tally_of self.new.counts) result }
     {
         let number = self.next;
         self.next = self.next.saturating_add(1);

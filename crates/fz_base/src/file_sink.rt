@@ -1,5 +1,6 @@
 //! A sink over a file of the system.
 ghost use Rattle.std.specs.Prelude.{◌≡◌, None, false, is_some};
+ghost use Rattle.fz_base.specs.Counts.{tally_of, uncounted};
 
 use crate::calls::Counts;
 use crate::{Failed, Sink};
@@ -15,6 +16,7 @@ use std::rt::Files;
 pub struct FileSink<R: Files<File = File>> {
     rt: R,
     file: Option<File>,
+    finished: bool,
     counts: Counts,
 }
 
@@ -23,12 +25,13 @@ impl<R: Files<File = File>> FileSink<R> {
     pub fn new(rt: R) -> FileSink<R>
         ensures contents { ⟦<FileSink<R> as Sink>⟧.contents result ≡ None }
         ensures created { ⟦<FileSink<R> as Sink>⟧.created result ≡ false }
-        ensures faults { ⟦<FileSink<R> as Sink>⟧.faults result ≡ 0 }
-        ensures wants { ⟦<FileSink<R> as Sink>⟧.wants result ≡ 0 }
+        ensures finished { ⟦<FileSink<R> as Sink>⟧.finished result ≡ false }
+        ensures tally { ⟦<FileSink<R> as Sink>⟧.tally result ≡ uncounted }
     {
         FileSink {
             rt,
             file: None,
+            finished: false,
             counts: Counts::new(),
         }
     }
@@ -47,9 +50,9 @@ impl<R: Files<File = File>> Sink for FileSink<R> {
 
     ghost created = { λ s. is_some s.file };
 
-    ghost faults = { λ s. s.counts.faults };
+    ghost finished = { λ s. s.finished };
 
-    ghost wants = { λ s. s.counts.wants };
+    ghost tally = { λ s. tally_of s.counts };
 
     fn create(&mut self, name: &str) -> Result<(), Failed> {
         let made = OpenOptions::new()
@@ -57,6 +60,7 @@ impl<R: Files<File = File>> Sink for FileSink<R> {
             .create_new(true)
             .open(&self.rt, name);
         self.file = Some(self.counts.noted(made)?);
+        self.finished = false;
         Ok(())
     }
 
@@ -64,6 +68,7 @@ impl<R: Files<File = File>> Sink for FileSink<R> {
         let Some(file) = &self.file else {
             unreachable!()
         };
+        self.finished = false;
         self.counts.noted(write_all(file, at, bytes))
     }
 
@@ -71,6 +76,8 @@ impl<R: Files<File = File>> Sink for FileSink<R> {
         let Some(file) = &self.file else {
             unreachable!()
         };
-        self.counts.noted(file.sync_all())
+        self.counts.noted(file.sync_all())?;
+        self.finished = true;
+        Ok(())
     }
 }

@@ -1,6 +1,7 @@
 //! A source over a file of the system.
 ghost use Rattle.std.specs.Prelude.{◌≡◌, ◌^◌, ◌≤◌, None, IfOk};
 ghost use Rattle.std.specs.Option.{option_map};
+ghost use Rattle.fz_base.specs.Counts.{tally_of, uncounted};
 
 use crate::calls::Counts;
 use crate::{Failed, Source};
@@ -34,8 +35,7 @@ impl<R: Files<File = File>> FileSource<R> {
         ensures held { ⟦<FileSource<R> as Source>⟧.held result ≡ None }
         ensures ranges { ⟦<FileSource<R> as Source>⟧.ranges result ≡ None }
         ensures attached { ⟦<FileSource<R> as Source>⟧.attached result ≡ None }
-        ensures faults { ⟦<FileSource<R> as Source>⟧.faults result ≡ 0 }
-        ensures wants { ⟦<FileSource<R> as Source>⟧.wants result ≡ 0 }
+        ensures tally { ⟦<FileSource<R> as Source>⟧.tally result ≡ uncounted }
     {
         FileSource {
             rt,
@@ -63,9 +63,7 @@ impl<R: Files<File = File>> Source for FileSource<R> {
 
     ghost attached = { λ s. option_map (λ o. o.size) s.opened };
 
-    ghost faults = { λ s. s.counts.faults };
-
-    ghost wants = { λ s. s.counts.wants };
+    ghost tally = { λ s. tally_of s.counts };
 
     fn attach(&mut self, name: &str) -> Result<u64, Failed> {
         let opened = self.counts.noted(open(&self.rt, name))?;

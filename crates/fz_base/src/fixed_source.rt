@@ -1,6 +1,7 @@
 //! A source in memory that never fails.
 ghost use Rattle.std.specs.Prelude.{◌≡◌, ◌^◌, ◌≤◌, length as len, vec_len, Some, None};
 ghost use Rattle.std.specs.Option.{ForSome};
+ghost use Rattle.fz_base.specs.Counts.{uncounted};
 
 use crate::{Failed, Source};
 
@@ -21,8 +22,7 @@ impl FixedSource {
         ensures held { ⟦<FixedSource as Source>⟧.held result ≡ Some bytes.items }
         ensures ranges { ⟦<FixedSource as Source>⟧.ranges result ≡ None }
         ensures attached { ⟦<FixedSource as Source>⟧.attached result ≡ None }
-        ensures faults { ⟦<FixedSource as Source>⟧.faults result ≡ 0 }
-        ensures wants { ⟦<FixedSource as Source>⟧.wants result ≡ 0 }
+        ensures tally { ⟦<FixedSource as Source>⟧.tally result ≡ uncounted }
     {
         FixedSource { bytes, size: None }
     }
@@ -37,9 +37,7 @@ impl Source for FixedSource {
 
     ghost attached = { λ s. s.size };
 
-    ghost faults = { λ _. 0 };
-
-    ghost wants = { λ _. 0 };
+    ghost tally = { λ _. uncounted };
 
     fn attach(&mut self, _name: &str) -> Result<u64, Failed> {
         let size = self.bytes.len() as u64;

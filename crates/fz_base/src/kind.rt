@@ -29,7 +29,8 @@ pub enum Kind {
     Limit,
     /// HDU 0 has NAXIS1 0 and GROUPS T: random groups.
     Groups,
-    /// ZCMPTYPE is not the name of a supported codec, or BYTEPIX is 8.
+    /// ZCMPTYPE is not the name of a supported codec, or BYTEPIX is 8, or ZBITPIX is 64 and ZCMPTYPE is
+    /// not NOCOMPRESS.
     UnknownCodec,
     /// ZBITPIX is -32 or -64, or a scaling or mask column or card stands.
     Quantised,
@@ -61,14 +62,19 @@ pub enum Kind {
     NotPacked,
     /// The box does not fit the image.
     OutOfBox,
-    /// PLIO is asked for or read, and BZERO has a value that is not zero.
+    /// The plan's codec is PLIO, and BZERO has a value that is not zero.
     PlioOffset,
     /// The file is sound as far as it was looked at, but this program cannot pack it yet.
     Unbuilt,
+    /// The HDU to be patched is not the last, or has not the form of one that `patch` changes.
+    Unpatchable,
+    /// The image that is given to `patch` is none, has another BITPIX or number of axes than the packed
+    /// image, or has an axis of length 0.
+    BadPatch,
 }
 
 impl Kind {
-    /// The number by which the kind is printed, from 1 to 30.
+    /// The number by which the kind is printed, from 1 to 32.
     pub fn number(self) -> u32
         ensures { result ≡ kind_number self }
     {
@@ -103,6 +109,8 @@ impl Kind {
             Kind::OutOfBox => 28,
             Kind::PlioOffset => 29,
             Kind::Unbuilt => 30,
+            Kind::Unpatchable => 31,
+            Kind::BadPatch => 32,
         }
     }
 }

@@ -2,7 +2,7 @@
 //!
 //! Reading order: `kind`, `fault`, `failure`; the traits `source`, `sink`, `text`, `gate`; `calls`
 //! and the objects in memory `mem_source`, `fixed_source`, `mem_sink`, `mem_text`; the adapters
-//! `file_source`, `file_sink`, `std_text`; `buffer` and `meter`.
+//! `file_source`, `file_sink`, `std_text`; `output` and `laws`; `buffer` and `meter`.
 #![tactic(auto)]
 
 mod buffer;
@@ -14,10 +14,12 @@ mod file_source;
 mod fixed_source;
 mod gate;
 mod kind;
+mod laws;
 mod mem_sink;
 mod mem_source;
 mod mem_text;
 mod meter;
+mod output;
 mod sink;
 mod source;
 mod std_text;
@@ -33,10 +35,12 @@ pub use file_source::FileSource;
 pub use fixed_source::FixedSource;
 pub use gate::{FreeGate, Gate};
 pub use kind::Kind;
+pub use laws::{log_law, output_law};
 pub use mem_sink::MemSink;
 pub use mem_source::MemSource;
 pub use mem_text::MemText;
 pub use meter::Meter;
+pub use output::{copy, seal, write_behind};
 pub use sink::Sink;
 pub use source::Source;
 pub use std_text::StdText;

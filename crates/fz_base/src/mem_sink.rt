@@ -1,6 +1,6 @@
 //! A sink in memory, whose calls can be told to fail.
 ghost use Rattle.std.specs.Prelude.{◌≡◌, ◌+◌, ◌-◌, ◌^◌, ◌<◌, ◌≤◌, ◌||◌, ◌↔◌, ◌++◌, IsTrue, length as len, take, drop, replicate, Some, [], false, OnOk, OnErr, IsErr, IsErrOf, Contains, min, is_ok, if◌then◌else◌};
-ghost use Rattle.fz_base.specs.Counts.{HasCause, CountsFault, Rose};
+ghost use Rattle.fz_base.specs.Counts.{HasCause, CountsFault, tally_of, uncounted, Rose};
 ghost use Rattle.fz_base.specs.Sink.{overwrite, written, MayWrite, emptied, KeepsFront};
 ghost use Rattle.fz_base.specs.declared.failure.Failed.TheVariants.{Fault, NoMemory};
 
@@ -14,6 +14,7 @@ use std::alloc::{AllocError, Global};
 pub struct MemSink {
     data: Vec<u8>,
     created: bool,
+    finished: bool,
     keep: u32,
     calls: Calls,
 }
@@ -26,8 +27,8 @@ impl MemSink {
     pub fn new(alloc: Global, failing: Vec<u32>, keep: u32) -> MemSink
         ensures contents { ⟦<MemSink as Sink>⟧.contents result ≡ Some [] }
         ensures created { ⟦<MemSink as Sink>⟧.created result ≡ false }
-        ensures faults { ⟦<MemSink as Sink>⟧.faults result ≡ 0 }
-        ensures wants { ⟦<MemSink as Sink>⟧.wants result ≡ 0 }
+        ensures finished { ⟦<MemSink as Sink>⟧.finished result ≡ false }
+        ensures tally { ⟦<MemSink as Sink>⟧.tally result ≡ uncounted }
         ensures failing { sink_failing result ≡ failing.items }
         ensures calls { sink_calls result ≡ 0 }
         ensures keep { sink_keep result ≡ keep }
@@ -35,6 +36,7 @@ impl MemSink {
         MemSink {
             data: Vec::new(alloc),
             created: false,
+            finished: false,
             keep,
             calls: Calls::new(failing),
         }
@@ -49,7 +51,7 @@ impl MemSink {
 
     /// How often a call failed.
     pub fn faults(&self) -> u64
-        ensures { result ≡ ⟦<MemSink as Sink>⟧.faults self.now }
+        ensures { result ≡ (⟦<MemSink as Sink>⟧.tally self.now).faults }
     {
         self.calls.counts.faults
     }
@@ -109,14 +111,15 @@ impl Sink for MemSink {
 
     ghost created = { λ s. s.created };
 
-    ghost faults = { λ s. s.calls.counts.faults };
+    ghost finished = { λ s. s.finished };
 
-    ghost wants = { λ s. s.calls.counts.wants };
+    ghost tally = { λ s. tally_of s.calls.counts };
 
     fn create(&mut self, _name: &str) -> Result<(), Failed>
         ensures contents { Some self.new.data.items ≡ (if is_ok result then emptied (Some self.old.data.items) else Some self.old.data.items) }
         ensures created { self.new.created ≡ (is_ok result || self.old.created) }
-        ensures cause { HasCause self.old.calls.counts.faults self.new.calls.counts.faults self.old.calls.counts.wants self.new.calls.counts.wants result }
+        ensures finished { self.new.finished ≡ (if is_ok result then false else self.old.finished) }
+        ensures cause { HasCause (tally_of self.old.calls.counts) (tally_of self.new.calls.counts) result }
 
         ensures only_faults { IsErr result → IsErrOf result Fault }
         ensures exact { IsErrOf result Fault ↔ Contains (sink_failing self.old) (sink_calls self.old) }
@@ -128,6 +131,7 @@ impl Sink for MemSink {
         self.calls.begin()?;
         self.data.clear();
         self.created = true;
+        self.finished = false;
         Ok(())
     }
 
@@ -137,7 +141,8 @@ impl Sink for MemSink {
         ensures written { OnOk result (Some self.new.data.items ≡ written at bytes.now (Some self.old.data.items)) }
         ensures partly { OnErr result (MayWrite at bytes.now (Some self.old.data.items) (Some self.new.data.items)) }
         ensures created { self.new.created ≡ self.old.created }
-        ensures cause { HasCause self.old.calls.counts.faults self.new.calls.counts.faults self.old.calls.counts.wants self.new.calls.counts.wants result }
+        ensures finished { self.new.finished ≡ false }
+        ensures cause { HasCause (tally_of self.old.calls.counts) (tally_of self.new.calls.counts) result }
 
         ensures exact { IsErrOf result Fault ↔ Contains (sink_failing self.old) (sink_calls self.old) }
         ensures counted { CountsFault (sink_failing self.old) (sink_calls self.old) self.old.calls.counts.faults self.new.calls.counts.faults }
@@ -149,6 +154,7 @@ impl Sink for MemSink {
         ensures calls { sink_calls self.new ≡ min (sink_calls self.old + 1) (2 ^ 64 - 1) }
         ensures keep { sink_keep self.new ≡ sink_keep self.old }
     {
+        self.finished = false;
         match self.calls.begin() {
             Ok(()) => match put(&mut self.data, at, bytes) {
                 Ok(()) => Ok(()),
@@ -165,7 +171,8 @@ impl Sink for MemSink {
         requires { IsTrue self.old.created }
         ensures contents { Some self.new.data.items ≡ Some self.old.data.items }
         ensures created { self.new.created ≡ self.old.created }
-        ensures cause { HasCause self.old.calls.counts.faults self.new.calls.counts.faults self.old.calls.counts.wants self.new.calls.counts.wants result }
+        ensures finished { self.new.finished ≡ (is_ok result || self.old.finished) }
+        ensures cause { HasCause (tally_of self.old.calls.counts) (tally_of self.new.calls.counts) result }
 
         ensures only_faults { IsErr result → IsErrOf result Fault }
         ensures exact { IsErrOf result Fault ↔ Contains (sink_failing self.old) (sink_calls self.old) }
@@ -174,6 +181,8 @@ impl Sink for MemSink {
         ensures calls { sink_calls self.new ≡ min (sink_calls self.old + 1) (2 ^ 64 - 1) }
         ensures keep { sink_keep self.new ≡ sink_keep self.old }
     {
-        self.calls.begin()
+        self.calls.begin()?;
+        self.finished = true;
+        Ok(())
     }
 }

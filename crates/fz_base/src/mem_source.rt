@@ -1,7 +1,7 @@
 //! A source in memory, whose calls can be told to fail.
 ghost use Rattle.std.specs.Prelude.{ℕ, ◌≡◌, ◌+◌, ◌-◌, ◌^◌, ◌≤◌, ◌<◌, ◌↔◌, length as len, vec_len, Some, None, [], IfOk, OnOk, OnErr, IsErr, IsErrOf, Contains, min};
 ghost use Rattle.std.specs.Option.{ForSome};
-ghost use Rattle.fz_base.specs.Counts.{HasCause, CountsFault};
+ghost use Rattle.fz_base.specs.Counts.{HasCause, CountsFault, tally_of, uncounted};
 ghost use Rattle.fz_base.specs.Source.{Reads, logged, MayLog, HoldsLength, attached_by};
 ghost use Rattle.fz_base.specs.declared.failure.Failed.TheVariants.{Fault};
 
@@ -30,8 +30,7 @@ impl MemSource {
         ensures held { ⟦<MemSource as Source>⟧.held result ≡ Some bytes.items }
         ensures ranges { ⟦<MemSource as Source>⟧.ranges result ≡ Some [] }
         ensures attached { ⟦<MemSource as Source>⟧.attached result ≡ None }
-        ensures faults { ⟦<MemSource as Source>⟧.faults result ≡ 0 }
-        ensures wants { ⟦<MemSource as Source>⟧.wants result ≡ 0 }
+        ensures tally { ⟦<MemSource as Source>⟧.tally result ≡ uncounted }
         ensures failing { source_failing result ≡ failing.items }
         ensures calls { source_calls result ≡ 0 }
     {
@@ -52,7 +51,7 @@ impl MemSource {
 
     /// How often a call failed.
     pub fn faults(&self) -> u64
-        ensures { result ≡ ⟦<MemSource as Source>⟧.faults self.now }
+        ensures { result ≡ (⟦<MemSource as Source>⟧.tally self.now).faults }
     {
         self.calls.counts.faults
     }
@@ -68,9 +67,7 @@ impl Source for MemSource {
 
     ghost attached = { λ s. s.size };
 
-    ghost faults = { λ s. s.calls.counts.faults };
-
-    ghost wants = { λ s. s.calls.counts.wants };
+    ghost tally = { λ s. tally_of s.calls.counts };
 
     fn attach(&mut self, _name: &str) -> Result<u64, Failed>
         ensures attached { self.new.size ≡ attached_by result self.old.size }
@@ -78,7 +75,7 @@ impl Source for MemSource {
         ensures told { IfOk result (HoldsLength (Some self.old.bytes.items)) }
         ensures held { Some self.new.bytes.items ≡ Some self.old.bytes.items }
         ensures ranges { Some self.new.ranges.items ≡ Some self.old.ranges.items }
-        ensures cause { HasCause self.old.calls.counts.faults self.new.calls.counts.faults self.old.calls.counts.wants self.new.calls.counts.wants result }
+        ensures cause { HasCause (tally_of self.old.calls.counts) (tally_of self.new.calls.counts) result }
 
         ensures only_faults { IsErr result → IsErrOf result Fault }
         ensures exact { IsErrOf result Fault ↔ Contains (source_failing self.old) (source_calls self.old) }
@@ -100,7 +97,7 @@ impl Source for MemSource {
         ensures log_err { OnErr result (MayLog at (len into.old) (Some self.old.ranges.items) (Some self.new.ranges.items)) }
         ensures held { Some self.new.bytes.items ≡ Some self.old.bytes.items }
         ensures attached { self.new.size ≡ self.old.size }
-        ensures cause { HasCause self.old.calls.counts.faults self.new.calls.counts.faults self.old.calls.counts.wants self.new.calls.counts.wants result }
+        ensures cause { HasCause (tally_of self.old.calls.counts) (tally_of self.new.calls.counts) result }
 
         // A failing call logs nothing.
         ensures unlogged { OnErr result (self.new.ranges.items ≡ self.old.ranges.items) }

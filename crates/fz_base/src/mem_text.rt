@@ -1,6 +1,6 @@
 //! A text in memory, whose calls can be told to fail.
 ghost use Rattle.std.specs.Prelude.{◌≡◌, ◌+◌, ◌-◌, ◌^◌, ◌↔◌, Some, [], OnOk, OnErr, IsErrOf, Contains, min};
-ghost use Rattle.fz_base.specs.Counts.{HasCause, CountsFault};
+ghost use Rattle.fz_base.specs.Counts.{HasCause, CountsFault, tally_of, uncounted};
 ghost use Rattle.fz_base.specs.Sink.{appended, MayAppend};
 ghost use Rattle.fz_base.specs.declared.failure.Failed.TheVariants.{Fault};
 
@@ -22,8 +22,7 @@ impl MemText {
     /// An empty text. The calls whose numbers are in `failing` will fail.
     pub fn new(alloc: Global, failing: Vec<u32>) -> MemText
         ensures contents { ⟦<MemText as Text>⟧.contents result ≡ Some [] }
-        ensures faults { ⟦<MemText as Text>⟧.faults result ≡ 0 }
-        ensures wants { ⟦<MemText as Text>⟧.wants result ≡ 0 }
+        ensures tally { ⟦<MemText as Text>⟧.tally result ≡ uncounted }
         ensures failing { text_failing result ≡ failing.items }
         ensures calls { text_calls result ≡ 0 }
     {
@@ -42,7 +41,7 @@ impl MemText {
 
     /// How often a call failed.
     pub fn faults(&self) -> u64
-        ensures { result ≡ ⟦<MemText as Text>⟧.faults self.now }
+        ensures { result ≡ (⟦<MemText as Text>⟧.tally self.now).faults }
     {
         self.calls.counts.faults
     }
@@ -53,14 +52,12 @@ impl Text for MemText {
 
     ghost contents = { λ t. Some t.data.items };
 
-    ghost faults = { λ t. t.calls.counts.faults };
-
-    ghost wants = { λ t. t.calls.counts.wants };
+    ghost tally = { λ t. tally_of t.calls.counts };
 
     fn put(&mut self, bytes: &[u8]) -> Result<(), Failed>
         ensures appended { OnOk result (Some self.new.data.items ≡ appended bytes.now (Some self.old.data.items)) }
         ensures partly { OnErr result (MayAppend bytes.now (Some self.old.data.items) (Some self.new.data.items)) }
-        ensures cause { HasCause self.old.calls.counts.faults self.new.calls.counts.faults self.old.calls.counts.wants self.new.calls.counts.wants result }
+        ensures cause { HasCause (tally_of self.old.calls.counts) (tally_of self.new.calls.counts) result }
 
         ensures exact { IsErrOf result Fault ↔ Contains (text_failing self.old) (text_calls self.old) }
         ensures counted { CountsFault (text_failing self.old) (text_calls self.old) self.old.calls.counts.faults self.new.calls.counts.faults }

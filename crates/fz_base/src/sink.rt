@@ -1,6 +1,6 @@
 //! Where a job writes to: bytes at places.
-ghost use Rattle.std.specs.Prelude.{ℕ, ◌≡◌, ◌<◌, ◌||◌, Bool, IsTrue, List, length as len, Option, OnOk, OnErr, is_ok, if◌then◌else◌};
-ghost use Rattle.fz_base.specs.Counts.{HasCause};
+ghost use Rattle.std.specs.Prelude.{ℕ, ◌≡◌, ◌<◌, ◌||◌, Bool, IsTrue, List, length as len, Option, OnOk, OnErr, is_ok, false, if◌then◌else◌};
+ghost use Rattle.fz_base.specs.Counts.{HasCause, Tally};
 ghost use Rattle.fz_base.specs.Sink.{written, MayWrite, emptied};
 
 use crate::Failed;
@@ -13,17 +13,18 @@ pub trait Sink {
     /// Whether a `create` has succeeded.
     ghost created: { Self → Bool };
 
-    /// How often a call failed.
-    ghost faults: { Self → ℕ };
+    /// Whether `finish` has succeeded, and nothing was made or written since.
+    ghost finished: { Self → Bool };
 
-    /// How often a call found no memory.
-    ghost wants: { Self → ℕ };
+    /// How often a call failed, and how often one found no memory.
+    ghost tally: { Self → Tally };
 
     /// Makes the output by its name, empty.
     fn create(&mut self, name: &str) -> Result<(), Failed>
         ensures contents { contents self.new ≡ (if is_ok result then emptied (contents self.old) else contents self.old) }
         ensures created { created self.new ≡ (is_ok result || created self.old) }
-        ensures cause { HasCause (faults self.old) (faults self.new) (wants self.old) (wants self.new) result };
+        ensures finished { finished self.new ≡ (if is_ok result then false else finished self.old) }
+        ensures cause { HasCause (tally self.old) (tally self.new) result };
 
     /// Writes all bytes from `at` on. A gap between the old end and `at` reads as 0.
     fn write_at(&mut self, at: u64, bytes: &[u8]) -> Result<(), Failed>
@@ -32,12 +33,14 @@ pub trait Sink {
         ensures written { OnOk result (contents self.new ≡ written at bytes.now (contents self.old)) }
         ensures partly { OnErr result (MayWrite at bytes.now (contents self.old) (contents self.new)) }
         ensures created { created self.new ≡ created self.old }
-        ensures cause { HasCause (faults self.old) (faults self.new) (wants self.old) (wants self.new) result };
+        ensures finished { finished self.new ≡ false }
+        ensures cause { HasCause (tally self.old) (tally self.new) result };
 
     /// Ends the output; after Ok a real file is on the disk.
     fn finish(&mut self) -> Result<(), Failed>
         requires { IsTrue (created self.old) }
         ensures contents { contents self.new ≡ contents self.old }
         ensures created { created self.new ≡ created self.old }
-        ensures cause { HasCause (faults self.old) (faults self.new) (wants self.old) (wants self.new) result };
+        ensures finished { finished self.new ≡ (is_ok result || finished self.old) }
+        ensures cause { HasCause (tally self.old) (tally self.new) result };
 }

@@ -1,6 +1,6 @@
 //! Where a job reads from: bytes at places.
 ghost use Rattle.std.specs.Prelude.{ℕ, ◌≡◌, ◌+◌, ◌^◌, ◌≤◌, ◌<◌, List, length as len, Option, Some, IfOk, OnOk, OnErr};
-ghost use Rattle.fz_base.specs.Counts.{HasCause};
+ghost use Rattle.fz_base.specs.Counts.{HasCause, Tally};
 ghost use Rattle.fz_base.specs.Source.{Reads, logged, MayLog, HoldsLength, attached_by};
 
 use crate::Failed;
@@ -17,11 +17,8 @@ pub trait Source {
     /// The attached length, or none before the first `attach` that succeeded.
     ghost attached: { Self → Option ℕ };
 
-    /// How often a call failed.
-    ghost faults: { Self → ℕ };
-
-    /// How often a call found no memory.
-    ghost wants: { Self → ℕ };
+    /// How often a call failed, and how often one found no memory.
+    ghost tally: { Self → Tally };
 
     /// Opens the source by its name and answers its length in bytes.
     fn attach(&mut self, name: &str) -> Result<u64, Failed>
@@ -30,7 +27,7 @@ pub trait Source {
         ensures told { IfOk result (HoldsLength (held self.old)) }
         ensures held { held self.new ≡ held self.old }
         ensures ranges { ranges self.new ≡ ranges self.old }
-        ensures cause { HasCause (faults self.old) (faults self.new) (wants self.old) (wants self.new) result };
+        ensures cause { HasCause (tally self.old) (tally self.new) result };
 
     /// Reads the bytes from `at` on into the whole of `into`.
     fn read_at(&mut self, at: u64, into: &mut [u8]) -> Result<(), Failed>
@@ -41,7 +38,7 @@ pub trait Source {
         ensures log_err { OnErr result (MayLog at (len into.old) (ranges self.old) (ranges self.new)) }
         ensures held { held self.new ≡ held self.old }
         ensures attached { attached self.new ≡ attached self.old }
-        ensures cause { HasCause (faults self.old) (faults self.new) (wants self.old) (wants self.new) result };
+        ensures cause { HasCause (tally self.old) (tally self.new) result };
 
     /// A source that is attached and tells its bytes tells as many as its attached length.
     ghost agrees: { (s : Self) (n : ℕ) → attached s ≡ Some n → HoldsLength (held s) n };

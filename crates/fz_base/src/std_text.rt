@@ -1,5 +1,6 @@
 //! A text over standard output.
 ghost use Rattle.std.specs.Prelude.{◌≡◌, None};
+ghost use Rattle.fz_base.specs.Counts.{tally_of, uncounted};
 
 use crate::calls::Counts;
 use crate::{Failed, Text};
@@ -17,8 +18,7 @@ impl<R: Print + Drop> StdText<R> {
     /// The text of this runtime's standard output.
     pub fn new(rt: R) -> StdText<R>
         ensures contents { ⟦<StdText<R> as Text>⟧.contents result ≡ None }
-        ensures faults { ⟦<StdText<R> as Text>⟧.faults result ≡ 0 }
-        ensures wants { ⟦<StdText<R> as Text>⟧.wants result ≡ 0 }
+        ensures tally { ⟦<StdText<R> as Text>⟧.tally result ≡ uncounted }
     {
         StdText {
             rt,
@@ -36,9 +36,7 @@ fn print_all<R: Print>(rt: &R, bytes: &[u8]) -> io::Result<()> {
 impl<R: Print + Drop> Text for StdText<R> {
     ghost contents = { λ _. None };
 
-    ghost faults = { λ t. t.counts.faults };
-
-    ghost wants = { λ t. t.counts.wants };
+    ghost tally = { λ t. tally_of t.counts };
 
     fn put(&mut self, bytes: &[u8]) -> Result<(), Failed> {
         self.counts.noted(print_all(&self.rt, bytes))

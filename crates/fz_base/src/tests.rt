@@ -3,7 +3,8 @@ ghost use Rattle.fz_base.specs.Counts.{HasCause};
 
 use crate::{
     Bytes, Failed, Fault, FileSink, FileSource, FixedSource, FreeGate, Gate, Kind, MemSink,
-    MemSource, MemText, Meter, Numbers, Place, Short, Sink, Source, StdText, Stop, Text,
+    MemSource, MemText, Meter, Numbers, Place, Short, Sink, Source, StdText, Stop, Text, copy,
+    log_law, output_law, seal, write_behind,
 };
 use std::fmt::Display;
 use std::fs::File;
@@ -46,7 +47,7 @@ fn messages_are_the_names(rt: HostRuntime) -> Result<(), Fail> {
 #[test]
 fn kinds_have_numbers_and_a_gate_lets_through(rt: HostRuntime) {
     assert_eq!(rt; Kind::NotFits.number(), 1);
-    assert_eq!(rt; Kind::Unbuilt.number(), 30);
+    assert_eq!(rt; Kind::BadPatch.number(), 32);
     FreeGate.pass(0, 0);
 }
 
@@ -107,7 +108,7 @@ fn mem_source_fails_where_it_is_told_to(rt: HostRuntime) -> Result<(), Fail> {
 
 // Any source, of which its trait alone is known.
 fn attach<S: Source>(source: &mut S) -> Result<u64, Failed>
-    ensures cause { HasCause (S.faults source.old) (S.faults source.new) (S.wants source.old) (S.wants source.new) result }
+    ensures cause { HasCause (S.tally source.old) (S.tally source.new) result }
 {
     source.attach("any")
 }
@@ -155,6 +156,27 @@ fn mem_sink_keeps_what_it_is_told_to(rt: HostRuntime) -> Result<(), Fail> {
         sink.create("any")?;
         assert_eq!(rt; sink.contents(), [].as_slice());
     }
+    Ok(())
+}
+
+#[test]
+fn output_is_copied_in_pieces_and_sealed(rt: HostRuntime) -> Result<(), Fail> {
+    let mut source = MemSource::new(
+        rt.alloc(),
+        b"SIMPLE".to_vec(rt.alloc())?,
+        Vec::new(rt.alloc()),
+    );
+    source.attach("any")?;
+    let mut sink = MemSink::new(rt.alloc(), Vec::new(rt.alloc()), 0);
+    sink.create("any")?;
+    copy(&mut source, 1, 5, &mut sink, 1, &mut [0; 2])?;
+    assert_eq!(rt; source.reads(), [(1, 2), (3, 2), (5, 1)].as_slice());
+    write_behind(&mut sink, 6, b" =")?;
+    assert_eq!(rt; sink.contents(), b"\0IMPLE =".as_slice());
+    seal(&mut sink)?;
+    assert_eq!(rt; sink.contents(), b"SIMPLE =".as_slice());
+    log_law();
+    output_law();
     Ok(())
 }
 

@@ -1,6 +1,6 @@
 //! Where a job prints its lines.
 ghost use Rattle.std.specs.Prelude.{ℕ, ◌≡◌, List, Option, OnOk, OnErr};
-ghost use Rattle.fz_base.specs.Counts.{HasCause};
+ghost use Rattle.fz_base.specs.Counts.{HasCause, Tally};
 ghost use Rattle.fz_base.specs.Sink.{appended, MayAppend};
 
 use crate::Failed;
@@ -10,15 +10,12 @@ pub trait Text {
     /// The contents, where they are told.
     ghost contents: { Self → Option (List ℕ) };
 
-    /// How often a call failed.
-    ghost faults: { Self → ℕ };
-
-    /// How often a call found no memory.
-    ghost wants: { Self → ℕ };
+    /// How often a call failed, and how often one found no memory.
+    ghost tally: { Self → Tally };
 
     /// Appends all bytes.
     fn put(&mut self, bytes: &[u8]) -> Result<(), Failed>
         ensures appended { OnOk result (contents self.new ≡ appended bytes.now (contents self.old)) }
         ensures partly { OnErr result (MayAppend bytes.now (contents self.old) (contents self.new)) }
-        ensures cause { HasCause (faults self.old) (faults self.new) (wants self.old) (wants self.new) result };
+        ensures cause { HasCause (tally self.old) (tally self.new) result };
 }

@@ -1,0 +1,23 @@
+//! What the definitions of logs and of contents promise together.
+ghost use Rattle.std.specs.Prelude.{ℕ, ◌≡◌, ◌+◌, ◌≤◌, ◌<◌, List, [], ◌∷◌, ◌++◌, length, Option, Some};
+ghost use Rattle.fz_base.specs.FirstByte.{IsShut, StaysShut, with_first_byte};
+ghost use Rattle.fz_base.specs.Sink.{written, emptied};
+ghost use Rattle.fz_base.specs.Source.{logged, MayLog, LogsWithin};
+
+/// Logs of several reads: none, one, one after another, and within wider places.
+pub fn log_law()
+    ensures none { (from to : ℕ) (ranges : Option (List (ℕ × ℕ))) → LogsWithin from to ranges ranges }
+    ensures one { (from to at count : ℕ) (old new : Option (List (ℕ × ℕ))) → 0 < count → from ≤ at → at + count ≤ to → MayLog at count old new → LogsWithin from to old new }
+    ensures both { (from to : ℕ) (old mid new : Option (List (ℕ × ℕ))) → LogsWithin from to old mid → LogsWithin from to mid new → LogsWithin from to old new }
+    ensures wider { (from to from' to' : ℕ) (old new : Option (List (ℕ × ℕ))) → from' ≤ from → to ≤ to' → LogsWithin from to old new → LogsWithin from' to' old new }
+{}
+
+/// Writes one after another are one write, also behind the end; what was written behind byte 0 of an
+/// empty output, and then sealed, is the output.
+pub fn output_law()
+    ensures next { (at : ℕ) (front back : List ℕ) (contents : Option (List ℕ)) → written (at + length front) back (written at front contents) ≡ written at (front ++ back) contents }
+    ensures behind { (bytes contents : List ℕ) → written (length contents) bytes (Some contents) ≡ Some (contents ++ bytes) }
+    ensures sealed { (bytes : List ℕ) → with_first_byte (written 1 bytes (Some [])) ≡ Some (83 ∷ bytes) }
+    ensures empty { (contents : Option (List ℕ)) → IsShut (emptied contents) }
+    ensures shut { (at : ℕ) (bytes : List ℕ) (contents : Option (List ℕ)) → 0 < at → StaysShut contents (written at bytes contents) }
+{}
