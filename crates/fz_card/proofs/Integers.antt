@@ -10,9 +10,8 @@ use Rattle.std.proofs.lemmas.Str.{IsUtf8-from_ascii}
 use Rattle.std.proofs.lemmas.Str.Ascii.{IsAscii-nil, IsAscii-cons}
 use Rattle.std.proofs.lemmas.Str.Parse.{digit_from_value, digits_value_short, numerals_by_value, tells_digits}
 use Rattle.std.proofs.lemmas.Fmt.{decimal_is_IsNumeral, length-decimal-le, IsAscii-from_digits}
-use Rattle.fz_card.specs.Value.{IsShort, IsIntegerText, Signs}
+use Rattle.fz_card.specs.Value.{IsShort, IsIntegerText, Signs, IsPlain}
 use Rattle.fz_card.specs.Plain.{ReadsSigned}
-use Rattle.fz_card.proofs.Splits.{IsPlain}
 
 eqb-other : (a b : ℕ) → 48 ≤ a → b < 48 → eqb a b ≡ false
 eqb-other a b high low = grind (arith, nat_tests)

@@ -55,7 +55,7 @@ unfolding logical_card_bytes
 logical_card_value name b eight = made_value name (20 - length (logical_text b)) (logical_text b) eight
 
 -- a card that is made begins with its name
-name_of_made : (name field : List ℕ) → length name ≡ 8 → card_name (value_card name field) ≡ name
+pub name_of_made : (name field : List ℕ) → length name ≡ 8 → card_name (value_card name field) ≡ name
 name_of_made name field eight =
     ap (take 8) (append_assoc name (codes "= " ++ field) (blanks (80 - length (name ++ (codes "= " ++ field))))) ∙ take_at name ((codes "= " ++ field) ++ blanks (80 - length (name ++ (codes "= " ++ field)))) 8 eight
 
@@ -72,7 +72,7 @@ unfolding text_card_bytes
 card_name-text_card_bytes name text eight = name_of_made name (codes "'" ++ (filled 8 text ++ codes "'")) eight
 
 -- each card that is made has 80 bytes
-length-value_card : (name field : List ℕ) → length name ≡ 8 → length field ≤ 70 → length (value_card name field) ≡ 80
+pub length-value_card : (name field : List ℕ) → length name ≡ 8 → length field ≤ 70 → length (value_card name field) ≡ 80
 length-value_card name field eight fits =
     length-filled 80 (name ++ (codes "= " ++ field)) (omega (arith, length-append name (codes "= " ++ field), eight))
 

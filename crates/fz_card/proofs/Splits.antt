@@ -1,16 +1,11 @@
 -- A value field splits round a plain text exactly where that is the text found from the left.
 use Rattle.std.proofs.Common.{◌≡◌, ℕ, zero, suc, Bool, true, false, cond, eqb, List, [], ◌∷◌, ◌++◌, length, ◌≢◌, refl, ap, ◌∙◌, arith}
-use Rattle.std.specs.Prelude.{◌&&◌, ⊤}
+use Rattle.std.specs.Prelude.{◌&&◌}
 use Rattle.std.proofs.lemmas.Bool.Decides.{nat_tests}
 use Rattle.std.proofs.lemmas.List.{append_assoc, append-nil, nil_from_length}
 use Rattle.fz_card.specs.Layout.{blanks}
-use Rattle.fz_card.specs.Value.{IsComment, SplitsRound}
+use Rattle.fz_card.specs.Value.{IsComment, IsPlain, SplitsRound}
 use Rattle.fz_card.specs.Plain.{before_comment, skip_blanks, cut_blanks, plain_text}
-
--- no byte of the text is a blank or a `/`
-abbrev pub IsPlain : List ℕ → Type 0
-IsPlain [] = ⊤
-IsPlain (b ∷ bs) = (b ≢ 32) × (b ≢ 47) × IsPlain bs
 
 eqb-other : (a b : ℕ) → a ≢ b → eqb a b ≡ false
 eqb-other a b h = grind (arith, nat_tests)

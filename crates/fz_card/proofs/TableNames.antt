@@ -1,6 +1,6 @@
 -- The tables of names: the functions give the names of the tables, and the two ways through the table of both names undo each other.
-use Rattle.std.proofs.Common.{◌≡◌, ℕ, zero, suc, ◌^◌, ◌<◌, ◌≤◌, Bool, true, false, cond, leb, List, [], ◌∷◌, map, sym, refl, ap, ◌∙◌, subst, arith, inl, inr}
-use Rattle.std.specs.Prelude.{◌⊎◌, ⊤, ◌||◌, Option, Some, None, is_some, bytes_eq, codes}
+use Rattle.std.proofs.Common.{◌≡◌, ℕ, zero, suc, ◌<◌, ◌≤◌, Bool, true, false, cond, leb, List, [], ◌∷◌, map, sym, refl, ap, ◌∙◌, subst, arith, inl, inr}
+use Rattle.std.specs.Prelude.{◌⊎◌, ◌||◌, Option, Some, None, is_some, bytes_eq, codes}
 use Rattle.std.specs.Option.{option_or, option_and_then, option_map}
 use Rattle.std.specs.Fmt.{digits}
 use Rattle.std.proofs.lemmas.Bool.{cases_lt}
@@ -9,7 +9,7 @@ use Rattle.std.proofs.lemmas.Slice.Eq.{bytes_eq-Decides}
 use Rattle.fz_card.specs.declared.card.Name.{Name}
 use Rattle.fz_card.specs.Layout.{padded}
 use Rattle.fz_card.specs.Made.{numbered_name}
-use Rattle.fz_card.specs.Tables.{Names, Renaming, IsNumberedName, AreNumberedNames, IsIn, IsInSome, Renames, SomeRenames, renamings, IsRenamed, packed_names, own_names, foreign_names, IsDropped, IsReserved, IsHighAxis}
+use Rattle.fz_card.specs.Tables.{Names, Renaming, IsNumberedName, AreNumberedNames, IsIn, IsShortLine, AreShortLines, IsInSome, Renames, SomeRenames, renamings, IsRenamed, packed_names, own_names, foreign_names, IsDropped, IsReserved, IsHighAxis}
 use Rattle.fz_card.specs.Tables.Names.{Word, Numbered}
 use Rattle.fz_card.specs.Tables.Renaming.{Words, Stems}
 use Rattle.fz_card.specs.Naming.{number_behind, up_to, is_in, is_in_some, renamed_by, some_renamed, reversed, packed_name, plain_name, is_dropped, is_reserved}
@@ -129,7 +129,7 @@ some-true : {X : Type 0} (o : Option X) → is_some o ≡ true → (x : X) × (o
 some-true None e = cc
 some-true (Some x) e = (x, refl)
 
-is_in-is : (line : Names) (name : List ℕ) → is_in line name ≡ true → IsIn line name
+pub is_in-is : (line : Names) (name : List ℕ) → is_in line name ≡ true → IsIn line name
 is_in-is (Word word) name e = (bytes_eq-Decides name (padded word)).0 e
 is_in-is (Numbered stem last) name e =
     let found = some-true (up_to last (number_behind stem name)) e in
@@ -137,22 +137,13 @@ is_in-is (Numbered stem last) name e =
     let has = number_behind-has stem name found.0 parts.0 in
     record { number = found.0; low = has.some; high = parts.1; made = has.made }
 
--- no number of the line passes what a text of digits can be read as
-abbrev IsSmall : Names → Type 0
-IsSmall (Word word) = ⊤
-IsSmall (Numbered stem last) = last < 2 ^ 64
-
-abbrev AreSmall : List Names → Type 0
-AreSmall [] = ⊤
-AreSmall (line ∷ lines) = IsSmall line × AreSmall lines
-
 up_to-within : (last i : ℕ) → i ≤ last → is_some (up_to last (Some i)) ≡ true
 up_to-within last i within = by_test (leb i last) i (grind (arith, nat_tests))
   where
     by_test : (test : Bool) (i : ℕ) → test ≡ true → is_some (cond test (Some i) None) ≡ true
     by_test test i e = rw e refl
 
-is-is_in : (line : Names) (name : List ℕ) → IsSmall line → IsIn line name → is_in line name ≡ true
+pub is-is_in : (line : Names) (name : List ℕ) → IsShortLine line → IsIn line name → is_in line name ≡ true
 is-is_in (Word word) name small is = (bytes_eq-Decides name (padded word)).1 is
 is-is_in (Numbered stem last) name small is =
     rw (number_behind-made stem name is.number is.low (omega (arith, is.high)) is.made) (up_to-within last is.number is.high)
@@ -171,20 +162,20 @@ is_in_some-is [] name e = cc
 is_in_some-is (line ∷ lines) name e =
     either (or-true (is_in line name) (is_in_some lines name) e) (λ f. is_in-is line name f) (λ f. is_in_some-is lines name f)
 
-pub is-is_in_some : (lines : List Names) (name : List ℕ) → AreSmall lines → IsInSome lines name → is_in_some lines name ≡ true
+pub is-is_in_some : (lines : List Names) (name : List ℕ) → AreShortLines lines → IsInSome lines name → is_in_some lines name ≡ true
 is-is_in_some [] name small is = absurd is
 is-is_in_some (line ∷ lines) name (small, all) is =
     true-or (is_in line name) (is_in_some lines name) (either is (λ h. is-is_in line name small h) (λ h. is-is_in_some lines name all h))
 
-own_small : AreSmall own_names
+own_small : AreShortLines own_names
 unfolding own_names
 own_small = (tt, (tt, (tt, (omega arith, (tt, (tt, (tt, (tt, tt))))))))
 
-packed_small : AreSmall packed_names
+packed_small : AreShortLines packed_names
 unfolding packed_names
 packed_small = (tt, (omega arith, (omega arith, (tt, (tt, (tt, (omega arith, (omega arith, (omega arith, (tt, (tt, (tt, (tt, tt)))))))))))))
 
-foreign_small : AreSmall foreign_names
+foreign_small : AreShortLines foreign_names
 unfolding foreign_names
 foreign_small = (tt, (tt, (tt, (omega arith, tt))))
 

@@ -2,9 +2,9 @@
 use Rattle.std.proofs.Common.{◌≡◌, ◌≢◌, ℕ, Bool, true, false, List, get_or, sym, refl, ap, ◌∙◌, subst, arith}
 use Rattle.std.specs.Prelude.{ℤ, Option, Some, None, IfSome, IfNone}
 use Rattle.fz_card.specs.Layout.{HasValueIndicator, value_field}
-use Rattle.fz_card.specs.Value.{HasValueText, IsIntegerText, SplitsRound, IntegerValue, LogicalValue, logical_text}
+use Rattle.fz_card.specs.Value.{HasValueText, IsIntegerText, SplitsRound, IntegerValue, LogicalValue, logical_text, IsPlain}
 use Rattle.fz_card.specs.Plain.{plain_text}
-use Rattle.fz_card.proofs.Splits.{IsPlain, splits_round_plain_text, plain_text-split}
+use Rattle.fz_card.proofs.Splits.{splits_round_plain_text, plain_text-split}
 use Rattle.fz_card.proofs.Integers.{integer_plain, integer_once}
 
 -- a plain text of a card's value is the one that is found from the left

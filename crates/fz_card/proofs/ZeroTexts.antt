@@ -9,10 +9,9 @@ use Rattle.std.specs.Str.Parse.{IsNumeral, without_leading_sign}
 use Rattle.std.proofs.lemmas.Bool.Decides.{nat_tests}
 use Rattle.std.proofs.lemmas.List.{length-append, length-replicate}
 use Rattle.std.proofs.lemmas.Str.Parse.{digit_from_value}
-use Rattle.fz_card.specs.Value.{IsSign, IsExponent, IsZeroText}
+use Rattle.fz_card.specs.Value.{IsSign, IsExponent, IsZeroText, IsPlain}
 use Rattle.fz_card.specs.Zeros.{skip_zeros, skip_point, is_numeral, is_exponent, is_zero_number, is_zero_text}
 use Rattle.fz_card.proofs.Readings.{and-true, lt-true, digits}
-use Rattle.fz_card.proofs.Splits.{IsPlain}
 use Rattle.fz_card.proofs.Integers.{digits_plain}
 
 eqb-other : (a b : ℕ) → a ≢ b → eqb a b ≡ false

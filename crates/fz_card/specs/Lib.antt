@@ -7,3 +7,5 @@ pub mod Made
 pub mod Reading
 pub mod Tables
 pub mod Naming
+pub mod CardLists
+pub mod Laws

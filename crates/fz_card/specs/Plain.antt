@@ -1,4 +1,4 @@
--- The text of a value without quotes, found from the left: for functions inside the crate.
+-- The text of a value without quotes, found from the left.
 use Rattle.std.specs.Prelude.{◌≡◌, ℕ, ◌==◌, ◌&&◌, if◌then◌else◌, List, [], ◌∷◌, length, Option, MatchOption, ℤ, FitsSigned, ◌<◌, ◌^◌}
 use Rattle.std.specs.Int.{w64}
 use Rattle.std.specs.Str.{byte}
@@ -43,4 +43,4 @@ ReadsSigned text read = MatchOption read (¬ (IsNumeral 10 (without_leading_sign
 -- the text is digits, maybe after a `+`, that write a number of 32 bits, which was read; else nothing was
 abbrev pub ReadsNumeral : List ℕ → Option ℕ → Type 0
 ReadsNumeral text read = MatchOption read (¬ (IsNumeral 10 (without_leading_plus text) × (digits_value 10 (without_leading_plus text) < 2 ^ 32)))
-    (λ n. IsNumeral 10 (without_leading_plus text) × (n ≡ digits_value 10 (without_leading_plus text)))
+    (λ n. IsNumeral 10 (without_leading_plus text) × (n ≡ digits_value 10 (without_leading_plus text)) × (n < 2 ^ 32))

@@ -1,4 +1,4 @@
--- The text of a value between quotes, found from the left: for functions inside the crate.
+-- The text of a value between quotes, found from the left.
 use Rattle.std.specs.Prelude.{ℕ, ◌==◌, if◌then◌else◌, Bool, true, false, Option, Some, None, List, [], ◌∷◌, length}
 use Rattle.std.specs.Option.{option_map}
 use Rattle.std.specs.Str.{byte}

@@ -35,6 +35,15 @@ logical_of card = if has_value_indicator card then logical_in (plain_text (value
 unfoldable pub text_of : List ℕ → Option (List ℕ)
 text_of card = if has_value_indicator card then text_in (value_field card) else None
 
+-- whether the option is this text
+abbrev pub is_text : List ℕ → Option (List ℕ) → Bool
+is_text text None = false
+is_text text (Some found) = bytes_eq found text
+
+-- whether the value of a card is this text
+abbrev pub has_text : List ℕ → List ℕ → Bool
+has_text text card = is_text text (text_of card)
+
 -- whether the value of a card is zero, if it has a value that is not blank
 unfoldable pub zero_of : List ℕ → Option Bool
 zero_of card = if has_value_indicator card then zero_in (plain_text (value_field card)) else None

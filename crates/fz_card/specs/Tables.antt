@@ -1,5 +1,5 @@
 -- The tables of names: how the names of an image are called in a packed header, which names a packed header has of itself, and which an image to be packed may not have (FITS 4.0, sections 4.4, 7.3 and 10.1).
-use Rattle.std.specs.Prelude.{◌≡◌, ℕ, ◌≤◌, ◌⊎◌, List, [], ◌∷◌, codes}
+use Rattle.std.specs.Prelude.{◌≡◌, ℕ, ◌<◌, ◌≤◌, ◌^◌, ◌⊎◌, ⊤, List, [], ◌∷◌, codes}
 use Rattle.fz_card.specs.Layout.{padded}
 use Rattle.fz_card.specs.Made.{numbered_name}
 
@@ -19,6 +19,16 @@ pub data Names : Type 0 where
 abbrev pub IsIn : Names → List ℕ → Type 0
 IsIn (Word word) name = name ≡ padded word
 IsIn (Numbered stem last) name = IsNumberedName stem 1 last name
+
+-- the last number of the line, if it has one, is a number of 64 bits
+abbrev pub IsShortLine : Names → Type 0
+IsShortLine (Word word) = ⊤
+IsShortLine (Numbered stem last) = last < 2 ^ 64
+
+-- the same for each line of a list
+abbrev pub AreShortLines : List Names → Type 0
+AreShortLines [] = ⊤
+AreShortLines (line ∷ lines) = IsShortLine line × AreShortLines lines
 
 -- the name stands in some line of the list
 abbrev pub IsInSome : List Names → List ℕ → Type 0

@@ -9,6 +9,11 @@ abbrev pub IsComment : List ℕ → Type 0
 IsComment [] = ⊤
 IsComment (first ∷ rest) = first ≡ byte "/"
 
+-- no byte of the text is a blank or a `/`
+abbrev pub IsPlain : List ℕ → Type 0
+IsPlain [] = ⊤
+IsPlain (b ∷ bs) = (b ≢ byte " ") × (b ≢ byte "/") × IsPlain bs
+
 -- the field is blanks, the text, blanks, and then nothing or a comment
 pub record SplitsRound (text field : List ℕ) : Type 0 where
   pub before : ℕ
@@ -59,7 +64,7 @@ abbrev pub doubled : List ℕ → List ℕ
 doubled [] = []
 doubled (b ∷ bs) = if b == byte "'" then b ∷ b ∷ doubled bs else b ∷ doubled bs
 
--- the last byte is no blank
+-- the last byte is no blank; the empty text has none
 abbrev pub IsTrimmed : List ℕ → Type 0
 IsTrimmed text = slice_index text (length text - 1) ≢ byte " "
 

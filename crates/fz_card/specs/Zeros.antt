@@ -1,4 +1,4 @@
--- The text of a number that is zero, found from the left: for functions inside the crate.
+-- The text of a number that is zero, found from the left.
 use Rattle.std.specs.Prelude.{ℕ, ◌+◌, ◌==◌, ◌&&◌, ◌||◌, nat_lt, if◌then◌else◌, Bool, true, Option, Some, None, List, [], ◌∷◌, length}
 use Rattle.std.specs.Str.{byte, all_ascii_digits}
 use Rattle.std.specs.Str.Parse.{without_leading_sign}

@@ -1,4 +1,5 @@
 //! A card, and the name that it begins with.
+ghost use Rattle.fz_card.specs.Laws.{RenamedValueLaw};
 
 /// The length of a card in bytes.
 pub const CARD_LEN: usize = 80;
@@ -37,3 +38,8 @@ impl Card {
         Name { bytes }
     }
 }
+
+/// The value of a card does not depend on its name: with another name of 8 bytes in columns 1 to 8 it is the same.
+pub fn renamed_value_law()
+    ensures { RenamedValueLaw }
+{}

@@ -49,6 +49,10 @@ impl Name {
         bytes: *b"EXTNAME ",
     };
 
+    pub const INHERIT: Name = Name {
+        bytes: *b"INHERIT ",
+    };
+
     pub const CHECKSUM: Name = Name {
         bytes: *b"CHECKSUM",
     };
@@ -151,8 +155,8 @@ pub fn keywords_law()
     ensures { (
         Name.SIMPLE.bytes ∷ Name.XTENSION.bytes ∷ Name.BITPIX.bytes ∷ Name.NAXIS.bytes ∷
         Name.EXTEND.bytes ∷ Name.BLOCKED.bytes ∷ Name.GROUPS.bytes ∷ Name.PCOUNT.bytes ∷
-        Name.GCOUNT.bytes ∷ Name.BZERO.bytes ∷ Name.EXTNAME.bytes ∷ Name.CHECKSUM.bytes ∷
-        Name.DATASUM.bytes ∷ Name.END.bytes ∷ Name.TFIELDS.bytes ∷ Name.THEAP.bytes ∷
+        Name.GCOUNT.bytes ∷ Name.BZERO.bytes ∷ Name.EXTNAME.bytes ∷ Name.INHERIT.bytes ∷
+        Name.CHECKSUM.bytes ∷ Name.DATASUM.bytes ∷ Name.END.bytes ∷ Name.TFIELDS.bytes ∷ Name.THEAP.bytes ∷
         Name.ZIMAGE.bytes ∷ Name.ZTABLE.bytes ∷ Name.ZCMPTYPE.bytes ∷ Name.ZBITPIX.bytes ∷
         Name.ZNAXIS.bytes ∷ Name.ZSIMPLE.bytes ∷ Name.ZTENSION.bytes ∷ Name.ZEXTEND.bytes ∷
         Name.ZBLOCKED.bytes ∷ Name.ZPCOUNT.bytes ∷ Name.ZGCOUNT.bytes ∷ Name.ZHECKSUM.bytes ∷
@@ -160,7 +164,7 @@ pub fn keywords_law()
         Name.ZMASKCMP.bytes ∷ Name.ZSCALE.bytes ∷ Name.ZZERO.bytes ∷ []
         ) ≡ map (λ word. padded (codes word)) (
         "SIMPLE" ∷ "XTENSION" ∷ "BITPIX" ∷ "NAXIS" ∷ "EXTEND" ∷ "BLOCKED" ∷ "GROUPS" ∷
-        "PCOUNT" ∷ "GCOUNT" ∷ "BZERO" ∷ "EXTNAME" ∷ "CHECKSUM" ∷ "DATASUM" ∷ "END" ∷
+        "PCOUNT" ∷ "GCOUNT" ∷ "BZERO" ∷ "EXTNAME" ∷ "INHERIT" ∷ "CHECKSUM" ∷ "DATASUM" ∷ "END" ∷
         "TFIELDS" ∷ "THEAP" ∷ "ZIMAGE" ∷ "ZTABLE" ∷ "ZCMPTYPE" ∷ "ZBITPIX" ∷ "ZNAXIS" ∷
         "ZSIMPLE" ∷ "ZTENSION" ∷ "ZEXTEND" ∷ "ZBLOCKED" ∷ "ZPCOUNT" ∷ "ZGCOUNT" ∷
         "ZHECKSUM" ∷ "ZDATASUM" ∷ "ZBLANK" ∷ "ZQUANTIZ" ∷ "ZDITHER0" ∷ "ZMASKCMP" ∷

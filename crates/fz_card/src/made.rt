@@ -2,8 +2,9 @@
 ghost use Rattle.std.specs.Prelude.{◌≡◌, ◌≤◌, ◌++◌, length, codes};
 ghost use Rattle.fz_card.specs.Value.{IsShort};
 ghost use Rattle.fz_card.specs.Made.{IsCardText, value_card, right_aligned, int_card_bytes, logical_card_bytes, text_card_bytes};
+ghost use Rattle.fz_card.specs.Laws.{MadeNamesLaw, MadeLengthsLaw};
 
-use crate::card::{CARD_LEN, Card, Name};
+use crate::card::{CARD_LEN, Card, FIELD_LEN, Name};
 use crate::line::Line;
 use itoa::Buffer;
 
@@ -54,15 +55,23 @@ fn value_line(name: Name) -> Line<CARD_LEN>
     line
 }
 
-/// A card whose value ends in column 30.
-fn number_card(name: Name, text: &[u8]) -> Card
-    requires { length text.now ≤ NUMBER_LEN }
+/// A card whose value is this text, as the digits of a number: it ends in column 30, or begins in column 11 where it
+/// has more than 20 characters (FITS 4.0, sections 4.2.3 and 4.2.4).
+pub fn number_card(name: Name, text: &[u8]) -> Card
+    requires { length text.now ≤ FIELD_LEN }
     ensures { result.bytes ≡ value_card name.bytes (right_aligned 20 text.now) }
 {
     let mut line = value_line(name);
-    line.push_blanks(NUMBER_LEN - text.len());
+    line.push_blanks(NUMBER_LEN.saturating_sub(text.len()));
     line.push(text);
     Card {
         bytes: line.bytes(),
     }
 }
+
+/// Each card that is made has 80 bytes and the name that it was made of, and so it is no END card where that name is
+/// none.
+pub fn made_cards_law()
+    ensures named { MadeNamesLaw }
+    ensures long { MadeLengthsLaw }
+{}

@@ -2,7 +2,9 @@
 ghost use Rattle.std.specs.Prelude.{◌≡◌, ◌<◌, ◌≤◌, MatchBool, slice_index};
 ghost use Rattle.fz_card.specs.Made.{FitsName, numbered_name};
 ghost use Rattle.fz_card.specs.Plain.{ReadsNumeral};
-ghost use Rattle.fz_card.specs.Naming.{number_behind};
+ghost use Rattle.fz_card.specs.Tables.Names.{Numbered};
+ghost use Rattle.fz_card.specs.Naming.{number_behind, is_in};
+ghost use Rattle.fz_card.specs.Laws.{NumberBehindLaw, IsInLaw, IsInSomeLaw, NumberedLengthLaw};
 
 use crate::card::Name;
 use crate::line::Line;
@@ -23,8 +25,9 @@ pub fn numbered(stem: &[u8], i: u32) -> Name
     }
 }
 
-/// The number of a name that is made of the stem and a number above 0, as 12 of `NAXIS12`.
-pub(crate) fn number_behind(name: Name, stem: &[u8]) -> Option<u32>
+/// The number of a name that is made of the stem and a number above 0, as 12 of `NAXIS12`, and `None` exactly
+/// where it is made of no such number: the digits have no zeros at their front (FITS 4.0, section 4.1.2.1).
+pub fn number_behind(name: Name, stem: &[u8]) -> Option<u32>
     ensures { result ≡ number_behind stem.now name.bytes }
 {
     let digits = without_last_blanks(name.bytes.strip_prefix(stem)?);
@@ -33,6 +36,13 @@ pub(crate) fn number_behind(name: Name, stem: &[u8]) -> Option<u32>
     } else {
         None
     }
+}
+
+/// Whether the name is made of the stem and a number from 1 to the last one.
+pub fn is_numbered(name: Name, stem: &[u8], last: u32) -> bool
+    ensures { result ≡ is_in (Numbered stem.now last) name.bytes }
+{
+    number_behind(name, stem).is_some_and(|number| number <= last)
 }
 
 /// Whether the first byte is a digit and no zero.
@@ -44,8 +54,8 @@ fn begins_above_zero(digits: &[u8]) -> bool
     matches!(digits, [b'1'..=b'9', ..])
 }
 
-/// The number that the digits write, if it fits; the first of them is no sign.
-fn whole_number(digits: &[u8]) -> Option<u32>
+/// The number that the text writes, if it is digits, maybe behind a `+`, and it fits.
+pub fn whole_number(digits: &[u8]) -> Option<u32>
     ensures { ReadsNumeral digits.now result }
 {
     let Ok(text) = str::from_utf8(digits) else {
@@ -53,3 +63,13 @@ fn whole_number(digits: &[u8]) -> Option<u32>
     };
     text.parse().ok()
 }
+
+/// A name has a number behind a stem exactly where it is made of both, and stands in a line of a list exactly where
+/// it is the word, or is made of the stem and one of the numbers. A stem and a number that fit make a name of 8
+/// bytes.
+pub fn numbers_law()
+    ensures behind { NumberBehindLaw }
+    ensures line { IsInLaw }
+    ensures list { IsInSomeLaw }
+    ensures length { NumberedLengthLaw }
+{}

@@ -1,10 +1,10 @@
 //! The text value of a card.
-ghost use Rattle.std.specs.Prelude.{◌≡◌, ◌<◌, ◌≤◌, ◌+◌, ◌↔◌, ℕ, List, length, take, false, Some, None, IfSome, IfNone, MatchOption};
+ghost use Rattle.std.specs.Prelude.{◌≡◌, ◌<◌, ◌≤◌, ◌+◌, ◌↔◌, ℕ, List, length, take, false, IsTrue, Some, None, IfSome, IfNone, MatchOption};
 ghost use Rattle.std.specs.Option.{option_map};
 ghost use Rattle.fz_card.specs.Value.{TextValue};
 ghost use Rattle.fz_card.specs.Quoted.{quoted, with_first, at_quote, closed_text, text_in};
 ghost use Rattle.fz_card.specs.Made.{IsCardText, text_card_bytes};
-ghost use Rattle.fz_card.specs.Reading.{text_of};
+ghost use Rattle.fz_card.specs.Reading.{text_of, is_text, has_text};
 
 use crate::card::{Card, FIELD_LEN};
 use crate::text::{plain_text, without_first_blanks, without_last_blanks};
@@ -20,6 +20,19 @@ impl Card {
         ensures within { IfSome result (λ n. n ≤ FIELD_LEN) }
     {
         quoted_text(self.value_field()?, into)
+    }
+
+    /// Whether the text value of the card is this text: a card with no text value has none, and the empty text
+    /// is a text (FITS 4.0, section 4.2.1).
+    pub fn has_text(&self, text: &[u8]) -> bool
+        ensures value { IsTrue result ↔ (text_of self.now.bytes ≡ Some text.now) }
+        ensures function { result ≡ has_text text.now self.now.bytes }
+    {
+        let mut into = [b' '; FIELD_LEN];
+        match self.text(&mut into) {
+            Some(len) => &into[..len] == text,
+            None => false,
+        }
     }
 }
 

@@ -4,12 +4,11 @@ ghost use Rattle.std.specs.Prelude.{◌≡◌, ◌↔◌, List, ℕ, Bool, true,
 ghost use Rattle.std.specs.Option.{option_map};
 ghost use Rattle.fz_card.specs.Made.{FitsName};
 ghost use Rattle.fz_card.specs.Tables.{own_names, packed_names, foreign_names, IsRenamed, IsDropped, IsReserved, IsHighAxis};
-ghost use Rattle.fz_card.specs.Tables.Names.{Numbered};
 ghost use Rattle.fz_card.specs.Tables.Renaming.{Stems};
-ghost use Rattle.fz_card.specs.Naming.{renamed_by, is_in, is_in_some, packed_name, plain_name, is_dropped, is_reserved};
+ghost use Rattle.fz_card.specs.Naming.{renamed_by, is_in_some, packed_name, plain_name, is_dropped, is_reserved};
 
 use crate::card::Name;
-use crate::names::{number_behind, numbered};
+use crate::names::{is_numbered, number_behind, numbered};
 
 /// The first of the options that is some.
 macro_rules! first_of {
@@ -171,13 +170,6 @@ fn renumbered(name: Name, from: &[u8], to: &[u8], last: u32) -> Option<Name>
     }
 }
 
-/// Whether the name is the stem and a number from 1 to the last one.
-fn is_numbered(name: Name, stem: &[u8], last: u32) -> bool
-    ensures { result ≡ is_in (Numbered stem.now last) name.bytes }
-{
-    number_behind(name, stem).is_some_and(|number| number <= last)
-}
-
 /// The two ways through the table of both names undo each other. A name of an image is not dropped under its
 /// other name; one that has no other name is neither restored nor dropped, unless it is reserved.
 pub fn names_law()
@@ -189,6 +181,7 @@ pub fn names_law()
 /// The functions that definitions compute with give the names of the tables.
 pub fn tables_law()
     ensures renamed { (a b : List ℕ) → (packed_name a ≡ Some b) ↔ IsRenamed a b }
+    ensures restored { (a b : List ℕ) → (plain_name b ≡ Some a) ↔ IsRenamed a b }
     ensures dropped { (name : List ℕ) → IsTrue (is_dropped name) ↔ IsDropped name }
     ensures reserved { (name : List ℕ) → IsTrue (is_reserved name) ↔ IsReserved name }
 {}

@@ -1,5 +1,8 @@
 //! One table of cases for each public call.
-use crate::{Card, FIELD_LEN, Name, int_card, logical_card, numbered, text_card};
+use crate::{
+    Card, FIELD_LEN, Name, first_of_name, int_card, is_numbered, logical_card, number_behind,
+    number_card, numbered, text_card, whole_number, without_first_blanks,
+};
 
 /// A card that begins with this text and is blank behind it.
 pub(crate) fn card(text: &[u8]) -> Card {
@@ -26,6 +29,20 @@ fn names(rt: HostRuntime) {
         assert_eq!(rt; card(text).name(), name);
     }
     assert!(rt; card(b"ENDS").name() != Name::END);
+}
+
+#[test]
+fn first_cards(rt: HostRuntime) {
+    let first = card(b"DATASUM = '1'");
+    let other = card(b"CHECKSUM= '2'");
+    let second = card(b"DATASUM = '3'");
+    let mut buf = [b' '; 320];
+    for (i, made) in [other, first, second].into_iter().enumerate() {
+        buf[80 * i..80 * (i + 1)].copy_from_slice(&made.bytes);
+    }
+    assert_eq!(rt; first_of_name(&buf, 4, Name::DATASUM), Some(first));
+    assert_eq!(rt; first_of_name(&buf, 1, Name::DATASUM), None);
+    assert_eq!(rt; first_of_name(&buf, 4, Name::END), None);
 }
 
 #[test]
@@ -103,8 +120,16 @@ fn logicals(rt: HostRuntime) {
 }
 
 #[test]
-fn integer_cards(rt: HostRuntime) {
-    let cases: [(Card, &[u8]); 4] = [
+fn number_cards(rt: HostRuntime) {
+    let cases: [(Card, &[u8]); 6] = [
+        (
+            number_card(Name::BZERO, b"-0.75"),
+            b"BZERO   =                -0.75",
+        ),
+        (
+            number_card(Name::BZERO, b"-123456789012345678901234567.1234567890"),
+            b"BZERO   = -123456789012345678901234567.1234567890",
+        ),
         (int_card(Name::NAXIS, 2), b"NAXIS   =                    2"),
         (
             int_card(Name::BITPIX, -64),
@@ -175,6 +200,49 @@ fn numbered_names(rt: HostRuntime) {
 }
 
 #[test]
+fn numbers_of_names(rt: HostRuntime) {
+    let cases: [(&[u8], &[u8], Option<u32>); 10] = [
+        (b"NAXIS12", b"NAXIS", Some(12)),
+        (b"TFORM999", b"TFORM", Some(999)),
+        (b"12345678", b"", Some(12_345_678)),
+        (b"NAXIS", b"NAXIS", None),
+        (b"NAXIS0", b"NAXIS", None),
+        (b"NAXIS01", b"NAXIS", None),
+        (b"NAXIS+1", b"NAXIS", None),
+        (b"NAXIS1A", b"NAXIS", None),
+        (b"NAXIS 1", b"NAXIS", None),
+        (b"ZNAXIS1", b"NAXIS", None),
+    ];
+    for (text, stem, number) in cases {
+        let name = card(text).name();
+        assert_eq!(rt; number_behind(name, stem), number);
+        assert_eq!(rt;
+            is_numbered(name, stem, 999),
+            number.is_some_and(|number| number <= 999)
+        );
+        assert!(rt; !is_numbered(name, stem, 11));
+    }
+}
+
+#[test]
+fn value_texts(rt: HostRuntime) {
+    let cases: [(&[u8], Option<&[u8]>); 6] = [
+        (b"CRPIX1  =               1024.5 / pixel", Some(b"1024.5")),
+        (b"CRPIX1  = 1.0245E+03/", Some(b"1.0245E+03")),
+        (b"CRPIX1  = 1 2", Some(b"1 2")),
+        (b"CRPIX1  = / none", Some(b"")),
+        (b"CRPIX1  =1", None),
+        (b"CRPIX1", None),
+    ];
+    for (text, value) in cases {
+        assert_eq!(rt; card(text).value_text(), value);
+    }
+    assert_eq!(rt; without_first_blanks(b"  1 "), b"1 ".as_slice());
+    assert_eq!(rt; whole_number(b"4294967295"), Some(u32::MAX));
+    assert_eq!(rt; whole_number(b"4294967296"), None);
+}
+
+#[test]
 fn texts(rt: HostRuntime) {
     let cases: [(&[u8], Option<&[u8]>); 21] = [
         (
@@ -209,6 +277,8 @@ fn texts(rt: HostRuntime) {
         let mut into = [0u8; FIELD_LEN];
         let len = card(text).text(&mut into);
         assert_eq!(rt; len.map(|len: usize| &into[..len]), value);
+        assert_eq!(rt; card(text).has_text(value.unwrap_or(b"")), value.is_some());
+        assert!(rt; !card(text).has_text(b"IMAGE "));
     }
 }
 

@@ -2,6 +2,7 @@
 //! blanks around it.
 ghost use Rattle.std.specs.Prelude.{◌≡◌, ◌==◌, position};
 ghost use Rattle.fz_card.specs.Plain.{before_comment, skip_blanks, cut_blanks, plain_text, ReadsField, ReadsPlainText};
+ghost use Rattle.fz_card.specs.Laws.{ValueTextLaw};
 
 use crate::card::{Card, FIELD_START, NAME_LEN};
 
@@ -21,8 +22,10 @@ impl Card {
         }
     }
 
-    /// The text of the value, or `None` where columns 9 and 10 say that there is no value.
-    pub(crate) fn value_text(&self) -> Option<&[u8]>
+    /// The text of a value without quotes: what stands in the value field before the first `/`, without the blanks
+    /// around it, or `None` where columns 9 and 10 say that there is no value (FITS 4.0, sections 4.1.2.2 and
+    /// 4.1.2.3).
+    pub fn value_text(&self) -> Option<&[u8]>
         ensures { ReadsPlainText self.now.bytes result }
     {
         Some(plain_text(self.value_field()?))
@@ -52,7 +55,8 @@ fn comment_start(field: &[u8]) -> Option<usize>
     field.iter().position(|byte| *byte == b'/')
 }
 
-pub(crate) fn without_first_blanks(mut text: &[u8]) -> &[u8]
+/// The text without the blanks at its front.
+pub fn without_first_blanks(mut text: &[u8]) -> &[u8]
     ensures { result.now ≡ skip_blanks text.entry.now }
 {
     while let [b' ', rest @ ..] = text {
@@ -70,3 +74,8 @@ pub(crate) fn without_last_blanks(text: &[u8]) -> &[u8]
     }
     &text[..len]
 }
+
+/// A card has a text without blanks and `/` as the text of its value exactly where `Card::value_text` finds it.
+pub fn value_text_law()
+    ensures { ValueTextLaw }
+{}
