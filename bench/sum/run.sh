@@ -6,7 +6,7 @@ root=$(cd "$(dirname "$0")/../.." && pwd)
 scratch=${1:-$(mktemp -d)}
 mkdir -p "$scratch/crates/sum_bench/src"
 cp -r "$root/crates/fz_card" "$root/crates/fz_sum" "$scratch/crates/"
-printf 'fz_card: itoa\nfz_sum: fz_card itoa\nsum_bench: fz_sum\n' > "$scratch/crates.txt"
+printf 'fz_card: itoa\nfz_sum: fz_card byteorder itoa\nsum_bench: fz_sum\n' > "$scratch/crates.txt"
 cp "$root/bench/sum/main.rt.txt" "$scratch/crates/sum_bench/src/main.rt"
 cd "$scratch/crates/sum_bench"
 head -c 268435456 /dev/urandom > bytes

@@ -7,3 +7,6 @@ pub mod VerdictLemmas
 pub mod SumTexts
 pub mod AllOnes
 pub mod DatasumLaw
+pub mod Places
+pub mod WithCard
+pub mod VerdictLaws

@@ -1,6 +1,6 @@
 -- The number that a text gives: the function gives it exactly where the text does.
 use Rattle.std.proofs.Common.{◌≡◌, ℕ, ◌^◌, ◌<◌, ◌≢◌, Bool, true, false, cond, eqb, ltb, List, [], ◌∷◌, length, take, get_or, sym, refl, ap, ◌∙◌, subst, arith}
-use Rattle.std.specs.Prelude.{◌&&◌, Option, Some, None, IfSome, IfNone}
+use Rattle.std.specs.Prelude.{◌&&◌, ◌↔◌, Option, Some, None, IfSome, IfNone}
 use Rattle.std.specs.Char.{is_ascii_digit}
 use Rattle.std.specs.List.{list_all}
 use Rattle.std.specs.Option.{option_and_then, option_map}
@@ -8,12 +8,12 @@ use Rattle.std.specs.Str.{all_ascii_digits}
 use Rattle.std.specs.Str.Parse.{IsNumeral, digits_value, without_leading_plus}
 use Rattle.std.proofs.lemmas.Bool.Decides.{nat_tests}
 use Rattle.std.proofs.lemmas.Str.Parse.{without_leading_plus_none}
-use Rattle.fz_card.specs.Plain.{skip_blanks}
+use Rattle.fz_card.specs.Plain.{skip_blanks, ReadsNumeral}
 use Rattle.fz_card.specs.Reading.{text_of}
+use Rattle.fz_card.specs.Value.{TextValue}
 use Rattle.fz_card.proofs.Readings.{some-if, and-true, lt-true, digits}
 use Rattle.fz_card.proofs.Splits.{skip_blanks-after, skip_blanks-blanks}
-use Rattle.fz_card.proofs.TextValues.{text_of-value, value-text_of}
-use Rattle.fz_sum.specs.Texts.{GivesSum, CardGivesSum, sum_of_digits, ReadsWhole, sum_of_text, sum_of_card}
+use Rattle.fz_sum.specs.Texts.{GivesSum, CardGivesSum, sum_of_digits, sum_of_text, sum_of_card}
 
 pub all-digits : (text : List ℕ) → list_all is_ascii_digit text ≡ all_ascii_digits text
 all-digits [] = refl
@@ -70,7 +70,7 @@ sum-digits text sum is =
     sym (some-of (all_ascii_digits text && (ltb 0 (length text) && ltb value (2 ^ 32))) value (tests-true (all_ascii_digits text) (ltb 0 (length text)) (ltb value (2 ^ 32)) (digits.from text is.numeral.1) (positive (length text) is.numeral.0) (below value (2 ^ 32) small))) ∙ ap Some (sym is.value)
 
 -- what was read of digits
-pub read-digits : (text : List ℕ) (read : Option ℕ) → ReadsWhole text read → all_ascii_digits text ≡ true → read ≡ sum_of_digits text
+pub read-digits : (text : List ℕ) (read : Option ℕ) → ReadsNumeral text read → all_ascii_digits text ≡ true → read ≡ sum_of_digits text
 read-digits text None never e =
     let plain : without_leading_plus text ≡ text = without_leading_plus_none text (first-digit text e) in
     let refused = subst (λ (t : List ℕ). (IsNumeral 10 t × (digits_value 10 t < 2 ^ 32)) → ⊥) plain never in
@@ -83,8 +83,8 @@ read-digits text None never e =
         refused ((lt-true 0 (length text) bounds.0, digits.to text parts.0), lt-true (digits_value 10 text) (2 ^ 32) bounds.1)
 read-digits text (Some n) whole e =
     let plain : without_leading_plus text ≡ text = without_leading_plus_none text (first-digit text e) in
-    let is = subst (λ (t : List ℕ). (IsNumeral 10 t × (digits_value 10 t < 2 ^ 32)) × (n ≡ digits_value 10 t)) plain whole in
-    sym (sum-digits text n (record { numeral = is.0.0; value = is.1; fits = subst (λ (k : ℕ). k < 2 ^ 32) (sym is.1) is.0.1 }))
+    let is = subst (λ (t : List ℕ). IsNumeral 10 t × (n ≡ digits_value 10 t) × (n < 2 ^ 32)) plain whole in
+    sym (sum-digits text n (record { numeral = is.0; value = is.1; fits = is.2 }))
 
 pub no-digits : (text : List ℕ) → all_ascii_digits text ≡ false → None ≡ sum_of_digits text
 no-digits text e = rw e refl
@@ -119,16 +119,20 @@ and-then-some : (read : Option (List ℕ)) (sum : ℕ) → option_and_then sum_o
 and-then-some None sum e = cc
 and-then-some (Some text) sum e = (text, refl, e)
 
-pub card-gives : (card : List ℕ) (sum : ℕ) → sum_of_card card ≡ Some sum → CardGivesSum card sum
-unfolding sum_of_card
-card-gives card sum e =
-    let found = and-then-some (text_of card) sum e in
-    record { text = found.0; has = text_of-value card found.0 found.1; gives = text-gives found.0 sum found.2 }
+-- the text of a card as a function, which is a law of the cards
+abbrev pub TextOfLaw : Type 0
+TextOfLaw = (card a : List ℕ) → TextValue card a ↔ (text_of card ≡ Some a)
 
-pub gives-card : (card : List ℕ) (sum : ℕ) → CardGivesSum card sum → sum_of_card card ≡ Some sum
+pub card-gives : TextOfLaw → (card : List ℕ) (sum : ℕ) → sum_of_card card ≡ Some sum → CardGivesSum card sum
 unfolding sum_of_card
-gives-card card sum gives =
-    ap (option_and_then sum_of_text) (value-text_of card gives.text gives.has) ∙ gives-text gives.text sum gives.gives
+card-gives texts card sum e =
+    let found = and-then-some (text_of card) sum e in
+    record { text = found.0; has = (texts card found.0).1 found.1; gives = text-gives found.0 sum found.2 }
+
+pub gives-card : TextOfLaw → (card : List ℕ) (sum : ℕ) → CardGivesSum card sum → sum_of_card card ≡ Some sum
+unfolding sum_of_card
+gives-card texts card sum gives =
+    ap (option_and_then sum_of_text) ((texts card gives.text).0 gives.has) ∙ gives-text gives.text sum gives.gives
 
 -- what a function answers whose result is known
 pub text-value : (text : List ℕ) (read : Option ℕ) → read ≡ sum_of_text text → IfSome read (GivesSum text)
@@ -139,13 +143,13 @@ pub text-none : (text : List ℕ) (read : Option ℕ) → read ≡ sum_of_text t
 text-none text None e = λ sum gives. let f = gives-text text sum gives in cc
 text-none text (Some sum) e = tt
 
-pub card-value : (card : List ℕ) (read : Option ℕ) → read ≡ sum_of_card card → IfSome read (CardGivesSum card)
-card-value card None e = tt
-card-value card (Some sum) e = card-gives card sum (sym e)
+pub card-value : TextOfLaw → (card : List ℕ) (read : Option ℕ) → read ≡ sum_of_card card → IfSome read (CardGivesSum card)
+card-value texts card None e = tt
+card-value texts card (Some sum) e = card-gives texts card sum (sym e)
 
-pub card-none : (card : List ℕ) (read : Option ℕ) → read ≡ sum_of_card card → IfNone read ((sum : ℕ) → ¬ (CardGivesSum card sum))
-card-none card None e = λ sum gives. let f = gives-card card sum gives in cc
-card-none card (Some sum) e = tt
+pub card-none : TextOfLaw → (card : List ℕ) (read : Option ℕ) → read ≡ sum_of_card card → IfNone read ((sum : ℕ) → ¬ (CardGivesSum card sum))
+card-none texts card None e = λ sum gives. let f = gives-card texts card sum gives in cc
+card-none texts card (Some sum) e = tt
 
 -- a card without a text, and one whose text was read into a buffer
 pub card-untold : (card buffer : List ℕ) (len read : Option ℕ) → option_map (λ (n : ℕ). take n buffer) len ≡ text_of card → len ≡ None → read ≡ None → read ≡ sum_of_card card

@@ -1,5 +1,6 @@
 -- Totals of bytes by their positions: of joined bytes, at positions that lie whole words apart, of words, of pieces in any order.
 use Rattle.std.proofs.Common.{◌≡◌, ℕ, zero, suc, ◌+◌, ◌-◌, ◌*◌, ◌/◌, ◌%◌, ◌^◌, ◌<◌, ◌≤◌, ◌⊎◌, inl, inr, List, [], ◌∷◌, ◌++◌, length, take, drop, get_or, sym, refl, ap, ◌∙◌, arith, add-one, length-append}
+use Rattle.std.specs.Prelude.{replicate}
 use Rattle.std.specs.List.{concat, sum_by}
 use Rattle.std.specs.List.Sorted.{IsPermutation}
 use Rattle.std.proofs.Math.Nat.{add-mod, mul-add-mod_self_left}
@@ -7,6 +8,7 @@ use Rattle.std.proofs.Math.Seq.{take-add, drop-cons}
 use Rattle.std.proofs.lemmas.List.{take_all, take_more, length-take-le, take-append-drop, drop_all}
 use Rattle.std.proofs.lemmas.List.Sums.{sum_by-cons}
 use Rattle.std.proofs.lemmas.List.Sorted.{sum_by-IsPermutation}
+use Rattle.byteorder.specs.Endian.{big_number}
 use Rattle.fz_sum.specs.Sums.{word, word_total, carried, ones_sum}
 use Rattle.fz_sum.specs.Pieces.{weight, total_at, Added, nothing, after, Piece, after_all, placed}
 
@@ -124,6 +126,12 @@ four : (w : List ℕ) (j : ℕ) → j + 4 ≤ length w → take 4 (drop j w) ≡
 four w j within =
     rw (drop-next w j (j + 1) refl (omega arith), drop-next w (j + 1) (j + 2) (omega arith) (omega arith), drop-next w (j + 2) (j + 3) (omega arith) (omega arith), drop-next w (j + 3) (j + 4) (omega arith) (omega arith)) refl
 
+-- a word that is read
+pub word-read : (w : List ℕ) (j n : ℕ) → j + 4 ≡ n → n ≤ length w → big_number 4 (take (n - j) (drop j w)) ≡ word (get_or w j 0) (get_or w (j + 1) 0) (get_or w (j + 2) 0) (get_or w (j + 3) 0)
+word-read w j n end within =
+    let long : n - j ≡ 4 = omega arith in
+    rw (long, four w j (omega arith)) (omega arith)
+
 -- a word more
 pub total_at-next_word : (w : List ℕ) (i : ℕ) → 4 * i + 4 ≤ length w → total_at 0 (take (4 * (i + 1)) w) ≡ total_at 0 (take (4 * i) w) + word (get_or w (4 * i) 0) (get_or w (4 * i + 1) 0) (get_or w (4 * i + 2) 0) (get_or w (4 * i + 3) 0)
 total_at-next_word w i within =
@@ -177,3 +185,19 @@ total_at-parts at n m w rest within front e short whole =
     let inner = total_at-cut_words 0 m rest short (omega arith) in
     let f = ap (total_at 0) e in
     omega (arith, same, outer, inner, f)
+
+-- zeros add nothing
+pub total_at-zeros : (at n : ℕ) → total_at at (replicate n 0) ≡ 0
+unfolding total_at
+total_at-zeros at zero = refl
+total_at-zeros at (suc n) = let rest = total_at-zeros (at + 1) n in rw rest (omega arith)
+
+pub ones_sum-filled : (bytes : List ℕ) (n : ℕ) → ones_sum (bytes ++ replicate n 0) ≡ ones_sum bytes
+unfolding ones_sum
+ones_sum-filled bytes n =
+    let joined = total_at-append 0 bytes (replicate n 0) in
+    let none = total_at-zeros (0 + length bytes) n in
+    let all = total_at-word_total (bytes ++ replicate n 0) in
+    let own = total_at-word_total bytes in
+    let e : word_total (bytes ++ replicate n 0) ≡ word_total bytes = omega (arith, joined, none, all, own) in
+    ap carried e

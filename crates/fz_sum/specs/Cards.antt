@@ -5,17 +5,25 @@ use Rattle.fz_card.specs.Made.{text_card_bytes}
 use Rattle.fz_card.specs.Layout.{padded}
 use Rattle.fz_sum.specs.Characters.{characters}
 
+-- the name of the card that tells of the sum of the data
+abbrev pub datasum_name : List ℕ
+datasum_name = padded (codes "DATASUM")
+
+-- the name of the card with which the sum of the HDU is all ones
+abbrev pub checksum_name : List ℕ
+checksum_name = padded (codes "CHECKSUM")
+
 -- DATASUM has the digits of the sum as its text
 unfoldable pub datasum_card : ℕ → List ℕ
-datasum_card sum = text_card_bytes (padded (codes "DATASUM")) (decimal sum)
+datasum_card sum = text_card_bytes datasum_name (decimal sum)
 
 -- CHECKSUM has the characters of the sum as its text
 unfoldable pub checksum_card : ℕ → List ℕ
-checksum_card sum = text_card_bytes (padded (codes "CHECKSUM")) (characters sum)
+checksum_card sum = text_card_bytes checksum_name (characters sum)
 
 -- CHECKSUM with sixteen times the character `0`, as it stands while the sum of its HDU is taken
 unfoldable pub blank_checksum_card : List ℕ
-blank_checksum_card = text_card_bytes (padded (codes "CHECKSUM")) (replicate 16 (byte "0"))
+blank_checksum_card = text_card_bytes checksum_name (replicate 16 (byte "0"))
 
 -- the bytes with another card in place of card i
 abbrev pub with_card : ℕ → List ℕ → List ℕ → List ℕ

@@ -1,8 +1,8 @@
 -- Which number the text of a DATASUM card gives (FITS 4.0, section 4.4.2.7).
-use Rattle.std.specs.Prelude.{ℕ, ◌≡◌, ◌^◌, ◌<◌, ◌&&◌, nat_lt, if◌then◌else◌, Option, Some, None, MatchOption, List, ◌++◌, length}
+use Rattle.std.specs.Prelude.{ℕ, ◌≡◌, ◌^◌, ◌<◌, ◌&&◌, nat_lt, if◌then◌else◌, Option, Some, None, List, ◌++◌, length}
 use Rattle.std.specs.Option.{option_and_then}
 use Rattle.std.specs.Str.{all_ascii_digits}
-use Rattle.std.specs.Str.Parse.{IsNumeral, digits_value, without_leading_plus}
+use Rattle.std.specs.Str.Parse.{IsNumeral, digits_value}
 use Rattle.fz_card.specs.Layout.{blanks}
 use Rattle.fz_card.specs.Plain.{skip_blanks}
 use Rattle.fz_card.specs.Value.{TextValue}
@@ -35,11 +35,3 @@ sum_of_text text = sum_of_digits (skip_blanks text)
 -- the sum that the text of a card gives, if it gives one
 unfoldable pub sum_of_card : List ℕ → Option ℕ
 sum_of_card card = option_and_then sum_of_text (text_of card)
-
--- for functions inside the crate: the text is digits, maybe behind a `+`, that write a number of 32 bits
-abbrev pub IsWhole : List ℕ → Type 0
-IsWhole text = IsNumeral 10 (without_leading_plus text) × (digits_value 10 (without_leading_plus text) < 2 ^ 32)
-
--- what was read is that number, or nothing where the text is no such digits
-abbrev pub ReadsWhole : List ℕ → Option ℕ → Type 0
-ReadsWhole text read = MatchOption read (¬ (IsWhole text)) (λ n. IsWhole text × (n ≡ digits_value 10 (without_leading_plus text)))

@@ -16,8 +16,8 @@ mod words;
 
 pub use cards::{blank_checksum_card, checksum_card, datasum_card};
 pub use encoding::characters;
-pub use judging::verdict;
-pub use laws::{all_ones_law, characters_law, datasum_law, sum_law};
+pub use judging::{checksum_verdict, datasum_verdict, verdict, verdicts_law};
+pub use laws::{all_ones_law, characters_law, datasum_law, sum_law, with_card_law};
 pub use sum::Sum;
 pub use text::{sum_of_card, sum_of_text};
 pub use verdicts::Verdict;

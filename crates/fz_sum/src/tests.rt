@@ -2,8 +2,8 @@
 ghost use Rattle.std.specs.Prelude.{◌≡◌, ◌+◌, ◌<◌, ◌^◌, length};
 
 use crate::{
-    Sum, Verdict, blank_checksum_card, characters, checksum_card, datasum_card, sum_of_card,
-    sum_of_text, verdict,
+    Sum, Verdict, blank_checksum_card, characters, checksum_card, checksum_verdict, datasum_card,
+    datasum_verdict, sum_of_card, sum_of_text, verdict,
 };
 use fz_card::{Card, Name, int_card, text_card};
 use std::process::Abort;
@@ -163,6 +163,27 @@ fn verdicts(rt: HostRuntime) {
     assert_eq!(rt; sum_of_card(&empty), None);
     assert_eq!(rt; sum_of_card(&number), None);
     assert_eq!(rt; sum_of_card(&odd), None);
+}
+
+#[test]
+fn verdicts_by_headers(rt: HostRuntime) {
+    let mut buf = [b' '; 320];
+    let cards = [blank_checksum_card(), datasum_card(7), datasum_card(8)];
+    for (i, card) in cards.into_iter().enumerate() {
+        buf[80 * i..80 * (i + 1)].copy_from_slice(&card.bytes);
+    }
+    let cases: [(u32, u32, Verdict, Verdict); 5] = [
+        (0, u32::MAX, Verdict::Absent, Verdict::Absent),
+        (1, 7, Verdict::Absent, Verdict::Wrong),
+        (2, 7, Verdict::Right, Verdict::Wrong),
+        (4, 7, Verdict::Right, Verdict::Wrong),
+        (4, u32::MAX, Verdict::Wrong, Verdict::Right),
+    ];
+    for (cards, sum, datasum, checksum) in cases {
+        assert_eq!(rt; datasum_verdict(&buf, cards, sum), datasum);
+        assert_eq!(rt; checksum_verdict(&buf, cards, sum), checksum);
+    }
+    assert_eq!(rt; datasum_verdict(&buf, 4, 8), Verdict::Wrong);
 }
 
 /// The next of a sequence of random words (a xorshift).

@@ -1,10 +1,9 @@
 //! The number that the text of a DATASUM card gives.
 ghost use Rattle.std.specs.Prelude.{◌≡◌, ℕ, IfSome, IfNone, length};
 ghost use Rattle.std.specs.Str.{all_ascii_digits};
-ghost use Rattle.fz_card.specs.Plain.{skip_blanks};
-ghost use Rattle.fz_sum.specs.Texts.{GivesSum, CardGivesSum, sum_of_text, sum_of_card, sum_of_digits, ReadsWhole};
+ghost use Rattle.fz_sum.specs.Texts.{GivesSum, CardGivesSum, sum_of_text, sum_of_card, sum_of_digits};
 
-use fz_card::{Card, FIELD_LEN};
+use fz_card::{Card, FIELD_LEN, text_law, whole_number, without_first_blanks};
 
 /// The sum that this text gives: after any blanks at its front, one or more digits that write a number of 32 bits
 /// (FITS 4.0, section 4.4.2.7). Any other text gives none.
@@ -22,18 +21,10 @@ pub fn sum_of_card(card: &Card) -> Option<u32>
     ensures none { IfNone result ((sum : ℕ) → ¬ (CardGivesSum card.now.bytes sum)) }
     ensures function { result ≡ sum_of_card card.now.bytes }
 {
+    text_law();
     let mut text = [b' '; FIELD_LEN];
     let len = card.text(&mut text)?;
     sum_of_text(&text[..len])
-}
-
-fn without_first_blanks(mut text: &[u8]) -> &[u8]
-    ensures { result.now ≡ skip_blanks text.entry.now }
-{
-    while let [b' ', rest @ ..] = text {
-        text = rest;
-    }
-    text
 }
 
 /// The number that the digits write, if they are digits and it fits.
@@ -41,7 +32,7 @@ fn sum_of_digits(digits: &[u8]) -> Option<u32>
     ensures { result ≡ sum_of_digits digits.now }
 {
     if are_digits(digits) {
-        parsed(digits)
+        whole_number(digits)
     } else {
         None
     }
@@ -51,14 +42,4 @@ fn are_digits(text: &[u8]) -> bool
     ensures { result ≡ all_ascii_digits text.now }
 {
     text.iter().all(u8::is_ascii_digit)
-}
-
-/// The number that the text writes, if it is digits, maybe behind a sign, and it fits.
-fn parsed(text: &[u8]) -> Option<u32>
-    ensures { ReadsWhole text.now result }
-{
-    let Ok(text) = str::from_utf8(text) else {
-        return None;
-    };
-    text.parse().ok()
 }

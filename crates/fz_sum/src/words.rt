@@ -2,6 +2,8 @@
 ghost use Rattle.std.specs.Prelude.{◌≡◌, ◌+◌, ◌*◌, ◌%◌, ◌<◌, ◌≤◌, ◌^◌, length, ◌⊎◌};
 ghost use Rattle.fz_sum.specs.Pieces.{total_at};
 
+use byteorder::{BigEndian, ByteOrder};
+
 /// The length of a word in bytes.
 const WORD_LEN: usize = 4;
 
@@ -70,12 +72,7 @@ fn stretch_total(words: &[u8]) -> u64
     let mut total = 0u64;
     for i in 0..words.len() / WORD_LEN {
         let at = WORD_LEN * i;
-        total += u64::from(u32::from_be_bytes([
-            words[at],
-            words[at + 1],
-            words[at + 2],
-            words[at + 3],
-        ]));
+        total += u64::from(BigEndian::read_u32(&words[at..at + WORD_LEN]));
     }
     total
 }

@@ -13,4 +13,4 @@ returns-clause-function c = c.judged.ensures ∙ ap (λ (told : Bool). cond told
 
 pub returns-clause-value : goal.returns-clause-value
 returns-clause-value c =
-    verdict-from (option_map (λ (b : Bor Card). b.now.bytes) c.args.card) c.args.right _ (returns-clause-function c)
+    verdict-from c.text_law.ensures.function (option_map (λ (b : Bor Card). b.now.bytes) c.args.card) c.args.right _ (returns-clause-function c)

@@ -2,6 +2,7 @@ use Rattle.std.proofs.Common.{sym, subst}
 use Rattle.fz_sum.specs.Characters.{AreByteCharacters}
 use Rattle.fz_sum.proofs.ByteCharacters.{byte-characters, byte-characters-once}
 use Rattle.fz_sum.proofs.CardTexts.{characters-letters}
+use Rattle.fz_sum.proofs.Places.{characters-places}
 use Rattle.fz_sum.proofs.laws.characters_law.Goals as goal
 
 pub returns-clause-rule : goal.returns-clause-rule
@@ -10,3 +11,6 @@ returns-clause-rule c =
 
 pub returns-clause-letters : goal.returns-clause-letters
 returns-clause-letters c = characters-letters
+
+pub returns-clause-places : goal.returns-clause-places
+returns-clause-places c = characters-places

@@ -1,5 +1,5 @@
-use Rattle.std.proofs.Common.{◌≡◌, ℕ, ◌+◌, ◌*◌, ◌/◌, ◌≤◌, length, take, sym, ap, ◌∙◌, arith}
-use Rattle.fz_sum.proofs.Totals.{total_at-nil, total_at-next_word, total_at-whole}
+use Rattle.std.proofs.Common.{◌≡◌, ℕ, ◌+◌, ◌*◌, ◌/◌, ◌≤◌, length, take, refl, sym, ap, ◌∙◌, arith}
+use Rattle.fz_sum.proofs.Totals.{word-read, total_at-nil, total_at-next_word, total_at-whole}
 use Rattle.fz_sum.specs.Pieces.{total_at}
 use Rattle.fz_sum.proofs.words.stretch_total.Goals as goal
 
@@ -10,7 +10,8 @@ pub loop-i-preserved : goal.loop-i-preserved
 loop-i-preserved c =
     let within : 4 * c.loop-i.i + 4 ≤ length c.args.words.now = omega arith in
     let next = total_at-next_word c.args.words.now c.loop-i.i within in
-    record { total = omega (arith, next); within = omega arith }
+    let read = word-read c.args.words.now (4 * c.loop-i.i) (4 * c.loop-i.i + 4) refl within in
+    record { total = omega (arith, next, read, c.read_u32.ensures); within = omega (arith, read, c.read_u32.ensures) }
 
 pub returns-clause-total : goal.returns-clause-total
 returns-clause-total c =

@@ -1,9 +1,0 @@
-use Rattle.std.proofs.Common.{◌≡◌, length}
-use Rattle.fz_card.specs.Plain.{skip_blanks}
-use Rattle.fz_sum.proofs.text.without_first_blanks.Given as goal
-
-abbrev pub invariant-loop-text : goal.invariant-loop-text
-invariant-loop-text l = skip_blanks l.text ≡ skip_blanks l.fn.text
-
-abbrev pub decreases-loop-text : goal.decreases-loop-text
-decreases-loop-text l = length l.text
