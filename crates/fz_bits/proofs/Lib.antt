@@ -1,3 +1,5 @@
 pub mod BitsLemmas
+pub mod BytesLemmas
+pub mod OrLemmas
 pub mod ReaderLemmas
 pub mod WriterLemmas

@@ -1,3 +1,5 @@
+pub mod Numbers
 pub mod Bits
+pub mod Laws
 pub mod Reader
 pub mod Writer

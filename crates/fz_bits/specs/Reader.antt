@@ -11,6 +11,10 @@ place r = 8 * r.at - r.count
 unfoldable pub left : BitReader → List Bool
 left r = drop (place r) (bits_of r.code.now)
 
+-- how many of the bits that are left are loaded
+abbrev pub ready : BitReader → ℕ
+ready r = r.count
+
 -- the bits that are left and the place are as before
 pub record IsUnmoved (old new : BitReader) : Type 0 where
   pub left : left new ≡ left old

@@ -1,13 +1,15 @@
 //! Bits in lent slices, the most significant first: a writer and a reader.
 //!
-//! Reading order: `writer`, `reader`, `fields`.
+//! Reading order: `writer`, `reader`, `fields`, `laws`.
 #![tactic(auto)]
 
 mod fields;
+mod laws;
 mod reader;
 #[cfg(test)]
 mod tests;
 mod writer;
 
+pub use laws::bytes_law;
 pub use reader::{BitReader, Ended, ZeroStop};
 pub use writer::{BitWriter, Full};

@@ -1,8 +1,9 @@
 //! Bits read from a lent slice.
 #![tactic(auto)]
 
-ghost use Rattle.fz_bits.specs.Bits.{number_bits, bits_of};
-ghost use Rattle.std.specs.Prelude.{◌≡◌, ℕ, ◌+◌, ◌-◌, ◌*◌, ◌/◌, ◌%◌, ◌^◌, ◌<◌, ◌≤◌, ◌⊎◌, ◌↔◌, true, false, [], ◌∷◌, ◌++◌, length, take, drop, replicate, slice_index, ◌≢◌, MatchOption, IsErr, IfOk, OnErr, IsErrOf};
+ghost use Rattle.fz_bits.specs.Bits.{number_bits, bits_of, IsAhead};
+ghost use Rattle.std.specs.Int.Count.{count_leading_zeros};
+ghost use Rattle.std.specs.Prelude.{◌≡◌, ℕ, ◌+◌, ◌-◌, ◌*◌, ◌/◌, ◌%◌, ◌^◌, ◌<◌, ◌≤◌, ◌⊎◌, ◌↔◌, true, false, [], ◌∷◌, ◌++◌, length, take, drop, replicate, slice_index, ◌≢◌, MatchOption, IsTrue, IsErr, IfOk, OnErr, IsErrOf};
 
 use crate::fields::{behind, first};
 
@@ -19,7 +20,8 @@ pub enum ZeroStop {
     Ended,
 }
 
-/// Reads bits from a lent slice, the most significant first.
+/// Reads bits from a lent slice, the most significant first. Behind the `count` bits that are pending,
+/// `pending` has zeros or the bits that come there.
 #[derive(Clone, Copy)]
 pub struct BitReader<'a> {
     code: &'a [u8],
@@ -29,14 +31,13 @@ pub struct BitReader<'a> {
     ghost small: { length code.now ≤ 2 ^ 60 },
     ghost within: { at ≤ length code.now },
     ghost loaded: { count ≤ 8 * at },
-    ghost few: { count ≤ 64 },
-    ghost ahead: { number_bits 64 pending
-        ≡ take count (drop (8 * at - count) (bits_of code.now)) ++ replicate (64 - count) false },
+    ghost few: { count < 64 },
+    ghost ahead: { ∥ IsAhead count pending (drop (8 * at - count) (bits_of code.now)) ∥₁ },
 }
 
 impl<'a> BitReader<'a> {
     ghost use Rattle.fz_bits.specs.Bits.{number_bits, bits_of};
-    ghost use Rattle.fz_bits.specs.Reader.{left, place, IsUnmoved, HasZeros, IsZeros};
+    ghost use Rattle.fz_bits.specs.Reader.{left, place, ready, IsUnmoved, HasZeros, IsZeros};
 
     /// All bits of `code` are left.
     pub fn new(code: &'a [u8]) -> BitReader<'a>
@@ -108,12 +109,47 @@ impl<'a> BitReader<'a> {
         Ok(zeros)
     }
 
+    /// Loads the next bits, and answers whether 56 of them are ready now. They are where eight bytes are
+    /// left behind those that were loaded before.
+    #[inline]
+    #[tactic(auto, using(crate::proofs::ReaderLemmas::lengths))]
+    pub fn load_word(&mut self) -> bool
+        ensures unmoved { IsUnmoved self.old self.new }
+        ensures ready { IsTrue result → 56 ≤ ready self.new }
+    {
+        if self.code.len() - self.at < 8 {
+            return false;
+        }
+        self.append_word();
+        true
+    }
+
+    /// A number of 64 bits that begins with those that are ready.
+    #[inline]
+    pub fn word(&self) -> u64
+        ensures { take (ready self.now) (number_bits 64 result)
+            ≡ take (ready self.now) (left self.now) }
+    {
+        self.pending
+    }
+
+    /// How many of the bits that are left are ready, that is, loaded.
+    #[inline]
+    #[tactic(auto, using(crate::proofs::ReaderLemmas::lengths))]
+    pub fn ready(&self) -> u32
+        ensures ready { result ≡ ready self.now }
+        ensures few { result < 64 }
+        ensures within { result ≤ length (left self.now) }
+    {
+        self.count
+    }
+
     /// `zeros` where all pending bits are zeros.
     #[cold]
     #[inline(never)]
     #[tactic(auto, using(crate::proofs::ReaderLemmas::lengths))]
     fn zeros_ahead(&mut self, max: u32) -> Result<u32, ZeroStop>
-        requires { self.old.pending ≡ 0 }
+        requires { self.old.count ≤ count_leading_zeros 64 self.old.pending }
         ensures bits { IfOk result (λ n. left self.old ≡ replicate n false ++ true ∷ left self.new) }
         ensures most { IfOk result (λ n. n ≤ max) }
         ensures place { IfOk result (λ n. place self.new ≡ place self.old + n + 1) }
@@ -141,15 +177,14 @@ impl<'a> BitReader<'a> {
         Ok(zeros as u32)
     }
 
-    /// Passes over pending bits.
+    /// Passes over bits that are ready.
     #[inline]
     #[tactic(auto, using(crate::proofs::ReaderLemmas::lengths))]
-    fn skip(&mut self, bits: u32)
-        requires few { bits < 64 }
-        requires pending { bits ≤ self.old.count }
+    pub fn skip(&mut self, bits: u32)
+        requires { bits ≤ ready self.old }
         ensures left { left self.new ≡ drop bits (left self.old) }
         ensures place { place self.new ≡ place self.old + bits }
-        ensures count { self.new.count ≡ self.old.count - bits }
+        ensures ready { ready self.new ≡ ready self.old - bits }
     {
         self.pending = behind(self.pending, bits);
         self.count -= bits;
@@ -178,22 +213,63 @@ impl<'a> BitReader<'a> {
         }
     }
 
-    /// Loads the next bits, so that 57 are pending or none is left in the slice.
+    /// Loads the next bits, so that 49 are pending or none is left in the slice.
     #[inline]
-    #[tactic(auto, using(crate::proofs::ReaderLemmas::lengths))]
     fn refill(&mut self)
         ensures unmoved { IsUnmoved self.old self.new }
-        ensures end { self.new.count < 57 → self.new.at ≡ length self.new.code.now }
+        ensures end { self.new.count < 49 → self.new.at ≡ length self.new.code.now }
+    {
+        if self.code.len() - self.at >= 8 {
+            self.append_word();
+        } else {
+            *self = self.refilled_near_end();
+        }
+    }
+
+    /// Loads the next bits, so that 56 are pending.
+    #[inline]
+    #[tactic(auto, using(crate::proofs::ReaderLemmas::lengths))]
+    fn append_word(&mut self)
+        requires { self.old.at + 8 ≤ length self.old.code.now }
+        ensures unmoved { IsUnmoved self.old self.new }
+        ensures count { 56 ≤ self.new.count }
+    {
+        // Bits that were pending behind the `count` ones come once more.
+        self.pending |= word_at(self.code, self.at) >> self.count;
+        self.at += ((63 - self.count) / 8) as usize;
+        self.count = self.count % 8 + 56;
+    }
+
+    /// `refill` where fewer than eight bytes are left behind the loaded ones.
+    #[cold]
+    #[inline(never)]
+    #[tactic(auto, using(crate::proofs::ReaderLemmas::lengths))]
+    fn refilled_near_end(self) -> BitReader<'a>
+        ensures unmoved { IsUnmoved self.entry result }
+        ensures end { result.count < 49 → result.at ≡ length result.code.now }
     {
         let place = self.place();
         let from = (place / 8) as usize;
         if self.code.len() - from >= 8 {
-            let read = (place % 8) as u32;
-            self.pending = behind(word_at(self.code, from), read);
-            self.at = from + 8;
-            self.count = 64 - read;
+            self.at_word(from)
         } else {
-            *self = self.at_last_word();
+            self.at_last_word()
+        }
+    }
+
+    /// The reader with the eight bytes from `from` on, where the next bit is.
+    fn at_word(self, from: usize) -> BitReader<'a>
+        requires from { from ≡ place self / 8 }
+        requires whole { from + 8 ≤ length self.code.now }
+        ensures unmoved { IsUnmoved self.entry result }
+        ensures count { 49 ≤ result.count }
+    {
+        let read = (self.place() % 8) as u32;
+        BitReader {
+            code: self.code,
+            at: from + 7,
+            pending: behind(word_at(self.code, from), read),
+            count: 56 - read,
         }
     }
 

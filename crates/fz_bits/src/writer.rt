@@ -69,7 +69,8 @@ impl<'a> BitWriter<'a> {
         ensures err { OnErr result (written self.new ≡ written self.old) }
         ensures behind { SameBehind (length (written self.new)) (buffer self.old) (buffer self.new) }
     {
-        if !self.has_room(u64::from(width)) {
+        // With 16 bytes free there is room for 63 pending bits and as many more.
+        if self.out.len() - self.at < 16 && !self.has_room(u64::from(width)) {
             return Err(Full);
         }
         self.push(value, width);
@@ -132,7 +133,8 @@ impl<'a> BitWriter<'a> {
     }
 
     /// Whether `bits` more bits fit into the slice.
-    #[inline]
+    #[cold]
+    #[inline(never)]
     #[tactic(auto, using(crate::proofs::WriterLemmas::lengths))]
     fn has_room(&self, bits: u64) -> bool
         requires { bits ≤ 2 ^ 32 }

@@ -6,14 +6,15 @@ use Rattle.std.proofs.lemmas.Nat.{pow_pos, pow-add}
 use Rattle.std.proofs.lemmas.List.{length-take-le, length-replicate, take-append-drop, take-append-le, take_at, drop_at}
 use Rattle.std.proofs.Math.Seq.{take-append-add}
 use Rattle.std.proofs.lemmas.Bool.Decides.{nat_tests}
-use Rattle.fz_bits.specs.Bits.{number_bits}
+use Rattle.fz_bits.specs.Bits.{number_bits, bits_value}
+use Rattle.fz_bits.proofs.BytesLemmas.{number_bits-bits_value, bits_value-append, bits_value-number_bits}
 use Rattle.fz_bits.proofs.BitsLemmas.{length-number_bits, number_bits-joined, number_bits-zero}
-use Rattle.fz_rice.specs.Reading.{bits_value, number_at, split_at, many_at, id_at, values_at, block_at}
+use Rattle.fz_rice.specs.Reading.{number_at, split_at, many_at, id_at, values_at, block_at}
 use Rattle.fz_rice.specs.Numbers.{IsWidth}
 use Rattle.fz_rice.specs.Code.{row, split_bits, values_bits, block_bits, CanHold}
 use Rattle.fz_rice.specs.declared.coder.CodeFault.TheVariants.{Ended, Unlawful}
 use Rattle.fz_rice.proofs.Readers.{IsReader, SeqCodes, seq_reader, same_reader, same_read, ok_parts}
-use Rattle.fz_rice.proofs.FieldReaders.{lt-true, lt-false, number_bits-bits_value, bits_value-append, bits_value-number_bits, number_reader}
+use Rattle.fz_rice.proofs.FieldReaders.{lt-true, lt-false, number_reader}
 use Rattle.fz_rice.proofs.ValueReaders.{split_reader, ManyCodes, many_reader}
 
 abbrev pub IdCodes : ℕ → ℕ → ℕ → List Bool → Type 0

@@ -6,9 +6,10 @@ use Rattle.std.proofs.lemmas.Bool.{cases_lt}
 use Rattle.std.proofs.lemmas.Nat.{pow_pos, pow-add}
 use Rattle.std.proofs.lemmas.List.{length-take-le, length-replicate, take-append-drop, take_at, drop_at}
 use Rattle.std.proofs.lemmas.Bool.Decides.{nat_tests}
-use Rattle.fz_bits.specs.Bits.{last_bit, number_bits}
-use Rattle.fz_bits.proofs.BitsLemmas.{length-number_bits, number_bits-joined}
-use Rattle.fz_rice.specs.Reading.{reading_map, bit, bits_value, number_at, zeros_at}
+use Rattle.fz_bits.specs.Bits.{number_bits, bits_value}
+use Rattle.fz_bits.proofs.BitsLemmas.{length-number_bits}
+use Rattle.fz_bits.proofs.BytesLemmas.{bits_value-lt, number_bits-bits_value, bits_value-number_bits}
+use Rattle.fz_rice.specs.Reading.{reading_map, number_at, zeros_at}
 use Rattle.fz_rice.specs.declared.coder.CodeFault.TheVariants.{Ended, Unlawful}
 use Rattle.fz_rice.proofs.Readers.{reading_map-ok, reading_map-err, IsReader, ok_parts}
 
@@ -18,63 +19,6 @@ lt-true a b h = grind (arith, nat_tests)
 
 pub lt-false : (a b : ℕ) → b ≤ a → nat_lt a b ≡ false
 lt-false a b h = grind (arith, nat_tests)
-
-bit_lt : (b : Bool) → bit b < 2
-unfolding bit
-bit_lt true = omega arith
-bit_lt false = omega arith
-
-times_bit : (b : Bool) (n : ℕ) → bit b * n ≤ n
-unfolding bit
-times_bit true n = omega arith
-times_bit false n = omega arith
-
-pub bits_value-lt : (bits : List Bool) → bits_value bits < 2 ^ length bits
-unfolding bits_value
-bits_value-lt [] = omega arith
-bits_value-lt (b ∷ bits) =
-    let below = bits_value-lt bits in
-    let twice : 2 ^ suc (length bits) ≡ 2 ^ length bits * 2 = pow-suc 2 (length bits) in
-    let most : bit b * 2 ^ length bits ≤ 2 ^ length bits = times_bit b (2 ^ length bits) in
-    omega arith
-
-number_bits-bit : (b : Bool) → number_bits 1 (bit b) ≡ b ∷ []
-unfolding number_bits bit
-number_bits-bit true = refl
-number_bits-bit false = refl
-
-pub number_bits-bits_value : (bits : List Bool) → number_bits (length bits) (bits_value bits) ≡ bits
-unfolding bits_value number_bits
-number_bits-bits_value [] = refl
-number_bits-bits_value (b ∷ bits) =
-    ap (λ k. number_bits k (bits_value (b ∷ bits))) (sym (one-add (length bits))) ∙ number_bits-joined 1 (length bits) (bit b) (bits_value bits) (bits_value-lt bits) ∙ ap (λ front. front ++ number_bits (length bits) (bits_value bits)) (number_bits-bit b) ∙ ap (λ back. b ∷ back) (number_bits-bits_value bits)
-
-regroup : (b x y u v : ℕ) → b * (x * y) + (u * y + v) ≡ (b * x + u) * y + v
-regroup b x y u v = omega arith
-
--- bits behind bits
-pub bits_value-append : (xs ys : List Bool) → bits_value (xs ++ ys) ≡ bits_value xs * 2 ^ length ys + bits_value ys
-unfolding bits_value
-bits_value-append [] ys = omega arith
-bits_value-append (b ∷ xs) ys =
-    let power : 2 ^ length (xs ++ ys) ≡ 2 ^ length xs * 2 ^ length ys = ap (λ k. 2 ^ k) (length-append xs ys) ∙ pow-add 2 (length xs) (length ys) in
-    ap (λ k. bit b * k + bits_value (xs ++ ys)) power ∙ ap (λ k. bit b * (2 ^ length xs * 2 ^ length ys) + k) (bits_value-append xs ys) ∙ regroup (bit b) (2 ^ length xs) (2 ^ length ys) (bits_value xs) (bits_value ys)
-
-bit-last : (v : ℕ) → bit (last_bit v) ≡ v % 2
-unfolding bit
-bit-last v =
-    elim (cases_lt (v % 2) 1) [
-      | inl h ↦ let e : v % 2 ≡ 0 = omega arith in ap (λ k. bit (k == 1)) e ∙ sym e
-      | inr h ↦ let e : v % 2 ≡ 1 = omega arith in ap (λ k. bit (k == 1)) e ∙ sym e
-    ]
-
-pub bits_value-number_bits : (m v : ℕ) → v < 2 ^ m → bits_value (number_bits m v) ≡ v
-unfolding bits_value number_bits
-bits_value-number_bits zero v h = omega arith
-bits_value-number_bits (suc m) v h =
-    let twice : 2 ^ suc m ≡ 2 ^ m * 2 = pow-suc 2 m in
-    let half : v / 2 < 2 ^ m = omega arith in
-    bits_value-append (number_bits m (v / 2)) (last_bit v ∷ []) ∙ ap (λ k. k * 2 + bits_value (last_bit v ∷ [])) (bits_value-number_bits m (v / 2) half) ∙ omega (arith, bit-last v)
 
 abbrev pub NumberCodes : ℕ → ℕ → List Bool → Type 0
 NumberCodes m v code = (v < 2 ^ m) × (code ≡ number_bits m v)

@@ -3,12 +3,13 @@ use Rattle.std.proofs.Common.{◌≡◌, ℕ, ◌+◌, ◌-◌, ◌*◌, ◌%◌
 use Rattle.std.proofs.lemmas.Nat.{or_shifted}
 use Rattle.std.proofs.lemmas.List.{append-nil, take-append-drop, length-replicate, nil_from_length, take_at}
 use Rattle.std.proofs.Math.Nat.{pow-le-pow_right, mod-eq_of_lt}
-use Rattle.fz_bits.specs.Bits.{number_bits}
+use Rattle.fz_bits.specs.Bits.{number_bits, bits_value}
+use Rattle.fz_bits.proofs.BytesLemmas.{bits_value-number_bits}
 use Rattle.fz_bits.specs.Reader.{HasZeros, IsZeros}
 use Rattle.fz_bits.proofs.BitsLemmas.{length-number_bits}
-use Rattle.fz_rice.specs.Reading.{and_then, reading_map, bits_value, number_at, id_at, zeros_at, most_zeros, split_at}
+use Rattle.fz_rice.specs.Reading.{and_then, reading_map, number_at, id_at, zeros_at, most_zeros, split_at}
 use Rattle.fz_rice.specs.declared.coder.CodeFault.TheVariants.{Ended, Unlawful}
-use Rattle.fz_rice.proofs.FieldReaders.{bits_value-number_bits, number_at-number, zeros_at-run, zeros_at-long, zeros_at-all}
+use Rattle.fz_rice.proofs.FieldReaders.{number_at-number, zeros_at-run, zeros_at-long, zeros_at-all}
 use Rattle.fz_rice.proofs.BlockReaders.{id_at-id, id_at-high}
 use Rattle.fz_rice.proofs.ValueReaders.{value_lt}
 

@@ -7,9 +7,12 @@ pub mod CodeReaders
 pub mod MachineLemmas
 pub mod LeafLemmas
 pub mod HalfwayLemmas
+pub mod SeveralLemmas
 pub mod DecodeLemmas
 pub mod WritesLemmas
+pub mod FieldsLemmas
 pub mod ProducerLemmas
 pub mod BlocksLemmas
 pub mod EncodeLemmas
 pub mod LawLemmas
+pub mod ReadingLemmas

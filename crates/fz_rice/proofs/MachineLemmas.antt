@@ -38,7 +38,7 @@ word_turns w h =
 expand : (t q n : ℕ) → (t + 1 + q) * n ≡ t * n + n + q * n
 expand t q n = omega arith
 
-one_turn : (a b : ℕ) → 0 < a → a * b ≡ (a - 1) * b + b
+pub one_turn : (a b : ℕ) → 0 < a → a * b ≡ (a - 1) * b + b
 one_turn a b h =
     let e : a ≡ a - 1 + 1 + 0 = omega arith in
     ap (λ k. k * b) e ∙ expand (a - 1) 0 b ∙ omega arith

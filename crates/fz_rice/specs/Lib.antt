@@ -2,5 +2,6 @@ pub mod Numbers
 pub mod Code
 pub mod Producer
 pub mod Prefix
+pub mod Laws
 pub mod Reading
 pub mod Writing

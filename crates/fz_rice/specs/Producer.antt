@@ -1,8 +1,8 @@
--- The code that is written: the first number as the start value, and for each block the id below. Both
--- are this profile's own choice, and reading does not depend on it.
+-- The code that is written: the first number as the start value, and for each block the id below. The
+-- standard leaves both to the writer, and reading does not depend on them.
 use Rattle.std.specs.Prelude.{ℕ, zero, suc, ◌+◌, ◌-◌, ◌/◌, ◌==◌, nat_lt, Bool, ℤ, List, [], ◌∷◌, ◌++◌, length, sum, if◌then◌else◌}
 use Rattle.std.specs.List.{flat_map}
-use Rattle.fz_bits.specs.Bits.{number_bits, filled}
+use Rattle.fz_bits.specs.Bits.{number_bits, filled, bytes_of}
 use Rattle.fz_rice.specs.Numbers.{residue}
 use Rattle.fz_rice.specs.Code.{row, differences, block_bits, pieces}
 
@@ -15,7 +15,8 @@ halvings (suc n) q = if q == 0 then 0 else halvings n (q / 2) + 1
 abbrev pub binary_len : ℕ → ℕ
 binary_len q = halvings q q
 
--- the k of a block of so many values with this sum: about the binary logarithm of half their mean
+-- the k of a block of so many values with this sum: about the binary logarithm of half their mean; a sum
+-- of at most count / 2 + 1 counts as that many, so that k is 0
 abbrev pub chosen_k : ℕ → ℕ → ℕ
 chosen_k count total = binary_len ((total - count / 2 - 1) / count / 2)
 
@@ -38,3 +39,7 @@ rice_bits w block xs = number_bits w (first_residue w xs) ++ flat_map (chosen_bl
 -- the code, filled with zeros to whole bytes
 abbrev pub rice_code : ℕ → ℕ → List ℤ → List Bool
 rice_code w block xs = filled (rice_bits w block xs)
+
+-- the bytes of the code
+abbrev pub rice_bytes : ℕ → ℕ → List ℤ → List ℕ
+rice_bytes w block xs = bytes_of (rice_code w block xs)

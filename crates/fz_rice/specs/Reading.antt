@@ -1,5 +1,6 @@
 -- The code read from a list of bits, bit by bit: the plain program beside the relation.
-use Rattle.std.specs.Prelude.{ℕ, zero, suc, ◌+◌, ◌-◌, ◌*◌, ◌/◌, ◌%◌, ◌^◌, ◌==◌, nat_lt, min, Bool, true, false, ℤ, pos, negsuc, List, [], ◌∷◌, ◌++◌, length, take, drop, replicate, Result, Ok, Err, if◌then◌else◌, MatchResult, ◌≡◌}
+use Rattle.std.specs.Prelude.{ℕ, zero, suc, ◌+◌, ◌-◌, ◌*◌, ◌/◌, ◌%◌, ◌^◌, ◌<◌, ◌==◌, nat_lt, min, Bool, true, false, ℤ, pos, negsuc, List, [], ◌∷◌, ◌++◌, length, take, drop, replicate, Result, Ok, Err, if◌then◌else◌, MatchResult, ◌≡◌}
+use Rattle.fz_bits.specs.Bits.{bits_value, number_bits}
 use Rattle.fz_bits.specs.Reader.{left, place}
 use Rattle.fz_bits.specs.declared.reader.BitReader.{BitReader}
 use Rattle.fz_rice.specs.Code.{row}
@@ -19,15 +20,6 @@ and_then (Err e) next = Err e
 abbrev pub reading_map : {A B : Type 0} → (A → B) → Reading A → Reading B
 reading_map h (Ok p) = Ok (h p.0, p.1)
 reading_map h (Err e) = Err e
-
-unfoldable pub bit : Bool → ℕ
-bit true = 1
-bit false = 0
-
--- the number of bits, the most significant first
-unfoldable pub bits_value : List Bool → ℕ
-bits_value [] = 0
-bits_value (b ∷ bits) = bit b * 2 ^ length bits + bits_value bits
 
 -- a number of m bits
 abbrev pub number_at : ℕ → List Bool → Reading ℕ
@@ -120,3 +112,29 @@ ReadsAll w start read numbers result rest = MatchResult result (λ _. (last : �
 -- the bits read and the bits that are left
 abbrev pub bit_count : BitReader → ℕ
 bit_count r = place r + length (left r)
+
+-- at the top of a word of 64 bits stand zeros, a one and k bits, and `rest` is the word without them
+pub record IsPiece (k word value width rest : ℕ) : Type 0 where
+  pub zeros : ℕ
+  pub low : ℕ
+  pub size : width ≡ zeros + (k + 1)
+  pub fits : low < 2 ^ k
+  pub front : take width (number_bits 64 word) ≡ replicate zeros false ++ true ∷ number_bits k low
+  pub behind : number_bits 64 rest ≡ drop width (number_bits 64 word) ++ replicate width false
+  pub exact : zeros * 2 ^ k + low < 2 ^ 32 → value ≡ zeros * 2 ^ k + low
+
+-- four values that were read one after another
+pub record ReadsFour (read : List Bool → Reading ℕ) (a b c d : ℕ) (bits rest : List Bool) : Type 0 where
+  pub second : List Bool
+  pub third : List Bool
+  pub fourth : List Bool
+  pub a_is : read bits ≡ Ok (a, second)
+  pub b_is : read second ≡ Ok (b, third)
+  pub c_is : read third ≡ Ok (c, fourth)
+  pub d_is : read fourth ≡ Ok (d, rest)
+
+-- the same of two values
+pub record ReadsTwo (read : List Bool → Reading ℕ) (a b : ℕ) (bits rest : List Bool) : Type 0 where
+  pub second : List Bool
+  pub a_is : read bits ≡ Ok (a, second)
+  pub b_is : read second ≡ Ok (b, rest)

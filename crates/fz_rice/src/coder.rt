@@ -4,7 +4,7 @@
 ghost use Rattle.std.specs.Prelude.{◌≡◌, ℕ, ◌+◌, ◌-◌, ◌*◌, ◌/◌, ◌%◌, ◌^◌, ◌<◌, ◌≤◌, ◌↔◌, ℤ, List, ◌++◌, length, take, All, IsOk, IsErr, IsErrOf, IfOk};
 ghost use Rattle.fz_bits.specs.Bits.{bits_of};
 ghost use Rattle.fz_rice.specs.Numbers.{IsWidth, IsNumber};
-ghost use Rattle.fz_rice.specs.Producer.{rice_code};
+ghost use Rattle.fz_rice.specs.Producer.{rice_bytes};
 ghost use Rattle.fz_rice.specs.Prefix.{BeginsWith, BeginsWithCode, IsBeginning};
 
 use crate::decode::{read_blocks, read_number};
@@ -33,10 +33,8 @@ impl<const W: u32> Coder<W> {
         requires numbers { All (IsNumber W) numbers.now }
         requires block { (1 ≤ block) × (block ≤ 32767) }
         ensures within { IfOk result (λ len. len ≤ length out.new) }
-        ensures code { IfOk result
-            (λ len. bits_of (take len out.new) ≡ rice_code W block numbers.now) }
-        ensures full { IsErr result
-            ↔ (8 * length out.old < length (rice_code W block numbers.now)) }
+        ensures code { IfOk result (λ len. take len out.new ≡ rice_bytes W block numbers.now) }
+        ensures full { IsErr result ↔ (length out.old < length (rice_bytes W block numbers.now)) }
     {
         let start = residue::<W>(numbers[0]);
         let mut writer = BitWriter::new(out);

@@ -10,6 +10,7 @@ ghost use Rattle.fz_rice.specs.Producer.{chosen_id, chosen_block};
 ghost use Rattle.fz_rice.specs.Writing.{Writes};
 
 use crate::fields::Field;
+use crate::full_block::write_full_block;
 use crate::numbers::{id_len, mapped, raw_id, residue};
 use fz_bits::{BitWriter, Full};
 
@@ -46,6 +47,9 @@ fn write_block<const W: u32>(writer: &mut BitWriter, last: u32, numbers: &[i32])
     requires few { length numbers.now ≤ 32767 }
     ensures { Writes result (chosen_block W (differences W last numbers.now)) writer.old writer.new }
 {
+    if numbers.len() == 32 {
+        return write_full_block::<W>(writer, last, numbers);
+    }
     let id = chosen_id::<W>(total::<W>(last, numbers), numbers.len() as u32);
     writer.put(id, id_len::<W>())?;
     if id == 0 {
@@ -75,7 +79,8 @@ fn total<const W: u32>(start: u32, numbers: &[i32]) -> u64
 }
 
 /// The id of a block of so many mapped differences with this sum.
-fn chosen_id<const W: u32>(total: u64, count: u32) -> u32
+#[inline]
+pub fn chosen_id<const W: u32>(total: u64, count: u32) -> u32
     requires width { IsWidth W }
     requires some { 0 < count }
     ensures { result ≡ chosen_id W count total }
@@ -90,7 +95,11 @@ fn chosen_id<const W: u32>(total: u64, count: u32) -> u32
 }
 
 /// Writes each mapped difference in `W` bits.
-fn write_raw<const W: u32>(writer: &mut BitWriter, start: u32, numbers: &[i32]) -> Result<(), Full>
+pub fn write_raw<const W: u32>(
+    writer: &mut BitWriter,
+    start: u32,
+    numbers: &[i32],
+) -> Result<(), Full>
     requires width { IsWidth W }
     requires start { start < 2 ^ W }
     ensures { Writes result (flat_map (number_bits W) (differences W start numbers.now))
@@ -179,7 +188,7 @@ fn write_each<const W: u32>(
 
 /// Writes a value as `value >> k` zeros, a one, and the last `k` bits.
 #[inline]
-fn write_value(writer: &mut BitWriter, k: u32, value: u32) -> Result<(), Full>
+pub fn write_value(writer: &mut BitWriter, k: u32, value: u32) -> Result<(), Full>
     requires { k < 32 }
     ensures { Writes result (split_bits k value) writer.old writer.new }
 {

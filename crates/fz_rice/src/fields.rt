@@ -65,4 +65,39 @@ impl Field {
         let back = Field::of_value(k, back.0).joined(Field::of_value(k, back.1));
         Some(front.joined(back))
     }
+
+    /// The bits of four fields, one behind another, `None` where they are more than 63.
+    #[inline]
+    pub fn of_fields(bits: (u32, u32, u32, u32), widths: (u32, u32, u32, u32)) -> Option<Field>
+        requires few { widths.0 + widths.1 + widths.2 + widths.3 < 2 ^ 32 }
+        requires first { bits.0 < 2 ^ widths.0 }
+        requires second { bits.1 < 2 ^ widths.1 }
+        requires third { bits.2 < 2 ^ widths.2 }
+        requires fourth { bits.3 < 2 ^ widths.3 }
+        ensures bits { IfSome result (λ field. number_bits field.width field.bits
+            ≡ number_bits widths.0 bits.0 ++ (number_bits widths.1 bits.1
+            ++ (number_bits widths.2 bits.2 ++ number_bits widths.3 bits.3))) }
+        ensures few { IfSome result (λ _. widths.0 + widths.1 + widths.2 + widths.3 < 64) }
+    {
+        if widths.0 + widths.1 + widths.2 + widths.3 >= 64 {
+            return None;
+        }
+        let front = Field::of_bits(bits.0, widths.0).joined(Field::of_bits(bits.1, widths.1));
+        let back = Field::of_bits(bits.2, widths.2).joined(Field::of_bits(bits.3, widths.3));
+        Some(front.joined(back))
+    }
+
+    /// The `width` bits of a number.
+    #[inline]
+    fn of_bits(bits: u32, width: u32) -> Field
+        requires few { width < 64 }
+        requires fits { bits < 2 ^ width }
+        ensures bits { result.bits ≡ bits }
+        ensures width { result.width ≡ width }
+    {
+        Field {
+            bits: u64::from(bits),
+            width,
+        }
+    }
 }

@@ -4,8 +4,9 @@
 ghost use Rattle.std.specs.Prelude.{◌≡◌, ℕ, ◌+◌, ◌/◌, ◌<◌, ◌≤◌, Bool, ℤ, List, [], ◌++◌, length, All};
 ghost use Rattle.fz_rice.specs.Numbers.{IsWidth, IsNumber};
 ghost use Rattle.fz_rice.specs.Code.{IsRiceCode};
-ghost use Rattle.fz_rice.specs.Producer.{rice_bits, rice_code};
+ghost use Rattle.fz_rice.specs.Producer.{rice_code};
 ghost use Rattle.fz_rice.specs.Prefix.{BeginsWith};
+ghost use Rattle.fz_rice.specs.Laws.{IsItsCode, HasOneReading, IsNoBeginning, HasSomeAnswer, HasCodeBits, HasCodeBytes};
 
 /// No code of so many numbers is a proper prefix of another one, and a code has one list of them.
 pub fn one_code_law()
@@ -14,11 +15,11 @@ pub fn one_code_law()
         → (xs ≡ ys) × (rest ≡ []) }
 {}
 
-/// What `encode` writes is a code of the numbers, and zeros behind it.
+/// What `encode` writes is a code of the numbers, and zeros behind it, in some whole bytes.
 pub fn producer_law()
-    ensures { (w block : ℕ) (xs : List ℤ) → IsWidth w → 1 ≤ block → All (IsNumber w) xs
-        → IsRiceCode w block xs (rice_bits w block xs)
-        × ((fill : List Bool) × (rice_code w block xs ≡ rice_bits w block xs ++ fill)) }
+    ensures code { IsItsCode }
+    ensures bits { HasCodeBits }
+    ensures some { HasCodeBytes }
 {}
 
 /// Numbers that are read from what `encode` wrote, with any bits behind it, are the numbers again.
@@ -27,4 +28,11 @@ pub fn round_trip_law()
         → All (IsNumber w) xs → length ys ≡ length xs
         → BeginsWith w block ys bytes (rice_code w block xs ++ rest)
         → (ys ≡ xs) × (bytes ≡ length (rice_code w block xs) / 8) }
+{}
+
+/// Bits begin with at most one code of so many numbers, or are a proper prefix of one, or neither; not both.
+pub fn reading_law()
+    ensures one { HasOneReading }
+    ensures none { IsNoBeginning }
+    ensures some { HasSomeAnswer }
 {}

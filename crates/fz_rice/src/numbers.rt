@@ -76,11 +76,12 @@ pub fn mapped<const W: u32>(last: u32, next: u32) -> u32
     requires next { next < 2 ^ W }
     ensures { result ≡ mapped W (difference W last next) }
 {
-    let difference = next.wrapping_sub(last) & greatest::<W>();
-    if difference <= greatest::<W>() >> 1 {
-        2 * difference
+    let top = (next.wrapping_sub(last) << (32 - W)).cast_signed();
+    let twice = if W == 32 { top << 1 } else { top >> (31 - W) };
+    if top < 0 {
+        (!twice).cast_unsigned()
     } else {
-        2 * (greatest::<W>() - difference) + 1
+        twice.cast_unsigned()
     }
 }
 

@@ -3,7 +3,7 @@ ghost use Rattle.std.specs.Prelude.{◌≡◌, ℕ, ◌<◌, ◌≤◌, length, 
 ghost use Rattle.fz_rice.specs.Numbers.{IsWidth, IsNumber};
 
 use crate::numbers::{number, residue};
-use crate::{CodeFault, Coder};
+use crate::{CodeFault, Coder, one_code_law, producer_law, reading_law, round_trip_law};
 use fz_bits::Full;
 use std::alloc::{AllocError, Global};
 use std::process::Abort;
@@ -28,9 +28,9 @@ fn expect_code<const W: u32>(rt: &impl Abort, numbers: &[i32], code: &[u8])
     requires some { 0 < length numbers.now }
     requires numbers { All (IsNumber W) numbers.now }
 {
-    let mut out = [0u8; 8];
+    let mut out = [0u8; 16];
     assert_eq!(rt; Coder::<W>::encode(numbers, 32, &mut out), Ok(code.len()));
-    assert!(rt; code.len() <= 8);
+    assert!(rt; code.len() <= 16);
     assert_eq!(rt; &out[..code.len()], code);
 }
 
@@ -59,6 +59,33 @@ fn codes_of_32_bits(rt: HostRuntime) {
         &[0x00, 0x00, 0x03, 0xe8, 0x0e, 0x04],
     );
     expect_code::<32>(&rt, &[5, 5, 5, 5], &[0x00, 0x00, 0x00, 0x05, 0x00]);
+}
+
+/// The greatest k of each width, and the least sum that is raw.
+#[test]
+fn greatest_k(rt: HostRuntime) {
+    expect_code::<8>(&rt, &[0, 191], &[0x00, 0xd0, 0x04, 0x20]);
+    expect_code::<8>(&rt, &[0, 65], &[0x00, 0xe0, 0x10, 0x40]);
+    let code = [0x00, 0x00, 0xe8, 0x00, 0x02, 0x00, 0x10];
+    expect_code::<16>(&rt, &[0, -16385], &code);
+    let code = [0x00, 0x00, 0xf0, 0x00, 0x08, 0x00, 0x20];
+    expect_code::<16>(&rt, &[0, 16385], &code);
+    let code = [
+        0x00, 0x00, 0x00, 0x00, 0xcc, 0x00, 0x00, 0x00, 0x20, 0x00, 0x00, 0x20,
+    ];
+    expect_code::<32>(&rt, &[0, -33_554_433], &code);
+    let code = [
+        0x00, 0x00, 0x00, 0x00, 0xd0, 0x00, 0x00, 0x00, 0x00, 0x20, 0x00, 0x00, 0x10,
+    ];
+    expect_code::<32>(&rt, &[0, 33_554_433], &code);
+}
+
+#[test]
+fn laws() {
+    one_code_law();
+    producer_law();
+    reading_law();
+    round_trip_law();
 }
 
 #[test]

@@ -1,10 +1,9 @@
 use Rattle.std.proofs.Common.{◌≡◌, ℕ, ◌-◌, ◌*◌, ◌^◌, ◌<◌, ◌≤◌, Bool, List, [], ◌++◌, length, sym, subst, arith}
 use Rattle.std.proofs.lemmas.Nat.{shl_whole}
 use Rattle.std.proofs.lemmas.List.{nil_from_length}
-use Rattle.fz_bits.specs.Bits.{number_bits}
+use Rattle.fz_bits.specs.Bits.{number_bits, bits_value}
 use Rattle.fz_bits.specs.Reader.{left}
 use Rattle.fz_rice.specs.Code.{row}
-use Rattle.fz_rice.specs.Reading.{bits_value}
 use Rattle.fz_rice.proofs.BlockReaders.{id_at-cut, id_at-cut_high, id_len_le}
 use Rattle.fz_rice.proofs.LeafLemmas.{cut_value}
 use Rattle.fz_rice.proofs.decode.cut_id.Goals as goal

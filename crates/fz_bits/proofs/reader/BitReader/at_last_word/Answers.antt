@@ -1,7 +1,7 @@
 use Rattle.std.proofs.Common.{◌≡◌, ◌+◌, ◌-◌, ◌*◌, ◌/◌, ◌%◌, ◌≤◌, ◌++◌, false, length, take, drop, replicate, ap, sym, ◌∙◌, arith, length-take, length-drop}
 use Rattle.fz_bits.specs.Bits.{bits_of}
 use Rattle.fz_bits.specs.Reader.{left}
-use Rattle.fz_bits.proofs.ReaderLemmas.{loaded}
+use Rattle.fz_bits.proofs.ReaderLemmas.{loaded, ahead_loaded}
 use Rattle.fz_bits.proofs.reader.BitReader.at_last_word.Goals as goal
 
 pub invariant_of-result : goal.invariant_of-result
@@ -23,7 +23,7 @@ invariant_of-result c =
       within = omega arith;
       loaded = omega (arith, within);
       few = omega (arith, size, c.requires, c.place-place.ensures);
-      ahead = loaded code from read n c.last_word.result c.behind.result within (omega (arith, size, c.requires, c.place-place.ensures)) few is c.behind.ensures ∙ ap (λ k. take (8 * n - read) (drop k (bits_of code)) ++ replicate (64 - (8 * n - read)) false) e;
+      ahead = ∣ ahead_loaded (8 * n - read) (8 * n - read) c.behind.result _ (omega arith) (omega (arith, size, c.requires, c.place-place.ensures)) (loaded code from read n c.last_word.result c.behind.result within (omega (arith, size, c.requires, c.place-place.ensures)) few is c.behind.ensures ∙ ap (λ k. take (8 * n - read) (drop k (bits_of code)) ++ replicate (64 - (8 * n - read)) false) e) ∣₁;
     }
 
 pub returns-clause-unmoved : goal.returns-clause-unmoved

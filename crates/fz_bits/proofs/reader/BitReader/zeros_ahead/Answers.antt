@@ -6,7 +6,7 @@ use Rattle.std.proofs.lemmas.List.{length-replicate, drop-drop}
 use Rattle.fz_bits.specs.Bits.{number_bits, bits_of}
 use Rattle.fz_bits.specs.Reader.{left, HasZeros, IsZeros}
 use Rattle.fz_bits.proofs.BitsLemmas.{number_bits-zero}
-use Rattle.fz_bits.proofs.ReaderLemmas.{behind_one, byte_pending, rest_is, left_zeros, left_ahead, HasZeros-long, HasZeros-all, not_HasZeros-all, not_HasZeros-one, IsZeros-all, not_IsZeros-one}
+use Rattle.fz_bits.proofs.ReaderLemmas.{ahead_loaded, behind_one, byte_pending, rest_is, left_zeros, left_ahead, HasZeros-long, HasZeros-all, not_HasZeros-all, not_HasZeros-one, IsZeros-all, not_IsZeros-one}
 use Rattle.fz_bits.proofs.reader.BitReader.zeros_ahead.Goals as goal
 
 pub returns-in_default-clause-too_many : goal.returns-in_default-clause-too_many
@@ -14,7 +14,7 @@ returns-in_default-clause-too_many c =
     let r = c.args.self.now in
     let max = c.args.max in
     let n = r.count + 8 * length (take (length r.code.now - r.at) (drop r.at r.code.now)) in
-    let is : left r ≡ replicate n false = left_zeros r c.requires c.in_default.ensures in
+    let is : left r ≡ replicate n false = left_zeros r (omega arith) c.requires c.in_default.ensures in
     let ends = c.stop_in_zeros.ensures.too_many in (
       λ e.
           let more = ends.0 cc in
@@ -30,7 +30,7 @@ returns-in_default-clause-ended c =
     let r = c.args.self.now in
     let max = c.args.max in
     let n = r.count + 8 * length (take (length r.code.now - r.at) (drop r.at r.code.now)) in
-    let is : left r ≡ replicate n false = left_zeros r c.requires c.in_default.ensures in
+    let is : left r ≡ replicate n false = left_zeros r (omega arith) c.requires c.in_default.ensures in
     let ends = c.stop_in_zeros.ensures.ended in (
       λ e.
           let few = ends.0 cc in
@@ -45,7 +45,7 @@ returns-then-zeros-from-clause-too_many c =
     let b = get_or (take (length r.code.now - r.at) (drop r.at r.code.now)) i 0 in
     let lead = count_leading_zeros 8 b in
     let rest = 7 - lead in
-    let is = left_ahead r i b c.requires c.in-Some.ensures.0 c.in-Some.ensures.1 refl (omega (arith, c.in-Some.ensures.2)) (omega arith) in
+    let is = left_ahead r i b (omega arith) c.requires c.in-Some.ensures.0 c.in-Some.ensures.1 refl (omega (arith, c.in-Some.ensures.2)) (omega arith) in
     let more : c.args.max < r.count + 8 * i + lead = omega (arith, c.from-3.ensures) in
     (λ _. subst (HasZeros c.args.max) (sym is) (HasZeros-long c.args.max (r.count + 8 * i + lead) (true ∷ (number_bits rest (b % 2 ^ rest) ++ bits_of (drop (r.at + i + 1) r.code.now))) more), λ _. refl)
 
@@ -56,7 +56,7 @@ returns-then-zeros-from-clause-ended c =
     let b = get_or (take (length r.code.now - r.at) (drop r.at r.code.now)) i 0 in
     let lead = count_leading_zeros 8 b in
     let rest = 7 - lead in
-    let is = left_ahead r i b c.requires c.in-Some.ensures.0 c.in-Some.ensures.1 refl (omega (arith, c.in-Some.ensures.2)) (omega arith) in
+    let is = left_ahead r i b (omega arith) c.requires c.in-Some.ensures.0 c.in-Some.ensures.1 refl (omega (arith, c.in-Some.ensures.2)) (omega arith) in
     (λ e. cc, λ z. absurd (not_IsZeros-one c.args.max (r.count + 8 * i + lead) (number_bits rest (b % 2 ^ rest) ++ bits_of (drop (r.at + i + 1) r.code.now)) (subst (IsZeros c.args.max) is z)))
 
 pub invariant_of-self : goal.invariant_of-self
@@ -66,11 +66,11 @@ invariant_of-self c =
       within = omega (arith, c.in-Some.ensures.0, length-take (length c.args.self.now.code.now - c.args.self.now.at) (drop c.args.self.now.at c.args.self.now.code.now), length-drop c.args.self.now.at c.args.self.now.code.now);
       loaded = omega arith;
       few = omega arith;
-      ahead = number_bits-zero 64;
+      ahead = ∣ ahead_loaded 0 0 0 _ (omega arith) (omega arith) (number_bits-zero 64) ∣₁;
     }
 
-pub skip-requires-clause-pending : goal.skip-requires-clause-pending
-skip-requires-clause-pending c =
+pub skip-requires : goal.skip-requires
+skip-requires c =
     let r = c.args.self.now in
     let i = c.in-Some.zero_bytes in
     let b = get_or (take (length r.code.now - r.at) (drop r.at r.code.now)) i 0 in
@@ -79,15 +79,15 @@ skip-requires-clause-pending c =
     let few = byte_pending _ c.refill.new.self c.refill.ensures.unmoved.left refl within c.refill.ensures.end in
     omega (arith, top.1, few)
 
-pub skip-requires-2-clause-pending : goal.skip-requires-2-clause-pending
-skip-requires-2-clause-pending c =
+pub skip-requires-2 : goal.skip-requires-2
+skip-requires-2 c =
     let r = c.args.self.now in
     let i = c.in-Some.zero_bytes in
     let b = get_or (take (length r.code.now - r.at) (drop r.at r.code.now)) i 0 in
     let within : r.at + i < length r.code.now = omega (arith, c.in-Some.ensures.0, length-take (length r.code.now - r.at) (drop r.at r.code.now), length-drop r.at r.code.now) in
     let top = leading_top 8 b (omega (arith, c.in-Some.ensures.2)) (omega arith) in
     let few = byte_pending _ c.refill.new.self c.refill.ensures.unmoved.left refl within c.refill.ensures.end in
-    omega (arith, top.1, few, c.skip.ensures.count)
+    omega (arith, top.1, few, c.skip.ensures.ready)
 
 pub returns-clause-bits : goal.returns-clause-bits
 unfolding left
@@ -97,7 +97,7 @@ returns-clause-bits c =
     let b = get_or (take (length r.code.now - r.at) (drop r.at r.code.now)) i 0 in
     let lead = count_leading_zeros 8 b in
     let n = r.count + 8 * i + lead in
-    let is = left_ahead r i b c.requires c.in-Some.ensures.0 c.in-Some.ensures.1 refl (omega (arith, c.in-Some.ensures.2)) (omega arith) in
+    let is = left_ahead r i b (omega arith) c.requires c.in-Some.ensures.0 c.in-Some.ensures.1 refl (omega (arith, c.in-Some.ensures.2)) (omega arith) in
     let place : 8 * (r.at + i) - 0 ≡ 8 * r.at - r.count + (r.count + 8 * i) = omega (arith, r.loaded) in
     let moved : drop (8 * (r.at + i) - 0) (bits_of r.code.now) ≡ drop (r.count + 8 * i) (left r) = ap (λ k. drop k (bits_of r.code.now)) place ∙ sym (drop-drop (r.count + 8 * i) (8 * r.at - r.count) (bits_of r.code.now)) in
     let one = behind_one (left c.refill.new.self) lead (left c.skip.new.self) (left c.skip-2.new.self) c.skip.ensures.left c.skip-2.ensures.left in
@@ -114,7 +114,7 @@ returns-clause-too_many c =
     let b = get_or (take (length r.code.now - r.at) (drop r.at r.code.now)) i 0 in
     let lead = count_leading_zeros 8 b in
     let rest = 7 - lead in
-    let is = left_ahead r i b c.requires c.in-Some.ensures.0 c.in-Some.ensures.1 refl (omega (arith, c.in-Some.ensures.2)) (omega arith) in
+    let is = left_ahead r i b (omega arith) c.requires c.in-Some.ensures.0 c.in-Some.ensures.1 refl (omega (arith, c.in-Some.ensures.2)) (omega arith) in
     let few : r.count + 8 * i + lead ≤ c.args.max = omega (arith, c.from-3.ensures) in
     (λ e. cc, λ h. absurd (not_HasZeros-one c.args.max (r.count + 8 * i + lead) (number_bits rest (b % 2 ^ rest) ++ bits_of (drop (r.at + i + 1) r.code.now)) few (subst (HasZeros c.args.max) is h)))
 
@@ -125,5 +125,5 @@ returns-clause-ended c =
     let b = get_or (take (length r.code.now - r.at) (drop r.at r.code.now)) i 0 in
     let lead = count_leading_zeros 8 b in
     let rest = 7 - lead in
-    let is = left_ahead r i b c.requires c.in-Some.ensures.0 c.in-Some.ensures.1 refl (omega (arith, c.in-Some.ensures.2)) (omega arith) in
+    let is = left_ahead r i b (omega arith) c.requires c.in-Some.ensures.0 c.in-Some.ensures.1 refl (omega (arith, c.in-Some.ensures.2)) (omega arith) in
     (λ e. cc, λ z. absurd (not_IsZeros-one c.args.max (r.count + 8 * i + lead) (number_bits rest (b % 2 ^ rest) ++ bits_of (drop (r.at + i + 1) r.code.now)) (subst (IsZeros c.args.max) is z)))

@@ -13,7 +13,7 @@ use Rattle.fz_rice.specs.Code.{differences, pieces}
 use Rattle.fz_rice.specs.Producer.{chosen_block, first_residue, rice_bits}
 use Rattle.fz_rice.specs.Writing.{Writes}
 use Rattle.fz_rice.proofs.WritesLemmas.{writes_of, writes_seq, writes_stop}
-use Rattle.fz_rice.proofs.EncodeLemmas.{first_is, full_is}
+use Rattle.fz_rice.proofs.EncodeLemmas.{first_is, full_is, code_is}
 use Rattle.fz_rice.proofs.coder.Coder.encode.Goals as goal
 
 pub returns-in_err-put-clause-full : goal.returns-in_err-put-clause-full
@@ -104,4 +104,4 @@ returns-clause-code g c =
     let both : Writes {A = Unit {0}} (Ok b) (number_bits w u ++ blocks) old new = writes_seq a (Ok b) (number_bits w u) blocks old mid new first c.in_ok-write_blocks.ensures in
     let bits : written new ≡ rice_bits w c.args.block xs = both.ok ∙ ap (λ x. x ++ (number_bits w u ++ blocks)) c.new-writer.ensures.empty ∙ rice in
     let done = c.finish.ensures.bits ∙ ap filled bits in
-    search (rules, done)
+    code_is _ c.finish.result (rice_bits w c.args.block xs) c.type_inv.out (search (rules, done))
