@@ -6,3 +6,4 @@ pub mod Producer
 pub mod Reading
 pub mod Step
 pub mod Writing
+pub mod Laws

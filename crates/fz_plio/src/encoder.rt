@@ -1,8 +1,8 @@
 //! Line lists written.
 
-ghost use Rattle.std.specs.Prelude.{◌≡◌, ℕ, ℤ, List, ◌+◌, ◌*◌, ◌^◌, ◌<◌, ◌≤◌, ◌↔◌, ◌++◌, length, drop, All, IfOk, OnOk, IsErr, IsTrue, Ok, Err, MatchOption};
-ghost use Rattle.fz_plio.specs.Meaning.{IsLineList};
-ghost use Rattle.fz_plio.specs.Producer.{InRange, can_hold_all, IsFirstOutside, header, body_words, line_list};
+ghost use Rattle.std.specs.Prelude.{◌≡◌, ℕ, ◌+◌, ◌*◌, ◌^◌, ◌<◌, ◌≤◌, ◌↔◌, ◌++◌, length, drop, All, IfOk, OnOk, IsErr, Ok, Err, MatchOption};
+ghost use Rattle.fz_plio.specs.Laws.{TestsRange, MeansItsNumbers};
+ghost use Rattle.fz_plio.specs.Producer.{InRange, IsFirstOutside, header, body_words, line_list};
 ghost use Rattle.fz_plio.specs.Writing.{Puts, magnitudes};
 
 use crate::list_writer::{Full, ListWriter};
@@ -134,12 +134,11 @@ fn header(len: usize) -> [u16; HEADER_WORDS]
 
 /// `can_hold_all` is the test whether a line list can hold all numbers of a line.
 pub fn can_hold_law()
-    ensures { (numbers : List ℤ) → IsTrue (can_hold_all numbers) ↔ All InRange numbers }
+    ensures { TestsRange }
 {}
 
 /// What is written means the numbers: for every line that `encode` takes, its list is a lawful one
 /// of so many numbers, and these are they.
 pub fn line_list_law()
-    ensures { (numbers : List ℤ) → length numbers ≤ 2 ^ 26 → All InRange numbers
-        → IsLineList (length numbers) (line_list numbers) numbers }
+    ensures { MeansItsNumbers }
 {}

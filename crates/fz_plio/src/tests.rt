@@ -31,7 +31,7 @@ fn expect_words(rt: &impl Abort, alloc: Global, numbers: &[i32], words: &[u16]) 
 
 #[test]
 fn encodes_rows(rt: HostRuntime) -> Result<(), Fail> {
-    let rows: [(&[i32], &[u16]); 6] = [
+    let rows: [(&[i32], &[u16]); 10] = [
         (
             &[0, 0, 5, 5, 0],
             &[0, 7, 0xff9c, 11, 0, 0, 0, 0x2004, 0x0002, 0x4002, 0x0001],
@@ -50,6 +50,20 @@ fn encodes_rows(rt: HostRuntime) -> Result<(), Fail> {
             &[0, 7, 0xff9c, 11, 0, 0, 0, 0x2004, 0x4002, 0x3002, 0x5002],
         ),
         (&[1], &[0, 7, 0xff9c, 8, 0, 0, 0, 0x4001]),
+        // differences of 4095 and 4096, and the greatest number
+        (&[4096], &[0, 7, 0xff9c, 8, 0, 0, 0, 0x6fff]),
+        (
+            &[4097],
+            &[0, 7, 0xff9c, 10, 0, 0, 0, 0x1001, 0x0001, 0x4001],
+        ),
+        (
+            &[16_777_215],
+            &[0, 7, 0xff9c, 10, 0, 0, 0, 0x1fff, 0x0fff, 0x4001],
+        ),
+        (
+            &[0, 5000],
+            &[0, 7, 0xff9c, 10, 0, 0, 0, 0x1388, 0x0001, 0x5002],
+        ),
     ];
     for (numbers, words) in rows {
         assert!(rt; numbers.len() <= 64);
@@ -60,19 +74,46 @@ fn encodes_rows(rt: HostRuntime) -> Result<(), Fail> {
 
 #[test]
 fn encodes_long_runs(rt: HostRuntime) -> Result<(), Fail> {
-    let rows: [(usize, &[u16]); 3] = [
+    let rows: [(usize, &[u16]); 5] = [
         (4094, &[0, 7, 0xff9c, 8, 0, 0, 0, 0x5fff]),
         (4095, &[0, 7, 0xff9c, 9, 0, 0, 0, 0x0fff, 0x4001]),
         (4096, &[0, 7, 0xff9c, 9, 0, 0, 0, 0x0fff, 0x5002]),
+        (8190, &[0, 7, 0xff9c, 10, 0, 0, 0, 0x0fff, 0x0fff, 0x4001]),
+        (8191, &[0, 7, 0xff9c, 10, 0, 0, 0, 0x0fff, 0x0fff, 0x5002]),
     ];
     for (zeros, words) in rows {
         let mut numbers = vec![in rt.alloc(); 0; zeros]?;
         numbers.push(1)?;
-        assert!(rt; numbers.len() <= 5000);
+        assert!(rt; numbers.len() <= 9000);
         expect_words(&rt, rt.alloc(), numbers.as_slice(), words)?;
     }
     let words = [0, 7, 0xff9c, 9, 0, 0, 0, 0x2004, 0x4064];
-    expect_words(&rt, rt.alloc(), &[5; 100], &words)
+    expect_words(&rt, rt.alloc(), &[5; 100], &words)?;
+    let words = [0, 7, 0xff9c, 9, 0, 0, 0, 0x4fff, 0x4001];
+    expect_words(&rt, rt.alloc(), &[1; 4096], &words)?;
+    let mut numbers = vec![in rt.alloc(); 0; 4095]?;
+    numbers.push(1)?;
+    numbers.push(1)?;
+    assert!(rt; numbers.len() <= 5000);
+    let words = [0, 7, 0xff9c, 9, 0, 0, 0, 0x0fff, 0x4002];
+    expect_words(&rt, rt.alloc(), numbers.as_slice(), &words)
+}
+
+/// A list of more than 32,767 words: 6,000 times 1 and 5000.
+#[test]
+fn encodes_a_long_list(rt: HostRuntime) -> Result<(), Fail> {
+    let mut numbers = Vec::new(rt.alloc());
+    for _made in 0..6000u32 {
+        numbers.push(1)?;
+        numbers.push(5000)?;
+    }
+    assert!(rt; numbers.len() <= 12_000);
+    let mut out = vec![in rt.alloc(); 0; 80_000]?;
+    let len = encode(numbers.as_slice(), out.as_mut_slice())?;
+    assert_eq!(rt; len, 72_010);
+    let header = bytes_of(rt.alloc(), &[0, 7, 0xff9c, 0x0ca5, 1, 0, 0])?;
+    assert!(rt; out.as_slice().starts_with(header.as_slice()));
+    Ok(())
 }
 
 #[test]
@@ -93,7 +134,7 @@ fn stops(rt: HostRuntime) {
 
 #[test]
 fn decodes_rows(rt: HostRuntime) -> Result<(), Fail> {
-    let rows: [(&[u16], Result<[i32; 3], LineFault>); 14] = [
+    let rows: [(&[u16], Result<[i32; 3], LineFault>); 18] = [
         (&[0, 7, 0xff9c, 8, 0, 0, 0, 0x4002], Ok([1, 1, 0])),
         (&[0, 7, 0xff9c, 7, 0, 0, 0], Ok([0, 0, 0])),
         (&[9, 7, 0, 8, 0, 9, 9, 0x4002, 0xffff], Ok([1, 1, 0])),
@@ -114,6 +155,13 @@ fn decodes_rows(rt: HostRuntime) -> Result<(), Fail> {
         (&[0, 7, 0xff9c, 0x8000, 0, 0, 0, 0x4002], Err(LineFault)),
         (&[0, 7, 0xff9c, 6, 0, 0, 0, 0x4002], Err(LineFault)),
         (&[0, 7, 0xff9c, 9, 0, 0, 0, 0x4002], Err(LineFault)),
+        (&[0, 7, 0xff9c, 8, 0x8000, 0, 0, 0x4002], Err(LineFault)),
+        (&[0, 7, 0xff9c, 9, 0, 0, 0, 0x1000, 0x1000], Err(LineFault)),
+        (&[0, 7, 0xff9c, 8, 0, 0, 0, 0x3002], Err(LineFault)),
+        (
+            &[0, 7, 0xff9c, 10, 0, 0, 0, 0x1fff, 0x0fff, 0x2001],
+            Err(LineFault),
+        ),
     ];
     for (words, want) in rows {
         let bytes = bytes_of(rt.alloc(), words)?;
