@@ -1,7 +1,7 @@
 -- From what the parts of `encode_tile` did to what it promises.
-use Rattle.std.proofs.Common.{◌≡◌, ℕ, ◌+◌, ◌-◌, ◌*◌, ◌/◌, ◌<◌, ◌≤◌, ◌⊎◌, ℤ, pos, List, ◌++◌, length, take, Option, Some, None, inl, inr, refl, sym, subst, ap, ◌∙◌, arith, unsigned_abs}
+use Rattle.std.proofs.Common.{◌≡◌, ℕ, ◌+◌, ◌-◌, ◌*◌, ◌/◌, ◌<◌, ◌≤◌, ◌⊎◌, nat_lt, true, false, ℤ, pos, List, ◌++◌, length, take, Option, Some, None, inl, inr, refl, sym, subst, ap, ◌∙◌, arith, unsigned_abs, length-append}
 use Rattle.std.proofs.lemmas.List.{take_at, take-append-le, length-take-le}
-use Rattle.fz_rice.proofs.FieldReaders.{lt-true, lt-false}
+use Rattle.std.proofs.lemmas.Bool.Decides.{nat_tests}
 use Rattle.fz_tile.specs.declared.codec.Codec.{Codec}
 use Rattle.fz_tile.specs.declared.codec.Codec.TheVariants.{Rice, Plio, Plain}
 use Rattle.fz_tile.specs.declared.coded.Place2.TheVariants.{Coded, Stored}
@@ -43,6 +43,13 @@ code_of-numbers (Rice block bytepix) bitpix numbers xs can hold =
 code_of-numbers Plio bitpix numbers xs can hold =
     ap (code_of Plio) (hold.are ∙ places-one (unsigned_abs bitpix) xs (size_of bitpix can.size) (other_size Plio bitpix (can_read Plio bitpix can) plio_no_plain))
 
+-- the test whether a list is shorter
+lt-true : (a b : ℕ) → a < b → nat_lt a b ≡ true
+lt-true a b h = grind (arith, nat_tests)
+
+lt-false : (a b : ℕ) → b ≤ a → nat_lt a b ≡ false
+lt-false a b h = grind (arith, nat_tests)
+
 pub shorter-code : (code plain : List ℕ) → length code < length plain → shorter (Some code) plain ≡ record { place = Coded; bytes = code }
 shorter-code code plain less = rw (lt-true (length code) (length plain) less) refl
 
@@ -65,7 +72,7 @@ code_written codec bitpix numbers xs plain_len len front rest can hold whole som
     let less : length code < length (plain_bytes b xs) = omega (arith, plain_some b (pixel_count b (length numbers)) size some, tried.0) in
     let is : tile_code codec b xs ≡ record { place = Coded; bytes = code } = ap (λ c. shorter c (plain_bytes b xs)) (sym (code_of-numbers codec bitpix numbers xs can hold) ∙ tried.1) ∙ shorter-code code (plain_bytes b xs) less in
     subst (λ (t : TileCode). IsWritten t Coded len (front ++ rest)) (sym is)
-    (record { place_is = refl; len_is = sym long; bytes_are = take-append-le len front rest tried.0 })
+    (record { place_is = refl; len_is = sym long; within = omega (arith, length-append front rest, tried.0); bytes_are = take-append-le len front rest tried.0 })
 
 -- there is no code that is shorter than the plain bytes, and these were written
 pub plain_written : (codec : Codec) (bitpix : ℤ) (numbers xs : List ℤ) (plain_len room : ℕ) (front rest : List ℕ) → CanWrite codec bitpix → HoldPixels (unsigned_abs bitpix) numbers xs →
@@ -80,7 +87,7 @@ plain_written codec bitpix numbers xs plain_len room front rest can hold whole s
     let same = code_of-numbers codec bitpix numbers xs can hold in
     let is : tile_code codec b xs ≡ record { place = Stored; bytes = plain_bytes b xs } = shorter-plain (code_of codec xs) (plain_bytes b xs) (λ bytes e. omega (arith, long bytes (same ∙ e))) in
     subst (λ (t : TileCode). IsWritten t Stored plain_len (front ++ rest)) (sym is)
-    (record { place_is = refl; len_is = sym plain; bytes_are = ap (λ l. take plain_len (l ++ rest)) written ∙ take_at (plain_bytes b xs) rest plain_len plain })
+    (record { place_is = refl; len_is = sym plain; within = omega (arith, length-append front rest, ap length written, plain); bytes_are = ap (λ l. take plain_len (l ++ rest)) written ∙ take_at (plain_bytes b xs) rest plain_len plain })
 
 -- one byte less than the plain bytes has room
 pub room_for : (bitpix : ℤ) (n plain_len : ℕ) (out : List ℕ) → IsBitpix bitpix → plain_len ≡ unsigned_abs bitpix / 8 * n → 8 * n + 64 ≤ length out → length (take (plain_len - 1) out) ≡ plain_len - 1

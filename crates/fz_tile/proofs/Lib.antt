@@ -1,6 +1,5 @@
 pub mod PixelLemmas
 pub mod PlainLemmas
-pub mod BytesLemmas
 pub mod RecordLemmas
 pub mod FaultLemmas
 pub mod RangeLemmas
@@ -10,3 +9,5 @@ pub mod PlaceLemmas
 pub mod DecodeLemmas
 pub mod EncodeLemmas
 pub mod LawLemmas
+pub mod SliceLemmas
+pub mod ColumnLemmas

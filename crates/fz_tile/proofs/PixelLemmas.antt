@@ -6,7 +6,7 @@ use Rattle.std.specs.Int.{Width, w8, w16, w32, w64, to_be_bytes, from_be_bytes, 
 use Rattle.std.proofs.lemmas.Nat.{be_bytes_2, be_bytes_4, be_bytes_8, from_be_bytes-to_be_bytes_2, from_be_bytes-to_be_bytes_4, from_be_bytes-to_be_bytes_8, mod_below, div_below, div-mul-add}
 use Rattle.std.proofs.Math.Nat.{mod-eq_of_lt, div-add-mod'}
 use Rattle.std.proofs.lemmas.Int.{of_z-to_z, to_z-of_z}
-use Rattle.fz_rice.specs.Numbers.{IsNumber}
+use Rattle.fz_bits.specs.Numbers.{IsNumber}
 use Rattle.fz_tile.specs.Plain.{pixel_bytes, pixel_of}
 use Rattle.fz_tile.specs.Pixels.{IsBitpix, upper_half, lower_half}
 

@@ -2,15 +2,21 @@
 use Rattle.std.proofs.Common.{◌≡◌, ℕ, ◌*◌, ◌/◌, ℤ, pos, List, length, inl, inr, refl, sym, subst, ap, ◌∙◌, arith, unsigned_abs}
 use Rattle.std.specs.List.{All, flat_map}
 use Rattle.std.proofs.lemmas.List.Elements.{All-from_recursion, recursion_from_All}
-use Rattle.fz_rice.specs.Numbers.{IsNumber}
+use Rattle.fz_bits.specs.Numbers.{IsNumber}
 use Rattle.fz_tile.specs.Plain.{plain_bytes, stored_pixels}
-use Rattle.fz_tile.specs.Pixels.{IsBitpix, halves, places, pixel_count, HoldPixels, HoldTile}
+use Rattle.fz_tile.specs.Pixels.{IsBitpix, halves, places, pixel_count, HoldPixels, HoldWhole}
+use Rattle.fz_tile.specs.Record.{IsStored}
 use Rattle.fz_tile.proofs.PixelLemmas.{AreBytes, IsSize, by_size, by_bitpix}
 use Rattle.fz_tile.proofs.PlainLemmas.{plain-stored, stored-plain, stored-numbers, plain-halves, halves-numbers, length-halves, length-stored}
 
--- pixels that were read: as many as were asked for, with these plain bytes, in these places
+-- the pixels that bytes store were read: the places hold them, and their plain bytes are these
 abbrev pub HasRead : ℕ → ℕ → List ℕ → List ℤ → Type 0
-HasRead b n code numbers = (xs : List ℤ) × (length xs ≡ n) × (code ≡ plain_bytes b xs) × HoldPixels b numbers xs
+HasRead b n code numbers = HoldPixels b numbers (stored_pixels b n code) × (code ≡ plain_bytes b (stored_pixels b n code))
+
+-- the record has their length
+pub stored_read : (b total n : ℕ) (code : List ℕ) (numbers : List ℤ) → total ≡ b / 8 * n → HasRead b n code numbers → (xs : List ℤ) × (length xs ≡ n) × IsStored b total code xs × HoldPixels b numbers xs
+stored_read b total n code numbers is read =
+    (stored_pixels b n code, length-stored b n code, (is ∙ ap (λ k. b / 8 * k) (sym (length-stored b n code)), read.1), read.0)
 
 -- other sizes than 64 have a place for each pixel
 pub places-one : (b : ℕ) (xs : List ℤ) → IsSize b → (b ≡ 64 → ⊥) → places b xs ≡ xs
@@ -29,10 +35,8 @@ pixel_count-hold b numbers xs size hold = ap (λ (l : List ℤ). pixel_count b (
 -- what was read at 8, 16 and 32 bits
 read_one : (b count : ℕ) (code : List ℕ) (numbers : List ℤ) → IsSize b → (b ≡ 64 → ⊥) → AreBytes code → length code ≡ b / 8 * count → numbers ≡ stored_pixels b count code → HasRead b count code numbers
 read_one b count code numbers size other small len is = (
-  stored_pixels b count code,
-  length-stored b count code,
-  sym (plain-stored b count code size len small),
   record { pixels = stored-numbers b count code size small; are = is ∙ sym (places-one b (stored_pixels b count code) size other) },
+  sym (plain-stored b count code size len small),
 )
 
 -- and at 64 bits, as numbers of 32 bits
@@ -49,7 +53,7 @@ read_two n count code numbers even small len is =
     let again : stored_pixels 32 count code ≡ flat_map halves xs =
     ap (λ k. stored_pixels 32 k code) long ∙ ap (stored_pixels 32 (length (flat_map halves xs))) split
     ∙ stored-plain 32 (flat_map halves xs) word (All-from_recursion (IsNumber 32) (flat_map halves xs) (halves-numbers xs each)) in
-    (xs, length-stored 64 n code, sym back, record { pixels = fits; are = is ∙ again })
+    (record { pixels = fits; are = is ∙ again }, sym back)
 
 -- the same for BITPIX
 abbrev Reads : ℤ → ℕ → List ℕ → List ℤ → Type 0
@@ -66,12 +70,12 @@ pub read_16 : (bitpix : ℤ) (count : ℕ) (code : List ℕ) (numbers : List ℤ
 read_16 bitpix count code numbers e small len is =
     subst (λ (z : ℤ). HasLen z count code → Reads z count code numbers) (sym e) (λ (l : length code ≡ 2 * count). read_one 16 count code numbers (inr (inl refl)) (λ (f : 16 ≡ 64). omega (arith, f)) small l is) len
 
-pub read_rest : (bitpix : ℤ) (count : ℕ) (code : List ℕ) (numbers : List ℤ) → IsBitpix bitpix → (bitpix ≡ pos 8 → ⊥) → (bitpix ≡ pos 16 → ⊥) → HoldTile (unsigned_abs bitpix) count → AreBytes code → HasLen bitpix count code → numbers ≡ stored_pixels 32 count code → Reads bitpix count code numbers
+pub read_rest : (bitpix : ℤ) (count : ℕ) (code : List ℕ) (numbers : List ℤ) → IsBitpix bitpix → (bitpix ≡ pos 8 → ⊥) → (bitpix ≡ pos 16 → ⊥) → HoldWhole (unsigned_abs bitpix) count → AreBytes code → HasLen bitpix count code → numbers ≡ stored_pixels 32 count code → Reads bitpix count code numbers
 read_rest bitpix count code numbers size no_byte no_short tile small len is =
-    by_bitpix (λ z. (z ≡ pos 8 → ⊥) → (z ≡ pos 16 → ⊥) → HoldTile (unsigned_abs z) count → HasLen z count code → Reads z count code numbers)
+    by_bitpix (λ z. (z ≡ pos 8 → ⊥) → (z ≡ pos 16 → ⊥) → HoldWhole (unsigned_abs z) count → HasLen z count code → Reads z count code numbers)
     (λ f _ _ _. absurd (f refl)) (λ _ f _ _. absurd (f refl))
     (λ _ _ _ l. read_one 32 count code numbers (inr (inr (inl refl))) (λ (f : 32 ≡ 64). omega (arith, f)) small l is)
-    (λ _ _ t l. read_two (count / 2) count code numbers t.even small l is) bitpix size no_byte no_short tile len
+    (λ _ _ t l. read_two (count / 2) count code numbers t small l is) bitpix size no_byte no_short tile len
 
 -- what is written at 32 and 64 bits
 pub words_room : (bitpix : ℤ) (count : ℕ) (numbers xs : List ℤ) → IsBitpix bitpix → (bitpix ≡ pos 8 → ⊥) → (bitpix ≡ pos 16 → ⊥) → HoldPixels (unsigned_abs bitpix) numbers xs → count ≡ unsigned_abs bitpix / 8 * pixel_count (unsigned_abs bitpix) (length numbers) → count ≡ 4 * length numbers

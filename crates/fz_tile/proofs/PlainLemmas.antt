@@ -9,7 +9,7 @@ use Rattle.std.proofs.Math.Nat.{mul-suc, mul-zero}
 use Rattle.std.proofs.lemmas.List.FromFn.{length-map-range_with_len}
 use Rattle.std.proofs.lemmas.List.Elements.{All-from_recursion, recursion_from_All}
 use Rattle.std.proofs.lemmas.Bool.{cases_lt}
-use Rattle.fz_rice.specs.Numbers.{IsNumber}
+use Rattle.fz_bits.specs.Numbers.{IsNumber}
 use Rattle.fz_tile.specs.Plain.{pixel_bytes, pixel_of, plain_bytes, stored_pixels}
 use Rattle.fz_tile.specs.Pixels.{upper_half, lower_half, halves}
 use Rattle.fz_tile.proofs.PixelLemmas.{AreBytes, IsSize, bytes-pixel_of, pixel_of-bytes, pixel_of-number, length-pixel_bytes, lower-number, upper-number, bytes-halves}
@@ -24,7 +24,7 @@ pub bytes-drop : (k : ℕ) (bs : List ℕ) → AreBytes bs → AreBytes (drop k 
 bytes-drop k bs small i = rw get_or-drop (small (k + i))
 
 -- the pixels one by one, k bytes each
-pixels_at : (b k n : ℕ) → List ℕ → List ℤ
+unfoldable pub pixels_at : (b k n : ℕ) → List ℕ → List ℤ
 pixels_at b k zero bs = []
 pixels_at b k (suc n) bs = pixel_of b (take k bs) ∷ pixels_at b k n (drop k bs)
 
@@ -35,7 +35,7 @@ stored-pixels_at b k s (suc n) bs =
     let next : k * s + k ≡ k * (s + 1) = sym (ap (λ m. k * m) (add-one s) ∙ mul-suc k s) in
     λ i. pixel_of b (take k (drop (k * s) bs)) ∷ (stored-pixels_at b k (s + 1) n bs ∙ ap (pixels_at b k n) (ap (λ m. drop m bs) (sym next) ∙ sym (drop-drop k (k * s) bs))) i
 
-stored-is : (b n : ℕ) (bs : List ℕ) → stored_pixels b n bs ≡ pixels_at b (b / 8) n bs
+pub stored-is : (b n : ℕ) (bs : List ℕ) → stored_pixels b n bs ≡ pixels_at b (b / 8) n bs
 stored-is b n bs = stored-pixels_at b (b / 8) 0 n bs ∙ ap (λ m. pixels_at b (b / 8) n (drop m bs)) (mul-zero (b / 8))
 
 plain-pixels_at : (b n : ℕ) (bs : List ℕ) → IsSize b → length bs ≡ b / 8 * n → AreBytes bs → plain_bytes b (pixels_at b (b / 8) n bs) ≡ bs

@@ -1,12 +1,13 @@
 -- The numbers of a code fit 32 bits.
-use Rattle.std.proofs.Common.{◌≡◌, ℕ, zero, suc, ◌-◌, ◌^◌, ◌<◌, ℤ, pos, negsuc, List, [], ◌∷◌, ◌++◌, length, replicate, inl, inr, refl, sym, subst, arith}
+use Rattle.std.proofs.Common.{◌≡◌, ℕ, zero, suc, ◌-◌, ◌^◌, ◌<◌, ℤ, pos, negsuc, Bool, List, [], ◌∷◌, ◌++◌, length, replicate, inl, inr, refl, sym, subst, arith}
 use Rattle.std.specs.List.{All, AllByRecursion}
 use Rattle.std.proofs.lemmas.Bool.{cases_lt}
 use Rattle.std.proofs.lemmas.List.Elements.{All-from_recursion}
-use Rattle.fz_rice.specs.Numbers.{IsWidth, IsNumber}
+use Rattle.fz_bits.specs.Numbers.{IsNumber}
+use Rattle.fz_rice.specs.Numbers.{IsWidth}
 use Rattle.fz_plio.specs.Instructions.{Instruction}
 use Rattle.fz_plio.specs.Meaning.{effect, written, expand, SomeLeavesRange, AreRefused, IsRefused, IsLineList, instructions_of, line_of}
-use Rattle.fz_tile.specs.Record.{BeginsWithRice}
+use Rattle.fz_rice.specs.Prefix.{BeginsWith}
 
 all_append : (P : ℤ → Type 0) (xs ys : List ℤ) → AllByRecursion P xs → AllByRecursion P ys → AllByRecursion P (xs ++ ys)
 all_append P [] ys a b = b
@@ -52,5 +53,5 @@ from_width w z is number = elim is [
   | inr f ↦ elim f [ inl e ↦ from_16 z (subst (λ (k : ℕ). IsNumber k z) e number) | inr e ↦ subst (λ (k : ℕ). IsNumber k z) e number ]
 ]
 
-pub rice_words : (w block : ℕ) (read : List ℕ) (xs : List ℤ) → IsWidth w → BeginsWithRice w block read xs → All (IsNumber 32) xs
-rice_words w block read xs is r k d h = from_width w _ is (r.3.numbers k d h)
+pub rice_words : (w block bytes : ℕ) (bits : List Bool) (xs : List ℤ) → IsWidth w → BeginsWith w block xs bytes bits → All (IsNumber 32) xs
+rice_words w block bytes bits xs is r k d h = from_width w _ is (r.is_code.numbers k d h)

@@ -4,4 +4,5 @@ pub mod Codecs
 pub mod Record
 pub mod Refusals
 pub mod TileCode
+pub mod Laws
 pub mod Coding

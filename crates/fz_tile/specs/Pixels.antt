@@ -3,7 +3,7 @@
 use Rattle.std.specs.Prelude.{◌≡◌, ℕ, ◌*◌, ◌/◌, ◌%◌, ◌^◌, ◌≤◌, ◌==◌, ◌⊎◌, ℤ, pos, List, [], ◌∷◌, All, if◌then◌else◌}
 use Rattle.std.specs.List.{flat_map}
 use Rattle.std.specs.Int.{w32, w64, cast_unsigned, cast_signed, int_div_euclid}
-use Rattle.fz_rice.specs.Numbers.{IsNumber}
+use Rattle.fz_bits.specs.Numbers.{IsNumber}
 
 -- BITPIX of an image of integers: the bits of a pixel
 abbrev pub IsBitpix : ℤ → Type 0
@@ -33,6 +33,10 @@ place_count bitpix n = if bitpix == 64 then 2 * n else n
 abbrev pub pixel_count : ℕ → ℕ → ℕ
 pixel_count bitpix n = if bitpix == 64 then n / 2 else n
 
+-- so many places hold whole pixels: an even number of them at 64 bits
+abbrev pub HoldWhole : ℕ → ℕ → Type 0
+HoldWhole bitpix count = count ≡ place_count bitpix (pixel_count bitpix count)
+
 -- these places hold these pixels, each in the range of BITPIX: unsigned at 8 bits, in two's complement at
 -- 16, 32 and 64 (FITS 4.0, section 5.2)
 pub record HoldPixels (bitpix : ℕ) (numbers xs : List ℤ) : Type 0 where
@@ -41,6 +45,6 @@ pub record HoldPixels (bitpix : ℕ) (numbers xs : List ℤ) : Type 0 where
 
 -- so many places hold a tile: as many pixels as a tile may have
 pub record HoldTile (bitpix count : ℕ) : Type 0 where
-  pub even : count ≡ place_count bitpix (pixel_count bitpix count)
+  pub even : HoldWhole bitpix count
   pub some : 1 ≤ pixel_count bitpix count
   pub most : pixel_count bitpix count ≤ 2 ^ 26

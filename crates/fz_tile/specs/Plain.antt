@@ -1,7 +1,11 @@
 -- Pixels as bytes: big-endian, unsigned at 8 bits, in two's complement at 16, 32 and 64 (FITS 4.0, section 5.2).
-use Rattle.std.specs.Prelude.{ℕ, ◌==◌, ◌*◌, ◌/◌, ℤ, pos, List, map, take, drop, if◌then◌else◌}
+use Rattle.std.specs.Prelude.{ℕ, ◌==◌, ◌*◌, ◌/◌, ◌<◌, ℤ, pos, List, map, take, drop, All, if◌then◌else◌}
 use Rattle.std.specs.List.{flat_map, range_with_len}
 use Rattle.std.specs.Int.{Width, w8, w16, w32, w64, to_be_bytes, from_be_bytes, cast_unsigned, cast_signed}
+
+-- each number is a byte
+abbrev pub AreBytes : List ℕ → Type 0
+AreBytes bytes = All (λ byte. byte < 256) bytes
 
 -- the width of a pixel
 abbrev pub pixel_width : ℕ → Width

@@ -4,13 +4,14 @@ ghost use Rattle.fz_rice.specs.Numbers.{IsWidth};
 ghost use Rattle.fz_plio.specs.Meaning.{IsLineList, IsRefused};
 ghost use Rattle.fz_tile.specs.Pixels.{IsBitpix, HoldPixels, HoldTile, pixel_count};
 ghost use Rattle.fz_tile.specs.Codecs.{CanRead, IsBlock};
-ghost use Rattle.fz_tile.specs.Record.{IsRecord, IsRecordOf, IsStored, BeginsWithRice, read_len};
+ghost use Rattle.fz_tile.specs.Record.{IsRecord, IsRecordOf, IsStored, read_len};
 ghost use Rattle.fz_tile.specs.Refusals.{IsFault};
-ghost use Rattle.fz_tile.specs.Coding.{Reads};
+ghost use Rattle.fz_tile.specs.Coding.{Reads, ReadsRice};
 ghost use Rattle.fz_tile.specs.declared.fault.TileFault.{TileFault};
 
-use crate::plain::{plain_len, read_plain};
-use crate::range::check_range;
+use crate::laws::one_fault_law;
+use crate::plain::{pixels_in, plain_len, read_plain};
+use crate::range::{check_range, check_width};
 use crate::{Codec, Place2, TileFault};
 use fz_rice::{CodeFault, Coder};
 
@@ -40,6 +41,7 @@ pub fn decode_tile(
         ↔ IsFault codec (unsigned_abs bitpix) place total code.now
         (pixel_count (unsigned_abs bitpix) (length numbers.old)) fault }
 {
+    one_fault_law();
     match place {
         Place2::Stored => read_stored(bitpix, code, total, numbers),
         Place2::Coded => read_coded(codec, bitpix, code, total, numbers),
@@ -57,7 +59,8 @@ fn read_stored(bitpix: i32, code: &[u8], total: u64, numbers: &mut [i32]) -> Res
         (λ fault. (fault ≡ TileFault.TileSize)
         × (total ≢ unsigned_abs bitpix / 8 * pixel_count (unsigned_abs bitpix) (length numbers.old))) }
 {
-    if total != plain_len(bitpix, numbers.len()) as u64 {
+    let pixels = pixels_in(bitpix, numbers.len());
+    if total != plain_len(bitpix, pixels as u64) {
         return Err(TileFault::TileSize);
     }
     read_plain(bitpix, code, numbers);
@@ -81,7 +84,7 @@ fn read_coded(
     match codec {
         Codec::Rice { block, bytepix } => {
             read_rice(block, bytepix, code, total, numbers)?;
-            check_range(bitpix, numbers)
+            check_width(8 * bytepix, bitpix, numbers)
         }
         Codec::Plio => {
             read_line(code, numbers)?;
@@ -103,9 +106,7 @@ fn read_rice(
     requires bytepix { IsWidth (8 * bytepix) }
     requires most { length numbers.old ≤ 2 ^ 26 }
     requires code { length code.now ≤ 2 ^ 60 }
-    ensures { MatchResult result (λ _. BeginsWithRice (8 * bytepix) block code.now numbers.new)
-        (λ fault. (bitpix : ℕ) → IsFault (Codec.Rice block bytepix) bitpix Place2.Coded total code.now
-        (length numbers.old) fault) }
+    ensures { ReadsRice (8 * bytepix) block total code.now (length numbers.old) result numbers.new }
 {
     match bytepix {
         1 => read_rice_code::<8>(block, code, total, numbers),
@@ -125,9 +126,7 @@ fn read_rice_code<const W: u32>(
     requires width { IsWidth W }
     requires most { length numbers.old ≤ 2 ^ 26 }
     requires code { length code.now ≤ 2 ^ 60 }
-    ensures { MatchResult result (λ _. BeginsWithRice W block code.now numbers.new)
-        (λ fault. (bytepix bitpix : ℕ) → 8 * bytepix ≡ W
-        → IsFault (Codec.Rice block bytepix) bitpix Place2.Coded total code.now (length numbers.old) fault) }
+    ensures { ReadsRice W block total code.now (length numbers.old) result numbers.new }
 {
     match Coder::<W>::decode(code, block, numbers) {
         Ok(_) => Ok(()),

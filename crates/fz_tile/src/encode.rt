@@ -1,13 +1,14 @@
 //! Tiles to bytes.
 ghost use Rattle.std.specs.Prelude.{◌≡◌, ℕ, ◌+◌, ◌*◌, ◌/◌, ◌^◌, ◌<◌, ◌≤◌, ◌↔◌, ℤ, List, length, take, All, Some, None, unsigned_abs, MatchOption};
-ghost use Rattle.fz_rice.specs.Numbers.{IsNumber, IsWidth};
-ghost use Rattle.fz_rice.specs.Producer.{rice_code};
+ghost use Rattle.fz_bits.specs.Numbers.{IsNumber};
+ghost use Rattle.fz_rice.specs.Numbers.{IsWidth};
+ghost use Rattle.fz_rice.specs.Producer.{rice_bytes};
 ghost use Rattle.fz_tile.specs.Pixels.{HoldPixels, HoldTile, pixel_count};
 ghost use Rattle.fz_tile.specs.Codecs.{CanWrite, IsBlock};
-ghost use Rattle.fz_tile.specs.TileCode.{tile_code, code_of, bytes_of, IsWritten};
+ghost use Rattle.fz_tile.specs.TileCode.{tile_code, code_of, IsWritten};
 ghost use Rattle.fz_tile.specs.Coding.{CanTry, Tries};
 
-use crate::plain::{plain_len, write_plain};
+use crate::plain::{pixels_in, plain_len, write_plain};
 use crate::{Codec, Coded, Place2};
 use fz_rice::Coder;
 
@@ -25,7 +26,8 @@ pub fn encode_tile(codec: Codec, bitpix: i32, numbers: &[i32], out: &mut [u8]) -
     ensures code { (xs : List ℤ) → HoldPixels (unsigned_abs bitpix) numbers.now xs
         → IsWritten (tile_code codec (unsigned_abs bitpix) xs) result.place result.len out.new }
 {
-    let len = plain_len(bitpix, numbers.len());
+    let pixels = pixels_in(bitpix, numbers.len());
+    let len = plain_len(bitpix, pixels as u64) as usize;
     if let Some(len) = write_code(codec, numbers, &mut out[..len - 1]) {
         return Coded {
             place: Place2::Coded,
@@ -58,7 +60,7 @@ fn write_rice(block: u32, bytepix: u32, numbers: &[i32], out: &mut [u8]) -> Opti
     requires bytepix { IsWidth (8 * bytepix) }
     requires some { 1 ≤ length numbers.now }
     requires fit { All (IsNumber (8 * bytepix)) numbers.now }
-    ensures { Tries (Some (bytes_of (rice_code (8 * bytepix) block numbers.now))) out.new result }
+    ensures { Tries (Some (rice_bytes (8 * bytepix) block numbers.now)) out.new result }
 {
     match bytepix {
         1 => write_rice_code::<8>(block, numbers, out),
@@ -73,7 +75,7 @@ fn write_rice_code<const W: u32>(block: u32, numbers: &[i32], out: &mut [u8]) ->
     requires width { IsWidth W }
     requires some { 1 ≤ length numbers.now }
     requires fit { All (IsNumber W) numbers.now }
-    ensures { Tries (Some (bytes_of (rice_code W block numbers.now))) out.new result }
+    ensures { Tries (Some (rice_bytes W block numbers.now)) out.new result }
 {
     match Coder::<W>::encode(numbers, block, out) {
         Ok(len) => Some(len),
@@ -86,6 +88,7 @@ fn write_line(numbers: &[i32], out: &mut [u8]) -> Option<usize>
     requires { length numbers.now ≤ 2 ^ 26 }
     ensures { Tries (code_of Codec.Plio numbers.now) out.new result }
 {
+    fz_plio::can_hold_law();
     match fz_plio::encode(numbers, out) {
         Ok(len) => Some(len),
         Err(_) => None,

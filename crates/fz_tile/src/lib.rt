@@ -21,5 +21,6 @@ pub use coded::{Coded, Place2};
 pub use decode::decode_tile;
 pub use encode::encode_tile;
 pub use fault::TileFault;
-pub use laws::{one_record_law, tile_code_law};
+pub use laws::{column_law, one_fault_law, one_record_law, plain_law, slice_law, tile_code_law};
 pub use pixels::{read_pixels, write_pixels};
+pub use plain::{plain_len, read_plain, write_plain};

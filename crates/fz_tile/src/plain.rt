@@ -1,28 +1,38 @@
 //! Plain bytes: big-endian, unsigned at 8 bits, in two's complement at 16, 32 and 64 (FITS 4.0, section 5.2).
 //!
 //! The bytes of a pixel of 64 bits are those of its two halves at 32 bits.
-ghost use Rattle.std.specs.Prelude.{◌≡◌, ℕ, ◌+◌, ◌*◌, ◌/◌, ◌<◌, ◌≤◌, ℤ, List, length, take, drop, All, FitsSigned, unsigned_abs};
+ghost use Rattle.std.specs.Prelude.{◌≡◌, ℕ, ◌+◌, ◌*◌, ◌/◌, ◌^◌, ◌<◌, ◌≤◌, ℤ, List, length, take, drop, All, FitsSigned, unsigned_abs};
 ghost use Rattle.std.specs.Int.{w32};
-ghost use Rattle.fz_rice.specs.Numbers.{IsNumber};
+ghost use Rattle.fz_bits.specs.Numbers.{IsNumber};
 ghost use Rattle.fz_tile.specs.Plain.{plain_bytes, stored_pixels, pixel_of};
-ghost use Rattle.fz_tile.specs.Pixels.{IsBitpix, HoldPixels, HoldTile, pixel_count};
+ghost use Rattle.fz_tile.specs.Pixels.{IsBitpix, HoldPixels, HoldWhole, pixel_count};
 
 use crate::pixels::{read_pixels, write_pixels};
 
-/// The number of plain bytes of the pixels in so many places.
-pub fn plain_len(bitpix: i32, places: usize) -> usize
+/// The number of plain bytes of so many pixels (FITS 4.0, section 5.2). An image has at most 2^40.
+pub fn plain_len(bitpix: i32, pixels: u64) -> u64
     requires size { IsBitpix bitpix }
-    requires tile { HoldTile (unsigned_abs bitpix) places }
-    ensures { result ≡ unsigned_abs bitpix / 8 * pixel_count (unsigned_abs bitpix) places }
+    requires most { pixels ≤ 2 ^ 40 }
+    ensures { result ≡ unsigned_abs bitpix / 8 * pixels }
 {
     match bitpix {
-        8 => places,
-        16 => 2 * places,
-        _ => 4 * places,
+        8 => pixels,
+        16 => 2 * pixels,
+        32 => 4 * pixels,
+        _ => 8 * pixels,
     }
 }
 
-/// Writes the plain bytes of the pixels in these places.
+/// The number of pixels in so many places.
+pub fn pixels_in(bitpix: i32, places: usize) -> usize
+    requires { IsBitpix bitpix }
+    ensures { result ≡ pixel_count (unsigned_abs bitpix) places }
+{
+    if bitpix == 64 { places / 2 } else { places }
+}
+
+/// Writes the plain bytes of the pixels in these places (FITS 4.0, section 5.2): a place for each pixel, and two at 64
+/// bits, the upper half and the lower half, each signed.
 pub fn write_plain(bitpix: i32, numbers: &[i32], out: &mut [u8])
     requires size { IsBitpix bitpix }
     requires pixels { (xs : List ℤ) × HoldPixels (unsigned_abs bitpix) numbers.now xs }
@@ -63,15 +73,16 @@ fn write_words(numbers: &[i32], out: &mut [u8])
     }
 }
 
-/// Reads the pixels whose plain bytes these are.
+/// Reads the pixels whose plain bytes these are, into a place for each pixel, and two at 64 bits (FITS 4.0, section 5.2).
 pub fn read_plain(bitpix: i32, code: &[u8], numbers: &mut [i32])
     requires size { IsBitpix bitpix }
-    requires tile { HoldTile (unsigned_abs bitpix) (length numbers.old) }
+    requires whole { HoldWhole (unsigned_abs bitpix) (length numbers.old) }
     requires len { length code.now
         ≡ unsigned_abs bitpix / 8 * pixel_count (unsigned_abs bitpix) (length numbers.old) }
-    ensures { (xs : List ℤ) × (length xs ≡ pixel_count (unsigned_abs bitpix) (length numbers.old))
-        × (code.now ≡ plain_bytes (unsigned_abs bitpix) xs)
-        × HoldPixels (unsigned_abs bitpix) numbers.new xs }
+    ensures pixels { HoldPixels (unsigned_abs bitpix) numbers.new
+        (stored_pixels (unsigned_abs bitpix) (pixel_count (unsigned_abs bitpix) (length numbers.old)) code.now) }
+    ensures bytes { code.now ≡ plain_bytes (unsigned_abs bitpix)
+        (stored_pixels (unsigned_abs bitpix) (pixel_count (unsigned_abs bitpix) (length numbers.old)) code.now) }
 {
     match bitpix {
         8 => read_bytes(code, numbers),

@@ -1,11 +1,12 @@
 //! Rows of tiles and records that were worked out by hand.
 ghost use Rattle.std.specs.Prelude.{◌≡◌, ◌≤◌, length, All, pos};
-ghost use Rattle.fz_rice.specs.Numbers.{IsNumber};
+ghost use Rattle.fz_bits.specs.Numbers.{IsNumber};
 ghost use Rattle.fz_tile.specs.Codecs.{CanWrite};
 
 use crate::{
-    Codec, Coded, Place2, TileFault, decode_tile, encode_tile, one_record_law, read_pixels,
-    tile_code_law, write_pixels,
+    Codec, Coded, Place2, TileFault, column_law, decode_tile, encode_tile, one_fault_law,
+    one_record_law, plain_law, plain_len, read_pixels, read_plain, slice_law, tile_code_law,
+    write_pixels, write_plain,
 };
 use std::process::Abort;
 
@@ -95,7 +96,47 @@ fn tiles_of_16_bits(rt: HostRuntime) {
         Place2::Stored,
         &[0x00, 0x03, 0xff, 0xff],
     );
+    // 20 times 5: nine words against 40 plain bytes.
+    expect_bytes(
+        &rt,
+        Codec::Plio,
+        &[5, 5, 5, 5, 5, 5, 5, 5, 5, 5, 5, 5, 5, 5, 5, 5, 5, 5, 5, 5],
+        Place2::Coded,
+        &[
+            0, 0, 0, 7, 0xff, 0x9c, 0, 9, 0, 0, 0, 0, 0, 0, 0x20, 0x04, 0x40, 0x14,
+        ],
+    );
     expect_bytes(&rt, Codec::Plain, &[258], Place2::Stored, &[0x01, 0x02]);
+}
+
+/// A run of pixels of each size, its plain bytes, and its places again.
+#[test]
+fn runs_of_plain_bytes(rt: HostRuntime) {
+    assert_eq!(rt; plain_len(8, 3), 3);
+    assert_eq!(rt; plain_len(16, 3), 6);
+    assert_eq!(rt; plain_len(32, 3), 12);
+    assert_eq!(rt; plain_len(64, 1 << 40), 1 << 43);
+    let bytes = [0xff, 0xff, 0xff, 0x38, 0x00, 0x00, 0x00, 0x05];
+    let mut numbers = [7; 8];
+    read_plain(8, &bytes, &mut numbers);
+    assert_eq!(rt; numbers, [255, 255, 255, 56, 0, 0, 0, 5]);
+    let mut out = [0xa5; 8];
+    write_plain(8, &[255, 0], &mut out[..2]);
+    assert_eq!(rt; &out[..2], [0xff, 0x00].as_slice());
+    read_plain(16, &bytes, &mut numbers[..4]);
+    assert_eq!(rt; &numbers[..4], [-1, -200, 0, 5].as_slice());
+    write_plain(16, &[-200, 5], &mut out[..4]);
+    assert_eq!(rt; &out[..4], [0xff, 0x38, 0x00, 0x05].as_slice());
+    read_plain(32, &bytes, &mut numbers[..2]);
+    assert_eq!(rt; &numbers[..2], [-200, 5].as_slice());
+    let mut words = [0xa5; 8];
+    write_plain(32, &[-200, 5], &mut words);
+    assert_eq!(rt; words, bytes);
+    // -858993459195 is -200 times 2^32 and 5.
+    read_plain(64, &bytes, &mut numbers[..2]);
+    assert_eq!(rt; &numbers[..2], [-200, 5].as_slice());
+    let none: &mut [i32] = &mut [];
+    read_plain(64, &[], none);
 }
 
 #[test]
@@ -278,5 +319,9 @@ fn long_records_of_plio(rt: HostRuntime) {
 #[test]
 fn laws() {
     one_record_law();
+    one_fault_law();
     tile_code_law();
+    column_law();
+    plain_law();
+    slice_law();
 }

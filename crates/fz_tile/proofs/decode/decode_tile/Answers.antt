@@ -19,10 +19,10 @@ pub returns-in-Stored-clause-pixels : goal.returns-in-Stored-clause-pixels
 returns-in-Stored-clause-pixels c = pixels_clause c.args.codec _ c.args.total _ c.args.place c.args.code.now _ _ (stored c)
 
 pub returns-in-Stored-clause-ok : goal.returns-in-Stored-clause-ok
-returns-in-Stored-clause-ok c = ok_clause c.args.codec _ c.args.total _ c.args.place c.args.code.now _ _ c.requires.codec.codes (stored c)
+returns-in-Stored-clause-ok c = ok_clause c.one_fault_law.ensures.none c.one_fault_law.ensures.one c.args.codec c.args.bitpix c.args.total _ c.args.place c.args.code.now _ _ c.requires.codec (stored c)
 
 pub returns-in-Stored-clause-fault : goal.returns-in-Stored-clause-fault
-returns-in-Stored-clause-fault c = fault_clause c.args.codec _ c.args.total _ c.args.place c.args.code.now _ _ c.requires.codec.codes (stored c)
+returns-in-Stored-clause-fault c = fault_clause c.one_fault_law.ensures.none c.one_fault_law.ensures.one c.args.codec c.args.bitpix c.args.total _ c.args.place c.args.code.now _ _ c.requires.codec (stored c)
 
 -- and of one that is coded
 coded : (c : goal.After-numbers-in-Coded-1) → Reads c.args.codec (unsigned_abs c.args.bitpix) c.args.place c.args.total c.args.code.now (pixel_count (unsigned_abs c.args.bitpix) (length c.args.numbers.now)) c.read_coded.result c.read_coded.new.numbers
@@ -35,7 +35,7 @@ pub returns-in-Coded-clause-pixels : goal.returns-in-Coded-clause-pixels
 returns-in-Coded-clause-pixels c = pixels_clause c.args.codec _ c.args.total _ c.args.place c.args.code.now _ _ (coded c)
 
 pub returns-in-Coded-clause-ok : goal.returns-in-Coded-clause-ok
-returns-in-Coded-clause-ok c = ok_clause c.args.codec _ c.args.total _ c.args.place c.args.code.now _ _ c.requires.codec.codes (coded c)
+returns-in-Coded-clause-ok c = ok_clause c.one_fault_law.ensures.none c.one_fault_law.ensures.one c.args.codec c.args.bitpix c.args.total _ c.args.place c.args.code.now _ _ c.requires.codec (coded c)
 
 pub returns-in-Coded-clause-fault : goal.returns-in-Coded-clause-fault
-returns-in-Coded-clause-fault c = fault_clause c.args.codec _ c.args.total _ c.args.place c.args.code.now _ _ c.requires.codec.codes (coded c)
+returns-in-Coded-clause-fault c = fault_clause c.one_fault_law.ensures.none c.one_fault_law.ensures.one c.args.codec c.args.bitpix c.args.total _ c.args.place c.args.code.now _ _ c.requires.codec (coded c)

@@ -3,4 +3,4 @@ use Rattle.fz_tile.proofs.RecordLemmas.{one_record}
 use Rattle.fz_tile.proofs.laws.one_record_law.Goals as goal
 
 pub returns : goal.returns
-returns c = one_record
+returns c = one_record c.reading_law.ensures.one

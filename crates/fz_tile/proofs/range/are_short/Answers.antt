@@ -1,20 +1,19 @@
--- Each number that was passed is in range.
-use Rattle.std.proofs.Common.{◌≡◌, ℤ, ◌<◌, pos, negsuc, int_lt, false, get_or, arith, rules, FitsSigned, subst, to_z, of_z, refl}
+-- One more number is looked at.
+use Rattle.std.proofs.Common.{ℕ, ℤ, ◌<◌, pos, get_or, arith, rules, FitsSigned}
 use Rattle.std.specs.Int.{w32}
 use Rattle.std.proofs.lemmas.Int.{to_z-of_z}
-use Rattle.fz_tile.proofs.RangeLemmas.{is_short, one_more}
+use Rattle.fz_tile.proofs.RangeLemmas.{one_more_looked}
 use Rattle.fz_tile.proofs.range.are_short.Goals as goal
 
 pub loop-number-preserved : goal.loop-number-preserved
 loop-number-preserved c =
     let z : ℤ = get_or c.args.numbers.now c.loop-number.number-index (pos 0) in
     let fits : FitsSigned w32 z = search rules in
-    let same : to_z w32 (of_z w32 z) ≡ z = to_z-of_z w32 z fits in
-    one_more 16 c.loop-number.number-index c.args.numbers.now c.loop-number-test.true c.loop-number.invariant
-    (is_short z (subst (λ (x : ℤ). int_lt x (negsuc 32767) ≡ false) same c.if-number-ltminus32768.false) (subst (λ (x : ℤ). int_lt (pos 32767) x ≡ false) same c.if-number-gt32767.false))
+    let here = rw (to_z-of_z w32 z fits) at c.is_short-fine.ensures in
+    one_more_looked 16 c.loop-number.number-index c.args.numbers.now c.loop-number.fine c.is_short-fine.result c.loop-number-test.true c.loop-number.invariant here
 
 pub returns : goal.returns
 returns c = (
-  λ _ k d h. let passed : k < c.loop-number.number-index = omega (arith, h, c.loop-number-test.false) in c.loop-number.invariant k d passed,
-  λ _. refl,
+  λ fine k d h. let passed : k < c.loop-number.number-index = omega (arith, h, c.loop-number-test.false) in c.loop-number.invariant.0 fine k d passed,
+  λ all. c.loop-number.invariant.1 (λ k d h. all k d (omega (arith, h, c.loop-number.auto))),
 )

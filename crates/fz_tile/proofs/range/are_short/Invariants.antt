@@ -1,7 +1,8 @@
--- The numbers so far are in range.
-use Rattle.std.proofs.Common.{ℕ, ℤ, ◌<◌, get_or}
-use Rattle.fz_rice.specs.Numbers.{IsNumber}
+-- Whether the numbers so far are in range.
+use Rattle.std.proofs.Common.{ℕ, ℤ, ◌↔◌, ◌<◌, get_or}
+use Rattle.std.specs.Prelude.{IsTrue}
+use Rattle.fz_bits.specs.Numbers.{IsNumber}
 use Rattle.fz_tile.proofs.range.are_short.Given as goal
 
 abbrev pub invariant-loop-number : goal.invariant-loop-number
-invariant-loop-number l = (k : ℕ) (d : ℤ) → k < l.number-index → IsNumber 16 (get_or l.numbers k d)
+invariant-loop-number l = IsTrue l.fine ↔ ((k : ℕ) (d : ℤ) → k < l.number-index → IsNumber 16 (get_or l.numbers k d))

@@ -1,7 +1,7 @@
 -- The places hold the two pixels.
 use Rattle.std.proofs.Common.{pos, negsuc, [], ◌∷◌, refl, arith, ◌≡◌}
 use Rattle.std.proofs.lemmas.List.Elements.{All-nil, All-cons}
-use Rattle.fz_rice.specs.Numbers.{IsNumber}
+use Rattle.fz_bits.specs.Numbers.{IsNumber}
 use Rattle.fz_tile.proofs.tests.tile_of_64_bits.Goals as goal
 
 pub encode_tile-coded-requires-clause-pixels : goal.encode_tile-coded-requires-clause-pixels
