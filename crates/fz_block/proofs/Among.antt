@@ -17,7 +17,7 @@ one_more : (m : ℕ) (later : Option ℕ) → option_map suc (option_map (λ k. 
 one_more m None = refl
 one_more m (Some k) = let e : suc (m + k) ≡ suc m + k = omega arith in ap Some e
 
-behind : (m : ℕ) (xs : List ℕ) → drop (80 * m) (drop 80 xs) ≡ drop (80 * suc m) xs
+pub behind : (m : ℕ) (xs : List ℕ) → drop (80 * m) (drop 80 xs) ≡ drop (80 * suc m) xs
 behind m xs =
     let step : 80 + 80 * m ≡ 80 * suc m = omega arith in
     drop-drop (80 * m) 80 xs ∙ ap (λ n. drop n xs) step

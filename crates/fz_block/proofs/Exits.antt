@@ -17,13 +17,13 @@ passed true fault later x h = grind (arith, h)
 passed false fault later x h = (refl, h)
 
 -- an extension, or a primary
-abbrev no_extension : ℕ → ℕ → List ℕ → Bool
+abbrev pub no_extension : ℕ → ℕ → List ℕ → Bool
 no_extension k start g = nat_lt 0 k && not (bytes_eq (take 8 (drop start g)) (codes "XTENSION"))
 
-abbrev no_fits : ℕ → ℕ → List ℕ → Bool
+abbrev pub no_fits : ℕ → ℕ → List ℕ → Bool
 no_fits k start g = k == 0 && not (is_set (codes "SIMPLE") (take 80 (drop start g)))
 
-begun : (k start : ℕ) (g : List ℕ) → begin_says k start g ≡ Ok tt → (nat_le 65536 k ≡ false) × (no_extension k start g ≡ false)
+pub begun : (k start : ℕ) (g : List ℕ) → begin_says k start g ≡ Ok tt → (nat_le 65536 k ≡ false) × (no_extension k start g ≡ false)
 begun k start g says =
     let first : (nat_le 65536 k ≡ false) × ((if no_extension k start g then Err (refusal k (Byte start) TrailingBytes) else Ok tt) ≡ Ok tt) =
     passed (nat_le 65536 k) (refusal k (Byte start) Limit) (if no_extension k start g then Err (refusal k (Byte start) TrailingBytes) else Ok tt) tt says in

@@ -21,7 +21,7 @@ use Rattle.fz_block.proofs.Room.{room_blocks, end_of_room}
 use Rattle.fz_block.proofs.Wholes.{some_in, whole_header}
 
 -- an answer says that no check refuses
-answered : {A : Type 0} (x y : A) (refused : Option Fault) → unless_refused x refused ≡ Ok y → (refused ≡ None) × (x ≡ y)
+pub answered : {A : Type 0} (x y : A) (refused : Option Fault) → unless_refused x refused ≡ Ok y → (refused ≡ None) × (x ≡ y)
 answered x y None is = (refl, (let e : x ≡ y = cc in e))
 answered x y (Some fault) is = absurd cc
 

@@ -10,8 +10,8 @@ use Rattle.fz_base.specs.declared.kind.Kind.TheVariants.{BadCard, Limit}
 use Rattle.fz_card.specs.Reading.{integer_of}
 use Rattle.fz_block.specs.Cards.{card_at, end_of}
 use Rattle.fz_block.specs.Checks.{header_of, unless_refused, header_checks, ends_in_last_block, group_checks, end_checks, hdu_end}
-use Rattle.fz_block.specs.Facts.{facts_of, nine_axes, pcount_of, gcount_of, sort_of}
-use Rattle.fz_block.specs.Hdus.{size_at, size_in, axes_of, array_len, data_len_of, places}
+use Rattle.fz_block.specs.Facts.{facts_of, nine_axes, sort_of}
+use Rattle.fz_block.specs.Hdus.{size_at, size_in, axes_of, array_len, data_len_of, places, pcount_of, gcount_of}
 use Rattle.fz_block.specs.Header.{whole_blocks_of}
 use Rattle.fz_block.specs.Mandatory.{mandatory_checks}
 use Rattle.fz_block.specs.Values.{said_len}

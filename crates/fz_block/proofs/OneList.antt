@@ -46,7 +46,7 @@ one_header a b x y one two same = elim (cases_lt one.before two.before) as (λ _
 ]
 
 -- two HDUs at one place are the same
-one_hdu : (k : ℕ) (h j : Hdu) (x y : List ℕ) → IsHdu k h → IsHdu k j → hdu_bytes h ++ x ≡ hdu_bytes j ++ y → (h ≡ j) × (x ≡ y)
+pub one_hdu : (k : ℕ) (h j : Hdu) (x y : List ℕ) → IsHdu k h → IsHdu k j → hdu_bytes h ++ x ≡ hdu_bytes j ++ y → (h ≡ j) × (x ≡ y)
 one_hdu k h j x y one two same =
     let apart : h.header ++ (h.payload ++ x) ≡ j.header ++ (j.payload ++ y) = sym (append_assoc h.header h.payload x) ∙ (same ∙ append_assoc j.header j.payload y) in
     let headers : h.header ≡ j.header = one_header h.header j.header (h.payload ++ x) (j.payload ++ y) one.header two.header apart in
@@ -58,7 +58,7 @@ one_hdu k h j x y one two same =
     ((λ i. record { header = headers i; payload = payloads i }), rest)
 
 -- an HDU has bytes
-some_bytes : (k : ℕ) (h : Hdu) (x : List ℕ) → IsHdu k h → [] ≡ hdu_bytes h ++ x → ⊥
+pub some_bytes : (k : ℕ) (h : Hdu) (x : List ℕ) → IsHdu k h → [] ≡ hdu_bytes h ++ x → ⊥
 some_bytes k h x one none =
     let long : length h.header ≡ 2880 * (one.header.before + 1) = one.header.blocks in
     let lengths : 0 ≡ length (hdu_bytes h ++ x) = ap length none in

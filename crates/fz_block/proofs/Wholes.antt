@@ -1,10 +1,11 @@
 -- Headers whose last block holds the first END.
-use Rattle.std.proofs.Common.{◌≡◌, ℕ, ◌+◌, ◌-◌, ◌*◌, ◌/◌, ◌<◌, ◌≤◌, ◌==◌, ◌&&◌, Bool, true, false, List, length, Option, Some, None, is_some, refl, sym, ◌∙◌, ap, arith}
+use Rattle.std.proofs.Common.{◌≡◌, ℕ, ◌+◌, ◌-◌, ◌*◌, ◌/◌, ◌<◌, ◌≤◌, ◌==◌, ◌&&◌, Bool, true, false, List, length, drop, Option, Some, None, is_some, refl, sym, ◌∙◌, ap, arith}
+use Rattle.std.specs.Option.{option_map}
 use Rattle.std.proofs.lemmas.Bool.Decides.{nat_tests}
 use Rattle.fz_block.specs.Cards.{end_of, end_among}
 use Rattle.fz_block.specs.Checks.{ends_in_last_block, blocks_to_end}
 use Rattle.fz_block.specs.Hdus.{IsHeader}
-use Rattle.fz_block.proofs.Among.{found_first, found_below}
+use Rattle.fz_block.proofs.Among.{none_first, found_first, found_below}
 use Rattle.fz_block.proofs.Room.{end_of_blocks}
 
 -- no END stands before the first
@@ -45,4 +46,37 @@ whole_header header i whole at =
       blocks = long;
       none = end_of_blocks (i / 36) header (omega (arith, long)) ∙ none_before (length header / 80) (36 * (i / 36)) i header at (omega arith);
       has = rw at refl;
+    }
+
+-- the first END of a header, and that it stands in the last block
+pub record EndsAt (header : List ℕ) (before : ℕ) : Type 0 where
+  pub card : ℕ
+  pub found : end_of header ≡ Some card
+  pub among : end_among (36 * (before + 1)) header ≡ Some card
+  pub low : 36 * before ≤ card
+  pub below : card < 36 * (before + 1)
+
+behind_none : (m i : ℕ) (later : Option ℕ) → Some i ≡ option_map (λ k. m + k) later → m ≤ i
+behind_none m i None e = absurd cc
+behind_none m i (Some k) e = let same : i ≡ m + k = cc in omega (arith, same)
+
+-- a card that is found is behind those among which none is
+behind_cards : (m n i : ℕ) (xs : List ℕ) → end_among m xs ≡ None → m ≤ n → end_among n xs ≡ Some i → m ≤ i
+behind_cards m n i xs none few found =
+    let more : m + (n - m) ≡ n = omega (arith, few) in
+    behind_none m i (end_among (n - m) (drop (80 * m) xs)) (sym found ∙ (ap (λ k. end_among k xs) (sym more) ∙ none_first m (n - m) xs none))
+
+pub ends_at : (header : List ℕ) (is : IsHeader header) → EndsAt header is.before
+ends_at header is =
+    let some = some_in (end_of header) is.has in
+    let long : length header ≡ 2880 * (is.before + 1) = is.blocks in
+    let cards : length header / 80 ≡ 36 * (is.before + 1) = omega (arith, long) in
+    let among : end_among (36 * (is.before + 1)) header ≡ Some some.0 = ap (λ n. end_among n header) (sym cards) ∙ some.1 in
+    let none : end_among (36 * is.before) header ≡ None = sym (end_of_blocks is.before header (omega (arith, long))) ∙ is.none in
+    record {
+      card = some.0;
+      found = some.1;
+      among = among;
+      low = behind_cards (36 * is.before) (36 * (is.before + 1)) some.0 header none (omega arith) among;
+      below = found_below (36 * (is.before + 1)) some.0 header among;
     }

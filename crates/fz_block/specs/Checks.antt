@@ -1,13 +1,14 @@
 -- The checks that every job makes of every HDU, each a condition on the bytes of the file, in their order (FITS 4.0, sections
 -- 3.1, 3.3, 3.4.1 and 4.4.1).
-use Rattle.std.specs.Prelude.{ℕ, zero, suc, ◌==◌, ◌+◌, ◌*◌, ◌-◌, ◌/◌, ◌^◌, ◌&&◌, not, nat_lt, nat_le, min, Bool, false, List, [], ◌∷◌, ◌++◌, length, take, drop, codes, bytes_eq, Option, Some, None, is_none, is_some, unwrap_or, Result, Ok, Err, if◌then◌else◌}
+use Rattle.std.specs.Prelude.{ℕ, zero, suc, ◌≡◌, ◌⊎◌, ◌==◌, ◌+◌, ◌*◌, ◌-◌, ◌/◌, ◌^◌, ◌&&◌, not, nat_lt, nat_le, min, Bool, true, false, List, [], ◌∷◌, ◌++◌, length, take, drop, codes, bytes_eq, Option, Some, None, is_none, is_some, unwrap_or, Result, Ok, Err, if◌then◌else◌}
 use Rattle.fz_base.specs.Refusal.{refusal, first_refusal}
 use Rattle.fz_base.specs.declared.fault.Fault.{Fault}
 use Rattle.fz_base.specs.declared.fault.Place.TheVariants.{Byte, Card}
+use Rattle.fz_base.specs.declared.kind.Kind.{Kind}
 use Rattle.fz_base.specs.declared.kind.Kind.TheVariants.{NotFits, Truncated, LongHeader, BadCard, TrailingBytes, Limit, Groups}
 use Rattle.fz_card.specs.Reading.{logical_of}
 use Rattle.fz_block.specs.Cards.{is_named, end_of, first_card}
-use Rattle.fz_block.specs.Hdus.{size_at, data_len_of}
+use Rattle.fz_block.specs.Hdus.{size_at, naxis_of, data_len_of}
 use Rattle.fz_block.specs.Header.{whole_blocks_of, next_start_of}
 use Rattle.fz_block.specs.Facts.{facts_of}
 use Rattle.fz_block.specs.Mandatory.{mandatory_checks}
@@ -18,6 +19,10 @@ abbrev pub unless_refused : {A : Type 0} → A → Option Fault → Result A Fau
 unless_refused answer None = Ok answer
 unless_refused answer (Some fault) = Err fault
 
+-- the same fault of HDU k
+abbrev pub fault_as : ℕ → Fault → Fault
+fault_as k fault = record fault { hdu = k }
+
 -- a card has this name and the logical value T
 abbrev pub is_set : List ℕ → List ℕ → Bool
 is_set name card = is_named name card && unwrap_or (logical_of card) false
@@ -26,17 +31,26 @@ is_set name card = is_named name card && unwrap_or (logical_of card) false
 abbrev pub header_room : ℕ → List ℕ → List ℕ
 header_room start file = take (2880 * min 256 ((length file - start) / 2880)) (drop start file)
 
--- The checks that find the blocks of the header of HDU k. An extension begins with XTENSION, the file with SIMPLE = T, and one
--- of at most 256 blocks has END.
-abbrev pub block_checks : ℕ → ℕ → List ℕ → List (Bool × Fault)
-block_checks k start file =
+-- The checks of the first block of the header of HDU k: an extension begins with XTENSION, the file with SIMPLE = T.
+abbrev pub begin_checks : ℕ → ℕ → List ℕ → List (Bool × Fault)
+begin_checks k start file =
     (nat_le 65536 k, refusal k (Byte start) Limit)
     ∷ (nat_lt 0 k && not (bytes_eq (take 8 (drop start file)) (codes "XTENSION")), refusal k (Byte start) TrailingBytes)
     ∷ (nat_lt (length file) (start + 2880), refusal k (Byte (length file)) Truncated)
     ∷ (k == 0 && not (is_set (codes "SIMPLE") (take 80 (drop start file))), refusal k (Card 0) NotFits)
-    ∷ (is_none (end_of (header_room start file)) && nat_le (start + 737280) (length file), refusal k (Byte start) LongHeader)
-    ∷ (is_none (end_of (header_room start file)), refusal k (Byte (length file)) Truncated)
     ∷ []
+
+-- the checks that find the blocks of the header: one of at most 256 blocks has END
+abbrev pub block_checks : ℕ → ℕ → List ℕ → List (Bool × Fault)
+block_checks k start file =
+    begin_checks k start file
+    ++ ((is_none (end_of (header_room start file)) && nat_le (start + 737280) (length file), refusal k (Byte start) LongHeader)
+    ∷ (is_none (end_of (header_room start file)), refusal k (Byte (length file)) Truncated)
+    ∷ [])
+
+-- the kinds that these checks refuse with
+abbrev pub IsBlockRefusal : Kind → Type 0
+IsBlockRefusal kind = (kind ≡ Limit) ⊎ ((kind ≡ TrailingBytes) ⊎ ((kind ≡ Truncated) ⊎ ((kind ≡ NotFits) ⊎ (kind ≡ LongHeader))))
 
 -- the number of blocks up to the one with END, 36 cards in each
 abbrev pub blocks_to_end : Option ℕ → ℕ
@@ -45,6 +59,18 @@ blocks_to_end end = unwrap_or end 0 / 36 + 1
 -- the number of blocks of the header of HDU k, or why the file is refused
 unfoldable pub header_blocks_of : ℕ → ℕ → List ℕ → Result ℕ Fault
 header_blocks_of k start file = unless_refused (blocks_to_end (end_of (header_room start file))) (first_refusal (block_checks k start file))
+
+-- How many blocks are looked at: the first where a check of it refuses, else those up to the one with END, or all that a header
+-- may have where none has it.
+abbrev pub blocks_looked_at : Option Fault → Option ℕ → ℕ
+blocks_looked_at (Some fault) end = 1
+blocks_looked_at None None = 256
+blocks_looked_at None (Some i) = i / 36 + 1
+
+-- the end of the bytes that are looked at to find the blocks of the header of HDU k, within the file
+unfoldable pub header_touched : ℕ → ℕ → List ℕ → ℕ
+header_touched k start file =
+    min (length file) (start + 2880 * blocks_looked_at (first_refusal (begin_checks k start file)) (end_of (header_room start file)))
 
 -- END stands in the last block
 abbrev pub ends_in_last_block : List ℕ → Bool
@@ -57,7 +83,7 @@ groups_card header = first_card (is_set (codes "GROUPS")) header
 -- a primary whose first axis has length 0 is one of random groups, where a card says so
 abbrev pub group_checks : ℕ → List ℕ → List (Bool × Fault)
 group_checks zero header =
-    (nat_lt 0 (size_at header 2) && (size_at header 3 == 0 && is_some (groups_card header)), refusal 0 (Card (unwrap_or (groups_card header) 0)) Groups) ∷ []
+    (nat_lt 0 (naxis_of header) && (size_at header 3 == 0 && is_some (groups_card header)), refusal 0 (Card (unwrap_or (groups_card header) 0)) Groups) ∷ []
 group_checks (suc k) header = []
 
 -- the byte after the data and their fill, by the header that begins at this byte
@@ -97,16 +123,40 @@ abbrev pub followed_by : Header → Result (List Header) Fault → Result (List 
 followed_by h (Ok hs) = Ok (h ∷ hs)
 followed_by h (Err fault) = Err fault
 
--- the headers from one HDU on: it is the last where it ends with the file, else those of the next one follow
+-- What a job says of an HDU that passed the checks of every job: its own fault, or whether the HDU is the last that it looks at.
+abbrev pub Judge : Type 0
+Judge = Header → Result Bool Fault
+
+-- no checks of its own, and no stop
+abbrev pub unjudged : Judge
+unjudged h = Ok false
+
+-- the headers from one HDU on: it is the last where the job stops or the file ends, else those of the next one follow
+abbrev pub by_judgement : List ℕ → Header → Result (List Header) Fault → Result Bool Fault → Result (List Header) Fault
+by_judgement file h rest (Err fault) = Err fault
+by_judgement file h rest (Ok true) = Ok (h ∷ [])
+by_judgement file h rest (Ok false) = if next_start_of h == length file then Ok (h ∷ []) else followed_by h rest
+
+abbrev pub judged : List ℕ → Judge → (Header → Result (List Header) Fault) → Result Header Fault → Result (List Header) Fault
+judged file judge rest (Err fault) = Err fault
+judged file judge rest (Ok h) = by_judgement file h (rest h) (judge h)
+
+-- The headers of the HDUs from number k on, of which there may be so many, or the first fault: first the checks of every job for
+-- HDU k, then the job's own for HDU k, and then the next HDU.
+unfoldable pub walk_from : Judge → ℕ → ℕ → ℕ → List ℕ → Result (List Header) Fault
+walk_from judge zero k start file = Err (refusal k (Byte start) Limit)
+walk_from judge (suc more) k start file = judged file judge (λ h. walk_from judge more (suc k) (next_start_of h) file) (hdu_at k start file)
+
+-- the headers of the HDUs of a file that a job looks at, of which there may be so many, or its first fault
+abbrev pub walk_of : Judge → ℕ → List ℕ → Result (List Header) Fault
+walk_of judge most file = walk_from judge most 0 0 file
+
+-- the same of all HDUs, by the checks of every job alone
 abbrev pub and_those_after : List ℕ → (Header → Result (List Header) Fault) → Result Header Fault → Result (List Header) Fault
-and_those_after file rest (Err fault) = Err fault
-and_those_after file rest (Ok h) = if next_start_of h == length file then Ok (h ∷ []) else followed_by h (rest h)
+and_those_after file rest here = judged file unjudged rest here
 
--- the headers of all HDUs from number k on, of which there may be so many, or the first fault
-unfoldable pub headers_from : ℕ → ℕ → ℕ → List ℕ → Result (List Header) Fault
-headers_from zero k start file = Err (refusal k (Byte start) Limit)
-headers_from (suc more) k start file = and_those_after file (λ h. headers_from more (suc k) (next_start_of h) file) (hdu_at k start file)
+abbrev pub headers_from : ℕ → ℕ → ℕ → List ℕ → Result (List Header) Fault
+headers_from most k start file = walk_from unjudged most k start file
 
--- the headers of the HDUs of a file, of which there may be so many, or its first fault
 abbrev pub headers_of : ℕ → List ℕ → Result (List Header) Fault
-headers_of most file = headers_from most 0 0 file
+headers_of most file = walk_of unjudged most file

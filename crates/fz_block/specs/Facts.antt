@@ -1,9 +1,9 @@
 -- The facts that a header says: what the HDU is, its pixels, its axes, and the length of its data (FITS 4.0, sections 4.4.1 and 7).
-use Rattle.std.specs.Prelude.{ℕ, zero, suc, pos, ◌≡◌, ◌+◌, ◌/◌, ◌-◌, ◌≤◌, List, ◌++◌, length, replicate, codes, bytes_eq, Option, Some, None, unwrap_or, if◌then◌else◌}
+use Rattle.std.specs.Prelude.{ℕ, zero, suc, pos, ◌≡◌, ◌/◌, ◌-◌, ◌≤◌, List, ◌++◌, length, replicate, codes, bytes_eq, Option, Some, None, unwrap_or, if◌then◌else◌}
 use Rattle.fz_base.specs.Refusal.{first_refusal}
 use Rattle.fz_card.specs.Reading.{integer_of, text_of}
 use Rattle.fz_block.specs.Cards.{card_at, end_of}
-use Rattle.fz_block.specs.Hdus.{IsHeader, size_at, axes_of, data_len_of}
+use Rattle.fz_block.specs.Hdus.{IsHeader, axes_of, pcount_of, gcount_of, data_len_of}
 use Rattle.fz_block.specs.Mandatory.{mandatory_checks}
 use Rattle.fz_block.specs.declared.axes.Axes.{Axes}
 use Rattle.fz_block.specs.declared.header.Header.{Header}
@@ -24,15 +24,6 @@ sort_of (suc k) header = sort_named (text_of (card_at header 0))
 abbrev pub nine_axes : List ℕ → Axes
 nine_axes lengths = record { n = length lengths; len = lengths ++ replicate (9 - length lengths) 0 }
 
--- PCOUNT and GCOUNT of HDU k, which stand behind the axes of an extension; a primary has 0 and 1
-abbrev pub pcount_of : ℕ → List ℕ → ℕ
-pcount_of zero header = 0
-pcount_of (suc k) header = size_at header (3 + size_at header 2)
-
-abbrev pub gcount_of : ℕ → List ℕ → ℕ
-gcount_of zero header = 1
-gcount_of (suc k) header = size_at header (4 + size_at header 2)
-
 -- the facts of the header of HDU k, which begins at this byte of the file
 abbrev pub facts_of : ℕ → ℕ → List ℕ → Header
 facts_of k start header = record {
@@ -47,6 +38,14 @@ facts_of k start header = record {
   gcount = gcount_of k header;
   data_len = data_len_of k header;
 }
+
+-- the same facts of a header that begins at this byte
+abbrev pub begun_at : ℕ → Header → Header
+begun_at start h = record h { start = start }
+
+-- the same facts of HDU k
+abbrev pub facts_as : ℕ → Header → Header
+facts_as k h = record h { hdu = k }
 
 -- The bytes are a header of at most 256 blocks with all mandatory cards, and these are its facts.
 pub record IsHeaderOf (header : List ℕ) (h : Header) : Type 0 where

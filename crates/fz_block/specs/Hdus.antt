@@ -1,9 +1,9 @@
 -- The HDUs of a file, each a header and its data with fill (FITS 4.0, sections 3.1, 3.3 and 4.4.1).
-use Rattle.std.specs.Prelude.{ℕ, zero, suc, ◌≡◌, ◌==◌, ◌+◌, ◌*◌, ◌/◌, ℤ, pos, negsuc, List, [], ◌∷◌, ◌++◌, length, take, map, Option, Some, None, IsSome, unwrap_or, codes, ⊤, if◌then◌else◌}
+use Rattle.std.specs.Prelude.{ℕ, zero, suc, ◌≡◌, ◌==◌, ◌+◌, ◌-◌, ◌*◌, ◌/◌, false, ℤ, pos, negsuc, List, [], ◌∷◌, ◌++◌, length, take, drop, map, Option, Some, None, IsSome, unwrap_or, codes, ⊤, if◌then◌else◌}
 use Rattle.std.specs.List.{flat_map, range_with_len}
-use Rattle.fz_card.specs.Layout.{filled}
+use Rattle.fz_card.specs.Layout.{blanks, filled}
 use Rattle.fz_card.specs.Reading.{integer_of}
-use Rattle.fz_block.specs.Cards.{card_at, end_of}
+use Rattle.fz_block.specs.Cards.{is_named, card_at, end_of}
 use Rattle.fz_block.specs.Header.{whole_blocks_of}
 
 -- an HDU by its bytes: the header, and the data with fill
@@ -30,9 +30,29 @@ size_in (Some (negsuc n)) = suc n
 abbrev pub size_at : List ℕ → ℕ → ℕ
 size_at header i = size_in (integer_of (card_at header i))
 
--- the lengths of the axes: NAXIS is card 2, and NAXIS1 card 3
+-- NAXIS is card 2
+abbrev pub naxis_of : List ℕ → ℕ
+naxis_of header = size_at header 2
+
+-- the lengths of the axes: NAXIS1 is card 3
 abbrev pub axes_of : List ℕ → List ℕ
-axes_of header = map (size_at header) (range_with_len 3 (size_at header 2))
+axes_of header = map (size_at header) (range_with_len 3 (naxis_of header))
+
+-- the indexes of PCOUNT and GCOUNT, which stand behind the axes of an extension
+abbrev pub pcount_index : List ℕ → ℕ
+pcount_index header = 3 + naxis_of header
+
+abbrev pub gcount_index : List ℕ → ℕ
+gcount_index header = 4 + naxis_of header
+
+-- PCOUNT and GCOUNT of HDU k; a primary has 0 and 1
+abbrev pub pcount_of : ℕ → List ℕ → ℕ
+pcount_of zero header = 0
+pcount_of (suc k) header = size_at header (pcount_index header)
+
+abbrev pub gcount_of : ℕ → List ℕ → ℕ
+gcount_of zero header = 1
+gcount_of (suc k) header = size_at header (gcount_index header)
 
 -- the product of the lengths
 abbrev pub places : List ℕ → ℕ
@@ -42,12 +62,11 @@ places (n ∷ ns) = n * places ns
 -- the length of the data without fill, by PCOUNT and GCOUNT; there are none without an axis
 abbrev pub array_len : List ℕ → ℕ → ℕ → ℕ
 array_len header pcount gcount =
-    if size_at header 2 == 0 then 0 else size_at header 1 / 8 * (gcount * (pcount + places (axes_of header)))
+    if naxis_of header == 0 then 0 else size_at header 1 / 8 * (gcount * (pcount + places (axes_of header)))
 
--- the same of HDU k: a primary has PCOUNT 0 and GCOUNT 1, an extension has them behind its axes
+-- the same of HDU k
 abbrev pub data_len_of : ℕ → List ℕ → ℕ
-data_len_of zero header = array_len header 0 1
-data_len_of (suc k) header = array_len header (size_at header (3 + size_at header 2)) (size_at header (4 + size_at header 2))
+data_len_of k header = array_len header (pcount_of k header) (gcount_of k header)
 
 -- HDU k of a file
 pub record IsHdu (k : ℕ) (h : Hdu) : Type 0 where
@@ -71,3 +90,16 @@ cards_of header = map (card_at header) (range_with_len 0 (unwrap_or (end_of head
 -- the bytes of a header with these cards: then END, and blanks to whole blocks
 abbrev pub header_bytes : List (List ℕ) → List ℕ
 header_bytes cards = filled (whole_blocks_of (80 * (length cards + 1))) (flat_map (λ c. c) cards ++ codes "END")
+
+-- the byte behind the letters END
+abbrev pub behind_end : List ℕ → ℕ
+behind_end header = 80 * unwrap_or (end_of header) 0 + 3
+
+-- only blanks stand behind the letters END
+abbrev pub HasBlankFill : List ℕ → Type 0
+HasBlankFill header = drop (behind_end header) header ≡ blanks (length header - behind_end header)
+
+-- a card of 80 bytes that does not end a header
+pub record IsCardBeforeEnd (card : List ℕ) : Type 0 where
+  pub long : length card ≡ 80
+  pub name : is_named (codes "END") card ≡ false

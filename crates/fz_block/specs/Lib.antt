@@ -5,5 +5,6 @@ pub mod Hdus
 pub mod Header
 pub mod Mandatory
 pub mod Scan
+pub mod Takings
 pub mod Values
 pub mod Walk

@@ -9,7 +9,7 @@ use Rattle.fz_base.specs.declared.fault.Place.TheVariants.{Card}
 use Rattle.fz_base.specs.declared.kind.Kind.TheVariants.{BadCard, Limit}
 use Rattle.fz_card.specs.Reading.{integer_of, text_of}
 use Rattle.fz_block.specs.Cards.{card_at, is_named, is_numbered}
-use Rattle.fz_block.specs.Hdus.{size_at}
+use Rattle.fz_block.specs.Hdus.{size_at, naxis_of, pcount_index, gcount_index}
 
 -- the bits of a pixel are 8, 16, 32 or 64, with a minus for floating-point numbers of 32 or 64
 abbrev pub is_bitpix : Option ℤ → Bool
@@ -42,8 +42,8 @@ axis_checks k header i =
 abbrev pub count_checks : ℕ → List ℕ → List (Bool × Fault)
 count_checks zero header = []
 count_checks (suc k) header =
-    must (suc k) (3 + size_at header 2) (is_named (codes "PCOUNT") (card_at header (3 + size_at header 2)) && is_size (integer_of (card_at header (3 + size_at header 2))))
-    ∷ must (suc k) (4 + size_at header 2) (is_named (codes "GCOUNT") (card_at header (4 + size_at header 2)) && is_size (integer_of (card_at header (4 + size_at header 2))))
+    must (suc k) (pcount_index header) (is_named (codes "PCOUNT") (card_at header (pcount_index header)) && is_size (integer_of (card_at header (pcount_index header))))
+    ∷ must (suc k) (gcount_index header) (is_named (codes "GCOUNT") (card_at header (gcount_index header)) && is_size (integer_of (card_at header (gcount_index header))))
     ∷ []
 
 -- card 1 is BITPIX
@@ -54,11 +54,11 @@ bitpix_check k header = must k 1 (is_named (codes "BITPIX") (card_at header 1) &
 abbrev pub naxis_checks : ℕ → List ℕ → List (Bool × Fault)
 naxis_checks k header =
     must k 2 (is_named (codes "NAXIS") (card_at header 2) && is_size (integer_of (card_at header 2)))
-    ∷ (nat_lt 9 (size_at header 2), refusal k (Card 2) Limit) ∷ []
+    ∷ (nat_lt 9 (naxis_of header), refusal k (Card 2) Limit) ∷ []
 
 -- the mandatory cards of HDU k, in order
 abbrev pub mandatory_checks : ℕ → List ℕ → List (Bool × Fault)
 mandatory_checks k header =
     extension_checks k header
     ++ (bitpix_check k header ∷ naxis_checks k header
-    ++ (flat_map (axis_checks k header) (range_with_len 1 (size_at header 2)) ++ count_checks k header))
+    ++ (flat_map (axis_checks k header) (range_with_len 1 (naxis_of header)) ++ count_checks k header))

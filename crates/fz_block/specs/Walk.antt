@@ -1,7 +1,10 @@
 -- The HDUs of a file by the facts of their headers, one after another (FITS 4.0, sections 3.1 and 3.3).
-use Rattle.std.specs.Prelude.{ℕ, suc, ◌≡◌, ◌*◌, List, [], ◌∷◌, length, take, drop}
+use Rattle.std.specs.Prelude.{ℕ, zero, suc, ◌≡◌, ◌==◌, ◌*◌, ◌<◌, ◌≤◌, ◌||◌, Bool, true, false, List, [], ◌∷◌, length, take, drop, codes, bytes_eq, Result, Ok, Err, IsOk, ⊤}
+use Rattle.fz_base.specs.declared.fault.Fault.{Fault}
+use Rattle.fz_block.specs.Cards.{card_at}
+use Rattle.fz_block.specs.Checks.{Judge, is_set}
 use Rattle.fz_block.specs.Facts.{IsHeaderOf}
-use Rattle.fz_block.specs.Hdus.{Hdu}
+use Rattle.fz_block.specs.Hdus.{Hdu, IsHeader}
 use Rattle.fz_block.specs.Header.{whole_blocks_of, data_start_of, next_start_of}
 use Rattle.fz_block.specs.declared.header.Header.{Header}
 
@@ -12,8 +15,44 @@ hdu_of file h = record {
   payload = take (whole_blocks_of h.data_len) (drop (data_start_of h) file);
 }
 
--- The headers of a file from HDU k on, which begins at this byte: they are numbered one after another, each stands where the
--- HDU before it ends, and the last HDU ends with the file.
+-- whether a header begins as that of HDU k: with SIMPLE = T, or with XTENSION in an extension
+abbrev pub begins_hdu : ℕ → List ℕ → Bool
+begins_hdu zero header = is_set (codes "SIMPLE") (card_at header 0)
+begins_hdu (suc k) header = bytes_eq (take 8 header) (codes "XTENSION")
+
+-- a header of at most 256 blocks stands at this byte of the file, as that of HDU k, which is one of the first 65,536
+pub record StandsAt (k start : ℕ) (file header : List ℕ) : Type 0 where
+  pub whole : IsHeader header
+  pub short : length header ≤ 737280
+  pub place : take (length header) (drop start file) ≡ header
+  pub number : k < 65536
+  pub begins : begins_hdu k header ≡ true
+
+-- Headers from HDU k on, which begins at the first of two bytes: they are numbered one after another, each stands where the HDU
+-- before it ends, and the last HDU ends at the second.
+abbrev pub AreHeadersBetween : ℕ → ℕ → ℕ → List ℕ → List Header → Type 0
+AreHeadersBetween k start end file [] = start ≡ end
+AreHeadersBetween k start end file (h ∷ hs) = (h.hdu ≡ k) × (h.start ≡ start) × IsHeaderOf (hdu_of file h).header h × AreHeadersBetween (suc k) (next_start_of h) end file hs
+
+-- the headers of a file from HDU k on: the last HDU ends with the file
 abbrev pub AreHeadersFrom : ℕ → ℕ → List ℕ → List Header → Type 0
-AreHeadersFrom k start file [] = start ≡ length file
-AreHeadersFrom k start file (h ∷ hs) = (h.hdu ≡ k) × (h.start ≡ start) × IsHeaderOf (hdu_of file h).header h × AreHeadersFrom (suc k) (next_start_of h) file hs
+AreHeadersFrom k start file hs = AreHeadersBetween k start (length file) file hs
+
+-- whether the job stops at an HDU
+abbrev pub is_stop : Result Bool Fault → Bool
+is_stop (Ok stop) = stop
+is_stop (Err fault) = false
+
+-- whether the job stops at one of these
+abbrev pub stops : Judge → List Header → Bool
+stops judge [] = false
+stops judge (h ∷ hs) = is_stop (judge h) || stops judge hs
+
+-- the job refuses none of these
+abbrev pub RefusesNone : Judge → List Header → Type 0
+RefusesNone judge [] = ⊤
+RefusesNone judge (h ∷ hs) = IsOk (judge h) × RefusesNone judge hs
+
+-- no checks of its own, and a stop behind so many HDUs
+abbrev pub stop_after : ℕ → Judge
+stop_after n h = Ok (suc h.hdu == n)

@@ -1,8 +1,9 @@
 //! The blocks of a header.
-ghost use Rattle.std.specs.Prelude.{◌≡◌, ◌⊎◌, ◌+◌, ◌*◌, ◌≤◌, ◌<◌, Ok, Some, take, drop, codes, bytes_eq, length as len, IfOk, IfErr, IfSome};
+ghost use Rattle.std.specs.Prelude.{◌≡◌, ◌⊎◌, ◌+◌, ◌*◌, ◌≤◌, ◌<◌, Ok, Some, min, take, drop, codes, bytes_eq, length as len, IfOk, IfErr, IfSome};
 ghost use Rattle.fz_base.specs.Counts.{HasCause};
-ghost use Rattle.fz_base.specs.Stop.{ReadsOnly, IsDefined};
-ghost use Rattle.fz_block.specs.Checks.{header_blocks_of};
+ghost use Rattle.fz_base.specs.Stop.{ReadsOnly, IsDefined, IfRefused};
+ghost use Rattle.fz_base.specs.Source.{LogsWithin};
+ghost use Rattle.fz_block.specs.Checks.{IsBlockRefusal, header_blocks_of, header_touched};
 ghost use Rattle.fz_block.specs.Scan.{begin_says, block_says, next_block_says};
 
 use crate::cards::{card, end_card, is_set};
@@ -37,9 +38,12 @@ pub fn header_blocks<S: Source>(
     requires within { (start < length) ⊎ ((hdu ≡ 0) × (start ≡ 0)) }
     ensures range { IfOk result (λ n. (0 < n) × (n ≤ 256) × (start + 2880 * n ≤ length)) }
     ensures exact { IfSome (S.held source.old) (λ g. IsDefined (header_blocks_of hdu start g) result) }
+    ensures log { LogsWithin start (min length (start + 737280)) (S.ranges source.old) (S.ranges source.new) }
+    ensures touched { IfSome (S.held source.old) (λ g. LogsWithin start (header_touched hdu start g) (S.ranges source.old) (S.ranges source.new)) }
+    ensures refused { IfRefused result (λ x. (x.hdu ≡ hdu) × IsBlockRefusal x.kind) }
     ensures held { S.held source.new ≡ S.held source.old }
     ensures attached { S.attached source.new ≡ S.attached source.old }
-    ensures cause { ReadsOnly (S.faults source.old) (S.faults source.new) (S.wants source.old) (S.wants source.new) result }
+    ensures cause { ReadsOnly (S.tally source.old) (S.tally source.new) result }
 {
     check_begin(source, length, hdu, start)?;
     search_end(source, length, hdu, start, block)
@@ -50,9 +54,11 @@ fn check_begin<S: Source>(source: &mut S, length: u64, hdu: u32, start: u64) -> 
     requires attached { S.attached source.old ≡ Some length }
     requires within { (start < length) ⊎ ((hdu ≡ 0) × (start ≡ 0)) }
     ensures exact { IfSome (S.held source.old) (λ g. IsDefined (begin_says hdu start g) result) }
+    ensures log { LogsWithin start (min length (start + 2880)) (S.ranges source.old) (S.ranges source.new) }
+    ensures refused { IfRefused result (λ x. (x.hdu ≡ hdu) × IsBlockRefusal x.kind) }
     ensures held { S.held source.new ≡ S.held source.old }
     ensures attached { S.attached source.new ≡ S.attached source.old }
-    ensures cause { ReadsOnly (S.faults source.old) (S.faults source.new) (S.wants source.old) (S.wants source.new) result }
+    ensures cause { ReadsOnly (S.tally source.old) (S.tally source.new) result }
 {
     if hdu >= MAX_HDUS {
         let fault = refused(hdu, Place::Byte(start), Kind::Limit);
@@ -85,9 +91,12 @@ fn search_end<S: Source>(
     requires begins { IfSome (S.held source.old) (λ g. begin_says hdu start g ≡ Ok tt) }
     ensures range { IfOk result (λ n. (0 < n) × (n ≤ 256) × (start + 2880 * n ≤ length)) }
     ensures exact { IfSome (S.held source.old) (λ g. IsDefined (header_blocks_of hdu start g) result) }
+    ensures log { LogsWithin start (min length (start + 737280)) (S.ranges source.old) (S.ranges source.new) }
+    ensures touched { IfSome (S.held source.old) (λ g. LogsWithin start (header_touched hdu start g) (S.ranges source.old) (S.ranges source.new)) }
+    ensures refused { IfRefused result (λ x. (x.hdu ≡ hdu) × IsBlockRefusal x.kind) }
     ensures held { S.held source.new ≡ S.held source.old }
     ensures attached { S.attached source.new ≡ S.attached source.old }
-    ensures cause { ReadsOnly (S.faults source.old) (S.faults source.new) (S.wants source.old) (S.wants source.new) result }
+    ensures cause { ReadsOnly (S.tally source.old) (S.tally source.new) result }
 {
     for b in 0..MAX_BLOCKS {
         if has_end(source, length, hdu, start, b, block)? {
@@ -103,9 +112,10 @@ fn begins_extension<S: Source>(source: &mut S, length: u64, start: u64) -> Resul
     requires attached { S.attached source.old ≡ Some length }
     requires within { start < length }
     ensures exact { IfOk result (λ b. IfSome (S.held source.old) (λ g. b ≡ bytes_eq (take 8 (drop start g)) (codes "XTENSION"))) }
+    ensures log { LogsWithin start (min length (start + 2880)) (S.ranges source.old) (S.ranges source.new) }
     ensures held { S.held source.new ≡ S.held source.old }
     ensures attached { S.attached source.new ≡ S.attached source.old }
-    ensures cause { HasCause (S.faults source.old) (S.faults source.new) (S.wants source.old) (S.wants source.new) result }
+    ensures cause { HasCause (S.tally source.old) (S.tally source.new) result }
 {
     if length - start < 8 {
         return Ok(false);
@@ -131,9 +141,11 @@ fn has_end<S: Source>(
     ensures within { IfOk result (λ e. start + 2880 * (b + 1) ≤ length) }
     ensures exact { IfSome (S.held source.old) (λ g. IsDefined (next_block_says hdu start b g) result) }
     ensures len { len block.new ≡ 2880 }
+    ensures log { LogsWithin (start + 2880 * b) (min length (start + 2880 * (b + 1))) (S.ranges source.old) (S.ranges source.new) }
+    ensures refused { IfRefused result (λ x. (x.hdu ≡ hdu) × IsBlockRefusal x.kind) }
     ensures held { S.held source.new ≡ S.held source.old }
     ensures attached { S.attached source.new ≡ S.attached source.old }
-    ensures cause { ReadsOnly (S.faults source.old) (S.faults source.new) (S.wants source.old) (S.wants source.new) result }
+    ensures cause { ReadsOnly (S.tally source.old) (S.tally source.new) result }
 {
     let at = start + BLOCK_LEN as u64 * u64::from(b);
     if length - at < BLOCK_LEN as u64 {
@@ -149,7 +161,8 @@ fn has_end<S: Source>(
 // What block b of the header of an HDU says: whether it has END, or why it is refused.
 fn end_in(hdu: u32, b: u32, block: &[u8]) -> Result<bool, Fault>
     requires { len block.now ≡ 2880 }
-    ensures { result ≡ block_says hdu b block.now }
+    ensures says { result ≡ block_says hdu b block.now }
+    ensures refused { IfErr result (λ x. (x.hdu ≡ hdu) × IsBlockRefusal x.kind) }
 {
     if hdu == 0 && b == 0 && !is_set(&card(block, 0), &Name::SIMPLE) {
         return Err(refused(hdu, Place::Card(0), Kind::NotFits));

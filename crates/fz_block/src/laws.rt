@@ -1,10 +1,16 @@
 //! What the definitions of headers and of HDUs promise together.
-ghost use Rattle.std.specs.Prelude.{◌≡◌, ℕ, ◌+◌, ◌≤◌, ◌<◌, Ok, List, length, take, drop, map};
-ghost use Rattle.fz_block.specs.Checks.{headers_of};
-ghost use Rattle.fz_block.specs.Facts.{IsHeaderOf};
-ghost use Rattle.fz_block.specs.Hdus.{Hdu, IsHdu, AreHdusOf};
-ghost use Rattle.fz_block.specs.Header.{data_start_of, next_start_of};
-ghost use Rattle.fz_block.specs.Walk.{hdu_of, AreHeadersFrom};
+ghost use Rattle.std.specs.Prelude.{◌≡◌, All, Bool, true, false, ℕ, Some, None, ◌+◌, ◌*◌, ◌/◌, ◌^◌, ◌≤◌, ◌<◌, Ok, List, length, take, drop, map};
+ghost use Rattle.std.specs.List.{position};
+ghost use Rattle.std.specs.Option.{option_map};
+ghost use Rattle.std.specs.Result.{result_map_both};
+ghost use Rattle.fz_base.specs.Refusal.{first_refusal};
+ghost use Rattle.fz_block.specs.Cards.{card_at, first_among, first_card};
+ghost use Rattle.fz_block.specs.Checks.{Judge, fault_as, header_blocks_of, header_of, hdu_at, hdu_end, walk_of, headers_of};
+ghost use Rattle.fz_block.specs.Facts.{IsHeaderOf, begun_at, facts_as};
+ghost use Rattle.fz_block.specs.Hdus.{Hdu, IsHeader, IsHdu, AreHdusOf, IsCardBeforeEnd, HasBlankFill, cards_of, header_bytes};
+ghost use Rattle.fz_block.specs.Header.{whole_blocks_of, data_start_of, next_start_of};
+ghost use Rattle.fz_block.specs.Mandatory.{mandatory_checks};
+ghost use Rattle.fz_block.specs.Walk.{hdu_of, StandsAt, AreHeadersBetween, AreHeadersFrom, stops, RefusesNone, stop_after};
 ghost use Rattle.fz_block.specs.declared.header.Header.{Header};
 
 /// A header that stands at its place in a file, with its data and their fill in the file, is the header
@@ -14,6 +20,57 @@ pub fn hdu_law()
         → next_start_of h ≤ length file → ((hdu_of file h).header ≡ header) × IsHdu h.hdu (hdu_of file h) }
     ensures places { (file header : List ℕ) (h : Header) → IsHeaderOf header h → next_start_of h ≤ length file
         → (data_start_of h ≡ h.start + length header) × (next_start_of h ≡ data_start_of h + length (hdu_of file h).payload) }
+{}
+
+/// The bytes of a header and its cards stand for each other, where blanks follow END; and the first card
+/// with a property is that of the bytes and that of the list.
+pub fn cards_law()
+    ensures bytes { (header : List ℕ) → IsHeader header → HasBlankFill header → header_bytes (cards_of header) ≡ header }
+    ensures cards { (cards : List (List ℕ)) → All IsCardBeforeEnd cards → cards_of (header_bytes cards) ≡ cards }
+    ensures header { (cards : List (List ℕ)) → All IsCardBeforeEnd cards → IsHeader (header_bytes cards) × HasBlankFill (header_bytes cards) × (length (header_bytes cards) ≡ whole_blocks_of (80 * (length cards + 1))) }
+    ensures first { (has : List ℕ → Bool) (header : List ℕ) → first_card has header ≡ position has (cards_of header) }
+{}
+
+/// The first of so many cards that has a property: it has it, and none before it has.
+pub fn first_card_law()
+    ensures found { (has : List ℕ → Bool) (n i : ℕ) (cards : List ℕ) → i < n → has (card_at cards i) ≡ true
+        → ((k : ℕ) → k < i → has (card_at cards k) ≡ false) → first_among has n cards ≡ Some i }
+    ensures none { (has : List ℕ → Bool) (n : ℕ) (cards : List ℕ) → ((k : ℕ) → k < n → has (card_at cards k) ≡ false) → first_among has n cards ≡ None }
+{}
+
+/// All facts of a header but where it begins are those of its bytes: they are the same at another place,
+/// where its HDU ends within the file too.
+pub fn start_law()
+    ensures facts { (header : List ℕ) (h : Header) (start : ℕ) → IsHeaderOf header h → IsHeaderOf header (begun_at start h) }
+    ensures checks { (k start len : ℕ) (header : List ℕ) (h : Header) (start' len' : ℕ) → header_of k start len header ≡ Ok h
+        → hdu_end k start' header ≤ len' → hdu_end k start' header ≤ 2 ^ 62 → header_of k start' len' header ≡ Ok (begun_at start' h) }
+{}
+
+/// The facts and the checks of an extension do not depend on its number, which is at least 1: as another
+/// HDU of the file it has the same facts but for the number, and the same check refuses it, or none.
+pub fn number_law()
+    ensures facts { (header : List ℕ) (h : Header) (k : ℕ) → IsHeaderOf header h → 0 < h.hdu → 0 < k → IsHeaderOf header (facts_as k h) }
+    ensures mandatory { (j k : ℕ) (header : List ℕ) → 0 < j → 0 < k
+        → first_refusal (mandatory_checks k header) ≡ option_map (fault_as k) (first_refusal (mandatory_checks j header)) }
+    ensures checks { (j k start len : ℕ) (header : List ℕ) → 0 < j → 0 < k
+        → header_of k start len header ≡ result_map_both (facts_as k) (fault_as k) (header_of j start len header) }
+{}
+
+/// A header that stands in a file is found there: the search ends with its last block, and the checks
+/// are made of its bytes.
+pub fn found_law()
+    ensures blocks { (k start : ℕ) (file header : List ℕ) → StandsAt k start file header → header_blocks_of k start file ≡ Ok (length header / 2880) }
+    ensures header { (k start : ℕ) (file header : List ℕ) → StandsAt k start file header → hdu_at k start file ≡ header_of k start (length file) header }
+{}
+
+/// A walk over HDUs, which makes the checks of every job and then those of a job for one HDU after
+/// another, and may stop: it passes what the checks of every job pass up to there, finds the first HDUs
+/// of the file, and all of them where it does not stop.
+pub fn walk_law()
+    ensures headers { (judge : Judge) (most : ℕ) (file : List ℕ) (hs : List Header) → walk_of judge most file ≡ Ok hs → (0 < length hs) × (length hs ≤ most) × RefusesNone judge hs × ((end : ℕ) × (end ≤ length file) × AreHeadersBetween 0 0 end file hs) }
+    ensures up_to { (judge : Judge) (most : ℕ) (file : List ℕ) (hs : List Header) → walk_of judge most file ≡ Ok hs → walk_of (stop_after (length hs)) most file ≡ Ok hs }
+    ensures begins { (judge : Judge) (most : ℕ) (file : List ℕ) (hs : List Header) (ks : List Hdu) → walk_of judge most file ≡ Ok hs → AreHdusOf file ks → take (length hs) ks ≡ map (hdu_of file) hs }
+    ensures whole { (judge : Judge) (most : ℕ) (file : List ℕ) (hs : List Header) → walk_of judge most file ≡ Ok hs → stops judge hs ≡ false → headers_of most file ≡ Ok hs }
 {}
 
 /// The checks of all headers, one after another, find the HDUs of a file, and a file has at most one list

@@ -1,6 +1,6 @@
 //! HDUs of a file: the header at a place, read and checked, and where its data and the next HDU stand.
 //!
-//! Reading order: `axes`, `header`, `cards`, `blocks`, `mandatory`, `read`, `laws`.
+//! Reading order: `axes`, `header`, `cards`, `blocks`, `mandatory`, `read`, `next`, `laws`.
 #![tactic(auto)]
 
 mod axes;
@@ -9,6 +9,7 @@ mod cards;
 mod header;
 mod laws;
 mod mandatory;
+mod next;
 mod read;
 mod refused;
 #[cfg(test)]
@@ -18,5 +19,8 @@ pub use axes::Axes;
 pub use blocks::{BLOCK_LEN, header_blocks};
 pub use cards::card;
 pub use header::{Header, Sort, data_start, next_start};
-pub use laws::{hdu_law, hdu_list_law};
-pub use read::read_header;
+pub use laws::{
+    cards_law, first_card_law, found_law, hdu_law, hdu_list_law, number_law, start_law, walk_law,
+};
+pub use next::{ReadHeader, header_at};
+pub use read::{buffered_header, read_header};

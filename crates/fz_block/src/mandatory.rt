@@ -1,14 +1,14 @@
 //! The cards that a header must have, each in its place (FITS 4.0, section 4.4.1).
-ghost use Rattle.std.specs.Prelude.{◌≡◌, ◌+◌, ◌-◌, ◌*◌, ◌≤◌, true, false, [], ◌∷◌, ◌++◌, Some, None, length as len, map, replicate, IfOk};
+ghost use Rattle.std.specs.Prelude.{◌≡◌, ◌+◌, ◌-◌, ◌*◌, ◌≤◌, true, false, [], ◌∷◌, ◌++◌, Some, length as len, map, replicate, IfOk};
 ghost use Rattle.std.specs.Result.{MatchResult};
 ghost use Rattle.std.specs.List.{flat_map, range_with_len};
-ghost use Rattle.fz_base.specs.Refusal.{refusal, first_refusal};
+ghost use Rattle.fz_base.specs.Refusal.{IsFirstOf, refusal};
 ghost use Rattle.fz_base.specs.declared.fault.Place.TheVariants.{Card as AtCard};
 ghost use Rattle.fz_base.specs.declared.kind.Kind.TheVariants.{BadCard};
 ghost use Rattle.fz_card.specs.Reading.{integer_of};
 ghost use Rattle.fz_block.specs.Cards.{card_at};
-ghost use Rattle.fz_block.specs.Hdus.{size_at, axes_of};
-ghost use Rattle.fz_block.specs.Facts.{nine_axes, pcount_of, gcount_of};
+ghost use Rattle.fz_block.specs.Hdus.{size_at, naxis_of, axes_of, pcount_of, gcount_of};
+ghost use Rattle.fz_block.specs.Facts.{nine_axes};
 ghost use Rattle.fz_block.specs.Mandatory.{mandatory_checks, extension_checks, bitpix_check, naxis_checks, axis_checks, count_checks};
 ghost use Rattle.fz_block.specs.Values.{has_size};
 
@@ -35,7 +35,7 @@ pub(crate) struct Mandatory {
 /// allowed value.
 pub(crate) fn mandatory_cards(buf: &[u8], hdu: u32) -> Result<Mandatory, Fault>
     requires { 2880 ≤ len buf.now }
-    ensures exact { MatchResult result (λ m. first_refusal (mandatory_checks hdu buf.now) ≡ None) (λ x. first_refusal (mandatory_checks hdu buf.now) ≡ Some x) }
+    ensures exact { IsFirstOf (mandatory_checks hdu buf.now) result }
     ensures bitpix { IfOk result (λ m. integer_of (card_at buf.now 1) ≡ Some m.bitpix) }
     ensures axes { IfOk result (λ m. m.axes ≡ nine_axes (axes_of buf.now)) }
     ensures few { IfOk result (λ m. m.axes.n ≤ 9) }
@@ -57,7 +57,7 @@ pub(crate) fn mandatory_cards(buf: &[u8], hdu: u32) -> Result<Mandatory, Fault>
 // Card 0 of an extension is XTENSION with a text.
 fn check_extension(buf: &[u8], hdu: u32) -> Result<(), Fault>
     requires { 2880 ≤ len buf.now }
-    ensures { MatchResult result (λ _. first_refusal (extension_checks hdu buf.now) ≡ None) (λ x. first_refusal (extension_checks hdu buf.now) ≡ Some x) }
+    ensures { IsFirstOf (extension_checks hdu buf.now) result }
 {
     let first = card(buf, 0);
     let mut text = [0; FIELD_LEN];
@@ -71,7 +71,7 @@ fn check_extension(buf: &[u8], hdu: u32) -> Result<(), Fault>
 // Card 1 is BITPIX.
 fn bitpix(buf: &[u8], hdu: u32) -> Result<i32, Fault>
     requires { 2880 ≤ len buf.now }
-    ensures exact { MatchResult result (λ _. first_refusal (bitpix_check hdu buf.now ∷ []) ≡ None) (λ x. first_refusal (bitpix_check hdu buf.now ∷ []) ≡ Some x) }
+    ensures exact { IsFirstOf (bitpix_check hdu buf.now ∷ []) result }
     ensures value { IfOk result (λ v. integer_of (card_at buf.now 1) ≡ Some v) }
 {
     let second = card(buf, 1);
@@ -86,8 +86,8 @@ fn bitpix(buf: &[u8], hdu: u32) -> Result<i32, Fault>
 // Card 2 is NAXIS, of at most 9.
 fn axis_count(buf: &[u8], hdu: u32) -> Result<u32, Fault>
     requires { 2880 ≤ len buf.now }
-    ensures exact { MatchResult result (λ _. first_refusal (naxis_checks hdu buf.now) ≡ None) (λ x. first_refusal (naxis_checks hdu buf.now) ≡ Some x) }
-    ensures value { IfOk result (λ n. (n ≡ size_at buf.now 2) × (n ≤ 9)) }
+    ensures exact { IsFirstOf (naxis_checks hdu buf.now) result }
+    ensures value { IfOk result (λ n. (n ≡ naxis_of buf.now) × (n ≤ 9)) }
 {
     let n = size(buf, hdu, 2, Name::NAXIS)?;
     if n > MAX_AXES as u64 {
@@ -100,7 +100,7 @@ fn axis_count(buf: &[u8], hdu: u32) -> Result<u32, Fault>
 fn axis_lengths(buf: &[u8], hdu: u32, n: u32) -> Result<[u32; MAX_AXES], Fault>
     requires buf { 2880 ≤ len buf.now }
     requires few { n ≤ 9 }
-    ensures exact { MatchResult result (λ _. first_refusal (flat_map (axis_checks hdu buf.now) (range_with_len 1 n)) ≡ None) (λ x. first_refusal (flat_map (axis_checks hdu buf.now) (range_with_len 1 n)) ≡ Some x) }
+    ensures exact { IsFirstOf (flat_map (axis_checks hdu buf.now) (range_with_len 1 n)) result }
     ensures value { IfOk result (λ a. a ≡ map (size_at buf.now) (range_with_len 3 n) ++ replicate (9 - n) 0) }
 {
     let mut lengths = [0; MAX_AXES];
@@ -114,7 +114,7 @@ fn axis_lengths(buf: &[u8], hdu: u32, n: u32) -> Result<[u32; MAX_AXES], Fault>
 fn axis(buf: &[u8], hdu: u32, i: u32) -> Result<u32, Fault>
     requires buf { 2880 ≤ len buf.now }
     requires axis { i ≤ 9 }
-    ensures exact { MatchResult result (λ _. first_refusal (axis_checks hdu buf.now i) ≡ None) (λ x. first_refusal (axis_checks hdu buf.now i) ≡ Some x) }
+    ensures exact { IsFirstOf (axis_checks hdu buf.now i) result }
     ensures value { IfOk result (λ n. n ≡ size_at buf.now (2 + i)) }
 {
     let n = size(buf, hdu, 2 + i, numbered(b"NAXIS", i))?;
@@ -127,8 +127,8 @@ fn axis(buf: &[u8], hdu: u32, i: u32) -> Result<u32, Fault>
 // PCOUNT and GCOUNT, which stand behind the n axes of an extension.
 fn counts(buf: &[u8], hdu: u32, n: u32) -> Result<(u64, u64), Fault>
     requires buf { 2880 ≤ len buf.now }
-    requires axes { (n ≡ size_at buf.now 2) × (n ≤ 9) }
-    ensures exact { MatchResult result (λ _. first_refusal (count_checks hdu buf.now) ≡ None) (λ x. first_refusal (count_checks hdu buf.now) ≡ Some x) }
+    requires axes { (n ≡ naxis_of buf.now) × (n ≤ 9) }
+    ensures exact { IsFirstOf (count_checks hdu buf.now) result }
     ensures value { IfOk result (λ c. (c.0 ≡ pcount_of hdu buf.now) × (c.1 ≡ gcount_of hdu buf.now)) }
 {
     if hdu == 0 {

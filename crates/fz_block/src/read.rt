@@ -1,9 +1,8 @@
 //! The facts of a header, read and checked.
-ghost use Rattle.std.specs.Prelude.{ℕ, ◌≡◌, ◌+◌, ◌*◌, ◌-◌, ◌≤◌, ◌<◌, ◌^◌, true, false, Some, None, IsNone, take, min, codes, length as len, IfOk, IfSome};
-ghost use Rattle.std.specs.Result.{MatchResult};
+ghost use Rattle.std.specs.Prelude.{ℕ, ◌≡◌, ◌+◌, ◌*◌, ◌-◌, ◌≤◌, ◌<◌, ◌^◌, true, false, Some, IsNone, take, min, codes, length as len, IfOk, IfSome};
 ghost use Rattle.fz_base.specs.Stop.{ReadsOnly, IsDefined, IfAnswered};
-ghost use Rattle.fz_base.specs.Source.{Reads};
-ghost use Rattle.fz_base.specs.Refusal.{first_refusal};
+ghost use Rattle.fz_base.specs.Source.{Reads, logged, MayLog};
+ghost use Rattle.fz_base.specs.Refusal.{IsFirstOf};
 ghost use Rattle.fz_block.specs.Cards.{end_of, first_among};
 ghost use Rattle.fz_block.specs.Hdus.{axes_of, places as places_of};
 ghost use Rattle.fz_block.specs.Checks.{header_of, ends_in_last_block, group_checks, end_checks, is_set as is_set_of};
@@ -47,16 +46,21 @@ pub fn read_header<S: Source>(
     ensures header { IsDefined (header_of hdu start length buf.new) result }
     ensures facts { IfOk result (λ h. IsHeaderOf buf.new h × (h.hdu ≡ hdu) × (h.start ≡ start)) }
     ensures within { IfOk result (λ h. (next_start_of h ≤ length) × (next_start_of h ≤ 2 ^ 62)) }
+    ensures logged { IfAnswered result (S.ranges source.new ≡ logged start (len buf.old) (S.ranges source.old)) }
+    ensures log { MayLog start (len buf.old) (S.ranges source.old) (S.ranges source.new) }
     ensures held { S.held source.new ≡ S.held source.old }
     ensures attached { S.attached source.new ≡ S.attached source.old }
-    ensures cause { ReadsOnly (S.faults source.old) (S.faults source.new) (S.wants source.old) (S.wants source.new) result }
+    ensures cause { ReadsOnly (S.tally source.old) (S.tally source.new) result }
 {
     source.read_at(start, buf).map_err(Stop::reading)?;
-    header_in(buf, length, hdu, start).map_err(Stop::Refused)
+    buffered_header(buf, length, hdu, start).map_err(Stop::Refused)
 }
 
-// The facts of the header of an HDU in a file of so many bytes, or the first check that refuses.
-fn header_in(buf: &[u8], length: u64, hdu: u32, start: u64) -> Result<Header, Fault>
+/// The facts of the header of 1 to 256 blocks that stands in the buffer, as that of this HDU, which begins
+/// at this byte of a file of this length.
+///
+/// Refused as by `read_header`, in the same order.
+pub fn buffered_header(buf: &[u8], length: u64, hdu: u32, start: u64) -> Result<Header, Fault>
     requires blocks { (n : ℕ) × (0 < n) × (n ≤ 256) × (len buf.now ≡ 2880 * n) }
     requires within { start + len buf.now ≤ length }
     ensures exact { result ≡ header_of hdu start length buf.now }
@@ -99,7 +103,7 @@ fn check_groups(buf: &[u8], hdu: u32, cards: u32, axes: &Axes) -> Result<(), Fau
     requires end { end_of buf.now ≡ Some cards }
     requires axes { axes.now ≡ nine_axes (axes_of buf.now) }
     requires few { axes.now.n ≤ 9 }
-    ensures { MatchResult result (λ _. first_refusal (group_checks hdu buf.now) ≡ None) (λ x. first_refusal (group_checks hdu buf.now) ≡ Some x) }
+    ensures { IsFirstOf (group_checks hdu buf.now) result }
 {
     if hdu > 0 || axes.n == 0 || axes.len[0] > 0 {
         return Ok(());
@@ -151,7 +155,7 @@ fn places(axes: &Axes) -> u64
 
 // The data that begin here end, with their fill, at byte 2^62 at most, and within the file.
 fn check_end(hdu: u32, data_start: u64, data_len: u64, length: u64) -> Result<(), Fault>
-    ensures { MatchResult result (λ _. first_refusal (end_checks hdu length (data_start + whole_blocks_of data_len)) ≡ None) (λ x. first_refusal (end_checks hdu length (data_start + whole_blocks_of data_len)) ≡ Some x) }
+    ensures { IsFirstOf (end_checks hdu length (data_start + whole_blocks_of data_len)) result }
 {
     if data_start > MAX_PLACE
         || data_len > MAX_PLACE

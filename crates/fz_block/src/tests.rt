@@ -1,7 +1,8 @@
 //! Each public call on a file that is taken, and rows of refused files with the values of the rules.
 use crate::{
-    Axes, BLOCK_LEN, Header, Sort, card, data_start, hdu_law, hdu_list_law, header_blocks,
-    next_start, read_header,
+    Axes, BLOCK_LEN, Header, Sort, buffered_header, card, cards_law, data_start, first_card_law,
+    found_law, hdu_law, hdu_list_law, header_blocks, next_start, number_law, read_header,
+    start_law, walk_law,
 };
 use fz_base::{Fault, Kind, MemSource, Place, Source, Stop};
 use std::alloc::Global;
@@ -147,6 +148,64 @@ fn places(rt: HostRuntime) {
     assert_eq!(rt; (data_start(&TABLE), next_start(&TABLE)), (5760, 8640));
     hdu_law();
     hdu_list_law();
+    start_law();
+    number_law();
+    found_law();
+    walk_law();
+    cards_law();
+    first_card_law();
+}
+
+/// A source of such a file, whose header was looked for, and read, where it has one block.
+fn looked_at(
+    alloc: Global,
+    len: u32,
+    cards: &[Text],
+    hdu: u32,
+    start: u64,
+) -> Result<MemSource, Stop> {
+    let mut source = source_of(alloc, len, cards)?;
+    let length = source.attach("any").map_err(Stop::reading)?;
+    let mut block = [0; BLOCK_LEN];
+    if start >= length || length - start < 2880 {
+        return Err(Stop::NoMemory);
+    }
+    if header_blocks(&mut source, length, hdu, start, &mut block) == Ok(1) {
+        let mut header = [0; BLOCK_LEN];
+        read_header(&mut source, length, hdu, start, &mut header)?;
+    }
+    Ok(source)
+}
+
+#[test]
+fn reads_headers_alone(rt: HostRuntime) -> Result<(), Fail> {
+    let alloc = rt.alloc();
+    let source = looked_at(alloc, 8640, &SMALL_CARDS, 0, 0)?;
+    assert_eq!(rt; source.reads(), [(0, 2880), (0, 2880)].as_slice());
+    let source = looked_at(alloc, 11520, &TABLE_CARDS, 1, 2880)?;
+    assert_eq!(rt;
+        source.reads(),
+        [(2880, 8), (2880, 2880), (2880, 2880)].as_slice()
+    );
+    // END in block 1, none in a file that ends there, another first card, and bytes behind an HDU
+    let source = looked_at(alloc, 8640, &[(0, SIMPLE), (36, END)], 0, 0)?;
+    assert_eq!(rt; source.reads(), [(0, 2880), (2880, 2880)].as_slice());
+    let source = looked_at(alloc, 5000, &[(0, SIMPLE)], 0, 0)?;
+    assert_eq!(rt; source.reads(), [(0, 2880)].as_slice());
+    let source = looked_at(alloc, 8640, &[(0, END)], 0, 0)?;
+    assert_eq!(rt; source.reads(), [(0, 2880)].as_slice());
+    let source = looked_at(alloc, 8640, &SMALL_CARDS, 1, 5760)?;
+    assert_eq!(rt; source.reads(), [(5760, 8)].as_slice());
+    Ok(())
+}
+
+#[test]
+fn a_header_in_a_buffer(rt: HostRuntime) {
+    let mut block = [b' '; BLOCK_LEN];
+    for (i, text) in SMALL_CARDS {
+        put(&mut block, i, text);
+    }
+    assert_eq!(rt; buffered_header(&block, 5760, 0, 0), Ok(SMALL));
 }
 
 #[test]

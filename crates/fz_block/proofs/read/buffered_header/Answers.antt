@@ -2,7 +2,7 @@ use Rattle.std.proofs.Common.{◌≡◌, Some, Ok, Err, refl, sym, ap, ◌∙◌
 use Rattle.std.proofs.lemmas.Int.{to_z-of_z}
 use Rattle.fz_block.proofs.HeaderLemmas.{not_whole, in_mandatory, in_groups, in_end, all_pass, end_same, len_same, said_is, facts_are}
 use Rattle.fz_block.proofs.Wholes.{whole_header}
-use Rattle.fz_block.proofs.read.header_in.Goals as goal
+use Rattle.fz_block.proofs.read.buffered_header.Goals as goal
 
 pub returns-in_default-clause-exact : goal.returns-in_default-clause-exact
 returns-in_default-clause-exact c = ap Err c.refused.ensures ∙ sym (not_whole c.args.hdu c.args.start c.args.length c.args.buf.now (c.in_default.ensures.none refl))
