@@ -1,13 +1,14 @@
 -- Where the columns stand in a row.
-use Rattle.std.proofs.Common.{◌≡◌, ℕ, zero, suc, ◌+◌, ◌-◌, ◌<◌, ◌≤◌, ◌==◌, ◌⊎◌, inl, inr, Bool, true, false, ◌&&◌, if◌then◌else◌, List, [], ◌∷◌, length, drop, codes, nat_lt, Option, Some, None, IfSome, refl, ap, sym, subst, ◌∙◌, arith}
+use Rattle.std.proofs.Common.{◌≡◌, ℕ, zero, suc, ◌+◌, ◌-◌, ◌<◌, ◌≤◌, ◌==◌, ◌⊎◌, inl, inr, Bool, true, false, ◌&&◌, if◌then◌else◌, List, [], ◌∷◌, length, drop, codes, nat_lt, nat_le, ◌||◌, Option, Some, None, IfSome, refl, ap, sym, subst, ◌∙◌, arith}
+use Rattle.std.specs.List.{list_any, list_all}
 use Rattle.std.specs.Option.{option_and_then}
 use Rattle.std.specs.Str.{byte}
 use Rattle.std.proofs.lemmas.Bool.Decides.{nat_tests}
 use Rattle.fz_table.specs.Forms.{is_any, elements_len, first_digits, repeat_in, may_repeat, form_of_len, lettered, form_in}
-use Rattle.fz_table.specs.Columns.{text_at, tform_card, form_of, title_of, is_called, width_of, columns_len, is_element, describes, column_of, column_called}
+use Rattle.fz_table.specs.Columns.{text_at, tform_card, form_of, title_of, is_called, width_of, columns_len, is_element, describes, unit_of, column_of, column_called}
 use Rattle.fz_table.specs.Rows.{descriptor_len}
-use Rattle.fz_table.specs.Found.{IsFound, AreFound}
-use Rattle.fz_table.specs.Tables.{coded_name, stored_name, gzip_name}
+use Rattle.fz_table.specs.Found.{IsFound, AreFound, HaveBytes}
+use Rattle.fz_table.specs.Tables.{coded_name, stored_name, gzip_name, tile_letters, gzip_letters}
 use Rattle.fz_table.specs.declared.column.Column.{Column}
 use Rattle.fz_table.specs.declared.form.Form.{Form}
 
@@ -85,10 +86,40 @@ descriptor_width header letters i form at is =
     let one : elements_len form.letter 1 ≡ Some form.len = rw once at len in
     one_len form.letter form.len (two_letters form.letter front.0) one ∙ ap width_of (sym at)
 
+-- an element of one of the letters has bytes
+element_bytes : (letters : List ℕ) (element : Option ℕ) → HaveBytes letters → is_element letters element ≡ true → 1 ≤ unit_of element
+element_bytes letters None bytes is = absurd cc
+element_bytes letters (Some letter) bytes is = bytes letter is
+
+-- a letter among some that all pass a test
+one_passes : (x letter : ℕ) (xs : List ℕ) (test : ℕ → Bool) (b : Bool) → (x == letter) ≡ b → (test x && list_all test xs) ≡ true → (b || list_any (λ y. y == letter) xs) ≡ true →
+    (list_all test xs ≡ true → list_any (λ y. y == letter) xs ≡ true → test letter ≡ true) → test letter ≡ true
+one_passes x letter xs test true same all some more =
+    let here : x ≡ letter = grind (arith, nat_tests) in
+    ap test (sym here) ∙ (both (test x) (list_all test xs) all).0
+one_passes x letter xs test false same all some more = more (both (test x) (list_all test xs) all).1 some
+
+any_passes : (letters : List ℕ) (letter : ℕ) (test : ℕ → Bool) → list_all test letters ≡ true → is_any letters letter ≡ true → test letter ≡ true
+any_passes [] letter test all some = absurd cc
+any_passes (x ∷ xs) letter test all some = one_passes x letter xs test (x == letter) refl all some (any_passes xs letter test)
+
+have_bytes : (letters : List ℕ) → list_all (λ letter. nat_le 1 (unit_of (Some letter))) letters ≡ true → HaveBytes letters
+have_bytes letters all letter is =
+    let test : nat_le 1 (unit_of (Some letter)) ≡ true = any_passes letters letter (λ l. nat_le 1 (unit_of (Some l))) all is in
+    grind (arith, nat_tests)
+
+pub tile_bytes : HaveBytes tile_letters
+unfolding elements_len
+tile_bytes = have_bytes tile_letters refl
+
+pub gzip_bytes : HaveBytes gzip_letters
+unfolding elements_len
+gzip_bytes = have_bytes gzip_letters refl
+
 -- the next column has another name
-wider : (found : Option Column) (m n : ℕ) → m ≤ n → IfSome found (λ c. c.at + descriptor_len c.wide ≤ m) → IfSome found (λ c. c.at + descriptor_len c.wide ≤ n)
+wider : (found : Option Column) (m n : ℕ) → m ≤ n → IfSome found (λ c. (c.at + descriptor_len c.wide ≤ m) × (1 ≤ c.unit)) → IfSome found (λ c. (c.at + descriptor_len c.wide ≤ n) × (1 ≤ c.unit))
 wider None m n h is = is
-wider (Some c) m n h is = omega (arith, is)
+wider (Some c) m n h is = (omega (arith, is.0), is.1)
 
 skipped : (name header : List ℕ) (k : ℕ) → is_called name (title_of header (suc k)) ≡ false → column_called name header (suc k) ≡ column_called name header k
 unfolding column_called
@@ -110,18 +141,22 @@ taken : (name header : List ℕ) (k : ℕ) → is_called name (title_of header (
 unfolding column_called
 taken name header k named = rw named refl
 
-pub this_name : (name letters header : List ℕ) (i at : ℕ) (form : Form) (c : Column) → 0 < i → is_called name (title_of header i) ≡ true → at ≡ columns_len header (i - 1) →
+pub this_name : (name letters header : List ℕ) (i at : ℕ) (form : Form) (c : Column) → HaveBytes letters → 0 < i → is_called name (title_of header i) ≡ true → at ≡ columns_len header (i - 1) →
     form_of header i ≡ Some form → describes letters (Some form) ≡ true → c ≡ column_of at (Some form) → IsFound name header i (Some c)
-this_name name letters header zero at form c some named place formed is same = absurd (omega arith)
-this_name name letters header (suc k) at form c some named place formed is same =
+this_name name letters header zero at form c bytes some named place formed is same = absurd (omega arith)
+this_name name letters header (suc k) at form c bytes some named place formed is same =
     let e : suc k - 1 ≡ k = omega arith in
     let here : at ≡ columns_len header k = place ∙ ap (columns_len header) e in
     let column : c ≡ column_of (columns_len header k) (form_of header (suc k)) = same ∙ (ap (λ n. column_of n (Some form)) here ∙ ap (column_of (columns_len header k)) (sym formed)) in
     let start : c.at ≡ columns_len header k = ap (λ (d : Column). d.at) same ∙ here in
     let size : descriptor_len c.wide ≡ width_of (form_of header (suc k)) = ap (λ (d : Column). descriptor_len d.wide) same ∙ descriptor_width header letters (suc k) form formed is in
+    let described = both (is_any (codes "PQ") form.letter && form.repeat == 1) (is_element letters form.element) is in
+    let unit : c.unit ≡ unit_of form.element = ap (λ (d : Column). d.unit) same in
+    let bytes_in : 1 ≤ unit_of form.element = element_bytes letters form.element bytes described.1 in
+    let there : c.at + descriptor_len c.wide ≤ columns_len header (suc k) = omega (arith, columns_len-suc header k) in
     record {
       called = ap Some column ∙ sym (taken name header k named);
-      within = omega (arith, columns_len-suc header k);
+      within = (there, omega (arith, unit, bytes_in));
     }
 
 -- among no columns there is none

@@ -6,8 +6,8 @@ use Rattle.fz_base.specs.Refusal.{first_refusal}
 use Rattle.fz_base.specs.declared.fault.Fault.{Fault}
 use Rattle.fz_card.specs.Reading.{integer_of}
 use Rattle.fz_block.specs.Cards.{card_at}
-use Rattle.fz_block.specs.Hdus.{size_in, size_at, axes_of, array_len, data_len_of}
-use Rattle.fz_block.specs.Facts.{IsHeaderOf, nine_axes, pcount_of, gcount_of}
+use Rattle.fz_block.specs.Hdus.{size_in, size_at, axes_of, array_len, data_len_of, pcount_of, gcount_of}
+use Rattle.fz_block.specs.Facts.{IsHeaderOf, nine_axes}
 use Rattle.fz_block.specs.Header.{data_start_of}
 use Rattle.fz_block.specs.Checks.{unless_refused}
 use Rattle.fz_block.specs.declared.header.Header.{Header}

@@ -1,8 +1,7 @@
 //! The checks of a packed table before those of its columns' names.
 ghost use Rattle.std.specs.Prelude.{◌≡◌, ◌+◌, ◌*◌, ◌≤◌, ◌<◌, ◌^◌, ◌++◌, pos, Some, None, IfOk, OnOk};
 ghost use Rattle.std.specs.List.{flat_map, range_with_len};
-ghost use Rattle.std.specs.Result.{MatchResult};
-ghost use Rattle.fz_base.specs.Refusal.{first_refusal};
+ghost use Rattle.fz_base.specs.Refusal.{IsFirstOf};
 ghost use Rattle.fz_block.specs.Facts.{IsHeaderOf};
 ghost use Rattle.fz_block.specs.Header.{next_start_of};
 ghost use Rattle.fz_table.specs.Columns.{field_count, form_of, width_of, columns_len};
@@ -19,7 +18,7 @@ const MAX_FIELDS: i64 = 999;
 /// BITPIX is 8, there are two axes, and one group. The data are then the rows and PCOUNT bytes.
 pub(crate) fn check_array(header: &Header) -> Result<(), Fault>
     ensures array { OnOk result ((header.now.bitpix ≡ pos 8) × (header.now.axes.n ≡ 2) × (header.now.gcount ≡ 1)) }
-    ensures exact { MatchResult result (λ _. first_refusal (array_checks header.now) ≡ None) (λ x. first_refusal (array_checks header.now) ≡ Some x) }
+    ensures exact { IsFirstOf (array_checks header.now) result }
 {
     if header.bitpix != 8 {
         return Err(bad_table(header, Some(1)));
@@ -36,7 +35,7 @@ pub(crate) fn check_array(header: &Header) -> Result<(), Fault>
 /// TFIELDS, the number of columns.
 pub(crate) fn field_count(buf: &[u8], header: &Header) -> Result<u32, Fault>
     requires { IsHeaderOf buf.now header.now }
-    ensures exact { MatchResult result (λ _. first_refusal (field_checks buf.now header.now) ≡ None) (λ x. first_refusal (field_checks buf.now header.now) ≡ Some x) }
+    ensures exact { IsFirstOf (field_checks buf.now header.now) result }
     ensures count { IfOk result (λ n. (n ≡ field_count buf.now) × (n < 1000)) }
 {
     let found = first_named(buf, header, &Name::TFIELDS);
@@ -50,7 +49,7 @@ pub(crate) fn field_count(buf: &[u8], header: &Header) -> Result<u32, Fault>
 pub(crate) fn columns_len(buf: &[u8], header: &Header, fields: u32) -> Result<u64, Fault>
     requires header { IsHeaderOf buf.now header.now }
     requires few { fields < 1000 }
-    ensures exact { MatchResult result (λ _. first_refusal (flat_map (form_checks buf.now header.now) (range_with_len 1 fields)) ≡ None) (λ x. first_refusal (flat_map (form_checks buf.now header.now) (range_with_len 1 fields)) ≡ Some x) }
+    ensures exact { IsFirstOf (flat_map (form_checks buf.now header.now) (range_with_len 1 fields)) result }
     ensures len { IfOk result (λ n. n ≡ columns_len buf.now fields) }
 {
     let mut len = 0;
@@ -64,7 +63,7 @@ pub(crate) fn columns_len(buf: &[u8], header: &Header, fields: u32) -> Result<u6
 fn width(buf: &[u8], header: &Header, i: u32) -> Result<u64, Fault>
     requires header { IsHeaderOf buf.now header.now }
     requires column { i < 1000 }
-    ensures exact { MatchResult result (λ _. first_refusal (form_checks buf.now header.now i) ≡ None) (λ x. first_refusal (form_checks buf.now header.now i) ≡ Some x) }
+    ensures exact { IsFirstOf (form_checks buf.now header.now i) result }
     ensures len { IfOk result (λ n. n ≡ width_of (form_of buf.now i)) }
     ensures short { IfOk result (λ n. n < 2 ^ 34) }
 {
@@ -79,9 +78,7 @@ fn width(buf: &[u8], header: &Header, i: u32) -> Result<u64, Fault>
 pub(crate) fn row_len(buf: &[u8], header: &Header, fields: u32) -> Result<u32, Fault>
     requires header { IsHeaderOf buf.now header.now }
     requires count { (fields ≡ field_count buf.now) × (fields < 1000) }
-    ensures exact { MatchResult result
-        (λ _. first_refusal (flat_map (form_checks buf.now header.now) (range_with_len 1 fields) ++ width_checks buf.now header.now) ≡ None)
-        (λ x. first_refusal (flat_map (form_checks buf.now header.now) (range_with_len 1 fields) ++ width_checks buf.now header.now) ≡ Some x) }
+    ensures exact { IsFirstOf (flat_map (form_checks buf.now header.now) (range_with_len 1 fields) ++ width_checks buf.now header.now) result }
     ensures len { IfOk result (λ n. (n ≡ row_len_of header.now) × (n ≡ columns_len buf.now fields)) }
 {
     let len = header.axes.len[0];
@@ -96,7 +93,7 @@ pub(crate) fn row_len(buf: &[u8], header: &Header, fields: u32) -> Result<u32, F
 pub(crate) fn heap_start(buf: &[u8], header: &Header) -> Result<u64, Fault>
     requires header { IsHeaderOf buf.now header.now }
     requires data { header.now.data_len ≡ rows_len_of header.now + header.now.pcount }
-    ensures exact { MatchResult result (λ _. first_refusal (heap_checks buf.now header.now) ≡ None) (λ x. first_refusal (heap_checks buf.now header.now) ≡ Some x) }
+    ensures exact { IsFirstOf (heap_checks buf.now header.now) result }
     ensures start { IfOk result (λ n. n ≡ heap_start_of buf.now header.now) }
     ensures within { IfOk result (λ n. (rows_len_of header.now ≤ n) × (n ≤ header.now.data_len)) }
 {

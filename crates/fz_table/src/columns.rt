@@ -1,12 +1,11 @@
 //! The columns of a packed image among those of a table.
 ghost use Rattle.std.specs.Prelude.{◌≡◌, ◌-◌, ◌<◌, ◌^◌, Some, None, IfOk, IfSome};
 ghost use Rattle.std.specs.List.{flat_map, range_with_len};
-ghost use Rattle.std.specs.Result.{MatchResult};
-ghost use Rattle.fz_base.specs.Refusal.{first_refusal};
+ghost use Rattle.fz_base.specs.Refusal.{IsFirstOf};
 ghost use Rattle.fz_block.specs.Facts.{IsHeaderOf};
 ghost use Rattle.fz_table.specs.Columns.{form_of, width_of, columns_len, column_of, describes, is_element, unit_of};
 ghost use Rattle.fz_table.specs.Tables.{name_checks, column_checks};
-ghost use Rattle.fz_table.specs.Found.{IsFound, AreFound};
+ghost use Rattle.fz_table.specs.Found.{IsFound, AreFound, HaveBytes};
 
 use crate::Column;
 use crate::cards::{bad_table, first_named, form_of, is_called};
@@ -34,9 +33,7 @@ pub(crate) fn packed_columns(buf: &[u8], header: &Header, fields: u32) -> Result
     requires header { IsHeaderOf buf.now header.now }
     requires few { fields < 1000 }
     requires row { columns_len buf.now fields < 2 ^ 32 }
-    ensures exact { MatchResult result
-        (λ _. first_refusal (flat_map (column_checks buf.now header.now) (range_with_len 1 fields)) ≡ None)
-        (λ x. first_refusal (flat_map (column_checks buf.now header.now) (range_with_len 1 fields)) ≡ Some x) }
+    ensures exact { IsFirstOf (flat_map (column_checks buf.now header.now) (range_with_len 1 fields)) result }
     ensures found { IfOk result (AreFound buf.now fields) }
 {
     let mut found = Columns {
@@ -78,9 +75,7 @@ fn with_column(
     requires at { at ≡ columns_len buf.now (i - 1) }
     requires short { at < 2 ^ 32 }
     requires before { AreFound buf.now (i - 1) before }
-    ensures exact { MatchResult result
-        (λ _. first_refusal (column_checks buf.now header.now i) ≡ None)
-        (λ x. first_refusal (column_checks buf.now header.now i) ≡ Some x) }
+    ensures exact { IsFirstOf (column_checks buf.now header.now i) result }
     ensures found { IfOk result (AreFound buf.now i) }
 {
     Ok(Columns {
@@ -129,9 +124,8 @@ fn named_column(
     requires at { at ≡ columns_len buf.now (i - 1) }
     requires short { at < 2 ^ 32 }
     requires before { IsFound name.now buf.now (i - 1) before }
-    ensures exact { MatchResult result
-        (λ _. first_refusal (name_checks name.now letters.now buf.now header.now i) ≡ None)
-        (λ x. first_refusal (name_checks name.now letters.now buf.now header.now i) ≡ Some x) }
+    requires letters { HaveBytes letters.now }
+    ensures exact { IsFirstOf (name_checks name.now letters.now buf.now header.now i) result }
     ensures found { IfOk result (IsFound name.now buf.now i) }
 {
     if !is_called(buf, header, i, name) {

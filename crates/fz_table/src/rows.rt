@@ -1,19 +1,19 @@
 //! The descriptors in the rows, and the ranges of the heap.
-ghost use Rattle.std.specs.Prelude.{ℕ, Bool, List, ◌++◌, true, false, ◌≡◌, ◌+◌, ◌*◌, ◌≤◌, ◌<◌, ◌^◌, length as len, take, drop, Some, IfOk, IfSome, OnOk, OnErr};
+ghost use Rattle.std.specs.Prelude.{ℕ, Bool, List, ◌++◌, ◌≡◌, ◌+◌, ◌*◌, ◌≤◌, ◌<◌, ◌^◌, length as len, drop, Some, IfOk, IfSome, OnOk, OnErr};
 ghost use Rattle.fz_base.specs.Stop.{ReadsOnly, IsRefused};
 ghost use Rattle.fz_base.specs.Source.{logged, MayLog};
-ghost use Rattle.std.specs.Int.{w32, w64, from_be_bytes};
 ghost use Rattle.fz_table.specs.declared.array.Descriptor.{Descriptor};
-ghost use Rattle.fz_table.specs.Rows.{descriptor_len, descriptor_in, descriptor_start, descriptor_at, range_of, descriptor_bytes, packed_row, FitsDescriptor};
+ghost use Rattle.fz_table.specs.Rows.{descriptor_len, descriptor_in, descriptor_start, descriptor_at, heap_range, range_of, descriptor_bytes, packed_row, FitsDescriptor};
 
 use crate::{Column, Descriptor, Table};
+use byteorder::{BigEndian, ByteOrder};
 use fz_base::{Source, Stop};
 
 /// The bytes of a wide descriptor.
-const WIDE_LEN: usize = 16;
+pub(crate) const WIDE_LEN: usize = 16;
 
 /// The bytes of a descriptor that is not wide.
-const NARROW_LEN: usize = 8;
+pub(crate) const NARROW_LEN: usize = 8;
 
 /// Reads the descriptor of a column in a row, by one reading of its 8 or 16 bytes (FITS 4.0, section
 /// 7.3.5). Both numbers are read as unsigned.
@@ -33,76 +33,58 @@ pub fn descriptor<S: Source>(
     ensures failed { OnErr result (MayLog (descriptor_start table.now column.now row) (descriptor_len column.now.wide) (S.ranges source.old) (S.ranges source.new)) }
     ensures held { S.held source.new ≡ S.held source.old }
     ensures attached { S.attached source.new ≡ S.attached source.old }
-    ensures cause { ReadsOnly (S.faults source.old) (S.faults source.new) (S.wants source.old) (S.wants source.new) result }
-    ensures unrefused { ¬ (IsRefused result) }
-{
-    let start = table.rows_at + u64::from(table.row_bytes) * u64::from(row) + u64::from(column.at);
-    if column.wide {
-        read_wide(source, start)
-    } else {
-        read_narrow(source, start)
-    }
-}
-
-// Reads a descriptor of two numbers of 64 bits.
-fn read_wide<S: Source>(source: &mut S, start: u64) -> Result<Descriptor, Stop>
-    requires within { (n : ℕ) × (S.attached source.old ≡ Some n) × (start + 16 ≤ n) }
-    ensures exact { IfOk result (λ d. IfSome (S.held source.old) (λ g. d ≡ descriptor_in true (drop start g))) }
-    ensures read { OnOk result (S.ranges source.new ≡ logged start 16 (S.ranges source.old)) }
-    ensures failed { OnErr result (MayLog start 16 (S.ranges source.old) (S.ranges source.new)) }
-    ensures held { S.held source.new ≡ S.held source.old }
-    ensures attached { S.attached source.new ≡ S.attached source.old }
-    ensures cause { ReadsOnly (S.faults source.old) (S.faults source.new) (S.wants source.old) (S.wants source.new) result }
+    ensures cause { ReadsOnly (S.tally source.old) (S.tally source.new) result }
     ensures unrefused { ¬ (IsRefused result) }
 {
     let mut bytes = [0; WIDE_LEN];
-    source.read_at(start, &mut bytes).map_err(Stop::reading)?;
-    let (count, offset) = bytes.split_at(8);
-    Ok(Descriptor {
-        count: wide_number(count),
-        offset: wide_number(offset),
-    })
+    let (read, _) = bytes.split_at_mut(descriptor_len(column.wide));
+    source
+        .read_at(row_start(table, row) + u64::from(column.at), read)
+        .map_err(Stop::reading)?;
+    Ok(descriptor_in(read, column.wide))
 }
 
-// Reads a descriptor of two numbers of 32 bits.
-fn read_narrow<S: Source>(source: &mut S, start: u64) -> Result<Descriptor, Stop>
-    requires within { (n : ℕ) × (S.attached source.old ≡ Some n) × (start + 8 ≤ n) }
-    ensures exact { IfOk result (λ d. IfSome (S.held source.old) (λ g. d ≡ descriptor_in false (drop start g))) }
-    ensures read { OnOk result (S.ranges source.new ≡ logged start 8 (S.ranges source.old)) }
-    ensures failed { OnErr result (MayLog start 8 (S.ranges source.old) (S.ranges source.new)) }
-    ensures held { S.held source.new ≡ S.held source.old }
-    ensures attached { S.attached source.new ≡ S.attached source.old }
-    ensures cause { ReadsOnly (S.faults source.old) (S.faults source.new) (S.wants source.old) (S.wants source.new) result }
-    ensures unrefused { ¬ (IsRefused result) }
+/// The byte of the file at which a row begins.
+pub(crate) fn row_start(table: &Table, row: u32) -> u64
+    requires row { row < table.now.rows }
+    requires rows { table.now.rows_at + table.now.row_bytes * table.now.rows < 2 ^ 64 }
+    ensures start { result ≡ table.now.rows_at + table.now.row_bytes * row }
+    ensures within { result + table.now.row_bytes ≤ table.now.rows_at + table.now.row_bytes * table.now.rows }
 {
-    let mut bytes = [0; NARROW_LEN];
-    source.read_at(start, &mut bytes).map_err(Stop::reading)?;
-    let (count, offset) = bytes.split_at(4);
-    Ok(Descriptor {
-        count: narrow_number(count),
-        offset: narrow_number(offset),
-    })
+    table.rows_at + u64::from(table.row_bytes) * u64::from(row)
 }
 
-// The big-endian number of 64 bits.
-fn wide_number(bytes: &[u8]) -> u64
-    requires { len bytes.now ≡ 8 }
-    ensures { result ≡ from_be_bytes w64 bytes.now }
+/// The bytes of a descriptor.
+pub(crate) fn descriptor_len(wide: bool) -> usize
+    ensures { result ≡ descriptor_len wide }
 {
-    let mut number = [0; 8];
-    number.copy_from_slice(bytes);
-    u64::from_be_bytes(number)
+    if wide { WIDE_LEN } else { NARROW_LEN }
 }
 
-// The big-endian number of 32 bits.
-fn narrow_number(bytes: &[u8]) -> u64
-    requires { len bytes.now ≡ 4 }
-    ensures { result ≡ from_be_bytes w32 bytes.now }
+/// The descriptor that stands at the front of these bytes.
+pub(crate) fn descriptor_in(bytes: &[u8], wide: bool) -> Descriptor
+    requires { descriptor_len wide ≤ len bytes.now }
+    ensures { result ≡ descriptor_in wide bytes.now }
 {
-    let mut number = [0; 4];
-    number.copy_from_slice(bytes);
-    u64::from(u32::from_be_bytes(number))
+    let (_, second) = bytes.split_at(descriptor_len(wide) / 2);
+    if wide {
+        Descriptor {
+            count: BigEndian::read_u64(bytes),
+            offset: BigEndian::read_u64(second),
+        }
+    } else {
+        Descriptor {
+            count: u64::from(BigEndian::read_u32(bytes)),
+            offset: u64::from(BigEndian::read_u32(second)),
+        }
+    }
 }
+
+/// What is described in a column that is not there.
+pub(crate) const NOTHING: Descriptor = Descriptor {
+    count: 0,
+    offset: 0,
+};
 
 /// The range of the file that a descriptor describes, by its start and its length in bytes, or None
 /// exactly where it passes the end of the heap.
@@ -110,7 +92,15 @@ pub fn range(table: &Table, column: &Column, d: &Descriptor) -> Option<(u64, u64
     requires { table.now.heap_at + table.now.heap_len ≤ 2 ^ 62 }
     ensures { result ≡ range_of table.now column.now d.now }
 {
-    let len = d.count.checked_mul(u64::from(column.unit))?;
+    heap_range(table, column.unit, d)
+}
+
+/// The same for elements of so many bytes.
+pub(crate) fn heap_range(table: &Table, unit: u32, d: &Descriptor) -> Option<(u64, u64)>
+    requires { table.now.heap_at + table.now.heap_len ≤ 2 ^ 62 }
+    ensures { result ≡ heap_range table.now unit d.now }
+{
+    let len = d.count.checked_mul(u64::from(unit))?;
     let end = d.offset.checked_add(len)?;
     if end > table.heap_len {
         return None;
@@ -126,7 +116,7 @@ pub fn write_row(into: &mut [u8], wide: bool, coded: &Descriptor, stored: &Descr
     requires stored { FitsDescriptor wide stored.now }
     ensures { into.new ≡ packed_row wide coded.now stored.now }
 {
-    let (first, second) = into.split_at_mut(if wide { WIDE_LEN } else { NARROW_LEN });
+    let (first, second) = into.split_at_mut(descriptor_len(wide));
     write_descriptor(first, wide, coded);
     write_descriptor(second, wide, stored);
 }
@@ -137,12 +127,13 @@ fn write_descriptor(into: &mut [u8], wide: bool, d: &Descriptor)
     requires fits { FitsDescriptor wide d.now }
     ensures { into.new ≡ descriptor_bytes wide d.now.count d.now.offset }
 {
+    let (count, offset) = into.split_at_mut(descriptor_len(wide) / 2);
     if wide {
-        into[..8].copy_from_slice(&d.count.to_be_bytes());
-        into[8..].copy_from_slice(&d.offset.to_be_bytes());
+        BigEndian::write_u64(count, d.count);
+        BigEndian::write_u64(offset, d.offset);
     } else {
-        into[..4].copy_from_slice(&(d.count as u32).to_be_bytes());
-        into[4..].copy_from_slice(&(d.offset as u32).to_be_bytes());
+        BigEndian::write_u32(count, d.count as u32);
+        BigEndian::write_u32(offset, d.offset as u32);
     }
 }
 

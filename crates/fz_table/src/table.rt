@@ -1,9 +1,9 @@
 //! The table of a packed image.
-ghost use Rattle.std.specs.Prelude.{◌≡◌, ◌+◌, ◌*◌, ◌≤◌, ◌^◌, IfOk, IfSome};
+ghost use Rattle.std.specs.Prelude.{◌≡◌, ◌+◌, ◌≤◌, ◌^◌, IfOk};
 ghost use Rattle.fz_block.specs.Facts.{IsHeaderOf};
 ghost use Rattle.fz_block.specs.Header.{next_start_of};
 ghost use Rattle.fz_table.specs.Tables.{table_of};
-ghost use Rattle.fz_table.specs.Rows.{descriptor_len};
+ghost use Rattle.fz_table.specs.Rows.{IsTable};
 
 use crate::Column;
 use crate::checks::{check_array, field_count, heap_start, row_len};
@@ -43,11 +43,8 @@ impl Table {
         requires header { IsHeaderOf buf.now header.now }
         requires end { next_start_of header.now ≤ 2 ^ 62 }
         ensures exact { result ≡ table_of buf.now header.now }
-        ensures rows { IfOk result (λ t. t.rows_at + t.row_bytes * t.rows ≤ t.heap_at) }
+        ensures table { IfOk result IsTable }
         ensures heap { IfOk result (λ t. t.heap_at + t.heap_len ≤ next_start_of header.now) }
-        ensures coded { IfOk result (λ t. IfSome t.coded (λ c. c.at + descriptor_len c.wide ≤ t.row_bytes)) }
-        ensures stored { IfOk result (λ t. IfSome t.stored (λ c. c.at + descriptor_len c.wide ≤ t.row_bytes)) }
-        ensures gzip { IfOk result (λ t. IfSome t.gzip (λ c. c.at + descriptor_len c.wide ≤ t.row_bytes)) }
     {
         check_array(header)?;
         let fields = field_count(buf, header)?;

@@ -1,5 +1,10 @@
 //! Rows from outside the program: the headers of packed tables, and descriptors in the rows.
-use crate::{Column, Descriptor, Table, descriptor, first_named, range, write_row};
+ghost use Rattle.std.specs.Prelude.{◌≡◌};
+
+use crate::{
+    Column, Descriptor, Record, Row, Table, Tile, TileColumn, descriptor, find_record, first_named,
+    is_filled, range, read_record, record_of, row_in, write_row,
+};
 use fz_base::{Fault, Kind, MemSource, Place, Source, Stop};
 use fz_block::{BLOCK_LEN, read_header};
 use fz_card::Name;
@@ -309,5 +314,254 @@ fn rows_and_ranges(rt: HostRuntime) -> Result<(), Fail> {
         None
     );
     assert_eq!(rt; range(&table, &column, &greatest), None);
+    Ok(())
+}
+
+/// A table of three columns.
+const THREE: Table = Table {
+    row_bytes: 24,
+    rows: 3,
+    rows_at: 0,
+    heap_at: 72,
+    heap_len: 24,
+    coded: Some(Column {
+        at: 0,
+        wide: false,
+        unit: 1,
+    }),
+    stored: Some(Column {
+        at: 8,
+        wide: false,
+        unit: 2,
+    }),
+    gzip: Some(Column {
+        at: 16,
+        wide: false,
+        unit: 4,
+    }),
+};
+
+/// A tile of 4 pixels of 16 bits, as a codec other than NOCOMPRESS has it.
+const TILE: Tile = Tile {
+    pixels: 4,
+    plain_len: 8,
+    plain: false,
+};
+
+/// The same under NOCOMPRESS.
+const PLAIN: Tile = Tile {
+    plain: true,
+    ..TILE
+};
+
+/// The descriptor of so many elements from a byte of the heap on.
+fn at(count: u64, offset: u64) -> Descriptor
+    ensures count { result.count ≡ count }
+    ensures offset { result.offset ≡ offset }
+{
+    Descriptor { count, offset }
+}
+
+/// What a row says.
+fn says(coded: Descriptor, stored: Descriptor, gzip: Descriptor) -> Row {
+    Row {
+        coded,
+        stored,
+        gzip,
+    }
+}
+
+/// A record of which all is read.
+fn whole(column: TileColumn, start: u64, total: u64) -> Result<Record, Fault> {
+    Ok(Record {
+        column,
+        start,
+        total,
+        read: total,
+    })
+}
+
+/// A fault of row 5.
+fn refused(kind: Kind) -> Result<Record, Fault> {
+    Err(Fault {
+        hdu: 1,
+        at: Place::Row(5),
+        kind,
+    })
+}
+
+#[test]
+fn records(rt: HostRuntime) {
+    let none = at(0, 0);
+    let greatest = 18_446_744_073_709_551_615;
+    let cases: [(Row, Tile, Result<Record, Fault>); 21] = [
+        (
+            says(at(4, 2), none, none),
+            TILE,
+            whole(TileColumn::Coded, 74, 4),
+        ),
+        (
+            says(at(4, 2), at(4, 8), none),
+            TILE,
+            whole(TileColumn::Coded, 74, 4),
+        ),
+        (
+            says(none, at(4, 8), none),
+            TILE,
+            whole(TileColumn::Stored, 80, 8),
+        ),
+        (
+            says(none, at(4, 16), none),
+            TILE,
+            whole(TileColumn::Stored, 88, 8),
+        ),
+        (
+            says(none, at(4, 8), at(2, 0)),
+            TILE,
+            whole(TileColumn::Stored, 80, 8),
+        ),
+        (
+            says(at(4, 2), none, at(2, 0)),
+            TILE,
+            whole(TileColumn::Coded, 74, 4),
+        ),
+        (
+            says(at(24, 0), none, none),
+            TILE,
+            whole(TileColumn::Coded, 72, 24),
+        ),
+        (says(none, none, at(2, 0)), TILE, refused(Kind::GzipTile)),
+        (
+            says(none, none, at(greatest, 0)),
+            TILE,
+            refused(Kind::GzipTile),
+        ),
+        (says(none, none, none), TILE, refused(Kind::TileMissing)),
+        (
+            says(at(0, 30), at(0, 30), at(0, 30)),
+            TILE,
+            refused(Kind::TileMissing),
+        ),
+        (
+            says(none, at(4, 17), none),
+            TILE,
+            refused(Kind::DescriptorRange),
+        ),
+        (
+            says(none, at(16, 0), none),
+            TILE,
+            refused(Kind::DescriptorRange),
+        ),
+        (
+            says(at(4_294_967_295, 0), none, none),
+            TILE,
+            refused(Kind::DescriptorRange),
+        ),
+        (
+            says(none, at(4, greatest), none),
+            TILE,
+            refused(Kind::DescriptorRange),
+        ),
+        (says(none, at(1, 0), none), TILE, refused(Kind::TileSize)),
+        (says(none, at(5, 0), none), TILE, refused(Kind::TileSize)),
+        (
+            says(at(8, 0), none, none),
+            PLAIN,
+            whole(TileColumn::Coded, 72, 8),
+        ),
+        (says(at(7, 0), none, none), PLAIN, refused(Kind::TileSize)),
+        (
+            says(none, at(4, 0), none),
+            PLAIN,
+            whole(TileColumn::Stored, 72, 8),
+        ),
+        (
+            says(at(25, 0), none, none),
+            PLAIN,
+            refused(Kind::DescriptorRange),
+        ),
+    ];
+    for (row, tile, expected) in cases {
+        assert_eq!(rt; record_of(1, 5, &THREE, &row, &tile), expected);
+    }
+    let long = Table {
+        heap_len: 1_000_006,
+        ..THREE
+    };
+    let three = Tile {
+        pixels: 3,
+        plain_len: 6,
+        plain: false,
+    };
+    let expected = Ok(Record {
+        column: TileColumn::Coded,
+        start: 72,
+        total: 1_000_006,
+        read: 88,
+    });
+    assert_eq!(rt;
+        record_of(1, 0, &long, &says(at(1_000_006, 0), none, none), &three),
+        expected
+    );
+}
+
+#[test]
+fn records_of_a_file(rt: HostRuntime) -> Result<(), Fail> {
+    let alloc = rt.alloc();
+    let none = at(0, 0);
+    let mut bytes = [0; 96];
+    write_row(&mut bytes[..16], false, &at(4, 2), &none);
+    write_row(&mut bytes[24..40], false, &none, &at(4, 8));
+    bytes[67] = 2;
+    for i in 0..24 {
+        bytes[72 + i] = i as u8;
+    }
+    assert_eq!(rt; row_in(&THREE, &bytes[24..48]), says(none, at(4, 8), none));
+    assert!(rt; is_filled(&TABLE) && !is_filled(&THREE));
+    let mut source = MemSource::new(alloc, bytes.to_vec(alloc)?, Vec::new(alloc));
+    let length = source.attach("any")?;
+    assert_eq!(rt; length, 96);
+    let mut code = [0; 96];
+    let first = find_record(&mut source, 1, &THREE, 0, &TILE)?;
+    assert_eq!(rt; Ok(first), whole(TileColumn::Coded, 74, 4));
+    read_record(&mut source, &first, &mut code)?;
+    assert!(rt; code[..5] == [2, 3, 4, 5, 0]);
+    let apart = Table {
+        coded: THREE.gzip,
+        gzip: None,
+        stored: THREE.coded,
+        ..THREE
+    };
+    let swapped = Table {
+        coded: THREE.stored,
+        stored: THREE.coded,
+        gzip: None,
+        ..THREE
+    };
+    let missing = Err(Stop::Refused(Fault {
+        hdu: 1,
+        at: Place::Row(1),
+        kind: Kind::TileMissing,
+    }));
+    assert_eq!(rt; find_record(&mut source, 1, &apart, 1, &TILE), missing);
+    let second = find_record(&mut source, 1, &swapped, 1, &TILE)?;
+    assert_eq!(rt; Ok(second), whole(TileColumn::Coded, 80, 8));
+    let gzip = Err(Stop::Refused(Fault {
+        hdu: 1,
+        at: Place::Row(2),
+        kind: Kind::GzipTile,
+    }));
+    assert_eq!(rt; find_record(&mut source, 1, &THREE, 2, &TILE), gzip);
+    let reads = [
+        (0, 16),
+        (16, 8),
+        (74, 4),
+        (40, 8),
+        (24, 8),
+        (24, 16),
+        (48, 16),
+        (64, 8),
+    ];
+    assert!(rt; source.reads() == reads.as_slice());
     Ok(())
 }

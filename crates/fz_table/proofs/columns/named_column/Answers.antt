@@ -8,4 +8,4 @@ returns-then-not-is_called-clause-found c =
 
 pub returns-in-Some-clause-found : goal.returns-in-Some-clause-found
 returns-in-Some-clause-found c =
-    this_name c.args.name.now c.args.letters.now c.args.buf.now c.args.i c.args.at c.in-Some.form c.column_of.result (omega arith) (search rules) c.requires.at (sym c.form_of.ensures.form ∙ c.in-Some.is) (search rules) c.column_of.ensures
+    this_name c.args.name.now c.args.letters.now c.args.buf.now c.args.i c.args.at c.in-Some.form c.column_of.result c.requires.letters (omega arith) (search rules) c.requires.at (sym c.form_of.ensures.form ∙ c.in-Some.is) (search rules) c.column_of.ensures
