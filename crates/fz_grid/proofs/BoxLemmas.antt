@@ -1,17 +1,18 @@
 -- Boxes of an array, as lists.
 use Rattle.std.proofs.Common.{◌≡◌, ℕ, suc, zero, ◌+◌, ◌*◌, ◌/◌, ◌%◌, ◌<◌, ◌≤◌, List, [], ◌∷◌, length, get_or, map, refl, ap, sym, ◌∙◌, arith, length-take}
 use Rattle.std.specs.List.{flat_map, range_with_len}
-use Rattle.std.proofs.lemmas.List.{get_or-take}
+use Rattle.std.proofs.lemmas.List.{get_or-take, length-map}
+use Rattle.std.proofs.lemmas.List.FromFn.{length-map-range_with_len}
 use Rattle.std.proofs.lemmas.List.Folds.{flat_map-map}
 use Rattle.std.proofs.lemmas.Simd.{map-map}
 use Rattle.std.proofs.lemmas.Nat.{mod_below, mul-add-lt, mul-le}
 use Rattle.fz_block.specs.declared.axes.Axes.{Axes}
 use Rattle.fz_grid.specs.declared.region.Region.{Region}
-use Rattle.fz_grid.specs.Arrays.{product, place_of}
-use Rattle.fz_grid.specs.Grid.{box_coordinates, moved, tile_digits}
+use Rattle.fz_grid.specs.Arrays.{coordinates_of, place_of, product}
+use Rattle.fz_grid.specs.Grid.{box_coordinates, moved}
 use Rattle.fz_grid.specs.Nth.{nth_place}
 use Rattle.fz_grid.specs.Region.{IsWithin, lengths_of, places_of, region_corner, region_lengths}
-use Rattle.fz_grid.proofs.Lists.{AllPositive, tail_positive, head_positive}
+use Rattle.fz_grid.proofs.Lists.{AllPositive}
 use Rattle.fz_grid.proofs.Ranges.{flat_map_same, map_flat_map, rows_from}
 
 -- a box with a pixel along each axis, within the array
@@ -51,23 +52,37 @@ pub lengths_positive : (ns os rs : List ℕ) → IsBox ns os rs → AllPositive 
 unfolding AllPositive
 lengths_positive ns os rs box i h = box.positive i (omega (arith, box.same_lengths))
 
--- the coordinates of a box are the digits of their numbers
-pub box_digits : (rs : List ℕ) → AllPositive rs → box_coordinates rs ≡ map (tile_digits rs) (range_with_len 0 (product rs))
-box_digits [] positive = refl
-box_digits (r ∷ rs) positive =
+-- the coordinates of a box are listed in the order of their numbers
+pub box_digits : (rs : List ℕ) → box_coordinates rs ≡ map (coordinates_of rs) (range_with_len 0 (product rs))
+box_digits [] = refl
+box_digits (zero ∷ rs) =
+    let none : 0 ≡ zero * product rs = omega arith in
+    flat_map_none (box_coordinates rs) ∙ ap (λ k. map (coordinates_of (zero ∷ rs)) (range_with_len 0 k)) none
+  where
+    flat_map_none : (l : List (List ℕ)) → flat_map (λ rest. map (λ c. c ∷ rest) (range_with_len 0 0)) l ≡ []
+    flat_map_none [] = refl
+    flat_map_none (x ∷ l) = flat_map_none l
+box_digits (suc r' ∷ rs) =
+    let r = suc r' in
     let row : List ℕ → List (List ℕ) = λ rest. map (λ c. c ∷ rest) (range_with_len 0 r) in
     let whole : product rs * r ≡ r * product rs = omega arith in
-    ap (flat_map row) (box_digits rs (tail_positive r rs positive))
-    ∙ (flat_map-map row (tile_digits rs) (range_with_len 0 (product rs))
-    ∙ (rows_from (λ c q. c ∷ tile_digits rs q) r 0 (product rs) (head_positive r rs positive)
-    ∙ (ap (λ k. map (tile_digits (r ∷ rs)) (range_with_len (0 * r) k)) whole
-    ∙ ap (λ a. map (tile_digits (r ∷ rs)) (range_with_len a (r * product rs))) (omega arith))))
+    ap (flat_map row) (box_digits rs)
+    ∙ (flat_map-map row (coordinates_of rs) (range_with_len 0 (product rs))
+    ∙ (rows_from (λ c q. c ∷ coordinates_of rs q) r 0 (product rs) (omega arith)
+    ∙ (ap (λ k. map (coordinates_of (r ∷ rs)) (range_with_len (0 * r) k)) whole
+    ∙ ap (λ a. map (coordinates_of (r ∷ rs)) (range_with_len a (r * product rs))) (omega arith))))
+
+-- a box has so many places
+pub places_length : (ns os rs : List ℕ) → length (places_of ns os rs) ≡ product rs
+places_length ns os rs =
+    length-map (box_coordinates rs) (λ c. place_of ns (moved os c))
+    ∙ (ap length (box_digits rs) ∙ length-map-range_with_len (coordinates_of rs) 0 (product rs))
 
 -- the places of a box by their numbers
 pub places_by_number : (ns os rs : List ℕ) → AllPositive rs → places_of ns os rs ≡ map (nth_place ns os rs) (range_with_len 0 (product rs))
 places_by_number ns os rs positive =
-    ap (map (λ c. place_of ns (moved os c))) (box_digits rs positive)
-    ∙ map-map (λ c. place_of ns (moved os c)) (tile_digits rs) (range_with_len 0 (product rs))
+    ap (map (λ c. place_of ns (moved os c))) (box_digits rs)
+    ∙ map-map (λ c. place_of ns (moved os c)) (coordinates_of rs) (range_with_len 0 (product rs))
 
 -- each place of a box lies in the array
 pub nth_lt : (ns os rs : List ℕ) (k : ℕ) → IsBox ns os rs → nth_place ns os rs k < product ns

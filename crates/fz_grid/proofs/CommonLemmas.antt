@@ -58,7 +58,7 @@ all_some : (ns : List ℕ) → ((i : ℕ) → i < length ns → 0 < get_or ns i 
 all_some [] some = refl
 all_some (n ∷ ns) some = some_pixel n ns (some zero (omega arith)) ∙ all_some ns (λ i h. some (suc i) (omega arith))
 
-each_some : (ns : List ℕ) → has_pixel ns ≡ true → (i : ℕ) → i < length ns → 0 < get_or ns i 0
+pub each_some : (ns : List ℕ) → has_pixel ns ≡ true → (i : ℕ) → i < length ns → 0 < get_or ns i 0
 each_some [] has i h = absurd (omega arith)
 each_some (zero ∷ ns) has i h = absurd (false≢true has)
 each_some (suc n ∷ ns) has zero h = omega arith

@@ -10,9 +10,16 @@ pub mod Lists
 pub mod NthLemmas
 pub mod Ones
 pub mod OverlapLemmas
+pub mod PartAxes
+pub mod PickAxes
 pub mod PlaceLemmas
 pub mod Ranges
+pub mod RunLemmas
+pub mod ShapeLemmas
+pub mod SieveLists
+pub mod Sifted
 pub mod SmallLemmas
 pub mod SpanLemmas
 pub mod Tilings
 pub mod Touched
+pub mod WholeLemmas

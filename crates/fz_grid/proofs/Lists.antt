@@ -1,5 +1,6 @@
 -- Tables of axes, whose first entries are a list: what stands from an axis on.
-use Rattle.std.proofs.Common.{◌≡◌, ℕ, suc, zero, ◌+◌, ◌*◌, ◌<◌, ◌≤◌, List, [], ◌∷◌, length, get_or, take, drop, ap, sym, ◌∙◌, arith, length-take}
+use Rattle.std.proofs.Common.{◌≡◌, ℕ, suc, zero, ◌+◌, ◌*◌, ◌<◌, ◌≤◌, min, List, [], ◌∷◌, length, get_or, take, drop, ap, sym, ◌∙◌, arith, inl, inr, length-take}
+use Rattle.std.proofs.lemmas.Bool.{cases_lt}
 use Rattle.std.proofs.lemmas.List.{drop_more, get_or-take, drop_all}
 use Rattle.std.proofs.Math.Nat.{mul-le-mul_left, le-mul_of_pos_right}
 use Rattle.fz_grid.specs.Arrays.{product}
@@ -79,3 +80,26 @@ pub product_take_le : (xs : List ℕ) (m : ℕ) → AllPositive xs → product (
 product_take_le xs zero positive = product_pos xs positive
 product_take_le [] (suc m) positive = omega arith
 product_take_le (x ∷ xs) (suc m) positive = mul-le-mul_left x (product_take_le xs m (tail_positive x xs positive))
+
+-- a product that stops at a greatest number, over one axis more
+pub stopped_step : (p x most : ℕ) → 1 ≤ most → min (min p most * x) most ≡ min (x * p) most
+stopped_step p zero most some =
+    let none : min p most * zero ≡ zero * p = omega arith in
+    ap (λ k. min k most) none
+stopped_step p (suc x) most some = elim (cases_lt most p) [ inl more ↦ stopped more | inr fits ↦ exact fits ]
+  where
+    stopped : most < p → min (min p most * suc x) most ≡ min (suc x * p) most
+    stopped more =
+        let at_most : min p most ≡ most = omega arith in
+        let least : most ≤ most * suc x = omega arith in
+        let above : most ≤ suc x * p = omega (arith, le-mul_of_pos_right p (suc_some x)) in
+        ap (λ k. min (k * suc x) most) at_most ∙ omega (arith, least, above)
+      where
+        suc_some : (x : ℕ) → 1 ≤ suc x
+        suc_some x = omega arith
+
+    exact : p ≤ most → min (min p most * suc x) most ≡ min (suc x * p) most
+    exact fits =
+        let at_p : min p most ≡ p = omega arith in
+        let turned : p * suc x ≡ suc x * p = omega arith in
+        ap (λ k. min (k * suc x) most) at_p ∙ ap (λ k. min k most) turned

@@ -55,3 +55,7 @@ place_step_lt xs cs n i j below inside inside' next all =
       place_lt (drop i (take n xs)) (drop i (take n cs)) (below_rest xs cs n i inside all),
       product_drop_le (take n xs) i (positive_front xs n positive),
     )
+
+-- the place of a table's first n entries
+pub index_lt : (xs cs : List ℕ) (n : ℕ) → n ≤ length xs → ((k : ℕ) → k < n → get_or cs k 0 < get_or xs k 0) → place_of (take n xs) (take n cs) < product (take n xs)
+index_lt xs cs n inside all = place_lt (take n xs) (take n cs) (below_rest xs cs n 0 inside all)

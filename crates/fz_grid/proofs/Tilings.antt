@@ -140,7 +140,7 @@ tile_is_box ns ts d cut =
 pub shape_long : (shape tile : Axes) → IsDivided shape tile → shape.n ≤ length shape.len
 shape_long shape tile divided = long_enough shape.len shape.n (λ i h. omega (arith, divided.positive i h, divided.inside i h))
 
-product_mono : (xs ys : List ℕ) → length xs ≡ length ys → ((i : ℕ) → i < length xs → get_or xs i 0 ≤ get_or ys i 0) → product xs ≤ product ys
+pub product_mono : (xs ys : List ℕ) → length xs ≡ length ys → ((i : ℕ) → i < length xs → get_or xs i 0 ≤ get_or ys i 0) → product xs ≤ product ys
 product_mono [] [] same below = omega arith
 product_mono [] (y ∷ ys) same below = absurd (omega arith)
 product_mono (x ∷ xs) [] same below = absurd (omega arith)

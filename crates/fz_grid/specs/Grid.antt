@@ -1,8 +1,8 @@
 -- The tiles of an array: a rectangular grid, cut short at the upper ends (FITS 4.0, section 10.1). Tiles are numbered
 -- from 0 with axis 1 of the grid varying fastest.
-use Rattle.std.specs.Prelude.{ℕ, ◌+◌, ◌-◌, ◌*◌, ◌/◌, ◌%◌, min, ℤ, List, [], ◌∷◌, map}
+use Rattle.std.specs.Prelude.{ℕ, ◌+◌, ◌-◌, ◌*◌, ◌/◌, min, ℤ, List, [], ◌∷◌, map}
 use Rattle.std.specs.List.{flat_map, range_with_len}
-use Rattle.fz_grid.specs.Arrays.{NumberArray, at, product}
+use Rattle.fz_grid.specs.Arrays.{NumberArray, at, coordinates_of, product}
 
 -- how many tiles there are along each axis: its length divided by the tile's, rounded up
 abbrev pub tile_counts : List ℕ → List ℕ → List ℕ
@@ -14,11 +14,6 @@ tile_counts (n ∷ ns) (t ∷ ts) = ((n + (t - 1)) / t) ∷ tile_counts ns ts
 abbrev pub tile_count : List ℕ → List ℕ → ℕ
 tile_count lengths tile = product (tile_counts lengths tile)
 
--- the place of tile t along each axis of the grid
-abbrev pub tile_digits : List ℕ → ℕ → List ℕ
-tile_digits [] t = []
-tile_digits (g ∷ gs) t = (t % g) ∷ tile_digits gs (t / g)
-
 -- the least coordinates of a tile with this place along each axis
 abbrev pub corner_of : List ℕ → List ℕ → List ℕ
 corner_of [] tile = []
@@ -27,7 +22,7 @@ corner_of (d ∷ ds) (t ∷ ts) = (d * t) ∷ corner_of ds ts
 
 -- the least coordinates of tile t
 abbrev pub tile_corner : List ℕ → List ℕ → ℕ → List ℕ
-tile_corner lengths tile t = corner_of (tile_digits (tile_counts lengths tile) t) tile
+tile_corner lengths tile t = corner_of (coordinates_of (tile_counts lengths tile) t) tile
 
 -- the tile's lengths from a corner on, where the array ends
 abbrev pub lengths_from : List ℕ → List ℕ → List ℕ → List ℕ
@@ -51,7 +46,10 @@ moved [] coordinates = []
 moved (o ∷ os) [] = []
 moved (o ∷ os) (c ∷ cs) = (o + c) ∷ moved os cs
 
+-- the coordinates of the pixels of tile t, axis 1 fastest
+abbrev pub tile_coordinates : List ℕ → List ℕ → ℕ → List (List ℕ)
+tile_coordinates array tile t = map (moved (tile_corner array tile t)) (box_coordinates (tile_lengths array tile t))
+
 -- the numbers of tile t, axis 1 fastest
 unfoldable pub tile : NumberArray → List ℕ → ℕ → List ℤ
-tile a lengths t =
-    map (λ c. at a (moved (tile_corner a.lengths lengths t) c)) (box_coordinates (tile_lengths a.lengths lengths t))
+tile a lengths t = map (at a) (tile_coordinates a.lengths lengths t)

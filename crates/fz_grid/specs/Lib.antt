@@ -1,9 +1,15 @@
 pub mod Arrays
 pub mod Division
 pub mod Grid
+pub mod Laws
 pub mod Nth
 pub mod Overlap
+pub mod Parts
 pub mod Region
 pub mod Runs
+pub mod Sieve
+pub mod SieveWalks
 pub mod Span
+pub mod Visits
 pub mod Walks
+pub mod Whole

@@ -17,6 +17,10 @@ region_corner region = take region.n region.lo
 abbrev pub region_lengths : Region → List ℕ
 region_lengths region = take region.n region.len
 
+-- a region's lengths, as those of an array of its own
+abbrev pub axes_of : Region → Axes
+axes_of region = record { n = region.n; len = region.len }
+
 -- the numbers of the places of a box, axis 1 fastest, in an array of these lengths
 abbrev pub places_of : List ℕ → List ℕ → List ℕ → List ℕ
 places_of array corner lengths = map (λ c. place_of array (moved corner c)) (box_coordinates lengths)
@@ -24,6 +28,10 @@ places_of array corner lengths = map (λ c. place_of array (moved corner c)) (bo
 -- the entries of a table of axes from n on are 0
 abbrev pub IsZeroFrom : ℕ → List ℕ → Type 0
 IsZeroFrom n entries = (i : ℕ) → n ≤ i → slice_index entries i ≡ 0
+
+-- the entries of two tables of axes from n on are the same
+abbrev pub AreSameFrom : ℕ → List ℕ → List ℕ → Type 0
+AreSameFrom n entries others = (i : ℕ) → n ≤ i → slice_index entries i ≡ slice_index others i
 
 -- an array that a call takes: 1 to 9 axes, each with a place, and at most 2^40 pixels
 pub record IsShape (shape : Axes) : Type 0 where

@@ -8,11 +8,12 @@ ghost use Rattle.fz_grid.specs.Region.{
   region_corner,
   region_lengths,
 };
-ghost use Rattle.fz_grid.specs.Runs.{AreRunsOf};
+ghost use Rattle.fz_grid.specs.Arrays.{product};
+ghost use Rattle.fz_grid.specs.Runs.{AreRunsOf, EndWithin, total_length};
 ghost use Rattle.fz_grid.specs.Walks.{runs_left};
 
 use crate::places::Places;
-use crate::volume::volume;
+use crate::sizes::volume;
 use crate::{Region, Runs};
 use fz_block::Axes;
 
@@ -20,16 +21,21 @@ use fz_block::Axes;
 pub fn runs(shape: &Axes, region: &Region) -> Runs
     requires shape { IsShape shape.now }
     requires region { IsWithin shape.now region.now }
-    ensures { AreRunsOf
+    ensures runs { AreRunsOf
         (places_of (lengths_of shape.now) (region_corner region.now) (region_lengths region.now))
         (runs_left result) }
+    ensures inside { EndWithin (product (lengths_of shape.now)) (runs_left result) }
+    ensures pixels { total_length (runs_left result) ≡ product (region_lengths region.now) }
 {
     let joined = joined_axes(shape, region);
     let mut first = *region;
     for i in 0..joined as usize {
         first.len[i] = 1;
     }
-    let length = volume(joined, &region.len);
+    let length = volume(&Axes {
+        n: joined,
+        len: region.len,
+    });
     Runs {
         starts: Places::new(*shape, first),
         length,

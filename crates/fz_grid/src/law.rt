@@ -1,16 +1,53 @@
-//! What the definitions of tiles and of boxes promise.
-ghost use Rattle.std.specs.Prelude.{◌≡◌, ◌↔◌, ℕ, ◌<◌, IsTrue, List, length, slice_index};
-ghost use Rattle.fz_grid.specs.Division.{IsInOneTile};
+//! What the definitions of arrays, tiles and boxes promise.
+ghost use Rattle.std.specs.Prelude.{◌≡◌, ◌↔◌, ℕ, IsTrue, List, length};
+ghost use Rattle.fz_grid.specs.Laws.{
+  BoxesAreInOrder,
+  BoxesHaveTheirPixels,
+  CoordinatesAreInOneTile,
+  DividedArraysAreShapes,
+  JoinedHasTheTiles,
+  JoinedIsArray,
+  NumbersAreInOneTile,
+  NumbersHavePlaces,
+  PlacesAreInside,
+  PlacesHaveCoordinates,
+  RegionsAreShapes,
+  TilesAreAtTheirPlaces,
+  TilesHaveTheirPixels,
+  TilesMakeOneArray,
+};
 ghost use Rattle.fz_grid.specs.Overlap.{IsInBox, common_corner, common_lengths, has_pixel};
+
+/// Coordinates below the lengths and numbers below how many places there are belong together, one to
+/// one, and a box lists them in order.
+pub fn place_law()
+    ensures inside { PlacesAreInside }
+    ensures coordinates { PlacesHaveCoordinates }
+    ensures numbers { NumbersHavePlaces }
+    ensures order { BoxesAreInOrder }
+    ensures pixels { BoxesHaveTheirPixels }
+{}
 
 /// Each place of an array lies in exactly one tile, once.
 pub fn one_tile_law()
-    ensures { (array tile coordinates : List ℕ)
-        → length tile ≡ length array
-        → length coordinates ≡ length array
-        → ((i : ℕ) → i < length array → 0 < slice_index tile i)
-        → ((i : ℕ) → i < length array → slice_index coordinates i < slice_index array i)
-        → IsInOneTile array tile coordinates }
+    ensures coordinates { CoordinatesAreInOneTile }
+    ensures numbers { NumbersAreInOneTile }
+{}
+
+/// A tile has the numbers at its places; an array is known by its tiles, and any lists of the right
+/// lengths are the tiles of one.
+pub fn tiles_law()
+    ensures places { TilesAreAtTheirPlaces }
+    ensures pixels { TilesHaveTheirPixels }
+    ensures same { TilesMakeOneArray }
+    ensures whole { JoinedIsArray }
+    ensures joined { JoinedHasTheTiles }
+{}
+
+/// The conditions of one call give those of another.
+pub fn shape_law()
+    ensures divided { DividedArraysAreShapes }
+    ensures region { RegionsAreShapes }
 {}
 
 /// The box that two boxes have in common has exactly the pixels that both have.

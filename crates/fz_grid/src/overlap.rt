@@ -1,5 +1,6 @@
 //! The pixels that a region and a tile have in common, and the tiles that share a pixel with a region.
 ghost use Rattle.std.specs.Prelude.{◌≡◌, ◌<◌, ◌↔◌, IfSome, IsSome, IsTrue};
+ghost use Rattle.std.specs.List.{AllByRecursion};
 ghost use Rattle.fz_grid.specs.Grid.{tile_corner, tile_count};
 ghost use Rattle.fz_grid.specs.Overlap.{common_corner, has_pixel, overlapping_tiles, shared_lengths};
 ghost use Rattle.fz_grid.specs.Region.{
@@ -61,9 +62,12 @@ impl Grid {
     /// The numbers of the tiles that have a pixel in common with the region, ascending.
     pub fn overlapping(&self, region: &Region) -> Overlaps
         requires { IsWithin self.now.shape region.now }
-        ensures { tiles_left result
+        ensures tiles { tiles_left result
             ≡ overlapping_tiles (lengths_of self.now.shape) (lengths_of self.now.tile)
             (region_corner region.now) (region_lengths region.now) }
+        ensures inside { AllByRecursion
+            (λ t. t < tile_count (lengths_of self.now.shape) (lengths_of self.now.tile))
+            (tiles_left result) }
     {
         Overlaps::new(Places::new(self.counts(), self.span(region)))
     }

@@ -12,7 +12,6 @@ ghost use Rattle.fz_grid.specs.Region.{
 };
 
 use crate::Region;
-use crate::volume::volume;
 use fz_block::Axes;
 
 /// The numbers of the pixels of a region, axis 1 fastest.
@@ -42,7 +41,7 @@ impl Places {
         ensures left { places_left result
             ≡ places_of (lengths_of shape) (region_corner region) (region_lengths region) }
     {
-        let end = volume(region.n, &region.len);
+        let end = region.pixels();
         Places {
             shape,
             region,

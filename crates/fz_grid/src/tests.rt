@@ -2,8 +2,12 @@
 
 ghost use Rattle.std.specs.Prelude.{◌≡◌, ℕ, ◌<◌, ◌≤◌, IsTrue, slice_index};
 ghost use Rattle.fz_grid.specs.Region.{IsDivided, IsPlaceOf, IsShape, IsWithin};
+ghost use Rattle.fz_grid.specs.Sieve.{IsSieveOf};
 
-use crate::{Grid, Region, Runs, index, one_tile_law, overlap_law, runs};
+use crate::{
+    Grid, Region, Runs, Sieve, coordinates, index, one_tile_law, overlap_law, picks, place_law,
+    runs, shape_law, tile_counts, tiles_law, volume,
+};
 use fz_block::Axes;
 use std::alloc::{AllocError, Global};
 use std::process::Abort;
@@ -86,6 +90,28 @@ fn is_place(shape: &Axes, at: &[u32; 9]) -> bool
     true
 }
 
+/// The sieve has a pick along each axis of the array, and none behind it.
+fn sifts(shape: &Axes, sieve: &Sieve) -> bool
+    requires { IsShape shape.now }
+    ensures { IsTrue result → IsSieveOf shape.now sieve.now }
+{
+    if sieve.n != shape.n {
+        return false;
+    }
+    for i in 0..shape.n as usize {
+        if sieve.lo[i] > sieve.hi[i] {
+            return false;
+        }
+        if sieve.hi[i] >= shape.len[i] {
+            return false;
+        }
+        if sieve.step[i] < 1 {
+            return false;
+        }
+    }
+    true
+}
+
 const SHAPE: Axes = Axes {
     n: 2,
     len: [5, 3, 0, 0, 0, 0, 0, 0, 0],
@@ -134,7 +160,10 @@ fn tiles_of_an_array(rt: HostRuntime) {
         assert_eq!(rt; grid.tile_box(tile), wanted);
         tile += 1;
     }
+    place_law();
     one_tile_law();
+    tiles_law();
+    shape_law();
     overlap_law();
 }
 
@@ -144,6 +173,8 @@ fn number_of_a_pixel(rt: HostRuntime) {
     let at = [3, 2, 0, 0, 0, 0, 0, 0, 0];
     assert!(rt; is_place(&SHAPE, &at));
     assert_eq!(rt; index(&SHAPE, &at), 13);
+    assert_eq!(rt; coordinates(&SHAPE, 13), at);
+    assert_eq!(rt; volume(&SHAPE), 15);
 }
 
 /// Compares the tiles that the region overlaps.
@@ -213,6 +244,54 @@ fn runs_of_a_region(rt: HostRuntime) {
         len: [4, 2, 2, 0, 0, 0, 0, 0, 0],
     };
     expect_runs(&rt, &cube, &planes, &[(8, 16)]);
+}
+
+/// Compares the picks of a sieve, and the tiles with one.
+fn expect_picks(rt: &impl Abort, sieve: &Sieve, numbers: &[u64], tiles: &[u32]) {
+    let grid = grid_of(rt, SHAPE, TILE);
+    assert!(rt; is_small(&SHAPE));
+    assert!(rt; sifts(&SHAPE, sieve));
+    let mut found = picks(&SHAPE, sieve);
+    for number in numbers {
+        assert_eq!(rt; found.next(), Some(*number));
+    }
+    assert_eq!(rt; found.next(), None);
+    let mut touched = grid.sieve_tiles(sieve);
+    for tile in tiles {
+        assert_eq!(rt; touched.next(), Some(*tile));
+    }
+    assert_eq!(rt; touched.next(), None);
+}
+
+/// A sieve of an array of 2 axes.
+fn plane_sieve(lo: [u32; 2], hi: [u32; 2], step: [u32; 2]) -> Sieve {
+    Sieve {
+        n: 2,
+        lo: [lo[0], lo[1], 0, 0, 0, 0, 0, 0, 0],
+        hi: [hi[0], hi[1], 0, 0, 0, 0, 0, 0, 0],
+        step: [step[0], step[1], 0, 0, 0, 0, 0, 0, 0],
+    }
+}
+
+#[test]
+fn picks_of_a_sieve(rt: HostRuntime) {
+    let rows = plane_sieve([0, 0], [4, 2], [2, 2]);
+    expect_picks(&rt, &rows, &[0, 2, 4, 10, 12, 14], &[0, 1, 2, 3, 4, 5]);
+    expect_picks(&rt, &plane_sieve([0, 0], [4, 0], [4, 1]), &[0, 4], &[0, 2]);
+    expect_picks(&rt, &plane_sieve([0, 0], [4, 0], [9, 1]), &[0], &[0]);
+    expect_picks(
+        &rt,
+        &plane_sieve([1, 1], [3, 2], [1, 1]),
+        &[6, 7, 8, 11, 12, 13],
+        &[0, 1, 3, 4],
+    );
+    let thirds = Sieve {
+        n: 2,
+        lo: [0; 9],
+        hi: [4, 2, 0, 0, 0, 0, 0, 0, 0],
+        step: [3, 2, 1, 1, 1, 1, 1, 1, 1],
+    };
+    assert_eq!(rt; thirds.len(0), 2);
 }
 
 /// The next number of a fixed sequence, from 0 on and below `end`.

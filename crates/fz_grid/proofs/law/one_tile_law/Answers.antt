@@ -1,10 +1,8 @@
-use Rattle.std.proofs.Common.{arith}
-use Rattle.fz_grid.proofs.LawLemmas.{one_tile}
-use Rattle.fz_grid.proofs.PlaceLemmas.{AreBelow}
+use Rattle.fz_grid.proofs.WholeLemmas.{in_one_tile, placed_once}
 use Rattle.fz_grid.proofs.law.one_tile_law.Goals as goal
 
-pub returns : goal.returns
-unfolding AreBelow
-returns c =
-    λ array tile coordinates same_tile same_coordinates positive below.
-    one_tile array tile coordinates (record { same = same_tile; some = λ i h. omega (arith, below i h); positive = positive }) same_coordinates below
+pub returns-clause-coordinates : goal.returns-clause-coordinates
+returns-clause-coordinates c = in_one_tile
+
+pub returns-clause-numbers : goal.returns-clause-numbers
+returns-clause-numbers c = placed_once

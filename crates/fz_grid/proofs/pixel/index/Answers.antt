@@ -1,6 +1,6 @@
-use Rattle.std.proofs.Common.{◌≡◌, ◌+◌, ◌*◌, ◌-◌, ◌<◌, take, drop, get_or, arith}
+use Rattle.std.proofs.Common.{◌≡◌, ◌+◌, ◌*◌, ◌-◌, ◌<◌, take, drop, get_or, ap, arith}
 use Rattle.fz_grid.specs.Arrays.{product, place_of}
-use Rattle.fz_grid.proofs.PlaceLemmas.{place_step_lt}
+use Rattle.fz_grid.proofs.PlaceLemmas.{index_lt, place_step_lt}
 use Rattle.fz_grid.proofs.pixel.index.Goals as goal
 
 -- the number of the pixel among those of the axes from this one on
@@ -16,3 +16,10 @@ overflow_mul-place c = omega (arith, is_bounded c)
 
 pub overflow_add-place : goal.overflow_add-place
 overflow_add-place c = omega (arith, is_bounded c)
+
+pub returns-clause-inside : goal.returns-clause-inside
+returns-clause-inside c =
+    let shape = c.args.shape.now in
+    let at_end : c.loop-i.i ≡ 0 = omega arith in
+    let all = ap (λ i. place_of (drop i (take shape.n shape.len)) (drop i (take shape.n c.args.at.now))) at_end in
+    omega (arith, c.loop-i.invariant, all, index_lt shape.len c.args.at.now shape.n (omega arith) c.requires.at)

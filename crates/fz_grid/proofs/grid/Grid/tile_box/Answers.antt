@@ -4,6 +4,7 @@ use Rattle.fz_grid.specs.Grid.{tile_corner, tile_lengths}
 use Rattle.fz_grid.specs.Region.{lengths_of, region_corner, region_lengths}
 use Rattle.fz_grid.proofs.BoxLemmas.{box_along, within_of}
 use Rattle.fz_grid.proofs.Lists.{rest_none}
+use Rattle.fz_grid.proofs.ShapeLemmas.{divided_shapes, region_shape}
 use Rattle.fz_grid.proofs.Tilings.{cut_of, first_largest, shape_long, tile_is_box, tiling_of}
 use Rattle.fz_grid.proofs.Filling.{filled_all, filled_more, zero_more}
 use Rattle.fz_grid.proofs.GridLemmas.{corner_more, digit_inside, lengths_more}
@@ -75,3 +76,8 @@ returns-clause-within c =
     ap (λ n. take n region.lo) same ∙ filled_all region.lo _ c.loop-i.i _ (ap (λ l. tile_corner l (drop c.loop-i.i tile) c.loop-i.digits) none) c.loop-i.invariant.1 in
     let box = tile_is_box array tile c.args.t (cut_of array tile (tiling_of grid.shape grid.tile grid.divided)) in
     within_of grid.shape region (shape_long grid.shape grid.tile grid.divided) c.loop-i.invariant.0 (box_along array _ _ _ _ corner_is (is_tile c) box)
+
+pub returns-clause-shape : goal.returns-clause-shape
+returns-clause-shape c =
+    let grid = c.args.self.now in
+    region_shape grid.shape c.loop-i.region (divided_shapes grid.shape grid.tile grid.divided).0 (returns-clause-within c)
