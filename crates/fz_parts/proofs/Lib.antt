@@ -1,0 +1,9 @@
+pub mod AxisLemmas
+pub mod BoxLemmas
+pub mod CutoutLemmas
+pub mod PartLemmas
+pub mod RowLemmas
+pub mod SieveLemmas
+pub mod TableLemmas
+pub mod WalkLemmas
+pub mod WholeLemmas

@@ -1,0 +1,70 @@
+-- What the definitions of cutouts promise (FITS 4.0, section 10.1).
+use Rattle.std.specs.Prelude.{◌≡◌, ◌↔◌, ℕ, ◌<◌, IsTrue, ℤ, List, length}
+use Rattle.fz_grid.specs.declared.sieve.Sieve.{Sieve}
+use Rattle.fz_grid.specs.Arrays.{IsArray, NumberArray, product}
+use Rattle.fz_grid.specs.Division.{AreTileLengths}
+use Rattle.fz_grid.specs.Grid.{tile, tile_corner, tile_lengths}
+use Rattle.fz_grid.specs.Overlap.{IsInBox, has_pixel}
+use Rattle.fz_grid.specs.Sieve.{IsPick, sieve_hi, sieve_lengths, sieve_lo, sieve_step}
+use Rattle.fz_parts.specs.Cutout.{
+  HoldsParts,
+  HoldsTiles,
+  IsPickedOnce,
+  Sifts,
+  numbers_at,
+  part_lengths,
+  picked_numbers,
+  picks_in_cutout,
+  picks_in_tile,
+}
+
+-- a cutout has as many numbers as places
+abbrev pub CutoutsAreWhole : Type 0
+CutoutsAreWhole = (a : NumberArray) (sieve : Sieve) → length (picked_numbers a sieve) ≡ product (sieve_lengths sieve)
+
+-- the numbers of a tile at its picks stand in the cutout at the places of its part
+abbrev pub TilesGiveTheirPicks : Type 0
+TilesGiveTheirPicks =
+    (a : NumberArray) (lengths : List ℕ) (sieve : Sieve) (t : ℕ)
+    → AreTileLengths a.lengths lengths
+    → Sifts a.lengths sieve
+    → numbers_at (picked_numbers a sieve) (picks_in_cutout a.lengths lengths sieve t)
+    ≡ numbers_at (tile a lengths t) (picks_in_tile a.lengths lengths sieve t)
+
+-- each place of the cutout is that of exactly one pick of exactly one tile
+abbrev pub PlacesArePickedOnce : Type 0
+PlacesArePickedOnce =
+    (array tile : List ℕ) (sieve : Sieve) (place : ℕ)
+    → AreTileLengths array tile
+    → Sifts array sieve
+    → place < product (sieve_lengths sieve)
+    → IsPickedOnce array tile sieve place
+
+-- a list that holds the parts of all tiles with a pick is the cutout
+abbrev pub PartsMakeTheCutout : Type 0
+PartsMakeTheCutout =
+    (a : NumberArray) (lengths : List ℕ) (sieve : Sieve) (cutout : List ℤ)
+    → AreTileLengths a.lengths lengths
+    → Sifts a.lengths sieve
+    → HoldsParts a lengths sieve cutout
+    → cutout ≡ picked_numbers a sieve
+
+-- a list that holds all tiles is the array
+abbrev pub TilesMakeTheImage : Type 0
+TilesMakeTheImage =
+    (a : NumberArray) (lengths : List ℕ) (image : List ℤ)
+    → AreTileLengths a.lengths lengths
+    → IsArray a
+    → HoldsTiles a lengths image
+    → image ≡ a.numbers
+
+-- a tile has a part where a pick lies in it, and nowhere else
+abbrev pub PartsAreOfTilesWithAPick : Type 0
+PartsAreOfTilesWithAPick =
+    (array tile : List ℕ) (sieve : Sieve) (t : ℕ)
+    → AreTileLengths array tile
+    → Sifts array sieve
+    → (IsTrue (has_pixel (part_lengths array tile sieve t))
+    ↔ ((coordinates : List ℕ)
+    × IsPick (sieve_lo sieve) (sieve_hi sieve) (sieve_step sieve) coordinates
+    × IsInBox (tile_corner array tile t) (tile_lengths array tile t) coordinates))

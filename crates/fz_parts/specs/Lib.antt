@@ -1,0 +1,4 @@
+pub mod Cutout
+pub mod Laws
+pub mod Line
+pub mod Walk
