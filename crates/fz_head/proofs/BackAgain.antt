@@ -11,16 +11,16 @@ use Rattle.fz_card.specs.Made.{numbered_name}
 use Rattle.fz_card.specs.Naming.{is_dropped, packed_name}
 use Rattle.fz_card.specs.Reading.{integer_of}
 use Rattle.fz_card.proofs.TableNames.{renamed-kept}
+use Rattle.fz_card.specs.CardLists.{has_name}
 use Rattle.fz_block.specs.Cards.{card_at}
 use Rattle.fz_block.specs.Hdus.{size_in, size_at}
-use Rattle.fz_head.specs.CardLists.{has_name}
 use Rattle.fz_head.specs.PackedHeader.{packed_card, number_card, word_card}
 use Rattle.fz_head.specs.PlainHeader.{axis_card, axis_count, count_cards, is_kept, is_front, is_table_card, leading_card, or_card, other_cards, plain_card, plain_header, restored_word, says_what, size_cards, was_primary}
 use Rattle.fz_head.proofs.CardNames.{simple-pair, xtension-pair, bitpix-pair, naxis-pair, pcount-pair, gcount-pair, axis-pair}
 use Rattle.fz_head.proofs.FrontCards.{Place, At_first, At_bitpix, At_naxis, At_axis, At_pcount, At_gcount, place, front_count, first_word}
 use Rattle.fz_head.proofs.ImageCards.{IsImage, is_free, comes_back, same_name, front_apart, false_of, or_false, or_first, or_second}
 use Rattle.fz_head.proofs.KeptCards.{not_simple, rest_kept, front_not_kept}
-use Rattle.fz_head.proofs.MadeCards.{IsDroppedCard, AreDropped}
+use Rattle.fz_head.specs.SumCards.{IsDroppedCard, AreDropped}
 use Rattle.fz_head.proofs.Ranges.{map_same, kept_all, kept_none, dropped_all, found_first, found_later, found_here, found_none, split_range, flat_single, map-map-range, all-append, all-mapped, all-weaker}
 use Rattle.fz_head.proofs.SingleCards.{integer_of-packed_card}
 
@@ -62,7 +62,7 @@ module _ (header : List ℕ) (primary : Bool) (n last : ℕ) (made sums : List (
       found_later has made (cards ++ sums) none ∙ found_here has cards sums (packed_card (card_at header k)) first
 
   -- a mandatory card by its name
-  found_named : (a b : List ℕ) (k : ℕ) → packed_name a ≡ Some b → k < last → Place primary n k → card_name (card_at header k) ≡ a →
+  pub found_named : (a b : List ℕ) (k : ℕ) → packed_name a ≡ Some b → k < last → Place primary n k → card_name (card_at header k) ≡ a →
       find (has_name b) (whole header last made sums) ≡ Some (packed_card (card_at header k))
   found_named a b k e before at name =
       found (has_name b) k (all-weaker IsDroppedCard (λ card. has_name b card ≡ false) made (λ card d. not-named a b card e d) is.made_are) before
@@ -115,14 +115,14 @@ module _ (header : List ℕ) (primary : Bool) (n last : ℕ) (made sums : List (
   axes-are : flat_map (axis_card (whole header last made sums)) (range_with_len 1 n) ≡ map (card_at header) (range_with_len 3 n)
   axes-are = flat_single (axis_card (whole header last made sums)) (card_at header) 1 3 n axis-is
 
-  count-is : axis_count (whole header last made sums) ≡ n
+  pub count-is : axis_count (whole header last made sums) ≡ n
   count-is =
       let before : 2 < last = omega (arith, is.enough) in
       ap (λ o. size_in (integer_of (unwrap_or o []))) (found_named (padded (codes "NAXIS")) (padded (codes "ZNAXIS")) 2 naxis-pair before (At_naxis refl) is.image.front.naxis)
       ∙ (ap size_in (integer_of-packed_card (card_at header 2) (is_free header primary n last is.image 2 before).eight) ∙ sym is.count)
 
   -- whether it was a primary
-  primary-is : (b : Bool) → primary ≡ b → was_primary (whole header last made sums) ≡ b
+  pub primary-is : (b : Bool) → primary ≡ b → was_primary (whole header last made sums) ≡ b
   primary-is true p = ap is_some (found_named (padded (codes "SIMPLE")) (padded (codes "ZSIMPLE")) 0 simple-pair (omega (arith, is.enough)) (At_first refl) (is.image.front.first ∙ ap first_word p))
   primary-is false p =
       let has = has_name (padded (codes "ZSIMPLE")) in

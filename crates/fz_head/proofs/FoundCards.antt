@@ -11,10 +11,10 @@ use Rattle.std.proofs.lemmas.List.Elements.{filter-append}
 use Rattle.std.proofs.lemmas.List.FromFn.{get_or-map-range_with_len, length-map-range_with_len, map-range_with_len_more}
 use Rattle.fz_card.specs.Layout.{card_name}
 use Rattle.fz_card.specs.Naming.{is_in_some}
+use Rattle.fz_card.specs.CardLists.{has_name}
 use Rattle.fz_block.specs.Cards.{card_at, end_of, first_among}
 use Rattle.fz_block.specs.Hdus.{cards_of}
 use Rattle.fz_table.specs.Columns.{first_named}
-use Rattle.fz_head.specs.CardLists.{has_name}
 use Rattle.fz_head.specs.PlainHeader.{is_kept, other_cards_of, part_cards_of, plain_card, whole_names}
 use Rattle.fz_head.specs.Written.{Adds, first_cards, found_cards}
 use Rattle.fz_head.proofs.CutTiles.{get-past, get-within}

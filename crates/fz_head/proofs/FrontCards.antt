@@ -79,6 +79,14 @@ few-axes k header e =
     let sizes = clear (bitpix_check k header ∷ naxis_checks k header) (clear-front (bitpix_check k header ∷ naxis_checks k header) (axes ++ count_checks k header) later) in
     ltb-false 9 (size_at header 2) sizes.1.1.0
 
+-- cards 1 and 2 are BITPIX and NAXIS
+pub size-names : (k : ℕ) (header : List ℕ) → first_refusal (mandatory_checks k header) ≡ None → (card_name (card_at header 1) ≡ padded (codes "BITPIX")) × (card_name (card_at header 2) ≡ padded (codes "NAXIS"))
+size-names k header e =
+    let axes = flat_map (axis_checks k header) (range_with_len 1 (size_at header 2)) in
+    let later = clear-rest (extension_checks k header) (bitpix_check k header ∷ naxis_checks k header ++ (axes ++ count_checks k header)) e in
+    let sizes = clear (bitpix_check k header ∷ naxis_checks k header) (clear-front (bitpix_check k header ∷ naxis_checks k header) (axes ++ count_checks k header) later) in
+    (must-name (padded (codes "BITPIX")) (card_at header 1) _ sizes.0, must-name (padded (codes "NAXIS")) (card_at header 2) _ sizes.1.0)
+
 -- HDU 0 is the primary
 abbrev pub is_first_hdu : ℕ → Bool
 is_first_hdu zero = true
@@ -88,8 +96,8 @@ pub has_front : (k : ℕ) (header : List ℕ) → (k ≡ 0 → is_named (codes "
 has_front k header simple e = record {
   few = few-axes k header e;
   first = first k simple (clear-front (extension_checks k header) behind e);
-  bitpix = must-name (padded (codes "BITPIX")) (card_at header 1) _ sizes.0;
-  naxis = must-name (padded (codes "NAXIS")) (card_at header 2) _ sizes.1.0;
+  bitpix = (size-names k header e).0;
+  naxis = (size-names k header e).1;
   axis = λ i low high. must-name (numbered_name (codes "NAXIS") i) (card_at header (2 + i)) _ (clear (axis_checks k header i) (clear-each (axis_checks k header) 1 (size_at header 2) (clear-front axes (count_checks k header) lengths) i low (omega arith))).0;
   pcount = pcount k (clear-rest axes (count_checks k header) lengths);
   gcount = gcount k (clear-rest axes (count_checks k header) lengths);
@@ -103,9 +111,6 @@ has_front k header simple e = record {
 
     later : first_refusal behind ≡ None
     later = clear-rest (extension_checks k header) behind e
-
-    sizes : AllByRecursion (λ check. check.0 ≡ false) (bitpix_check k header ∷ naxis_checks k header)
-    sizes = clear (bitpix_check k header ∷ naxis_checks k header) (clear-front (bitpix_check k header ∷ naxis_checks k header) (axes ++ count_checks k header) later)
 
     lengths : first_refusal (axes ++ count_checks k header) ≡ None
     lengths = clear-rest (bitpix_check k header ∷ naxis_checks k header) (axes ++ count_checks k header) later

@@ -9,8 +9,9 @@ use Rattle.fz_card.specs.Layout.{card_name}
 use Rattle.fz_card.specs.Made.{numbered_name}
 use Rattle.fz_card.specs.Naming.{is_in, is_in_some, is_reserved, packed_name}
 use Rattle.fz_card.specs.Tables.Names.{Numbered}
+use Rattle.fz_card.specs.CardLists.{has_name}
+use Rattle.fz_card.specs.Reading.{has_text}
 use Rattle.fz_block.specs.Cards.{card_at, is_named}
-use Rattle.fz_head.specs.CardLists.{has_name, has_text}
 use Rattle.fz_head.specs.PackChecks.{is_axis_above, is_of_other_sort, is_reserved_card, reserved_index}
 use Rattle.fz_head.specs.PackedHeader.{packed_card}
 use Rattle.fz_head.specs.PlainHeader.{plain_card}

@@ -10,8 +10,8 @@ use Rattle.fz_card.specs.Naming.{is_in, is_in_some, is_dropped, packed_name}
 use Rattle.fz_card.specs.Tables.{IsInSome, IsNumberedName}
 use Rattle.fz_card.specs.Tables.Names.{Numbered}
 use Rattle.fz_card.proofs.TableNames.{is_in_some-is, is-is_in_some}
+use Rattle.fz_card.specs.Reading.{has_text}
 use Rattle.fz_block.specs.Cards.{card_at, is_named}
-use Rattle.fz_head.specs.CardLists.{has_text}
 use Rattle.fz_head.specs.PackChecks.{is_axis_above, is_of_other_sort}
 use Rattle.fz_head.specs.PackedHeader.{packed_card}
 use Rattle.fz_head.specs.PlainHeader.{count_names, front_names, is_front, is_kept, is_table_card}

@@ -7,9 +7,9 @@ use Rattle.std.proofs.lemmas.Bool.{leb-true}
 use Rattle.std.proofs.lemmas.List.FromFn.{map-range_with_len_more}
 use Rattle.fz_card.specs.Naming.{number_behind, up_to}
 use Rattle.fz_card.specs.Layout.{card_name}
+use Rattle.fz_card.specs.Reading.{has_text}
 use Rattle.fz_block.specs.Cards.{card_at}
 use Rattle.fz_head.specs.Along.{smaller_of}
-use Rattle.fz_head.specs.CardLists.{has_text}
 use Rattle.fz_head.specs.PackedPlan.{least, parameter_in, parameter_number}
 use Rattle.fz_head.specs.Written.{first_cards}
 

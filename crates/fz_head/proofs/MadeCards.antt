@@ -1,26 +1,23 @@
 -- The cards that a packed header has of itself are dropped on the way back.
-use Rattle.std.proofs.Common.{◌≡◌, ℕ, ◌-◌, ◌<◌, ◌≤◌, Bool, true, false, List, ◌∷◌, ◌++◌, length, refl, ap, ◌∙◌, arith, inl, inr}
-use Rattle.std.specs.Prelude.{ℤ, pos, codes, slice_index}
-use Rattle.std.specs.List.{AllByRecursion}
+use Rattle.std.proofs.Common.{◌≡◌, ℕ, ◌-◌, ◌<◌, ◌≤◌, ◌^◌, Bool, true, false, List, ◌∷◌, ◌++◌, length, replicate, sym, subst, refl, ap, ◌∙◌, arith, inl, inr}
+use Rattle.std.specs.Prelude.{ℤ, pos, ◌⊎◌, codes, decimal, slice_index}
+use Rattle.std.proofs.lemmas.Fmt.{length-decimal-le}
 use Rattle.std.specs.Fmt.{digits}
-use Rattle.fz_card.specs.Layout.{card_name, padded}
+use Rattle.fz_card.specs.Layout.{padded}
 use Rattle.fz_card.specs.Made.{int_card_bytes, logical_card_bytes, text_card_bytes, numbered_name}
 use Rattle.fz_card.specs.Naming.{is_dropped, number_behind}
 use Rattle.fz_card.specs.Tables.{IsDropped, own_names, packed_names}
-use Rattle.fz_card.proofs.Lines.{card_name-int_card_bytes, card_name-logical_card_bytes, card_name-text_card_bytes, length-numbered_name}
+use Rattle.fz_card.proofs.Lines.{card_name-int_card_bytes, card_name-logical_card_bytes, card_name-text_card_bytes, length-text_card_bytes, length-numbered_name}
 use Rattle.fz_card.proofs.TableNames.{is-dropped}
+use Rattle.fz_sum.specs.Cards.{datasum_card, checksum_card, blank_checksum_card}
+use Rattle.fz_sum.specs.Characters.{characters, byte_characters}
 use Rattle.fz_tile.specs.declared.codec.Codec.{Codec}
 use Rattle.fz_tile.specs.declared.codec.Codec.TheVariants.{Rice, Plio, Plain}
 use Rattle.fz_head.specs.declared.plan.Plan.{Plan}
 use Rattle.fz_head.specs.declared.totals.Totals.{Totals}
 use Rattle.fz_head.specs.PackedHeader.{flag_card, word_card, numbered_number_card, codec_name, table_cards, column_cards, tile_cards, parameter_cards, sum_cards, made_cards}
-use Rattle.fz_head.proofs.Ranges.{all-append, all-mapped}
-
-abbrev pub IsDroppedCard : List ℕ → Type 0
-IsDroppedCard card = is_dropped (card_name card) ≡ true
-
-abbrev pub AreDropped : List (List ℕ) → Type 0
-AreDropped cards = AllByRecursion IsDroppedCard cards
+use Rattle.fz_head.specs.SumCards.{IsDroppedCard, AreDropped, IsSumCard, AreSumCards}
+use Rattle.fz_head.proofs.Ranges.{all-append, all-mapped, all-weaker}
 
 int-dropped : (name : List ℕ) (v : ℤ) → length name ≡ 8 → is_dropped name ≡ true → IsDroppedCard (int_card_bytes name v)
 int-dropped name v eight e = ap is_dropped (card_name-int_card_bytes name v eight) ∙ e
@@ -106,7 +103,39 @@ made-dropped p s few =
     (all-append IsDroppedCard (column_cards p s) (tile_cards p ++ parameter_cards p.codec) (column-dropped p s)
     (all-append IsDroppedCard (tile_cards p) (parameter_cards p.codec) (tiles-dropped p few) (parameter-dropped p.codec)))
 
-pub sums-dropped : (sums : Bool) → AreDropped (sum_cards sums)
+-- the cards of sums
+sum-dropped : (card : List ℕ) → IsSumCard card → IsDroppedCard card
 unfolding is_dropped own_names packed_names number_behind
-sums-dropped true = (text-dropped (padded (codes "DATASUM")) _ refl refl, (text-dropped (padded (codes "CHECKSUM")) _ refl refl, tt))
-sums-dropped false = tt
+sum-dropped card is = elim is.named [
+  | inl e ↦ ap is_dropped e
+  | inr e ↦ ap is_dropped e
+]
+
+pub sums-dropped : (sums : List (List ℕ)) → AreSumCards sums → AreDropped sums
+sums-dropped sums are = all-weaker IsSumCard IsDroppedCard sums sum-dropped are
+
+sum-card : (word text : List ℕ) → length (padded word) ≡ 8 → length text ≤ 68 → (padded word ≡ padded (codes "DATASUM")) ⊎ (padded word ≡ padded (codes "CHECKSUM")) → IsSumCard (text_card_bytes (padded word) text)
+sum-card word text eight short named = record {
+  whole = length-text_card_bytes (padded word) text eight short;
+  named = subst (λ n. (n ≡ padded (codes "DATASUM")) ⊎ (n ≡ padded (codes "CHECKSUM"))) (sym (card_name-text_card_bytes (padded word) text eight)) named;
+}
+
+pub datasum-is : (sum : ℕ) → sum < 2 ^ 32 → IsSumCard (datasum_card sum)
+unfolding datasum_card
+datasum-is sum small = sum-card (codes "DATASUM") (decimal sum) refl (omega (arith, length-decimal-le 10 sum (omega arith) (omega arith) (omega arith))) (inl refl)
+
+length-characters : (sum : ℕ) → length (characters sum) ≡ 16
+unfolding characters byte_characters
+length-characters sum = refl
+
+pub checksum-is : (sum : ℕ) → IsSumCard (checksum_card sum)
+unfolding checksum_card
+checksum-is sum = sum-card (codes "CHECKSUM") (characters sum) refl (omega (arith, length-characters sum)) (inr refl)
+
+pub blank-is : IsSumCard blank_checksum_card
+unfolding blank_checksum_card
+blank-is = sum-card (codes "CHECKSUM") (replicate 16 48) refl (omega arith) (inr refl)
+
+pub blanks-are : (sums : Bool) → AreSumCards (sum_cards sums)
+blanks-are true = (datasum-is 0 (omega arith), (blank-is, tt))
+blanks-are false = tt

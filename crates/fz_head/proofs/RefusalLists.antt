@@ -1,7 +1,7 @@
 -- Checks that stand one after another, each by itself: the first that refuses.
-use Rattle.std.proofs.Common.{◌≡◌, Bool, true, false, List, [], ◌∷◌, ◌++◌, refl, ap, sym, ◌∙◌}
-use Rattle.std.specs.Prelude.{Option, Some, None}
-use Rattle.fz_base.specs.Refusal.{first_refusal}
+use Rattle.std.proofs.Common.{◌≡◌, Bool, true, false, List, [], ◌∷◌, ◌++◌, refl, ap, sym, ◌∙◌, subst}
+use Rattle.std.specs.Prelude.{Option, Some, None, Result, Ok, Err, is_none, is_some, not}
+use Rattle.fz_base.specs.Refusal.{IsFirstOf, first_refusal}
 use Rattle.fz_base.specs.declared.fault.Fault.{Fault}
 use Rattle.fz_block.proofs.Refusals.{passed, stopped}
 
@@ -23,3 +23,27 @@ in-third-list one two three rest x first second e = passed one (two ++ (three ++
 
 pub after-three-lists : (one two three rest : List (Bool × Fault)) → first_refusal one ≡ None → first_refusal two ≡ None → first_refusal three ≡ None → first_refusal (one ++ (two ++ (three ++ rest))) ≡ first_refusal rest
 after-three-lists one two three rest first second third = passed one (two ++ (three ++ rest)) first ∙ (passed two (three ++ rest) second ∙ passed three rest third)
+
+-- the answer to a check is that to the same check in other words
+pub first-of-check : {A : Type 0} (b c : Bool) (f g : Fault) (result : Result A Fault) → b ≡ c → f ≡ g → IsFirstOf ((b, f) ∷ []) result → IsFirstOf ((c, g) ∷ []) result
+first-of-check b c f g result same fault is = subst (λ x. IsFirstOf ((c, x) ∷ []) result) fault (subst (λ t. IsFirstOf ((t, f) ∷ []) result) same is)
+
+-- the first check refuses, the next does, and the one behind it
+pub refused-first : (a : Bool × Fault) (rest : List (Bool × Fault)) (x : Fault) → first_refusal (a ∷ []) ≡ Some x → first_refusal (a ∷ rest) ≡ Some x
+refused-first a rest x e = stopped (a ∷ []) rest x e
+
+pub refused-next : (a b : Bool × Fault) (rest : List (Bool × Fault)) (x : Fault) → first_refusal (a ∷ []) ≡ None → first_refusal (b ∷ []) ≡ Some x → first_refusal (a ∷ b ∷ rest) ≡ Some x
+refused-next a b rest x none e = in-second-list (a ∷ []) (b ∷ []) rest x none e
+
+pub refused-third : (a b c : Bool × Fault) (rest : List (Bool × Fault)) (x : Fault) → first_refusal (a ∷ []) ≡ None → first_refusal (b ∷ []) ≡ None → first_refusal (c ∷ []) ≡ Some x → first_refusal (a ∷ b ∷ c ∷ rest) ≡ Some x
+refused-third a b c rest x none also e = in-third-list (a ∷ []) (b ∷ []) (c ∷ []) rest x none also e
+
+-- what is not there is missing
+pub not-some : {X : Type 0} (o : Option X) → not (is_some o) ≡ is_none o
+not-some None = refl
+not-some (Some x) = refl
+
+-- two checks pass, and the answer is that to the third
+pub first-of-third : {A : Type 0} (a b c : Bool × Fault) (result : Result A Fault) → first_refusal (a ∷ []) ≡ None → first_refusal (b ∷ []) ≡ None → IsFirstOf (c ∷ []) result → IsFirstOf (a ∷ b ∷ c ∷ []) result
+first-of-third a b c (Ok v) none also is = passed (a ∷ []) (b ∷ c ∷ []) none ∙ (passed (b ∷ []) (c ∷ []) also ∙ is)
+first-of-third a b c (Err x) none also is = passed (a ∷ []) (b ∷ c ∷ []) none ∙ (passed (b ∷ []) (c ∷ []) also ∙ is)

@@ -10,12 +10,13 @@ use Rattle.fz_base.specs.Refusal.{first_refusal, refusal}
 use Rattle.fz_base.specs.declared.fault.Place.TheVariants.{Card}
 use Rattle.fz_base.specs.declared.kind.Kind.TheVariants.{BadCard}
 use Rattle.fz_card.specs.Reading.{integer_of, logical_of, text_of}
+use Rattle.fz_card.specs.CardLists.{has_name}
 use Rattle.fz_block.specs.Cards.{card_at, end_of, first_among}
 use Rattle.fz_block.specs.Facts.{IsHeaderOf}
 use Rattle.fz_block.specs.declared.header.Header.{Header}
 use Rattle.fz_block.specs.Hdus.{cards_of}
 use Rattle.fz_table.specs.Columns.{first_named}
-use Rattle.fz_head.specs.CardLists.{has_name, index_of, the_card}
+use Rattle.fz_head.specs.CardLists.{index_of, the_card}
 use Rattle.fz_head.specs.PackedChecks.{missing}
 use Rattle.fz_head.proofs.FoundCards.{named-cards}
 use Rattle.fz_head.proofs.PackAnswers.{cards-count}

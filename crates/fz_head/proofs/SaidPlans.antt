@@ -35,7 +35,7 @@ use Rattle.fz_head.proofs.PlannedTiles.{axes-count, lengths-nine_axes, nine-entr
 use Rattle.fz_head.proofs.SaidCards.{integer-nothing, said-card, said-none}
 
 -- the integer that the first card of a name says
-said-integer : (header name : List ℕ) (found : Option ℕ) → found ≡ first_named name header → integer_at header found ≡ integer_of (the_card name (cards_of header))
+pub said-integer : (header name : List ℕ) (found : Option ℕ) → found ≡ first_named name header → integer_at header found ≡ integer_of (the_card name (cards_of header))
 said-integer header name None e = sym (ap integer_of (said-none header name None e) ∙ integer-nothing)
 said-integer header name (Some i) e = ap integer_of (sym (said-card header name (Some i) e))
 

@@ -7,7 +7,7 @@ use Rattle.fz_card.specs.Layout.{card_name}
 use Rattle.fz_card.specs.Naming.{packed_name}
 use Rattle.fz_card.specs.Plain.{plain_text}
 use Rattle.fz_card.specs.Reading.{integer_in, integer_of}
-use Rattle.fz_head.specs.CardLists.{has_name}
+use Rattle.fz_card.specs.CardLists.{has_name}
 use Rattle.fz_head.specs.PackedHeader.{packed_card}
 use Rattle.fz_head.specs.PlainHeader.{plain_card}
 use Rattle.fz_head.proofs.CardNames.{new_name, old_name, IsFree, length-new_name, old-new_name, new_name-of, was-named}

@@ -86,3 +86,7 @@ written-none out = record { bytes = refl; number = refl }
 -- a header of so many blocks is long enough for END behind its cards, and with a block more for 29 cards more
 pub blocks-enough : (before cards count len : ℕ) → len ≡ 2880 * (before + 1) → 80 * (cards + 1) ≤ len → count ≤ cards + 29 → whole_blocks_of (80 * (count + 1)) ≤ len + 2880
 blocks-enough before cards count len is fits few = omega arith
+
+-- fewer cards than 256 blocks have room for, with END
+pub blocks-short : (count size : ℕ) → size ≡ whole_blocks_of (80 * (count + 1)) → count < 9216 → size ≤ 737280
+blocks-short count size is few = omega arith

@@ -9,10 +9,11 @@ use Rattle.fz_head.specs.PackChecks.{pack_answer}
 use Rattle.fz_head.specs.PackedChecks.{plan_answer}
 use Rattle.fz_head.specs.Planned.{AreOptions}
 
--- the plan is one that the checks give for the image with this header, by some options
-pub record IsPackPlan (header : List ℕ) (h : Header) (p : Plan) : Type 0 where
+-- the plan is one that the checks give for the image with this header, by some options that ask for sums or not
+pub record IsPackPlan (header : List ℕ) (h : Header) (sums : Bool) (p : Plan) : Type 0 where
   pub options : PackOptions
   pub allowed : AreOptions options
+  pub with_sums : options.sums ≡ sums
   pub packable : is_packable h ≡ true
   pub answer : pack_answer options h header ≡ Ok p
 

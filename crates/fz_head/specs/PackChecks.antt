@@ -9,7 +9,7 @@ use Rattle.fz_base.specs.declared.kind.Kind.{Kind}
 use Rattle.fz_base.specs.declared.kind.Kind.TheVariants.{Duplicate, HeaderFill, Limit, PlioOffset, Reserved}
 use Rattle.fz_card.specs.Layout.{card_name}
 use Rattle.fz_card.specs.Naming.{is_reserved, is_in}
-use Rattle.fz_card.specs.Reading.{zero_of}
+use Rattle.fz_card.specs.Reading.{zero_of, has_text}
 use Rattle.fz_card.specs.Tables.Names.{Numbered}
 use Rattle.fz_block.specs.Cards.{is_named}
 use Rattle.fz_block.specs.Checks.{unless_refused}
@@ -23,7 +23,6 @@ use Rattle.fz_tile.specs.declared.codec.Codec.TheVariants.{Rice, Plio, Plain}
 use Rattle.fz_head.specs.declared.options.PackOptions.{PackOptions}
 use Rattle.fz_head.specs.declared.plan.Plan.{Plan}
 use Rattle.fz_head.specs.declared.totals.Totals.{Totals}
-use Rattle.fz_head.specs.CardLists.{has_text}
 use Rattle.fz_head.specs.Packable.{is_primary}
 use Rattle.fz_head.specs.PackedHeader.{packed_header}
 use Rattle.fz_head.specs.Planned.{pack_plan_of}

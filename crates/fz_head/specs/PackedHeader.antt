@@ -5,6 +5,7 @@ use Rattle.std.specs.Ordering.{int_eq}
 use Rattle.fz_card.specs.Layout.{card_name, padded}
 use Rattle.fz_card.specs.Made.{int_card_bytes, logical_card_bytes, text_card_bytes, numbered_name}
 use Rattle.fz_card.specs.Naming.{packed_name}
+use Rattle.fz_sum.specs.Cards.{datasum_card, blank_checksum_card}
 use Rattle.fz_grid.specs.Grid.{tile_count}
 use Rattle.fz_grid.specs.Region.{lengths_of}
 use Rattle.fz_tile.specs.declared.codec.Codec.{Codec}
@@ -97,16 +98,18 @@ parameter_cards (Rice block bytepix) =
 parameter_cards Plio = []
 parameter_cards Plain = []
 
--- the cards of the sums, before the sums are known
+-- the cards of the sums, before the sums are known: the sum 0, and sixteen times `0`
 abbrev pub sum_cards : Bool → List (List ℕ)
-sum_cards sums =
-    if sums then word_card (codes "DATASUM") (codes "0") ∷ word_card (codes "CHECKSUM") (codes "0000000000000000") ∷ []
-    else []
+sum_cards sums = if sums then datasum_card 0 ∷ blank_checksum_card ∷ [] else []
 
 -- the cards before those of the image
 abbrev pub made_cards : Plan → Totals → List (List ℕ)
 made_cards p s = table_cards p s ++ (column_cards p s ++ (tile_cards p ++ parameter_cards p.codec))
 
--- the cards of the packed header of an image with these cards
+-- the cards of the packed header of an image with these cards, and these cards of sums at its end
+abbrev pub packed_with : List (List ℕ) → Plan → Totals → List (List ℕ) → List (List ℕ)
+packed_with cards p s sums = made_cards p s ++ (map packed_card cards ++ sums)
+
+-- the same before the sums are known
 unfoldable pub packed_header : List (List ℕ) → Plan → Totals → List (List ℕ)
-packed_header cards p s = made_cards p s ++ (map packed_card cards ++ sum_cards s.sums)
+packed_header cards p s = packed_with cards p s (sum_cards s.sums)

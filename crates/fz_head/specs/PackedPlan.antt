@@ -6,13 +6,13 @@ use Rattle.std.specs.Option.{option_map}
 use Rattle.fz_card.specs.Layout.{card_name, padded}
 use Rattle.fz_card.specs.Made.{numbered_name}
 use Rattle.fz_card.specs.Naming.{number_behind, up_to}
-use Rattle.fz_card.specs.Reading.{integer_of, text_of}
+use Rattle.fz_card.specs.Reading.{integer_of, text_of, has_text, is_text}
 use Rattle.fz_block.specs.Facts.{nine_axes}
 use Rattle.fz_block.specs.Hdus.{size_in}
 use Rattle.fz_tile.specs.declared.codec.Codec.{Codec}
 use Rattle.fz_tile.specs.declared.codec.Codec.TheVariants.{Rice, Plio, Plain}
 use Rattle.fz_head.specs.declared.plan.Plan.{Plan}
-use Rattle.fz_head.specs.CardLists.{has_text, is_text, index_of, the_card}
+use Rattle.fz_head.specs.CardLists.{index_of, the_card}
 use Rattle.fz_head.specs.PlainHeader.{axis_count, was_primary}
 use Rattle.fz_head.specs.Planned.{is_wide}
 

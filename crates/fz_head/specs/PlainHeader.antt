@@ -5,13 +5,14 @@ use Rattle.std.specs.Option.{option_to_list}
 use Rattle.fz_card.specs.Layout.{card_name, padded}
 use Rattle.fz_card.specs.Made.{numbered_name}
 use Rattle.fz_card.specs.Naming.{plain_name, is_dropped, is_in, is_in_some}
-use Rattle.fz_card.specs.Reading.{integer_of}
+use Rattle.fz_card.specs.Reading.{integer_of, has_text}
 use Rattle.fz_card.specs.Tables.{Names}
 use Rattle.fz_card.specs.Tables.Names.{Word, Numbered}
+use Rattle.fz_card.specs.CardLists.{first_of_name}
 use Rattle.fz_block.specs.Cards.{is_named}
 use Rattle.fz_block.specs.Hdus.{size_in}
 use Rattle.fz_grid.specs.declared.region.Region.{Region}
-use Rattle.fz_head.specs.CardLists.{has_name, has_text, first_named, the_card}
+use Rattle.fz_head.specs.CardLists.{first_named, the_card}
 use Rattle.fz_head.specs.PackedHeader.{number_card, flag_card, word_card, numbered_number_card}
 
 -- the card under the name that it has in the image: columns 1 to 8 change, and nothing else
@@ -29,7 +30,7 @@ restored_word word cards = map plain_card (first_named (padded word) cards)
 
 -- the image is a primary
 abbrev pub was_primary : List (List ℕ) → Bool
-was_primary cards = is_some (find (has_name (padded (codes "ZSIMPLE"))) cards)
+was_primary cards = is_some (first_of_name (padded (codes "ZSIMPLE")) cards)
 
 -- how many axes the image has
 abbrev pub axis_count : List (List ℕ) → ℕ

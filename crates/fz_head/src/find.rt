@@ -1,13 +1,13 @@
 //! Cards that are found by what they say.
 ghost use Rattle.std.specs.Prelude.{◌≡◌, ◌+◌, ◌*◌, ◌<◌, ◌≤◌, ◌&&◌, ◌||◌, false, true, not, bytes_eq, codes, position, unwrap_or, length as len};
 ghost use Rattle.fz_card.specs.Layout.{card_name};
-ghost use Rattle.fz_card.specs.Reading.{logical_of, text_of};
-ghost use Rattle.fz_head.specs.CardLists.{has_name, has_text};
+ghost use Rattle.fz_card.specs.Reading.{logical_of, text_of, has_text};
+ghost use Rattle.fz_card.specs.CardLists.{has_name};
 ghost use Rattle.fz_head.specs.PackChecks.{is_offset as is_offset_of};
 ghost use Rattle.fz_head.specs.Written.{first_cards};
 
 use fz_block::card;
-use fz_card::{Card, FIELD_LEN, Name};
+use fz_card::{Card, Name};
 
 /// Whether the card has this name.
 pub(crate) fn has_name(card: &Card, name: &Name) -> bool
@@ -16,19 +16,8 @@ pub(crate) fn has_name(card: &Card, name: &Name) -> bool
     card.name() == *name
 }
 
-/// Whether the value of the card is this text.
-pub(crate) fn has_text(card: &Card, text: &[u8]) -> bool
-    ensures { result ≡ has_text text.now card.now.bytes }
-{
-    let mut found = [0; FIELD_LEN];
-    match card.text(&mut found) {
-        Some(count) => &found[..count] == text,
-        None => false,
-    }
-}
-
-// Whether the card has this name and the value T.
-fn is_set(card: &Card, name: &Name) -> bool
+/// Whether the card has this name and the value T.
+pub(crate) fn is_set(card: &Card, name: &Name) -> bool
     ensures { result ≡ (has_name name.now.bytes card.now.bytes && unwrap_or (logical_of card.now.bytes) false) }
 {
     has_name(card, name) && card.logical().unwrap_or(false)

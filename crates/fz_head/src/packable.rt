@@ -1,8 +1,7 @@
 //! Which HDUs are images that can be packed, and which are packed tables.
-ghost use Rattle.std.specs.Prelude.{◌≡◌, ◌==◌, ◌≤◌, ◌^◌, ◌&&◌, nat_le};
+ghost use Rattle.std.specs.Prelude.{◌≡◌, ◌==◌, ◌≤◌, ◌&&◌, nat_le};
 ghost use Rattle.std.specs.List.{list_all};
 ghost use Rattle.fz_block.specs.Facts.{IsHeaderOf};
-ghost use Rattle.fz_block.specs.Header.{next_start_of};
 ghost use Rattle.fz_grid.specs.Region.{lengths_of};
 ghost use Rattle.fz_head.specs.Packable.{has_integers, is_image, is_packable, is_packed, is_table};
 
@@ -15,7 +14,6 @@ use fz_card::Name;
 #[tactic(auto, unfolding(crate::specs::Packable::is_packable))]
 pub fn is_packable(buf: &[u8], header: &Header) -> bool
     requires header { IsHeaderOf buf.now header.now }
-    requires end { next_start_of header.now ≤ 2 ^ 62 }
     ensures { result ≡ is_packable header.now }
 {
     is_image(header.sort)
@@ -61,14 +59,13 @@ fn has_places(axes: &Axes) -> bool
 #[tactic(auto, unfolding(crate::specs::Packable::is_packed))]
 pub fn is_packed(buf: &[u8], header: &Header) -> bool
     requires header { IsHeaderOf buf.now header.now }
-    requires end { next_start_of header.now ≤ 2 ^ 62 }
     ensures { result ≡ is_packed buf.now header.now }
 {
     is_table(header.sort) && first_set(buf, header.cards, &Name::ZIMAGE).is_some()
 }
 
-// Whether the HDU is a binary table.
-fn is_table(sort: Sort) -> bool
+/// Whether the HDU is a binary table.
+pub(crate) fn is_table(sort: Sort) -> bool
     ensures { result ≡ is_table sort }
 {
     sort == Sort::BinTable

@@ -3,11 +3,10 @@ ghost use Rattle.std.specs.Prelude.{ℕ, ◌≡◌, ◌==◌, ◌+◌, ◌*◌, 
 ghost use Rattle.std.specs.List.{list_all};
 ghost use Rattle.fz_card.specs.Made.{IsCardText};
 ghost use Rattle.fz_block.specs.Facts.{IsHeaderOf};
-ghost use Rattle.fz_block.specs.Header.{next_start_of};
 ghost use Rattle.fz_block.specs.Hdus.{cards_of, header_bytes};
 ghost use Rattle.fz_grid.specs.Region.{IsDivided};
 ghost use Rattle.fz_head.specs.Conditions.{AreShort, IsPackPlan};
-ghost use Rattle.fz_head.specs.PackedHeader.{packed_header, packed_card as packed_card_of, table_cards as table_cards_of, column_cards as column_cards_of, tile_cards as tile_cards_of, parameter_cards as parameter_cards_of, sum_cards as sum_cards_of, descriptor_form, coded_letter as coded_letter_of, stored_letter as stored_letter_of, codec_name, word_card, numbered_word_card};
+ghost use Rattle.fz_head.specs.PackedHeader.{packed_header, packed_card as packed_card_of, table_cards as table_cards_of, column_cards as column_cards_of, tile_cards as tile_cards_of, parameter_cards as parameter_cards_of, sum_cards as sum_cards_of, descriptor_form, coded_letter as coded_letter_of, stored_letter as stored_letter_of, codec_name as codec_name_of, word_card, numbered_word_card};
 ghost use Rattle.fz_head.specs.Written.{Adds, card_list, first_cards};
 
 use crate::written::{finish, length_card, put, put_all};
@@ -16,6 +15,7 @@ use arrayvec::ArrayString;
 use fz_block::{Header, card};
 use fz_card::{Card, Name, int_card, logical_card, numbered, renamed, text_card};
 use fz_grid::Grid;
+use fz_sum::{blank_checksum_card, datasum_card};
 use fz_tile::Codec;
 use itoa::Buffer;
 
@@ -144,15 +144,23 @@ fn stored_letter(plan: &Plan) -> &'static str
     }
 }
 
-// The name of the codec.
-fn codec_card(codec: Codec) -> Card
-    ensures { result.bytes ≡ word_card (codes "ZCMPTYPE") (codec_name codec) }
+/// The name of the codec, as ZCMPTYPE says it (FITS 4.0, section 10.4).
+pub fn codec_name(codec: Codec) -> &'static str
+    ensures name { result.now ≡ codec_name_of codec }
+    ensures text { IsCardText result.now }
 {
     match codec {
-        Codec::Rice { .. } => text_card(Name::ZCMPTYPE, b"RICE_1"),
-        Codec::Plio => text_card(Name::ZCMPTYPE, b"PLIO_1"),
-        Codec::Plain => text_card(Name::ZCMPTYPE, b"NOCOMPRESS"),
+        Codec::Rice { .. } => "RICE_1",
+        Codec::Plio => "PLIO_1",
+        Codec::Plain => "NOCOMPRESS",
     }
+}
+
+// The card of the codec's name.
+fn codec_card(codec: Codec) -> Card
+    ensures { result.bytes ≡ word_card (codes "ZCMPTYPE") (codec_name_of codec) }
+{
+    text_card(Name::ZCMPTYPE, codec_name(codec).as_bytes())
 }
 
 // Writes how the image is packed: the codec, and the length of a tile along each axis.
@@ -198,25 +206,22 @@ fn put_sum_cards(sums: bool, count: usize, out: &mut [u8]) -> usize
     if !sums {
         return count;
     }
-    let cards = [
-        text_card(Name::DATASUM, b"0"),
-        text_card(Name::CHECKSUM, b"0000000000000000"),
-    ];
-    put_all(&cards, count, out)
+    put_all(&[datasum_card(0), blank_checksum_card()], count, out)
 }
 
 /// Writes the header of the packed table of the image with this header, and answers its length in
 /// bytes: whole blocks, of which the buffer has enough where it is a block longer than the image's
 /// header. The cards of the image follow those of the table, in their order; with sums the two cards
-/// of sums come last, with the text `0` and with sixteen of it.
+/// of sums come last, with the text `0` and with sixteen of it. The totals have sums where the options
+/// of the plan asked for them, so that the header has at most 256 blocks.
 pub fn to_packed(buf: &[u8], header: &Header, plan: &Plan, totals: &Totals, out: &mut [u8]) -> usize
     requires header { IsHeaderOf buf.now header.now }
-    requires end { next_start_of header.now ≤ 2 ^ 62 }
-    requires plan { IsPackPlan buf.now header.now plan.now }
+    requires plan { IsPackPlan buf.now header.now totals.now.sums plan.now }
     requires totals { AreShort totals.now }
     requires room { len buf.now + 2880 ≤ len out.old }
     ensures written { take result out.new ≡ header_bytes (packed_header (cards_of buf.now) plan.now totals.now) }
     ensures size { result ≡ len (header_bytes (packed_header (cards_of buf.now) plan.now totals.now)) }
+    ensures short { result ≤ 737280 }
 {
     let mut count = put_all(&table_cards(plan, totals), 0, out);
     count = put_all(&column_cards(plan, totals), count, out);

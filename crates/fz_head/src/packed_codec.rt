@@ -1,7 +1,6 @@
 //! The checks of what a packed header says of scaling, of the codec and of the pixels.
 ghost use Rattle.std.specs.Prelude.{◌≡◌, ◌+◌, ◌*◌, ◌<◌, ◌≤◌, ◌^◌, ◌||◌, ◌&&◌, not, true, [], ◌∷◌, None, Some, pos, negsuc, codes, position, unwrap_or, IfOk, length as len};
-ghost use Rattle.std.specs.Result.{MatchResult};
-ghost use Rattle.fz_base.specs.Refusal.{first_refusal};
+ghost use Rattle.fz_base.specs.Refusal.{IsFirstOf};
 ghost use Rattle.fz_card.specs.Reading.{text_of};
 ghost use Rattle.fz_block.specs.Facts.{IsHeaderOf};
 ghost use Rattle.fz_block.specs.Hdus.{cards_of};
@@ -10,20 +9,19 @@ ghost use Rattle.fz_head.specs.PackedPlan.{is_codec_name, is_plain_name, is_plio
 ghost use Rattle.fz_head.specs.Written.{first_cards};
 
 use crate::find::has_name;
-use crate::numbers::number_up_to;
 use crate::refused::refuse_at;
 use crate::said::{
     at_name, integer_said, is_integer, is_no_text, is_text, refuse_when, require, size,
 };
 use fz_base::{Fault, Kind};
 use fz_block::{Header, card};
-use fz_card::{Card, FIELD_LEN, Name};
+use fz_card::{Card, FIELD_LEN, Name, is_numbered};
 
 /// No pixels were scaled or masked.
 pub(crate) fn check_scaling(buf: &[u8], header: &Header) -> Result<(), Fault>
     requires header { IsHeaderOf buf.now header.now }
     requires few { column_count_of (cards_of buf.now) < 2 ^ 32 }
-    ensures { MatchResult result (λ _. first_refusal (scaling_check header.now.hdu (cards_of buf.now) ∷ []) ≡ None) (λ x. first_refusal (scaling_check header.now.hdu (cards_of buf.now) ∷ []) ≡ Some x) }
+    ensures { IsFirstOf (scaling_check header.now.hdu (cards_of buf.now) ∷ []) result }
 {
     let columns = column_count(buf, header);
     refuse_at(header, scaling_card(buf, header, columns), Kind::Quantised)
@@ -66,7 +64,7 @@ fn is_scaling(card: &Card, columns: u32) -> bool
 {
     has_name(card, &Name::ZSCALE)
         || has_name(card, &Name::ZZERO)
-        || (number_up_to(card.name(), b"TTYPE", columns).is_some() && names_scaling(card))
+        || (is_numbered(card.name(), b"TTYPE", columns) && names_scaling(card))
 }
 
 // Whether the text of the card names a column of scaled or masked pixels, in any case of letters.
@@ -126,7 +124,7 @@ fn is_codec(buf: &[u8], header: &Header) -> bool
 /// ZCMPTYPE names one of the codecs.
 pub(crate) fn check_codec(buf: &[u8], header: &Header) -> Result<(), Fault>
     requires { IsHeaderOf buf.now header.now }
-    ensures { MatchResult result (λ _. first_refusal (codec_checks header.now.hdu (cards_of buf.now)) ≡ None) (λ x. first_refusal (codec_checks header.now.hdu (cards_of buf.now)) ≡ Some x) }
+    ensures { IsFirstOf (codec_checks header.now.hdu (cards_of buf.now)) result }
 {
     require(buf, header, &Name::ZCMPTYPE)?;
     let no_text = is_no_text(buf, header, &Name::ZCMPTYPE);
@@ -169,7 +167,7 @@ fn is_coded_long(buf: &[u8], header: &Header, bitpix: Option<i64>) -> bool
 /// ZBITPIX is that of an integer image, and pixels of 64 bits have no code.
 pub(crate) fn check_bitpix(buf: &[u8], header: &Header) -> Result<i32, Fault>
     requires { IsHeaderOf buf.now header.now }
-    ensures exact { MatchResult result (λ _. first_refusal (bitpix_checks header.now.hdu (cards_of buf.now)) ≡ None) (λ x. first_refusal (bitpix_checks header.now.hdu (cards_of buf.now)) ≡ Some x) }
+    ensures exact { IsFirstOf (bitpix_checks header.now.hdu (cards_of buf.now)) result }
     ensures value { IfOk result (λ v. v ≡ said_bitpix (cards_of buf.now)) }
 {
     let bitpix = integer_said(buf, header, &Name::ZBITPIX);

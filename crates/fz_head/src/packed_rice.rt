@@ -1,7 +1,8 @@
 //! The parameters of a Rice code that a packed header says.
 ghost use Rattle.std.specs.Prelude.{◌≡◌, ◌*◌, ◌≤◌, ◌⊎◌, [], ◌∷◌, None, Some, pos, codes, IfOk, IfSome, length as len};
-ghost use Rattle.std.specs.Result.{MatchResult};
-ghost use Rattle.fz_base.specs.Refusal.{first_refusal};
+ghost use Rattle.fz_base.specs.Refusal.{IsFirstOf};
+ghost use Rattle.fz_card.specs.Layout.{card_name};
+ghost use Rattle.fz_card.specs.Naming.{number_behind, up_to};
 ghost use Rattle.fz_block.specs.Facts.{IsHeaderOf};
 ghost use Rattle.fz_block.specs.Hdus.{cards_of};
 ghost use Rattle.fz_head.specs.PackedChecks.{block_checks, bytepix_checks, is_block as is_block_of, is_bytepix as is_bytepix_of, is_integer, parameter_checks, value_missing};
@@ -10,13 +11,11 @@ ghost use Rattle.fz_tile.specs.Codecs.{ReadsCodes};
 ghost use Rattle.fz_head.specs.Along.{smaller_of};
 ghost use Rattle.fz_head.specs.Written.{first_cards};
 
-use crate::find::has_text;
-use crate::numbers::number_up_to;
 use crate::packed_codec::{is_plio, is_rice};
 use crate::said::{at_name, integer_said, is_positive, refuse_when, size, stands};
 use fz_base::{Fault, Kind};
 use fz_block::{Header, card};
-use fz_card::{Card, Name, numbered};
+use fz_card::{Card, Name, number_behind, numbered};
 use fz_tile::Codec;
 
 /// BLOCKSIZE where no card says it.
@@ -28,12 +27,19 @@ const DEFAULT_BYTEPIX: u32 = 4;
 /// The greatest BLOCKSIZE.
 const MAX_BLOCK: u64 = 32_767;
 
+// The number of a card ZNAMEi.
+fn name_number(card: &Card) -> Option<u32>
+    ensures { result ≡ up_to 999 (number_behind (codes "ZNAME") (card_name card.now.bytes)) }
+{
+    number_behind(card.name(), b"ZNAME").filter(|number| *number <= 999)
+}
+
 // The number of a card ZNAMEi with this text.
 fn parameter_in(card: &Card, text: &[u8]) -> Option<u32>
     ensures { result ≡ parameter_in_of text.now card.now.bytes }
 {
-    if has_text(card, text) {
-        number_up_to(card.name(), b"ZNAME", 999)
+    if card.has_text(text) {
+        name_number(card)
     } else {
         None
     }
@@ -76,7 +82,7 @@ fn parameter_number(buf: &[u8], header: &Header, text: &[u8]) -> Option<u32>
 fn require_value(buf: &[u8], header: &Header, i: u32) -> Result<(), Fault>
     requires header { IsHeaderOf buf.now header.now }
     requires number { i ≤ 999 }
-    ensures { MatchResult result (λ _. first_refusal (value_missing header.now.hdu (cards_of buf.now) i ∷ []) ≡ None) (λ x. first_refusal (value_missing header.now.hdu (cards_of buf.now) i ∷ []) ≡ Some x) }
+    ensures { IsFirstOf (value_missing header.now.hdu (cards_of buf.now) i ∷ []) result }
 {
     let none = !stands(buf, header, &numbered(b"ZVAL", i));
     refuse_when(
@@ -110,7 +116,7 @@ fn has_eight_bytes(value: Option<i64>) -> bool
 fn block_of(buf: &[u8], header: &Header, i: u32) -> Result<u32, Fault>
     requires header { IsHeaderOf buf.now header.now }
     requires number { i ≤ 999 }
-    ensures exact { MatchResult result (λ _. first_refusal (block_checks header.now.hdu (cards_of buf.now) (Some i)) ≡ None) (λ x. first_refusal (block_checks header.now.hdu (cards_of buf.now) (Some i)) ≡ Some x) }
+    ensures exact { IsFirstOf (block_checks header.now.hdu (cards_of buf.now) (Some i)) result }
     ensures value { IfOk result (λ v. v ≡ size_of (numbered_in (codes "ZVAL") i (cards_of buf.now))) }
     ensures range { IfOk result (λ v. (1 ≤ v) × (v ≤ 32767)) }
 {
@@ -126,7 +132,7 @@ fn block_of(buf: &[u8], header: &Header, i: u32) -> Result<u32, Fault>
 fn block_or_default(buf: &[u8], header: &Header, number: Option<u32>) -> Result<u32, Fault>
     requires header { IsHeaderOf buf.now header.now }
     requires number { IfSome number (λ i. i ≤ 999) }
-    ensures exact { MatchResult result (λ _. first_refusal (block_checks header.now.hdu (cards_of buf.now) number) ≡ None) (λ x. first_refusal (block_checks header.now.hdu (cards_of buf.now) number) ≡ Some x) }
+    ensures exact { IsFirstOf (block_checks header.now.hdu (cards_of buf.now) number) result }
     ensures value { IfOk result (λ v. v ≡ value_of_number (cards_of buf.now) 32 number) }
     ensures range { IfOk result (λ v. (1 ≤ v) × (v ≤ 32767)) }
 {
@@ -139,7 +145,7 @@ fn block_or_default(buf: &[u8], header: &Header, number: Option<u32>) -> Result<
 // BLOCKSIZE, or its default.
 fn block(buf: &[u8], header: &Header) -> Result<u32, Fault>
     requires { IsHeaderOf buf.now header.now }
-    ensures exact { MatchResult result (λ _. first_refusal (block_checks header.now.hdu (cards_of buf.now) (parameter_number_of (codes "BLOCKSIZE") (cards_of buf.now))) ≡ None) (λ x. first_refusal (block_checks header.now.hdu (cards_of buf.now) (parameter_number_of (codes "BLOCKSIZE") (cards_of buf.now))) ≡ Some x) }
+    ensures exact { IsFirstOf (block_checks header.now.hdu (cards_of buf.now) (parameter_number_of (codes "BLOCKSIZE") (cards_of buf.now))) result }
     ensures value { IfOk result (λ v. v ≡ parameter (codes "BLOCKSIZE") 32 (cards_of buf.now)) }
     ensures range { IfOk result (λ v. (1 ≤ v) × (v ≤ 32767)) }
 {
@@ -151,7 +157,7 @@ fn block(buf: &[u8], header: &Header) -> Result<u32, Fault>
 fn bytepix_of(buf: &[u8], header: &Header, i: u32) -> Result<u32, Fault>
     requires header { IsHeaderOf buf.now header.now }
     requires number { i ≤ 999 }
-    ensures exact { MatchResult result (λ _. first_refusal (bytepix_checks header.now.hdu (cards_of buf.now) (Some i)) ≡ None) (λ x. first_refusal (bytepix_checks header.now.hdu (cards_of buf.now) (Some i)) ≡ Some x) }
+    ensures exact { IsFirstOf (bytepix_checks header.now.hdu (cards_of buf.now) (Some i)) result }
     ensures value { IfOk result (λ v. v ≡ size_of (numbered_in (codes "ZVAL") i (cards_of buf.now))) }
     ensures range { IfOk result (λ v. (v ≡ 1) ⊎ ((v ≡ 2) ⊎ (v ≡ 4))) }
 {
@@ -169,7 +175,7 @@ fn bytepix_of(buf: &[u8], header: &Header, i: u32) -> Result<u32, Fault>
 fn bytepix_or_default(buf: &[u8], header: &Header, number: Option<u32>) -> Result<u32, Fault>
     requires header { IsHeaderOf buf.now header.now }
     requires number { IfSome number (λ i. i ≤ 999) }
-    ensures exact { MatchResult result (λ _. first_refusal (bytepix_checks header.now.hdu (cards_of buf.now) number) ≡ None) (λ x. first_refusal (bytepix_checks header.now.hdu (cards_of buf.now) number) ≡ Some x) }
+    ensures exact { IsFirstOf (bytepix_checks header.now.hdu (cards_of buf.now) number) result }
     ensures value { IfOk result (λ v. v ≡ value_of_number (cards_of buf.now) 4 number) }
     ensures range { IfOk result (λ v. (v ≡ 1) ⊎ ((v ≡ 2) ⊎ (v ≡ 4))) }
 {
@@ -182,7 +188,7 @@ fn bytepix_or_default(buf: &[u8], header: &Header, number: Option<u32>) -> Resul
 // BYTEPIX, or its default.
 fn bytepix(buf: &[u8], header: &Header) -> Result<u32, Fault>
     requires { IsHeaderOf buf.now header.now }
-    ensures exact { MatchResult result (λ _. first_refusal (bytepix_checks header.now.hdu (cards_of buf.now) (parameter_number_of (codes "BYTEPIX") (cards_of buf.now))) ≡ None) (λ x. first_refusal (bytepix_checks header.now.hdu (cards_of buf.now) (parameter_number_of (codes "BYTEPIX") (cards_of buf.now))) ≡ Some x) }
+    ensures exact { IsFirstOf (bytepix_checks header.now.hdu (cards_of buf.now) (parameter_number_of (codes "BYTEPIX") (cards_of buf.now))) result }
     ensures value { IfOk result (λ v. v ≡ parameter (codes "BYTEPIX") 4 (cards_of buf.now)) }
     ensures range { IfOk result (λ v. (v ≡ 1) ⊎ ((v ≡ 2) ⊎ (v ≡ 4))) }
 {
@@ -193,7 +199,7 @@ fn bytepix(buf: &[u8], header: &Header) -> Result<u32, Fault>
 /// The codec with its parameters, of which those of a Rice code alone are looked at.
 pub(crate) fn check_parameters(buf: &[u8], header: &Header) -> Result<Codec, Fault>
     requires { IsHeaderOf buf.now header.now }
-    ensures exact { MatchResult result (λ _. first_refusal (parameter_checks header.now.hdu (cards_of buf.now)) ≡ None) (λ x. first_refusal (parameter_checks header.now.hdu (cards_of buf.now)) ≡ Some x) }
+    ensures exact { IsFirstOf (parameter_checks header.now.hdu (cards_of buf.now)) result }
     ensures value { IfOk result (λ v. v ≡ codec_named (said_codec (cards_of buf.now)) (cards_of buf.now)) }
     ensures codes { IfOk result ReadsCodes }
 {

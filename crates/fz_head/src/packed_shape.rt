@@ -1,8 +1,7 @@
 //! The checks of the axes and tiles that a packed header says.
 ghost use Rattle.std.specs.Prelude.{ℕ, ◌≡◌, ◌-◌, ◌<◌, ◌≤◌, ◌^◌, ◌||◌, min, nat_lt, [], ◌∷◌, ◌++◌, None, Some, codes, map, replicate, slice_index, if◌then◌else◌, IfOk};
-ghost use Rattle.std.specs.Result.{MatchResult};
 ghost use Rattle.std.specs.List.{flat_map, range_with_len};
-ghost use Rattle.fz_base.specs.Refusal.{first_refusal};
+ghost use Rattle.fz_base.specs.Refusal.{IsFirstOf};
 ghost use Rattle.fz_block.specs.Facts.{IsHeaderOf, nine_axes};
 ghost use Rattle.fz_block.specs.Hdus.{cards_of};
 ghost use Rattle.fz_grid.specs.Arrays.{product};
@@ -28,7 +27,7 @@ const MAX_AXIS: u64 = 2_147_483_647;
 /// ZNAXIS, which is 1 to 9.
 fn axis_count(buf: &[u8], header: &Header) -> Result<u32, Fault>
     requires { IsHeaderOf buf.now header.now }
-    ensures exact { MatchResult result (λ _. first_refusal (axis_count_checks header.now.hdu (cards_of buf.now)) ≡ None) (λ x. first_refusal (axis_count_checks header.now.hdu (cards_of buf.now)) ≡ Some x) }
+    ensures exact { IsFirstOf (axis_count_checks header.now.hdu (cards_of buf.now)) result }
     ensures value { IfOk result (λ n. n ≡ axis_count (cards_of buf.now)) }
     ensures some { IfOk result (λ n. (1 ≤ n) × (n ≤ 9)) }
 {
@@ -45,7 +44,7 @@ fn axis_count(buf: &[u8], header: &Header) -> Result<u32, Fault>
 fn axis(buf: &[u8], header: &Header, i: u32) -> Result<u32, Fault>
     requires header { IsHeaderOf buf.now header.now }
     requires axis { i ≤ 9 }
-    ensures exact { MatchResult result (λ _. first_refusal (axis_checks header.now.hdu (cards_of buf.now) i) ≡ None) (λ x. first_refusal (axis_checks header.now.hdu (cards_of buf.now) i) ≡ Some x) }
+    ensures exact { IsFirstOf (axis_checks header.now.hdu (cards_of buf.now) i) result }
     ensures value { IfOk result (λ n. n ≡ size_of (numbered_in (codes "ZNAXIS") i (cards_of buf.now))) }
     ensures some { IfOk result (λ n. 1 ≤ n) }
 {
@@ -64,7 +63,7 @@ fn axes(buf: &[u8], header: &Header, n: u32) -> Result<Axes, Fault>
     requires header { IsHeaderOf buf.now header.now }
     requires few { n ≤ 9 }
     requires count { n ≡ axis_count (cards_of buf.now) }
-    ensures exact { MatchResult result (λ _. first_refusal (flat_map (axis_checks header.now.hdu (cards_of buf.now)) (range_with_len 1 n)) ≡ None) (λ x. first_refusal (flat_map (axis_checks header.now.hdu (cards_of buf.now)) (range_with_len 1 n)) ≡ Some x) }
+    ensures exact { IsFirstOf (flat_map (axis_checks header.now.hdu (cards_of buf.now)) (range_with_len 1 n)) result }
     ensures value { IfOk result (λ a. a ≡ nine_axes (said_axes (cards_of buf.now))) }
     ensures count { IfOk result (λ a. a.n ≡ n) }
     ensures some { IfOk result (λ a. (i : ℕ) → i < n → 1 ≤ slice_index a.len i) }
@@ -77,7 +76,7 @@ fn axes(buf: &[u8], header: &Header, n: u32) -> Result<Axes, Fault>
 fn axis_lengths(buf: &[u8], header: &Header, n: u32) -> Result<[u32; MAX_AXES], Fault>
     requires header { IsHeaderOf buf.now header.now }
     requires few { n ≤ 9 }
-    ensures exact { MatchResult result (λ _. first_refusal (flat_map (axis_checks header.now.hdu (cards_of buf.now)) (range_with_len 1 n)) ≡ None) (λ x. first_refusal (flat_map (axis_checks header.now.hdu (cards_of buf.now)) (range_with_len 1 n)) ≡ Some x) }
+    ensures exact { IsFirstOf (flat_map (axis_checks header.now.hdu (cards_of buf.now)) (range_with_len 1 n)) result }
     ensures value { IfOk result (λ a. a ≡ map (λ i. size_of (numbered_in (codes "ZNAXIS") i (cards_of buf.now))) (range_with_len 1 n) ++ replicate (9 - n) 0) }
     ensures some { IfOk result (λ a. (i : ℕ) → i < n → 1 ≤ slice_index a i) }
 {
@@ -94,7 +93,7 @@ fn tile_length(buf: &[u8], header: &Header, i: u32, axis: u32) -> Result<u32, Fa
     requires number { i ≤ 9 }
     requires axis { axis ≡ size_of (numbered_in (codes "ZNAXIS") i (cards_of buf.now)) }
     requires some { 1 ≤ axis }
-    ensures exact { MatchResult result (λ _. first_refusal (tile_check header.now.hdu (cards_of buf.now) i ∷ []) ≡ None) (λ x. first_refusal (tile_check header.now.hdu (cards_of buf.now) i ∷ []) ≡ Some x) }
+    ensures exact { IsFirstOf (tile_check header.now.hdu (cards_of buf.now) i ∷ []) result }
     ensures value { IfOk result (λ n. n ≡ tile_along (cards_of buf.now) i) }
     ensures some { IfOk result (λ n. (1 ≤ n) × (n ≤ axis)) }
 {
@@ -126,7 +125,7 @@ fn tile(buf: &[u8], header: &Header, shape: &Axes) -> Result<Axes, Fault>
     requires few { shape.now.n ≤ 9 }
     requires shape { shape.now ≡ nine_axes (said_axes (cards_of buf.now)) }
     requires some { (i : ℕ) → i < shape.now.n → 1 ≤ slice_index shape.now.len i }
-    ensures exact { MatchResult result (λ _. first_refusal (flat_map (λ i. tile_check header.now.hdu (cards_of buf.now) i ∷ []) (range_with_len 1 shape.now.n)) ≡ None) (λ x. first_refusal (flat_map (λ i. tile_check header.now.hdu (cards_of buf.now) i ∷ []) (range_with_len 1 shape.now.n)) ≡ Some x) }
+    ensures exact { IsFirstOf (flat_map (λ i. tile_check header.now.hdu (cards_of buf.now) i ∷ []) (range_with_len 1 shape.now.n)) result }
     ensures value { IfOk result (λ a. a ≡ nine_axes (said_tile (cards_of buf.now))) }
     ensures count { IfOk result (λ a. a.n ≡ shape.now.n) }
     ensures some { IfOk result (λ a. (i : ℕ) → i < shape.now.n → (1 ≤ slice_index a.len i) × (slice_index a.len i ≤ slice_index shape.now.len i)) }
@@ -141,7 +140,7 @@ fn tile_lengths(buf: &[u8], header: &Header, shape: &Axes) -> Result<[u32; MAX_A
     requires few { shape.now.n ≤ 9 }
     requires shape { shape.now ≡ nine_axes (said_axes (cards_of buf.now)) }
     requires some { (i : ℕ) → i < shape.now.n → 1 ≤ slice_index shape.now.len i }
-    ensures exact { MatchResult result (λ _. first_refusal (flat_map (λ i. tile_check header.now.hdu (cards_of buf.now) i ∷ []) (range_with_len 1 shape.now.n)) ≡ None) (λ x. first_refusal (flat_map (λ i. tile_check header.now.hdu (cards_of buf.now) i ∷ []) (range_with_len 1 shape.now.n)) ≡ Some x) }
+    ensures exact { IsFirstOf (flat_map (λ i. tile_check header.now.hdu (cards_of buf.now) i ∷ []) (range_with_len 1 shape.now.n)) result }
     ensures value { IfOk result (λ a. a ≡ map (tile_along (cards_of buf.now)) (range_with_len 1 shape.now.n) ++ replicate (9 - shape.now.n) 0) }
     ensures some { IfOk result (λ a. (i : ℕ) → i < shape.now.n → (1 ≤ slice_index a i) × (slice_index a i ≤ slice_index shape.now.len i)) }
 {
@@ -169,7 +168,7 @@ fn is_too_large(shape: &Axes, tile: &Axes) -> bool
 /// The axes of the image and the lengths of its tiles.
 pub(crate) fn check_shape(buf: &[u8], header: &Header) -> Result<(Axes, Axes), Fault>
     requires { IsHeaderOf buf.now header.now }
-    ensures exact { MatchResult result (λ _. first_refusal (shape_checks header.now.hdu (cards_of buf.now)) ≡ None) (λ x. first_refusal (shape_checks header.now.hdu (cards_of buf.now)) ≡ Some x) }
+    ensures exact { IsFirstOf (shape_checks header.now.hdu (cards_of buf.now)) result }
     ensures shape { IfOk result (λ r. r.0 ≡ nine_axes (said_axes (cards_of buf.now))) }
     ensures tile { IfOk result (λ r. r.1 ≡ nine_axes (said_tile (cards_of buf.now))) }
     ensures divided { IfOk result (λ r. IsDivided r.0 r.1) }

@@ -1,12 +1,11 @@
 //! The header of the image that a packed header stands for, and that of a part of it (FITS 4.0, sections
 //! 4.4.1 and 10.1.2).
-ghost use Rattle.std.specs.Prelude.{◌≡◌, ◌+◌, ◌-◌, ◌*◌, ◌<◌, ◌≤◌, ◌^◌, ◌&&◌, not, [], ◌∷◌, codes, map, position, IfSome, slice_index, take, length as len};
+ghost use Rattle.std.specs.Prelude.{◌≡◌, ◌+◌, ◌-◌, ◌*◌, ◌<◌, ◌≤◌, ◌&&◌, not, [], ◌∷◌, codes, map, position, IfSome, slice_index, take, length as len};
 ghost use Rattle.std.specs.Option.{ForSome};
 ghost use Rattle.std.specs.List.{flat_map, range_with_len};
 ghost use Rattle.fz_card.specs.Naming.{is_in, is_in_some};
 ghost use Rattle.fz_card.specs.Tables.Names.{Numbered};
 ghost use Rattle.fz_block.specs.Facts.{IsHeaderOf};
-ghost use Rattle.fz_block.specs.Header.{next_start_of};
 ghost use Rattle.fz_block.specs.Hdus.{cards_of, header_bytes};
 ghost use Rattle.fz_grid.specs.Region.{IsWithin};
 ghost use Rattle.fz_head.specs.Conditions.{IsPackedPlan};
@@ -15,18 +14,14 @@ ghost use Rattle.fz_head.specs.PlainHeader.{axis_card, count_cards_of, count_nam
 ghost use Rattle.fz_head.specs.Written.{Adds, first_cards, found_cards};
 
 use crate::Plan;
-use crate::find::{has_name, has_text};
-use crate::numbers::is_numbered;
+use crate::find::has_name;
 use crate::written::{finish, length_card, put};
 use fz_block::{Header, card};
-use fz_card::{Card, Name, int_card, is_dropped, logical_card, numbered, restored, text_card};
+use fz_card::{
+    Card, Name, int_card, is_dropped, is_numbered, logical_card, numbered, restored, text_card,
+};
 use fz_grid::Region;
 use fz_table::first_named;
-
-/// The name of a card that says whether an extension takes over cards of the primary.
-const INHERIT: Name = Name {
-    bytes: *b"INHERIT ",
-};
 
 // The card under its name in the image.
 fn plain_card(card: &Card) -> Card
@@ -191,7 +186,7 @@ fn is_table_card(card: &Card, n: u32) -> bool
     let name = card.name();
     is_dropped(name)
         || is_axis_above(name, n)
-        || (has_name(card, &Name::EXTNAME) && has_text(card, b"COMPRESSED_IMAGE"))
+        || (has_name(card, &Name::EXTNAME) && card.has_text(b"COMPRESSED_IMAGE"))
 }
 
 // Whether the name is that of an axis which the image has not.
@@ -235,16 +230,16 @@ fn put_other_cards(buf: &[u8], header: &Header, plan: &Plan, count: usize, out: 
 }
 
 /// Writes the header of the image that a packed header stands for, and answers its length in bytes: whole
-/// blocks, of which the buffer has enough where it is a block longer than the packed header. SIMPLE or
-/// XTENSION, BITPIX, NAXIS, its axes, and in an extension PCOUNT and GCOUNT stand at the front; all cards
-/// of the image follow in their order.
+/// blocks, no more than the packed header has. The buffer is a block longer than the packed header. SIMPLE
+/// or XTENSION, BITPIX, NAXIS, its axes, and in an extension PCOUNT and GCOUNT stand at the front; all
+/// cards of the image follow in their order.
 pub fn to_plain(buf: &[u8], header: &Header, plan: &Plan, out: &mut [u8]) -> usize
     requires header { IsHeaderOf buf.now header.now }
-    requires end { next_start_of header.now ≤ 2 ^ 62 }
     requires plan { IsPackedPlan buf.now header.now plan.now }
     requires room { len buf.now + 2880 ≤ len out.old }
     ensures written { take result out.new ≡ header_bytes (plain_header (cards_of buf.now)) }
     ensures size { result ≡ len (header_bytes (plain_header (cards_of buf.now))) }
+    ensures fits { result ≤ len buf.now }
 {
     let mut count = put_leading_card(buf, header, 0, out);
     count = put_size_cards(buf, header, count, out);
@@ -264,7 +259,7 @@ fn is_whole_name(name: Name) -> bool
         || name == Name::GCOUNT
         || name == Name::CHECKSUM
         || name == Name::DATASUM
-        || name == INHERIT
+        || name == Name::INHERIT
 }
 
 // Writes the card, if it comes back in its place and is kept with a part of the image.
@@ -310,17 +305,17 @@ fn put_region_cards(region: &Region, count: usize, out: &mut [u8]) -> usize
 }
 
 /// Writes the header of a primary image that holds a region of the image of a packed header, and answers
-/// its length in bytes: whole blocks, of which the buffer has enough where it is a block longer than the
-/// packed header. The axes have the lengths of the region; cards of the whole image that do not hold for
-/// a part of it, as its sums, are left out.
+/// its length in bytes: whole blocks, no more than the packed header has. The buffer is a block longer than
+/// the packed header. The axes have the lengths of the region; cards of the whole image that do not hold
+/// for a part of it, as its sums, are left out.
 pub fn to_cut(buf: &[u8], header: &Header, plan: &Plan, region: &Region, out: &mut [u8]) -> usize
     requires header { IsHeaderOf buf.now header.now }
-    requires end { next_start_of header.now ≤ 2 ^ 62 }
     requires plan { IsPackedPlan buf.now header.now plan.now }
     requires region { IsWithin plan.now.shape region.now }
     requires room { len buf.now + 2880 ≤ len out.old }
     ensures written { take result out.new ≡ header_bytes (cutout_header (cards_of buf.now) region.now) }
     ensures size { result ≡ len (header_bytes (cutout_header (cards_of buf.now) region.now)) }
+    ensures fits { result ≤ len buf.now }
 {
     let simple = logical_card(Name::SIMPLE, true);
     let mut count = put_or(

@@ -1,8 +1,7 @@
 //! The plan of an image that is to be packed, and the checks that it has to pass.
 ghost use Rattle.std.specs.Prelude.{ℕ, ◌≡◌, ◌==◌, ◌+◌, ◌*◌, ◌<◌, ◌≤◌, ◌^◌, true, false, not, List, [], ◌∷◌, None, Some, position, slice_index, IfOk, IfSome, length as len};
 ghost use Rattle.std.specs.Option.{ForSome};
-ghost use Rattle.std.specs.Result.{MatchResult};
-ghost use Rattle.fz_base.specs.Refusal.{first_refusal};
+ghost use Rattle.fz_base.specs.Refusal.{IsFirstOf};
 ghost use Rattle.fz_block.specs.Facts.{IsHeaderOf};
 ghost use Rattle.fz_block.specs.Header.{next_start_of};
 ghost use Rattle.fz_block.specs.Hdus.{cards_of};
@@ -14,16 +13,16 @@ ghost use Rattle.fz_head.specs.Planned.{AreOptions, codec_for as codec_for_of, i
 ghost use Rattle.fz_head.specs.PackedHeader.{packed_header, parameter_cards, sum_cards};
 ghost use Rattle.fz_head.specs.Written.{first_cards};
 
-use crate::find::{first_offset, has_name, has_text};
-use crate::numbers::is_numbered;
+use crate::find::{first_offset, has_name};
 use crate::refused::{refuse_at, refuse_if, refused};
 use crate::repeats::{Once, first_repeat};
 use crate::tiles::cut_tile;
-use crate::volumes::{has_more_places, has_more_tiles, volume};
+use crate::volumes::{has_more_places, has_more_tiles};
 use crate::{CodecWord, PackOptions, Plan};
 use fz_base::{Fault, Kind, Place};
 use fz_block::{Axes, Header, Sort, card};
-use fz_card::{CARD_LEN, Card, Name, is_reserved};
+use fz_card::{CARD_LEN, Card, Name, is_numbered, is_reserved};
+use fz_grid::volume;
 use fz_tile::Codec;
 
 /// The most pixels of a packed image.
@@ -97,7 +96,7 @@ fn check_limits(header: &Header, plan: &Plan, sums: bool) -> Result<(), Fault>
     requires positive { (i : ℕ) → i < plan.now.shape.n → 1 ≤ slice_index plan.now.tile.len i }
     requires cards { header.now.cards ≤ 9216 }
     ensures { (cards : List (List ℕ)) → len cards ≡ header.now.cards →
-        MatchResult result (λ _. first_refusal (limit_checks header.now plan.now sums cards) ≡ None) (λ x. first_refusal (limit_checks header.now plan.now sums cards) ≡ Some x) }
+        IsFirstOf (limit_checks header.now plan.now sums cards) result }
 {
     refuse_if(
         header,
@@ -153,7 +152,7 @@ fn sum_count(sums: bool) -> u32
 // PLIO_1 takes no pixels with an offset.
 fn check_offset(buf: &[u8], header: &Header, codec: Codec) -> Result<(), Fault>
     requires { 80 * header.now.cards ≤ len buf.now }
-    ensures { MatchResult result (λ _. first_refusal ((offset_check_of header.now codec (first_cards buf.now header.now.cards)) ∷ []) ≡ None) (λ x. first_refusal ((offset_check_of header.now codec (first_cards buf.now header.now.cards)) ∷ []) ≡ Some x) }
+    ensures { IsFirstOf ((offset_check_of header.now codec (first_cards buf.now header.now.cards)) ∷ []) result }
 {
     if !is_plio(codec) {
         return Ok(());
@@ -175,7 +174,7 @@ fn is_plio(codec: Codec) -> bool
 fn check_names(buf: &[u8], header: &Header) -> Result<(), Fault>
     requires header { IsHeaderOf buf.now header.now }
     requires end { next_start_of header.now ≤ 2 ^ 62 }
-    ensures { MatchResult result (λ _. first_refusal (name_checks header.now buf.now) ≡ None) (λ x. first_refusal (name_checks header.now buf.now) ≡ Some x) }
+    ensures { IsFirstOf (name_checks header.now buf.now) result }
 {
     refuse_at(header, first_reserved(buf, header), Kind::Reserved)?;
     refuse_at(
@@ -240,14 +239,14 @@ fn is_axis_above(card: &Card, n: u32) -> bool
 fn is_table_name(card: &Card) -> bool
     ensures { result ≡ is_table_name_of card.now.bytes }
 {
-    has_name(card, &Name::EXTNAME) && has_text(card, b"COMPRESSED_IMAGE")
+    has_name(card, &Name::EXTNAME) && card.has_text(b"COMPRESSED_IMAGE")
 }
 
 // Only blanks stand behind the letters END.
 fn check_fill(buf: &[u8], header: &Header) -> Result<(), Fault>
     requires header { IsHeaderOf buf.now header.now }
     requires end { next_start_of header.now ≤ 2 ^ 62 }
-    ensures { MatchResult result (λ _. first_refusal (fill_check header.now buf.now ∷ []) ≡ None) (λ x. first_refusal (fill_check header.now buf.now ∷ []) ≡ Some x) }
+    ensures { IsFirstOf (fill_check header.now buf.now ∷ []) result }
 {
     let start = CARD_LEN * header.cards as usize + 3;
     match first_other(buf.split_at(start).1) {

@@ -1,7 +1,6 @@
 //! How a check refuses.
 ghost use Rattle.std.specs.Prelude.{◌≡◌, [], ◌∷◌, None, Some};
-ghost use Rattle.std.specs.Result.{MatchResult};
-ghost use Rattle.fz_base.specs.Refusal.{first_refusal, refusal};
+ghost use Rattle.fz_base.specs.Refusal.{IsFirstOf, refusal};
 ghost use Rattle.fz_base.specs.declared.fault.Place.TheVariants.{Card as AtCard};
 ghost use Rattle.fz_head.specs.PackChecks.{refused_at};
 
@@ -21,7 +20,7 @@ pub(crate) fn refused(header: &Header, at: Place, kind: Kind) -> Fault
 
 /// Refused at this card, if there is one.
 pub(crate) fn refuse_at(header: &Header, found: Option<u32>, kind: Kind) -> Result<(), Fault>
-    ensures { MatchResult result (λ _. first_refusal (refused_at header.now.hdu found kind ∷ []) ≡ None) (λ x. first_refusal (refused_at header.now.hdu found kind ∷ []) ≡ Some x) }
+    ensures { IsFirstOf (refused_at header.now.hdu found kind ∷ []) result }
 {
     match found {
         Some(i) => Err(refused(header, Place::Card(i), kind)),
@@ -36,7 +35,7 @@ pub(crate) fn refuse_if(
     card: u32,
     kind: Kind,
 ) -> Result<(), Fault>
-    ensures { MatchResult result (λ _. first_refusal ((condition, refusal header.now.hdu (AtCard card) kind) ∷ []) ≡ None) (λ x. first_refusal ((condition, refusal header.now.hdu (AtCard card) kind) ∷ []) ≡ Some x) }
+    ensures { IsFirstOf ((condition, refusal header.now.hdu (AtCard card) kind) ∷ []) result }
 {
     if condition {
         Err(refused(header, Place::Card(card), kind))

@@ -8,9 +8,8 @@ ghost use Rattle.fz_head.specs.Once.{once_names, name_in};
 ghost use Rattle.fz_head.specs.Repeats.{first_repeat, array_names, compression_names, image_names, table_names};
 ghost use Rattle.fz_head.specs.Written.{first_cards};
 
-use crate::numbers::is_numbered;
 use fz_block::card;
-use fz_card::Name;
+use fz_card::{Name, is_numbered};
 
 /// The headers in which some names stand once: that of an image, and that of a packed table.
 #[derive(Clone, Copy)]

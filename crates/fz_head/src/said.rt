@@ -1,15 +1,13 @@
 //! What the cards of a packed header say, each found by its name.
 ghost use Rattle.std.specs.Prelude.{◌≡◌, ◌+◌, ◌*◌, ◌≤◌, false, [], ◌∷◌, None, Some, IfNone, IfSome, is_none, is_some, unwrap_or, length as len};
-ghost use Rattle.std.specs.Result.{MatchResult};
-ghost use Rattle.fz_base.specs.Refusal.{first_refusal};
-ghost use Rattle.fz_card.specs.Reading.{integer_of, logical_of, text_of};
+ghost use Rattle.fz_base.specs.Refusal.{IsFirstOf};
+ghost use Rattle.fz_card.specs.Reading.{integer_of, logical_of, text_of, is_text};
 ghost use Rattle.fz_block.specs.Cards.{card_at};
 ghost use Rattle.fz_block.specs.Facts.{IsHeaderOf};
 ghost use Rattle.fz_block.specs.Hdus.{cards_of, size_in};
-ghost use Rattle.fz_head.specs.CardLists.{index_of, is_text, the_card};
+ghost use Rattle.fz_head.specs.CardLists.{index_of, the_card};
 ghost use Rattle.fz_head.specs.PackedChecks.{at_name, is_integer, is_positive, missing};
 
-use crate::find::has_text;
 use crate::refused::refused;
 use fz_base::{Fault, Kind, Place};
 use fz_block::{Header, card};
@@ -66,7 +64,7 @@ pub(crate) fn is_text(buf: &[u8], header: &Header, name: &Name, text: &[u8]) -> 
     ensures { result ≡ is_text text.now (text_of (the_card name.now.bytes (cards_of buf.now))) }
 {
     match find(buf, header, name) {
-        Some(i) => has_text(&card(buf, i), text),
+        Some(i) => card(buf, i).has_text(text),
         None => false,
     }
 }
@@ -125,7 +123,7 @@ pub(crate) fn at_name(buf: &[u8], header: &Header, name: &Name, kind: Kind) -> F
 
 /// Refused, if the condition holds.
 pub(crate) fn refuse_when(condition: bool, fault: Fault) -> Result<(), Fault>
-    ensures { MatchResult result (λ _. first_refusal ((condition, fault) ∷ []) ≡ None) (λ x. first_refusal ((condition, fault) ∷ []) ≡ Some x) }
+    ensures { IsFirstOf ((condition, fault) ∷ []) result }
 {
     if condition { Err(fault) } else { Ok(()) }
 }
@@ -133,7 +131,7 @@ pub(crate) fn refuse_when(condition: bool, fault: Fault) -> Result<(), Fault>
 /// Refused at END, if no card of this name stands.
 pub(crate) fn require(buf: &[u8], header: &Header, name: &Name) -> Result<(), Fault>
     requires { IsHeaderOf buf.now header.now }
-    ensures { MatchResult result (λ _. first_refusal (missing header.now.hdu name.now.bytes (cards_of buf.now) ∷ []) ≡ None) (λ x. first_refusal (missing header.now.hdu name.now.bytes (cards_of buf.now) ∷ []) ≡ Some x) }
+    ensures { IsFirstOf (missing header.now.hdu name.now.bytes (cards_of buf.now) ∷ []) result }
 {
     match find(buf, header, name) {
         Some(_) => Ok(()),

@@ -1,9 +1,7 @@
 //! The checks of the cards of a binary table.
-ghost use Rattle.std.specs.Prelude.{◌≡◌, ◌≤◌, ◌^◌, None, Some};
-ghost use Rattle.std.specs.Result.{MatchResult};
-ghost use Rattle.fz_base.specs.Refusal.{first_refusal};
+ghost use Rattle.std.specs.Prelude.{◌≡◌, ◌≤◌, None, Some};
+ghost use Rattle.fz_base.specs.Refusal.{IsFirstOf};
 ghost use Rattle.fz_block.specs.Facts.{IsHeaderOf};
-ghost use Rattle.fz_block.specs.Header.{next_start_of};
 ghost use Rattle.fz_block.specs.declared.header.Sort.TheVariants.{BinTable};
 ghost use Rattle.fz_head.specs.TableChecks.{table_card_checks};
 
@@ -19,9 +17,8 @@ use fz_card::Name;
 /// a packed header no name that stands once stands twice (Duplicate).
 pub fn table_check(buf: &[u8], header: &Header) -> Result<(), Fault>
     requires header { IsHeaderOf buf.now header.now }
-    requires end { next_start_of header.now ≤ 2 ^ 62 }
     requires table { header.now.sort ≡ BinTable }
-    ensures { MatchResult result (λ _. first_refusal (table_card_checks header.now buf.now) ≡ None) (λ x. first_refusal (table_card_checks header.now buf.now) ≡ Some x) }
+    ensures { IsFirstOf (table_card_checks header.now buf.now) result }
 {
     refuse_at(
         header,

@@ -7,6 +7,7 @@ ghost use Rattle.fz_head.specs.Planned.{AreOptions};
 
 mod headers;
 mod images;
+mod jobs;
 mod tables;
 
 use crate::{
@@ -128,15 +129,16 @@ fn two_blocks(
     read_header(&mut source, length, hdu, 0, buf)
 }
 
-/// The options of a row: the codec, without a tile or sums.
-fn options_for(codec: CodecWord) -> PackOptions
-    ensures { AreOptions result }
+/// The options of a row: the codec, with sums or without, and no tile.
+fn options_for(codec: CodecWord, sums: bool) -> PackOptions
+    ensures options { AreOptions result }
+    ensures sums { result.sums ≡ sums }
 {
     PackOptions {
         codec,
         tile: None,
         block: 32,
-        sums: false,
+        sums,
         workers: 1,
     }
 }
@@ -153,9 +155,15 @@ fn totals_for(sums: bool) -> Totals
     }
 }
 
-/// Writes the packed header of an image with the codec rice, and answers its length; 0 where the HDU is
-/// not packable.
-fn pack_header(buf: &[u8], header: &Header, totals: &Totals, out: &mut [u8]) -> Result<usize, Fault>
+/// Writes the packed header of an image with this codec, and answers its length; 0 where the HDU is not
+/// packable.
+fn pack_header(
+    buf: &[u8],
+    header: &Header,
+    codec: CodecWord,
+    totals: &Totals,
+    out: &mut [u8],
+) -> Result<usize, Fault>
     requires header { IsHeaderOf buf.now header.now }
     requires end { next_start_of header.now ≤ 2 ^ 62 }
     requires totals { AreShort totals.now }
@@ -164,7 +172,7 @@ fn pack_header(buf: &[u8], header: &Header, totals: &Totals, out: &mut [u8]) -> 
     if !is_packable(buf, header) {
         return Ok(0);
     }
-    let options = options_for(CodecWord::Rice);
+    let options = options_for(codec, totals.sums);
     let plan = pack_plan(buf, header, &options)?;
     Ok(to_packed(buf, header, &plan, totals, out))
 }

@@ -1,18 +1,16 @@
 //! The plan that a packed header stands for, and the checks that it has to pass.
-ghost use Rattle.std.specs.Prelude.{◌≡◌, ◌==◌, ◌≤◌, ◌^◌, ◌&&◌, not, true, false, [], ◌∷◌, None, Some, Ok, pos, codes, position, is_some, unwrap_or, IfOk};
-ghost use Rattle.std.specs.Result.{MatchResult};
-ghost use Rattle.fz_base.specs.Refusal.{first_refusal, refusal};
+ghost use Rattle.std.specs.Prelude.{◌≡◌, ◌==◌, ◌≤◌, ◌&&◌, not, true, false, [], ◌∷◌, None, Some, Ok, pos, codes, position, is_some, unwrap_or, IfOk};
+ghost use Rattle.fz_base.specs.Refusal.{IsFirstOf, refusal};
 ghost use Rattle.fz_base.specs.declared.fault.Place.TheVariants.{Card as AtCard};
 ghost use Rattle.fz_base.specs.declared.kind.Kind.TheVariants.{RowCount};
-ghost use Rattle.fz_card.specs.Reading.{integer_of, logical_of, text_of};
+ghost use Rattle.fz_card.specs.Reading.{integer_of, logical_of, text_of, is_text as is_text_of};
 ghost use Rattle.fz_block.specs.Facts.{IsHeaderOf, nine_axes};
-ghost use Rattle.fz_block.specs.Header.{next_start_of};
 ghost use Rattle.fz_block.specs.Hdus.{cards_of};
 ghost use Rattle.fz_grid.specs.Grid.{tile_count};
 ghost use Rattle.fz_grid.specs.Region.{IsDivided, lengths_of};
 ghost use Rattle.fz_table.specs.Tables.{table_of};
 ghost use Rattle.fz_tile.specs.Codecs.{CanRead};
-ghost use Rattle.fz_head.specs.CardLists.{index_of, is_text as is_text_of, the_card};
+ghost use Rattle.fz_head.specs.CardLists.{index_of, the_card};
 ghost use Rattle.fz_head.specs.Packable.{is_packed};
 ghost use Rattle.fz_head.specs.PackChecks.{is_offset};
 ghost use Rattle.fz_head.specs.PackedChecks.{has_word, is_integer as is_integer_of, line_list_check, must_be, plan_answer, sort_checks};
@@ -47,7 +45,6 @@ use fz_tile::Codec;
 /// offset (PlioOffset); NAXIS2 is not the number of tiles (RowCount).
 pub fn plan_of(buf: &[u8], header: &Header, table: &Table, after_empty: bool) -> Result<Plan, Fault>
     requires header { IsHeaderOf buf.now header.now }
-    requires end { next_start_of header.now ≤ 2 ^ 62 }
     requires packed { is_packed buf.now header.now ≡ true }
     requires table { table_of buf.now header.now ≡ Ok table.now }
     ensures exact { result ≡ plan_answer header.now.hdu buf.now after_empty }
@@ -122,7 +119,7 @@ fn is_other_count(buf: &[u8], header: &Header, name: &Name, value: i64) -> bool
 // ZPCOUNT of an extension is 0, where it stands.
 fn check_pcount(buf: &[u8], header: &Header) -> Result<(), Fault>
     requires { IsHeaderOf buf.now header.now }
-    ensures { MatchResult result (λ _. first_refusal (must_be header.now.hdu (cards_of buf.now) (codes "ZPCOUNT") (pos 0) ∷ []) ≡ None) (λ x. first_refusal (must_be header.now.hdu (cards_of buf.now) (codes "ZPCOUNT") (pos 0) ∷ []) ≡ Some x) }
+    ensures { IsFirstOf (must_be header.now.hdu (cards_of buf.now) (codes "ZPCOUNT") (pos 0) ∷ []) result }
 {
     let other = is_other_count(buf, header, &Name::ZPCOUNT, 0);
     refuse_when(other, at_name(buf, header, &Name::ZPCOUNT, Kind::BadCard))
@@ -131,7 +128,7 @@ fn check_pcount(buf: &[u8], header: &Header) -> Result<(), Fault>
 // ZGCOUNT of an extension is 1, where it stands.
 fn check_gcount(buf: &[u8], header: &Header) -> Result<(), Fault>
     requires { IsHeaderOf buf.now header.now }
-    ensures { MatchResult result (λ _. first_refusal (must_be header.now.hdu (cards_of buf.now) (codes "ZGCOUNT") (pos 1) ∷ []) ≡ None) (λ x. first_refusal (must_be header.now.hdu (cards_of buf.now) (codes "ZGCOUNT") (pos 1) ∷ []) ≡ Some x) }
+    ensures { IsFirstOf (must_be header.now.hdu (cards_of buf.now) (codes "ZGCOUNT") (pos 1) ∷ []) result }
 {
     let other = is_other_count(buf, header, &Name::ZGCOUNT, 1);
     refuse_when(other, at_name(buf, header, &Name::ZGCOUNT, Kind::BadCard))
@@ -164,7 +161,7 @@ fn is_misplaced(buf: &[u8], header: &Header, after_empty: bool) -> bool
 // ZSIMPLE or ZTENSION say what the image is, and where it may stand.
 fn check_sort(buf: &[u8], header: &Header, after_empty: bool) -> Result<(), Fault>
     requires { IsHeaderOf buf.now header.now }
-    ensures { MatchResult result (λ _. first_refusal (sort_checks header.now.hdu (cards_of buf.now) after_empty) ≡ None) (λ x. first_refusal (sort_checks header.now.hdu (cards_of buf.now) after_empty) ≡ Some x) }
+    ensures { IsFirstOf (sort_checks header.now.hdu (cards_of buf.now) after_empty) result }
 {
     let untrue = is_untrue(buf, header);
     refuse_when(untrue, at_name(buf, header, &Name::ZSIMPLE, Kind::BadCard))?;
@@ -190,7 +187,7 @@ fn offset_card(buf: &[u8], header: &Header) -> Option<u32>
 // PLIO_1 takes no pixels with an offset.
 fn check_line_list(buf: &[u8], header: &Header) -> Result<(), Fault>
     requires { IsHeaderOf buf.now header.now }
-    ensures { MatchResult result (λ _. first_refusal (line_list_check header.now.hdu (cards_of buf.now) ∷ []) ≡ None) (λ x. first_refusal (line_list_check header.now.hdu (cards_of buf.now) ∷ []) ≡ Some x) }
+    ensures { IsFirstOf (line_list_check header.now.hdu (cards_of buf.now) ∷ []) result }
 {
     if !is_plio(buf, header) {
         return Ok(());
@@ -201,7 +198,7 @@ fn check_line_list(buf: &[u8], header: &Header) -> Result<(), Fault>
 // The table has a row for each tile.
 fn check_rows(header: &Header, table: &Table, shape: &Axes, tile: &Axes) -> Result<(), Fault>
     requires divided { IsDivided shape.now tile.now }
-    ensures { MatchResult result (λ _. first_refusal ((not (table.now.rows == tile_count (lengths_of shape.now) (lengths_of tile.now)), refusal header.now.hdu (AtCard 4) RowCount) ∷ []) ≡ None) (λ x. first_refusal ((not (table.now.rows == tile_count (lengths_of shape.now) (lengths_of tile.now)), refusal header.now.hdu (AtCard 4) RowCount) ∷ []) ≡ Some x) }
+    ensures { IsFirstOf ((not (table.now.rows == tile_count (lengths_of shape.now) (lengths_of tile.now)), refusal header.now.hdu (AtCard 4) RowCount) ∷ []) result }
 {
     let tiles = Grid::new(*shape, *tile).tile_count();
     refuse_if(header, table.rows != tiles, 4, Kind::RowCount)

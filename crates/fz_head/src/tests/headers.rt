@@ -8,7 +8,7 @@ use super::{
     FILE_LEN, PACKED, SMALL, begin_alike, file_of, one_block, pack_header, packed_plan, put,
     restore_header, totals_for, two_blocks,
 };
-use crate::{Plan, to_cut};
+use crate::{CodecWord, Plan, to_cut};
 use fz_base::{Fault, Stop};
 use fz_block::{Axes, BLOCK_LEN, Header};
 use fz_grid::Region;
@@ -28,11 +28,13 @@ fn pack(
     if blocks == 1 {
         let mut buf = [0; 2880];
         let header = one_block(alloc, file, hdu, &mut buf)?;
-        return pack_header(&buf, &header, &totals_for(false), out).map_err(Stop::Refused);
+        return pack_header(&buf, &header, CodecWord::Rice, &totals_for(false), out).map_err(
+            Stop::Refused,
+        );
     }
     let mut buf = [0; 5760];
     let header = two_blocks(alloc, file, hdu, &mut buf)?;
-    pack_header(&buf, &header, &totals_for(false), out).map_err(Stop::Refused)
+    pack_header(&buf, &header, CodecWord::Rice, &totals_for(false), out).map_err(Stop::Refused)
 }
 
 /// Writes the header that a packed header of so many blocks stands for, and answers its length.

@@ -84,8 +84,32 @@ fn checks_of_tables(rt: HostRuntime) -> Result<(), Fail> {
 #[test]
 fn plans(rt: HostRuntime) -> Result<(), Fail> {
     let alloc = rt.alloc();
-    let cases: [(&[(usize, &[u8])], Plan); 4] = [
+    let cases: [(&[(usize, &[u8])], Plan); 5] = [
         (&[], PLAN),
+        // The plain bytes pass 31 bits.
+        (
+            &[
+                (3, b"NAXIS1  =                   32"),
+                (4, b"NAXIS2  =                   32"),
+                (9, b"TFORM1  = '1QB(4)  '"),
+                (11, b"TFORM2  = '1QI(0)  '"),
+                (14, b"ZTILE1  =             67108864"),
+                (23, b"ZNAXIS1 =             67108864"),
+                (24, b"ZNAXIS2 =                   32"),
+            ],
+            Plan {
+                shape: Axes {
+                    n: 2,
+                    len: [67_108_864, 32, 0, 0, 0, 0, 0, 0, 0],
+                },
+                tile: Axes {
+                    n: 2,
+                    len: [67_108_864, 1, 0, 0, 0, 0, 0, 0, 0],
+                },
+                wide: true,
+                ..PLAN
+            },
+        ),
         // A tile that is longer than its axis counts as the axis.
         (&[(14, b"ZTILE1  =   999999999999999999")], PLAN),
         // Without ZTILE1 and ZTILE2 a tile is a row, and without ZNAME1 a block has 32 numbers.

@@ -1,8 +1,8 @@
 use Rattle.std.proofs.Common.{List, ℕ, Bool, false, sym, ap, ◌∙◌, arith}
 use Rattle.std.specs.Prelude.{◌&&◌, unwrap_or}
 use Rattle.fz_card.specs.Reading.{logical_of}
+use Rattle.fz_card.specs.CardLists.{has_name}
 use Rattle.fz_block.specs.Cards.{card_at}
-use Rattle.fz_head.specs.CardLists.{has_name}
 use Rattle.fz_head.proofs.Positions.{position-here, position-nowhere, none-more}
 use Rattle.fz_head.proofs.find.first_set.Goals as goal
 

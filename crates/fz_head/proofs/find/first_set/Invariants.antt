@@ -1,8 +1,8 @@
 use Rattle.std.proofs.Common.{◌≡◌, ℕ, ◌<◌, false}
 use Rattle.std.specs.Prelude.{◌&&◌, unwrap_or}
 use Rattle.fz_card.specs.Reading.{logical_of}
+use Rattle.fz_card.specs.CardLists.{has_name}
 use Rattle.fz_block.specs.Cards.{card_at}
-use Rattle.fz_head.specs.CardLists.{has_name}
 use Rattle.fz_head.proofs.find.first_set.Given as goal
 
 -- no card so far has it

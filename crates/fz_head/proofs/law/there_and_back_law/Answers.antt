@@ -1,88 +1,32 @@
 -- What the checks of an image to be packed say of its cards, for the way to a packed header and back.
-use Rattle.std.proofs.Common.{◌≡◌, ℕ, zero, suc, ◌-◌, Bool, true, false, cond, List, ◌++◌, map, sym, refl, ap, ◌∙◌, arith}
-use Rattle.std.specs.Prelude.{Option, Some, None, is_some, unwrap_or, codes, bytes_eq}
-use Rattle.std.specs.List.{AllByRecursion, range_with_len}
-use Rattle.std.proofs.lemmas.List.FromFn.{length-map-range_with_len}
-use Rattle.fz_card.specs.Reading.{text_of}
+use Rattle.std.proofs.Common.{◌≡◌, ℕ, List, map, sym, ap, ◌∙◌}
+use Rattle.std.specs.Prelude.{unwrap_or}
+use Rattle.std.specs.List.{range_with_len}
 use Rattle.fz_block.specs.Cards.{card_at}
-use Rattle.fz_block.specs.Facts.{sort_of, sort_named}
 use Rattle.fz_block.specs.Hdus.{cards_of, size_at}
 use Rattle.fz_block.specs.declared.header.Header.{Header}
-use Rattle.fz_block.specs.declared.header.Sort.TheVariants.{Image, BinTable, Other}
 use Rattle.fz_head.specs.declared.plan.Plan.{Plan}
 use Rattle.fz_head.specs.declared.totals.Totals.{Totals}
-use Rattle.fz_head.specs.PackChecks.{name_checks, reserved_index}
-use Rattle.fz_head.specs.Packable.{is_primary}
-use Rattle.fz_head.specs.PackedHeader.{made_cards, packed_card, packed_header, sum_cards}
+use Rattle.fz_head.specs.PackedHeader.{made_cards, packed_header, packed_with, sum_cards}
 use Rattle.fz_head.specs.PlainHeader.{plain_header}
-use Rattle.fz_head.specs.Repeats.{first_repeat, image_names, itself}
+use Rattle.fz_head.specs.SumCards.{AreDropped}
 use Rattle.fz_head.specs.ThereAndBack.{MayBePacked}
 use Rattle.fz_head.proofs.law.there_and_back_law.Goals as goal
-use Rattle.fz_head.proofs.FrontCards.{HasEnd, HasFront, clear, front_count, front-before-end, has_end, has_front, is_first_hdu}
-use Rattle.fz_head.proofs.MadeCards.{made-dropped, sums-dropped}
-use Rattle.fz_head.proofs.BackAgain.{IsPacked, back_again}
+use Rattle.fz_head.proofs.FrontCards.{has_end, is_first_hdu}
+use Rattle.fz_head.proofs.MadeCards.{blanks-are, sums-dropped}
+use Rattle.fz_head.proofs.BackAgain.{back_again}
+use Rattle.fz_head.proofs.MadeImage.{packed_is}
 
-none_of : {X : Type 0} (o : Option X) → is_some o ≡ false → o ≡ None
-none_of None e = refl
-none_of (Some x) e = cc
-
--- an extension is no primary
-no_primary : (b c : Bool) → is_primary (cond b Image (cond c BinTable Other)) ≡ false
-no_primary true c = refl
-no_primary false true = refl
-no_primary false false = refl
-
-named_no_primary : (text : Option (List ℕ)) → is_primary (sort_named text) ≡ false
-named_no_primary None = refl
-named_no_primary (Some text) = no_primary (bytes_eq text (codes "IMAGE")) (bytes_eq text (codes "BINTABLE"))
-
-primary_is : (k : ℕ) (header : List ℕ) → is_primary (sort_of k header) ≡ is_first_hdu k
-primary_is zero header = refl
-primary_is (suc k) header = named_no_primary (text_of (card_at header 0))
-
-is_packed : (header : List ℕ) (h : Header) (p : Plan) (s : Totals) (last : ℕ) → MayBePacked header h → p.shape ≡ h.axes → HasEnd header last →
-    IsPacked header (is_first_hdu h.hdu) (size_at header 2) last (made_cards p s) (sum_cards s.sums)
-is_packed header h p s last may shape end = record {
-  image = record { front = front; end = end; reserved = reserved; single = single };
-  made_are = made-dropped p s (omega (arith, front.few, axes, ap (λ a. a.n) shape));
-  sums_are = sums-dropped s.sums;
-  count = refl;
-  more = last - front_count (is_first_hdu h.hdu) (size_at header 2);
-  enough = omega (arith, front-before-end header (is_first_hdu h.hdu) (size_at header 2) last front end);
-}
-  where
-    front : HasFront header (is_first_hdu h.hdu) (size_at header 2)
-    front = has_front h.hdu header may.simple may.is_header.mandatory
-
-    axes : h.axes.n ≡ size_at header 2
-    axes = ap (λ (f : Header). f.axes.n) may.is_header.facts ∙ length-map-range_with_len (size_at header) 3 (size_at header 2)
-
-    primary : is_primary h.sort ≡ is_first_hdu h.hdu
-    primary = ap (λ (f : Header). is_primary f.sort) may.is_header.facts ∙ primary_is h.hdu header
-
-    cards : cards_of header ≡ map (card_at header) (range_with_len 0 last)
-    cards = ap (λ o. map (card_at header) (range_with_len 0 (unwrap_or o 0))) end.found
-
-    passed : AllByRecursion (λ check. check.0 ≡ false) (name_checks h header)
-    passed = clear (name_checks h header) may.names
-
-    reserved : reserved_index (is_first_hdu h.hdu) (size_at header 2) (map (card_at header) (range_with_len 0 last)) ≡ None
-    reserved =
-        ap (λ b. reserved_index b (size_at header 2) (map (card_at header) (range_with_len 0 last))) (sym primary)
-        ∙ (ap (λ k. reserved_index (is_primary h.sort) k (map (card_at header) (range_with_len 0 last))) (sym axes)
-        ∙ (ap (reserved_index (is_primary h.sort) h.axes.n) (sym cards)
-        ∙ none_of (reserved_index (is_primary h.sort) h.axes.n (cards_of header)) passed.0))
-
-    single : first_repeat image_names itself (map (card_at header) (range_with_len 0 last)) ≡ None
-    single = ap (first_repeat image_names itself) (sym cards) ∙ none_of (first_repeat image_names itself (cards_of header)) passed.1.0
-
-back : (header : List ℕ) (h : Header) (p : Plan) (s : Totals) → MayBePacked header h → p.shape ≡ h.axes → plain_header (packed_header (cards_of header) p s) ≡ cards_of header
-unfolding packed_header
-back header h p s may shape =
+back : (header : List ℕ) (h : Header) (p : Plan) (s : Totals) (sums : List (List ℕ)) → MayBePacked header h → p.shape ≡ h.axes → AreDropped sums → plain_header (packed_with (cards_of header) p s sums) ≡ cards_of header
+back header h p s sums may shape dropped =
     let at = has_end header may.is_header.whole.has in
     let cards : cards_of header ≡ map (card_at header) (range_with_len 0 at.0) = ap (λ o. map (card_at header) (range_with_len 0 (unwrap_or o 0))) at.1.found in
-    ap (λ l. plain_header (made_cards p s ++ (map packed_card l ++ sum_cards s.sums))) cards
-    ∙ (back_again header (is_first_hdu h.hdu) (size_at header 2) at.0 (made_cards p s) (sum_cards s.sums) (is_packed header h p s at.0 may shape at.1) ∙ sym cards)
+    ap (λ l. plain_header (packed_with l p s sums)) cards
+    ∙ (back_again header (is_first_hdu h.hdu) (size_at header 2) at.0 (made_cards p s) sums (packed_is header h p s sums at.0 may shape dropped at.1) ∙ sym cards)
 
-pub returns : goal.returns
-returns c = back
+pub returns-clause-blank : goal.returns-clause-blank
+unfolding packed_header
+returns-clause-blank c = λ header h p s may shape. back header h p s (sum_cards s.sums) may shape (sums-dropped (sum_cards s.sums) (blanks-are s.sums))
+
+pub returns-clause-sums : goal.returns-clause-sums
+returns-clause-sums c = back

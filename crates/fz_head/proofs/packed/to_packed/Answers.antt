@@ -1,5 +1,5 @@
 -- The cards of the table, of the image and of the sums, one after another.
-use Rattle.std.proofs.Common.{◌≡◌, ℕ, ◌+◌, ◌≤◌, List, [], ◌++◌, length, map, sym, ap, arith}
+use Rattle.std.proofs.Common.{◌≡◌, ℕ, ◌+◌, ◌≤◌, Bool, List, [], ◌++◌, length, map, sym, ap, arith}
 use Rattle.fz_card.specs.declared.card.Card.{Card}
 use Rattle.fz_block.specs.declared.axes.Axes.{Axes}
 use Rattle.fz_block.specs.declared.header.Header.{Header}
@@ -11,28 +11,29 @@ use Rattle.fz_head.specs.Conditions.{IsPackPlan}
 use Rattle.fz_head.specs.PackedHeader.{table_cards, column_cards, tile_cards, parameter_cards, made_cards, packed_card, packed_header, sum_cards}
 use Rattle.fz_head.specs.Written.{AreWritten, Adds, card_list, first_cards}
 use Rattle.fz_head.proofs.FrontCards.{header-end, header-cards}
+use Rattle.fz_head.proofs.PackedSizes.{few-cards}
 use Rattle.fz_head.proofs.PlannedTiles.{planned-divided, planned-shape, axes-few}
-use Rattle.fz_head.proofs.WrittenCards.{adds-same, adds-then, blocks-enough, written-none}
+use Rattle.fz_head.proofs.WrittenCards.{adds-same, adds-then, blocks-enough, blocks-short, written-none}
 use Rattle.fz_head.proofs.packed.to_packed.Goals as goal
 
-few-axes : (buf : List ℕ) (header : Header) (plan : Plan) → IsHeaderOf buf header → IsPackPlan buf header plan → plan.shape.n ≤ 9
-few-axes buf header plan is planned = omega (arith, axes-few buf header is, ap (λ (a : Axes). a.n) (planned-shape planned.options buf header plan planned.answer))
+few-axes : (buf : List ℕ) (header : Header) (sums : Bool) (plan : Plan) → IsHeaderOf buf header → IsPackPlan buf header sums plan → plan.shape.n ≤ 9
+few-axes buf header sums plan is planned = omega (arith, axes-few buf header is, ap (λ (a : Axes). a.n) (planned-shape planned.options buf header plan planned.answer))
 
 pub table_cards-requires-clause-divided : goal.table_cards-requires-clause-divided
 table_cards-requires-clause-divided c = planned-divided c.requires.plan.options c.args.buf.now c.args.header.now c.args.plan.now c.requires.plan.allowed c.requires.header c.requires.plan.packable c.requires.plan.answer
 
 pub put_tile_cards-count-requires-clause-axes : goal.put_tile_cards-count-requires-clause-axes
-put_tile_cards-count-requires-clause-axes c = few-axes c.args.buf.now c.args.header.now c.args.plan.now c.requires.header c.requires.plan
+put_tile_cards-count-requires-clause-axes c = few-axes c.args.buf.now c.args.header.now c.args.totals.now.sums c.args.plan.now c.requires.header c.requires.plan
 
 pub put_tile_cards-count-requires-clause-room : goal.put_tile_cards-count-requires-clause-room
 put_tile_cards-count-requires-clause-room c =
-    let few = few-axes c.args.buf.now c.args.header.now c.args.plan.now c.requires.header c.requires.plan in
+    let few = few-axes c.args.buf.now c.args.header.now c.args.totals.now.sums c.args.plan.now c.requires.header c.requires.plan in
     let end = (header-end c.args.buf.now c.args.header.now c.requires.header).within in
     omega arith
 
 pub put_parameter_cards-count-requires : goal.put_parameter_cards-count-requires
 put_parameter_cards-count-requires c =
-    let few = few-axes c.args.buf.now c.args.header.now c.args.plan.now c.requires.header c.requires.plan in
+    let few = few-axes c.args.buf.now c.args.header.now c.args.totals.now.sums c.args.plan.now c.requires.header c.requires.plan in
     let end = (header-end c.args.buf.now c.args.header.now c.requires.header).within in
     omega arith
 
@@ -43,19 +44,19 @@ put_image_cards-count-requires-clause-cards c =
 
 pub put_image_cards-count-requires-clause-room : goal.put_image_cards-count-requires-clause-room
 put_image_cards-count-requires-clause-room c =
-    let few = few-axes c.args.buf.now c.args.header.now c.args.plan.now c.requires.header c.requires.plan in
+    let few = few-axes c.args.buf.now c.args.header.now c.args.totals.now.sums c.args.plan.now c.requires.header c.requires.plan in
     let end = (header-end c.args.buf.now c.args.header.now c.requires.header).within in
     omega arith
 
 pub put_sum_cards-count-requires : goal.put_sum_cards-count-requires
 put_sum_cards-count-requires c =
-    let few = few-axes c.args.buf.now c.args.header.now c.args.plan.now c.requires.header c.requires.plan in
+    let few = few-axes c.args.buf.now c.args.header.now c.args.totals.now.sums c.args.plan.now c.requires.header c.requires.plan in
     let end = (header-end c.args.buf.now c.args.header.now c.requires.header).within in
     omega arith
 
 pub finish-requires : goal.finish-requires
 finish-requires c =
-    let few = few-axes c.args.buf.now c.args.header.now c.args.plan.now c.requires.header c.requires.plan in
+    let few = few-axes c.args.buf.now c.args.header.now c.args.totals.now.sums c.args.plan.now c.requires.header c.requires.plan in
     let end = (header-end c.args.buf.now c.args.header.now c.requires.header).within in
     let more : c.put_sum_cards-count.result ≤ c.args.header.now.cards + 29 = omega arith in
     let enough = blocks-enough c.requires.header.whole.before c.args.header.now.cards c.put_sum_cards-count.result (length c.args.buf.now) c.requires.header.whole.blocks end more in
@@ -84,4 +85,5 @@ returns c =
     c.table_cards.result c.column_cards.result c.requires.header c.table_cards.ensures c.column_cards.ensures c.put_all-count.ensures.written c.put_all-count-2.ensures.written c.put_tile_cards-count.ensures.written
     c.put_parameter_cards-count.ensures.written c.put_image_cards-count.ensures.written c.put_sum_cards-count.ensures.written in
     let bytes = c.finish.ensures.header (packed_header (cards_of c.args.buf.now) c.args.plan.now c.args.totals.now) written in
-    record { written = bytes.0; size = bytes.1 }
+    let few = few-cards c.requires.plan.options c.args.header.now c.args.buf.now c.args.plan.now c.args.totals.now c.requires.plan.answer (sym c.requires.plan.with_sums) in
+    record { written = bytes.0; size = bytes.1; short = blocks-short c.put_sum_cards-count.result c.finish.result c.finish.ensures.size (omega (arith, written.number, few)) }

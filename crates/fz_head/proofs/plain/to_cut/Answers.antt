@@ -1,9 +1,10 @@
 -- The cards of a part of the image, one after another.
-use Rattle.std.proofs.Common.{◌≡◌, ℕ, ◌+◌, ◌-◌, ◌≤◌, List, [], ◌++◌, codes, length, map, sym, ap, ◌∙◌, arith}
+use Rattle.std.proofs.Common.{◌≡◌, ℕ, ◌+◌, ◌-◌, ◌*◌, ◌≤◌, List, [], ◌++◌, codes, length, map, sym, ap, ◌∙◌, arith}
 use Rattle.std.specs.Prelude.{slice_index}
 use Rattle.std.specs.List.{range_with_len}
 use Rattle.fz_card.specs.Layout.{padded}
 use Rattle.fz_block.specs.Facts.{IsHeaderOf}
+use Rattle.fz_block.specs.Header.{whole_blocks_of}
 use Rattle.fz_block.specs.Hdus.{cards_of}
 use Rattle.fz_block.specs.declared.header.Header.{Header}
 use Rattle.fz_grid.specs.declared.region.Region.{Region}
@@ -14,6 +15,7 @@ use Rattle.fz_head.specs.Written.{AreWritten, Adds, first_cards, found_cards}
 use Rattle.fz_head.proofs.FoundCards.{named-cards}
 use Rattle.fz_head.proofs.FrontCards.{header-cards, header-end}
 use Rattle.fz_head.proofs.PackedPlans.{Says, says}
+use Rattle.fz_head.proofs.RestoredHeaders.{cutout-short}
 use Rattle.fz_head.proofs.WrittenCards.{adds-same, adds-then, blocks-enough, written-none}
 use Rattle.fz_head.proofs.plain.to_cut.Goals as goal
 
@@ -82,4 +84,9 @@ returns c =
     c.args.out.now c.put_or-count.new.out c.put_size_cards-count.new.out c.put_region_cards-count.new.out c.put_part_cards-count.new.out c.requires.header said first
     c.put_or-count.ensures.written c.put_size_cards-count.ensures.written c.put_region_cards-count.ensures.written c.put_part_cards-count.ensures.written in
     let bytes = c.finish.ensures.header (cutout_header (cards_of buf) c.args.region.now) written in
-    record { written = bytes.0; size = bytes.1 }
+    let blocks : c.finish.result ≡ whole_blocks_of (80 * (length (cutout_header (cards_of buf) c.args.region.now) + 1)) = c.finish.ensures.size ∙ ap (λ n. whole_blocks_of (80 * (n + 1))) written.number in
+    record {
+      written = bytes.0;
+      size = bytes.1;
+      fits = cutout-short buf c.args.header.now c.args.plan.now c.requires.header c.requires.plan c.args.region.now c.finish.result (c.requires.region.same_axes ∙ said.axes) blocks;
+    }

@@ -1,7 +1,8 @@
 -- The cards of the image, one after another.
-use Rattle.std.proofs.Common.{ℕ, ◌+◌, ◌≤◌, List, [], ◌++◌, length, sym, ap, ◌∙◌, arith}
+use Rattle.std.proofs.Common.{◌≡◌, ℕ, ◌+◌, ◌*◌, ◌≤◌, List, [], ◌++◌, length, sym, ap, ◌∙◌, arith}
 use Rattle.std.specs.List.{flat_map, range_with_len}
 use Rattle.fz_block.specs.Facts.{IsHeaderOf}
+use Rattle.fz_block.specs.Header.{whole_blocks_of}
 use Rattle.fz_block.specs.Hdus.{cards_of}
 use Rattle.fz_block.specs.declared.header.Header.{Header}
 use Rattle.fz_head.specs.declared.plan.Plan.{Plan}
@@ -9,6 +10,7 @@ use Rattle.fz_head.specs.PlainHeader.{axis_card, axis_count, count_cards, count_
 use Rattle.fz_head.specs.Written.{AreWritten, Adds, first_cards}
 use Rattle.fz_head.proofs.FrontCards.{header-cards, header-end}
 use Rattle.fz_head.proofs.PackedPlans.{Says, says}
+use Rattle.fz_head.proofs.RestoredHeaders.{plain-short}
 use Rattle.fz_head.proofs.WrittenCards.{adds-same, adds-then, blocks-enough, written-none}
 use Rattle.fz_head.proofs.plain.to_plain.Goals as goal
 
@@ -80,4 +82,5 @@ returns c =
     c.args.out.now c.put_leading_card-count.new.out c.put_size_cards-count.new.out c.put_axis_cards-count.new.out c.put_count_cards-count.new.out c.put_other_cards-count.new.out c.requires.header said
     c.put_leading_card-count.ensures.written c.put_size_cards-count.ensures.written c.put_axis_cards-count.ensures.written c.put_count_cards-count.ensures.written c.put_other_cards-count.ensures.written in
     let bytes = c.finish.ensures.header (plain_header (cards_of c.args.buf.now)) written in
-    record { written = bytes.0; size = bytes.1 }
+    let blocks : c.finish.result ≡ whole_blocks_of (80 * (length (plain_header (cards_of c.args.buf.now)) + 1)) = c.finish.ensures.size ∙ ap (λ n. whole_blocks_of (80 * (n + 1))) written.number in
+    record { written = bytes.0; size = bytes.1; fits = plain-short c.args.buf.now c.args.header.now c.args.plan.now c.requires.header c.requires.plan c.finish.result blocks }

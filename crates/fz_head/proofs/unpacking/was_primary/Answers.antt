@@ -1,7 +1,7 @@
 use Rattle.std.proofs.Common.{◌∙◌, codes}
 use Rattle.fz_card.specs.Layout.{padded}
+use Rattle.fz_card.specs.CardLists.{has_name}
 use Rattle.fz_block.specs.Hdus.{cards_of}
-use Rattle.fz_head.specs.CardLists.{has_name}
 use Rattle.fz_head.proofs.PackedAnswers.{index-is-found}
 use Rattle.fz_head.proofs.unpacking.was_primary.Goals as goal
 
