@@ -6,4 +6,5 @@ pub mod MovingLemmas
 pub mod RoundLemmas
 pub mod SlotLemmas
 pub mod SizeLemmas
+pub mod LawLemmas
 pub mod TestLemmas

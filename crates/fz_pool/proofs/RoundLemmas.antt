@@ -6,7 +6,7 @@ use native.Mathlib.Decide.{dec_le}
 use mathlib.Core.Option.{some, some-injective, some-ne-none}
 use lib.ListN.{get_elem?}
 use Rattle.fz_pool.specs.declared.slot.Slot.{Slot}
-use Rattle.fz_pool.specs.declared.board.Deal.{Deal}
+use Rattle.fz_pool.specs.declared.board.TableKey.{TableKey}
 use Rattle.fz_pool.specs.Slots.{IsReady, IsResult}
 use Rattle.fz_pool.specs.Running.{starts_of}
 use Rattle.fz_pool.specs.Window.{slot_size, slot_sizes}
@@ -62,9 +62,9 @@ module _ (encode : Bool) (count : ℕ) (old new : List Slot) (items : List (Opti
       subst (λ (y : Slot). IsResult encode (get_or old k d) y) (inner p.0 (get_or new k d) (one_value (Some p.0) (Some (get_or new k d)) (sym p.1 ∙ back k d l))) p.2
 
 -- the rule's results are those of the slots
-pub have_all : (deal key : Deal) (old : List Slot) (items : List (Option Slot)) (near : deal.count ≤ length old) → key ≡ deal → deal.slots.value.items ≡ old
-    → ((k : ℕ) (x : Slot) → get_elem? (starts_of key) k ≡ some x → (y : Slot) × (get_elem? items k ≡ some (Some y)) × IsResult deal.encode x y) → Have deal.encode deal.count old old items near
-have_all deal key old items near same was r k x e = r k x (ap (λ (l : List Slot). get_elem? l k) (ap starts_of same ∙ ap (λ (l : List Slot). take deal.count l) was) ∙ e)
+pub have_all : (given key : TableKey) (old : List Slot) (items : List (Option Slot)) (near : given.count ≤ length old) → key ≡ given → given.slots.value.items ≡ old
+    → ((k : ℕ) (x : Slot) → get_elem? (starts_of key) k ≡ some x → (y : Slot) × (get_elem? items k ≡ some (Some y)) × IsResult given.encode x y) → Have given.encode given.count old old items near
+have_all given key old items near same was r k x e = r k x (ap (λ (l : List Slot). get_elem? l k) (ap starts_of same ∙ ap (λ (l : List Slot). take given.count l) was) ∙ e)
 
 pub same_all : (count : ℕ) (old mid new : List Slot) → AreSameFrom count old mid → AreSameFrom count mid new → AreSameFrom count old new
 same_all count old mid new a b k d l = b k d l ∙ a k d l

@@ -13,7 +13,7 @@ use Rattle.fz_pool.specs.declared.board.Turn.{Turn}
 use Rattle.fz_pool.specs.declared.board.Turn.TheVariants.{Idle, Tile, Ended, Spent, Lead}
 use Rattle.fz_pool.specs.Slots.{IsReady, IsResult}
 use Rattle.fz_pool.specs.WindowCore.{changed}
-use Rattle.fz_pool.specs.Running.{turned_to, leading, is_out, is_past, total, tile_of, tile_if, turns, HasStory, HasKey, Knows, Gone, Led, Kept, Sat, drew, homed, less_turn, less, idle_view, more_turn, more, spent}
+use Rattle.fz_pool.specs.Running.{turned_to, leading, is_unjoined, is_finished, total, tile_of, tile_if, turns, HasStory, HasKey, Knows, Gone, Led, Kept, SeatState, TellsDraw, TellsHome, turn_after_split, view_after_split, new_view, turn_after_join, view_after_join, joined_view}
 use Rattle.fz_pool.proofs.CoreLemmas.{either_way, changed_here, changed_else, no_tile, one_tile}
 use Rattle.fz_pool.proofs.StoryLemmas.{draws_tile, draws_none, puts_tile, no_story}
 
@@ -43,14 +43,14 @@ one_of f [] j v e = absurd (some-ne-none v (sym e))
 one_of f (x ∷ xs) zero v e = let same : f x.turn ≡ f v.turn = ap (λ (z : View). f z.turn) (some-injective x v e) in omega arith
 one_of f (x ∷ xs) (suc j) v e = let h = one_of f xs j v e in omega arith
 
-past_one : (t : Turn) → is_past t ≤ 1
+past_one : (t : Turn) → is_finished t ≤ 1
 past_one Idle = omega arith
 past_one (Tile k) = omega arith
 past_one Ended = omega arith
 past_one Spent = omega arith
 past_one (Lead left n late) = omega arith
 
-few_past : (vs : List View) → total is_past vs ≤ length vs
+few_past : (vs : List View) → total is_finished vs ≤ length vs
 few_past [] = omega arith
 few_past (v ∷ vs) = let a = past_one v.turn in let b = few_past vs in omega arith
 
@@ -131,15 +131,15 @@ module _ (starts : List Slot) (workers : ℕ) (encode : Bool) where
       (λ (p : (j ≢ id) × (get_elem? vs j ≡ some v)). later t t' j v v.turn l (old j v p.1))
       (at_set vs id j w v e)
 
-  led_set : (vs : List View) (id : ℕ) (v w : View) → get_elem? vs id ≡ some v → 0 < id → is_out w.turn ≡ is_out v.turn → Led starts workers encode vs → Led starts workers encode (set vs id w)
-  led_set vs id v w at some_id same l = let moved = total_set is_out vs id v w at in record {
+  led_set : (vs : List View) (id : ℕ) (v w : View) → get_elem? vs id ≡ some v → 0 < id → is_unjoined w.turn ≡ is_unjoined v.turn → Led starts workers encode vs → Led starts workers encode (set vs id w)
+  led_set vs id v w at some_id same l = let moved = total_set is_unjoined vs id v w at in record {
     left = l.left;
     n = l.n;
     late = l.late;
     view = l.view;
     at = set_else vs id 0 w (λ e. omega arith) ∙ l.at;
     turn = l.turn;
-    are_out = let e = l.are_out in omega arith;
+    are_unjoined = let e = l.are_unjoined in omega arith;
     all = ap (λ (x : ℕ). l.left + x) (length-set vs id w) ∙ l.all;
   }
 
@@ -155,10 +155,10 @@ module _ (starts : List Slot) (workers : ℕ) (encode : Bool) where
   near s r id v at = let l = below_at s.views id v at in let all = r.led.all in omega arith
 
   -- a step of one seat at its own view
-  worker_step : (s : St) (r : Rule s) (id t' x : ℕ) (v w : View) (homes' : Homes) → get_elem? s.views id ≡ some v → 0 < id → is_out w.turn ≡ is_out v.turn → x ≡ t' → r.ticket ≤ t'
+  worker_step : (s : St) (r : Rule s) (id t' x : ℕ) (v w : View) (homes' : Homes) → get_elem? s.views id ≡ some v → 0 < id → is_unjoined w.turn ≡ is_unjoined v.turn → x ≡ t' → r.ticket ≤ t'
       → K t' id w w.turn → length homes' ≡ length s.homes
       → ((i j k : ℕ) → changed (turns s.views) id (tile_of w.turn) i ≡ Some k → changed (turns s.views) id (tile_of w.turn) j ≡ Some k → i ≡ j)
-      → t' ≤ length starts + total is_past (set s.views id w)
+      → t' ≤ length starts + total is_finished (set s.views id w)
       → ((k : ℕ) (y : Slot) → t' ≤ k → get_elem? starts k ≡ some y → get_elem? homes' k ≡ some (some (Some y)))
       → ((k : ℕ) → k < t' → k < length starts → Gone starts workers encode (changed (turns s.views) id (tile_of w.turn)) homes' k)
       → ((j k : ℕ) → changed (turns s.views) id (tile_of w.turn) j ≡ Some k → get_elem? homes' k ≡ some none)
@@ -227,8 +227,8 @@ module _ (starts : List Slot) (workers : ℕ) (encode : Bool) where
   few s r slots v deep key = let e : length v.starts ≡ length starts = ap (λ (l : List Slot). length l) key.has_starts in let d = r.deep in let n = r.small in (omega arith, omega arith)
 
   -- a draw of a tile
-  draw_tile : (slots id x : ℕ) (me : Sat) (s : St) (r : Rule s) → me.0.turn ≡ Idle → length s.homes ≡ slots → get_elem? s.views id ≡ some me.0 → x ≡ r.ticket + 1 → r.ticket < length starts
-      → (w : View) × (a : Act (Option Slot)) × Rattle.atomic_table.specs.Table.Valid s.homes me.1 a × Rule (stepped s 0 x id me.1 w a) × drew (step slots 0 1 0 none) me r.ticket (w, carried_after me.1 a)
+  draw_tile : (slots id x : ℕ) (me : SeatState) (s : St) (r : Rule s) → me.0.turn ≡ Idle → length s.homes ≡ slots → get_elem? s.views id ≡ some me.0 → x ≡ r.ticket + 1 → r.ticket < length starts
+      → (w : View) × (a : Act (Option Slot)) × Rattle.atomic_table.specs.Table.Valid s.homes me.1 a × Rule (stepped s 0 x id me.1 w a) × TellsDraw (step slots 0 1 0 none) me r.ticket (w, carried_after me.1 a)
   draw_tile slots id x me s r idle deep at is_word left =
       let t : ℕ = r.ticket in
       let n = known s r id me.0 Idle at idle in
@@ -240,14 +240,14 @@ module _ (starts : List Slot) (workers : ℕ) (encode : Bool) where
       let fresh_one = r.fresh t y (omega arith) there.1 in
       let long : t < length s.homes = let d = r.deep in omega arith in
       let homes' : Homes = set s.homes t none in
-      let moved = total_set is_past s.views id me.0 w at in
-      let was : is_past me.0.turn ≡ 0 = ap is_past idle in
+      let moved = total_set is_finished s.views id me.0 w at in
+      let was : is_finished me.0.turn ≡ 0 = ap is_finished idle in
       let some_id : 0 < id = n.1 in
       let count = few s r slots me.0 deep n.0 in (
         w,
         takes t (Some y),
         fresh_one,
-        worker_step s r id (t + 1) x me.0 w homes' at some_id (ap is_out (sym idle)) is_word (omega arith)
+        worker_step s r id (t + 1) x me.0 w homes' at some_id (ap is_unjoined (sym idle)) is_word (omega arith)
             (record { has_starts = n.0.has_starts; has_workers = n.0.has_workers; has_encode = n.0.has_encode }, some_id, omega arith, omega arith, left)
             (length-set s.homes t none)
             (stay_apart f id (Some t) r.apart (λ j k e g. let l = (below s r j k g).0 in let e' : t ≡ k = one_tile t k e in omega arith))
@@ -276,22 +276,22 @@ module _ (starts : List Slot) (workers : ℕ) (encode : Bool) where
       )
 
   -- a draw that found no tile left
-  draw_none : (slots id x : ℕ) (me : Sat) (s : St) (r : Rule s) → me.0.turn ≡ Idle → length s.homes ≡ slots → get_elem? s.views id ≡ some me.0 → x ≡ r.ticket + 1 → length starts ≤ r.ticket
-      → (w : View) × (a : Act (Option Slot)) × Rattle.atomic_table.specs.Table.Valid s.homes me.1 a × Rule (stepped s 0 x id me.1 w a) × drew (step slots 0 1 0 none) me r.ticket (w, carried_after me.1 a)
+  draw_none : (slots id x : ℕ) (me : SeatState) (s : St) (r : Rule s) → me.0.turn ≡ Idle → length s.homes ≡ slots → get_elem? s.views id ≡ some me.0 → x ≡ r.ticket + 1 → length starts ≤ r.ticket
+      → (w : View) × (a : Act (Option Slot)) × Rattle.atomic_table.specs.Table.Valid s.homes me.1 a × Rule (stepped s 0 x id me.1 w a) × TellsDraw (step slots 0 1 0 none) me r.ticket (w, carried_after me.1 a)
   draw_none slots id x me s r idle deep at is_word late =
       let t : ℕ = r.ticket in
       let n = known s r id me.0 Idle at idle in
       let w : View = record me.0 { turn = Ended; seen = t + 1 } in
       let f : ℕ → Option ℕ = turns s.views in
       let free : f id ≡ None = turn_at s.views id me.0 at ∙ ap tile_of idle in
-      let moved = total_set is_past s.views id me.0 w at in
-      let was : is_past me.0.turn ≡ 0 = ap is_past idle in
+      let moved = total_set is_finished s.views id me.0 w at in
+      let was : is_finished me.0.turn ≡ 0 = ap is_finished idle in
       let some_id : 0 < id = n.1 in
       let count = few s r slots me.0 deep n.0 in (
         w,
         keeps,
         tt,
-        worker_step s r id (t + 1) x me.0 w s.homes at some_id (ap is_out (sym idle)) is_word (omega arith)
+        worker_step s r id (t + 1) x me.0 w s.homes at some_id (ap is_unjoined (sym idle)) is_word (omega arith)
             (record { has_starts = n.0.has_starts; has_workers = n.0.has_workers; has_encode = n.0.has_encode }, some_id, omega arith, omega arith)
             refl
             (stay_apart f id None r.apart (λ j k e g. no_tile k e))
@@ -309,20 +309,20 @@ module _ (starts : List Slot) (workers : ℕ) (encode : Bool) where
         },
       )
 
-  pub draws : (slots id : ℕ) (me : Sat) → me.0.turn ≡ Idle → Allows Rule slots id me 0 (λ n. (n + 1) % 18446744073709551616) (drew (step slots 0 1 0 none) me)
+  pub draws : (slots id : ℕ) (me : SeatState) → me.0.turn ≡ Idle → Allows Rule slots id me 0 (λ n. (n + 1) % 18446744073709551616) (TellsDraw (step slots 0 1 0 none) me)
   draws slots id me idle s r deep at small_word =
       let n : ℕ = get_or s.words 0 0 in let is : n ≡ r.ticket = r.word in
       let tickets = r.tickets in let few_views = few_past s.views in let all = r.led.all in let small = r.small in
       let grows : (n + 1) % 18446744073709551616 ≡ r.ticket + 1 = omega arith in
       subst (λ (m : ℕ). (w : View) × (a : Act (Option Slot)) × Rattle.atomic_table.specs.Table.Valid s.homes me.1 a
-      × Rule (stepped s 0 ((n + 1) % 18446744073709551616) id me.1 w a) × drew (step slots 0 1 0 none) me m (w, carried_after me.1 a)) (sym is)
+      × Rule (stepped s 0 ((n + 1) % 18446744073709551616) id me.1 w a) × TellsDraw (step slots 0 1 0 none) me m (w, carried_after me.1 a)) (sym is)
       (dite (dec_le (length starts) r.ticket)
       (λ (l : length starts ≤ r.ticket). draw_none slots id ((n + 1) % 18446744073709551616) me s r idle deep at grows l)
       (λ (l : ¬ (length starts ≤ r.ticket)). draw_tile slots id ((n + 1) % 18446744073709551616) me s r idle deep at grows (omega arith)))
 
   -- a slot goes home with its result
-  pub homes : (slots id k : ℕ) (me : Sat) (x y : Slot) → me.0.turn ≡ Tile k → get_elem? me.0.starts k ≡ some x → IsResult me.0.encode x y → me.1 ≡ (k, Some y) ∷ []
-      → Allows Rule slots id me 0 (λ n. n) (homed (step slots 0 0 0 none) me)
+  pub homes : (slots id k : ℕ) (me : SeatState) (x y : Slot) → me.0.turn ≡ Tile k → get_elem? me.0.starts k ≡ some x → IsResult me.0.encode x y → me.1 ≡ (k, Some y) ∷ []
+      → Allows Rule slots id me 0 (λ n. n) (TellsHome (step slots 0 0 0 none) me)
   homes slots id k me x y turn there result held s r deep at small_word =
       let t : ℕ = r.ticket in
       let n = known s r id me.0 (Tile k) at turn in
@@ -334,15 +334,15 @@ module _ (starts : List Slot) (workers : ℕ) (encode : Bool) where
       let inside : k < length starts = n.4 in
       let long : k < length s.homes = let d = r.deep in omega arith in
       let homes' : Homes = set s.homes k (some (Some y)) in
-      let moved = total_set is_past s.views id me.0 w at in
-      let was : is_past me.0.turn ≡ 0 = ap is_past turn in
+      let moved = total_set is_finished s.views id me.0 w at in
+      let was : is_finished me.0.turn ≡ 0 = ap is_finished turn in
       let start_is : get_elem? starts k ≡ some x = ap (λ (l : List Slot). get_elem? l k) (sym n.0.has_starts) ∙ there in
       let result_is : IsResult encode x y = subst (λ b. IsResult b x y) n.0.has_encode result in (
         w,
         gives,
         tt,
         subst (λ (c : List (ℕ × Option Slot)). Rule (stepped s 0 (get_or s.words 0 0) id c w gives)) (sym held)
-            (worker_step s r id t (get_or s.words 0 0) me.0 w homes' at some_id (ap is_out (sym turn)) r.word (omega arith)
+            (worker_step s r id t (get_or s.words 0 0) me.0 w homes' at some_id (ap is_unjoined (sym turn)) r.word (omega arith)
             (record { has_starts = n.0.has_starts; has_workers = n.0.has_workers; has_encode = n.0.has_encode }, some_id, n.2)
             (length-set s.homes k (some (Some y)))
             (stay_apart f id None r.apart (λ j m e g. no_tile m e))
@@ -359,7 +359,7 @@ module _ (starts : List Slot) (workers : ℕ) (encode : Bool) where
       )
 
   -- a step of the first seat, at which words, slots and turns stand still
-  first_step : (s : St) (r : Rule s) (views' : List View) → turns views' ≡ turns s.views → total is_past views' ≡ total is_past s.views → Led starts workers encode views'
+  first_step : (s : St) (r : Rule s) (views' : List View) → turns views' ≡ turns s.views → total is_finished views' ≡ total is_finished s.views → Led starts workers encode views'
       → ((j : ℕ) (v : View) → get_elem? views' j ≡ some v → K r.ticket j v v.turn) → Rule record { words = s.words; homes = s.homes; views = views' }
   first_step s r views' same as_past led each = record {
     ticket = r.ticket;
@@ -380,29 +380,29 @@ module _ (starts : List Slot) (workers : ℕ) (encode : Bool) where
 
   -- what the first seat's view says is so
   led_is : (s : St) (r : Rule s) (id : ℕ) (v : View) (left n : ℕ) (late : Bool) → get_elem? s.views id ≡ some v → v.turn ≡ Lead left n late
-      → (id ≡ 0) × (n ≡ total is_out s.views) × (left + length s.views ≡ workers + 1)
+      → (id ≡ 0) × (n ≡ total is_unjoined s.views) × (left + length s.views ≡ workers + 1)
   led_is s r id v left n late at turn =
       let k = known s r id v (Lead left n late) at turn in
       let l = r.led in
       let here : get_elem? s.views 0 ≡ some v = ap (get_elem? s.views) (sym k.1) ∙ at in
       let same : l.view ≡ v = some-injective l.view v (sym l.at ∙ here) in
       let parts = lead_parts l.left l.n l.late left n late (sym l.turn ∙ (ap (λ (z : View). z.turn) same ∙ turn)) in
-      (k.1, sym parts.1 ∙ l.are_out, ap (λ (z : ℕ). z + length s.views) (sym parts.0) ∙ l.all)
+      (k.1, sym parts.1 ∙ l.are_unjoined, ap (λ (z : ℕ). z + length s.views) (sym parts.0) ∙ l.all)
 
-  pub splits : (id : ℕ) (v : View) (left n : ℕ) (late : Bool) → v.turn ≡ Lead left n late → 0 < left → Splits Rule id v (less v) (idle_view v)
+  pub splits : (id : ℕ) (v : View) (left n : ℕ) (late : Bool) → v.turn ≡ Lead left n late → 0 < left → Splits Rule id v (view_after_split v) (new_view v)
   splits id v left n late turn more_left s r at =
       let k = known s r id v (Lead left n late) at turn in
       let l = led_is s r id v left n late at turn in
-      let w : View = less v in let o : View = idle_view v in
-      let turn' : w.turn ≡ Lead (left - 1) (n + 1) late = ap less_turn turn in
+      let w : View = view_after_split v in let o : View = new_view v in
+      let turn' : w.turn ≡ Lead (left - 1) (n + 1) late = ap turn_after_split turn in
       let vs : List View = set s.views id w in
       let views' : List View = vs ++ o ∷ [] in
       let first : id ≡ 0 = l.0 in
-      let moved_past = total_set is_past s.views id v w at in
-      let past_v : is_past v.turn ≡ 0 = ap is_past turn in let past_w : is_past w.turn ≡ 0 = ap is_past turn' in
-      let moved_out = total_set is_out s.views id v w at in
-      let out_v : is_out v.turn ≡ 0 = ap is_out turn in let out_w : is_out w.turn ≡ 0 = ap is_out turn' in
-      let pushed_past = total_push is_past vs o in let pushed_out = total_push is_out vs o in
+      let moved_past = total_set is_finished s.views id v w at in
+      let past_v : is_finished v.turn ≡ 0 = ap is_finished turn in let past_w : is_finished w.turn ≡ 0 = ap is_finished turn' in
+      let moved_out = total_set is_unjoined s.views id v w at in
+      let out_v : is_unjoined v.turn ≡ 0 = ap is_unjoined turn in let out_w : is_unjoined w.turn ≡ 0 = ap is_unjoined turn' in
+      let pushed_past = total_push is_finished vs o in let pushed_out = total_push is_unjoined vs o in
       let long = length-set s.views id w in let longer = length-append vs (o ∷ []) in
       let counted = l.1 in let all = l.2 in
       first_step s r views'
@@ -415,7 +415,7 @@ module _ (starts : List Slot) (workers : ℕ) (encode : Bool) where
         view = w;
         at = at_longer vs (o ∷ []) 0 w (subst (λ i. get_elem? (set s.views i w) 0 ≡ some w) (sym first) (set_here s.views 0 w (let b = below_at s.views id v at in omega arith)));
         turn = turn';
-        are_out = omega arith;
+        are_unjoined = omega arith;
         all = omega arith;
       }
       (λ j u e. ⊎_elim
@@ -431,39 +431,39 @@ module _ (starts : List Slot) (workers : ℕ) (encode : Bool) where
       at_end (x ∷ xs) a b zero e = inl e
       at_end (x ∷ xs) a b (suc j) e = ⊎_elim inl (λ (p : (a ≡ b) × (length xs ≤ j)). let h = p.1 in inr (p.0, omega arith)) (at_end xs a b j e)
 
-  pub joins : (id : ℕ) (v : View) (other : ℕ) (w : View) (left n : ℕ) (late : Bool) → v.turn ≡ Lead left n late → w.turn ≡ Ended → Joins Rule id v other w (more v w) spent
+  pub joins : (id : ℕ) (v : View) (other : ℕ) (w : View) (left n : ℕ) (late : Bool) → v.turn ≡ Lead left n late → w.turn ≡ Ended → Joins Rule id v other w (view_after_join v w) joined_view
   joins id v other w left n late turn ended s r at apart there =
       let k = known s r id v (Lead left n late) at turn in
       let l = led_is s r id v left n late at turn in
-      let u : View = more v w in
-      let turn' : u.turn ≡ Lead left (n - 1) true = ap more_turn turn in
+      let u : View = view_after_join v w in
+      let turn' : u.turn ≡ Lead left (n - 1) true = ap turn_after_join turn in
       let vs : List View = set s.views id u in
-      let views' : List View = set vs other spent in
+      let views' : List View = set vs other joined_view in
       let first : id ≡ 0 = l.0 in
       let before : get_elem? s.views other ≡ some w = sym (set_else s.views id other u apart) ∙ there in
       let m = known s r other w Ended before ended in
       let some_other : 0 < other = m.1 in
       let past : length starts ≤ r.ticket = m.3 in
-      let moved_past = total_set is_past s.views id v u at in let moved_past' = total_set is_past vs other w spent there in
-      let past_v : is_past v.turn ≡ 0 = ap is_past turn in let past_u : is_past u.turn ≡ 0 = ap is_past turn' in let past_w : is_past w.turn ≡ 1 = ap is_past ended in
-      let moved_out = total_set is_out s.views id v u at in let moved_out' = total_set is_out vs other w spent there in
-      let out_v : is_out v.turn ≡ 0 = ap is_out turn in let out_u : is_out u.turn ≡ 0 = ap is_out turn' in let out_w : is_out w.turn ≡ 1 = ap is_out ended in
-      let long = length-set s.views id u in let longer = length-set vs other spent in
+      let moved_past = total_set is_finished s.views id v u at in let moved_past' = total_set is_finished vs other w joined_view there in
+      let past_v : is_finished v.turn ≡ 0 = ap is_finished turn in let past_u : is_finished u.turn ≡ 0 = ap is_finished turn' in let past_w : is_finished w.turn ≡ 1 = ap is_finished ended in
+      let moved_out = total_set is_unjoined s.views id v u at in let moved_out' = total_set is_unjoined vs other w joined_view there in
+      let out_v : is_unjoined v.turn ≡ 0 = ap is_unjoined turn in let out_u : is_unjoined u.turn ≡ 0 = ap is_unjoined turn' in let out_w : is_unjoined w.turn ≡ 1 = ap is_unjoined ended in
+      let long = length-set s.views id u in let longer = length-set vs other joined_view in
       let counted = l.1 in let all = l.2 in
       first_step s r views'
-      (turns_still vs other w spent there (ap tile_of ended) refl ∙ turns_still s.views id v u at (ap tile_of turn) (ap tile_of turn'))
+      (turns_still vs other w joined_view there (ap tile_of ended) refl ∙ turns_still s.views id v u at (ap tile_of turn) (ap tile_of turn'))
       (omega arith)
       record {
         left = left;
         n = n - 1;
         late = true;
         view = u;
-        at = set_else vs other 0 spent (λ e. omega arith) ∙ subst (λ i. get_elem? (set s.views i u) 0 ≡ some u) (sym first) (set_here s.views 0 u (let b = below_at s.views id v at in omega arith));
+        at = set_else vs other 0 joined_view (λ e. omega arith) ∙ subst (λ i. get_elem? (set s.views i u) 0 ≡ some u) (sym first) (set_here s.views 0 u (let b = below_at s.views id v at in omega arith));
         turn = turn';
-        are_out = omega arith;
+        are_unjoined = omega arith;
         all = omega arith;
       }
-      (each_set vs other spent r.ticket r.ticket (omega arith) some_other
+      (each_set vs other joined_view r.ticket r.ticket (omega arith) some_other
       (each_set s.views id u r.ticket r.ticket (omega arith)
       (subst (K r.ticket id u) (sym turn') (record { has_starts = k.0.has_starts; has_workers = k.0.has_workers; has_encode = k.0.has_encode }, k.1, k.2, λ _. past)) r.each))
 
@@ -479,7 +479,7 @@ module _ (starts : List Slot) (workers : ℕ) (encode : Bool) where
     ready = ready;
     each = λ j u e. one_view j u e;
     apart = λ i j k e _. absurd (no_tile k (sym (no_turn i) ∙ e));
-    led = record { left = workers; n = 0; late = false; view = v; at = refl; turn = refl; are_out = refl; all = refl };
+    led = record { left = workers; n = 0; late = false; view = v; at = refl; turn = refl; are_unjoined = refl; all = refl };
     tickets = omega arith;
     fresh = λ k x _ e. at_map (λ (o : Option Slot). some o) xs k (Some x) (ap (λ (l : List (Option Slot)). get_elem? l k) are ∙ at_map (λ (z : Slot). Some z) starts k x e);
     gone = λ k l _. absurd (omega arith);
@@ -508,12 +508,12 @@ module _ (starts : List Slot) (workers : ℕ) (encode : Bool) where
       let l = led_is s r id v left 0 true at turn in
       let past : length starts ≤ r.ticket = n.3 refl in
       let inside : k < length starts = below_at starts k x there in
-      let none_out : 0 ≡ total is_out s.views = l.1 in
+      let none_out : 0 ≡ total is_unjoined s.views = l.1 in
       ⊎_elim
       (λ (p : (j : ℕ) × (turns s.views j ≡ Some k)).
       let q = view_at (get_elem? s.views p.0) k p.1 in
-      let one = one_of is_out s.views p.0 q.0 q.1 in
-      let is_one : is_out q.0.turn ≡ 1 = ap is_out q.2 in absurd (omega arith))
+      let one = one_of is_unjoined s.views p.0 q.0 q.1 in
+      let is_one : is_unjoined q.0.turn ≡ 1 = ap is_unjoined q.2 in absurd (omega arith))
       (λ (p : (a y : Slot) × (get_elem? starts k ≡ some a) × (get_elem? s.homes k ≡ some (some (Some y))) × IsResult encode a y).
       (p.1, final.4 k (Some p.1) p.3, subst (λ (z : Slot). IsResult encode z p.1) (some-injective p.0 x (sym p.2 ∙ there)) p.4))
       (r.gone k (omega arith) inside)

@@ -9,21 +9,25 @@ use Rattle.fz_pool.specs.declared.board.View.{View}
 use Rattle.fz_pool.specs.declared.board.Turn.TheVariants.{Idle, Tile, Ended, Lead}
 use Rattle.fz_pool.specs.Slots.{IsReady, IsResult}
 
-abbrev pub H : Type 0
-H = Seat (Option Slot) View
+abbrev pub Hand : Type 0
+Hand = Seat (Option Slot) View
+
+-- the hand is a seat of this table, which has one word
+abbrev pub IsSeatOf : TableId → Hand → Type 0
+IsSeatOf table h = (h.table_id ≡ table) × (table.words ≡ 1)
 
 -- the hand has nothing to do yet
-pub record IsIdle (h : H) : Type 0 where
+pub record IsIdle (h : Hand) : Type 0 where
   pub turn : h.me.0.turn ≡ Idle
   pub held : h.me.1 ≡ []
 
 -- the last draw found no tile left
-pub record HasEnded (h : H) : Type 0 where
+pub record HasEnded (h : Hand) : Type 0 where
   pub turn : h.me.0.turn ≡ Ended
   pub held : h.me.1 ≡ []
 
 -- the hand has drawn the tile i, and holds its slot with its start
-pub record HoldsStart (h : H) (i : ℕ) : Type 0 where
+pub record HoldsStart (h : Hand) (i : ℕ) : Type 0 where
   pub turn : h.me.0.turn ≡ Tile i
   pub slot : Slot
   pub at : get_elem? h.me.0.starts i ≡ some slot
@@ -31,7 +35,7 @@ pub record HoldsStart (h : H) (i : ℕ) : Type 0 where
   pub held : h.me.1 ≡ (i, Some slot) ∷ []
 
 -- the same, with the slot's result
-pub record HoldsResult (h : H) (i : ℕ) : Type 0 where
+pub record HoldsResult (h : Hand) (i : ℕ) : Type 0 where
   pub turn : h.me.0.turn ≡ Tile i
   pub slot : Slot
   pub at : get_elem? h.me.0.starts i ≡ some slot
@@ -40,24 +44,24 @@ pub record HoldsResult (h : H) (i : ℕ) : Type 0 where
   pub held : h.me.1 ≡ (i, Some after) ∷ []
 
 -- a worker's hand before its first draw
-pub record IsSeated (table : TableId) (encode : Bool) (h : H) : Type 0 where
+pub record IsSeated (table : TableId) (encode : Bool) (h : Hand) : Type 0 where
   pub at : h.table_id ≡ table
   pub encodes : h.me.0.encode ≡ encode
   pub idle : IsIdle h
 
 -- a worker's hand after its last draw
-pub record IsBack (table : TableId) (h : H) : Type 0 where
+pub record IsBack (table : TableId) (h : Hand) : Type 0 where
   pub at : h.table_id ≡ table
   pub ended : HasEnded h
 
 -- the first seat may still split off so many hands, and so many are not joined again
-pub record Leads (table : TableId) (encode : Bool) (left out : ℕ) (late : Bool) (h : H) : Type 0 where
+pub record Leads (table : TableId) (encode : Bool) (left out : ℕ) (late : Bool) (h : Hand) : Type 0 where
   pub at : h.table_id ≡ table
   pub encodes : h.me.0.encode ≡ encode
   pub turn : h.me.0.turn ≡ Lead left out late
 
 -- a seat of the same table and number, for the same slots
-pub record IsSame (h h' : H) : Type 0 where
+pub record IsSame (h h' : Hand) : Type 0 where
   pub table : h'.table_id ≡ h.table_id
   pub id : h'.id ≡ h.id
   pub starts : h'.me.0.starts ≡ h.me.0.starts

@@ -5,3 +5,5 @@ pub mod Hands
 pub mod Window
 pub mod Lending
 pub mod Calls
+pub mod Round
+pub mod Laws

@@ -5,7 +5,7 @@ use mathlib.Core.Option as maybe
 use lib.ListN.{get_elem?}
 use Rattle.atomic_table.specs.Table.{State, Me, Step, rest}
 use Rattle.fz_pool.specs.declared.slot.Slot.{Slot}
-use Rattle.fz_pool.specs.declared.board.Deal.{Deal}
+use Rattle.fz_pool.specs.declared.board.TableKey.{TableKey}
 use Rattle.fz_pool.specs.declared.board.View.{View}
 use Rattle.fz_pool.specs.declared.board.Turn.{Turn}
 use Rattle.fz_pool.specs.declared.board.Turn.TheVariants.{Idle, Tile, Ended, Spent, Lead}
@@ -13,8 +13,8 @@ use Rattle.fz_pool.specs.Slots.{IsReady, IsResult}
 use Rattle.fz_pool.specs.WindowCore.{Event, start, out, done, WindowState, first_state, AreEvents, last_state}
 
 -- the slots that are worked on, as they were
-abbrev pub starts_of : Deal → List Slot
-starts_of d = take d.count d.slots.value.items
+abbrev pub starts_of : TableKey → List Slot
+starts_of key = take key.count key.slots.value.items
 
 abbrev pub turned_to : View → Turn → View
 turned_to v t = record v { turn = t }
@@ -24,20 +24,20 @@ abbrev pub leading : List Slot → ℕ → Bool → View
 leading starts workers encode = record { starts = starts; workers = workers; encode = encode; turn = Lead workers 0 false; seen = 0 }
 
 -- a seat that was not joined away
-abbrev pub is_out : Turn → ℕ
-is_out Idle = 1
-is_out (Tile k) = 1
-is_out Ended = 1
-is_out Spent = 0
-is_out (Lead left n late) = 0
+abbrev pub is_unjoined : Turn → ℕ
+is_unjoined Idle = 1
+is_unjoined (Tile k) = 1
+is_unjoined Ended = 1
+is_unjoined Spent = 0
+is_unjoined (Lead left n late) = 0
 
 -- a seat whose last draw found no tile left
-abbrev pub is_past : Turn → ℕ
-is_past Idle = 0
-is_past (Tile k) = 0
-is_past Ended = 1
-is_past Spent = 1
-is_past (Lead left n late) = 0
+abbrev pub is_finished : Turn → ℕ
+is_finished Idle = 0
+is_finished (Tile k) = 0
+is_finished Ended = 1
+is_finished Spent = 1
+is_finished (Lead left n late) = 0
 
 -- the same over all views, added up
 abbrev pub total : (Turn → ℕ) → List View → ℕ
@@ -97,51 +97,71 @@ module _ (starts : List Slot) (workers : ℕ) (encode : Bool) where
 
   -- the first seat's view counts the others
   pub record Led (views : List View) : Type 0 where
+    -- how many seats may still be split off
     pub left : ℕ
+    -- how many were split off and not joined again
     pub n : ℕ
+    -- whether one was joined again
     pub late : Bool
+    -- the first seat's view
     pub view : View
     pub at : get_elem? views 0 ≡ some view
     pub turn : view.turn ≡ Lead left n late
-    pub are_out : n ≡ total is_out views
+    pub are_unjoined : n ≡ total is_unjoined views
     pub all : left + length views ≡ workers + 1
 
   -- the rule
   pub record Kept (s : State (Option Slot) View) : Type 0 where
+    -- the number of the next tile
     pub ticket : ℕ
+    -- the first word of the table is that number
     pub word : slice_index s.words 0 ≡ ticket
+    -- the table has no other word
     pub wide : length s.words ≡ 1
+    -- it has a place for each slot that is worked on
     pub deep : length s.homes ≡ length starts
+    -- there are at most 128 such slots, and 1 to 64 workers
     pub small : (length starts ≤ 128) × (0 < workers) × (workers ≤ 64)
+    -- each slot was ready for its call
     pub ready : (k : ℕ) (x : Slot) → get_elem? starts k ≡ some x → IsReady encode x
+    -- each seat's view is true
     pub each : (j : ℕ) (v : View) → get_elem? s.views j ≡ some v → Knows ticket j v v.turn
+    -- no two seats have the same tile
     pub apart : (i j k : ℕ) → turns s.views i ≡ Some k → turns s.views j ≡ Some k → i ≡ j
+    -- the first seat counts the others
     pub led : Led s.views
-    pub tickets : ticket ≤ length starts + total is_past s.views
+    -- each draw beyond the last tile is the last one of its seat
+    pub tickets : ticket ≤ length starts + total is_finished s.views
+    -- the slot of a tile that was not drawn is at home as it was
     pub fresh : (k : ℕ) (x : Slot) → ticket ≤ k → get_elem? starts k ≡ some x → get_elem? s.homes k ≡ some (some (Some x))
+    -- a tile that was drawn is a seat's, or its slot is at home with its result
     pub gone : (k : ℕ) → k < ticket → k < length starts → Gone (turns s.views) s.homes k
+    -- the slot of a seat's tile is not at home
     pub away : (j k : ℕ) → turns s.views j ≡ Some k → get_elem? s.homes k ≡ some none
+    -- a list of events of the core leads to this ticket and these turns
     pub story : HasStory workers (length starts) ticket (turns s.views)
 
-abbrev pub Sat : Type 0
-Sat = Me (Option Slot) View
+-- what a seat knows, and the slots that it holds
+abbrev pub SeatState : Type 0
+SeatState = Me (Option Slot) View
 
-abbrev pub At : Type 0
-At = Step (Option Slot)
+-- the word and the slots that a step is made on
+abbrev pub StepAt : Type 0
+StepAt = Step (Option Slot)
 
 -- a draw that found the word n
-pub record DrewTile (m : Sat) (n : ℕ) (m' : Sat) : Type 0 where
+pub record DrewTile (m : SeatState) (n : ℕ) (m' : SeatState) : Type 0 where
   pub view : m'.0 ≡ record m.0 { turn = Tile n; seen = n + 1 }
   pub slot : Slot
   pub at : get_elem? m.0.starts n ≡ some slot
   pub ready : IsReady m.0.encode slot
   pub held : m'.1 ≡ (n, Some slot) ∷ m.1
 
-pub record DrewNone (m : Sat) (n : ℕ) (m' : Sat) : Type 0 where
+pub record DrewNone (m : SeatState) (n : ℕ) (m' : SeatState) : Type 0 where
   pub view : m'.0 ≡ record m.0 { turn = Ended; seen = n + 1 }
   pub held : m'.1 ≡ m.1
 
-pub record drew (st : At) (m : Sat) (n : ℕ) (m' : Sat) : Type 0 where
+pub record TellsDraw (st : StepAt) (m : SeatState) (n : ℕ) (m' : SeatState) : Type 0 where
   pub slots : st.slots ≡ length m.0.starts
   pub few : st.slots ≤ 128
   pub seen : m.0.seen ≤ n
@@ -149,27 +169,27 @@ pub record drew (st : At) (m : Sat) (n : ℕ) (m' : Sat) : Type 0 where
   pub late : st.slots ≤ n → DrewNone m n m'
 
 -- the slot went home
-abbrev pub homed : At → Sat → ℕ → Sat → Type 0
-homed st m n m' = m' ≡ (turned_to m.0 Idle, rest m.1)
+abbrev pub TellsHome : StepAt → SeatState → ℕ → SeatState → Type 0
+TellsHome st m n m' = m' ≡ (turned_to m.0 Idle, rest m.1)
 
 -- a seat is split off
-abbrev pub less_turn : Turn → Turn
-less_turn (Lead left n late) = Lead (left - 1) (n + 1) late
-less_turn t = t
+abbrev pub turn_after_split : Turn → Turn
+turn_after_split (Lead left n late) = Lead (left - 1) (n + 1) late
+turn_after_split t = t
 
-abbrev pub less : View → View
-less v = turned_to v (less_turn v.turn)
+abbrev pub view_after_split : View → View
+view_after_split v = turned_to v (turn_after_split v.turn)
 
-abbrev pub idle_view : View → View
-idle_view v = record v { turn = Idle; seen = 0 }
+abbrev pub new_view : View → View
+new_view v = record v { turn = Idle; seen = 0 }
 
 -- a seat is joined
-abbrev pub more_turn : Turn → Turn
-more_turn (Lead left n late) = Lead left (n - 1) true
-more_turn t = t
+abbrev pub turn_after_join : Turn → Turn
+turn_after_join (Lead left n late) = Lead left (n - 1) true
+turn_after_join t = t
 
-abbrev pub more : View → View → View
-more v w = turned_to v (more_turn v.turn)
+abbrev pub view_after_join : View → View → View
+view_after_join v w = turned_to v (turn_after_join v.turn)
 
-abbrev pub spent : View
-spent = record { starts = []; workers = 0; encode = false; turn = Spent; seen = 0 }
+abbrev pub joined_view : View
+joined_view = record { starts = []; workers = 0; encode = false; turn = Spent; seen = 0 }

@@ -1,5 +1,5 @@
 -- The window as callers see it, and what is asked of a meter for its slots.
-use Rattle.std.specs.Prelude.{◌≡◌, ℕ, ◌+◌, ◌*◌, ◌<◌, ◌≤◌, ◌⊎◌, max, pos, List, [], map, length, replicate, sum, slice_set, None}
+use Rattle.std.specs.Prelude.{◌≡◌, ◌≢◌, ℕ, ◌+◌, ◌*◌, ◌<◌, ◌≤◌, ◌⊎◌, max, pos, List, [], map, length, replicate, sum, slice_set, slice_index_or, None}
 use Rattle.fz_base.specs.Meter.{Gauge, taken, RefusedFor}
 use Rattle.fz_base.specs.declared.failure.Short.{Short}
 use Rattle.fz_tile.specs.declared.codec.Codec.TheVariants.{Plain}
@@ -71,3 +71,10 @@ pub record FillRefused (g : Gauge) (count n : ℕ) (short : Short) : Type 0 wher
 
 abbrev pub with_slot : Pool → ℕ → Slot → Pool
 with_slot w i x = record { slots = slice_set w.slots i x; workers = w.workers }
+
+-- the slot i is now x, whose buffers are as long as those before, and the window is otherwise the same
+pub record IsPut (old : Pool) (i : ℕ) (x : Slot) (new : Pool) : Type 0 where
+  pub here : (d : Slot) → slice_index_or new.slots i d ≡ x
+  pub others : (k : ℕ) (d : Slot) → k ≢ i → slice_index_or new.slots k d ≡ slice_index_or old.slots k d
+  pub sizes : slot_sizes new.slots ≡ slot_sizes old.slots
+  pub workers : new.workers ≡ old.workers

@@ -6,10 +6,10 @@ use std::alloc::Global;
 use std::collections::LinkedList;
 use std::snapshot::Snapshot;
 
-/// What a table is dealt once: the window's slots as they were, how many of them are worked on, by how
-/// many workers, and whether they are encoded or decoded.
+/// What a table is made for: the window's slots as they were, how many of them are worked on, by how many
+/// workers, and whether they are encoded or decoded.
 #[derive(Drop)]
-pub struct Deal {
+pub struct TableKey {
     /// All slots of the window before any moved out. It takes no memory.
     pub slots: Snapshot<Vec<Slot>>,
     /// How many of the first slots are worked on.
@@ -52,16 +52,16 @@ pub struct View {
 /// The rule of the table.
 pub struct Running;
 
-impl TableRule<Option<Slot>, View, Deal> for Running {
+impl TableRule<Option<Slot>, View, TableKey> for Running {
     ghost use Rattle.fz_pool.specs.Running.{Kept, leading, starts_of};
 
-    ghost holds = { λ deal. Kept (starts_of deal) deal.workers deal.encode };
+    ghost holds = { λ key. Kept (starts_of key) key.workers key.encode };
 
-    ghost first = { λ deal. leading (starts_of deal) deal.workers deal.encode };
+    ghost first = { λ key. leading (starts_of key) key.workers key.encode };
 }
 
 /// The table of one call. Workers step on it with a `Hand`.
-pub type Board = Table<Option<Slot>, View, Deal, Running, Global>;
+pub type Board = Table<Option<Slot>, View, TableKey, Running, Global>;
 
 /// A seat of a `Board`.
 pub type Hand = Seat<Option<Slot>, View>;

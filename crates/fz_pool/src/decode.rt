@@ -31,7 +31,7 @@ fn lowest_fault(slots: &[Slot], count: u32) -> Option<(u32, TileFault)>
 /// After None each of these slots holds the numbers of its own record. Else the answer is the lowest
 /// slot whose record is faulty, with its fault; the slots below it hold the numbers of their own records,
 /// and the others up to `count` some values. The other slots are as before. After `NoMemory` all slots
-/// are as before.
+/// are as before. With no slots to decode the answer is None.
 pub fn decode_window<R: Threads + Sync, G: Gate>(
     rt: &R,
     window: &mut Window,
@@ -49,6 +49,7 @@ pub fn decode_window<R: Threads + Sync, G: Gate>(
     ensures slots { length window.new.slots ≡ length window.old.slots }
     ensures workers { window.new.workers ≡ window.old.workers }
     ensures no_memory { OnErr result (window.new ≡ window.old) }
+    ensures none { count ≡ 0 → result ≡ Ok None }
 {
     let workers = window.workers();
     let answer = code_slots(

@@ -1,5 +1,5 @@
 //! The tiles of a window to bytes.
-ghost use Rattle.std.specs.Prelude.{◌≡◌, ◌*◌, ◌≤◌, length, OnOk, OnErr};
+ghost use Rattle.std.specs.Prelude.{◌≡◌, ◌*◌, ◌≤◌, length, Ok, OnOk, OnErr};
 ghost use Rattle.fz_pool.specs.Window.{IsFilled, slot_sizes};
 ghost use Rattle.fz_pool.specs.Calls.{AreForEncoding, AreEncoded, AreSameFrom};
 
@@ -12,7 +12,8 @@ use std::thread::Threads;
 /// has. Before each tile its worker passes the gate, with its own number and the tile's.
 ///
 /// After Ok each of these slots holds its own tile's bytes, place and length, as `encode_tile` gives
-/// them, and the other slots are as before. After `NoMemory` all slots are as before.
+/// them, and the other slots are as before. After `NoMemory` all slots are as before. With no slots to
+/// encode the answer is Ok.
 pub fn encode_window<R: Threads + Sync, G: Gate>(
     rt: &R,
     window: &mut Window,
@@ -28,6 +29,7 @@ pub fn encode_window<R: Threads + Sync, G: Gate>(
     ensures slots { length window.new.slots ≡ length window.old.slots }
     ensures workers { window.new.workers ≡ window.old.workers }
     ensures no_memory { OnErr result (window.new ≡ window.old) }
+    ensures none { count ≡ 0 → result ≡ Ok tt }
 {
     let workers = window.workers();
     code_slots(

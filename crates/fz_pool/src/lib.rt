@@ -1,7 +1,7 @@
 //! The window of tiles, and the workers that draw them by ticket.
 //!
-//! Reading order: `slot`, `window`, `filling`; `law`; `board`, `plays`, `code`, `steps`; `workers`, `moving`,
-//! `round`, `encode`, `decode`; `tests`.
+//! Reading order: `slot`, `window`, `filling`; `law`; `board`, `step_facts`, `code`, `steps`; `workers`, `moving`,
+//! `round`, `encode`, `decode`; `laws`; `tests`.
 #![tactic(auto)]
 
 mod board;
@@ -10,20 +10,22 @@ mod decode;
 mod encode;
 mod filling;
 mod law;
+mod laws;
 mod moving;
-mod plays;
 mod round;
 mod slot;
+mod step_facts;
 mod steps;
 #[cfg(test)]
 mod tests;
 mod window;
 mod workers;
 
-pub use board::{Board, Deal, Hand, Running, Turn, View};
+pub use board::{Board, Hand, Running, TableKey, Turn, View};
 pub use decode::decode_window;
 pub use encode::encode_window;
 pub use law::window_law;
+pub use laws::{lowest_fault_law, put_law, round_law, sizes_law};
 pub use slot::{Job, Slot};
 pub use steps::{draw, home, work};
 pub use window::Window;

@@ -7,7 +7,7 @@ ghost use Rattle.fz_pool.specs.declared.slot.Slot.{Slot};
 ghost use Rattle.fz_pool.specs.Calls.{AreSameFrom};
 
 use crate::Slot;
-use crate::board::Deal;
+use crate::board::TableKey;
 use crate::filling::no_job;
 use atomic_table::Closed;
 use fz_base::{Bytes, Numbers};
@@ -38,12 +38,12 @@ pub(crate) fn move_out(slots: &mut [Slot], out: &mut Vec<Option<Slot>>, count: u
     }
 }
 
-/// Moves slots that were not dealt out back to where they came from.
-pub(crate) fn move_back(slots: &mut [Slot], mut out: Vec<Option<Slot>>, deal: &Deal)
-    requires near { (vec_len out ≤ length slots.old) × (length slots.old ≡ vec_len deal.now.slots.value) }
-    requires out { out.items ≡ map Some (take (vec_len out) deal.now.slots.value.items) }
-    requires others { AreSameFrom (vec_len out) deal.now.slots.value.items slots.old }
-    ensures { slots.new ≡ deal.now.slots.value.items }
+/// Moves slots that no table took back to where they came from.
+pub(crate) fn move_back(slots: &mut [Slot], mut out: Vec<Option<Slot>>, key: &TableKey)
+    requires near { (vec_len out ≤ length slots.old) × (length slots.old ≡ vec_len key.now.slots.value) }
+    requires out { out.items ≡ map Some (take (vec_len out) key.now.slots.value.items) }
+    requires others { AreSameFrom (vec_len out) key.now.slots.value.items slots.old }
+    ensures { slots.new ≡ key.now.slots.value.items }
 {
     while let Some(slot) = out.pop() {
         let Some(slot) = slot else { unreachable!() };

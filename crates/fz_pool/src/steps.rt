@@ -1,21 +1,21 @@
 //! The three calls that a worker makes, each in turn, until no tile is left.
 ghost use Rattle.std.specs.Prelude.{◌≡◌, ℕ, ◌+◌, ◌<◌, ◌≤◌, IfSome, IfNone};
-ghost use Rattle.fz_pool.specs.Hands.{IsIdle, HoldsStart, HoldsResult, HasEnded, IsSame};
+ghost use Rattle.fz_pool.specs.Hands.{IsIdle, HoldsStart, HoldsResult, HasEnded, IsSame, IsSeatOf};
 
 use crate::board::{Board, Hand};
 use crate::code::code_slot;
-use crate::plays::{Draws, Homes};
+use crate::step_facts::{DrawFact, HomeFact};
 
-/// Draws the next tile. The hand then holds the tile's slot with its start. None comes exactly where
+/// DrawFact the next tile. The hand then holds the tile's slot with its start. None comes exactly where
 /// all tiles were drawn already.
 pub fn draw(board: &Board, hand: &mut Hand) -> Option<u32>
-    requires seat { (hand.old.table_id ≡ board.now.shared.table_id) × (board.now.shared.table_id.words ≡ 1) }
+    requires seat { IsSeatOf board.now.shared.table_id hand.old }
     requires idle { IsIdle hand.old }
     ensures same { IsSame hand.old hand.new }
     ensures some { IfSome result (λ i. HoldsStart hand.new i × (i < board.now.shared.table_id.slots) × (hand.old.me.0.seen ≤ i) × (hand.new.me.0.seen ≡ i + 1)) }
     ensures none { IfNone result (HasEnded hand.new × (board.now.shared.table_id.slots < hand.new.me.0.seen)) }
 {
-    let ticket = board.shared.fetch_add::<Draws>(hand, 0, 1);
+    let ticket = board.shared.fetch_add::<DrawFact>(hand, 0, 1);
     if ticket < board.slot_count() as u64 {
         Some(ticket as u32)
     } else {
@@ -26,7 +26,7 @@ pub fn draw(board: &Board, hand: &mut Hand) -> Option<u32>
 /// Moves the slot that the hand holds out, encodes or decodes its tile, and moves it back. The hand then
 /// holds it with its result.
 pub fn work(board: &Board, hand: &mut Hand, i: u32, encode: bool)
-    requires seat { (hand.old.table_id ≡ board.now.shared.table_id) × (board.now.shared.table_id.words ≡ 1) }
+    requires seat { IsSeatOf board.now.shared.table_id hand.old }
     requires start { HoldsStart hand.old i }
     requires encode { encode ≡ hand.old.me.0.encode }
     ensures same { IsSame hand.old hand.new }
@@ -41,11 +41,11 @@ pub fn work(board: &Board, hand: &mut Hand, i: u32, encode: bool)
 
 /// Gives the slot that the hand holds home.
 pub fn home(board: &Board, hand: &mut Hand)
-    requires seat { (hand.old.table_id ≡ board.now.shared.table_id) × (board.now.shared.table_id.words ≡ 1) }
+    requires seat { IsSeatOf board.now.shared.table_id hand.old }
     requires done { (i : ℕ) × HoldsResult hand.old i }
     ensures same { IsSame hand.old hand.new }
     ensures seen { hand.new.me.0.seen ≡ hand.old.me.0.seen }
     ensures idle { IsIdle hand.new }
 {
-    board.shared.load::<Homes>(hand, 0);
+    board.shared.load::<HomeFact>(hand, 0);
 }

@@ -1,8 +1,8 @@
 //! What no clause says: that workers run side by side, what the gate is told, and worked values.
-ghost use Rattle.std.specs.Prelude.{◌≡◌, ◌≢◌, ℕ, ◌*◌, ◌<◌, ◌≤◌, length, pos, replicate, slice_index_or, IfOk};
+ghost use Rattle.std.specs.Prelude.{◌≡◌, ℕ, ◌+◌, ◌*◌, ◌^◌, ◌<◌, ◌≤◌, length, pos, replicate, slice_index_or, IfOk};
 ghost use Rattle.fz_pool.specs.declared.slot.Slot.{Slot};
 ghost use Rattle.fz_pool.specs.Slots.{IsForEncoding, IsForDecoding};
-ghost use Rattle.fz_pool.specs.Window.{IsFilled, Pool, slot_size, slot_sizes};
+ghost use Rattle.fz_pool.specs.Window.{IsFilled, IsPut, Pool, slot_size, slot_sizes};
 ghost use Rattle.fz_pool.specs.Calls.{AreForEncoding, AreForDecoding};
 
 use crate::{Job, Slot, Window, decode_window, encode_window};
@@ -13,13 +13,13 @@ use std::process::Abort;
 use std::sync::atomic::{AtomicU64, Ordering};
 use std::test::Fail;
 
-// A job on one pixel of 16 bits, with a stored record of so many bytes.
-fn job_of(tile: u32, len: u32) -> Job
-    ensures { result ≡ record { tile = tile; pixels = 1; codec = Codec.Plain; bitpix = pos 16; place = Place2.Stored; len = len; total = len } }
+// A job on n pixels of 16 bits, with a stored record of so many bytes.
+fn job_of(tile: u32, n: u32, len: u32) -> Job
+    ensures { result ≡ record { tile = tile; pixels = n; codec = Codec.Plain; bitpix = pos 16; place = Place2.Stored; len = len; total = len } }
 {
     Job {
         tile,
-        pixels: 1,
+        pixels: n,
         codec: Codec::Plain,
         bitpix: 16,
         place: Place2::Stored,
@@ -34,7 +34,7 @@ fn set_tile(slot: &mut Slot, tile: u32, value: u8)
     ensures ready { IsForEncoding slot.new }
     ensures size { slot_size slot.new ≡ (2, 72) }
 {
-    slot.job = job_of(tile, 0);
+    slot.job = job_of(tile, 1, 0);
     set_first(slot.numbers.as_mut_slice(), value);
 }
 
@@ -45,16 +45,33 @@ fn set_first(numbers: &mut [i32], value: u8)
     numbers[0] = i32::from(value);
 }
 
-// The slot gets a stored record, of which so many bytes are said to count.
-fn set_record(slot: &mut Slot, tile: u32, value: u8, len: u32)
-    requires size { slot_size slot.old ≡ (2, 72) }
-    requires len { len ≤ 72 }
+// The slot gets the stored record of n pixels, of which so many bytes are said to count.
+fn set_record(slot: &mut Slot, tile: u32, value: u8, n: u32, len: u32)
+    requires some { (1 ≤ n) × (n ≤ 2 ^ 26) }
+    requires size { slot_size slot.old ≡ (2 * n, 8 * n + 64) }
+    requires len { len ≤ 8 * n + 64 }
     ensures ready { IsForDecoding slot.new }
-    ensures size { slot_size slot.new ≡ (2, 72) }
+    ensures size { slot_size slot.new ≡ (2 * n, 8 * n + 64) }
 {
-    slot.job = job_of(tile, len);
+    slot.job = job_of(tile, n, len);
     slot.code.as_mut_slice()[1] = value;
     slot.numbers.as_mut_slice()[0] = 0;
+}
+
+// A filled window for tiles of n pixels.
+fn filled_for(alloc: Global, workers: u32, n: u32) -> Result<Window, AllocError>
+    requires { (1 ≤ workers) × (workers ≤ 64) }
+    ensures workers { IfOk result (λ w. w.workers ≡ workers) }
+    ensures sizes { IfOk result (λ w. slot_sizes w.slots ≡ replicate (2 * workers) (2 * n, 8 * n + 64)) }
+{
+    let mut meter = Meter::new(alloc, 1 << 21);
+    let Ok(mut window) = Window::new(alloc, workers) else {
+        return Err(AllocError);
+    };
+    match window.fill(&mut meter, n) {
+        Ok(()) => Ok(window),
+        Err(_) => Err(AllocError),
+    }
 }
 
 // A filled window for tiles of one pixel.
@@ -63,38 +80,26 @@ fn filled(alloc: Global, workers: u32) -> Result<Window, AllocError>
     ensures workers { IfOk result (λ w. w.workers ≡ workers) }
     ensures sizes { IfOk result (λ w. slot_sizes w.slots ≡ replicate (2 * workers) (2, 72)) }
 {
-    let mut meter = Meter::new(alloc, 10_240);
-    let Ok(mut window) = Window::new(alloc, workers) else {
-        return Err(AllocError);
-    };
-    match window.fill(&mut meter, 1) {
-        Ok(()) => Ok(window),
-        Err(_) => Err(AllocError),
-    }
+    filled_for(alloc, workers, 1)
 }
 
 // The slot i gets the tile 10 + i, with the value i.
 fn put_tile(window: &mut Window, i: u32)
     requires near { (i < 128) × (i < 2 * window.old.workers) }
     requires sizes { slot_sizes window.old.slots ≡ replicate (2 * window.old.workers) (2, 72) }
-    ensures workers { window.new.workers ≡ window.old.workers }
-    ensures sizes { slot_sizes window.new.slots ≡ slot_sizes window.old.slots }
-    ensures here { (d : Slot) → IsForEncoding (slice_index_or window.new.slots i d) }
-    ensures others { (k : ℕ) (d : Slot) → k ≢ i → slice_index_or window.new.slots k d ≡ slice_index_or window.old.slots k d }
+    ensures { (x : Slot) × IsPut window.old i x window.new × IsForEncoding x }
 {
     set_tile(window.slot_mut(i), 10 + i, i as u8);
 }
 
 // The slot i gets the record of that tile, of which so many bytes are said to count.
-fn put_record(window: &mut Window, i: u32, len: u32)
-    requires near { (i < 128) × (i < 2 * window.old.workers) × (len ≤ 72) }
-    requires sizes { slot_sizes window.old.slots ≡ replicate (2 * window.old.workers) (2, 72) }
-    ensures workers { window.new.workers ≡ window.old.workers }
-    ensures sizes { slot_sizes window.new.slots ≡ slot_sizes window.old.slots }
-    ensures here { (d : Slot) → IsForDecoding (slice_index_or window.new.slots i d) }
-    ensures others { (k : ℕ) (d : Slot) → k ≢ i → slice_index_or window.new.slots k d ≡ slice_index_or window.old.slots k d }
+fn put_record(window: &mut Window, i: u32, n: u32, len: u32)
+    requires some { (1 ≤ n) × (n ≤ 2 ^ 26) }
+    requires near { (i < 128) × (i < 2 * window.old.workers) × (len ≤ 8 * n + 64) }
+    requires sizes { slot_sizes window.old.slots ≡ replicate (2 * window.old.workers) (2 * n, 8 * n + 64) }
+    ensures { (x : Slot) × IsPut window.old i x window.new × IsForDecoding x }
 {
-    set_record(window.slot_mut(i), 10 + i, i as u8, len);
+    set_record(window.slot_mut(i), 10 + i, i as u8, n, len);
 }
 
 // The first slots get the tiles 10, 11 and so on, with the values 0, 1 and so on.
@@ -110,8 +115,22 @@ fn put_tiles(window: &mut Window, count: u32)
     }
 }
 
-// The first slots get the records of these tiles, and 3 bytes in place of 2 are said to count at two of
-// them.
+// The first slots get the records of tiles of n pixels, and a byte too many is said to count at two of them.
+fn put_records_of(window: &mut Window, count: u32, n: u32, faulty: [u32; 2])
+    requires some { (1 ≤ n) × (n ≤ 2 ^ 26) }
+    requires near { (count ≤ 128) × (count ≤ 2 * window.old.workers) }
+    requires sizes { slot_sizes window.old.slots ≡ replicate (2 * window.old.workers) (2 * n, 8 * n + 64) }
+    ensures workers { window.new.workers ≡ window.old.workers }
+    ensures sizes { slot_sizes window.new.slots ≡ slot_sizes window.old.slots }
+    ensures ready { AreForDecoding count window.new.slots }
+{
+    for i in 0..count {
+        let more = u32::from(i == faulty[0] || i == faulty[1]);
+        put_record(window, i, n, 2 * n + more);
+    }
+}
+
+// The same for tiles of one pixel.
 fn put_records(window: &mut Window, count: u32, faulty: [u32; 2])
     requires near { (count ≤ 128) × (count ≤ 2 * window.old.workers) }
     requires sizes { slot_sizes window.old.slots ≡ replicate (2 * window.old.workers) (2, 72) }
@@ -119,14 +138,7 @@ fn put_records(window: &mut Window, count: u32, faulty: [u32; 2])
     ensures sizes { slot_sizes window.new.slots ≡ slot_sizes window.old.slots }
     ensures ready { AreForDecoding count window.new.slots }
 {
-    for i in 0..count {
-        let len = if i == faulty[0] || i == faulty[1] {
-            3
-        } else {
-            2
-        };
-        put_record(window, i, len);
-    }
+    put_records_of(window, count, 1, faulty);
 }
 
 // Each of the first slots is as `put_tiles` leaves it in a window that was just filled.
@@ -136,7 +148,7 @@ fn expect_tiles(rt: &impl Abort, window: &Window, count: u32)
 {
     for i in 0..count {
         let slot = window.slot(i);
-        assert_eq!(rt; slot.job, job_of(10 + i, 0));
+        assert_eq!(rt; slot.job, job_of(10 + i, 1, 0));
         assert_eq!(rt; slot.numbers.as_slice(), [i as i32, 0].as_slice());
         assert_eq!(rt; slot.code.as_slice(), [0; 72].as_slice());
         assert_eq!(rt; slot.fault, None);
@@ -150,7 +162,7 @@ fn expect_records(rt: &impl Abort, window: &Window, count: u32)
 {
     for i in 0..count {
         let slot = window.slot(i);
-        assert_eq!(rt; slot.job, job_of(10 + i, 2));
+        assert_eq!(rt; slot.job, job_of(10 + i, 1, 2));
         assert_eq!(rt; slot.numbers.as_slice(), [0, 0].as_slice());
         assert!(rt; slot.code.len() == 72);
         assert_eq!(rt; &slot.code.as_slice()[..2], [0, i as u8].as_slice());
@@ -222,13 +234,52 @@ impl Gate for Holding {
     }
 }
 
-// A call of worker 0 counts 1, one of worker 1 counts 256, and there is no other worker.
+// A call of worker 0 counts 1, one of worker 1 counts 256, one of worker 2 counts 65,536, and there is
+// no other worker.
 fn one_call(worker: u32) -> u64 {
     match worker {
         0 => 1,
         1 => 256,
-        _ => 65_536,
+        2 => 65_536,
+        _ => 16_777_216,
     }
+}
+
+/// Holds each call until three have come, and counts the calls of each worker.
+#[derive(Drop)]
+struct Meeting {
+    came: AtomicU64,
+    met: AtomicU64,
+    workers: AtomicU64,
+}
+
+impl Meeting {
+    fn new() -> Meeting {
+        Meeting {
+            came: AtomicU64::new(0),
+            met: AtomicU64::new(0),
+            workers: AtomicU64::new(0),
+        }
+    }
+}
+
+impl Gate for Meeting {
+    fn pass(&self, worker: u32, _tile: u32) {
+        self.workers.fetch_add(one_call(worker), Ordering::SeqCst);
+        self.came.fetch_add(1, Ordering::SeqCst);
+        for _ in 0..1_000_000_000u64 {
+            if self.came.load(Ordering::SeqCst) == 3 {
+                self.met.fetch_add(1, Ordering::SeqCst);
+                return;
+            }
+        }
+    }
+}
+
+// Three calls were held at once, one of each of the workers 0, 1 and 2.
+fn expect_met(rt: &impl Abort, gate: &Meeting) {
+    assert_eq!(rt; gate.met.load(Ordering::SeqCst), 3);
+    assert_eq!(rt; gate.workers.load(Ordering::SeqCst), 0x10101);
 }
 
 // The three calls came while the one for tile 10 was held; the tiles 10 to 13 were told; and one worker
@@ -240,8 +291,8 @@ fn expect_came(rt: &impl Abort, gate: &Holding) {
     assert!(rt; calls == 0x301 || calls == 0x103);
 }
 
-// It fails a body that codes all slots on one thread (`one_thread`): with 1 in place of `workers` in the
-// call of `for_each_mut` each proof still passes, and this test does not.
+// It fails a body that codes all slots on one thread (`one_thread`): with `work_at_once` on one thread in
+// place of `work_on_demand` in `run` each proof still passes, and this test does not.
 #[test]
 fn gate_holds_the_first_tile(rt: HostRuntime) -> Result<(), Fail> {
     let mut window = filled(rt.alloc(), 2)?;
@@ -255,6 +306,33 @@ fn gate_holds_the_first_tile(rt: HostRuntime) -> Result<(), Fail> {
     assert_eq!(rt; decode_window(&rt, &mut window, 4, &gate), Ok(None));
     expect_came(&rt, &gate);
     expect_numbers(&rt, &window, 4);
+    Ok(())
+}
+
+// The same for tiles so large that all threads start at once.
+#[test]
+fn gate_holds_the_first_large_tile(rt: HostRuntime) -> Result<(), Fail> {
+    let mut window = filled_for(rt.alloc(), 2, 16_384)?;
+    put_records_of(&mut window, 4, 16_384, [9, 9]);
+    let gate = Holding::new();
+    assert_eq!(rt; decode_window(&rt, &mut window, 4, &gate), Ok(None));
+    expect_came(&rt, &gate);
+    Ok(())
+}
+
+#[test]
+fn three_calls_are_held_at_once(rt: HostRuntime) -> Result<(), Fail> {
+    let mut window = filled(rt.alloc(), 3)?;
+    put_tiles(&mut window, 3);
+    let gate = Meeting::new();
+    assert_eq!(rt; encode_window(&rt, &mut window, 3, &gate), Ok(()));
+    expect_met(&rt, &gate);
+    expect_bytes(&rt, &window, 3);
+    put_records(&mut window, 3, [9, 9]);
+    let gate = Meeting::new();
+    assert_eq!(rt; decode_window(&rt, &mut window, 3, &gate), Ok(None));
+    expect_met(&rt, &gate);
+    expect_numbers(&rt, &window, 3);
     Ok(())
 }
 

@@ -1,17 +1,18 @@
 //! The workers of one call: hands are split off the first seat, each works until no tile is left, and all
 //! are joined again.
-ghost use Rattle.std.specs.Prelude.{◌≡◌, ◌+◌, ◌<◌, ◌≤◌, Bool, true, false, [], All, vec_len, vec_capacity};
+ghost use Rattle.std.specs.Prelude.{◌≡◌, ◌+◌, ◌<◌, ◌≤◌, Bool, true, false, [], All, length, vec_len, vec_capacity};
+ghost use Rattle.std.specs.Thread.{IsSync};
 ghost use mathlib.Core.Option.{some};
 ghost use lib.ListN.{get_elem?};
 ghost use Rattle.fz_pool.specs.declared.slot.Slot.{Slot};
-ghost use Rattle.fz_pool.specs.Hands.{IsIdle, HoldsStart, HasEnded, IsSame, IsSeated, IsBack, Leads};
+ghost use Rattle.fz_pool.specs.Hands.{IsIdle, HoldsStart, HasEnded, IsSame, IsSeatOf, IsSeated, IsBack, Leads};
 
 use crate::board::{Board, Hand};
-use crate::plays::{Fetches, Sends};
+use crate::step_facts::{JoinFact, SplitFact};
 use crate::steps::{draw, home, work};
 use fz_base::Gate;
 use std::thread;
-use std::thread::Threads;
+use std::thread::{Threads, available_parallelism, join_mut};
 
 // The tile's number in its image.
 fn tile_number(board: &Board, hand: &mut Hand, i: u32) -> u32
@@ -28,7 +29,7 @@ fn tile_number(board: &Board, hand: &mut Hand, i: u32) -> u32
 
 // One worker draws tiles until none is left.
 fn code_tiles<G: Gate>(board: &Board, hand: &mut Hand, gate: &G, worker: u32, encode: bool)
-    requires seat { (hand.old.table_id ≡ board.now.shared.table_id) × (board.now.shared.table_id.words ≡ 1) }
+    requires seat { IsSeatOf board.now.shared.table_id hand.old }
     requires idle { IsIdle hand.old }
     requires encode { encode ≡ hand.old.me.0.encode }
     ensures same { IsSame hand.old hand.new }
@@ -52,7 +53,7 @@ fn split_hands(board: &Board, first: &mut Hand, hands: &mut Vec<Hand>, workers: 
     ensures count { vec_len hands.new ≡ workers }
 {
     for _i in 0..workers {
-        hands.push_reserved(board.shared.split_seat::<Sends>(first));
+        hands.push_reserved(board.shared.split_seat::<SplitFact>(first));
     }
 }
 
@@ -65,11 +66,113 @@ fn join_hands(board: &Board, first: &mut Hand, mut hands: Vec<Hand>, encode: boo
     ensures { Leads board.now.shared.table_id encode 0 0 true first.new }
 {
     while let Some(hand) = hands.pop() {
-        board.shared.join_seat::<Fetches>(first, hand);
+        board.shared.join_seat::<JoinFact>(first, hand);
     }
 }
 
-/// Has all tiles drawn and worked on by so many workers.
+// Has each hand work in its turn, on this thread and on others that start at once.
+fn work_at_once<R: Threads + Sync, G: Gate>(
+    rt: &R,
+    board: &Board,
+    gate: &G,
+    encode: bool,
+    worker: usize,
+    threads: usize,
+    hands: &mut [Hand],
+)
+    requires table { board.now.shared.table_id.words ≡ 1 }
+    requires workers { worker + length hands.old ≤ 64 }
+    requires threads { 0 < threads }
+    requires seated { All (IsSeated board.now.shared.table_id encode) hands.old }
+    ensures { All (IsBack board.now.shared.table_id) hands.new }
+{
+    thread::for_each_mut(
+        rt,
+        hands,
+        threads,
+        &|i: usize, hand: &mut Hand|
+            requires { (worker + i < 64) × (board.now.shared.table_id.words ≡ 1) × IsSeated board.now.shared.table_id encode hand.old }
+            ensures { IsBack board.entry.now.shared.table_id hand.new }
+        { code_tiles(board, hand, gate, (worker + i) as u32, encode) },
+    );
+}
+
+// Whether the start of one more thread pays beside so many. It does while none of them has come to its
+// second tile, so that tiles which are held, or are large, hold up no other. Else it does while more than
+// three times as many tiles are left as were drawn: a start takes about as long as those did so far.
+fn one_more_pays(board: &Board, threads: usize) -> bool
+    requires { board.now.shared.table_id.words ≡ 1 }
+{
+    let drawn = board.shared.peek(0);
+    let left = (board.slot_count() as u64).saturating_sub(drawn);
+    left >= 2 && (drawn <= threads as u64 || left / 3 > drawn)
+}
+
+// Has each hand work. A new thread does the same with all but the first hand, where one more pays.
+#[cycle(on_demand)]
+fn work_on_demand<R: Threads + Sync, G: Gate>(
+    rt: &R,
+    board: &Board,
+    gate: &G,
+    encode: bool,
+    worker: usize,
+    hands: &mut [Hand],
+)
+    requires table { board.now.shared.table_id.words ≡ 1 }
+    requires workers { worker + length hands.old ≤ 64 }
+    requires seated { All (IsSeated board.now.shared.table_id encode) hands.old }
+    ensures { All (IsBack board.now.shared.table_id) hands.new }
+{
+    if hands.len() < 2 || !one_more_pays(board, worker) {
+        work_at_once(rt, board, gate, encode, worker, 1, hands);
+        return;
+    }
+    let (own, others) = hands.split_at_mut(1);
+    work_beside(rt, board, gate, encode, worker, own, others);
+}
+
+// Starts a thread for the other hands, and then has the own hand work on this one.
+#[cycle(on_demand)]
+fn work_beside<R: Threads + Sync, G: Gate>(
+    rt: &R,
+    board: &Board,
+    gate: &G,
+    encode: bool,
+    worker: usize,
+    own: &mut [Hand],
+    others: &mut [Hand],
+)
+    requires table { board.now.shared.table_id.words ≡ 1 }
+    requires one { length own.old ≡ 1 }
+    requires workers { worker + 1 + length others.old ≤ 64 }
+    requires own { All (IsSeated board.now.shared.table_id encode) own.old }
+    requires others { All (IsSeated board.now.shared.table_id encode) others.old }
+    ensures own { All (IsBack board.now.shared.table_id) own.new }
+    ensures others { All (IsBack board.now.shared.table_id) others.new }
+{
+    let mut there = ||
+        requires { IsSync R.row × IsSync G.row × (board.now.shared.table_id.words ≡ 1) × (worker + 1 + length others.now ≤ 64) × All (IsSeated board.now.shared.table_id encode) others.now }
+        ensures { All (IsBack board.entry.now.shared.table_id) others.exit.now }
+    { work_on_demand(rt, board, gate, encode, worker + 1, others) };
+    let mut here = ||
+        requires { IsSync R.row × IsSync G.row × (board.now.shared.table_id.words ≡ 1) × (worker + length own.now ≤ 64) × All (IsSeated board.now.shared.table_id encode) own.now }
+        ensures { All (IsBack board.entry.now.shared.table_id) own.exit.now }
+    { work_at_once(rt, board, gate, encode, worker, 1, own) };
+    join_mut(rt, &mut there, &mut here);
+}
+
+// As many threads as there are processors, but two or more, so that a tile that is held holds up no other.
+fn processors(rt: &impl Threads) -> usize
+    ensures { 2 ≤ result }
+{
+    match available_parallelism(rt) {
+        Ok(processors) => processors.get().max(2),
+        Err(_) => 2,
+    }
+}
+
+/// Has all tiles drawn and worked on by so many workers. For large tiles the threads start at once, else
+/// one behind the other.
 pub(crate) fn run<R: Threads + Sync, G: Gate>(
     rt: &R,
     board: &Board,
@@ -78,6 +181,7 @@ pub(crate) fn run<R: Threads + Sync, G: Gate>(
     workers: usize,
     gate: &G,
     encode: bool,
+    large: bool,
 )
     requires table { board.now.shared.table_id.words ≡ 1 }
     requires workers { (0 < workers) × (workers ≤ 64) }
@@ -87,14 +191,11 @@ pub(crate) fn run<R: Threads + Sync, G: Gate>(
     ensures { Leads board.now.shared.table_id encode 0 0 true first.new }
 {
     split_hands(board, first, &mut hands, workers, encode);
-    thread::for_each_mut(
-        rt,
-        hands.as_mut_slice(),
-        workers,
-        &|worker: usize, hand: &mut Hand|
-            requires { (worker < 64) × (board.now.shared.table_id.words ≡ 1) × IsSeated board.now.shared.table_id encode hand.old }
-            ensures { IsBack board.entry.now.shared.table_id hand.new }
-        { code_tiles(board, hand, gate, worker as u32, encode) },
-    );
+    if large {
+        let threads = processors(rt).min(board.slot_count()).max(1);
+        work_at_once(rt, board, gate, encode, 0, threads, hands.as_mut_slice());
+    } else {
+        work_on_demand(rt, board, gate, encode, 0, hands.as_mut_slice());
+    }
     join_hands(board, first, hands, encode);
 }

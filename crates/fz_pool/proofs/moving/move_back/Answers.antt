@@ -15,14 +15,14 @@ not_none y e = cc
 
 pub unreachable-requires : goal.unreachable-requires
 unreachable-requires c = let e : Option Slot = None in let n : ℕ = vec_len c.loop-slot.out in let any : 0 < n = c.in-Some.ensures.variant.0 refl in
-    let was = c.args.deal.now.slots.value in let len = was.ok.0 in let near = c.loop-slot.invariant.0 in let all = c.requires.near.1 in let same = c.loop-slot.auto.slots in
+    let was = c.args.key.now.slots.value in let len = was.ok.0 in let near = c.loop-slot.invariant.0 in let all = c.requires.near.1 in let same = c.loop-slot.auto.slots in
     let v = back_value was.items n c.loop-slot.out.items e any (omega arith) c.loop-slot.invariant.1 in
     let is : Some c.in-Some.slot ≡ Some (Some v.0) = sym c.in-Some.is ∙ (c.pop.ensures.value e any ∙ ap (λ (o : Option Slot). Some o) v.1) in
     not_none v.0 (sym c.in_default-slot.is ∙ inner c.in-Some.slot (Some v.0) is)
 
 pub loop-slot-preserved : goal.loop-slot-preserved
 loop-slot-preserved c = let e : Option Slot = None in let n : ℕ = vec_len c.loop-slot.out in let any : 0 < n = c.in-Some.ensures.variant.0 refl in
-    let was = c.args.deal.now.slots.value in let len = was.ok.0 in let near = c.loop-slot.invariant.0 in let all = c.requires.near.1 in let same = c.loop-slot.auto.slots in
+    let was = c.args.key.now.slots.value in let len = was.ok.0 in let near = c.loop-slot.invariant.0 in let all = c.requires.near.1 in let same = c.loop-slot.auto.slots in
     let v = back_value was.items n c.loop-slot.out.items e any (omega arith) c.loop-slot.invariant.1 in
     let is : Some c.in-Some.slot ≡ Some (Some v.0) = sym c.in-Some.is ∙ (c.pop.ensures.value e any ∙ ap (λ (o : Option Slot). Some o) v.1) in
     let y : Slot = c.in-Some-slot.slot in
@@ -38,6 +38,6 @@ loop-slot-preserved c = let e : Option Slot = None in let n : ℕ = vec_len c.lo
     )
 
 pub returns : goal.returns
-returns c = let i = c.loop-slot.invariant in let was = c.args.deal.now.slots.value in let len = was.ok.0 in let all = c.requires.near.1 in let same = c.loop-slot.auto.slots in
+returns c = let i = c.loop-slot.invariant in let was = c.args.key.now.slots.value in let len = was.ok.0 in let all = c.requires.near.1 in let same = c.loop-slot.auto.slots in
     let none_left : vec_len c.loop-slot.out ≡ 0 = c.in_default.ensures.cases.0 in
     all_back was.items c.loop-slot.slots (omega arith) (subst (λ (k : ℕ). AreSameFrom k was.items c.loop-slot.slots) none_left i.2)

@@ -1,8 +1,7 @@
-use Rattle.std.proofs.Common.{◌∙◌}
-use Rattle.fz_pool.specs.Slots.{IsForEncoding}
-use Rattle.fz_pool.proofs.SizeLemmas.{more_ready}
+use Rattle.std.proofs.Common.{true, ◌∙◌}
+use Rattle.fz_pool.proofs.LawLemmas.{next_ready}
 use Rattle.fz_pool.proofs.tests.put_tiles.Goals as goal
 
 pub loop-i-preserved : goal.loop-i-preserved
-loop-i-preserved c = let before = c.loop-i.invariant in let now = c.put_tile.ensures in
-    (now.workers ∙ before.0, now.sizes ∙ before.1, more_ready IsForEncoding c.loop-i.window.slots c.put_tile.new.window.slots c.loop-i.i now.here now.others before.2)
+loop-i-preserved c = let before = c.loop-i.invariant in let now = c.put_tile.ensures in let put = now.1 in
+    (put.workers ∙ before.0, put.sizes ∙ before.1, next_ready true c.loop-i.i c.loop-i.window c.put_tile.new.window now.0 before.2 put now.2)
