@@ -1,0 +1,16 @@
+-- A file that ended before the HDU that a part is cut from.
+use Rattle.std.proofs.Common.{◌≡◌, ℕ, List, IfSome, sym, ap, ◌∙◌}
+use Rattle.std.specs.Prelude.{Option, Some, None, Ok, Err}
+use Rattle.fz_base.specs.Source.{HoldsLength}
+use Rattle.fz_base.specs.declared.fault.Fault.{Fault}
+use Rattle.fz_grid.specs.declared.region.Region.{Region}
+use Rattle.fz_head.specs.JobChecks.{missing_hdu}
+use Rattle.fz_survey.specs.Surveys.{by_stop, cut_surveyed, surveyed, unless_missing}
+use Rattle.fz_survey.specs.declared.checks.JobChecks.TheVariants.{Cut}
+use Rattle.fz_survey.specs.declared.survey.Survey.{Survey}
+
+pub is_missing : (held : Option (List ℕ)) (len : ℕ) (wanted : Option ℕ) (region : Region) (s : Survey) (x : Fault) → HoldsLength held len → IfSome held (λ g. surveyed (Cut wanted region) g ≡ Ok s) →
+    s.stopped ≡ None → x ≡ missing_hdu wanted s.hdus len → IfSome held (λ g. cut_surveyed wanted region g ≡ Err x)
+is_missing None len wanted region s x told is none fault = tt
+is_missing (Some g) len wanted region s x told is none fault =
+    ap (unless_missing wanted g) is ∙ ap (by_stop wanted g s) none ∙ ap (λ n. Err (missing_hdu wanted s.hdus n)) told ∙ ap Err (sym fault)

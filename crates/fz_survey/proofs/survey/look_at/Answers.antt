@@ -1,0 +1,63 @@
+-- The header of the HDU, and then what the job says of it.
+use Rattle.std.proofs.Common.{ℕ, ◌≤◌, max, List, Option, Result, IfSome, sym, ap, subst}
+use Rattle.fz_base.specs.Meter.{Gauge}
+use Rattle.fz_base.specs.Stop.{IsDefined}
+use Rattle.fz_base.specs.Takings.{highest}
+use Rattle.fz_base.specs.declared.failure.Stop.{Stop}
+use Rattle.fz_block.specs.Checks.{header_blocks_of}
+use Rattle.fz_block.specs.Takings.{header_taking}
+use Rattle.fz_survey.specs.Looks.{hdu_look, looked}
+use Rattle.fz_survey.specs.declared.look.Look.{Look}
+use Rattle.fz_survey.proofs.Here.{first_axes}
+use Rattle.fz_survey.proofs.Looked.{answered_look, looked_after, reading_tells, header_places, both_places, after_by_number}
+use Rattle.fz_survey.proofs.survey.look_at.Goals as goal
+
+pub returns-in_err-read-clause-touched : goal.returns-in_err-read-clause-touched
+returns-in_err-read-clause-touched g c =
+    header_places (g.S.Source.held c.args.source.now) c.args.checks.now c.args.hdu c.args.start (g.S.Source.ranges c.args.source.now) (g.S.Source.ranges c.header_at.new.source) c.header_at.ensures.touched
+
+pub check_hdu-answer-requires-clause-after : goal.check_hdu-answer-requires-clause-after
+check_hdu-answer-requires-clause-after g c =
+    after_by_number (g.S.Source.held c.args.source.now) (g.S.Source.held c.header_at.new.source) c.in_ok-read.read.facts c.args.after_empty c.args.hdu c.in_ok-read.ensures.facts.1 c.header_at.ensures.held c.requires.after
+
+pub returns-in-Ok-clause-exact : goal.returns-in-Ok-clause-exact
+returns-in-Ok-clause-exact g c =
+    let held : Option (List ℕ) = g.S.Source.held c.args.source.now in
+    let says : IfSome held (λ f. IsDefined (hdu_look c.args.checks.now f c.in_ok-read.read.facts) c.check_hdu-answer.result) =
+    subst (λ (h : Option (List ℕ)). IfSome h (λ f. IsDefined (hdu_look c.args.checks.now f c.in_ok-read.read.facts) c.check_hdu-answer.result)) c.header_at.ensures.held c.check_hdu-answer.ensures.exact in
+    subst (λ (a : Result Look Stop). IfSome held (λ f. IsDefined (looked c.args.checks.now c.args.hdu c.args.start f) (answered_look c.in_ok-read.read.facts a))) c.in-Ok.is
+    (looked_after held c.args.checks.now c.args.hdu c.args.start c.in_ok-read.read.facts c.check_hdu-answer.result c.in_ok-read.ensures.exact says)
+
+pub returns-in-Err-clause-exact : goal.returns-in-Err-clause-exact
+returns-in-Err-clause-exact g c =
+    let held : Option (List ℕ) = g.S.Source.held c.args.source.now in
+    let says : IfSome held (λ f. IsDefined (hdu_look c.args.checks.now f c.in_ok-read.read.facts) c.check_hdu-answer.result) =
+    subst (λ (h : Option (List ℕ)). IfSome h (λ f. IsDefined (hdu_look c.args.checks.now f c.in_ok-read.read.facts) c.check_hdu-answer.result)) c.header_at.ensures.held c.check_hdu-answer.ensures.exact in
+    subst (λ (a : Result Look Stop). IfSome held (λ f. IsDefined (looked c.args.checks.now c.args.hdu c.args.start f) (answered_look c.in_ok-read.read.facts a))) c.in-Err.is
+    (looked_after held c.args.checks.now c.args.hdu c.args.start c.in_ok-read.read.facts c.check_hdu-answer.result c.in_ok-read.ensures.exact says)
+
+pub returns-in-Ok-clause-peak : goal.returns-in-Ok-clause-peak
+returns-in-Ok-clause-peak g c =
+    subst (λ (n : ℕ). IfSome (g.S.Source.held c.args.source.now) (λ f. n ≤ max c.args.meter.now.peak (highest (header_taking c.args.meter.now.live (header_blocks_of c.args.hdu c.args.start f)))))
+    (sym (ap (λ (m : Gauge). m.peak) c.give_bytes.ensures)) c.header_at.ensures.peak
+
+pub returns-in-Ok-clause-touched : goal.returns-in-Ok-clause-touched
+returns-in-Ok-clause-touched g c =
+    both_places (g.S.Source.held c.args.source.now) c.args.checks.now c.args.hdu c.args.start c.in_ok-read.read.facts
+    (g.S.Source.ranges c.args.source.now) (g.S.Source.ranges c.header_at.new.source) (g.S.Source.ranges c.check_hdu-answer.new.source)
+    c.in_ok-read.ensures.exact c.header_at.ensures.touched c.check_hdu-answer.ensures.log
+
+pub returns-in-Err-clause-touched : goal.returns-in-Err-clause-touched
+returns-in-Err-clause-touched g c =
+    both_places (g.S.Source.held c.args.source.now) c.args.checks.now c.args.hdu c.args.start c.in_ok-read.read.facts
+    (g.S.Source.ranges c.args.source.now) (g.S.Source.ranges c.header_at.new.source) (g.S.Source.ranges c.check_hdu-answer.new.source)
+    c.in_ok-read.ensures.exact c.header_at.ensures.touched c.check_hdu-answer.ensures.log
+
+pub returns-in-Err-clause-first_past : goal.returns-in-Err-clause-first_past
+returns-in-Err-clause-first_past g c =
+    reading_tells (g.S.Source.held c.args.source.now) c.args.meter.now.limit (λ f. header_taking c.args.meter.now.live (header_blocks_of c.args.hdu c.args.start f))
+    (g.S.Source.tally c.header_at.new.source) (g.S.Source.tally c.check_hdu-answer.new.source) _ c.in_ok-read.ensures.first_past c.in-Err.ensures.cause.stop
+
+pub returns-in-Ok-clause-empty : goal.returns-in-Ok-clause-empty
+returns-in-Ok-clause-empty g c =
+    first_axes (g.S.Source.held c.args.source.now) c.args.hdu c.args.start c.in_ok-read.read.bytes c.in_ok-read.read.facts c.in_ok-read.ensures.facts.0 c.in_ok-read.ensures.bytes

@@ -1,0 +1,16 @@
+//! The first look of a job at a file: all checks of headers, and what the job has to know to take its buffers.
+//!
+//! Reading order: `checks`, `look`, `fill`, `survey`, `surveys`.
+#![tactic(auto)]
+
+mod checks;
+mod fill;
+mod look;
+mod survey;
+mod surveys;
+#[cfg(test)]
+mod tests;
+
+pub use checks::JobChecks;
+pub use survey::{Survey, survey_headers};
+pub use surveys::{survey_to_cut, survey_to_pack, survey_to_unpack};

@@ -1,0 +1,179 @@
+//! The walk over the HDUs of a file, with the checks of a job, and what it learns.
+ghost use Rattle.std.specs.Prelude.{◌≡◌, ◌⊎◌, ◌==◌, ◌&&◌, ◌||◌, ◌^◌, ◌<◌, ◌≤◌, max, Some, length as len, IfOk, IfSome};
+ghost use Rattle.fz_base.specs.Source.{LogsOnly};
+ghost use Rattle.fz_base.specs.Stop.{ReadsAndTakes, IsDefined};
+ghost use Rattle.fz_base.specs.Takings.{TellsFirstPast, highest};
+ghost use Rattle.fz_block.specs.Checks.{header_blocks_of};
+ghost use Rattle.fz_block.specs.Hdus.{size_at};
+ghost use Rattle.fz_block.specs.Header.{next_start_of};
+ghost use Rattle.fz_block.specs.Takings.{header_taking};
+ghost use Rattle.fz_survey.specs.Judges.{AreChecks, most_hdus as most_hdus_of};
+ghost use Rattle.fz_survey.specs.Looks.{IsLooked, joined, looked};
+ghost use Rattle.fz_survey.specs.Reads.{IsWithinOne};
+ghost use Rattle.fz_survey.specs.Surveys.{IsSurvey, hdu_places, surveyed, survey_takings, survey_places};
+
+use crate::JobChecks;
+use crate::look::{Looked, check_hdu};
+use fz_base::{Fault, Kind, Meter, Place, Source, Stop};
+use fz_block::{BLOCK_LEN, Header, header_at, next_start};
+
+/// What the first look of a job learns of a file.
+#[derive(Clone, Copy, Debug, PartialEq, Eq)]
+pub struct Survey {
+    /// How many HDUs the job looked at.
+    pub hdus: u32,
+    /// The bytes of the longest header among them.
+    pub header_len: u32,
+    /// The pixels of the largest tile among the HDUs whose tiles the job works on, or 0.
+    pub tile: u32,
+    /// The header of the HDU at which the job stopped, which is the last that it looked at; none where it
+    /// looked at all.
+    pub stopped: Option<Header>,
+}
+
+/// Goes over the HDUs of a file: for each it makes the checks that every job makes, then those of this job,
+/// and then goes to the next one, unless the job stops there. Each header is read into a buffer from the
+/// meter, which goes back before the next one; the block is read into, and has no other use.
+///
+/// Refused: an HDU as `header_at` and then the job refuse it; the file has more HDUs than it may (Limit).
+pub fn survey_headers<S: Source>(
+    source: &mut S,
+    length: u64,
+    meter: &mut Meter,
+    block: &mut [u8],
+    checks: &JobChecks,
+) -> Result<Survey, Stop>
+    requires attached { S.attached source.old ≡ Some length }
+    requires block { len block.old ≡ 2880 }
+    requires checks { AreChecks checks.now }
+    ensures exact { IfSome (S.held source.old) (λ g. IsDefined (surveyed checks.now g) result) }
+    ensures survey { IfOk result (IsSurvey checks.now length) }
+    ensures live { meter.new.live ≡ meter.old.live }
+    ensures limit { meter.new.limit ≡ meter.old.limit }
+    ensures risen { meter.old.peak ≤ meter.new.peak }
+    ensures first_past { IfSome (S.held source.old) (λ g. TellsFirstPast meter.old.limit (survey_takings checks.now meter.old.live g) result) }
+    ensures peak { IfSome (S.held source.old) (λ g. meter.new.peak ≤ max meter.old.peak (highest (survey_takings checks.now meter.old.live g))) }
+    ensures touched { IfSome (S.held source.old) (λ g. LogsOnly (IsWithinOne (survey_places checks.now g)) (S.ranges source.old) (S.ranges source.new)) }
+    ensures held { S.held source.new ≡ S.held source.old }
+    ensures attached { S.attached source.new ≡ S.attached source.old }
+    ensures cause { ReadsAndTakes (S.tally source.old) (S.tally source.new) meter.old.limit result }
+{
+    let mut seen = Survey {
+        hdus: 0,
+        header_len: 0,
+        tile: 0,
+        stopped: None,
+    };
+    let mut start = 0;
+    let mut empty = false;
+    let most = most_hdus(checks);
+    for hdu in 0..most {
+        let after_empty = is_after(hdu, empty);
+        let found = look_at(
+            source,
+            length,
+            hdu,
+            start,
+            meter,
+            block,
+            checks,
+            after_empty,
+        )?;
+        seen = with_hdu(&seen, &found);
+        if is_last(&found, length) {
+            return Ok(seen);
+        }
+        empty = found.header.axes.n == 0;
+        start = next_start(&found.header);
+    }
+    Err(Stop::Refused(Fault {
+        hdu: most,
+        at: Place::Byte(start),
+        kind: Kind::Limit,
+    }))
+}
+
+// Whether this is HDU 1 behind an empty one.
+fn is_after(hdu: u32, empty: bool) -> bool
+    ensures { result ≡ ((hdu == 1) && empty) }
+{
+    hdu == 1 && empty
+}
+
+// Whether the job looks at no HDU behind this one: it stops, or the file ends.
+fn is_last(found: &Looked, length: u64) -> bool
+    requires { next_start_of found.now.header ≤ 2 ^ 62 }
+    ensures { result ≡ (found.now.look.stop || next_start_of found.now.header == length) }
+{
+    found.look.stop || next_start(&found.header) == length
+}
+
+// Makes the checks of every job for the HDU that begins here, and then those of this job.
+fn look_at<S: Source>(
+    source: &mut S,
+    length: u64,
+    hdu: u32,
+    start: u64,
+    meter: &mut Meter,
+    block: &mut [u8],
+    checks: &JobChecks,
+    after_empty: bool,
+) -> Result<Looked, Stop>
+    requires attached { S.attached source.old ≡ Some length }
+    requires within { (start < length) ⊎ ((hdu ≡ 0) × (start ≡ 0)) }
+    requires block { len block.old ≡ 2880 }
+    requires checks { AreChecks checks.now }
+    requires after { IfSome (S.held source.old) (λ g. after_empty ≡ ((hdu == 1) && (size_at g 2 == 0))) }
+    ensures exact { IfSome (S.held source.old) (λ g. IsDefined (looked checks.now hdu start g) result) }
+    ensures found { IfOk result (IsLooked length) }
+    ensures empty { IfOk result (λ x. IfSome (S.held source.old) (λ g. hdu ≡ 0 → start ≡ 0 → x.header.axes.n ≡ size_at g 2)) }
+    ensures len { len block.new ≡ 2880 }
+    ensures live { meter.new.live ≡ meter.old.live }
+    ensures limit { meter.new.limit ≡ meter.old.limit }
+    ensures risen { meter.old.peak ≤ meter.new.peak }
+    ensures first_past { IfSome (S.held source.old) (λ g. TellsFirstPast meter.old.limit (header_taking meter.old.live (header_blocks_of hdu start g)) result) }
+    ensures peak { IfSome (S.held source.old) (λ g. meter.new.peak ≤ max meter.old.peak (highest (header_taking meter.old.live (header_blocks_of hdu start g)))) }
+    ensures touched { IfSome (S.held source.old) (λ g. LogsOnly (IsWithinOne (hdu_places checks.now hdu start g)) (S.ranges source.old) (S.ranges source.new)) }
+    ensures held { S.held source.new ≡ S.held source.old }
+    ensures attached { S.attached source.new ≡ S.attached source.old }
+    ensures cause { ReadsAndTakes (S.tally source.old) (S.tally source.new) meter.old.limit result }
+{
+    let read = header_at(source, length, hdu, start, meter, block)?;
+    let header = read.facts;
+    let buf = read.bytes.as_slice();
+    let answer = check_hdu(source, length, checks, &header, buf, after_empty, block);
+    meter.give_bytes(read.bytes);
+    match answer {
+        Ok(look) => Ok(Looked { header, look }),
+        Err(stop) => Err(stop),
+    }
+}
+
+// What is learnt of the HDUs before, at none of which the job stopped, and of the next one.
+fn with_hdu(seen: &Survey, found: &Looked) -> Survey
+    requires few { seen.now.hdus < 65536 }
+    requires blocks { found.now.header.blocks ≤ 256 }
+    ensures { result ≡ joined seen.now found.now }
+{
+    Survey {
+        hdus: seen.hdus + 1,
+        header_len: seen.header_len.max(BLOCK_LEN as u32 * found.header.blocks),
+        tile: seen.tile.max(found.look.tile),
+        stopped: if found.look.stop {
+            Some(found.header)
+        } else {
+            None
+        },
+    }
+}
+
+// How many HDUs a file may have.
+fn most_hdus(checks: &JobChecks) -> u32
+    ensures { result ≡ most_hdus_of checks.now }
+{
+    match checks {
+        JobChecks::Pack(_) => 65_535,
+        JobChecks::Unpack => 65_536,
+        JobChecks::Cut { .. } => 65_536,
+    }
+}
