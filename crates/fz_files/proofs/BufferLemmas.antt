@@ -1,0 +1,149 @@
+-- The takings of a job stay within its bound.
+use Rattle.std.proofs.Common.{◌≡◌, ℕ, zero, suc, ◌+◌, ◌*◌, ◌≤◌, ◌==◌, true, false, nat_lt, Bool, List, [], ◌∷◌, ◌++◌, length, map, max, Option, Some, None, Result, Ok, Err, refl, sym, ◌∙◌, ap, arith, if◌then◌else◌}
+use Rattle.std.proofs.lemmas.Bool.Decides.{nat_tests}
+use Rattle.fz_base.specs.Takings.{piled, first_past}
+use Rattle.fz_base.specs.declared.fault.Fault.{Fault}
+use Rattle.fz_block.specs.Checks.{Judge, header_blocks_of, hdu_at}
+use Rattle.fz_block.specs.Header.{next_start_of}
+use Rattle.fz_block.specs.Takings.{header_taking, where_going_on, for_those_after, walk_takings}
+use Rattle.fz_block.specs.declared.header.Header.{Header}
+use Rattle.fz_files.specs.declared.job.Job.{Job}
+use Rattle.fz_files.specs.declared.job.Job.TheVariants.{Pack, Unpack, Cut, Verify, List as ListHdus, Drill}
+use Rattle.fz_files.specs.Buffers.{buffer_bound, found_len, header_len, slot_buffers, slots_buffers, work_buffers, longest_header, largest_tile, header_takings, work_takings, file_takings, job_bound, job_takings, IsOfFile}
+use Rattle.fz_files.specs.Packed.{greatest}
+use Rattle.fz_files.specs.Walks.{Reached, reached_behind, reached_after, reached_from, reached_by, header_fault, job_walk}
+
+one_within : (b live asked : ℕ) (ts : List (ℕ × ℕ)) → live + asked ≤ b → first_past b ts ≡ None → first_past b ((live, asked) ∷ ts) ≡ None
+one_within b live asked ts room rest = let test : nat_lt b (live + asked) ≡ false = grind (arith, nat_tests) in rw test rest
+
+both_within : (b : ℕ) (xs ys : List (ℕ × ℕ)) → first_past b xs ≡ None → first_past b ys ≡ None → first_past b (xs ++ ys) ≡ None
+both_within b [] ys none rest = rest
+both_within b ((live, asked) ∷ xs) ys none rest = by_test (λ e. both_within b xs ys e rest) (nat_lt b (live + asked)) none
+  where
+    by_test : (first_past b xs ≡ None → first_past b (xs ++ ys) ≡ None) → (past : Bool) → (if past then Some (live, asked) else first_past b xs) ≡ None →
+        (if past then Some (live, asked) else first_past b (xs ++ ys)) ≡ None
+    by_test later true none = absurd cc
+    by_test later false none = later none
+
+-- ---- headers
+
+header_within : (b H : ℕ) (r : Result ℕ Fault) → found_len r ≤ H → 2880 + H ≤ b → first_past b (header_taking 2880 r) ≡ None
+header_within b H (Ok n) len room = one_within b 2880 (2880 * n) [] (omega arith) refl
+header_within b H (Err x) len room = refl
+
+first_below : (a b H : ℕ) → max a b ≤ H → a ≤ H
+first_below a b H most = omega arith
+
+second_below : (a b H : ℕ) → max a b ≤ H → b ≤ H
+second_below a b H most = omega arith
+
+walk_within : (judge : Judge) (b H more k start : ℕ) (file : List ℕ) → greatest (map (header_len file) (reached_from judge more k start file)) ≤ H → 2880 + H ≤ b →
+    first_past b (walk_takings judge 2880 more k start file) ≡ None
+unfolding walk_takings reached_from
+walk_within judge b H zero k start file most room = refl
+walk_within judge b H (suc more) k start file most room =
+    both_within b (header_taking 2880 (header_blocks_of k start file))
+    (for_those_after file judge (λ h. walk_takings judge 2880 more (suc k) (next_start_of h) file) (hdu_at k start file))
+    (header_within b H (header_blocks_of k start file) (first_below here others H most) room)
+    (by_hdu (λ h le. walk_within judge b H more (suc k) (next_start_of h) file le room) (hdu_at k start file) (second_below here others H most))
+  where
+    here : ℕ
+    here = found_len (header_blocks_of k start file)
+
+    others : ℕ
+    others = greatest (map (header_len file) (reached_after file judge (λ h. reached_from judge more (suc k) (next_start_of h) file) (hdu_at k start file)))
+
+    by_last : ((h : Header) → greatest (map (header_len file) (reached_from judge more (suc k) (next_start_of h) file)) ≤ H →
+        first_past b (walk_takings judge 2880 more (suc k) (next_start_of h) file) ≡ None) → (h : Header) (last : Bool) →
+        greatest (map (header_len file) (if last then [] else reached_from judge more (suc k) (next_start_of h) file)) ≤ H →
+        first_past b (if last then [] else walk_takings judge 2880 more (suc k) (next_start_of h) file) ≡ None
+    by_last later h true most = refl
+    by_last later h false most = later h most
+
+    by_judge : ((h : Header) → greatest (map (header_len file) (reached_from judge more (suc k) (next_start_of h) file)) ≤ H →
+        first_past b (walk_takings judge 2880 more (suc k) (next_start_of h) file) ≡ None) → (h : Header) (says : Result Bool Fault) →
+        greatest (map (header_len file) (reached_behind file h (reached_from judge more (suc k) (next_start_of h) file) says)) ≤ H →
+        first_past b (where_going_on file h (walk_takings judge 2880 more (suc k) (next_start_of h) file) says) ≡ None
+    by_judge later h (Err x) most = refl
+    by_judge later h (Ok true) most = refl
+    by_judge later h (Ok false) most = by_last later h (next_start_of h == length file) most
+
+    by_hdu : ((h : Header) → greatest (map (header_len file) (reached_from judge more (suc k) (next_start_of h) file)) ≤ H →
+        first_past b (walk_takings judge 2880 more (suc k) (next_start_of h) file) ≡ None) → (r : Result Header Fault) →
+        greatest (map (header_len file) (reached_after file judge (λ h. reached_from judge more (suc k) (next_start_of h) file) r)) ≤ H →
+        first_past b (for_those_after file judge (λ h. walk_takings judge 2880 more (suc k) (next_start_of h) file) r) ≡ None
+    by_hdu later (Err x) most = refl
+    by_hdu later (Ok h) most = by_judge later h (judge h) most
+
+-- ---- the work
+
+abbrev total : List ℕ → ℕ
+total [] = 0
+total (n ∷ ns) = n + total ns
+
+total_append : (xs ys : List ℕ) → total (xs ++ ys) ≡ total xs + total ys
+total_append [] ys = omega arith
+total_append (x ∷ xs) ys = let rest : total (xs ++ ys) ≡ total xs + total ys = total_append xs ys in omega arith
+
+slots_total : (n slots : ℕ) → total (slots_buffers n slots) ≡ slots * (16 * n + 64)
+slots_total n zero = omega arith
+slots_total n (suc slots) =
+    let rest : total (slots_buffers n slots) ≡ slots * (16 * n + 64) = slots_total n slots in
+    let more : suc slots * (16 * n + 64) ≡ (16 * n + 64) + slots * (16 * n + 64) = grind arith in
+    omega arith
+
+piled_within : (b live : ℕ) (ns : List ℕ) → live + total ns ≤ b → first_past b (piled live ns) ≡ None
+piled_within b live [] room = refl
+piled_within b live (n ∷ ns) room = one_within b live n (piled (live + n) ns) (omega arith) (piled_within b (live + n) ns (omega arith))
+
+-- the slots and the copy buffer
+slots_and_copy : (n W : ℕ) → total (slots_buffers n (2 * W) ++ 65536 ∷ []) ≡ 2 * W * (16 * n + 64) + 65536
+slots_and_copy n W = total_append (slots_buffers n (2 * W)) (65536 ∷ []) ∙ ap (λ t. t + 65536) (slots_total n (2 * W))
+
+work_within : (job : Job) (H n W : ℕ) → 2880 + total (work_buffers job H n W) ≤ buffer_bound H n W
+unfolding buffer_bound
+work_within (Pack o) H n W = let same : _ = slots_and_copy n W in omega arith
+work_within Unpack H n W = let same : _ = slots_and_copy n W in omega arith
+work_within (Cut wanted sieve) H n W = let same : _ = slots_and_copy n W in omega arith
+work_within Verify H n W = let same : _ = slots_and_copy n W in omega arith
+work_within ListHdus H n W = omega arith
+work_within (Drill rows) H n W = omega arith
+
+behind_within : (found : Option Fault) (job : Job) (file : List ℕ) (W : ℕ) →
+    first_past (buffer_bound (longest_header job file) (largest_tile job file) W) (work_takings found job file W) ≡ None
+behind_within (Some fault) job file W = refl
+behind_within None job file W =
+    piled_within (buffer_bound (longest_header job file) (largest_tile job file) W) 2880 (work_buffers job (longest_header job file) (largest_tile job file) W)
+    (work_within job (longest_header job file) (largest_tile job file) W)
+
+header_room : (H n W : ℕ) → 2880 + H ≤ buffer_bound H n W
+unfolding buffer_bound
+header_room H n W = omega arith
+
+headers_within : (job : Job) (file : List ℕ) (n W : ℕ) → first_past (buffer_bound (longest_header job file) n W) (header_takings job file) ≡ None
+unfolding reached_by
+headers_within (Pack o) file n W = walk_within _ _ (longest_header (Pack o) file) 65535 0 0 file (omega arith) (header_room (longest_header (Pack o) file) n W)
+headers_within Unpack file n W = walk_within _ _ (longest_header Unpack file) 65536 0 0 file (omega arith) (header_room (longest_header Unpack file) n W)
+headers_within (Cut wanted sieve) file n W = walk_within _ _ (longest_header (Cut wanted sieve) file) 65536 0 0 file (omega arith) (header_room (longest_header (Cut wanted sieve) file) n W)
+headers_within Verify file n W = walk_within _ _ (longest_header Verify file) 65536 0 0 file (omega arith) (header_room (longest_header Verify file) n W)
+headers_within ListHdus file n W = walk_within _ _ (longest_header ListHdus file) 65536 0 0 file (omega arith) (header_room (longest_header ListHdus file) n W)
+headers_within (Drill rows) file n W = refl
+
+block_room : (H n W : ℕ) → 0 + 2880 ≤ buffer_bound H n W
+unfolding buffer_bound
+block_room H n W = omega arith
+
+file_within : (job : Job) (file : List ℕ) (W : ℕ) → first_past (buffer_bound (longest_header job file) (largest_tile job file) W) (file_takings job file W) ≡ None
+file_within job file W =
+    let bound : ℕ = buffer_bound (longest_header job file) (largest_tile job file) W in
+    one_within bound 0 2880 (header_takings job file ++ work_takings (header_fault job file) job file W) (block_room (longest_header job file) (largest_tile job file) W)
+    (both_within bound (header_takings job file) (work_takings (header_fault job file) job file W)
+    (headers_within job file (largest_tile job file) W) (behind_within (header_fault job file) job file W))
+
+pub all_within : (job : Job) (file : List ℕ) (asked : ℕ) → IsOfFile job → first_past (job_bound job file asked) (job_takings job file asked) ≡ None
+all_within (Pack o) file asked of = file_within (Pack o) file asked
+all_within Unpack file asked of = file_within Unpack file asked
+all_within (Cut wanted sieve) file asked of = file_within (Cut wanted sieve) file asked
+all_within Verify file asked of = file_within Verify file 1
+all_within ListHdus file asked of = file_within ListHdus file 1
+all_within (Drill rows) file asked of = absurd of

@@ -1,0 +1,142 @@
+-- The buffers of a job and their bound. All are taken from one meter: one block; each header in turn while the block is live; and
+-- then, at once and before anything is written, what the work takes.
+use Rattle.std.specs.Prelude.{ℕ, zero, suc, ◌≡◌, ◌+◌, ◌*◌, List, [], ◌∷◌, ◌++◌, map, Option, Some, None, Result, Ok, Err, ⊤}
+use Rattle.std.specs.List.{filter}
+use Rattle.fz_base.specs.Takings.{piled, first_past}
+use Rattle.fz_base.specs.declared.fault.Fault.{Fault}
+use Rattle.fz_block.specs.Checks.{header_blocks_of}
+use Rattle.fz_block.specs.Takings.{walk_takings}
+use Rattle.fz_block.specs.declared.header.Header.{Header}
+use Rattle.fz_grid.specs.Arrays.{product}
+use Rattle.fz_grid.specs.Region.{lengths_of}
+use Rattle.fz_head.specs.Packable.{is_packable}
+use Rattle.fz_head.specs.Planned.{pack_plan_of}
+use Rattle.fz_head.specs.declared.plan.Plan.{Plan}
+use Rattle.fz_files.specs.declared.job.Job.{Job}
+use Rattle.fz_files.specs.declared.job.Job.TheVariants.{Pack, Unpack, Cut, Verify, List as ListHdus, Drill}
+use Rattle.fz_head.specs.declared.options.CodecWord.{CodecWord}
+use Rattle.fz_head.specs.declared.options.CodecWord.TheVariants as word
+use Rattle.fz_files.specs.Drill.{drill_file, drill_options, drill_packed, drill_sieve}
+use Rattle.fz_files.specs.Packed.{greatest}
+use Rattle.fz_files.specs.Restored.{is_image, plan_in}
+use Rattle.fz_files.specs.Walks.{Reached, header_fault, headers_for, last_of, pack_judge, unpack_judge, cut_judge, reached_by}
+
+-- The bound for a longest header of H bytes, a largest tile of n pixels and W workers: the header, the translated header, which is
+-- at most one block longer, one block, two slots for each worker, and the copy buffer.
+unfoldable pub buffer_bound : ℕ → ℕ → ℕ → ℕ
+buffer_bound H n W = 2 * H + 5760 + 2 * W * (16 * n + 64) + 65536
+
+-- the length of a header whose END was found
+abbrev pub found_len : Result ℕ Fault → ℕ
+found_len (Ok blocks) = 2880 * blocks
+found_len (Err fault) = 0
+
+abbrev pub header_len : List ℕ → Reached → ℕ
+header_len file r = found_len (header_blocks_of r.hdu r.start file)
+
+-- The longest header that a job meets, or 0. The headers of `drill` have one block.
+abbrev pub longest_header : Job → List ℕ → ℕ
+longest_header (Drill rows) file = 2880
+longest_header job file = greatest (map (header_len file) (reached_by job file))
+
+-- the pixels of a whole tile
+abbrev pub tile_pixels : Plan → ℕ
+tile_pixels p = product (lengths_of p.tile)
+
+-- the plans of the images whose tiles a job works on
+abbrev pub plans_for : Job → List ℕ → List Header → List Plan
+plans_for (Pack o) file hs = map (pack_plan_of o) (filter is_packable hs)
+plans_for Unpack file hs = map (plan_in file) (filter (is_image file) hs)
+plans_for (Cut wanted sieve) file hs = map (plan_in file) (last_of hs)
+plans_for Verify file hs = map (plan_in file) (filter (is_image file) hs)
+plans_for ListHdus file hs = []
+plans_for (Drill rows) file hs = []
+
+-- no tile is worked on where a header is refused
+abbrev pub plans_behind : Option Fault → Job → List ℕ → List Plan
+plans_behind (Some fault) job file = []
+plans_behind None job file = plans_for job file (headers_for job file)
+
+-- The pixels of the largest tile that a job works on, or 0. Those of `drill` are rows of 256.
+abbrev pub largest_tile : Job → List ℕ → ℕ
+largest_tile (Drill rows) file = 256
+largest_tile job file = greatest (map tile_pixels (plans_behind (header_fault job file) job file))
+
+-- how many workers a job has that is asked for so many: `verify` and `list` have one, `drill` four
+abbrev pub workers_of : Job → ℕ → ℕ
+workers_of (Pack o) asked = asked
+workers_of Unpack asked = asked
+workers_of (Cut wanted sieve) asked = asked
+workers_of Verify asked = 1
+workers_of ListHdus asked = 1
+workers_of (Drill rows) asked = 4
+
+-- the bound of a job on a file, asked for so many workers
+abbrev pub job_bound : Job → List ℕ → ℕ → ℕ
+job_bound job file asked = buffer_bound (longest_header job file) (largest_tile job file) (workers_of job asked)
+
+-- the buffers of one slot, for tiles of at most n pixels: the numbers, of which a pixel has two of 4 bytes, and the bytes of a record
+abbrev pub slot_buffers : ℕ → List ℕ
+slot_buffers n = 8 * n ∷ (8 * n + 64) ∷ []
+
+-- the buffers of so many slots
+abbrev pub slots_buffers : ℕ → ℕ → List ℕ
+slots_buffers n zero = []
+slots_buffers n (suc slots) = slot_buffers n ++ slots_buffers n slots
+
+-- What the work of a job takes, in this order: the longest header, the translated header, the slots, and the copy buffer. Where
+-- nothing is written no header is translated, and `list` looks at headers alone.
+abbrev pub work_buffers : Job → ℕ → ℕ → ℕ → List ℕ
+work_buffers (Pack o) H n W = H ∷ (H + 2880) ∷ (slots_buffers n (2 * W) ++ 65536 ∷ [])
+work_buffers Unpack H n W = H ∷ (H + 2880) ∷ (slots_buffers n (2 * W) ++ 65536 ∷ [])
+work_buffers (Cut wanted sieve) H n W = H ∷ (H + 2880) ∷ (slots_buffers n (2 * W) ++ 65536 ∷ [])
+work_buffers Verify H n W = H ∷ (slots_buffers n (2 * W) ++ 65536 ∷ [])
+work_buffers ListHdus H n W = H ∷ []
+work_buffers (Drill rows) H n W = []
+
+-- the headers, one at a time while one block is live
+abbrev pub header_takings : Job → List ℕ → List (ℕ × ℕ)
+header_takings (Pack o) file = walk_takings (pack_judge o file) 2880 65535 0 0 file
+header_takings Unpack file = walk_takings (unpack_judge file) 2880 65536 0 0 file
+header_takings (Cut wanted sieve) file = walk_takings (cut_judge wanted sieve file) 2880 65536 0 0 file
+header_takings Verify file = walk_takings (unpack_judge file) 2880 65536 0 0 file
+header_takings ListHdus file = walk_takings (unpack_judge file) 2880 65536 0 0 file
+header_takings (Drill rows) file = []
+
+-- the work of a job is taken where no header is refused
+abbrev pub work_takings : Option Fault → Job → List ℕ → ℕ → List (ℕ × ℕ)
+work_takings (Some fault) job file W = []
+work_takings None job file W = piled 2880 (work_buffers job (longest_header job file) (largest_tile job file) W)
+
+-- what a job with W workers takes of its meter for a file, each taking with what is live before it
+abbrev pub file_takings : Job → List ℕ → ℕ → List (ℕ × ℕ)
+file_takings job file W = (0, 2880) ∷ (header_takings job file ++ work_takings (header_fault job file) job file W)
+
+-- `drill` packs its file with each codec, unpacks what came out, and cuts from it
+abbrev pub drill_takings : ℕ → CodecWord → List (ℕ × ℕ)
+drill_takings N codec =
+    file_takings (Pack (drill_options codec)) (drill_file N) 4
+    ++ (file_takings Unpack (drill_packed N codec) 4
+    ++ file_takings (Cut None (drill_sieve N)) (drill_packed N codec) 4)
+
+-- what a job takes of its meter that is asked for so many workers
+abbrev pub job_takings : Job → List ℕ → ℕ → List (ℕ × ℕ)
+job_takings (Pack o) file asked = file_takings (Pack o) file asked
+job_takings Unpack file asked = file_takings Unpack file asked
+job_takings (Cut wanted sieve) file asked = file_takings (Cut wanted sieve) file asked
+job_takings Verify file asked = file_takings Verify file 1
+job_takings ListHdus file asked = file_takings ListHdus file 1
+job_takings (Drill rows) file asked = drill_takings rows word.Rice ++ (drill_takings rows word.Plio ++ drill_takings rows word.None)
+
+-- the job works on a file that it is given, and not on its own
+abbrev pub IsOfFile : Job → Type 0
+IsOfFile (Pack o) = ⊤
+IsOfFile Unpack = ⊤
+IsOfFile (Cut wanted sieve) = ⊤
+IsOfFile Verify = ⊤
+IsOfFile ListHdus = ⊤
+IsOfFile (Drill rows) = ⊥
+
+-- every taking of a job on a file stays within its bound
+abbrev pub AreBounded : Type 0
+AreBounded = (job : Job) (file : List ℕ) (asked : ℕ) → IsOfFile job → first_past (job_bound job file asked) (job_takings job file asked) ≡ None

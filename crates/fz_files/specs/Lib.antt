@@ -1,0 +1,15 @@
+pub mod Buffers
+pub mod Cutout
+pub mod Drill
+pub mod ExtensionFile
+pub mod FirstFault
+pub mod HandMade
+pub mod Lines
+pub mod LongFile
+pub mod Packed
+pub mod PlainFile
+pub mod Restored
+pub mod RiceFile
+pub mod StandsFor
+pub mod SumFile
+pub mod Walks

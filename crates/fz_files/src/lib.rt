@@ -1,0 +1,10 @@
+//! What files are: packed files, the files that they stand for, cutouts, first faults, report lines and the bound on buffers.
+#![tactic(auto)]
+
+mod job;
+mod law;
+mod worked;
+
+pub use job::Job;
+pub use law::buffers_law;
+pub use worked::{extension_file_law, long_file_law, plain_file_law, rice_file_law, sum_file_law};

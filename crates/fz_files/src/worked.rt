@@ -1,0 +1,63 @@
+//! Files that were packed by hand, as the definitions have them: no code runs.
+ghost use Rattle.std.specs.Prelude.{◌≡◌, ◌++◌, true};
+ghost use Rattle.fz_block.specs.Facts.{facts_of};
+ghost use Rattle.fz_head.specs.Planned.{pack_plan_of};
+ghost use Rattle.fz_files.specs.ExtensionFile.{image_cards, row_pixels, image_hdu, extension_file, bare_options, image_plan, image_tiles, image_rows, image_table_cards, packed_extension};
+ghost use Rattle.fz_files.specs.LongFile.{line_cards, line_pixels, line_hdu, line_file, long_options, long_plan, long_tiles, long_rows, long_cards, long_file};
+ghost use Rattle.fz_files.specs.Packed.{IsPackedFile, array_of, heap_of, rows_from, sum_before, table_header, tile_codes, with_sums};
+ghost use Rattle.fz_files.specs.PlainFile.{grid_cards, grid_hdu, grid_file, plain_options, plain_plan, plain_tiles, plain_rows, plain_heap, plain_data, plain_cards, plain_file};
+ghost use Rattle.fz_files.specs.SumFile.{sum_options, sum_file_cards, blank_sum, sum_file};
+ghost use Rattle.fz_files.specs.RiceFile.{small_cards, small_hdu, small_file, rice_options, rice_plan, rice_tiles, rice_rows, rice_heap, rice_cards, rice_file};
+
+/// The packed file of an image of 4 by 2 pixels with Rice codes: its plan, what is written for each tile, its
+/// rows, its heap, the cards of its table, and all its bytes are those that `specs/RiceFile.antt` writes out.
+pub fn rice_file_law()
+    ensures plan { pack_plan_of rice_options (facts_of 0 0 small_hdu.header) ≡ rice_plan }
+    ensures tiles { tile_codes rice_plan (array_of rice_plan small_hdu.payload) ≡ rice_tiles }
+    ensures rows { rows_from rice_plan 0 rice_tiles ≡ rice_rows }
+    ensures heap { heap_of rice_tiles ≡ rice_heap }
+    ensures cards { table_header rice_plan small_cards rice_tiles ≡ rice_cards }
+    ensures file { IsPackedFile rice_options small_file rice_file }
+{}
+
+/// The same of an image of 5 by 3 pixels without a codec, whose tiles of 2 by 2 pixels are cut short at the upper
+/// ends of the axes: as `specs/PlainFile.antt` writes it out.
+pub fn plain_file_law()
+    ensures plan { pack_plan_of plain_options (facts_of 0 0 grid_hdu.header) ≡ plain_plan }
+    ensures tiles { tile_codes plain_plan (array_of plain_plan grid_hdu.payload) ≡ plain_tiles }
+    ensures rows { rows_from plain_plan 0 plain_tiles ≡ plain_rows }
+    ensures heap { heap_of plain_tiles ≡ plain_heap }
+    ensures cards { table_header plain_plan grid_cards plain_tiles ≡ plain_cards }
+    ensures file { IsPackedFile plain_options grid_file plain_file }
+{}
+
+/// The file of [`plain_file_law`] with sums: DATASUM and CHECKSUM stand behind the cards of the image, as
+/// `specs/SumFile.antt` writes them out.
+pub fn sum_file_law()
+    ensures before { sum_before plain_cards plain_data ≡ blank_sum }
+    ensures cards { with_sums true plain_cards plain_data ≡ sum_file_cards }
+    ensures file { IsPackedFile sum_options grid_file sum_file }
+{}
+
+/// The packed file of an image of 2 pixels of 64 bits, for which Rice codes are asked: its tile is stored, as
+/// `specs/LongFile.antt` writes it out.
+pub fn long_file_law()
+    ensures plan { pack_plan_of long_options (facts_of 0 0 line_hdu.header) ≡ long_plan }
+    ensures tiles { tile_codes long_plan (array_of long_plan line_hdu.payload) ≡ long_tiles }
+    ensures rows { rows_from long_plan 0 long_tiles ≡ long_rows }
+    ensures heap { heap_of long_tiles ≡ line_pixels }
+    ensures cards { table_header long_plan line_cards long_tiles ≡ long_cards }
+    ensures file { IsPackedFile long_options line_file long_file }
+{}
+
+/// The packed file of a primary without data and an image of 4 by 2 pixels of 16 bits in an extension, without a
+/// codec: the primary stays as it is, and no other stands before the table, as `specs/ExtensionFile.antt` writes
+/// it out.
+pub fn extension_file_law()
+    ensures plan { pack_plan_of bare_options (facts_of 1 0 image_hdu.header) ≡ image_plan }
+    ensures tiles { tile_codes image_plan (array_of image_plan image_hdu.payload) ≡ image_tiles }
+    ensures rows { rows_from image_plan 0 image_tiles ≡ image_rows }
+    ensures heap { heap_of image_tiles ≡ row_pixels ++ row_pixels }
+    ensures cards { table_header image_plan image_cards image_tiles ≡ image_table_cards }
+    ensures file { IsPackedFile bare_options extension_file packed_extension }
+{}
