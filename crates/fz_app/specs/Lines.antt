@@ -1,10 +1,10 @@
 -- The lines that the program prints for the status of a run.
 use Rattle.std.specs.Prelude.{ℕ, ◌≡◌, ◌⊎◌, List, [], ◌∷◌, ◌++◌, codes, decimal, Option}
-use Rattle.fz_base.specs.Counts.{Rose}
+use Rattle.fz_base.specs.Counts.{Rose, Tally}
 use Rattle.fz_base.specs.Sink.{appended, MayAppend}
 use Rattle.fz_base.specs.Kind.{kind_number}
 use Rattle.fz_base.specs.declared.kind.Kind.{Kind}
-use Rattle.fz_base.specs.declared.kind.Kind.TheVariants.{NotFits, Truncated, LongHeader, BadCard, Duplicate, HeaderFill, DataFill, TrailingBytes, Reserved, AlreadyPacked, Limit as PastLimit, Groups, UnknownCodec, Quantised, CompressedTable, BadTable, RowCount, DescriptorRange, TileMissing, GzipTile, CodeShort, CodeValue, LineList, PixelRange, TileSize, MisplacedPrimary, NotPacked, OutOfBox, PlioOffset, Unbuilt}
+use Rattle.fz_base.specs.declared.kind.Kind.TheVariants.{NotFits, Truncated, LongHeader, BadCard, Duplicate, HeaderFill, DataFill, TrailingBytes, Reserved, AlreadyPacked, Limit as PastLimit, Groups, UnknownCodec, Quantised, CompressedTable, BadTable, RowCount, DescriptorRange, TileMissing, GzipTile, CodeShort, CodeValue, LineList, PixelRange, TileSize, MisplacedPrimary, NotPacked, OutOfBox, PlioOffset, Unbuilt, Unpatchable, BadPatch}
 use Rattle.fz_base.specs.declared.fault.Fault.{Fault}
 use Rattle.fz_base.specs.declared.fault.Place.{Place}
 use Rattle.fz_base.specs.declared.fault.Place.TheVariants.{Byte, Card, Row}
@@ -43,6 +43,8 @@ kind_name_of NotPacked = codes "NotPacked"
 kind_name_of OutOfBox = codes "OutOfBox"
 kind_name_of PlioOffset = codes "PlioOffset"
 kind_name_of Unbuilt = codes "Unbuilt"
+kind_name_of Unpatchable = codes "Unpatchable"
+kind_name_of BadPatch = codes "BadPatch"
 
 -- a place by its sort and its number
 abbrev pub place_text : Place → List ℕ
@@ -69,8 +71,8 @@ status_line NoMemory = codes "no memory\n"
 
 -- What a text got: nothing where there is no line; else the line, and its counts stayed; or, where a count of its
 -- faults or wants rose, a prefix of the line, possibly empty.
-abbrev pub GotLine : List ℕ → Option (List ℕ) → Option (List ℕ) → ℕ → ℕ → ℕ → ℕ → Type 0
-GotLine [] old new faults faults' wants wants' = (new ≡ old) × (faults' ≡ faults) × (wants' ≡ wants)
-GotLine (b ∷ line) old new faults faults' wants wants' =
-    ((new ≡ appended (b ∷ line) old) × (faults' ≡ faults) × (wants' ≡ wants))
-    ⊎ (MayAppend (b ∷ line) old new × (Rose faults faults' ⊎ Rose wants wants'))
+abbrev pub GotLine : List ℕ → Option (List ℕ) → Option (List ℕ) → Tally → Tally → Type 0
+GotLine [] old new before now = (new ≡ old) × (now ≡ before)
+GotLine (b ∷ line) old new before now =
+    ((new ≡ appended (b ∷ line) old) × (now ≡ before))
+    ⊎ (MayAppend (b ∷ line) old new × (Rose before.faults now.faults ⊎ Rose before.wants now.wants))

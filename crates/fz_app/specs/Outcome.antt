@@ -1,7 +1,8 @@
 -- What the status of a run says of the file and of the meter.
 use Rattle.std.specs.Prelude.{ℕ, ◌≡◌, ◌⊎◌, List, Option, Some, None, IfSome, ⊤}
 use Rattle.fz_base.specs.declared.fault.Fault.{Fault}
-use Rattle.fz_pack.specs.FirstByte.{IsShut, IsShutOrPacked}
+use Rattle.fz_base.specs.FirstByte.{IsShut}
+use Rattle.fz_pack.specs.FirstByte.{IsShutOrPacked}
 use Rattle.fz_pack.specs.FirstFault.{first_fault}
 use Rattle.fz_pack.specs.FirstTaking.{first_past}
 use Rattle.fz_pack.specs.Takings.{IsTaking}

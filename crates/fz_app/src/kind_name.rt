@@ -40,5 +40,7 @@ pub(crate) fn kind_name(kind: Kind) -> &'static str
         Kind::OutOfBox => "OutOfBox",
         Kind::PlioOffset => "PlioOffset",
         Kind::Unbuilt => "Unbuilt",
+        Kind::Unpatchable => "Unpatchable",
+        Kind::BadPatch => "BadPatch",
     }
 }

@@ -40,15 +40,15 @@ pub fn run<R: Threads + Sync, S: Source, K: Sink, T: Text, G: Gate>(
 
     ensures live { meter.new.live ≡ 0 }
     ensures limit { meter.new.limit ≡ meter.old.limit }
-    ensures text { GotLine (status_line result) (T.contents text.old) (T.contents text.new) (T.faults text.old) (T.faults text.new) (T.wants text.old) (T.wants text.new) }
+    ensures text { GotLine (status_line result) (T.contents text.old) (T.contents text.new) (T.tally text.old) (T.tally text.new) }
 
     ensures different { result ≢ Different }
     ensures usage { (result ≡ Usage) ↔ (job_of (texts_of words.now) ≡ None) }
     // Words that are no job read, make and take nothing.
     ensures untouched { result ≡ Usage → (source.new ≡ source.old) × (sink.new ≡ sink.old) × (meter.new ≡ meter.old) }
-    ensures refused { IsRefused result → (S.faults source.new ≡ S.faults source.old) × (K.faults sink.new ≡ K.faults sink.old) }
-    ensures read_fault { result ≡ ReadFault → Rose (S.faults source.old) (S.faults source.new) }
-    ensures write_fault { result ≡ WriteFault → Rose (K.faults sink.old) (K.faults sink.new) }
+    ensures refused { IsRefused result → ((S.tally source.new).faults ≡ (S.tally source.old).faults) × ((K.tally sink.new).faults ≡ (K.tally sink.old).faults) }
+    ensures read_fault { result ≡ ReadFault → Rose (S.tally source.old).faults (S.tally source.new).faults }
+    ensures write_fault { result ≡ WriteFault → Rose (K.tally sink.old).faults (K.tally sink.new).faults }
     ensures over_limit { TellsLimit meter.old.limit (2 ^ 30) result }
     ensures taking { TellsTaking result }
     // OverLimit comes exactly where a taking passes the limit, and tells the first.
@@ -59,10 +59,10 @@ pub fn run<R: Threads + Sync, S: Source, K: Sink, T: Text, G: Gate>(
     ensures first_byte { OnOther result (IsShutOrWhole (job_of (texts_of words.now)) (S.held source.old) (K.contents sink.new)) }
     ensures first_fault { TellsFirstFault (S.held source.old) result }
     // Where neither count of faults rose and the limit allows 2^30 bytes, the first fault alone decides.
-    ensures complete { ¬ (job_of (texts_of words.now) ≡ None) → ¬ Rose (S.faults source.old) (S.faults source.new) → ¬ Rose (K.faults sink.old) (K.faults sink.new) → 2 ^ 30 ≤ meter.old.limit → IfSome (S.held source.old) (λ g. IsAnswer (first_fault g) result) }
+    ensures complete { ¬ (job_of (texts_of words.now) ≡ None) → ¬ Rose (S.tally source.old).faults (S.tally source.new).faults → ¬ Rose (K.tally sink.old).faults (K.tally sink.new).faults → 2 ^ 30 ≤ meter.old.limit → IfSome (S.held source.old) (λ g. IsAnswer (first_fault g) result) }
     ensures unmade { IfUnmade result ((K.created sink.new ≡ K.created sink.old) × (K.contents sink.new ≡ K.contents sink.old)) }
     ensures source { S.held source.new ≡ S.held source.old }
-    ensures counts_kept { (S.faults source.old ≤ S.faults source.new) × (K.faults sink.old ≤ K.faults sink.new) }
+    ensures counts_kept { ((S.tally source.old).faults ≤ (S.tally source.new).faults) × ((K.tally sink.old).faults ≤ (K.tally sink.new).faults) }
 {
     let status = match find_job(words) {
         None => Status::Usage,
@@ -93,9 +93,9 @@ fn run_pack<S: Source, K: Sink>(
     ensures live { meter.new.live ≡ 0 }
     ensures limit { meter.new.limit ≡ meter.old.limit }
     ensures job { (result ≢ Different) × (result ≢ Usage) }
-    ensures refused { IsRefused result → (S.faults source.new ≡ S.faults source.old) × (K.faults sink.new ≡ K.faults sink.old) }
-    ensures read_fault { result ≡ ReadFault → Rose (S.faults source.old) (S.faults source.new) }
-    ensures write_fault { result ≡ WriteFault → Rose (K.faults sink.old) (K.faults sink.new) }
+    ensures refused { IsRefused result → ((S.tally source.new).faults ≡ (S.tally source.old).faults) × ((K.tally sink.new).faults ≡ (K.tally sink.old).faults) }
+    ensures read_fault { result ≡ ReadFault → Rose (S.tally source.old).faults (S.tally source.new).faults }
+    ensures write_fault { result ≡ WriteFault → Rose (K.tally sink.old).faults (K.tally sink.new).faults }
     ensures over_limit { TellsLimit meter.old.limit (2 ^ 30) result }
     ensures taking { TellsTaking result }
     ensures first_past { IfSome (S.held source.old) (λ g. TellsFirstPast meter.old.limit (takings_of g) result) }
@@ -103,10 +103,10 @@ fn run_pack<S: Source, K: Sink>(
     ensures output { OnDone result (HoldsPacked options.now (S.held source.old) (K.contents sink.new)) }
     ensures first_byte { OnOther result (IsShutOrPacked options.now (S.held source.old) (K.contents sink.new)) }
     ensures first_fault { TellsFirstFault (S.held source.old) result }
-    ensures complete { ¬ Rose (S.faults source.old) (S.faults source.new) → ¬ Rose (K.faults sink.old) (K.faults sink.new) → 2 ^ 30 ≤ meter.old.limit → IfSome (S.held source.old) (λ g. IsAnswer (first_fault g) result) }
+    ensures complete { ¬ Rose (S.tally source.old).faults (S.tally source.new).faults → ¬ Rose (K.tally sink.old).faults (K.tally sink.new).faults → 2 ^ 30 ≤ meter.old.limit → IfSome (S.held source.old) (λ g. IsAnswer (first_fault g) result) }
     ensures unmade { IfUnmade result ((K.created sink.new ≡ K.created sink.old) × (K.contents sink.new ≡ K.contents sink.old)) }
     ensures source { S.held source.new ≡ S.held source.old }
-    ensures counts_kept { (S.faults source.old ≤ S.faults source.new) × (K.faults sink.old ≤ K.faults sink.new) }
+    ensures counts_kept { ((S.tally source.old).faults ≤ (S.tally source.new).faults) × ((K.tally sink.old).faults ≤ (K.tally sink.new).faults) }
 {
     let length = match source.attach(input) {
         Ok(length) => length,
@@ -120,7 +120,7 @@ fn run_pack<S: Source, K: Sink>(
 
 // Puts the line of the status, if it has one. If that fails, nothing else can be told.
 fn report<T: Text>(text: &mut T, status: &Status)
-    ensures { GotLine (status_line status.now) (T.contents text.old) (T.contents text.new) (T.faults text.old) (T.faults text.new) (T.wants text.old) (T.wants text.new) }
+    ensures { GotLine (status_line status.now) (T.contents text.old) (T.contents text.new) (T.tally text.old) (T.tally text.new) }
 {
     let line = line_of(status);
     if !line.is_empty() {

@@ -1,5 +1,6 @@
 -- The first fault of a file, from what the calls on its headers and on what stands behind them answer.
 use Rattle.std.proofs.Common.{◌≡◌, ℕ, ◌+◌, ◌*◌, ◌/◌, ◌≤◌, ◌<◌, Bool, true, false, not, ◌==◌, ◌&&◌, List, [], ◌∷◌, length, take, drop, Option, Some, None, is_some, unwrap_or, IfSome, Result, Ok, Err, refl, sym, subst, ◌∙◌, ap, arith, if◌then◌else◌}
+use Rattle.fz_base.specs.Counts.{Tally, CountsKept}
 use Rattle.fz_base.specs.Source.{Reads, HoldsLength}
 use Rattle.fz_base.specs.Refusal.{refusal, first_refusal}
 use Rattle.fz_base.specs.Stop.{IsDefined, IfAnswered, StoppedReading, ReadsOnly, stop_of_short, ReadsAndWrites}
@@ -14,7 +15,7 @@ use Rattle.fz_block.specs.declared.header.Header.{Header}
 use Rattle.fz_block.specs.Header.{next_start_of}
 use Rattle.fz_block.specs.Cards.{end_of, end_among}
 use Rattle.fz_block.specs.Facts.{IsHeaderOf}
-use Rattle.fz_block.specs.Checks.{unless_refused, blocks_to_end, block_checks, header_room, header_blocks_of, header_of, header_in, hdu_at, and_those_after, headers_from, headers_of}
+use Rattle.fz_block.specs.Checks.{unless_refused, blocks_to_end, block_checks, header_room, header_blocks_of, header_of, header_in, hdu_at, and_those_after, headers_from, headers_of, walk_from}
 use Rattle.fz_block.proofs.Room.{end_in_block}
 use Rattle.fz_pack.specs.FirstFault.{is_filled, has_blank_fill, is_closed, built_checks, or_else, rest_of, first_fault, data_end, image_end, TellsFirstFault}
 use Rattle.fz_pack.specs.Headers.{checked, HeadersPass}
@@ -51,7 +52,7 @@ first_passes g rest (Ok k) e = (k, refl)
 first_passes g rest (Err x) e = cc
 
 first_header : (g : List ℕ) → checked (headers_of 65535 g) ≡ Ok (tt {0}) → (k : Header) × (hdu_at 0 0 g ≡ Ok k)
-unfolding headers_from
+unfolding walk_from
 first_header g e = first_passes g (λ h. headers_from 65534 1 (next_start_of h) g) (hdu_at 0 0 g) e
 
 in_blocks : (g : List ℕ) (blocks : Result ℕ Fault) (k : Header) → header_in 0 0 g blocks ≡ Ok k → (n : ℕ) × (blocks ≡ Ok n) × (header_of 0 0 (length g) (take (2880 * n) (drop 0 g)) ≡ Ok k)
@@ -214,17 +215,15 @@ pub end_known : (header : List ℕ) (h : Header) → IsHeaderOf header h → end
 end_known header h is = some_index (end_of header) is.whole.has ∙ ap (λ (k : Header). Some k.cards) (sym is.facts)
 
 -- a second call that only reads stopped, after one that failed no read
-pub reads_after : {X : Type 0} (f0 f1 f2 w0 w1 w2 : ℕ) (r : Result X Stop) (stop : Stop) → r ≡ Err stop → f1 ≡ f0 → w1 ≡ w0 → f1 ≤ f2 → w1 ≤ w2 →
-    StoppedReading f1 f2 w1 w2 stop → ReadsOnly f0 f2 w0 w2 r
-reads_after {X} f0 f1 f2 w0 w1 w2 r stop is same_f same_w more_f more_w why =
-    let here : StoppedReading f0 f2 w0 w2 stop = subst (λ n. StoppedReading n f2 w0 w2 stop) same_f (subst (λ n. StoppedReading f1 f2 n w2 stop) same_w why) in
-    let only : ReadsOnly {X = X} f0 f2 w0 w2 (Err stop) = record {
-      faults_kept = omega (arith, same_f, more_f);
-      wants_kept = omega (arith, same_w, more_w);
+pub reads_after : {X : Type 0} (t0 t1 t2 : Tally) (r : Result X Stop) (stop : Stop) → r ≡ Err stop → t1 ≡ t0 → CountsKept t1 t2 →
+    StoppedReading t1 t2 stop → ReadsOnly t0 t2 r
+reads_after {X} t0 t1 t2 r stop is same more why =
+    let only : ReadsOnly {X = X} t0 t2 (Err stop) = record {
+      kept = subst (λ (t : Tally). CountsKept t t2) same more;
       ok = tt;
-      stop = here;
+      stop = subst (λ (t : Tally). StoppedReading t t2 stop) same why;
     } in
-    subst (λ (k : Result X Stop). ReadsOnly f0 f2 w0 w2 k) (sym is) only
+    subst (λ (k : Result X Stop). ReadsOnly t0 t2 k) (sym is) only
 
 -- a buffer that was not given is no refusal
 pub short_stopped : (held : Option (List ℕ)) (short : Short) → TellsFirstFault {X = Unit {0}} held (Err (stop_of_short short))
@@ -232,7 +231,7 @@ short_stopped held NoRoom = tt
 short_stopped held (PastLimit live asked limit) = tt
 
 -- after all checks passed, nothing is refused
-pub written_answer : (held : Option (List ℕ)) (reads reads' writes writes' : ℕ) (answer : Result (Unit {0}) Stop) → IfSome held (λ g. first_fault g ≡ None) →
+pub written_answer : (held : Option (List ℕ)) (reads reads' writes writes' : Tally) (answer : Result (Unit {0}) Stop) → IfSome held (λ g. first_fault g ≡ None) →
     ReadsAndWrites reads reads' writes writes' answer → TellsFirstFault held answer
 written_answer held reads reads' writes writes' (Ok x) none cause = none
 written_answer held reads reads' writes writes' (Err (Refused x)) none cause = absurd cause.stop

@@ -2,7 +2,8 @@
 use Rattle.std.proofs.Common.{◌≡◌, ◌≢◌, ℕ, zero, suc, ◌+◌, ◌<◌, ◌⊎◌, inl, inr, List, [], ◌∷◌, ◌++◌, take, drop, length, replicate, Option, Some, None, Result, Ok, Err, OnOk, OnErr, sym, subst, arith}
 use Rattle.std.proofs.Math.Nat.{sub-zero}
 use Rattle.fz_base.specs.Sink.{overwrite, written, MayWrite, emptied}
-use Rattle.fz_pack.specs.FirstByte.{IsShut, StaysShut, StopsShut}
+use Rattle.fz_base.specs.FirstByte.{IsShut, StaysShut}
+use Rattle.fz_pack.specs.FirstByte.{StopsShutOrStored}
 
 gap_shut : ◌≢◌ {A = ℕ} 0 83
 gap_shut e = absurd (omega arith)
@@ -35,7 +36,7 @@ pub same_shut : (old new : Option (List ℕ)) → new ≡ old → StaysShut old 
 same_shut old new e shut = subst IsShut (sym e) shut
 
 -- nothing was written yet
-pub unwritten : (held contents : Option (List ℕ)) → StopsShut held contents contents
+pub unwritten : (held contents : Option (List ℕ)) → StopsShutOrStored held contents contents
 unwritten held contents = inl (λ shut. shut)
 
 -- a fact of whatever answer

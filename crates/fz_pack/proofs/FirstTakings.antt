@@ -2,6 +2,7 @@
 use Rattle.std.proofs.Common.{◌≡◌, ℕ, ◌+◌, ◌*◌, ◌≤◌, ◌<◌, true, false, nat_lt, List, [], ◌∷◌, ◌++◌, length, take, Option, Some, None, IfSome, Result, Ok, Err, refl, sym, ◌∙◌, ap, arith, if◌then◌else◌}
 use Rattle.std.specs.Bool.{⊤}
 use Rattle.std.proofs.lemmas.Bool.Decides.{nat_tests}
+use Rattle.fz_base.specs.Counts.{Tally}
 use Rattle.fz_base.specs.Meter.{Gauge, RefusedFor}
 use Rattle.fz_base.specs.Source.{Reads}
 use Rattle.fz_base.specs.Stop.{IsDefined, StoppedReading, ReadsAndWrites, stop_of_short}
@@ -27,7 +28,7 @@ short_stops X limit takings NoRoom short = tt
 short_stops X limit takings (PastLimit now asked told) short = short
 
 -- all buffers were taken
-pub all_taken : (limit reads reads' writes writes' : ℕ) (takings : List (ℕ × ℕ)) (result : Result (Unit {0}) Stop) → ReadsAndWrites reads reads' writes writes' result →
+pub all_taken : (limit : ℕ) (reads reads' writes writes' : Tally) (takings : List (ℕ × ℕ)) (result : Result (Unit {0}) Stop) → ReadsAndWrites reads reads' writes writes' result →
     first_past limit takings ≡ None → TellsFirstPast limit takings result
 all_taken limit reads reads' writes writes' takings (Ok x) cause none = none
 all_taken limit reads reads' writes writes' takings (Err (Refused x)) cause none = absurd cause.stop
@@ -37,15 +38,15 @@ all_taken limit reads reads' writes writes' takings (Err (OverLimit now asked to
 all_taken limit reads reads' writes writes' takings (Err NoMemory) cause none = tt
 
 -- a check stopped the job before its other takings
-pub check_stops : (limit live reads reads' wants wants' : ℕ) (held : Option (List ℕ)) (stop : Stop) →
-    StoppedReading reads reads' wants wants' stop → TellsFirstFault {X = Header} held (Err stop) →
+pub check_stops : (limit live : ℕ) (reads reads' : Tally) (held : Option (List ℕ)) (stop : Stop) →
+    StoppedReading reads reads' stop → TellsFirstFault {X = Header} held (Err stop) →
     IfSome held (λ g. TellsFirstPast {X = Unit {0}} limit (piled live (tile_takings (first_fault g) (small_axes_of (take 2880 g)))) (Err stop))
-check_stops limit live reads reads' wants wants' None stop cause told = tt
-check_stops limit live reads reads' wants wants' (Some g) (Refused x) cause told = rw told refl
-check_stops limit live reads reads' wants wants' (Some g) ReadFault cause told = tt
-check_stops limit live reads reads' wants wants' (Some g) WriteFault cause told = absurd cause
-check_stops limit live reads reads' wants wants' (Some g) (OverLimit now asked limit') cause told = absurd cause
-check_stops limit live reads reads' wants wants' (Some g) NoMemory cause told = tt
+check_stops limit live reads reads' None stop cause told = tt
+check_stops limit live reads reads' (Some g) (Refused x) cause told = rw told refl
+check_stops limit live reads reads' (Some g) ReadFault cause told = tt
+check_stops limit live reads reads' (Some g) WriteFault cause told = absurd cause
+check_stops limit live reads reads' (Some g) (OverLimit now asked limit') cause told = absurd cause
+check_stops limit live reads reads' (Some g) NoMemory cause told = tt
 
 -- the header of an image that is packed tells the pixels of a tile
 known : (len : ℕ) (g header : List ℕ) (h : Header) → header ≡ take (length header) g → IsBuilt len header h → first_fault g ≡ None →
@@ -80,7 +81,7 @@ not_packing (Ok hs) blocks more x e = cc
 not_packing (Err fault) blocks more x e = refl
 
 -- the headers stopped the job
-pub headers_stop : (held : Option (List ℕ)) (limit reads reads' most : ℕ) (stop : Stop) → StoppedLooking reads reads' limit most stop → IfSome held (λ g. IsDefined (checked (headers_of 65535 g)) (Err stop)) →
+pub headers_stop : (held : Option (List ℕ)) (limit : ℕ) (reads reads' : Tally) (most : ℕ) (stop : Stop) → StoppedLooking reads reads' limit most stop → IfSome held (λ g. IsDefined (checked (headers_of 65535 g)) (Err stop)) →
     IfSome held (λ g. TellsFirstPast {X = Unit {0}} limit (headers_takings 65535 0 0 g) (Err stop)) → IfSome held (λ g. TellsFirstPast {X = Unit {0}} limit (later_takings g) (Err stop))
 headers_stop None limit reads reads' most stop cause is told = tt
 headers_stop (Some g) limit reads reads' most (Refused x) cause is told =
@@ -93,15 +94,15 @@ headers_stop (Some g) limit reads reads' most (OverLimit live asked told') cause
 headers_stop (Some g) limit reads reads' most NoMemory cause is told = tt
 
 -- the header of HDU 0 could not be read once more
-pub blocks_stop : (held : Option (List ℕ)) (limit reads reads' wants wants' : ℕ) (stop : Stop) → StoppedReading reads reads' wants wants' stop →
+pub blocks_stop : (held : Option (List ℕ)) (limit : ℕ) (reads reads' : Tally) (stop : Stop) → StoppedReading reads reads' stop →
     IfSome held (λ g. checked (headers_of 65535 g) ≡ Ok (tt {0})) → IfSome held (λ g. IsDefined (header_blocks_of 0 0 g) (Err stop)) →
     IfSome held (λ g. TellsFirstPast {X = Unit {0}} limit (later_takings g) (Err stop))
-blocks_stop None limit reads reads' wants wants' stop cause pass is = tt
-blocks_stop (Some g) limit reads reads' wants wants' (Refused x) cause pass is = absurd (found_again g x pass is)
-blocks_stop (Some g) limit reads reads' wants wants' ReadFault cause pass is = tt
-blocks_stop (Some g) limit reads reads' wants wants' WriteFault cause pass is = absurd cause
-blocks_stop (Some g) limit reads reads' wants wants' (OverLimit live asked told) cause pass is = absurd cause
-blocks_stop (Some g) limit reads reads' wants wants' NoMemory cause pass is = tt
+blocks_stop None limit reads reads' stop cause pass is = tt
+blocks_stop (Some g) limit reads reads' (Refused x) cause pass is = absurd (found_again g x pass is)
+blocks_stop (Some g) limit reads reads' ReadFault cause pass is = tt
+blocks_stop (Some g) limit reads reads' WriteFault cause pass is = absurd cause
+blocks_stop (Some g) limit reads reads' (OverLimit live asked told) cause pass is = absurd cause
+blocks_stop (Some g) limit reads reads' NoMemory cause pass is = tt
 
 packing : (headers : Result (List Header) Fault) (blocks : Result ℕ Fault) (n : ℕ) (more : List ℕ) → checked headers ≡ Ok (tt {0}) → blocks ≡ Ok n → packing_takings headers blocks more ≡ piled 2880 (2880 * n ∷ more)
 packing (Ok hs) (Ok m) n more e is = let same : m ≡ n = cc (is) in ap (λ k. piled 2880 (2880 * k ∷ more)) same

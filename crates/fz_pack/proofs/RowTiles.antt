@@ -38,7 +38,8 @@ row_numbers : (c r t : ℕ) (payload : List ℕ) → 0 < c → t < r →
     tile (image c r payload) (c ∷ 1 ∷ []) t ≡ map (λ x. at (image c r payload) (moved (0 ∷ t ∷ []) (x ∷ 0 ∷ []))) (range_with_len 0 c)
 unfolding tile
 row_numbers c r t payload some within =
-    ap (λ o. map (λ q. at (image c r payload) (moved o q)) (box_coordinates (tile_lengths (c ∷ r ∷ []) (c ∷ 1 ∷ []) t))) (row_corner c r t some within)
+    map-map (at (image c r payload)) (moved (tile_corner (c ∷ r ∷ []) (c ∷ 1 ∷ []) t)) (box_coordinates (tile_lengths (c ∷ r ∷ []) (c ∷ 1 ∷ []) t))
+    ∙ ap (λ o. map (λ q. at (image c r payload) (moved o q)) (box_coordinates (tile_lengths (c ∷ r ∷ []) (c ∷ 1 ∷ []) t))) (row_corner c r t some within)
     ∙ ap (λ n. map (λ q. at (image c r payload) (moved (0 ∷ t ∷ []) q)) (box_coordinates n)) (row_lengths c r t some within)
     ∙ ap (map (λ q. at (image c r payload) (moved (0 ∷ t ∷ []) q))) (append-nil (map (λ x. x ∷ 0 ∷ []) (range_with_len 0 c)))
     ∙ map-map (λ q. at (image c r payload) (moved (0 ∷ t ∷ []) q)) (λ x. x ∷ 0 ∷ []) (range_with_len 0 c)

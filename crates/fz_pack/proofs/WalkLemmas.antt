@@ -1,6 +1,7 @@
 -- Going over the HDUs of a file, one header after another.
 use Rattle.std.proofs.Common.{◌≡◌, ◌≢◌, ℕ, suc, ◌+◌, ◌-◌, ◌*◌, ◌<◌, ◌≤◌, ◌==◌, Bool, true, false, nat_lt, List, [], ◌∷◌, ◌++◌, length, take, drop, Option, Some, None, IfSome, IfErr, Result, Ok, Err, refl, sym, ◌∙◌, ap, arith, if◌then◌else◌}
 use Rattle.std.proofs.lemmas.Bool.Decides.{nat_tests}
+use Rattle.fz_base.specs.Counts.{Tally}
 use Rattle.fz_base.specs.Source.{Reads, HoldsLength}
 use Rattle.fz_base.specs.Refusal.{refusal}
 use Rattle.fz_base.specs.Stop.{IsDefined, IfAnswered, StoppedReading}
@@ -11,7 +12,7 @@ use Rattle.fz_base.specs.declared.failure.Stop.{Stop}
 use Rattle.fz_base.specs.declared.failure.Stop.TheVariants.{Refused, ReadFault, WriteFault, OverLimit, NoMemory}
 use Rattle.fz_block.specs.declared.header.Header.{Header}
 use Rattle.fz_block.specs.Header.{next_start_of}
-use Rattle.fz_block.specs.Checks.{header_blocks_of, header_of, header_in, hdu_at, followed_by, and_those_after, headers_from, headers_of}
+use Rattle.fz_block.specs.Checks.{header_blocks_of, header_of, header_in, hdu_at, followed_by, and_those_after, headers_from, headers_of, walk_from}
 use Rattle.fz_pack.specs.Headers.{checked}
 use Rattle.fz_pack.specs.Looking.{StoppedLooking}
 use Rattle.fz_pack.specs.FirstTaking.{header_taking, for_those_after, headers_takings, first_past, TellsFirstPast}
@@ -52,16 +53,16 @@ by_header (Some g) len k start n header (Err NoMemory) told blocks whole read e 
 one_taken : (limit live asked : ℕ) → live + asked ≤ limit → first_past limit ((live, asked) ∷ []) ≡ None
 one_taken limit live asked room = let test : nat_lt limit (live + asked) ≡ false = grind (arith, nat_tests) in rw test refl
 
-pub header_taken : (held : Option (List ℕ)) (limit k start n reads reads' wants wants' : ℕ) (answer : Result Header Stop) → IfSome held (λ g. header_blocks_of k start g ≡ Ok n) →
-    2880 + 2880 * n ≤ limit → IfErr answer (StoppedReading reads reads' wants wants') →
+pub header_taken : (held : Option (List ℕ)) (limit k start n : ℕ) (reads reads' : Tally) (answer : Result Header Stop) → IfSome held (λ g. header_blocks_of k start g ≡ Ok n) →
+    2880 + 2880 * n ≤ limit → IfErr answer (StoppedReading reads reads') →
     IfSome held (λ g. TellsFirstPast limit (header_taking (header_blocks_of k start g)) answer)
-header_taken None limit k start n reads reads' wants wants' answer blocks room cause = tt
-header_taken (Some g) limit k start n reads reads' wants wants' answer blocks room cause = by_answer answer cause
+header_taken None limit k start n reads reads' answer blocks room cause = tt
+header_taken (Some g) limit k start n reads reads' answer blocks room cause = by_answer answer cause
   where
     none : first_past limit (header_taking (header_blocks_of k start g)) ≡ None
     none = ap (λ b. first_past limit (header_taking b)) blocks ∙ one_taken limit 2880 (2880 * n) room
 
-    by_answer : (r : Result Header Stop) → IfErr r (StoppedReading reads reads' wants wants') → TellsFirstPast limit (header_taking (header_blocks_of k start g)) r
+    by_answer : (r : Result Header Stop) → IfErr r (StoppedReading reads reads') → TellsFirstPast limit (header_taking (header_blocks_of k start g)) r
     by_answer (Ok h) why = none
     by_answer (Err (Refused x)) why = none
     by_answer (Err ReadFault) why = tt
@@ -79,11 +80,11 @@ checked_on h (Ok hs) = refl
 checked_on h (Err x) = refl
 
 pub walk_refused : (m k start : ℕ) (g : List ℕ) (x : Fault) → hdu_at k start g ≡ Err x → checked (headers_from (suc m) k start g) ≡ Err x
-unfolding headers_from
+unfolding walk_from
 walk_refused m k start g x e = after_refused g (λ h. headers_from m (suc k) (next_start_of h) g) x (hdu_at k start g) e
 
 pub walk_ends : (m k start : ℕ) (g : List ℕ) (h : Header) → hdu_at k start g ≡ Ok h → next_start_of h ≡ length g → checked (headers_from (suc m) k start g) ≡ Ok (tt {0})
-unfolding headers_from
+unfolding walk_from
 walk_ends m k start g h e last =
     let test : (next_start_of h == length g) ≡ true = grind (arith, nat_tests) in
     ap (λ r. checked (and_those_after g (λ k'. headers_from m (suc k) (next_start_of k') g) r)) e
@@ -91,7 +92,7 @@ walk_ends m k start g h e last =
 
 pub walk_goes_on : (m k start : ℕ) (g : List ℕ) (h : Header) → hdu_at k start g ≡ Ok h → next_start_of h ≢ length g →
     checked (headers_from (suc m) k start g) ≡ checked (headers_from m (suc k) (next_start_of h) g)
-unfolding headers_from
+unfolding walk_from
 walk_goes_on m k start g h e more =
     let test : (next_start_of h == length g) ≡ false = grind (arith, nat_tests) in
     ap (λ r. checked (and_those_after g (λ k'. headers_from m (suc k) (next_start_of k') g) r)) e
@@ -99,7 +100,7 @@ walk_goes_on m k start g h e more =
     ∙ checked_on h (headers_from m (suc k) (next_start_of h) g))
 
 pub walk_too_long : (k start : ℕ) (g : List ℕ) → checked (headers_from 0 k start g) ≡ Err (refusal k (Byte start) Limit)
-unfolding headers_from
+unfolding walk_from
 walk_too_long k start g = refl
 
 -- takings one after another
@@ -162,7 +163,7 @@ unfolding headers_takings
 more_takings m k start g = (for_those_after g (λ h. headers_takings m (suc k) (next_start_of h) g) (hdu_at k start g), refl)
 
 -- one header stopped the walk: with all takings as with its own
-pub past_stops : (limit m k start reads reads' most : ℕ) (g : List ℕ) (stop : Stop) → StoppedLooking reads reads' limit most stop → IsDefined (hdu_at k start g) (Err stop) →
+pub past_stops : (limit m k start : ℕ) (reads reads' : Tally) (most : ℕ) (g : List ℕ) (stop : Stop) → StoppedLooking reads reads' limit most stop → IsDefined (hdu_at k start g) (Err stop) →
     TellsFirstPast {X = Header} limit (header_taking (header_blocks_of k start g)) (Err stop) → TellsFirstPast {X = Unit {0}} limit (headers_takings (suc m) k start g) (Err stop)
 past_stops limit m k start reads reads' most g (Refused x) cause is none =
     ap (first_past limit) (takings_stop m k start g x is) ∙ past_none limit (header_taking (header_blocks_of k start g)) [] none
@@ -204,7 +205,7 @@ same_past limit first second (Err WriteFault) e told = e ∙ told
 same_past limit first second (Err (OverLimit live asked told')) e told = e ∙ told
 same_past limit first second (Err NoMemory) e told = tt
 
-pub takings_stopped : (held : Option (List ℕ)) (limit k start reads reads' most : ℕ) (stop : Stop) → IfSome held (Walked limit k start) → k < 65535 → StoppedLooking reads reads' limit most stop →
+pub takings_stopped : (held : Option (List ℕ)) (limit k start : ℕ) (reads reads' : Tally) (most : ℕ) (stop : Stop) → IfSome held (Walked limit k start) → k < 65535 → StoppedLooking reads reads' limit most stop →
     IfSome held (λ g. IsDefined (hdu_at k start g) (Err stop)) → IfSome held (λ g. TellsFirstPast {X = Header} limit (header_taking (header_blocks_of k start g)) (Err stop)) →
     IfSome held (λ g. TellsFirstPast {X = Unit {0}} limit (headers_takings 65535 0 0 g) (Err stop))
 takings_stopped None limit k start reads reads' most stop walked few cause is told = tt

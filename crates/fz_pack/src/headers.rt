@@ -31,9 +31,9 @@ pub(crate) fn check_headers<S: Source>(
     ensures attached { S.attached source.new ≡ S.attached source.old }
     ensures live { meter.new.live ≡ meter.old.live }
     ensures limit { meter.new.limit ≡ meter.old.limit }
-    ensures kept { S.faults source.old ≤ S.faults source.new }
-    ensures unread { OnOk result (S.faults source.new ≡ S.faults source.old) }
-    ensures cause { IfErr result (StoppedLooking (S.faults source.old) (S.faults source.new) meter.old.limit (2 ^ 30)) }
+    ensures kept { (S.tally source.old).faults ≤ (S.tally source.new).faults }
+    ensures unread { OnOk result ((S.tally source.new).faults ≡ (S.tally source.old).faults) }
+    ensures cause { IfErr result (StoppedLooking (S.tally source.old) (S.tally source.new) meter.old.limit (2 ^ 30)) }
 {
     let mut start = 0;
     for hdu in 0..MAX_HDUS {
@@ -72,9 +72,9 @@ fn header_at<S: Source>(
     ensures attached { S.attached source.new ≡ S.attached source.old }
     ensures live { meter.new.live ≡ meter.old.live }
     ensures limit { meter.new.limit ≡ meter.old.limit }
-    ensures kept { S.faults source.old ≤ S.faults source.new }
-    ensures unread { OnOk result (S.faults source.new ≡ S.faults source.old) }
-    ensures cause { IfErr result (StoppedLooking (S.faults source.old) (S.faults source.new) meter.old.limit (2 ^ 30)) }
+    ensures kept { (S.tally source.old).faults ≤ (S.tally source.new).faults }
+    ensures unread { OnOk result ((S.tally source.new).faults ≡ (S.tally source.old).faults) }
+    ensures cause { IfErr result (StoppedLooking (S.tally source.old) (S.tally source.new) meter.old.limit (2 ^ 30)) }
 {
     let blocks = header_blocks(source, length, hdu, start, block)?;
     let mut buf = meter.bytes(BLOCK_LEN as u64 * u64::from(blocks))?;

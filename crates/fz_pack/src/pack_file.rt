@@ -4,7 +4,8 @@ ghost use Rattle.fz_base.specs.Counts.{Rose};
 ghost use Rattle.fz_base.specs.Source.{Reads};
 ghost use Rattle.fz_base.specs.Stop.{StoppedJob, IsRefused, TellsLimit};
 ghost use Rattle.fz_base.specs.declared.failure.Stop.TheVariants.{ReadFault, WriteFault};
-ghost use Rattle.fz_pack.specs.FirstByte.{StaysShut, StopsShut, IsShutOrPacked};
+ghost use Rattle.fz_base.specs.FirstByte.{StaysShut};
+ghost use Rattle.fz_pack.specs.FirstByte.{StopsShutOrStored, IsShutOrPacked};
 ghost use Rattle.fz_pack.specs.FirstFault.{first_fault, TellsFirstFault};
 ghost use Rattle.fz_pack.specs.Complete.{IsAnswer};
 ghost use Rattle.fz_pack.specs.FirstTaking.{takings_of, later_takings, tile_takings, image_takings, piled, TellsFirstPast};
@@ -50,10 +51,10 @@ pub fn pack<S: Source, K: Sink>(
     ensures first_byte { OnErr result (IsShutOrPacked options.now (S.held source.old) (K.contents sink.new)) }
     ensures first_fault { TellsFirstFault (S.held source.old) result }
     // Where neither count of faults rose and the limit allows 2^30 bytes, the first fault alone decides.
-    ensures complete { ¬ Rose (S.faults source.old) (S.faults source.new) → ¬ Rose (K.faults sink.old) (K.faults sink.new) → 2 ^ 30 ≤ meter.old.limit → IfSome (S.held source.old) (λ g. IsAnswer (first_fault g) result) }
-    ensures refused { IsRefused result → (S.faults source.new ≡ S.faults source.old) × (K.faults sink.new ≡ K.faults sink.old) }
-    ensures read_fault { IsErrOf result ReadFault → Rose (S.faults source.old) (S.faults source.new) }
-    ensures write_fault { IsErrOf result WriteFault → Rose (K.faults sink.old) (K.faults sink.new) }
+    ensures complete { ¬ Rose (S.tally source.old).faults (S.tally source.new).faults → ¬ Rose (K.tally sink.old).faults (K.tally sink.new).faults → 2 ^ 30 ≤ meter.old.limit → IfSome (S.held source.old) (λ g. IsAnswer (first_fault g) result) }
+    ensures refused { IsRefused result → ((S.tally source.new).faults ≡ (S.tally source.old).faults) × ((K.tally sink.new).faults ≡ (K.tally sink.old).faults) }
+    ensures read_fault { IsErrOf result ReadFault → Rose (S.tally source.old).faults (S.tally source.new).faults }
+    ensures write_fault { IsErrOf result WriteFault → Rose (K.tally sink.old).faults (K.tally sink.new).faults }
     ensures over_limit { TellsLimit meter.old.limit (2 ^ 30) result }
     ensures taking { TellsTaking result }
     // OverLimit comes exactly where a taking passes the limit, and tells the first.
@@ -61,7 +62,7 @@ pub fn pack<S: Source, K: Sink>(
 
     ensures unmade { IfUnmade result ((K.created sink.new ≡ K.created sink.old) × (K.contents sink.new ≡ K.contents sink.old)) }
     ensures source { (S.held source.new ≡ S.held source.old) × (S.attached source.new ≡ S.attached source.old) }
-    ensures counts_kept { (S.faults source.old ≤ S.faults source.new) × (K.faults sink.old ≤ K.faults sink.new) }
+    ensures counts_kept { ((S.tally source.old).faults ≤ (S.tally source.new).faults) × ((K.tally sink.old).faults ≤ (K.tally sink.new).faults) }
 {
     let _options = options;
     let mut block = meter.bytes(BLOCK_LEN as u64)?;
@@ -83,16 +84,16 @@ fn with_block<S: Source, K: Sink>(
     requires block { len block.old ≡ 2880 }
     requires live { meter.old.live ≡ 2880 }
     ensures output { OnOk result (HoldsStored (S.held source.old) (K.contents sink.new)) }
-    ensures stopped { OnErr result (StopsShut (S.held source.old) (K.contents sink.old) (K.contents sink.new)) }
+    ensures stopped { OnErr result (StopsShutOrStored (S.held source.old) (K.contents sink.old) (K.contents sink.new)) }
     ensures first_fault { TellsFirstFault (S.held source.old) result }
     ensures taking { TellsTaking result }
     ensures first_past { IfSome (S.held source.old) (λ g. TellsFirstPast meter.old.limit (later_takings g) result) }
     ensures unmade { IfUnmade result ((K.created sink.new ≡ K.created sink.old) × (K.contents sink.new ≡ K.contents sink.old)) }
     ensures source { (S.held source.new ≡ S.held source.old) × (S.attached source.new ≡ S.attached source.old) }
-    ensures counts_kept { (S.faults source.old ≤ S.faults source.new) × (K.faults sink.old ≤ K.faults sink.new) }
+    ensures counts_kept { ((S.tally source.old).faults ≤ (S.tally source.new).faults) × ((K.tally sink.old).faults ≤ (K.tally sink.new).faults) }
     ensures live { meter.new.live ≡ meter.old.live }
     ensures limit { meter.new.limit ≡ meter.old.limit }
-    ensures cause { IfErr result (StoppedJob (S.faults source.old) (S.faults source.new) (K.faults sink.old) (K.faults sink.new) meter.old.limit (2 ^ 30)) }
+    ensures cause { IfErr result (StoppedJob (S.tally source.old) (S.tally source.new) (K.tally sink.old) (K.tally sink.new) meter.old.limit (2 ^ 30)) }
 {
     check_headers(source, length, meter, block)?;
     let blocks = header_blocks(source, length, 0, 0, block)?;
@@ -120,16 +121,16 @@ fn with_header<S: Source, K: Sink>(
     requires headers { IfSome (S.held source.old) (HeadersPass (len buf.old)) }
     requires live { meter.old.live ≡ 2880 + len buf.old }
     ensures output { OnOk result (HoldsStored (S.held source.old) (K.contents sink.new)) }
-    ensures stopped { OnErr result (StopsShut (S.held source.old) (K.contents sink.old) (K.contents sink.new)) }
+    ensures stopped { OnErr result (StopsShutOrStored (S.held source.old) (K.contents sink.old) (K.contents sink.new)) }
     ensures first_fault { TellsFirstFault (S.held source.old) result }
     ensures taking { TellsTaking result }
     ensures first_past { IfSome (S.held source.old) (λ g. TellsFirstPast meter.old.limit (piled meter.old.live (tile_takings (first_fault g) (small_axes_of (take 2880 g)))) result) }
     ensures unmade { IfUnmade result ((K.created sink.new ≡ K.created sink.old) × (K.contents sink.new ≡ K.contents sink.old)) }
     ensures source { (S.held source.new ≡ S.held source.old) × (S.attached source.new ≡ S.attached source.old) }
-    ensures counts_kept { (S.faults source.old ≤ S.faults source.new) × (K.faults sink.old ≤ K.faults sink.new) }
+    ensures counts_kept { ((S.tally source.old).faults ≤ (S.tally source.new).faults) × ((K.tally sink.old).faults ≤ (K.tally sink.new).faults) }
     ensures live { meter.new.live ≡ meter.old.live }
     ensures limit { meter.new.limit ≡ meter.old.limit }
-    ensures cause { IfErr result (StoppedJob (S.faults source.old) (S.faults source.new) (K.faults sink.old) (K.faults sink.new) meter.old.limit (2 ^ 30)) }
+    ensures cause { IfErr result (StoppedJob (S.tally source.old) (S.tally source.new) (K.tally sink.old) (K.tally sink.new) meter.old.limit (2 ^ 30)) }
 {
     let header = built_header(source, length, buf, block)?;
     with_image(source, length, name, sink, meter, block, buf, &header)
@@ -154,16 +155,16 @@ fn with_image<S: Source, K: Sink>(
     requires passed { IfSome (S.held source.old) (λ g. first_fault g ≡ None) }
     requires live { meter.old.live ≡ 5760 }
     ensures output { OnOk result (HoldsStored (S.held source.old) (K.contents sink.new)) }
-    ensures stopped { OnErr result (StopsShut (S.held source.old) (K.contents sink.old) (K.contents sink.new)) }
+    ensures stopped { OnErr result (StopsShutOrStored (S.held source.old) (K.contents sink.old) (K.contents sink.new)) }
     ensures first_fault { TellsFirstFault (S.held source.old) result }
     ensures taking { TellsTaking result }
     ensures first_past { TellsFirstPast meter.old.limit (piled meter.old.live (image_takings (columns_of header.now))) result }
     ensures unmade { IfUnmade result ((K.created sink.new ≡ K.created sink.old) × (K.contents sink.new ≡ K.contents sink.old)) }
     ensures source { (S.held source.new ≡ S.held source.old) × (S.attached source.new ≡ S.attached source.old) }
-    ensures counts_kept { (S.faults source.old ≤ S.faults source.new) × (K.faults sink.old ≤ K.faults sink.new) }
+    ensures counts_kept { ((S.tally source.old).faults ≤ (S.tally source.new).faults) × ((K.tally sink.old).faults ≤ (K.tally sink.new).faults) }
     ensures live { meter.new.live ≡ meter.old.live }
     ensures limit { meter.new.limit ≡ meter.old.limit }
-    ensures cause { IfErr result (StoppedJob (S.faults source.old) (S.faults source.new) (K.faults sink.old) (K.faults sink.new) meter.old.limit (2 ^ 30)) }
+    ensures cause { IfErr result (StoppedJob (S.tally source.old) (S.tally source.new) (K.tally sink.old) (K.tally sink.new) meter.old.limit (2 ^ 30)) }
 {
     let layout = Layout::of(header);
     let mut space = Workspace::take(meter, buf.len() as u64, layout.columns)?;

@@ -32,7 +32,7 @@ pub(crate) fn check_rest<S: Source>(
     ensures held { S.held source.new ≡ S.held source.old }
     ensures attached { S.attached source.new ≡ S.attached source.old }
     ensures ends { OnOk result (next_start_of header.now ≡ length) }
-    ensures cause { ReadsOnly (S.faults source.old) (S.faults source.new) (S.wants source.old) (S.wants source.new) result }
+    ensures cause { ReadsOnly (S.tally source.old) (S.tally source.new) result }
 {
     let unbuilt = Err(Stop::Refused(unbuilt()));
     if next_start(header) != length {
@@ -75,7 +75,7 @@ fn has_zero_fill<S: Source>(
     ensures zero { IfOk result (λ b. IfSome (S.held source.old) (λ g. b ≡ is_filled 0 (drop data_end g))) }
     ensures held { S.held source.new ≡ S.held source.old }
     ensures attached { S.attached source.new ≡ S.attached source.old }
-    ensures cause { HasCause (S.faults source.old) (S.faults source.new) (S.wants source.old) (S.wants source.new) result }
+    ensures cause { HasCause (S.tally source.old) (S.tally source.new) result }
 {
     if data_end == length {
         return Ok(true);

@@ -42,7 +42,7 @@ pub(crate) fn built_header<S: Source>(
     ensures small { IfOk result IsSmallImage }
     ensures held { S.held source.new ≡ S.held source.old }
     ensures attached { S.attached source.new ≡ S.attached source.old }
-    ensures cause { ReadsOnly (S.faults source.old) (S.faults source.new) (S.wants source.old) (S.wants source.new) result }
+    ensures cause { ReadsOnly (S.tally source.old) (S.tally source.new) result }
 {
     let header = read_header(source, length, 0, 0, buf)?;
     let Some(image) = small_image(buf, header.cards) else {

@@ -4,7 +4,7 @@ ghost use Rattle.fz_base.specs.Stop.{ReadsAndWrites, ReadsOnly, Writes};
 ghost use Rattle.fz_tile.specs.Plain.{plain_bytes, stored_pixels};
 ghost use Rattle.fz_pack.specs.Written.{headers_written, tiles_written, tile_written, filled_to_blocks, closed, packed_bytes, stored_row, IsReadStop};
 ghost use Rattle.fz_pack.specs.Workspace.{HasSpace, SameSpace};
-ghost use Rattle.fz_pack.specs.FirstByte.{IsShut, StaysShut};
+ghost use Rattle.fz_base.specs.FirstByte.{IsShut, StaysShut};
 ghost use Rattle.fz_pack.specs.Layout.{Fits, CanRead};
 ghost use Rattle.fz_pack.specs.SmallPlan.{small_packed_header};
 ghost use Rattle.fz_pack.specs.SmallImage.{has_small_names};
@@ -39,7 +39,7 @@ pub(crate) fn write_packed<S: Source, K: Sink>(
     ensures held { S.held source.new ≡ S.held source.old }
     ensures attached { S.attached source.new ≡ S.attached source.old }
     ensures space { SameSpace space.old space.new }
-    ensures cause { ReadsAndWrites (S.faults source.old) (S.faults source.new) (K.faults sink.old) (K.faults sink.new) result }
+    ensures cause { ReadsAndWrites (S.tally source.old) (S.tally source.new) (K.tally sink.old) (K.tally sink.new) result }
 {
     sink.create(name).map_err(Stop::writing)?;
     write_headers(sink, buf, layout, space.translated.as_mut_slice(), block)?;
@@ -68,7 +68,7 @@ fn write_headers<K: Sink>(
     ensures headers { OnOk result (K.contents sink.new ≡ headers_written (small_packed_header buf.now layout.now.columns layout.now.rows) (K.contents sink.old)) }
     ensures shut { StaysShut (K.contents sink.old) (K.contents sink.new) }
     ensures created { K.created sink.new ≡ K.created sink.old }
-    ensures cause { Writes (K.faults sink.old) (K.faults sink.new) result }
+    ensures cause { Writes (K.tally sink.old) (K.tally sink.new) result }
 {
     write_empty_primary(block);
     sink.write_at(1, &block[1..]).map_err(Stop::writing)?;
@@ -85,7 +85,7 @@ fn write_last<K: Sink>(sink: &mut K, layout: &Layout, block: &mut [u8]) -> Resul
     ensures closed { OnOk result (K.contents sink.new ≡ closed layout.now (K.contents sink.old)) }
     ensures stopped { OnErr result (StaysShut (K.contents sink.old) (K.contents sink.new) ⊎ (K.contents sink.new ≡ closed layout.now (K.contents sink.old))) }
     ensures created { K.created sink.new ≡ K.created sink.old }
-    ensures cause { Writes (K.faults sink.old) (K.faults sink.new) result }
+    ensures cause { Writes (K.tally sink.old) (K.tally sink.new) result }
 {
     write_fill(sink, layout, block)?;
     sink.write_at(0, b"S").map_err(Stop::writing)?;
@@ -100,7 +100,7 @@ fn write_fill<K: Sink>(sink: &mut K, layout: &Layout, block: &mut [u8]) -> Resul
     ensures filled { OnOk result (K.contents sink.new ≡ filled_to_blocks layout.now (K.contents sink.old)) }
     ensures shut { StaysShut (K.contents sink.old) (K.contents sink.new) }
     ensures created { K.created sink.new ≡ K.created sink.old }
-    ensures cause { Writes (K.faults sink.old) (K.faults sink.new) result }
+    ensures cause { Writes (K.tally sink.old) (K.tally sink.new) result }
 {
     let end = layout.heap_at() + layout.heap_len;
     let fill = (end.div_ceil(BLOCK_LEN as u64) * BLOCK_LEN as u64 - end) as usize;
@@ -128,7 +128,7 @@ fn write_tiles<S: Source, K: Sink>(
     ensures held { S.held source.new ≡ S.held source.old }
     ensures attached { S.attached source.new ≡ S.attached source.old }
     ensures created { K.created sink.new ≡ K.created sink.old }
-    ensures cause { ReadsAndWrites (S.faults source.old) (S.faults source.new) (K.faults sink.old) (K.faults sink.new) result }
+    ensures cause { ReadsAndWrites (S.tally source.old) (S.tally source.new) (K.tally sink.old) (K.tally sink.new) result }
 {
     let code = &mut code[..layout.tile_len() as usize];
     for tile in 0..layout.rows {
@@ -156,7 +156,7 @@ fn write_tile<S: Source, K: Sink>(
     ensures held { S.held source.new ≡ S.held source.old }
     ensures attached { S.attached source.new ≡ S.attached source.old }
     ensures created { K.created sink.new ≡ K.created sink.old }
-    ensures cause { ReadsAndWrites (S.faults source.old) (S.faults source.new) (K.faults sink.old) (K.faults sink.new) result }
+    ensures cause { ReadsAndWrites (S.tally source.old) (S.tally source.new) (K.tally sink.old) (K.tally sink.new) result }
 {
     let offset = layout.tile_offset(tile);
     read_tile(source, layout.pixels_at + offset, numbers, code)?;
@@ -181,7 +181,7 @@ fn read_tile<S: Source>(
     ensures bytes { OnOk result (IfSome (S.held source.old) (λ g. code.new ≡ plain_bytes 16 (stored_pixels 16 (len numbers.old) (take (len code.old) (drop at g))))) }
     ensures held { S.held source.new ≡ S.held source.old }
     ensures attached { S.attached source.new ≡ S.attached source.old }
-    ensures cause { ReadsOnly (S.faults source.old) (S.faults source.new) (S.wants source.old) (S.wants source.new) result }
+    ensures cause { ReadsOnly (S.tally source.old) (S.tally source.new) result }
     ensures stop { IfErr result IsReadStop }
 {
     source.read_at(at, code).map_err(Stop::reading)?;

@@ -35,11 +35,11 @@ returns-in_err-header-clause-first_past g c =
     let within : IfSome held (λ f. TellsFirstPast {X = Header} c.args.meter.now.limit (header_taking (header_blocks_of c.loop-hdu.hdu c.loop-hdu.start f)) (Err c.in_err-header.field-0.0)) =
     subst (λ (n : ℕ). IfSome held (λ f. TellsFirstPast {X = Header} n (header_taking (header_blocks_of c.loop-hdu.hdu c.loop-hdu.start f)) (Err c.in_err-header.field-0.0)))
     c.loop-hdu.invariant.limit told in
-    let cause : StoppedLooking (g.S.Source.faults c.loop-hdu.source) (g.S.Source.faults c.header_at.new.source) c.args.meter.now.limit (2 ^ 30) c.in_err-header.field-0.0 =
-    subst (λ (n : ℕ). StoppedLooking (g.S.Source.faults c.loop-hdu.source) (g.S.Source.faults c.header_at.new.source) n (2 ^ 30) c.in_err-header.field-0.0)
+    let cause : StoppedLooking (g.S.Source.tally c.loop-hdu.source) (g.S.Source.tally c.header_at.new.source) c.args.meter.now.limit (2 ^ 30) c.in_err-header.field-0.0 =
+    subst (λ (n : ℕ). StoppedLooking (g.S.Source.tally c.loop-hdu.source) (g.S.Source.tally c.header_at.new.source) n (2 ^ 30) c.in_err-header.field-0.0)
     c.loop-hdu.invariant.limit c.in_err-header.ensures.cause in
     subst (λ (r : Result (Unit {0}) Stop). IfSome held (λ f. TellsFirstPast c.args.meter.now.limit (headers_takings 65535 0 0 f) r)) (sym stopped)
-    (takings_stopped held c.args.meter.now.limit c.loop-hdu.hdu c.loop-hdu.start _ _ _ c.in_err-header.field-0.0 c.loop-hdu.invariant.walked (omega arith) cause says within)
+    (takings_stopped held c.args.meter.now.limit c.loop-hdu.hdu c.loop-hdu.start (g.S.Source.tally c.loop-hdu.source) (g.S.Source.tally c.header_at.new.source) (2 ^ 30) c.in_err-header.field-0.0 c.loop-hdu.invariant.walked (omega arith) cause says within)
 
 pub returns-then-start-length-clause-exact : goal.returns-then-start-length-clause-exact
 returns-then-start-length-clause-exact g c =

@@ -7,7 +7,7 @@ abbrev pub invariant-loop-hdu : goal.invariant-loop-hdu
 invariant-loop-hdu g l = record {
   held : g.S.Source.held l.source ≡ g.S.Source.held l.fn.source;
   attached : g.S.Source.attached l.source ≡ g.S.Source.attached l.fn.source;
-  faults : g.S.Source.faults l.source ≡ g.S.Source.faults l.fn.source;
+  faults : (g.S.Source.tally l.source).faults ≡ (g.S.Source.tally l.fn.source).faults;
   live : l.meter.live ≡ l.fn.meter.live;
   limit : l.meter.limit ≡ l.fn.meter.limit;
   within : (l.start < l.length) ⊎ ((l.hdu ≡ 0) × (l.start ≡ 0));

@@ -30,5 +30,5 @@ returns-clause-exact g c =
 pub returns-clause-first_past : goal.returns-clause-first_past
 returns-clause-first_past g c =
     let room : 2880 + 2880 * c.in_ok-blocks.blocks ≤ c.args.meter.now.limit = search rules in
-    header_taken (g.S.Source.held c.args.source.now) c.args.meter.now.limit c.args.hdu c.args.start c.in_ok-blocks.blocks _ _ _ _ c.read_header-answer.result
+    header_taken (g.S.Source.held c.args.source.now) c.args.meter.now.limit c.args.hdu c.args.start c.in_ok-blocks.blocks (g.S.Source.tally c.header_blocks.new.source) (g.S.Source.tally c.read_header-answer.new.source) c.read_header-answer.result
     c.in_ok-blocks.ensures.exact room c.read_header-answer.ensures.cause.stop

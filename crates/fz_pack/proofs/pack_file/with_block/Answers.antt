@@ -1,10 +1,10 @@
 -- The checks of all headers come first; then that of HDU 0 is read once more.
-use Rattle.std.proofs.Common.{◌≡◌, ℕ, ◌+◌, ◌*◌, ◌≤◌, List, Option, OnErr, Result, Ok, Err, sym, ap, ◌∙◌, subst, rules, arith, length, take, IfSome}
+use Rattle.std.proofs.Common.{◌≡◌, ℕ, ◌+◌, ◌*◌, ◌≤◌, ◌^◌, List, Option, OnErr, Result, Ok, Err, sym, ap, ◌∙◌, subst, rules, arith, length, take, IfSome}
 use Rattle.std.proofs.lemmas.List.{length-replicate}
 use Rattle.fz_base.specs.Stop.{IsDefined, stop_of_short}
 use Rattle.fz_base.specs.declared.failure.Stop.{Stop}
 use Rattle.fz_block.specs.Checks.{header_blocks_of}
-use Rattle.fz_pack.specs.FirstByte.{StopsShut}
+use Rattle.fz_pack.specs.FirstByte.{StopsShutOrStored}
 use Rattle.fz_pack.specs.FirstFault.{first_fault, TellsFirstFault}
 use Rattle.fz_pack.specs.FirstTaking.{piled, tile_takings, later_takings, TellsFirstPast}
 use Rattle.fz_pack.specs.SmallImage.{small_axes_of}
@@ -25,7 +25,7 @@ returns-in_err-check_headers-clause-first_past g c =
     let held : Option (List ℕ) = g.S.Source.held c.args.source.now in
     let stopped : c.from_residual.result ≡ Err c.in_err-check_headers.field-0.0 = search rules in
     subst (λ (r : Result (Unit {0}) Stop). IfSome held (λ f. TellsFirstPast c.args.meter.now.limit (later_takings f) r)) (sym stopped)
-    (headers_stop held c.args.meter.now.limit _ _ _ c.in_err-check_headers.field-0.0 c.in_err-check_headers.ensures.cause c.in_err-check_headers.ensures.exact
+    (headers_stop held c.args.meter.now.limit (g.S.Source.tally c.args.source.now) (g.S.Source.tally c.check_headers.new.source) (2 ^ 30) c.in_err-check_headers.field-0.0 c.in_err-check_headers.ensures.cause c.in_err-check_headers.ensures.exact
     c.in_err-check_headers.ensures.first_past)
 
 pub returns-in_err-blocks-clause-first_fault : goal.returns-in_err-blocks-clause-first_fault
@@ -42,7 +42,7 @@ returns-in_err-blocks-clause-first_past g c =
     let stopped : c.from_residual-in_err-blocks.result ≡ Err c.in_err-blocks.field-0.0 = search rules in
     let exact : IfSome held (λ f. IsDefined (header_blocks_of 0 0 f) (Err c.in_err-blocks.field-0.0)) = rw c.in_ok-check_headers.ensures.held at c.in_err-blocks.ensures.exact in
     subst (λ (r : Result (Unit {0}) Stop). IfSome held (λ f. TellsFirstPast c.args.meter.now.limit (later_takings f) r)) (sym stopped)
-    (blocks_stop held c.args.meter.now.limit _ _ _ _ c.in_err-blocks.field-0.0 c.in_err-blocks.ensures.cause.stop c.in_ok-check_headers.ensures.exact exact)
+    (blocks_stop held c.args.meter.now.limit (g.S.Source.tally c.check_headers.new.source) (g.S.Source.tally c.header_blocks.new.source) c.in_err-blocks.field-0.0 c.in_err-blocks.ensures.cause.stop c.in_ok-check_headers.ensures.exact exact)
 
 pub returns-in_err-buf-clause-first_past : goal.returns-in_err-buf-clause-first_past
 returns-in_err-buf-clause-first_past g c =
@@ -68,7 +68,7 @@ with_header-answer-requires-clause-headers g c =
 pub returns-clause-stopped : goal.returns-clause-stopped
 returns-clause-stopped g c =
     let same : g.S.Source.held c.header_blocks.new.source ≡ g.S.Source.held c.args.source.now = search rules in
-    let stopped : OnErr c.with_header-answer.result (StopsShut (g.S.Source.held c.args.source.now) (g.K.Sink.contents c.args.sink.now) (g.K.Sink.contents c.with_header-answer.new.sink)) =
+    let stopped : OnErr c.with_header-answer.result (StopsShutOrStored (g.S.Source.held c.args.source.now) (g.K.Sink.contents c.args.sink.now) (g.K.Sink.contents c.with_header-answer.new.sink)) =
     rw same at c.with_header-answer.ensures.stopped in
     stopped
 

@@ -3,7 +3,7 @@ use Rattle.std.proofs.Common.{◌≡◌, ◌⊎◌, ℕ, ◌≤◌, List, Option
 use Rattle.std.proofs.lemmas.Result.{on_ok_weaker, on_err_weaker}
 use Rattle.fz_base.specs.Source.{HoldsLength}
 use Rattle.fz_block.specs.Header.{next_start_of}
-use Rattle.fz_pack.specs.FirstByte.{StaysShut}
+use Rattle.fz_base.specs.FirstByte.{StaysShut}
 use Rattle.fz_pack.specs.Written.{packed_bytes}
 use Rattle.fz_pack.proofs.FirstByte.{unwritten, on_err_always, either}
 use Rattle.fz_pack.proofs.SmallOutput.{built_names, small_output}

@@ -49,10 +49,9 @@ pub returns-in_err-check_rest-clause-cause : goal.returns-in_err-check_rest-clau
 returns-in_err-check_rest-clause-cause g c =
     let stopped : c.from_residual-in_err-check_rest.result ≡ Err c.in_err-check_rest.field-0.0 =
     (let p = err_from_is_err_and c.from_residual-in_err-check_rest.result c.from_residual-in_err-check_rest.ensures.1 in p.1 ∙ ap Err p.2) in
-    reads_after (g.S.Source.faults c.args.source.now) (g.S.Source.faults c.read_header.new.source) (g.S.Source.faults c.check_rest.new.source)
-    (g.S.Source.wants c.args.source.now) (g.S.Source.wants c.read_header.new.source) (g.S.Source.wants c.check_rest.new.source)
-    c.from_residual-in_err-check_rest.result c.in_err-check_rest.field-0.0 stopped c.in_ok-header.ensures.cause.ok.0 c.in_ok-header.ensures.cause.ok.1
-    c.in_err-check_rest.ensures.cause.faults_kept c.in_err-check_rest.ensures.cause.wants_kept c.in_err-check_rest.ensures.cause.stop
+    reads_after (g.S.Source.tally c.args.source.now) (g.S.Source.tally c.read_header.new.source) (g.S.Source.tally c.check_rest.new.source)
+    c.from_residual-in_err-check_rest.result c.in_err-check_rest.field-0.0 stopped c.in_ok-header.ensures.cause.ok
+    c.in_err-check_rest.ensures.cause.kept c.in_err-check_rest.ensures.cause.stop
 
 pub returns-clause-first_fault : goal.returns-clause-first_fault
 returns-clause-first_fault g c =

@@ -6,7 +6,7 @@ use Rattle.fz_base.specs.Sink.{written}
 use Rattle.fz_block.specs.Hdus.{header_bytes}
 use Rattle.fz_packed.specs.PackedHeader.{empty_primary}
 use Rattle.fz_pack.specs.SmallPlan.{small_packed_header}
-use Rattle.fz_pack.specs.FirstByte.{StaysShut}
+use Rattle.fz_base.specs.FirstByte.{StaysShut}
 use Rattle.fz_pack.proofs.FirstByte.{write_shut}
 use Rattle.fz_pack.proofs.write.write_headers.Goals as goal
 

@@ -6,7 +6,7 @@ use Rattle.fz_block.specs.Hdus.{header_bytes}
 use Rattle.fz_packed.specs.PackedHeader.{empty_primary}
 use Rattle.fz_pack.specs.SmallPlan.{small_packed_header}
 use Rattle.fz_pack.specs.Written.{headers_written, tiles_written}
-use Rattle.fz_pack.specs.FirstByte.{IsShut}
+use Rattle.fz_base.specs.FirstByte.{IsShut}
 use Rattle.fz_pack.proofs.FirstByte.{emptied_shut, on_err_always, either}
 use Rattle.fz_pack.proofs.PackedOutput.{packed_output}
 use Rattle.fz_pack.proofs.write.write_packed.Goals as goal

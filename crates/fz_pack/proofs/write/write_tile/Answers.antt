@@ -3,7 +3,7 @@ use Rattle.std.proofs.Common.{◌≡◌, ℕ, ◌+◌, ◌*◌, ◌<◌, length,
 use Rattle.fz_base.specs.Sink.{written}
 use Rattle.fz_tile.specs.Plain.{plain_bytes, stored_pixels}
 use Rattle.fz_pack.specs.Written.{stored_row}
-use Rattle.fz_pack.specs.FirstByte.{StaysShut}
+use Rattle.fz_base.specs.FirstByte.{StaysShut}
 use Rattle.fz_pack.proofs.FirstByte.{write_shut}
 use Rattle.fz_pack.proofs.TileLemmas.{tile_step}
 use Rattle.fz_pack.proofs.write.write_tile.Goals as goal
