@@ -1,6 +1,7 @@
 -- The words of a list of bytes, one by one and in ranges.
-use Rattle.std.proofs.Common.{◌≡◌, ℕ, zero, suc, ◌+◌, ◌*◌, ◌/◌, ◌<◌, ◌≤◌, List, [], ◌∷◌, length, take, drop, get_or, refl, ap, arith}
-use Rattle.std.specs.Int.{from_be_bytes, w16}
+use Rattle.std.proofs.Common.{◌≡◌, ℕ, zero, suc, ◌+◌, ◌*◌, ◌/◌, ◌<◌, ◌≤◌, List, [], ◌∷◌, length, take, drop, get_or, refl, ap, ◌∙◌, arith}
+use Rattle.std.proofs.lemmas.List.{get_or-drop, get_or-take}
+use Rattle.byteorder.specs.Endian.{big_number}
 use Rattle.fz_plio.specs.Words.{words}
 
 -- the first word, and the words of the bytes behind it
@@ -53,6 +54,11 @@ words-take (suc k) (a ∷ b ∷ bytes) =
     let e : 2 * suc k ≡ suc (suc (2 * k)) = omega arith in
     rw e (ap (λ ws. (256 * a + b) ∷ ws) (words-take k bytes))
 
--- the word of two bytes
-pub word-from_be_bytes : (a b : ℕ) → from_be_bytes w16 (a ∷ b ∷ []) ≡ 256 * a + b
-word-from_be_bytes a b = omega arith
+-- the number of the two bytes at an index
+pub big-word : (k m : ℕ) (bytes : List ℕ) → 2 ≤ m → big_number 2 (take m (drop (2 * k) bytes)) ≡ 256 * get_or bytes (2 * k) 0 + get_or bytes (2 * k + 1) 0
+big-word k m bytes two =
+    let rest = drop (2 * k) bytes in
+    let here : 2 * k + 0 ≡ 2 * k = omega arith in
+    let high : get_or (take m rest) 0 0 ≡ get_or bytes (2 * k) 0 = get_or-take m rest 0 0 (omega arith) ∙ (get_or-drop (2 * k) bytes 0 0 ∙ ap (λ n. get_or bytes n 0) here) in
+    let low : get_or (take m rest) 1 0 ≡ get_or bytes (2 * k + 1) 0 = get_or-take m rest 1 0 (omega arith) ∙ get_or-drop (2 * k) bytes 1 0 in
+    omega (arith, high, low)

@@ -1,7 +1,7 @@
 -- Words put one behind the other are put together.
 use Rattle.std.proofs.Common.{◌≡◌, ℕ, ◌+◌, ◌-◌, ◌*◌, ◌/◌, ◌%◌, ◌^◌, ◌<◌, ◌≤◌, List, [], ◌∷◌, ◌++◌, Result, Ok, Err, length, take, drop, append_assoc, length-append, refl, sym, ap, ◌∙◌, arith}
 use Rattle.std.specs.Int.{to_be_bytes, w16}
-use Rattle.std.proofs.lemmas.List.{take_at, drop_at, drop-drop, length-take-le, length-drop, take-append-drop}
+use Rattle.std.proofs.lemmas.List.{take_at, drop_at, drop-drop, length-take, drop_all, length-take-le, length-drop, take-append-drop}
 use borrow.Rule.Slice.PartMut.{put_mid}
 use Rattle.fz_plio.specs.Words.{word_bytes}
 use Rattle.fz_plio.specs.Writing.{overwritten, Puts}
@@ -37,6 +37,10 @@ overwritten-append at bs cs old within =
     let place : at + length bs + length cs ≡ at + length (bs ++ cs) = omega (arith, length-append bs cs) in
     (λ i. taken i ++ (cs ++ behind i)) ∙ append_assoc front bs _
     ∙ ap (λ (xs : List ℕ). front ++ xs) (sym (append_assoc bs cs _) ∙ ap (λ n. bs ++ cs ++ drop n old) place)
+
+-- nothing stands behind the bytes of a word in the two bytes at its place
+pub no_more : (old : List ℕ) (at : ℕ) → drop 2 (take (at + 2 - at) (drop at old)) ≡ []
+no_more old at = drop_all 2 (take (at + 2 - at) (drop at old)) (omega (arith, length-take (at + 2 - at) (drop at old)))
 
 pub puts_word : (old bytes : List ℕ) (at w : ℕ) → at + 2 ≤ length old → w < 2 ^ 16 → bytes ≡ to_be_bytes w16 w → put_mid at (at + 2 - at) old bytes ≡ overwritten at (word_bytes (w ∷ [])) old
 puts_word old bytes at w within fits same =

@@ -8,6 +8,7 @@ use crate::operation::Operation;
 use crate::run::Run;
 use crate::step::NUMBER_END;
 use crate::word::WORD_LEN;
+use byteorder::{BigEndian, ByteOrder};
 
 /// The greatest number N of an instruction.
 const NUMBER_MAX: usize = 4095;
@@ -143,7 +144,7 @@ impl ListWriter<'_> {
         if self.out.len() - self.at < WORD_LEN {
             return Err(Full);
         }
-        self.out[self.at..self.at + WORD_LEN].copy_from_slice(&word.to_be_bytes());
+        BigEndian::write_u16(&mut self.out[self.at..self.at + WORD_LEN], word);
         self.at += WORD_LEN;
         Ok(())
     }

@@ -3,6 +3,8 @@
 ghost use Rattle.std.specs.Prelude.{◌≡◌, ◌+◌, ◌*◌, ◌<◌, ◌≤◌, length, slice_index, drop, ◌∷◌};
 ghost use Rattle.fz_plio.specs.Words.{words};
 
+use byteorder::{BigEndian, ByteOrder};
+
 /// The length of the header in words.
 pub const HEADER_WORDS: usize = 7;
 
@@ -22,7 +24,7 @@ pub fn word_at(bytes: &[u8], index: usize) -> u16
     requires { 2 * index + 2 ≤ length bytes.now }
     ensures { result ≡ slice_index (words bytes.now) index }
 {
-    u16::from_be_bytes([bytes[2 * index], bytes[2 * index + 1]])
+    BigEndian::read_u16(&bytes[WORD_LEN * index..])
 }
 
 /// The first word, and the bytes behind it.

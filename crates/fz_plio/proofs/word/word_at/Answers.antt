@@ -1,7 +1,10 @@
--- The two bytes of the word are those of its index.
-use Rattle.std.proofs.Common.{sym, ◌∙◌}
-use Rattle.fz_plio.proofs.WordLemmas.{get_or-words, word-from_be_bytes}
+-- The number of the two bytes is the word of its index.
+use Rattle.std.proofs.Common.{◌≤◌, ◌-◌, ◌*◌, length, arith}
+use Rattle.fz_plio.proofs.WordLemmas.{get_or-words, big-word}
 use Rattle.fz_plio.proofs.word.word_at.Goals as goal
 
 pub returns : goal.returns
-returns c = c.from_be_bytes.ensures ∙ word-from_be_bytes _ _ ∙ sym (get_or-words c.args.index c.args.bytes.now c.requires)
+returns c =
+    let room : 2 ≤ length c.args.bytes.now - 2 * c.args.index = omega arith in
+    let number = big-word c.args.index (length c.args.bytes.now - 2 * c.args.index) c.args.bytes.now room in
+    omega (arith, c.read_u16.ensures, number, get_or-words c.args.index c.args.bytes.now c.requires)
