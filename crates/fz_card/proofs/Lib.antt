@@ -12,5 +12,5 @@ pub mod QuotedTexts
 pub mod TextValues
 pub mod ZeroTexts
 pub mod ZeroValues
-pub mod Laws
+pub mod FieldLaws
 pub mod FirstCards

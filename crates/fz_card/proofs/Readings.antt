@@ -59,6 +59,16 @@ is-integer_in text v is =
     let reads = reads_integer text v is in
     rw (is-short_numeral (without_leading_sign text) reads.numeral reads.short, reads.value)
 
+-- a text of more than 18 digits is no integer
+pub long-none : (a : Bool) (n : ℕ) (v : ℤ) → 18 < n → None ≡ cond (a && (ltb 0 n && leb n 18)) (Some v) None
+long-none a n v long = by_test (a && (ltb 0 n && leb n 18)) (no-test a n long)
+  where
+    no-test : (a : Bool) (n : ℕ) → 18 < n → (a && (ltb 0 n && leb n 18)) ≡ false
+    no-test a n long = grind (arith, nat_tests)
+
+    by_test : (test : Bool) → test ≡ false → None ≡ cond test (Some v) None
+    by_test test e = rw e refl
+
 -- the function gives v exactly where v is the integer value
 pub integer_of-value : (card : List ℕ) (v : ℤ) → integer_of card ≡ Some v → IntegerValue card v
 unfolding integer_of

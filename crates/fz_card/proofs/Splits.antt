@@ -6,6 +6,7 @@ use Rattle.std.proofs.lemmas.List.{append_assoc, append-nil, nil_from_length}
 use Rattle.fz_card.specs.Layout.{blanks}
 use Rattle.fz_card.specs.Value.{IsComment, IsPlain, SplitsRound}
 use Rattle.fz_card.specs.Plain.{before_comment, skip_blanks, cut_blanks, plain_text}
+use Rattle.fz_card.specs.Laws.{IsBehindBlanks}
 
 eqb-other : (a b : ℕ) → a ≢ b → eqb a b ≡ false
 eqb-other a b h = grind (arith, nat_tests)
@@ -27,16 +28,11 @@ before_comment-behind : (bs : List ℕ) → Behind bs (before_comment bs)
 before_comment-behind [] = record { rest = []; parts = refl; comment = tt }
 before_comment-behind (b ∷ bs) = behind-step (eqb b 47) b bs (eqb-same b 47) (before_comment-behind bs)
 
--- blanks stand before a text
-pub record After (bs rest : List ℕ) : Type 0 where
-  pub count : ℕ
-  pub parts : bs ≡ blanks count ++ rest
-
-after-step : (test : Bool) (b : ℕ) (bs : List ℕ) → (test ≡ true → b ≡ 32) → After bs (skip_blanks bs) → After (b ∷ bs) (cond test (skip_blanks bs) (b ∷ bs))
+after-step : (test : Bool) (b : ℕ) (bs : List ℕ) → (test ≡ true → b ≡ 32) → IsBehindBlanks bs (skip_blanks bs) → IsBehindBlanks (b ∷ bs) (cond test (skip_blanks bs) (b ∷ bs))
 after-step true b bs blank h = record { count = suc h.count; parts = let e : b ≡ 32 = blank refl in rw e (ap (λ (l : List ℕ). 32 ∷ l) h.parts) }
 after-step false b bs blank h = record { count = 0; parts = refl }
 
-pub skip_blanks-after : (bs : List ℕ) → After bs (skip_blanks bs)
+pub skip_blanks-after : (bs : List ℕ) → IsBehindBlanks bs (skip_blanks bs)
 skip_blanks-after [] = record { count = 0; parts = refl }
 skip_blanks-after (b ∷ bs) = after-step (eqb b 32) b bs (eqb-same b 32) (skip_blanks-after bs)
 

@@ -13,6 +13,7 @@ use Rattle.fz_card.specs.Tables.{Names, Renaming, IsNumberedName, AreNumberedNam
 use Rattle.fz_card.specs.Tables.Names.{Word, Numbered}
 use Rattle.fz_card.specs.Tables.Renaming.{Words, Stems}
 use Rattle.fz_card.specs.Naming.{number_behind, up_to, is_in, is_in_some, renamed_by, some_renamed, reversed, packed_name, plain_name, is_dropped, is_reserved}
+use Rattle.fz_card.specs.Laws.{AreBothNames}
 use Rattle.fz_card.proofs.Readings.{some-if, le-true}
 use Rattle.fz_card.proofs.Numbers.{number_behind-has, number_behind-made}
 
@@ -82,26 +83,21 @@ unfolding plain_name IsRenamed
 plain_name-renamed a b e = reversed_some-renames renamings a b (some-renames (map reversed renamings) b a e)
 
 -- what is found of a name of the table, for each line of it
-pub record Pair (a b : List ℕ) : Type 0 where
-  pub to_packed : packed_name a ≡ Some b
-  pub to_plain : plain_name b ≡ Some a
-  pub kept : is_dropped b ≡ false
-
 pair-of : (P : List ℕ → List ℕ → Type 0) (x y a b : List ℕ) → P x y → a ≡ x → b ≡ y → P a b
 pair-of P x y a b p e f = subst (λ (k : List ℕ). P k b) (sym e) (subst (P x) (sym f) p)
 
 abbrev NumberedPair : ℕ → Type 0
-NumberedPair i = Pair (numbered_name (codes "NAXIS") i) (numbered_name (codes "ZNAXIS") i)
+NumberedPair i = AreBothNames (numbered_name (codes "NAXIS") i) (numbered_name (codes "ZNAXIS") i)
 
 numbered_pair : (i : ℕ) → 1 ≤ i → i ≤ 9 → NumberedPair i
 unfolding packed_name plain_name is_dropped renamings own_names packed_names number_behind numbered_name digits
 numbered_pair i low high =
     by_nine NumberedPair (record { to_packed = refl; to_plain = refl; kept = refl }) (record { to_packed = refl; to_plain = refl; kept = refl }) (record { to_packed = refl; to_plain = refl; kept = refl }) (record { to_packed = refl; to_plain = refl; kept = refl }) (record { to_packed = refl; to_plain = refl; kept = refl }) (record { to_packed = refl; to_plain = refl; kept = refl }) (record { to_packed = refl; to_plain = refl; kept = refl }) (record { to_packed = refl; to_plain = refl; kept = refl }) (record { to_packed = refl; to_plain = refl; kept = refl }) i low high
 
-word_pair : (plain packed a b : List ℕ) → Pair (padded plain) (padded packed) → (a ≡ padded plain) × (b ≡ padded packed) → Pair a b
-word_pair plain packed a b pair (e, f) = pair-of Pair (padded plain) (padded packed) a b pair e f
+word_pair : (plain packed a b : List ℕ) → AreBothNames (padded plain) (padded packed) → (a ≡ padded plain) × (b ≡ padded packed) → AreBothNames a b
+word_pair plain packed a b pair (e, f) = pair-of AreBothNames (padded plain) (padded packed) a b pair e f
 
-pub renamed-pair : (a b : List ℕ) → IsRenamed a b → Pair a b
+pub renamed-pair : (a b : List ℕ) → IsRenamed a b → AreBothNames a b
 unfolding IsRenamed packed_name plain_name is_dropped renamings own_names packed_names number_behind numbered_name digits
 renamed-pair a b (inl h) = word_pair (codes "SIMPLE") (codes "ZSIMPLE") a b (record { to_packed = refl; to_plain = refl; kept = refl }) h
 renamed-pair a b (inr (inl h)) = word_pair (codes "XTENSION") (codes "ZTENSION") a b (record { to_packed = refl; to_plain = refl; kept = refl }) h
@@ -114,7 +110,7 @@ renamed-pair a b (inr (inr (inr (inr (inr (inr (inr (inl h)))))))) = word_pair (
 renamed-pair a b (inr (inr (inr (inr (inr (inr (inr (inr (inl h))))))))) = word_pair (codes "CHECKSUM") (codes "ZHECKSUM") a b (record { to_packed = refl; to_plain = refl; kept = refl }) h
 renamed-pair a b (inr (inr (inr (inr (inr (inr (inr (inr (inr (inl h)))))))))) = word_pair (codes "DATASUM") (codes "ZDATASUM") a b (record { to_packed = refl; to_plain = refl; kept = refl }) h
 renamed-pair a b (inr (inr (inr (inr (inr (inr (inr (inr (inr (inr (inl h))))))))))) =
-    pair-of Pair (numbered_name (codes "NAXIS") h.number) (numbered_name (codes "ZNAXIS") h.number) a b (numbered_pair h.number h.low h.high) h.plain_made h.packed_made
+    pair-of AreBothNames (numbered_name (codes "NAXIS") h.number) (numbered_name (codes "ZNAXIS") h.number) a b (numbered_pair h.number h.low h.high) h.plain_made h.packed_made
 renamed-pair a b (inr (inr (inr (inr (inr (inr (inr (inr (inr (inr (inr h))))))))))) = absurd h
 
 -- the name that a name has in a packed header has that name in the image

@@ -1,10 +1,11 @@
 //! Cards of a FITS header. Read `card`, then `text`, `value`, `quoted` and `zero` (what a card says), then `line`
 //! and `made` (cards that are made), then `names`, `keywords` and `tables`, then `list` (cards
-//! one behind another).
+//! one behind another) and `laws`.
 #![tactic(auto)]
 
 mod card;
 mod keywords;
+mod laws;
 mod line;
 mod list;
 mod made;
@@ -17,13 +18,15 @@ mod zero;
 
 pub use card::{CARD_LEN, Card, FIELD_LEN, NAME_LEN, Name, renamed_value_law};
 pub use keywords::keywords_law;
+pub use laws::card_laws;
+pub use line::Line;
 pub use list::{first_of_name, first_of_name_law};
 pub use made::{int_card, logical_card, made_cards_law, number_card, text_card};
 pub use names::{is_numbered, number_behind, numbered, numbers_law, whole_number};
-pub use quoted::{text_card_law, text_law};
-pub use tables::{is_dropped, is_reserved, names_law, renamed, restored, tables_law};
-pub use text::{value_text_law, without_first_blanks};
-pub use value::{int_card_law, int_law, logical_card_law, logical_law};
+pub use quoted::text_law;
+pub use tables::{is_dropped, is_reserved, names_law, renamed, restored};
+pub use text::{blanks_law, value_text_law, without_first_blanks};
+pub use value::{int_law, integer, integer_text_law, logical_law};
 pub use zero::zero_law;
 
 #[cfg(test)]

@@ -4,9 +4,9 @@ ghost use Rattle.fz_card.specs.Layout.{blanks, filled};
 
 use std::marker::Model;
 
-/// The bytes that were written so far; behind them are blanks.
+/// A line of `N` bytes: the bytes that were written so far, and blanks behind them.
 #[derive(Drop)]
-pub(crate) struct Line<const N: usize> {
+pub struct Line<const N: usize> {
     bytes: [u8; N],
     len: usize,
 }
@@ -20,7 +20,8 @@ impl<const N: usize> Model for Line<N> {
 }
 
 impl<const N: usize> Line<N> {
-    pub(crate) fn new() -> Self
+    /// A line of blanks, to which nothing was written.
+    pub fn new() -> Self
         ensures { result ≡ [] }
     {
         Line {
@@ -29,7 +30,8 @@ impl<const N: usize> Line<N> {
         }
     }
 
-    pub(crate) fn push(&mut self, text: &[u8])
+    /// Writes this text behind what was written.
+    pub fn push(&mut self, text: &[u8])
         requires { length self.old + length text.now ≤ N }
         ensures { self.new ≡ self.old ++ text.now }
     {
@@ -39,14 +41,23 @@ impl<const N: usize> Line<N> {
         self.len = end;
     }
 
-    pub(crate) fn push_blanks(&mut self, count: usize)
+    /// Writes so many blanks.
+    pub fn push_blanks(&mut self, count: usize)
         requires { length self.old + count ≤ N }
         ensures { self.new ≡ self.old ++ blanks count }
     {
         self.len += count;
     }
 
-    pub(crate) fn bytes(&self) -> [u8; N]
+    /// What was written so far.
+    pub fn text(&self) -> &[u8]
+        ensures { result.now ≡ self.now }
+    {
+        &self.bytes[..self.len]
+    }
+
+    /// The whole line.
+    pub fn bytes(&self) -> [u8; N]
         ensures { result ≡ filled N self.now }
     {
         self.bytes

@@ -2,7 +2,7 @@
 ghost use Rattle.std.specs.Prelude.{◌≡◌, ◌≤◌, ◌++◌, length, codes};
 ghost use Rattle.fz_card.specs.Value.{IsShort};
 ghost use Rattle.fz_card.specs.Made.{IsCardText, value_card, right_aligned, int_card_bytes, logical_card_bytes, text_card_bytes};
-ghost use Rattle.fz_card.specs.Laws.{MadeNamesLaw, MadeLengthsLaw};
+ghost use Rattle.fz_card.specs.Laws.{MadeCardLaws};
 
 use crate::card::{CARD_LEN, Card, FIELD_LEN, Name};
 use crate::line::Line;
@@ -69,9 +69,8 @@ pub fn number_card(name: Name, text: &[u8]) -> Card
     }
 }
 
-/// Each card that is made has 80 bytes and the name that it was made of, and so it is no END card where that name is
-/// none.
+/// Each card that is made has 80 bytes, and the name and the value that it was made of; so it is no END card where that
+/// name is none.
 pub fn made_cards_law()
-    ensures named { MadeNamesLaw }
-    ensures long { MadeLengthsLaw }
+    ensures { MadeCardLaws }
 {}

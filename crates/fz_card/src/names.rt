@@ -4,7 +4,7 @@ ghost use Rattle.fz_card.specs.Made.{FitsName, numbered_name};
 ghost use Rattle.fz_card.specs.Plain.{ReadsNumeral};
 ghost use Rattle.fz_card.specs.Tables.Names.{Numbered};
 ghost use Rattle.fz_card.specs.Naming.{number_behind, is_in};
-ghost use Rattle.fz_card.specs.Laws.{NumberBehindLaw, IsInLaw, IsInSomeLaw, NumberedLengthLaw};
+ghost use Rattle.fz_card.specs.Laws.{NumberedNameLaws};
 
 use crate::card::Name;
 use crate::line::Line;
@@ -64,12 +64,8 @@ pub fn whole_number(digits: &[u8]) -> Option<u32>
     text.parse().ok()
 }
 
-/// A name has a number behind a stem exactly where it is made of both, and stands in a line of a list exactly where
-/// it is the word, or is made of the stem and one of the numbers. A stem and a number that fit make a name of 8
+/// A name has a number behind a stem exactly where it is made of both. A stem and a number that fit make a name of 8
 /// bytes.
 pub fn numbers_law()
-    ensures behind { NumberBehindLaw }
-    ensures line { IsInLaw }
-    ensures list { IsInSomeLaw }
-    ensures length { NumberedLengthLaw }
+    ensures { NumberedNameLaws }
 {}

@@ -3,8 +3,8 @@ ghost use Rattle.std.specs.Prelude.{◌≡◌, ◌<◌, ◌≤◌, ◌+◌, ◌�
 ghost use Rattle.std.specs.Option.{option_map};
 ghost use Rattle.fz_card.specs.Value.{TextValue};
 ghost use Rattle.fz_card.specs.Quoted.{quoted, with_first, at_quote, closed_text, text_in};
-ghost use Rattle.fz_card.specs.Made.{IsCardText, text_card_bytes};
 ghost use Rattle.fz_card.specs.Reading.{text_of, is_text, has_text};
+ghost use Rattle.fz_card.specs.Laws.{TextOfLaw};
 
 use crate::card::{Card, FIELD_LEN};
 use crate::text::{plain_text, without_first_blanks, without_last_blanks};
@@ -96,10 +96,5 @@ fn first_character(text: &[u8]) -> Option<(u8, &[u8])>
 /// A card has at most one text value, which `text_of` gives.
 pub fn text_law()
     ensures once { (card a b : List ℕ) → TextValue card a → TextValue card b → a ≡ b }
-    ensures function { (card a : List ℕ) → TextValue card a ↔ (text_of card ≡ Some a) }
-{}
-
-/// A card that is made of a text has that text as its value.
-pub fn text_card_law()
-    ensures { (name text : List ℕ) → length name ≡ 8 → IsCardText text → TextValue (text_card_bytes name text) text }
+    ensures function { TextOfLaw }
 {}

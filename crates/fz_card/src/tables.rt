@@ -1,11 +1,12 @@
 //! The tables of names: what the names of an image are called in a packed header, which names a packed
 //! header drops when the image is restored, and which an image to be packed may not have.
-ghost use Rattle.std.specs.Prelude.{◌≡◌, ◌↔◌, List, ℕ, Bool, true, false, IsTrue, Some, None, IfSome, IfNone, bytes_eq, if◌then◌else◌};
+ghost use Rattle.std.specs.Prelude.{◌≡◌, ◌↔◌, List, ℕ, IsTrue, Some, None, IfSome, IfNone, bytes_eq, if◌then◌else◌};
 ghost use Rattle.std.specs.Option.{option_map};
 ghost use Rattle.fz_card.specs.Made.{FitsName};
-ghost use Rattle.fz_card.specs.Tables.{own_names, packed_names, foreign_names, IsRenamed, IsDropped, IsReserved, IsHighAxis};
+ghost use Rattle.fz_card.specs.Tables.{own_names, packed_names, foreign_names, IsRenamed, IsDropped, IsReserved};
 ghost use Rattle.fz_card.specs.Tables.Renaming.{Stems};
 ghost use Rattle.fz_card.specs.Naming.{renamed_by, is_in_some, packed_name, plain_name, is_dropped, is_reserved};
+ghost use Rattle.fz_card.specs.Laws.{NameTableLaws};
 
 use crate::card::Name;
 use crate::names::{is_numbered, number_behind, numbered};
@@ -170,18 +171,9 @@ fn renumbered(name: Name, from: &[u8], to: &[u8], last: u32) -> Option<Name>
     }
 }
 
-/// The two ways through the table of both names undo each other. A name of an image is not dropped under its
-/// other name; one that has no other name is neither restored nor dropped, unless it is reserved.
+/// The functions that definitions compute with give the names of the tables, and the two ways through the table of
+/// both names undo each other. A name of an image is not dropped under its other name; one that has no other name is
+/// neither restored nor dropped, unless it is reserved or an axis above the ninth.
 pub fn names_law()
-    ensures inverse { (a b : List ℕ) → (packed_name a ≡ Some b) ↔ (plain_name b ≡ Some a) }
-    ensures renamed { (a b : List ℕ) → packed_name a ≡ Some b → is_dropped b ≡ false }
-    ensures other { (a : List ℕ) → is_reserved a ≡ false → ¬ (IsHighAxis a) → packed_name a ≡ None → (plain_name a ≡ None) × (is_dropped a ≡ false) }
-{}
-
-/// The functions that definitions compute with give the names of the tables.
-pub fn tables_law()
-    ensures renamed { (a b : List ℕ) → (packed_name a ≡ Some b) ↔ IsRenamed a b }
-    ensures restored { (a b : List ℕ) → (plain_name b ≡ Some a) ↔ IsRenamed a b }
-    ensures dropped { (name : List ℕ) → IsTrue (is_dropped name) ↔ IsDropped name }
-    ensures reserved { (name : List ℕ) → IsTrue (is_reserved name) ↔ IsReserved name }
+    ensures { NameTableLaws }
 {}

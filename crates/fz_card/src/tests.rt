@@ -1,7 +1,7 @@
 //! One table of cases for each public call.
 use crate::{
-    Card, FIELD_LEN, Name, first_of_name, int_card, is_numbered, logical_card, number_behind,
-    number_card, numbered, text_card, whole_number, without_first_blanks,
+    Card, FIELD_LEN, Line, Name, first_of_name, int_card, integer, is_numbered, logical_card,
+    number_behind, number_card, numbered, text_card, whole_number, without_first_blanks,
 };
 
 /// A card that begins with this text and is blank behind it.
@@ -95,6 +95,32 @@ fn integers(rt: HostRuntime) {
     for (text, value) in cases {
         assert_eq!(rt; card(text).int(), value);
     }
+}
+
+#[test]
+fn integer_texts(rt: HostRuntime) {
+    let cases: [(&[u8], Option<i64>); 6] = [
+        (b"-0032", Some(-32)),
+        (b"+999999999999999999", Some(999_999_999_999_999_999)),
+        (b"1000000000000000000", None),
+        (b" 1", None),
+        (b"1.", None),
+        (b"", None),
+    ];
+    for (text, value) in cases {
+        assert_eq!(rt; integer(text), value);
+    }
+}
+
+#[test]
+fn lines(rt: HostRuntime) {
+    let mut line: Line<8> = Line::new();
+    assert_eq!(rt; line.bytes(), *b"        ");
+    line.push(b"10");
+    line.push_blanks(1);
+    line.push(b"m");
+    assert_eq!(rt; line.text(), b"10 m".as_slice());
+    assert_eq!(rt; line.bytes(), *b"10 m    ");
 }
 
 #[test]

@@ -2,7 +2,7 @@
 //! blanks around it.
 ghost use Rattle.std.specs.Prelude.{◌≡◌, ◌==◌, position};
 ghost use Rattle.fz_card.specs.Plain.{before_comment, skip_blanks, cut_blanks, plain_text, ReadsField, ReadsPlainText};
-ghost use Rattle.fz_card.specs.Laws.{ValueTextLaw};
+ghost use Rattle.fz_card.specs.Laws.{ValueTextLaw, BlankLaws};
 
 use crate::card::{Card, FIELD_START, NAME_LEN};
 
@@ -78,4 +78,9 @@ pub(crate) fn without_last_blanks(text: &[u8]) -> &[u8]
 /// A card has a text without blanks and `/` as the text of its value exactly where `Card::value_text` finds it.
 pub fn value_text_law()
     ensures { ValueTextLaw }
+{}
+
+/// What stands before a text without the blanks at its front is blanks, and blanks before a text change nothing.
+pub fn blanks_law()
+    ensures { BlankLaws }
 {}

@@ -1,10 +1,10 @@
 //! The integer and the logical value of a card.
-ghost use Rattle.std.specs.Prelude.{◌≡◌, ◌≢◌, ◌↔◌, ℕ, ℤ, List, Bool, length, IfSome, IfNone};
+ghost use Rattle.std.specs.Prelude.{◌≡◌, ◌≢◌, ◌↔◌, ℕ, ℤ, List, Bool, Some, IfSome, IfNone};
 ghost use Rattle.fz_card.specs.Value.{IntegerValue, LogicalValue, IsIntegerText, IsShort, logical_text};
 ghost use Rattle.std.specs.Str.Parse.{without_leading_sign};
 ghost use Rattle.fz_card.specs.Plain.{ReadsSigned};
-ghost use Rattle.fz_card.specs.Reading.{integer_of, logical_of};
-ghost use Rattle.fz_card.specs.Made.{int_card_bytes, logical_card_bytes};
+ghost use Rattle.fz_card.specs.Reading.{integer_in, integer_of, logical_of};
+ghost use Rattle.fz_card.specs.Laws.{IntegerOfLaw, LogicalOfLaw};
 
 use crate::card::Card;
 
@@ -44,10 +44,11 @@ fn truth(text: &[u8]) -> Option<bool>
 /// The most digits of an integer, so that each fits 64 bits.
 const MOST_DIGITS: usize = 18;
 
-/// The number that the text writes, if it is an integer of 1 to 18 digits.
-fn integer(text: &[u8]) -> Option<i64>
+/// The number that the text writes, if it is an integer of 1 to 18 digits (FITS 4.0, section 4.2.3).
+pub fn integer(text: &[u8]) -> Option<i64>
     ensures value { IfSome result (IsIntegerText text.now) }
     ensures none { IfNone result ((v : ℤ) → ¬ (IsIntegerText text.now v)) }
+    ensures function { result ≡ integer_in text.now }
 {
     if without_sign(text).len() > MOST_DIGITS {
         return None;
@@ -78,21 +79,16 @@ fn parsed(text: &[u8]) -> Option<i64>
 /// A card has at most one integer value, which `integer_of` gives.
 pub fn int_law()
     ensures once { (card : List ℕ) (v w : ℤ) → IntegerValue card v → IntegerValue card w → v ≡ w }
-    ensures function { (card : List ℕ) (v : ℤ) → IntegerValue card v ↔ (integer_of card ≡ Some v) }
+    ensures function { IntegerOfLaw }
+{}
+
+/// A text writes at most one integer, which `integer_in` gives.
+pub fn integer_text_law()
+    ensures { (text : List ℕ) (v : ℤ) → IsIntegerText text v ↔ (integer_in text ≡ Some v) }
 {}
 
 /// A card has at most one logical value, which `logical_of` gives.
 pub fn logical_law()
     ensures once { (card : List ℕ) (a b : Bool) → LogicalValue card a → LogicalValue card b → a ≡ b }
-    ensures function { (card : List ℕ) (b : Bool) → LogicalValue card b ↔ (logical_of card ≡ Some b) }
-{}
-
-/// A card that is made of an integer has that integer as its value.
-pub fn int_card_law()
-    ensures { (name : List ℕ) (v : ℤ) → length name ≡ 8 → IsShort v → IntegerValue (int_card_bytes name v) v }
-{}
-
-/// A card that is made of a logical value has that value.
-pub fn logical_card_law()
-    ensures { (name : List ℕ) (b : Bool) → length name ≡ 8 → LogicalValue (logical_card_bytes name b) b }
+    ensures function { LogicalOfLaw }
 {}

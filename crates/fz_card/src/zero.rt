@@ -3,6 +3,7 @@ ghost use Rattle.std.specs.Prelude.{◌≡◌, ◌↔◌, ℕ, List, Bool, Some,
 ghost use Rattle.fz_card.specs.Value.{ZeroValue, HasValue};
 ghost use Rattle.fz_card.specs.Zeros.{skip_zeros, skip_point, is_numeral, is_exponent, is_zero_number, is_zero_text, zero_in};
 ghost use Rattle.fz_card.specs.Reading.{zero_of};
+ghost use Rattle.fz_card.specs.Laws.{ZeroOfLaw};
 
 use crate::card::Card;
 use crate::value::without_sign;
@@ -77,5 +78,5 @@ fn is_numeral(digits: &[u8]) -> bool
 /// A card has at most one zero value, true or false, which `zero_of` gives.
 pub fn zero_law()
     ensures once { (card : List ℕ) (a b : Bool) → ZeroValue card a → ZeroValue card b → a ≡ b }
-    ensures function { (card : List ℕ) (a : Bool) → ZeroValue card a ↔ (zero_of card ≡ Some a) }
+    ensures function { ZeroOfLaw }
 {}

@@ -10,7 +10,7 @@ ghost use Rattle.fz_sum.specs.Characters.{byte_characters, characters, AreByteCh
 ghost use Rattle.fz_sum.specs.Cards.{datasum_card, checksum_card, blank_checksum_card, with_card};
 ghost use Rattle.fz_sum.specs.Texts.{CardGivesSum};
 
-use fz_card::text_card_law;
+use fz_card::made_cards_law;
 
 /// A list that is added in parts, each at its place and in any order, is as the list added at once. Where it begins
 /// with a word its total is that of its words, and its value is its sum. A total at a place is that at any other
@@ -52,7 +52,7 @@ pub fn all_ones_law()
 pub fn datasum_law()
     ensures { (sum : ℕ) → sum < 2 ^ 32 → CardGivesSum (datasum_card sum) sum }
 {
-    text_card_law();
+    made_cards_law();
 }
 
 /// A card that is put in place of another stands there, all other cards and the number of bytes stay.

@@ -1,4 +1,4 @@
-use Rattle.fz_card.proofs.Laws.{same_values}
+use Rattle.fz_card.proofs.FieldLaws.{same_values}
 use Rattle.fz_card.proofs.card.renamed_value_law.Goals as goal
 
 pub returns : goal.returns

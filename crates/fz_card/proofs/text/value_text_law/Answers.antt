@@ -1,4 +1,4 @@
-use Rattle.fz_card.proofs.Laws.{value_text_found, value_text_has}
+use Rattle.fz_card.proofs.FieldLaws.{value_text_found, value_text_has}
 use Rattle.fz_card.proofs.text.value_text_law.Goals as goal
 
 pub returns : goal.returns
