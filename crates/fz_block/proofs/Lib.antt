@@ -5,6 +5,7 @@ pub mod Ends
 pub mod Exits
 pub mod Firsts
 pub mod Found
+pub mod Going
 pub mod Groups
 pub mod HduLemmas
 pub mod HeaderLemmas
@@ -12,6 +13,7 @@ pub mod MandatoryLemmas
 pub mod Nexts
 pub mod Numbers
 pub mod OneList
+pub mod Passing
 pub mod Products
 pub mod Refusals
 pub mod Room

@@ -1,5 +1,5 @@
 -- What a walk passes, another passes that stops there, or that has no checks of its own; and it begins the list of HDUs.
-use Rattle.std.proofs.Common.{◌≡◌, ℕ, zero, suc, ◌+◌, ◌==◌, ◌⊎◌, inl, inr, Bool, true, false, List, [], ◌∷◌, ◌++◌, length, take, drop, map, Result, Ok, Err, if◌then◌else◌, refl, sym, subst, ◌∙◌, ap, arith}
+use Rattle.std.proofs.Common.{◌≡◌, ℕ, zero, suc, ◌+◌, ◌==◌, ◌⊎◌, inl, inr, IsOk, Bool, true, false, List, [], ◌∷◌, ◌++◌, length, take, drop, map, Result, Ok, Err, if◌then◌else◌, refl, sym, subst, ◌∙◌, ap, arith}
 use Rattle.std.specs.List.{flat_map}
 use Rattle.std.proofs.lemmas.Bool.Decides.{nat_tests}
 use Rattle.std.proofs.lemmas.List.{append_assoc, append-nil, drop_all}
@@ -7,7 +7,7 @@ use Rattle.fz_base.specs.declared.fault.Fault.{Fault}
 use Rattle.fz_block.specs.Checks.{hdu_at, Judge, unjudged, followed_by, by_judgement, judged, walk_from}
 use Rattle.fz_block.specs.Hdus.{Hdu, hdu_bytes, AreHdus}
 use Rattle.fz_block.specs.Header.{next_start_of}
-use Rattle.fz_block.specs.Walk.{hdu_of, AreHeadersBetween, AreHeadersFrom, is_stop, stops, stop_after}
+use Rattle.fz_block.specs.Walk.{hdu_of, AreHeadersBetween, AreHeadersFrom, is_stop, stops, RefusesNone, stop_after}
 use Rattle.fz_block.specs.declared.header.Header.{Header}
 use Rattle.fz_block.proofs.OneList.{one_hdu, some_bytes}
 use Rattle.fz_block.proofs.Walks.{Walked, first_false, second_false, true-not-false}
@@ -79,6 +79,20 @@ pub never_stopped : (judge : Judge) (hs : List Header) → stops judge hs ≡ fa
 never_stopped judge [] never = tt
 never_stopped judge (h ∷ []) never = (inr (refl, first_false (is_stop (judge h)) false never), tt)
 never_stopped judge (h ∷ (j ∷ hs)) never = (refl, never_stopped judge (j ∷ hs) (second_false (is_stop (judge h)) (stops judge (j ∷ hs)) never))
+
+-- a job passes all of them, and stops at none
+pub says_on : (says : Result Bool Fault) → IsOk says → is_stop says ≡ false → says ≡ Ok false
+says_on (Ok true) ok never = absurd cc
+says_on (Ok false) ok never = refl
+says_on (Err fault) ok never = absurd cc
+
+pub passes_too : (judge : Judge) (hs : List Header) → RefusesNone judge hs → stops judge hs ≡ false → SaysSo unjudged judge hs
+passes_too judge [] pass never = tt
+passes_too judge (h ∷ []) pass never = (inr (says_on (judge h) pass.0 (first_false (is_stop (judge h)) false never), refl), tt)
+passes_too judge (h ∷ (j ∷ hs)) pass never = (
+  says_on (judge h) pass.0 (first_false (is_stop (judge h)) (stops judge (j ∷ hs)) never),
+  passes_too judge (j ∷ hs) pass.1 (second_false (is_stop (judge h)) (stops judge (j ∷ hs)) never),
+)
 
 -- a stop is said behind the last
 pub stopped_after : (judge : Judge) (n k start end : ℕ) (file : List ℕ) (hs : List Header) → AreHeadersBetween k start end file hs → n ≡ k + length hs → SaysSo judge (stop_after n) hs

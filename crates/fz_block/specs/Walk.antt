@@ -1,10 +1,10 @@
 -- The HDUs of a file by the facts of their headers, one after another (FITS 4.0, sections 3.1 and 3.3).
-use Rattle.std.specs.Prelude.{ℕ, zero, suc, ◌≡◌, ◌==◌, ◌*◌, ◌<◌, ◌≤◌, ◌||◌, Bool, true, false, List, [], ◌∷◌, length, take, drop, codes, bytes_eq, Result, Ok, Err, IsOk, ⊤}
+use Rattle.std.specs.Prelude.{ℕ, zero, suc, ◌≡◌, ◌==◌, ◌+◌, ◌*◌, ◌<◌, ◌≤◌, ◌||◌, Bool, true, false, List, [], ◌∷◌, length, take, drop, codes, bytes_eq, Result, Ok, Err, IsOk, ⊤}
 use Rattle.fz_base.specs.declared.fault.Fault.{Fault}
 use Rattle.fz_block.specs.Cards.{card_at}
-use Rattle.fz_block.specs.Checks.{Judge, is_set}
-use Rattle.fz_block.specs.Facts.{IsHeaderOf}
-use Rattle.fz_block.specs.Hdus.{Hdu, IsHeader}
+use Rattle.fz_block.specs.Checks.{Judge, is_set, header_of}
+use Rattle.fz_block.specs.Facts.{IsHeaderOf, facts_of}
+use Rattle.fz_block.specs.Hdus.{Hdu, IsHeader, IsHdu, hdu_bytes}
 use Rattle.fz_block.specs.Header.{whole_blocks_of, data_start_of, next_start_of}
 use Rattle.fz_block.specs.declared.header.Header.{Header}
 
@@ -27,6 +27,24 @@ pub record StandsAt (k start : ℕ) (file header : List ℕ) : Type 0 where
   pub place : take (length header) (drop start file) ≡ header
   pub number : k < 65536
   pub begins : begins_hdu k header ≡ true
+
+-- HDU k, whose header passes the checks of every job where it begins at this byte of a file of so many bytes
+pub record PassesAt (k start len : ℕ) (h : Hdu) : Type 0 where
+  pub hdu : IsHdu k h
+  pub short : length h.header ≤ 737280
+  pub number : k < 65536
+  pub begins : begins_hdu k h.header ≡ true
+  pub checks : IsOk (header_of k start len h.header)
+
+-- HDUs from number k on that pass them, one behind another from this byte on
+abbrev pub PassFrom : ℕ → ℕ → ℕ → List Hdu → Type 0
+PassFrom k start len [] = ⊤
+PassFrom k start len (h ∷ hs) = PassesAt k start len h × PassFrom (suc k) (start + length (hdu_bytes h)) len hs
+
+-- the facts of their headers
+abbrev pub facts_from : ℕ → ℕ → List Hdu → List Header
+facts_from k start [] = []
+facts_from k start (h ∷ hs) = facts_of k start h.header ∷ facts_from (suc k) (start + length (hdu_bytes h)) hs
 
 -- Headers from HDU k on, which begins at the first of two bytes: they are numbered one after another, each stands where the HDU
 -- before it ends, and the last HDU ends at the second.

@@ -1,16 +1,16 @@
 //! What the definitions of headers and of HDUs promise together.
-ghost use Rattle.std.specs.Prelude.{◌≡◌, All, Bool, true, false, ℕ, Some, None, ◌+◌, ◌*◌, ◌/◌, ◌^◌, ◌≤◌, ◌<◌, Ok, List, length, take, drop, map};
-ghost use Rattle.std.specs.List.{position};
+ghost use Rattle.std.specs.Prelude.{◌≡◌, All, Bool, true, false, ℕ, Some, None, ◌+◌, ◌*◌, ◌/◌, ◌^◌, ◌≤◌, ◌<◌, Ok, List, [], ◌∷◌, ◌++◌, length, take, drop, map, codes};
+ghost use Rattle.std.specs.List.{flat_map, position};
 ghost use Rattle.std.specs.Option.{option_map};
 ghost use Rattle.std.specs.Result.{result_map_both};
 ghost use Rattle.fz_base.specs.Refusal.{first_refusal};
 ghost use Rattle.fz_block.specs.Cards.{card_at, first_among, first_card};
-ghost use Rattle.fz_block.specs.Checks.{Judge, fault_as, header_blocks_of, header_of, hdu_at, hdu_end, walk_of, headers_of};
+ghost use Rattle.fz_block.specs.Checks.{Judge, is_set, fault_as, header_blocks_of, header_of, hdu_at, hdu_end, walk_of, headers_of};
 ghost use Rattle.fz_block.specs.Facts.{IsHeaderOf, begun_at, facts_as};
-ghost use Rattle.fz_block.specs.Hdus.{Hdu, IsHeader, IsHdu, AreHdusOf, IsCardBeforeEnd, HasBlankFill, cards_of, header_bytes};
+ghost use Rattle.fz_block.specs.Hdus.{Hdu, hdu_bytes, IsHeader, IsHdu, AreHdusOf, IsCardBeforeEnd, HasBlankFill, cards_of, header_bytes};
 ghost use Rattle.fz_block.specs.Header.{whole_blocks_of, data_start_of, next_start_of};
 ghost use Rattle.fz_block.specs.Mandatory.{mandatory_checks};
-ghost use Rattle.fz_block.specs.Walk.{hdu_of, StandsAt, AreHeadersBetween, AreHeadersFrom, stops, RefusesNone, stop_after};
+ghost use Rattle.fz_block.specs.Walk.{hdu_of, StandsAt, PassesAt, PassFrom, facts_from, AreHeadersBetween, AreHeadersFrom, stops, RefusesNone, stop_after};
 ghost use Rattle.fz_block.specs.declared.header.Header.{Header};
 
 /// A header that stands at its place in a file, with its data and their fill in the file, is the header
@@ -71,6 +71,26 @@ pub fn walk_law()
     ensures up_to { (judge : Judge) (most : ℕ) (file : List ℕ) (hs : List Header) → walk_of judge most file ≡ Ok hs → walk_of (stop_after (length hs)) most file ≡ Ok hs }
     ensures begins { (judge : Judge) (most : ℕ) (file : List ℕ) (hs : List Header) (ks : List Hdu) → walk_of judge most file ≡ Ok hs → AreHdusOf file ks → take (length hs) ks ≡ map (hdu_of file) hs }
     ensures whole { (judge : Judge) (most : ℕ) (file : List ℕ) (hs : List Header) → walk_of judge most file ≡ Ok hs → stops judge hs ≡ false → headers_of most file ≡ Ok hs }
+{}
+
+/// What a walk says of the HDUs that it finds: each passes the checks of every job where it stands, the
+/// file begins with the card SIMPLE and the value T, and the walk stops at no HDU but the last.
+pub fn found_hdus_law()
+    ensures pass { (judge : Judge) (most : ℕ) (file : List ℕ) (hs : List Header) → walk_of judge most file ≡ Ok hs → PassFrom 0 0 (length file) (map (hdu_of file) hs) }
+    ensures simple { (judge : Judge) (most : ℕ) (file : List ℕ) (hs : List Header) → walk_of judge most file ≡ Ok hs → is_set (codes "SIMPLE") (card_at file 0) ≡ true }
+    ensures last { (judge : Judge) (most : ℕ) (file : List ℕ) (hs : List Header) (h : Header) → walk_of judge most file ≡ Ok (hs ++ h ∷ []) → stops judge hs ≡ false }
+{}
+
+/// HDUs that pass the checks of every job, one behind another, are those that a walk finds in the file
+/// of their bytes; and a job that refuses none of them, and does not stop, finds them too.
+pub fn passing_law()
+    ensures parts { (start len : ℕ) (hs : List Hdu) → PassFrom 0 start len hs → AreHdusOf (flat_map hdu_bytes hs) hs }
+    ensures walk { (most : ℕ) (file : List ℕ) (hs : List Hdu) → flat_map hdu_bytes hs ≡ file → 0 < length hs → length hs ≤ most → PassFrom 0 0 (length file) hs
+        → (headers_of most file ≡ Ok (facts_from 0 0 hs)) × (map (hdu_of file) (facts_from 0 0 hs) ≡ hs) }
+    ensures judged { (judge : Judge) (most : ℕ) (file : List ℕ) (hs : List Header) → headers_of most file ≡ Ok hs → RefusesNone judge hs → stops judge hs ≡ false → walk_of judge most file ≡ Ok hs }
+    ensures stopped { (judge : Judge) (most : ℕ) (file : List ℕ) (hs later : List Header) (h : Header) → headers_of most file ≡ Ok (hs ++ h ∷ later) → RefusesNone judge hs → stops judge hs ≡ false → judge h ≡ Ok true → walk_of judge most file ≡ Ok (hs ++ h ∷ []) }
+    ensures moved { (k start len start' len' : ℕ) (h : Hdu) → PassesAt k start len h → start' + length (hdu_bytes h) ≤ len' → start' + length (hdu_bytes h) ≤ 2 ^ 62 → PassesAt k start' len' h }
+    ensures numbered { (j k start len : ℕ) (h : Hdu) → PassesAt j start len h → 0 < j → 0 < k → k < 65536 → PassesAt k start len h }
 {}
 
 /// The checks of all headers, one after another, find the HDUs of a file, and a file has at most one list
