@@ -20,6 +20,7 @@ pub mod SieveLists
 pub mod Sifted
 pub mod SmallLemmas
 pub mod SpanLemmas
+pub mod TileSums
 pub mod Tilings
 pub mod Touched
 pub mod WholeLemmas

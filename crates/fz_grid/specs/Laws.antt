@@ -1,12 +1,12 @@
 -- What the definitions of arrays and of tiles promise (FITS 4.0, sections 3.3.2 and 10.1).
-use Rattle.std.specs.Prelude.{◌≡◌, ℕ, ◌<◌, ℤ, pos, List, [], length, map, slice_index_or}
-use Rattle.std.specs.List.{range_with_len}
+use Rattle.std.specs.Prelude.{◌≡◌, ℕ, ◌<◌, ◌≤◌, ℤ, pos, List, [], length, map, slice_index_or}
+use Rattle.std.specs.List.{range_with_len, sum_by}
 use Rattle.fz_block.specs.declared.axes.Axes.{Axes}
 use Rattle.fz_grid.specs.declared.region.Region.{Region}
 use Rattle.fz_grid.specs.Arrays.{AreCoordinatesOf, IsArray, NumberArray, coordinates_of, place_of, product}
 use Rattle.fz_grid.specs.Division.{AreTileLengths, IsInOneTile, IsPlacedOnce, tile_places}
 use Rattle.fz_grid.specs.Grid.{box_coordinates, tile, tile_count, tile_lengths}
-use Rattle.fz_grid.specs.Region.{IsDivided, IsShape, IsWithin, axes_of, places_of}
+use Rattle.fz_grid.specs.Region.{IsDivided, IsShape, IsWithin, axes_of, lengths_of, places_of}
 use Rattle.fz_grid.specs.Whole.{AreTiles, HaveSameTiles, joined}
 
 -- coordinates below the lengths have a number below how many places there are
@@ -88,6 +88,27 @@ JoinedHasTheTiles =
 abbrev pub DividedArraysAreShapes : Type 0
 DividedArraysAreShapes = (shape tile : Axes) → IsDivided shape tile → IsShape shape × IsShape tile
 
--- and so is a region within an array
+-- and its tile has a length above 0 along each axis
+abbrev pub DividedArraysHaveTiles : Type 0
+DividedArraysHaveTiles = (shape tile : Axes) → IsDivided shape tile → AreTileLengths (lengths_of shape) (lengths_of tile)
+
+-- each tile has a pixel
+abbrev pub TilesHaveAPixel : Type 0
+TilesHaveAPixel =
+    (array tile : List ℕ) (t : ℕ) → AreTileLengths array tile → t < tile_count array tile → 1 ≤ product (tile_lengths array tile t)
+
+-- and none has more than tile 0
+abbrev pub FirstTilesAreLargest : Type 0
+FirstTilesAreLargest =
+    (array tile : List ℕ) (t : ℕ) → AreTileLengths array tile → product (tile_lengths array tile t) ≤ product (tile_lengths array tile 0)
+
+-- together they have as many pixels as the array
+abbrev pub TilesHaveAllPixels : Type 0
+TilesHaveAllPixels =
+    (array tile : List ℕ)
+    → AreTileLengths array tile
+    → sum_by (λ t. product (tile_lengths array tile t)) (range_with_len 0 (tile_count array tile)) ≡ product array
+
+-- a region within an array is an array that a call takes
 abbrev pub RegionsAreShapes : Type 0
 RegionsAreShapes = (shape : Axes) (region : Region) → IsShape shape → IsWithin shape region → IsShape (axes_of region)

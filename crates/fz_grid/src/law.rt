@@ -5,6 +5,8 @@ ghost use Rattle.fz_grid.specs.Laws.{
   BoxesHaveTheirPixels,
   CoordinatesAreInOneTile,
   DividedArraysAreShapes,
+  DividedArraysHaveTiles,
+  FirstTilesAreLargest,
   JoinedHasTheTiles,
   JoinedIsArray,
   NumbersAreInOneTile,
@@ -13,6 +15,8 @@ ghost use Rattle.fz_grid.specs.Laws.{
   PlacesHaveCoordinates,
   RegionsAreShapes,
   TilesAreAtTheirPlaces,
+  TilesHaveAPixel,
+  TilesHaveAllPixels,
   TilesHaveTheirPixels,
   TilesMakeOneArray,
 };
@@ -44,9 +48,18 @@ pub fn tiles_law()
     ensures joined { JoinedHasTheTiles }
 {}
 
+/// Each tile has at least one pixel and no more than tile 0, and together the tiles have as many as the
+/// array.
+pub fn tile_pixels_law()
+    ensures some { TilesHaveAPixel }
+    ensures most { FirstTilesAreLargest }
+    ensures all { TilesHaveAllPixels }
+{}
+
 /// The conditions of one call give those of another.
 pub fn shape_law()
     ensures divided { DividedArraysAreShapes }
+    ensures tiles { DividedArraysHaveTiles }
     ensures region { RegionsAreShapes }
 {}
 

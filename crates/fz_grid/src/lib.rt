@@ -24,7 +24,7 @@ mod tests;
 
 pub use grid::{Grid, tile_counts};
 pub use joined::runs;
-pub use law::{one_tile_law, overlap_law, place_law, shape_law, tiles_law};
+pub use law::{one_tile_law, overlap_law, place_law, shape_law, tile_pixels_law, tiles_law};
 pub use overlaps::Overlaps;
 pub use part::{AxisPart, Part};
 pub use pick::Picks;
