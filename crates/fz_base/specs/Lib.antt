@@ -2,6 +2,7 @@ pub mod Agreement
 pub mod Buffer
 pub mod Counts
 pub mod FirstByte
+pub mod JobBuffers
 pub mod Kind
 pub mod MemSink
 pub mod MemSource

@@ -1,3 +1,4 @@
+pub mod Agains
 pub mod Among
 pub mod AxisLists
 pub mod CardLists

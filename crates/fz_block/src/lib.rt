@@ -1,8 +1,9 @@
 //! HDUs of a file: the header at a place, read and checked, and where its data and the next HDU stand.
 //!
-//! Reading order: `axes`, `header`, `cards`, `blocks`, `mandatory`, `read`, `next`, `laws`.
+//! Reading order: `axes`, `header`, `cards`, `blocks`, `mandatory`, `read`, `next`, `again`, `laws`.
 #![tactic(auto)]
 
+mod again;
 mod axes;
 mod blocks;
 mod cards;
@@ -15,6 +16,7 @@ mod refused;
 #[cfg(test)]
 mod tests;
 
+pub use again::header_again;
 pub use axes::Axes;
 pub use blocks::{BLOCK_LEN, header_blocks};
 pub use cards::card;

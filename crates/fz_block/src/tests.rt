@@ -1,8 +1,8 @@
 //! Each public call on a file that is taken, and rows of refused files with the values of the rules.
 use crate::{
     Axes, BLOCK_LEN, Header, Sort, buffered_header, card, cards_law, data_start, first_card_law,
-    found_law, hdu_law, hdu_list_law, header_blocks, next_start, number_law, read_header,
-    start_law, walk_law,
+    found_law, hdu_law, hdu_list_law, header_again, header_blocks, next_start, number_law,
+    read_header, start_law, walk_law,
 };
 use fz_base::{Fault, Kind, MemSource, Place, Source, Stop};
 use std::alloc::Global;
@@ -206,6 +206,31 @@ fn a_header_in_a_buffer(rt: HostRuntime) {
         put(&mut block, i, text);
     }
     assert_eq!(rt; buffered_header(&block, 5760, 0, 0), Ok(SMALL));
+}
+
+/// What `header_again` answers of the table, with a buffer of so many bytes.
+fn table_again(alloc: Global, room: usize) -> Result<Header, Stop> {
+    let mut source = source_of(alloc, 8640, &TABLE_CARDS)?;
+    let length = source.attach("any").map_err(Stop::reading)?;
+    if length <= 2880 || room > 2 * BLOCK_LEN {
+        return Err(Stop::NoMemory);
+    }
+    let mut block = [0; BLOCK_LEN];
+    let mut buf = [0; 2 * BLOCK_LEN];
+    header_again(&mut source, length, 1, 2880, &mut block, &mut buf[..room])
+}
+
+#[test]
+fn a_header_once_more(rt: HostRuntime) {
+    let alloc = rt.alloc();
+    assert_eq!(rt; table_again(alloc, 5760), Ok(TABLE));
+    assert_eq!(rt; table_again(alloc, 2880), Ok(TABLE));
+    let fault = Fault {
+        hdu: 1,
+        at: Place::Card(0),
+        kind: Kind::BadCard,
+    };
+    assert_eq!(rt; table_again(alloc, 2879), Err(Stop::Refused(fault)));
 }
 
 #[test]

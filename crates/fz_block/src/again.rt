@@ -1,0 +1,48 @@
+//! A header of a file once more, in a buffer that is there already.
+ghost use Rattle.std.specs.Prelude.{◌≡◌, ◌⊎◌, ◌+◌, ◌*◌, ◌^◌, ◌≤◌, ◌<◌, Some, min, take, length as len, IfOk, IfSome};
+ghost use Rattle.fz_base.specs.Source.{Reads, LogsWithin};
+ghost use Rattle.fz_base.specs.Stop.{ReadsOnly, IsDefined};
+ghost use Rattle.fz_block.specs.Checks.{header_touched, hdu_at};
+ghost use Rattle.fz_block.specs.Facts.{IsHeaderOf};
+ghost use Rattle.fz_block.specs.Header.{next_start_of};
+
+use crate::blocks::{BLOCK_LEN, header_blocks};
+use crate::header::Header;
+use crate::read::read_header;
+use crate::refused::refused;
+use fz_base::{Kind, Place, Source, Stop};
+
+/// Reads and checks the header of the HDU that begins at this byte once more, into the first bytes of a buffer,
+/// which has room for the longest header of the file (FITS 4.0, sections 3.3.1 and 4.4.1).
+///
+/// Refused as by `header_blocks` and then `read_header`. A source that gives other bytes than before, with a
+/// header that the buffer has no room for, is refused with BadCard at card 0.
+pub fn header_again<S: Source>(
+    source: &mut S,
+    length: u64,
+    hdu: u32,
+    start: u64,
+    block: &mut [u8],
+    buf: &mut [u8],
+) -> Result<Header, Stop>
+    requires attached { S.attached source.old ≡ Some length }
+    requires within { (start < length) ⊎ ((hdu ≡ 0) × (start ≡ 0)) }
+    requires block { len block.old ≡ 2880 }
+    ensures exact { IfSome (S.held source.old) (λ g. IfOk (hdu_at hdu start g) (λ h. 2880 * h.blocks ≤ len buf.old → IsDefined (hdu_at hdu start g) result)) }
+    ensures room { IfOk result (λ h. 2880 * h.blocks ≤ len buf.old) }
+    ensures bytes { IfOk result (λ h. Reads (S.held source.old) start (take (2880 * h.blocks) buf.new)) }
+    ensures facts { IfOk result (λ h. IsHeaderOf (take (2880 * h.blocks) buf.new) h × (h.hdu ≡ hdu) × (h.start ≡ start)) }
+    ensures within { IfOk result (λ h. (next_start_of h ≤ length) × (next_start_of h ≤ 2 ^ 62)) }
+    ensures log { LogsWithin start (min length (start + 737280)) (S.ranges source.old) (S.ranges source.new) }
+    ensures touched { IfSome (S.held source.old) (λ g. LogsWithin start (header_touched hdu start g) (S.ranges source.old) (S.ranges source.new)) }
+    ensures held { S.held source.new ≡ S.held source.old }
+    ensures attached { S.attached source.new ≡ S.attached source.old }
+    ensures cause { ReadsOnly (S.tally source.old) (S.tally source.new) result }
+{
+    let blocks = header_blocks(source, length, hdu, start, block)?;
+    let size = BLOCK_LEN * blocks as usize;
+    if size > buf.len() {
+        return Err(Stop::Refused(refused(hdu, Place::Card(0), Kind::BadCard)));
+    }
+    read_header(source, length, hdu, start, &mut buf[..size])
+}
