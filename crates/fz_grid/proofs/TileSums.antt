@@ -41,7 +41,10 @@ tile_most (n ∷ ns) (t ∷ ts) d tiles =
 
 -- the numbers of one row of g, by their places in the row
 row_sum : (F H : ℕ → ℕ) (g j i n : ℕ) → i + n ≤ g → sum_by (λ d. F (d % g) * H (d / g)) (range_with_len (j * g + i) n) ≡ sum_by F (range_with_len i n) * H j
-row_sum F H g j i zero within = refl
+row_sum F H g j i zero within = nothing (H j)
+  where
+    nothing : (h : ℕ) → 0 ≡ 0 * h
+    nothing h = omega arith
 row_sum F H g j i (suc n) within =
     let f : ℕ → ℕ = λ d. F (d % g) * H (d / g) in
     let below : i < g = omega (arith, within) in
