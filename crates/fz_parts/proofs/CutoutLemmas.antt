@@ -44,7 +44,7 @@ pick_inside xs os hs ss ms box are =
     }
 
 -- the axes of a sieve and of a tile
-sieve_axes : (ns ts : List ℕ) (sieve : Sieve) (t : ℕ) → AreTileLengths ns ts → Sifts ns sieve → AreAxes (sieve_lo sieve) (sieve_hi sieve) (sieve_step sieve) (tile_corner ns ts t) (tile_lengths ns ts t)
+pub sieve_axes : (ns ts : List ℕ) (sieve : Sieve) (t : ℕ) → AreTileLengths ns ts → Sifts ns sieve → AreAxes (sieve_lo sieve) (sieve_hi sieve) (sieve_step sieve) (tile_corner ns ts t) (tile_lengths ns ts t)
 sieve_axes ns ts sieve t tiles sifts =
     let axes = tile_axes ns ts t tiles.axes in
     record {

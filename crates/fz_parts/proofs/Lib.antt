@@ -2,6 +2,7 @@ pub mod AxisLemmas
 pub mod BoxLemmas
 pub mod CutoutLemmas
 pub mod PartLemmas
+pub mod PickedLemmas
 pub mod RowLemmas
 pub mod SieveLemmas
 pub mod TableLemmas

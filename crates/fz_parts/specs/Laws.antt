@@ -1,11 +1,11 @@
 -- What the definitions of cutouts promise (FITS 4.0, section 10.1).
-use Rattle.std.specs.Prelude.{◌≡◌, ◌↔◌, ℕ, ◌<◌, IsTrue, ℤ, List, length}
+use Rattle.std.specs.Prelude.{◌≡◌, ◌↔◌, ℕ, ◌<◌, IsTrue, ℤ, List, length, Contains}
 use Rattle.fz_grid.specs.declared.sieve.Sieve.{Sieve}
 use Rattle.fz_grid.specs.Arrays.{IsArray, NumberArray, product}
 use Rattle.fz_grid.specs.Division.{AreTileLengths}
 use Rattle.fz_grid.specs.Grid.{tile, tile_corner, tile_lengths}
 use Rattle.fz_grid.specs.Overlap.{IsInBox, has_pixel}
-use Rattle.fz_grid.specs.Sieve.{IsPick, sieve_hi, sieve_lengths, sieve_lo, sieve_step}
+use Rattle.fz_grid.specs.Sieve.{IsPick, picked_tiles, sieve_hi, sieve_lengths, sieve_lo, sieve_step}
 use Rattle.fz_parts.specs.Cutout.{
   HoldsParts,
   HoldsTiles,
@@ -68,3 +68,26 @@ PartsAreOfTilesWithAPick =
     ↔ ((coordinates : List ℕ)
     × IsPick (sieve_lo sieve) (sieve_hi sieve) (sieve_step sieve) coordinates
     × IsInBox (tile_corner array tile t) (tile_lengths array tile t) coordinates))
+
+-- each pick lies in one of the tiles with a pick
+abbrev pub PicksLieInPickedTiles : Type 0
+PicksLieInPickedTiles =
+    (array tile : List ℕ) (sieve : Sieve) (coordinates : List ℕ)
+    → AreTileLengths array tile
+    → Sifts array sieve
+    → IsPick (sieve_lo sieve) (sieve_hi sieve) (sieve_step sieve) coordinates
+    → (t : ℕ)
+    × Contains (picked_tiles array tile (sieve_lo sieve) (sieve_hi sieve) (sieve_step sieve)) t
+    × IsInBox (tile_corner array tile t) (tile_lengths array tile t) coordinates
+
+-- arrays that have the same tiles with a pick have the same cutout
+abbrev pub PickedTilesMakeOneCutout : Type 0
+PickedTilesMakeOneCutout =
+    (a b : NumberArray) (lengths : List ℕ) (sieve : Sieve)
+    → AreTileLengths a.lengths lengths
+    → Sifts a.lengths sieve
+    → a.lengths ≡ b.lengths
+    → ((t : ℕ)
+    → Contains (picked_tiles a.lengths lengths (sieve_lo sieve) (sieve_hi sieve) (sieve_step sieve)) t
+    → tile a lengths t ≡ tile b lengths t)
+    → picked_numbers a sieve ≡ picked_numbers b sieve

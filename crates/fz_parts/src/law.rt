@@ -3,6 +3,8 @@ ghost use Rattle.fz_parts.specs.Laws.{
   CutoutsAreWhole,
   PartsAreOfTilesWithAPick,
   PartsMakeTheCutout,
+  PickedTilesMakeOneCutout,
+  PicksLieInPickedTiles,
   PlacesArePickedOnce,
   TilesGiveTheirPicks,
   TilesMakeTheImage,
@@ -22,4 +24,13 @@ pub fn cutout_law()
     place_law();
     one_tile_law();
     tiles_law();
+}
+
+/// Each pick lies in one of the tiles with a pick, and these tiles make the cutout.
+pub fn picked_tiles_law()
+    ensures picks { PicksLieInPickedTiles }
+    ensures same { PickedTilesMakeOneCutout }
+{
+    place_law();
+    one_tile_law();
 }

@@ -12,7 +12,7 @@ mod tile;
 mod walk;
 mod walking;
 
-pub use law::cutout_law;
+pub use law::{cutout_law, picked_tiles_law};
 pub use line::Line;
 pub use tile::{cutout_axes, tile_lines, whole_lines};
 pub use walk::Lines;
