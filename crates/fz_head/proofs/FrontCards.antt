@@ -9,10 +9,10 @@ use Rattle.std.proofs.lemmas.List.FromFn.{length-range_with_len, get_or-range_wi
 use Rattle.std.proofs.lemmas.Slice.Eq.{bytes_eq-Decides}
 use Rattle.fz_base.specs.Refusal.{first_refusal}
 use Rattle.fz_base.specs.declared.fault.Fault.{Fault}
+use Rattle.fz_card.specs.Laws.{CardLaws}
 use Rattle.fz_card.specs.Layout.{card_name, padded}
 use Rattle.fz_card.specs.Made.{numbered_name}
 use Rattle.fz_card.specs.Naming.{is_in_some, number_behind}
-use Rattle.fz_card.proofs.TableNames.{is-is_in_some}
 use Rattle.fz_block.specs.Cards.{card_at, is_named, end_among, end_of}
 use Rattle.fz_block.specs.Facts.{IsHeaderOf}
 use Rattle.fz_block.specs.declared.header.Header.{Header}
@@ -169,11 +169,6 @@ eighty header last i end before = length-take-le 80 (drop (80 * i) header) (omeg
 once-word : (name word : List ℕ) → name ≡ padded word → is_in_some image_names (padded word) ≡ true → is_in_some image_names name ≡ true
 once-word name word e is = ap (is_in_some image_names) e ∙ is
 
-pub once-axis : (i : ℕ) → 1 ≤ i → i ≤ 9 → is_in_some image_names (numbered_name (codes "NAXIS") i) ≡ true
-once-axis i low high =
-    is-is_in_some image_names (numbered_name (codes "NAXIS") i) (tt, (tt, (tt, (tt, (omega arith, (tt, (tt, tt)))))))
-    (inr (inr (inr (inr (inl (record { number = i; low = low; high = omega arith; made = refl }))))))
-
 -- the place of a mandatory card
 pub data Place (primary : Bool) (n i : ℕ) : Type 0 where
   At_first : i ≡ 0 → Place primary n i
@@ -212,25 +207,6 @@ once-first : (primary : Bool) → is_in_some image_names (first_word primary) �
 once-first true = refl
 once-first false = refl
 
-pub once : (header : List ℕ) (primary : Bool) (n i : ℕ) → HasFront header primary n → Place primary n i → is_in_some image_names (card_name (card_at header i)) ≡ true
-once header primary n i front (At_first e) = ap (λ k. is_in_some image_names (card_name (card_at header k))) e ∙ (ap (is_in_some image_names) front.first ∙ once-first primary)
-once header primary n i front (At_bitpix e) = ap (λ k. is_in_some image_names (card_name (card_at header k))) e ∙ ap (is_in_some image_names) front.bitpix
-once header primary n i front (At_naxis e) = ap (λ k. is_in_some image_names (card_name (card_at header k))) e ∙ ap (is_in_some image_names) front.naxis
-once header primary n i front (At_axis k low high e) =
-    ap (λ k. is_in_some image_names (card_name (card_at header k))) e ∙ (ap (is_in_some image_names) (front.axis k low high) ∙ once-axis k low (omega (arith, front.few)))
-once header primary n i front (At_pcount p e) = ap (λ k. is_in_some image_names (card_name (card_at header k))) e ∙ (ap (is_in_some image_names) (front.pcount p) ∙ once-pcount)
-once header primary n i front (At_gcount p e) = ap (λ k. is_in_some image_names (card_name (card_at header k))) e ∙ (ap (is_in_some image_names) (front.gcount p) ∙ once-gcount)
-
--- END stands behind the mandatory cards
-pub front-before-end : (header : List ℕ) (primary : Bool) (n last : ℕ) → HasFront header primary n → HasEnd header last → front_count primary n ≤ last
-front-before-end header primary n last front end = elim (cases_lt last (front_count primary n)) [
-  | inl inside ↦
-      let yes = once header primary n last front (place primary n last inside) in
-      let no : is_in_some image_names (card_name (card_at header last)) ≡ false = ap (is_in_some image_names) end.named ∙ end-is-other in
-      absurd (cc)
-  | inr behind ↦ behind
-]
-
 repeated : (header card card' : List ℕ) (earlier : List (List ℕ)) (i j : ℕ) → card' ≡ card → earlier ≡ map (card_at header) (range_with_len 0 i) → j < i →
     is_in_some image_names (card_name card) ≡ true → card_name (card_at header j) ≡ card_name card →
     (is_in_some image_names (card_name card') && list_any (λ c. bytes_eq (itself (card_name c)) (itself (card_name card'))) earlier) ≡ false → ⊥
@@ -263,3 +239,29 @@ header-end header h is =
 
 pub header-cards : (header : List ℕ) (h : Header) → IsHeaderOf header h → cards_of header ≡ map (card_at header) (range_with_len 0 h.cards)
 header-cards header h is = ap (λ o. map (card_at header) (range_with_len 0 (unwrap_or o 0))) (header-end header h is).found
+
+-- by the laws of cards
+module _ (laws : CardLaws) where
+  pub once-axis : (i : ℕ) → 1 ≤ i → i ≤ 9 → is_in_some image_names (numbered_name (codes "NAXIS") i) ≡ true
+  once-axis i low high =
+      laws.names.named_list image_names (numbered_name (codes "NAXIS") i) (tt, (tt, (tt, (tt, (omega arith, (tt, (tt, tt)))))))
+      (inr (inr (inr (inr (inl (record { number = i; low = low; high = omega arith; made = refl }))))))
+
+  pub once : (header : List ℕ) (primary : Bool) (n i : ℕ) → HasFront header primary n → Place primary n i → is_in_some image_names (card_name (card_at header i)) ≡ true
+  once header primary n i front (At_first e) = ap (λ k. is_in_some image_names (card_name (card_at header k))) e ∙ (ap (is_in_some image_names) front.first ∙ once-first primary)
+  once header primary n i front (At_bitpix e) = ap (λ k. is_in_some image_names (card_name (card_at header k))) e ∙ ap (is_in_some image_names) front.bitpix
+  once header primary n i front (At_naxis e) = ap (λ k. is_in_some image_names (card_name (card_at header k))) e ∙ ap (is_in_some image_names) front.naxis
+  once header primary n i front (At_axis k low high e) =
+      ap (λ k. is_in_some image_names (card_name (card_at header k))) e ∙ (ap (is_in_some image_names) (front.axis k low high) ∙ once-axis k low (omega (arith, front.few)))
+  once header primary n i front (At_pcount p e) = ap (λ k. is_in_some image_names (card_name (card_at header k))) e ∙ (ap (is_in_some image_names) (front.pcount p) ∙ once-pcount)
+  once header primary n i front (At_gcount p e) = ap (λ k. is_in_some image_names (card_name (card_at header k))) e ∙ (ap (is_in_some image_names) (front.gcount p) ∙ once-gcount)
+
+  -- END stands behind the mandatory cards
+  pub front-before-end : (header : List ℕ) (primary : Bool) (n last : ℕ) → HasFront header primary n → HasEnd header last → front_count primary n ≤ last
+  front-before-end header primary n last front end = elim (cases_lt last (front_count primary n)) [
+    | inl inside ↦
+        let yes = once header primary n last front (place primary n last inside) in
+        let no : is_in_some image_names (card_name (card_at header last)) ≡ false = ap (is_in_some image_names) end.named ∙ end-is-other in
+        absurd (cc)
+    | inr behind ↦ behind
+  ]

@@ -9,9 +9,8 @@ use Rattle.std.proofs.lemmas.Slice.Eq.{bytes_eq-Decides}
 use Rattle.fz_card.specs.Layout.{card_name, padded}
 use Rattle.fz_card.specs.Made.{int_card_bytes, logical_card_bytes, text_card_bytes, numbered_name}
 use Rattle.fz_card.specs.Naming.{is_dropped}
-use Rattle.fz_card.proofs.Lines.{card_name-int_card_bytes, length-numbered_name}
-use Rattle.fz_card.proofs.Numbers.{number_behind-made}
 use Rattle.fz_card.specs.CardLists.{has_name}
+use Rattle.fz_card.specs.Laws.{CardLaws}
 use Rattle.fz_tile.specs.declared.codec.Codec.{Codec}
 use Rattle.fz_tile.specs.declared.codec.Codec.TheVariants.{Rice, Plio, Plain}
 use Rattle.fz_head.specs.declared.plan.Plan.{Plan}
@@ -67,39 +66,10 @@ module _ (p : Plan) (s : Totals) (rest : List (List ℕ)) where
   unfolding int_card_bytes logical_card_bytes text_card_bytes numbered_name digits
   tform2-found = refl
 
--- two numbers behind a stem make two names
-pub numbers-apart : (stem : List ℕ) (i k : ℕ) → 1 ≤ i → i < 2 ^ 64 → 1 ≤ k → k < 2 ^ 64 → numbered_name stem i ≡ numbered_name stem k → i ≡ k
-numbers-apart stem i k low_i high_i low_k high_k same =
-    let one = number_behind-made stem (numbered_name stem i) i low_i high_i refl in
-    let two = number_behind-made stem (numbered_name stem i) k low_k high_k same in
-    let e : Some i ≡ Some k = sym one ∙ two in
-    cc
-
--- the name of a tile's card
-pub tile-name : (p : Plan) (i : ℕ) → i < 10 → card_name (tile_card p i) ≡ numbered_name (codes "ZTILE") i
-tile-name p i few = card_name-int_card_bytes (numbered_name (codes "ZTILE") i) (pos (slice_index p.tile.len (i - 1))) (length-numbered_name (codes "ZTILE") i (omega arith, omega arith))
-
-has-tile-name : (p : Plan) (i k : ℕ) → i < 10 → numbered_name (codes "ZTILE") i ≡ numbered_name (codes "ZTILE") k → has_name (numbered_name (codes "ZTILE") k) (tile_card p i) ≡ true
-has-tile-name p i k few same = (bytes_eq-Decides (card_name (tile_card p i)) (numbered_name (codes "ZTILE") k)).1 (tile-name p i few ∙ same)
-
-other-tile-name : (p : Plan) (i k : ℕ) → 1 ≤ i → i < k → k < 10 → has_name (numbered_name (codes "ZTILE") k) (tile_card p i) ≡ false
-other-tile-name p i k low less few =
-    false_of (has_name (numbered_name (codes "ZTILE") k) (tile_card p i)) (λ t.
-    let same : i ≡ k = numbers-apart (codes "ZTILE") i k low (omega arith) (omega arith) (omega arith) (sym (tile-name p i (omega arith)) ∙ (bytes_eq-Decides (card_name (tile_card p i)) (numbered_name (codes "ZTILE") k)).0 t) in
-    absurd (omega arith))
-
 -- no card of the first part is that of a tile's length
 pub first-no-tile : (p : Plan) (s : Totals) (i : ℕ) → NoneNamed (numbered_name (codes "ZTILE") i) (first_part p s)
 unfolding int_card_bytes logical_card_bytes text_card_bytes numbered_name digits
 first-no-tile p s i = (refl, (refl, (refl, (refl, (refl, (refl, (refl, (refl, (refl, (refl, (refl, (refl, (refl, (refl, tt))))))))))))))
-
-pub ztile-found : (p : Plan) (s : Totals) (rest : List (List ℕ)) (k : ℕ) → p.shape.n ≤ 9 → 1 ≤ k → k ≤ p.shape.n → find (has_name (numbered_name (codes "ZTILE") k)) (made_cards p s ++ rest) ≡ Some (tile_card p k)
-ztile-found p s rest k few low high =
-    let name = numbered_name (codes "ZTILE") k in
-    ap (find (has_name name)) (made-parts p s rest)
-    ∙ (found_later (has_name name) (first_part p s) (tiles p ++ (parameter_cards p.codec ++ rest)) (first-no-tile p s k)
-    ∙ found_here (has_name name) (tiles p) (parameter_cards p.codec ++ rest) (tile_card p k)
-    (found_first (has_name name) (tile_card p) 1 p.shape.n k low (omega arith) (has-tile-name p k k (omega arith) refl) (λ i l below. other-tile-name p i k l below (omega arith))))
 
 -- the parameters stand behind the tile's lengths
 behind-tiles : (name : List ℕ) (p : Plan) (s : Totals) (rest : List (List ℕ)) → NoneNamed name (first_part p s) → NoneNamed name (tiles p) → find (has_name name) (made_cards p s ++ rest) ≡ find (has_name name) (parameter_cards p.codec ++ rest)
@@ -107,10 +77,6 @@ behind-tiles name p s rest first mid =
     ap (find (has_name name)) (made-parts p s rest)
     ∙ (found_later (has_name name) (first_part p s) (tiles p ++ (parameter_cards p.codec ++ rest)) first
     ∙ found_later (has_name name) (tiles p) (parameter_cards p.codec ++ rest) mid)
-
--- a value is none of a tile's lengths
-no-tile : (p : Plan) (name : List ℕ) → p.shape.n ≤ 9 → ((i : ℕ) → bytes_eq (numbered_name (codes "ZTILE") i) name ≡ false) → NoneNamed name (tiles p)
-no-tile p name few other = all-mapped (λ card. has_name name card ≡ false) (tile_card p) 1 p.shape.n (λ i low high. ap (λ n. bytes_eq n name) (tile-name p i (omega arith)) ∙ other i)
 
 zval-no-tile : (k i : ℕ) → bytes_eq (numbered_name (codes "ZTILE") i) (numbered_name (codes "ZVAL") k) ≡ false
 unfolding numbered_name
@@ -123,19 +89,6 @@ zname-no-tile k i = refl
 first-no-zval : (p : Plan) (s : Totals) (k : ℕ) → NoneNamed (numbered_name (codes "ZVAL") k) (first_part p s)
 unfolding int_card_bytes logical_card_bytes text_card_bytes numbered_name digits
 first-no-zval p s k = (refl, (refl, (refl, (refl, (refl, (refl, (refl, (refl, (refl, (refl, (refl, (refl, (refl, (refl, tt))))))))))))))
-
-module _ (p : Plan) (s : Totals) (rest : List (List ℕ)) (block bytepix : ℕ) (few : p.shape.n ≤ 9) (rice : p.codec ≡ Rice block bytepix) where
-  pub zval1-found : find (has_name (numbered_name (codes "ZVAL") 1)) (made_cards p s ++ rest) ≡ Some (numbered_number_card (codes "ZVAL") 1 block)
-  unfolding int_card_bytes text_card_bytes numbered_name digits
-  zval1-found =
-      behind-tiles (numbered_name (codes "ZVAL") 1) p s rest (first-no-zval p s 1) (no-tile p (numbered_name (codes "ZVAL") 1) few (zval-no-tile 1))
-      ∙ ap (λ c. find (has_name (numbered_name (codes "ZVAL") 1)) (parameter_cards c ++ rest)) rice
-
-  pub zval2-found : find (has_name (numbered_name (codes "ZVAL") 2)) (made_cards p s ++ rest) ≡ Some (numbered_number_card (codes "ZVAL") 2 bytepix)
-  unfolding int_card_bytes text_card_bytes numbered_name digits
-  zval2-found =
-      behind-tiles (numbered_name (codes "ZVAL") 2) p s rest (first-no-zval p s 2) (no-tile p (numbered_name (codes "ZVAL") 2) few (zval-no-tile 2))
-      ∙ ap (λ c. find (has_name (numbered_name (codes "ZVAL") 2)) (parameter_cards c ++ rest)) rice
 
 -- no card of the table alone has a name that comes back
 pub dropped-other : (name card : List ℕ) → is_dropped name ≡ false → IsDroppedCard card → has_name name card ≡ false
@@ -160,11 +113,6 @@ theap-not-first : (p : Plan) (s : Totals) → NoneNamed (padded (codes "THEAP"))
 unfolding int_card_bytes logical_card_bytes text_card_bytes numbered_name digits
 theap-not-first p s = (refl, (refl, (refl, (refl, (refl, (refl, (refl, (refl, (refl, (refl, (refl, (refl, (refl, (refl, tt))))))))))))))
 
-pub no-theap : (p : Plan) (s : Totals) → p.shape.n ≤ 9 → NoneNamed (padded (codes "THEAP")) (made_cards p s)
-no-theap p s few =
-    all-append (λ card. has_name (padded (codes "THEAP")) card ≡ false) (first_part p s) (tiles p ++ parameter_cards p.codec) (theap-not-first p s)
-    (all-append (λ card. has_name (padded (codes "THEAP")) card ≡ false) (tiles p) (parameter_cards p.codec) (no-tile p (padded (codes "THEAP")) few theap-no-tile) (theap-no-parameter p.codec))
-
 -- a card of a sum has no other name
 pub none-of-sums : (name : List ℕ) (cards : List (List ℕ)) → bytes_eq (padded (codes "DATASUM")) name ≡ false → bytes_eq (padded (codes "CHECKSUM")) name ≡ false → AreSumCards cards → NoneNamed name cards
 none-of-sums name cards datasum checksum are = all-weaker IsSumCard (λ card. has_name name card ≡ false) cards other are
@@ -174,3 +122,56 @@ none-of-sums name cards datasum checksum are = all-weaker IsSumCard (λ card. ha
       | inl e ↦ ap (λ n. bytes_eq n name) e ∙ datasum
       | inr e ↦ ap (λ n. bytes_eq n name) e ∙ checksum
     ]
+
+-- by the laws of cards
+module _ (laws : CardLaws) where
+  -- two numbers behind a stem make two names
+  pub numbers-apart : (stem : List ℕ) (i k : ℕ) → 1 ≤ i → i < 2 ^ 64 → 1 ≤ k → k < 2 ^ 64 → numbered_name stem i ≡ numbered_name stem k → i ≡ k
+  numbers-apart stem i k low_i high_i low_k high_k same =
+      let one = laws.numbers.made_number stem (numbered_name stem i) i low_i high_i refl in
+      let two = laws.numbers.made_number stem (numbered_name stem i) k low_k high_k same in
+      let e : Some i ≡ Some k = sym one ∙ two in
+      cc
+
+  -- the name of a tile's card
+  pub tile-name : (p : Plan) (i : ℕ) → i < 10 → card_name (tile_card p i) ≡ numbered_name (codes "ZTILE") i
+  tile-name p i few = laws.made.integer_name (numbered_name (codes "ZTILE") i) (pos (slice_index p.tile.len (i - 1))) (laws.numbers.eight_bytes (codes "ZTILE") i (omega arith, omega arith))
+
+  has-tile-name : (p : Plan) (i k : ℕ) → i < 10 → numbered_name (codes "ZTILE") i ≡ numbered_name (codes "ZTILE") k → has_name (numbered_name (codes "ZTILE") k) (tile_card p i) ≡ true
+  has-tile-name p i k few same = (bytes_eq-Decides (card_name (tile_card p i)) (numbered_name (codes "ZTILE") k)).1 (tile-name p i few ∙ same)
+
+  other-tile-name : (p : Plan) (i k : ℕ) → 1 ≤ i → i < k → k < 10 → has_name (numbered_name (codes "ZTILE") k) (tile_card p i) ≡ false
+  other-tile-name p i k low less few =
+      false_of (has_name (numbered_name (codes "ZTILE") k) (tile_card p i)) (λ t.
+      let same : i ≡ k = numbers-apart (codes "ZTILE") i k low (omega arith) (omega arith) (omega arith) (sym (tile-name p i (omega arith)) ∙ (bytes_eq-Decides (card_name (tile_card p i)) (numbered_name (codes "ZTILE") k)).0 t) in
+      absurd (omega arith))
+
+  pub ztile-found : (p : Plan) (s : Totals) (rest : List (List ℕ)) (k : ℕ) → p.shape.n ≤ 9 → 1 ≤ k → k ≤ p.shape.n → find (has_name (numbered_name (codes "ZTILE") k)) (made_cards p s ++ rest) ≡ Some (tile_card p k)
+  ztile-found p s rest k few low high =
+      let name = numbered_name (codes "ZTILE") k in
+      ap (find (has_name name)) (made-parts p s rest)
+      ∙ (found_later (has_name name) (first_part p s) (tiles p ++ (parameter_cards p.codec ++ rest)) (first-no-tile p s k)
+      ∙ found_here (has_name name) (tiles p) (parameter_cards p.codec ++ rest) (tile_card p k)
+      (found_first (has_name name) (tile_card p) 1 p.shape.n k low (omega arith) (has-tile-name p k k (omega arith) refl) (λ i l below. other-tile-name p i k l below (omega arith))))
+
+  -- a value is none of a tile's lengths
+  no-tile : (p : Plan) (name : List ℕ) → p.shape.n ≤ 9 → ((i : ℕ) → bytes_eq (numbered_name (codes "ZTILE") i) name ≡ false) → NoneNamed name (tiles p)
+  no-tile p name few other = all-mapped (λ card. has_name name card ≡ false) (tile_card p) 1 p.shape.n (λ i low high. ap (λ n. bytes_eq n name) (tile-name p i (omega arith)) ∙ other i)
+
+  module _ (p : Plan) (s : Totals) (rest : List (List ℕ)) (block bytepix : ℕ) (few : p.shape.n ≤ 9) (rice : p.codec ≡ Rice block bytepix) where
+    pub zval1-found : find (has_name (numbered_name (codes "ZVAL") 1)) (made_cards p s ++ rest) ≡ Some (numbered_number_card (codes "ZVAL") 1 block)
+    unfolding int_card_bytes text_card_bytes numbered_name digits
+    zval1-found =
+        behind-tiles (numbered_name (codes "ZVAL") 1) p s rest (first-no-zval p s 1) (no-tile p (numbered_name (codes "ZVAL") 1) few (zval-no-tile 1))
+        ∙ ap (λ c. find (has_name (numbered_name (codes "ZVAL") 1)) (parameter_cards c ++ rest)) rice
+
+    pub zval2-found : find (has_name (numbered_name (codes "ZVAL") 2)) (made_cards p s ++ rest) ≡ Some (numbered_number_card (codes "ZVAL") 2 bytepix)
+    unfolding int_card_bytes text_card_bytes numbered_name digits
+    zval2-found =
+        behind-tiles (numbered_name (codes "ZVAL") 2) p s rest (first-no-zval p s 2) (no-tile p (numbered_name (codes "ZVAL") 2) few (zval-no-tile 2))
+        ∙ ap (λ c. find (has_name (numbered_name (codes "ZVAL") 2)) (parameter_cards c ++ rest)) rice
+
+  pub no-theap : (p : Plan) (s : Totals) → p.shape.n ≤ 9 → NoneNamed (padded (codes "THEAP")) (made_cards p s)
+  no-theap p s few =
+      all-append (λ card. has_name (padded (codes "THEAP")) card ≡ false) (first_part p s) (tiles p ++ parameter_cards p.codec) (theap-not-first p s)
+      (all-append (λ card. has_name (padded (codes "THEAP")) card ≡ false) (tiles p) (parameter_cards p.codec) (no-tile p (padded (codes "THEAP")) few theap-no-tile) (theap-no-parameter p.codec))

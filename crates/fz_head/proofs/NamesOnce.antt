@@ -6,6 +6,7 @@ use Rattle.std.specs.List.{AllByRecursion, list_any, range_with_len}
 use Rattle.std.proofs.lemmas.Bool.{and_parts, and_right, not-true}
 use Rattle.std.proofs.lemmas.List.FromFn.{map-range_with_len_more}
 use Rattle.std.proofs.lemmas.Slice.Eq.{bytes_eq-Decides}
+use Rattle.fz_card.specs.Laws.{CardLaws}
 use Rattle.fz_card.specs.Layout.{card_name}
 use Rattle.fz_card.specs.Made.{int_card_bytes, logical_card_bytes, text_card_bytes, numbered_name}
 use Rattle.fz_card.specs.Naming.{is_in_some}
@@ -75,9 +76,6 @@ itself-counted : (i : ℕ) → counted_name (numbered_name (codes "ZTILE") i) �
 unfolding numbered_name
 itself-counted i = refl
 
-tile-counted : (p : Plan) (i : ℕ) → i < 10 → counted_name (card_name (tile_card p i)) ≡ numbered_name (codes "ZTILE") i
-tile-counted p i few = ap counted_name (tile-name p i few) ∙ itself-counted i
-
 abbrev NoneCountsAs : List ℕ → List (List ℕ) → Type 0
 NoneCountsAs name cards = AllByRecursion (λ c. bytes_eq (counted_name (card_name c)) name ≡ false) cards
 
@@ -87,32 +85,6 @@ counts-none card name cards e none = all-weaker (λ c. bytes_eq (counted_name (c
 first-no-tile-name : (p : Plan) (s : Totals) (i : ℕ) → NoneCountsAs (numbered_name (codes "ZTILE") i) (first_part p s)
 unfolding int_card_bytes logical_card_bytes text_card_bytes numbered_name digits
 first-no-tile-name p s i = (refl, (refl, (refl, (refl, (refl, (refl, (refl, (refl, (refl, (refl, (refl, (refl, (refl, (refl, tt))))))))))))))
-
-tiles-apart : (p : Plan) (k : ℕ) → k < 10 → (m : ℕ) → m < k → NoneCountsAs (numbered_name (codes "ZTILE") k) (map (tile_card p) (range_with_len 1 m))
-tiles-apart p k few m less =
-    all-mapped (λ c. bytes_eq (counted_name (card_name c)) (numbered_name (codes "ZTILE") k) ≡ false) (tile_card p) 1 m (λ i low high.
-    false_of (bytes_eq (counted_name (card_name (tile_card p i))) (numbered_name (codes "ZTILE") k)) (λ t.
-    let same : i ≡ k = numbers-apart (codes "ZTILE") i k low (omega arith) (omega arith) (omega arith) (sym (tile-counted p i (omega arith)) ∙ (bytes_eq-Decides (counted_name (card_name (tile_card p i))) (numbered_name (codes "ZTILE") k)).0 t) in
-    absurd (omega arith)))
-
-tiles-once : (p : Plan) (s : Totals) (m k : ℕ) → m + k ≤ 9 → OnceAfter (first_part p s ++ map (tile_card p) (range_with_len 1 m)) (map (tile_card p) (range_with_len (1 + m) k))
-tiles-once p s m zero few = tt
-tiles-once p s m (suc k) few =
-    let here : 1 + m < 10 = omega arith in
-    let name = numbered_name (codes "ZTILE") (1 + m) in
-    let on : 1 + m + 1 ≡ 1 + (m + 1) = omega arith in
-    let seen : (first_part p s ++ map (tile_card p) (range_with_len 1 m)) ++ (tile_card p (1 + m) ∷ []) ≡ first_part p s ++ map (tile_card p) (range_with_len 1 (m + 1)) =
-    append_assoc (first_part p s) (map (tile_card p) (range_with_len 1 m)) (tile_card p (1 + m) ∷ []) ∙ ap (λ l. first_part p s ++ l) (sym (map-range_with_len_more (tile_card p) 1 m (1 + m) refl)) in (
-      none-counts (first_part p s ++ map (tile_card p) (range_with_len 1 m)) (tile_card p (1 + m))
-          (counts-none (tile_card p (1 + m)) name (first_part p s ++ map (tile_card p) (range_with_len 1 m)) (tile-counted p (1 + m) here)
-          (all-append (λ c. bytes_eq (counted_name (card_name c)) name ≡ false) (first_part p s) (map (tile_card p) (range_with_len 1 m)) (first-no-tile-name p s (1 + m)) (tiles-apart p (1 + m) here m (omega arith)))),
-      subst (λ l. OnceAfter l (map (tile_card p) (range_with_len (1 + m + 1) k))) (sym seen)
-          (subst (λ a. OnceAfter (first_part p s ++ map (tile_card p) (range_with_len 1 (m + 1))) (map (tile_card p) (range_with_len a k))) (sym on) (tiles-once p s (m + 1) k (omega arith))),
-    )
-
--- the parameters
-tiles-no-name : (p : Plan) (name : List ℕ) → p.shape.n ≤ 9 → ((i : ℕ) → bytes_eq (numbered_name (codes "ZTILE") i) name ≡ false) → NoneCountsAs name (tiles p)
-tiles-no-name p name few other = all-mapped (λ c. bytes_eq (counted_name (card_name c)) name ≡ false) (tile_card p) 1 p.shape.n (λ i low high. ap (λ n. bytes_eq n name) (tile-counted p i (omega arith)) ∙ other i)
 
 zname-no-tile : (k i : ℕ) → bytes_eq (numbered_name (codes "ZTILE") i) (numbered_name (codes "ZNAME") k) ≡ false
 unfolding numbered_name
@@ -160,22 +132,53 @@ module _ (front : List (List ℕ)) (block bytepix : ℕ) where
       (step (((front ++ k1 ∷ []) ++ k2 ∷ []) ++ k3 ∷ []) k4 [] (numbered_name (codes "ZVAL") 2) refl
       (more ((front ++ k1 ∷ []) ++ k2 ∷ []) k3 (numbered_name (codes "ZVAL") 2) (more (front ++ k1 ∷ []) k2 (numbered_name (codes "ZVAL") 2) (more front k1 (numbered_name (codes "ZVAL") 2) v2 refl) refl) refl) tt)))
 
-parameters-once : (p : Plan) (s : Totals) (c : Codec) → p.shape.n ≤ 9 → OnceAfter (first_part p s ++ tiles p) (parameter_cards c)
-parameters-once p s Plio few = tt
-parameters-once p s Plain few = tt
-parameters-once p s (Rice block bytepix) few =
-    rice-once (first_part p s ++ tiles p) block bytepix
-    (none (numbered_name (codes "ZNAME") 1) (first-no-zname p s 1) (tiles-no-name p (numbered_name (codes "ZNAME") 1) few (zname-no-tile 1)))
-    (none (numbered_name (codes "ZVAL") 1) (first-no-zval p s 1) (tiles-no-name p (numbered_name (codes "ZVAL") 1) few (zval-no-tile 1)))
-    (none (numbered_name (codes "ZNAME") 2) (first-no-zname p s 2) (tiles-no-name p (numbered_name (codes "ZNAME") 2) few (zname-no-tile 2)))
-    (none (numbered_name (codes "ZVAL") 2) (first-no-zval p s 2) (tiles-no-name p (numbered_name (codes "ZVAL") 2) few (zval-no-tile 2)))
-  where
-    none : (name : List ℕ) → NoneCountsAs name (first_part p s) → NoneCountsAs name (tiles p) → NoneCountsAs name (first_part p s ++ tiles p)
-    none name a b = all-append (λ c. bytes_eq (counted_name (card_name c)) name ≡ false) (first_part p s) (tiles p) a b
+-- by the laws of cards
+module _ (laws : CardLaws) where
+  tile-counted : (p : Plan) (i : ℕ) → i < 10 → counted_name (card_name (tile_card p i)) ≡ numbered_name (codes "ZTILE") i
+  tile-counted p i few = ap counted_name (tile-name laws p i few) ∙ itself-counted i
 
-pub made-once : (p : Plan) (s : Totals) → p.shape.n ≤ 9 → OnceAfter [] (made_cards p s)
-made-once p s few =
-    once-append [] (first_part p s) (tiles p ++ parameter_cards p.codec) (first-once p s)
-    (once-append (first_part p s) (tiles p) (parameter_cards p.codec)
-    (subst (λ l. OnceAfter l (tiles p)) (append-nil (first_part p s)) (tiles-once p s 0 p.shape.n (omega (arith, few))))
-    (parameters-once p s p.codec few))
+  tiles-apart : (p : Plan) (k : ℕ) → k < 10 → (m : ℕ) → m < k → NoneCountsAs (numbered_name (codes "ZTILE") k) (map (tile_card p) (range_with_len 1 m))
+  tiles-apart p k few m less =
+      all-mapped (λ c. bytes_eq (counted_name (card_name c)) (numbered_name (codes "ZTILE") k) ≡ false) (tile_card p) 1 m (λ i low high.
+      false_of (bytes_eq (counted_name (card_name (tile_card p i))) (numbered_name (codes "ZTILE") k)) (λ t.
+      let same : i ≡ k = numbers-apart laws (codes "ZTILE") i k low (omega arith) (omega arith) (omega arith) (sym (tile-counted p i (omega arith)) ∙ (bytes_eq-Decides (counted_name (card_name (tile_card p i))) (numbered_name (codes "ZTILE") k)).0 t) in
+      absurd (omega arith)))
+
+  tiles-once : (p : Plan) (s : Totals) (m k : ℕ) → m + k ≤ 9 → OnceAfter (first_part p s ++ map (tile_card p) (range_with_len 1 m)) (map (tile_card p) (range_with_len (1 + m) k))
+  tiles-once p s m zero few = tt
+  tiles-once p s m (suc k) few =
+      let here : 1 + m < 10 = omega arith in
+      let name = numbered_name (codes "ZTILE") (1 + m) in
+      let on : 1 + m + 1 ≡ 1 + (m + 1) = omega arith in
+      let seen : (first_part p s ++ map (tile_card p) (range_with_len 1 m)) ++ (tile_card p (1 + m) ∷ []) ≡ first_part p s ++ map (tile_card p) (range_with_len 1 (m + 1)) =
+      append_assoc (first_part p s) (map (tile_card p) (range_with_len 1 m)) (tile_card p (1 + m) ∷ []) ∙ ap (λ l. first_part p s ++ l) (sym (map-range_with_len_more (tile_card p) 1 m (1 + m) refl)) in (
+        none-counts (first_part p s ++ map (tile_card p) (range_with_len 1 m)) (tile_card p (1 + m))
+            (counts-none (tile_card p (1 + m)) name (first_part p s ++ map (tile_card p) (range_with_len 1 m)) (tile-counted p (1 + m) here)
+            (all-append (λ c. bytes_eq (counted_name (card_name c)) name ≡ false) (first_part p s) (map (tile_card p) (range_with_len 1 m)) (first-no-tile-name p s (1 + m)) (tiles-apart p (1 + m) here m (omega arith)))),
+        subst (λ l. OnceAfter l (map (tile_card p) (range_with_len (1 + m + 1) k))) (sym seen)
+            (subst (λ a. OnceAfter (first_part p s ++ map (tile_card p) (range_with_len 1 (m + 1))) (map (tile_card p) (range_with_len a k))) (sym on) (tiles-once p s (m + 1) k (omega arith))),
+      )
+
+  -- the parameters
+  tiles-no-name : (p : Plan) (name : List ℕ) → p.shape.n ≤ 9 → ((i : ℕ) → bytes_eq (numbered_name (codes "ZTILE") i) name ≡ false) → NoneCountsAs name (tiles p)
+  tiles-no-name p name few other = all-mapped (λ c. bytes_eq (counted_name (card_name c)) name ≡ false) (tile_card p) 1 p.shape.n (λ i low high. ap (λ n. bytes_eq n name) (tile-counted p i (omega arith)) ∙ other i)
+
+  parameters-once : (p : Plan) (s : Totals) (c : Codec) → p.shape.n ≤ 9 → OnceAfter (first_part p s ++ tiles p) (parameter_cards c)
+  parameters-once p s Plio few = tt
+  parameters-once p s Plain few = tt
+  parameters-once p s (Rice block bytepix) few =
+      rice-once (first_part p s ++ tiles p) block bytepix
+      (none (numbered_name (codes "ZNAME") 1) (first-no-zname p s 1) (tiles-no-name p (numbered_name (codes "ZNAME") 1) few (zname-no-tile 1)))
+      (none (numbered_name (codes "ZVAL") 1) (first-no-zval p s 1) (tiles-no-name p (numbered_name (codes "ZVAL") 1) few (zval-no-tile 1)))
+      (none (numbered_name (codes "ZNAME") 2) (first-no-zname p s 2) (tiles-no-name p (numbered_name (codes "ZNAME") 2) few (zname-no-tile 2)))
+      (none (numbered_name (codes "ZVAL") 2) (first-no-zval p s 2) (tiles-no-name p (numbered_name (codes "ZVAL") 2) few (zval-no-tile 2)))
+    where
+      none : (name : List ℕ) → NoneCountsAs name (first_part p s) → NoneCountsAs name (tiles p) → NoneCountsAs name (first_part p s ++ tiles p)
+      none name a b = all-append (λ c. bytes_eq (counted_name (card_name c)) name ≡ false) (first_part p s) (tiles p) a b
+
+  pub made-once : (p : Plan) (s : Totals) → p.shape.n ≤ 9 → OnceAfter [] (made_cards p s)
+  made-once p s few =
+      once-append [] (first_part p s) (tiles p ++ parameter_cards p.codec) (first-once p s)
+      (once-append (first_part p s) (tiles p) (parameter_cards p.codec)
+      (subst (λ l. OnceAfter l (tiles p)) (append-nil (first_part p s)) (tiles-once p s 0 p.shape.n (omega (arith, few))))
+      (parameters-once p s p.codec few))

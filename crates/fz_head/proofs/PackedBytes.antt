@@ -1,6 +1,7 @@
 -- The bytes of a packed header that is made are a header with its cards.
 use Rattle.std.proofs.Common.{◌≡◌, ℕ, ◌+◌, ◌*◌, ◌<◌, ◌≤◌, List, length, arith}
 use Rattle.std.specs.Prelude.{All}
+use Rattle.fz_card.specs.Laws.{CardLaws}
 use Rattle.fz_block.specs.Header.{whole_blocks_of}
 use Rattle.fz_block.specs.Hdus.{HasBlankFill, IsCardBeforeEnd, IsHeader, cards_of, header_bytes}
 use Rattle.fz_block.specs.declared.header.Header.{Header}
@@ -23,13 +24,15 @@ HeaderAgain = (cards : List (List ℕ)) → All IsCardBeforeEnd cards →
 few-blocks : (count size : ℕ) → size ≡ whole_blocks_of (80 * (count + 1)) → count < 9216 → size ≤ 737280
 few-blocks count size is few = omega arith
 
-pub bytes-have : CardsAgain → HeaderAgain → (header : List ℕ) (h : Header) (p : Plan) (s : Totals) (sums : List (List ℕ)) → IsPacking header h p s sums →
-    HasCards (header_bytes (packed_with (cards_of header) p s sums)) (packed_with (cards_of header) p s sums)
-bytes-have again whole header h p s sums is =
-    let cards : List (List ℕ) = packed_with (cards_of header) p s sums in
-    let all : All IsCardBeforeEnd cards = all-before-end cards (packed-cards header h p s sums is) in
-    record {
-      whole = (whole cards all).0;
-      short = few-blocks (length cards) (length (header_bytes cards)) (whole cards all).2 (packing-few header h p s sums is);
-      are = again cards all;
-    }
+-- by the laws of cards
+module _ (laws : CardLaws) where
+  pub bytes-have : CardsAgain → HeaderAgain → (header : List ℕ) (h : Header) (p : Plan) (s : Totals) (sums : List (List ℕ)) → IsPacking header h p s sums →
+      HasCards (header_bytes (packed_with (cards_of header) p s sums)) (packed_with (cards_of header) p s sums)
+  bytes-have again whole header h p s sums is =
+      let cards : List (List ℕ) = packed_with (cards_of header) p s sums in
+      let all : All IsCardBeforeEnd cards = all-before-end cards (packed-cards laws header h p s sums is) in
+      record {
+        whole = (whole cards all).0;
+        short = few-blocks (length cards) (length (header_bytes cards)) (whole cards all).2 (packing-few header h p s sums is);
+        are = again cards all;
+      }

@@ -9,8 +9,8 @@ use Rattle.fz_base.specs.declared.fault.Fault.{Fault}
 use Rattle.fz_card.specs.Layout.{padded}
 use Rattle.fz_card.specs.Made.{numbered_name}
 use Rattle.fz_card.specs.Reading.{integer_of, text_of}
-use Rattle.fz_card.proofs.Lines.{length-numbered_name}
 use Rattle.fz_card.specs.CardLists.{has_name}
+use Rattle.fz_card.specs.Laws.{CardLaws}
 use Rattle.fz_block.specs.Cards.{card_at}
 use Rattle.fz_block.specs.Facts.{nine_axes}
 use Rattle.fz_block.specs.Hdus.{axes_of, size_at, size_in}
@@ -110,181 +110,183 @@ clear-flat : (checks : ℕ → List (Bool × Fault)) (a n : ℕ) → Between a n
 clear-flat checks a zero all = tt
 clear-flat checks a (suc n) all = clear-append (checks a) (flat_map checks (range_with_len (a + 1) n)) (all a (omega arith) (omega arith)) (clear-flat checks (a + 1) n (λ i low high. all i (omega arith) (omega arith)))
 
-module _ (header : List ℕ) (k : ℕ) (primary : Bool) (n last : ℕ) (p : Plan) (s : Totals) (sums : List (List ℕ)) (is : IsPacked header primary n last (made_cards p s) sums) where
-  abbrev C : List (List ℕ)
-  C = whole header last (made_cards p s) sums
+-- by the laws of cards
+module _ (laws : CardLaws) where
+  module _ (header : List ℕ) (k : ℕ) (primary : Bool) (n last : ℕ) (p : Plan) (s : Totals) (sums : List (List ℕ)) (is : IsPacked header primary n last (made_cards p s) sums) where
+    abbrev C : List (List ℕ)
+    C = whole header last (made_cards p s) sums
 
-  -- what stands there
-  pub stands : (name card : List ℕ) → find (has_name name) C ≡ Some card → is_some (index_of name C) ≡ true
-  stands name card found = found-index (has_name name) C card found
+    -- what stands there
+    pub stands : (name card : List ℕ) → find (has_name name) C ≡ Some card → is_some (index_of name C) ≡ true
+    stands name card found = found-index (has_name name) C card found
 
-  pub there : (name card : List ℕ) → find (has_name name) C ≡ Some card → is_none (index_of name C) ≡ false
-  there name card found = not-none (index_of name C) (stands name card found)
+    pub there : (name card : List ℕ) → find (has_name name) C ≡ Some card → is_none (index_of name C) ≡ false
+    there name card found = not-none (index_of name C) (stands name card found)
 
-  pub card-said : (name card : List ℕ) → find (has_name name) C ≡ Some card → the_card name C ≡ card
-  card-said name card found = ap (λ o. unwrap_or o []) found
+    pub card-said : (name card : List ℕ) → find (has_name name) C ≡ Some card → the_card name C ≡ card
+    card-said name card found = ap (λ o. unwrap_or o []) found
 
-  -- the codec
-  pub codec-said : said_codec C ≡ Some (codec_name p.codec)
-  codec-said =
-      ap text_of (card-said (padded (codes "ZCMPTYPE")) _ (zcmptype-found p s (map packed_card (map (card_at header) (range_with_len 0 last)) ++ sums)))
-      ∙ text-says (padded (codes "ZCMPTYPE")) (codec_name p.codec) refl (codec-text p.codec)
+    -- the codec
+    pub codec-said : said_codec C ≡ Some (codec_name p.codec)
+    codec-said =
+        ap text_of (card-said (padded (codes "ZCMPTYPE")) _ (zcmptype-found p s (map packed_card (map (card_at header) (range_with_len 0 last)) ++ sums)))
+        ∙ text-says laws (padded (codes "ZCMPTYPE")) (codec_name p.codec) refl (codec-text p.codec)
 
-  pub codec-clear : AreClear (codec_checks k C)
-  codec-clear = (
-    there (padded (codes "ZCMPTYPE")) _ (zcmptype-found p s (map packed_card (map (card_at header) (range_with_len 0 last)) ++ sums)),
-    (ap is_none codec-said, (ap (λ t. not (is_codec_name t)) codec-said ∙ ap not (codec-known p.codec), tt)),
-  )
+    pub codec-clear : AreClear (codec_checks k C)
+    codec-clear = (
+      there (padded (codes "ZCMPTYPE")) _ (zcmptype-found p s (map packed_card (map (card_at header) (range_with_len 0 last)) ++ sums)),
+      (ap is_none codec-said, (ap (λ t. not (is_codec_name t)) codec-said ∙ ap not (codec-known p.codec), tt)),
+    )
 
-  -- an integer of a mandatory card
-  kept-integer : (name : List ℕ) (i : ℕ) → i < last → find (has_name name) C ≡ Some (packed_card (card_at header i)) → integer_of (the_card name C) ≡ integer_of (card_at header i)
-  kept-integer name i before found = ap integer_of (card-said name _ found) ∙ integer_of-packed_card (card_at header i) (is_free header primary n last is.image i before).eight
+    -- an integer of a mandatory card
+    kept-integer : (name : List ℕ) (i : ℕ) → i < last → find (has_name name) C ≡ Some (packed_card (card_at header i)) → integer_of (the_card name C) ≡ integer_of (card_at header i)
+    kept-integer name i before found = ap integer_of (card-said name _ found) ∙ integer_of-packed_card laws (card_at header i) (is_free laws header primary n last is.image i before).eight
 
-  bitpix-found : find (has_name (padded (codes "ZBITPIX"))) C ≡ Some (packed_card (card_at header 1))
-  bitpix-found = found_named header primary n last (made_cards p s) sums is (padded (codes "BITPIX")) (padded (codes "ZBITPIX")) 1 bitpix-pair (omega (arith, is.enough)) (At_bitpix refl) is.image.front.bitpix
+    bitpix-found : find (has_name (padded (codes "ZBITPIX"))) C ≡ Some (packed_card (card_at header 1))
+    bitpix-found = found_named laws header primary n last (made_cards p s) sums is (padded (codes "BITPIX")) (padded (codes "ZBITPIX")) 1 bitpix-pair (omega (arith, is.enough)) (At_bitpix refl) is.image.front.bitpix
 
-  naxis-found : find (has_name (padded (codes "ZNAXIS"))) C ≡ Some (packed_card (card_at header 2))
-  naxis-found = found_named header primary n last (made_cards p s) sums is (padded (codes "NAXIS")) (padded (codes "ZNAXIS")) 2 naxis-pair (omega (arith, is.enough)) (At_naxis refl) is.image.front.naxis
+    naxis-found : find (has_name (padded (codes "ZNAXIS"))) C ≡ Some (packed_card (card_at header 2))
+    naxis-found = found_named laws header primary n last (made_cards p s) sums is (padded (codes "NAXIS")) (padded (codes "ZNAXIS")) 2 naxis-pair (omega (arith, is.enough)) (At_naxis refl) is.image.front.naxis
 
-  axis-found : (i : ℕ) → 1 ≤ i → i ≤ n → find (has_name (numbered_name (codes "ZNAXIS") i)) C ≡ Some (packed_card (card_at header (2 + i)))
-  axis-found i low high =
-      found_named header primary n last (made_cards p s) sums is (numbered_name (codes "NAXIS") i) (numbered_name (codes "ZNAXIS") i) (2 + i) (axis-pair i low (omega (arith, is.image.front.few))) (omega (arith, is.enough)) (At_axis i low high refl) (is.image.front.axis i low high)
+    axis-found : (i : ℕ) → 1 ≤ i → i ≤ n → find (has_name (numbered_name (codes "ZNAXIS") i)) C ≡ Some (packed_card (card_at header (2 + i)))
+    axis-found i low high =
+        found_named laws header primary n last (made_cards p s) sums is (numbered_name (codes "NAXIS") i) (numbered_name (codes "ZNAXIS") i) (2 + i) (axis-pair laws i low (omega (arith, is.image.front.few))) (omega (arith, is.enough)) (At_axis i low high refl) (is.image.front.axis i low high)
 
-  -- the bits of a pixel
-  module _ (bits : p.bitpix ≡ unwrap_or (integer_of (card_at header 1)) (pos 0)) (size : is_integer_size (Some p.bitpix) ≡ true) (long : p.bitpix ≡ pos 64 → p.codec ≡ Plain) where
-    bits-are : integer_of (word_in (codes "ZBITPIX") C) ≡ Some p.bitpix
-    bits-are = kept-integer (padded (codes "ZBITPIX")) 1 (omega (arith, is.enough)) bitpix-found ∙ bits-said (integer_of (card_at header 1)) p.bitpix bits size
+    -- the bits of a pixel
+    module _ (bits : p.bitpix ≡ unwrap_or (integer_of (card_at header 1)) (pos 0)) (size : is_integer_size (Some p.bitpix) ≡ true) (long : p.bitpix ≡ pos 64 → p.codec ≡ Plain) where
+      bits-are : integer_of (word_in (codes "ZBITPIX") C) ≡ Some p.bitpix
+      bits-are = kept-integer (padded (codes "ZBITPIX")) 1 (omega (arith, is.enough)) bitpix-found ∙ bits-said (integer_of (card_at header 1)) p.bitpix bits size
 
-    pub bitpix-said : said_bitpix C ≡ p.bitpix
-    bitpix-said = ap (λ o. unwrap_or o (pos 0)) bits-are
+      pub bitpix-said : said_bitpix C ≡ p.bitpix
+      bitpix-said = ap (λ o. unwrap_or o (pos 0)) bits-are
 
-    stored-long : (v : ℤ) → IsBitpix v → (v ≡ pos 64 → p.codec ≡ Plain) → (is_integer (pos 64) (Some v) && not (is_plain_name (Some (codec_name p.codec)))) ≡ false
-    stored-long v (inl e) plain = ap (λ b. is_integer (pos 64) (Some b) && not (is_plain_name (Some (codec_name p.codec)))) e
-    stored-long v (inr (inl e)) plain = ap (λ b. is_integer (pos 64) (Some b) && not (is_plain_name (Some (codec_name p.codec)))) e
-    stored-long v (inr (inr (inl e))) plain = ap (λ b. is_integer (pos 64) (Some b) && not (is_plain_name (Some (codec_name p.codec)))) e
-    stored-long v (inr (inr (inr e))) plain = and_right (is_integer (pos 64) (Some v)) (not (is_plain_name (Some (codec_name p.codec)))) (ap (λ c. not (is_plain_name (Some (codec_name c)))) (plain e))
+      stored-long : (v : ℤ) → IsBitpix v → (v ≡ pos 64 → p.codec ≡ Plain) → (is_integer (pos 64) (Some v) && not (is_plain_name (Some (codec_name p.codec)))) ≡ false
+      stored-long v (inl e) plain = ap (λ b. is_integer (pos 64) (Some b) && not (is_plain_name (Some (codec_name p.codec)))) e
+      stored-long v (inr (inl e)) plain = ap (λ b. is_integer (pos 64) (Some b) && not (is_plain_name (Some (codec_name p.codec)))) e
+      stored-long v (inr (inr (inl e))) plain = ap (λ b. is_integer (pos 64) (Some b) && not (is_plain_name (Some (codec_name p.codec)))) e
+      stored-long v (inr (inr (inr e))) plain = and_right (is_integer (pos 64) (Some v)) (not (is_plain_name (Some (codec_name p.codec)))) (ap (λ c. not (is_plain_name (Some (codec_name c)))) (plain e))
 
-    pub bitpix-clear : AreClear (bitpix_checks k C)
-    bitpix-clear =
-        let bitpix : IsBitpix p.bitpix = is-bitpix (Some p.bitpix) size in (
-          there (padded (codes "ZBITPIX")) _ bitpix-found,
-          (
-            ap (λ o. is_integer (negsuc 31) o || is_integer (negsuc 63) o) bits-are ∙ no-float p.bitpix bitpix,
+      pub bitpix-clear : AreClear (bitpix_checks k C)
+      bitpix-clear =
+          let bitpix : IsBitpix p.bitpix = is-bitpix (Some p.bitpix) size in (
+            there (padded (codes "ZBITPIX")) _ bitpix-found,
             (
-              ap (λ o. not (is_integer_size o)) bits-are ∙ ap not size,
-              (ap (λ o. is_integer (pos 64) o && not (is_plain_name (said_codec C))) bits-are ∙ (ap (λ t. is_integer (pos 64) (Some p.bitpix) && not (is_plain_name t)) codec-said ∙ stored-long p.bitpix bitpix long), tt),
+              ap (λ o. is_integer (negsuc 31) o || is_integer (negsuc 63) o) bits-are ∙ no-float p.bitpix bitpix,
+              (
+                ap (λ o. not (is_integer_size o)) bits-are ∙ ap not size,
+                (ap (λ o. is_integer (pos 64) o && not (is_plain_name (said_codec C))) bits-are ∙ (ap (λ t. is_integer (pos 64) (Some p.bitpix) && not (is_plain_name t)) codec-said ∙ stored-long p.bitpix bitpix long), tt),
+              ),
             ),
-          ),
-        )
-
-  -- the axes and the tile
-  module _ (own : ℕ) (values : HasValues header own n) (shape : p.shape ≡ nine_axes (axes_of header)) (divided : IsDivided p.shape p.tile) where
-    count : p.shape.n ≡ n
-    count = ap (λ (a : Axes). a.n) shape ∙ (length-map-range_with_len (size_at header) 3 (size_at header 2) ∙ sym is.count)
-
-    said-count : axis_count C ≡ n
-    said-count = count-is header primary n last (made_cards p s) sums is
-
-    axis-integer : (i : ℕ) → 1 ≤ i → i ≤ n → integer_of (numbered_in (codes "ZNAXIS") i C) ≡ integer_of (card_at header (2 + i))
-    axis-integer i low high = kept-integer (numbered_name (codes "ZNAXIS") i) (2 + i) (omega (arith, is.enough)) (axis-found i low high)
-
-    axis-size : (i : ℕ) → 1 ≤ i → i ≤ n → size_of (numbered_in (codes "ZNAXIS") i C) ≡ size_at header (2 + i)
-    axis-size i low high = ap size_in (axis-integer i low high)
-
-    entry : (i : ℕ) → 1 ≤ i → i ≤ n → get_or p.shape.len (i - 1) 0 ≡ size_at header (2 + i)
-    entry i low high =
-        let long : length (axes_of header) ≡ n = length-map-range_with_len (size_at header) 3 (size_at header 2) ∙ sym is.count in
-        ap (λ (a : Axes). get_or a.len (i - 1) 0) shape
-        ∙ (nine-entry (axes_of header) (i - 1) (omega arith)
-        ∙ get_or-map-range_with_len (size_at header) 3 (size_at header 2) (i - 1) (2 + i) 0 (omega (arith, is.count)) (omega arith))
-
-    pub axes-said : said_axes C ≡ lengths_of p.shape
-    axes-said =
-        ap (λ m. map (λ i. size_of (numbered_in (codes "ZNAXIS") i C)) (range_with_len 1 m)) said-count
-        ∙ (map-shift (λ i. size_of (numbered_in (codes "ZNAXIS") i C)) (size_at header) 1 3 n
-        (λ i below. let place : 2 + (1 + i) ≡ 3 + i = omega arith in axis-size (1 + i) (omega arith) (omega arith) ∙ ap (size_at header) place)
-        ∙ (ap (λ m. map (size_at header) (range_with_len 3 m)) is.count ∙ sym (ap lengths_of shape ∙ lengths-nine_axes (axes_of header))))
-
-    -- each axis has a place, and is not too long
-    axis-some : (i : ℕ) → 1 ≤ i → i ≤ n → 1 ≤ size_at header (2 + i)
-    axis-some i low high = let one = divided.positive (i - 1) (omega (arith, count)) in let two = divided.inside (i - 1) (omega (arith, count)) in omega (arith, one, two, entry i low high)
-
-    count-clear : AreClear (axis_count_checks k C)
-    count-clear = (
-      there (padded (codes "ZNAXIS")) _ naxis-found,
-      (
-        ap (λ o. not (is_positive o)) (kept-integer (padded (codes "ZNAXIS")) 2 (omega (arith, is.enough)) naxis-found)
-            ∙ ap not (positive-size (integer_of (card_at header 2)) values.naxis (omega (arith, is.count, divided.some, count))),
-        (le-ltb 9 (axis_count C) (omega (arith, said-count, is.image.front.few)), tt),
-      ),
-    )
-
-    axis-clear : (i : ℕ) → 1 ≤ i → i ≤ n → AreClear (axis_checks k C i)
-    axis-clear i low high = (
-      there (numbered_name (codes "ZNAXIS") i) _ (axis-found i low high),
-      (
-        ap (λ o. not (is_positive o)) (axis-integer i low high) ∙ ap not (positive-size (integer_of (card_at header (2 + i))) (values.axis i low high) (axis-some i low high)),
-        (le-ltb 2147483647 (size_of (numbered_in (codes "ZNAXIS") i C)) (omega (arith, axis-size i low high, values.short i low high)), tt),
-      ),
-    )
-
-    -- the tile
-    module _ (L : List ℕ) (tile : p.tile ≡ nine_axes L) where
-      length-tile : length L ≡ n
-      length-tile = sym (ap (λ (a : Axes). a.n) tile) ∙ (divided.same_axes ∙ count)
-
-      tile-entry : (i : ℕ) → 1 ≤ i → i ≤ n → get_or p.tile.len (i - 1) 0 ≡ get_or L (i - 1) 0
-      tile-entry i low high = ap (λ (a : Axes). get_or a.len (i - 1) 0) tile ∙ nine-entry L (i - 1) (omega (arith, length-tile))
-
-      pub tile-inside : (i : ℕ) → 1 ≤ i → i ≤ n → get_or p.tile.len (i - 1) 0 ≤ size_at header (2 + i)
-      tile-inside i low high = let two = divided.inside (i - 1) (omega (arith, count)) in omega (arith, two, entry i low high)
-
-      ztile : (i : ℕ) → 1 ≤ i → i ≤ n → find (has_name (numbered_name (codes "ZTILE") i)) C ≡ Some (tile_card p i)
-      ztile i low high = ztile-found p s (map packed_card (map (card_at header) (range_with_len 0 last)) ++ sums) i (omega (arith, divided.axes)) low (omega (arith, count))
-
-      ztile-says : (i : ℕ) → 1 ≤ i → i ≤ n → integer_of (numbered_in (codes "ZTILE") i C) ≡ Some (pos (get_or p.tile.len (i - 1) 0))
-      ztile-says i low high =
-          ap integer_of (card-said (numbered_name (codes "ZTILE") i) _ (ztile i low high))
-          ∙ number-says (numbered_name (codes "ZTILE") i) (get_or p.tile.len (i - 1) 0) (length-numbered_name (codes "ZTILE") i (omega arith, omega (arith, is.image.front.few))) (omega (arith, tile-inside i low high, values.short i low high))
-
-      along : (i : ℕ) → 1 ≤ i → i ≤ n → tile_along C i ≡ get_or L (i - 1) 0
-      along i low high =
-          let axis = size_of (numbered_in (codes "ZNAXIS") i C) in
-          let smaller : min (get_or p.tile.len (i - 1) 0) (size_at header (2 + i)) ≡ get_or p.tile.len (i - 1) 0 = omega (arith, tile-inside i low high) in
-          ap (λ b. cond b (min (size_of (numbered_in (codes "ZTILE") i C)) axis) (default_tile i axis)) (stands (numbered_name (codes "ZTILE") i) _ (ztile i low high))
-          ∙ (ap (λ o. min (size_in o) axis) (ztile-says i low high)
-          ∙ (ap (min (get_or p.tile.len (i - 1) 0)) (axis-size i low high) ∙ (smaller ∙ tile-entry i low high)))
-
-      pub tile-said : said_tile C ≡ lengths_of p.tile
-      tile-said =
-          ap (λ m. map (tile_along C) (range_with_len 1 m)) said-count
-          ∙ (map_same (tile_along C) (λ i. get_or L (i - 1) 0) 1 n (λ i low high. along i low (omega arith))
-          ∙ (ap (λ m. map (λ i. get_or L (i - 1) 0) (range_with_len 1 m)) (sym length-tile)
-          ∙ (entries-from L 0 ∙ sym (ap lengths_of tile ∙ lengths-nine_axes L))))
-
-      tile-clear : (i : ℕ) → 1 ≤ i → i ≤ n → AreClear (tile_check k C i ∷ [])
-      tile-clear i low high = (
-        and_right (is_some (index_of (numbered_name (codes "ZTILE") i) C)) (not (is_positive (integer_of (numbered_in (codes "ZTILE") i C))))
-            (ap (λ o. not (is_positive o)) (ztile-says i low high) ∙ ap not (lt-ltb 0 (get_or p.tile.len (i - 1) 0) (divided.positive (i - 1) (omega (arith, count))))),
-        tt,
-      )
-
-      grid-clear : AreClear (grid_check k C ∷ [])
-      grid-clear =
-          let pixels : product (said_axes C) ≤ 2 ^ 40 = subst (λ l. product l ≤ 2 ^ 40) (sym axes-said) divided.pixels in
-          let tile_pixels : product (said_tile C) ≤ 2 ^ 26 = subst (λ l. product l ≤ 2 ^ 26) (sym tile-said) divided.tile_pixels in
-          let tiles : tile_count (lengths_of p.shape) (lengths_of p.tile) ≤ 2147483647 = omega (arith, divided.tiles) in
-          let rows : tile_count (said_axes C) (said_tile C) ≤ 2147483647 = subst (λ l. tile_count l (said_tile C) ≤ 2147483647) (sym axes-said) (subst (λ l. tile_count (lengths_of p.shape) l ≤ 2147483647) (sym tile-said) tiles) in (
-            or_false (nat_lt (2 ^ 40) (product (said_axes C))) _ (le-ltb (2 ^ 40) (product (said_axes C)) pixels)
-                (or_false (nat_lt (2 ^ 26) (product (said_tile C))) _ (le-ltb (2 ^ 26) (product (said_tile C)) tile_pixels) (le-ltb 2147483647 (tile_count (said_axes C) (said_tile C)) rows)),
-            tt,
           )
 
-      pub shape-clear : AreClear (shape_checks k C)
-      shape-clear =
-          clear-append (axis_count_checks k C) _ count-clear
-          (clear-append (flat_map (axis_checks k C) (range_with_len 1 (axis_count C))) _
-          (subst (λ m. AreClear (flat_map (axis_checks k C) (range_with_len 1 m))) (sym said-count) (clear-flat (axis_checks k C) 1 n (λ i low high. axis-clear i low (omega arith))))
-          (clear-append (flat_map (λ i. tile_check k C i ∷ []) (range_with_len 1 (axis_count C))) _
-          (subst (λ m. AreClear (flat_map (λ i. tile_check k C i ∷ []) (range_with_len 1 m))) (sym said-count) (clear-flat (λ i. tile_check k C i ∷ []) 1 n (λ i low high. tile-clear i low (omega arith))))
-          grid-clear))
+    -- the axes and the tile
+    module _ (own : ℕ) (values : HasValues header own n) (shape : p.shape ≡ nine_axes (axes_of header)) (divided : IsDivided p.shape p.tile) where
+      count : p.shape.n ≡ n
+      count = ap (λ (a : Axes). a.n) shape ∙ (length-map-range_with_len (size_at header) 3 (size_at header 2) ∙ sym is.count)
+
+      said-count : axis_count C ≡ n
+      said-count = count-is laws header primary n last (made_cards p s) sums is
+
+      axis-integer : (i : ℕ) → 1 ≤ i → i ≤ n → integer_of (numbered_in (codes "ZNAXIS") i C) ≡ integer_of (card_at header (2 + i))
+      axis-integer i low high = kept-integer (numbered_name (codes "ZNAXIS") i) (2 + i) (omega (arith, is.enough)) (axis-found i low high)
+
+      axis-size : (i : ℕ) → 1 ≤ i → i ≤ n → size_of (numbered_in (codes "ZNAXIS") i C) ≡ size_at header (2 + i)
+      axis-size i low high = ap size_in (axis-integer i low high)
+
+      entry : (i : ℕ) → 1 ≤ i → i ≤ n → get_or p.shape.len (i - 1) 0 ≡ size_at header (2 + i)
+      entry i low high =
+          let long : length (axes_of header) ≡ n = length-map-range_with_len (size_at header) 3 (size_at header 2) ∙ sym is.count in
+          ap (λ (a : Axes). get_or a.len (i - 1) 0) shape
+          ∙ (nine-entry (axes_of header) (i - 1) (omega arith)
+          ∙ get_or-map-range_with_len (size_at header) 3 (size_at header 2) (i - 1) (2 + i) 0 (omega (arith, is.count)) (omega arith))
+
+      pub axes-said : said_axes C ≡ lengths_of p.shape
+      axes-said =
+          ap (λ m. map (λ i. size_of (numbered_in (codes "ZNAXIS") i C)) (range_with_len 1 m)) said-count
+          ∙ (map-shift (λ i. size_of (numbered_in (codes "ZNAXIS") i C)) (size_at header) 1 3 n
+          (λ i below. let place : 2 + (1 + i) ≡ 3 + i = omega arith in axis-size (1 + i) (omega arith) (omega arith) ∙ ap (size_at header) place)
+          ∙ (ap (λ m. map (size_at header) (range_with_len 3 m)) is.count ∙ sym (ap lengths_of shape ∙ lengths-nine_axes (axes_of header))))
+
+      -- each axis has a place, and is not too long
+      axis-some : (i : ℕ) → 1 ≤ i → i ≤ n → 1 ≤ size_at header (2 + i)
+      axis-some i low high = let one = divided.positive (i - 1) (omega (arith, count)) in let two = divided.inside (i - 1) (omega (arith, count)) in omega (arith, one, two, entry i low high)
+
+      count-clear : AreClear (axis_count_checks k C)
+      count-clear = (
+        there (padded (codes "ZNAXIS")) _ naxis-found,
+        (
+          ap (λ o. not (is_positive o)) (kept-integer (padded (codes "ZNAXIS")) 2 (omega (arith, is.enough)) naxis-found)
+              ∙ ap not (positive-size (integer_of (card_at header 2)) values.naxis (omega (arith, is.count, divided.some, count))),
+          (le-ltb 9 (axis_count C) (omega (arith, said-count, is.image.front.few)), tt),
+        ),
+      )
+
+      axis-clear : (i : ℕ) → 1 ≤ i → i ≤ n → AreClear (axis_checks k C i)
+      axis-clear i low high = (
+        there (numbered_name (codes "ZNAXIS") i) _ (axis-found i low high),
+        (
+          ap (λ o. not (is_positive o)) (axis-integer i low high) ∙ ap not (positive-size (integer_of (card_at header (2 + i))) (values.axis i low high) (axis-some i low high)),
+          (le-ltb 2147483647 (size_of (numbered_in (codes "ZNAXIS") i C)) (omega (arith, axis-size i low high, values.short i low high)), tt),
+        ),
+      )
+
+      -- the tile
+      module _ (L : List ℕ) (tile : p.tile ≡ nine_axes L) where
+        length-tile : length L ≡ n
+        length-tile = sym (ap (λ (a : Axes). a.n) tile) ∙ (divided.same_axes ∙ count)
+
+        tile-entry : (i : ℕ) → 1 ≤ i → i ≤ n → get_or p.tile.len (i - 1) 0 ≡ get_or L (i - 1) 0
+        tile-entry i low high = ap (λ (a : Axes). get_or a.len (i - 1) 0) tile ∙ nine-entry L (i - 1) (omega (arith, length-tile))
+
+        pub tile-inside : (i : ℕ) → 1 ≤ i → i ≤ n → get_or p.tile.len (i - 1) 0 ≤ size_at header (2 + i)
+        tile-inside i low high = let two = divided.inside (i - 1) (omega (arith, count)) in omega (arith, two, entry i low high)
+
+        ztile : (i : ℕ) → 1 ≤ i → i ≤ n → find (has_name (numbered_name (codes "ZTILE") i)) C ≡ Some (tile_card p i)
+        ztile i low high = ztile-found laws p s (map packed_card (map (card_at header) (range_with_len 0 last)) ++ sums) i (omega (arith, divided.axes)) low (omega (arith, count))
+
+        ztile-says : (i : ℕ) → 1 ≤ i → i ≤ n → integer_of (numbered_in (codes "ZTILE") i C) ≡ Some (pos (get_or p.tile.len (i - 1) 0))
+        ztile-says i low high =
+            ap integer_of (card-said (numbered_name (codes "ZTILE") i) _ (ztile i low high))
+            ∙ number-says laws (numbered_name (codes "ZTILE") i) (get_or p.tile.len (i - 1) 0) (laws.numbers.eight_bytes (codes "ZTILE") i (omega arith, omega (arith, is.image.front.few))) (omega (arith, tile-inside i low high, values.short i low high))
+
+        along : (i : ℕ) → 1 ≤ i → i ≤ n → tile_along C i ≡ get_or L (i - 1) 0
+        along i low high =
+            let axis = size_of (numbered_in (codes "ZNAXIS") i C) in
+            let smaller : min (get_or p.tile.len (i - 1) 0) (size_at header (2 + i)) ≡ get_or p.tile.len (i - 1) 0 = omega (arith, tile-inside i low high) in
+            ap (λ b. cond b (min (size_of (numbered_in (codes "ZTILE") i C)) axis) (default_tile i axis)) (stands (numbered_name (codes "ZTILE") i) _ (ztile i low high))
+            ∙ (ap (λ o. min (size_in o) axis) (ztile-says i low high)
+            ∙ (ap (min (get_or p.tile.len (i - 1) 0)) (axis-size i low high) ∙ (smaller ∙ tile-entry i low high)))
+
+        pub tile-said : said_tile C ≡ lengths_of p.tile
+        tile-said =
+            ap (λ m. map (tile_along C) (range_with_len 1 m)) said-count
+            ∙ (map_same (tile_along C) (λ i. get_or L (i - 1) 0) 1 n (λ i low high. along i low (omega arith))
+            ∙ (ap (λ m. map (λ i. get_or L (i - 1) 0) (range_with_len 1 m)) (sym length-tile)
+            ∙ (entries-from L 0 ∙ sym (ap lengths_of tile ∙ lengths-nine_axes L))))
+
+        tile-clear : (i : ℕ) → 1 ≤ i → i ≤ n → AreClear (tile_check k C i ∷ [])
+        tile-clear i low high = (
+          and_right (is_some (index_of (numbered_name (codes "ZTILE") i) C)) (not (is_positive (integer_of (numbered_in (codes "ZTILE") i C))))
+              (ap (λ o. not (is_positive o)) (ztile-says i low high) ∙ ap not (lt-ltb 0 (get_or p.tile.len (i - 1) 0) (divided.positive (i - 1) (omega (arith, count))))),
+          tt,
+        )
+
+        grid-clear : AreClear (grid_check k C ∷ [])
+        grid-clear =
+            let pixels : product (said_axes C) ≤ 2 ^ 40 = subst (λ l. product l ≤ 2 ^ 40) (sym axes-said) divided.pixels in
+            let tile_pixels : product (said_tile C) ≤ 2 ^ 26 = subst (λ l. product l ≤ 2 ^ 26) (sym tile-said) divided.tile_pixels in
+            let tiles : tile_count (lengths_of p.shape) (lengths_of p.tile) ≤ 2147483647 = omega (arith, divided.tiles) in
+            let rows : tile_count (said_axes C) (said_tile C) ≤ 2147483647 = subst (λ l. tile_count l (said_tile C) ≤ 2147483647) (sym axes-said) (subst (λ l. tile_count (lengths_of p.shape) l ≤ 2147483647) (sym tile-said) tiles) in (
+              or_false (nat_lt (2 ^ 40) (product (said_axes C))) _ (le-ltb (2 ^ 40) (product (said_axes C)) pixels)
+                  (or_false (nat_lt (2 ^ 26) (product (said_tile C))) _ (le-ltb (2 ^ 26) (product (said_tile C)) tile_pixels) (le-ltb 2147483647 (tile_count (said_axes C) (said_tile C)) rows)),
+              tt,
+            )
+
+        pub shape-clear : AreClear (shape_checks k C)
+        shape-clear =
+            clear-append (axis_count_checks k C) _ count-clear
+            (clear-append (flat_map (axis_checks k C) (range_with_len 1 (axis_count C))) _
+            (subst (λ m. AreClear (flat_map (axis_checks k C) (range_with_len 1 m))) (sym said-count) (clear-flat (axis_checks k C) 1 n (λ i low high. axis-clear i low (omega arith))))
+            (clear-append (flat_map (λ i. tile_check k C i ∷ []) (range_with_len 1 (axis_count C))) _
+            (subst (λ m. AreClear (flat_map (λ i. tile_check k C i ∷ []) (range_with_len 1 m))) (sym said-count) (clear-flat (λ i. tile_check k C i ∷ []) 1 n (λ i low high. tile-clear i low (omega arith))))
+            grid-clear))

@@ -10,9 +10,8 @@ use Rattle.fz_card.specs.Layout.{blanks, card_name, padded}
 use Rattle.fz_card.specs.Made.{int_card_bytes, logical_card_bytes, text_card_bytes, numbered_name}
 use Rattle.fz_card.specs.Naming.{is_dropped, is_in_some, number_behind, packed_name, plain_name}
 use Rattle.fz_card.specs.Tables.{IsRenamed, own_names, packed_names, renamings}
-use Rattle.fz_card.proofs.Lines.{card_name-int_card_bytes, card_name-logical_card_bytes, card_name-text_card_bytes, length-int_card_bytes, length-logical_card_bytes, length-numbered_name, length-text_card_bytes}
-use Rattle.fz_card.proofs.TableNames.{packed-plain, packed_name-renamed, plain-packed, plain_name-renamed}
 use Rattle.fz_card.specs.CardLists.{has_name}
+use Rattle.fz_card.specs.Laws.{CardLaws}
 use Rattle.fz_block.specs.Cards.{card_at, end_among, is_named}
 use Rattle.fz_block.specs.Header.{whole_blocks_of}
 use Rattle.fz_block.specs.Hdus.{IsHeader, cards_of, header_bytes}
@@ -76,49 +75,8 @@ renamed-whole card name long eight other = record {
   no_end = λ e. other (sym (take_at name (drop 8 card) 8 eight) ∙ e);
 }
 
-packed-name-by : (name : List ℕ) (found : Option (List ℕ)) → packed_name name ≡ found → length name ≡ 8 → ¬ (name ≡ padded (codes "END")) → (length (unwrap_or found name) ≡ 8) × ¬ (unwrap_or found name ≡ padded (codes "END"))
-packed-name-by name None e eight other = (eight, other)
-packed-name-by name (Some b) e eight other = (
-  renamed-length name b (packed_name-renamed name b e),
-  λ same. let none : plain_name b ≡ None = ap plain_name same ∙ end-not-plain in let some = packed-plain name b e in cc,
-)
-
--- a name of an image that has another in a packed header has 8 bytes
-plain-length : (a b : List ℕ) → IsRenamed a b → length a ≡ 8
-unfolding IsRenamed renamings
-plain-length a b (inl h) = ap length h.0
-plain-length a b (inr (inl h)) = ap length h.0
-plain-length a b (inr (inr (inl h))) = ap length h.0
-plain-length a b (inr (inr (inr (inl h)))) = ap length h.0
-plain-length a b (inr (inr (inr (inr (inl h))))) = ap length h.0
-plain-length a b (inr (inr (inr (inr (inr (inl h)))))) = ap length h.0
-plain-length a b (inr (inr (inr (inr (inr (inr (inl h))))))) = ap length h.0
-plain-length a b (inr (inr (inr (inr (inr (inr (inr (inl h)))))))) = ap length h.0
-plain-length a b (inr (inr (inr (inr (inr (inr (inr (inr (inl h))))))))) = ap length h.0
-plain-length a b (inr (inr (inr (inr (inr (inr (inr (inr (inr (inl h)))))))))) = ap length h.0
-plain-length a b (inr (inr (inr (inr (inr (inr (inr (inr (inr (inr (inl h))))))))))) =
-    ap length h.plain_made ∙ length-numbered_name (codes "NAXIS") h.number (omega arith, omega (arith, h.high))
-plain-length a b (inr (inr (inr (inr (inr (inr (inr (inr (inr (inr (inr h))))))))))) = absurd h
-
-plain-name-by : (name : List ℕ) (found : Option (List ℕ)) → plain_name name ≡ found → length name ≡ 8 → ¬ (name ≡ padded (codes "END")) → (length (unwrap_or found name) ≡ 8) × ¬ (unwrap_or found name ≡ padded (codes "END"))
-plain-name-by name None e eight other = (eight, other)
-plain-name-by name (Some a) e eight other = (
-  plain-length a name (plain_name-renamed a name e),
-  λ same. let none : packed_name a ≡ None = ap packed_name same ∙ end-not-packed in let some = plain-packed a name e in cc,
-)
-
 name-long : (card : List ℕ) → length card ≡ 80 → length (card_name card) ≡ 8
 name-long card long = length-take-le 8 card (omega arith)
-
-pub packed-whole : (card : List ℕ) → IsWholeCard card → IsWholeCard (packed_card card)
-packed-whole card is =
-    let name = packed-name-by (card_name card) (packed_name (card_name card)) refl (name-long card is.bytes) is.no_end in
-    renamed-whole card (unwrap_or (packed_name (card_name card)) (card_name card)) is.bytes name.0 name.1
-
-pub plain-whole : (card : List ℕ) → IsWholeCard card → IsWholeCard (plain_card card)
-plain-whole card is =
-    let name = plain-name-by (card_name card) (plain_name (card_name card)) refl (name-long card is.bytes) is.no_end in
-    renamed-whole card (unwrap_or (plain_name (card_name card)) (card_name card)) is.bytes name.0 name.1
 
 -- the cards of a header that was read
 whole-from : (header : List ℕ) (last : ℕ) → HasEnd header last → AreWholeCards (map (card_at header) (range_with_len 0 last))
@@ -166,65 +124,6 @@ or-whole card (c ∷ cs) is are = are
 
 pub open-word : (name : List ℕ) → bytes_eq name (padded (codes "END")) ≡ false → ¬ (name ≡ padded (codes "END"))
 open-word name other e = both_ways (bytes_eq name (padded (codes "END"))) other ((bytes_eq-Decides name (padded (codes "END"))).1 e)
-
-pub number-whole : (name : List ℕ) (v : ℕ) → length name ≡ 8 → v < 10 ^ 18 → ¬ (name ≡ padded (codes "END")) → IsWholeCard (int_card_bytes name (pos v))
-number-whole name v eight short other = record { bytes = length-int_card_bytes name (pos v) eight short; no_end = λ e. other (sym (card_name-int_card_bytes name (pos v) eight) ∙ e) }
-
-pub flag-whole : (name : List ℕ) (b : Bool) → length name ≡ 8 → ¬ (name ≡ padded (codes "END")) → IsWholeCard (logical_card_bytes name b)
-flag-whole name b eight other = record { bytes = length-logical_card_bytes name b eight; no_end = λ e. other (sym (card_name-logical_card_bytes name b eight) ∙ e) }
-
-pub text-whole : (name text : List ℕ) → length name ≡ 8 → length text ≤ 68 → ¬ (name ≡ padded (codes "END")) → IsWholeCard (text_card_bytes name text)
-text-whole name text eight short other = record { bytes = length-text_card_bytes name text eight short; no_end = λ e. other (sym (card_name-text_card_bytes name text eight) ∙ e) }
-
--- the header of the image, and of a part of it
-module _ (cards : List (List ℕ)) (are : AreWholeCards cards) where
-  named-whole : (name : List ℕ) → AreWholeCards (map plain_card (first_named name cards))
-  named-whole name = all-map IsWholeCard IsWholeCard plain_card (first_named name cards) plain-whole (all-found IsWholeCard (has_name name) cards are)
-
-  size-whole : AreWholeCards (size_cards cards)
-  size-whole = all-append IsWholeCard (restored_word (codes "ZBITPIX") cards) (restored_word (codes "ZNAXIS") cards) (named-whole (padded (codes "ZBITPIX"))) (named-whole (padded (codes "ZNAXIS")))
-
-  leading-whole : AreWholeCards (leading_card cards)
-  leading-whole =
-      or-whole (word_card (codes "XTENSION") (codes "IMAGE")) (map plain_card (option_to_list (find says_what cards)))
-      (text-whole (padded (codes "XTENSION")) (codes "IMAGE") refl (omega arith) (open-word (padded (codes "XTENSION")) refl))
-      (all-map IsWholeCard IsWholeCard plain_card (option_to_list (find says_what cards)) plain-whole (all-found IsWholeCard says_what cards are))
-
-  counts-whole : (b : Bool) → AreWholeCards (cond b [] (or_card (number_card (codes "PCOUNT") 0) (restored_word (codes "ZPCOUNT") cards) ++ or_card (number_card (codes "GCOUNT") 1) (restored_word (codes "ZGCOUNT") cards)))
-  counts-whole true = tt
-  counts-whole false =
-      all-append IsWholeCard (or_card (number_card (codes "PCOUNT") 0) (restored_word (codes "ZPCOUNT") cards)) (or_card (number_card (codes "GCOUNT") 1) (restored_word (codes "ZGCOUNT") cards))
-      (or-whole (number_card (codes "PCOUNT") 0) (restored_word (codes "ZPCOUNT") cards) (number-whole (padded (codes "PCOUNT")) 0 refl (omega arith) (open-word (padded (codes "PCOUNT")) refl)) (named-whole (padded (codes "ZPCOUNT"))))
-      (or-whole (number_card (codes "GCOUNT") 1) (restored_word (codes "ZGCOUNT") cards) (number-whole (padded (codes "GCOUNT")) 1 refl (omega arith) (open-word (padded (codes "GCOUNT")) refl)) (named-whole (padded (codes "ZGCOUNT"))))
-
-  kept-whole : (keep : List ℕ → Bool) → AreWholeCards (map plain_card (filter keep cards))
-  kept-whole keep = all-map IsWholeCard IsWholeCard plain_card (filter keep cards) plain-whole (all-filter IsWholeCard keep cards are)
-
-  pub plain-cards : AreWholeCards (plain_header cards)
-  unfolding plain_header
-  plain-cards =
-      all-append IsWholeCard (leading_card cards) (size_cards cards ++ (flat_map (axis_card cards) (range_with_len 1 (axis_count cards)) ++ (count_cards cards ++ other_cards cards))) leading-whole
-      (all-append IsWholeCard (size_cards cards) (flat_map (axis_card cards) (range_with_len 1 (axis_count cards)) ++ (count_cards cards ++ other_cards cards)) size-whole
-      (all-append IsWholeCard (flat_map (axis_card cards) (range_with_len 1 (axis_count cards))) (count_cards cards ++ other_cards cards)
-      (all-flat IsWholeCard (axis_card cards) 1 (axis_count cards) (λ i low high. named-whole (numbered_name (codes "ZNAXIS") i)))
-      (all-append IsWholeCard (count_cards cards) (other_cards cards) (counts-whole (was_primary cards)) (kept-whole (is_kept (was_primary cards) (axis_count cards))))))
-
-  axis-open : (i : ℕ) → bytes_eq (numbered_name (codes "NAXIS") i) (padded (codes "END")) ≡ false
-  unfolding numbered_name
-  axis-open i = refl
-
-  pub cutout-cards : (region : Region) → region.n ≤ 9 → ((i : ℕ) → i < region.n → slice_index region.len i < 10 ^ 18) → AreWholeCards (cutout_header cards region)
-  unfolding cutout_header
-  cutout-cards region few short =
-      let axis = λ (i : ℕ). numbered_number_card (codes "NAXIS") i (slice_index region.len (i - 1)) in
-      let part = part_cards_of (was_primary cards) (axis_count cards) cards in
-      all-append IsWholeCard (or_card (flag_card (codes "SIMPLE")) (restored_word (codes "ZSIMPLE") cards)) (size_cards cards ++ (map axis (range_with_len 1 region.n) ++ part))
-      (or-whole (flag_card (codes "SIMPLE")) (restored_word (codes "ZSIMPLE") cards) (flag-whole (padded (codes "SIMPLE")) true refl (open-word (padded (codes "SIMPLE")) refl)) (named-whole (padded (codes "ZSIMPLE"))))
-      (all-append IsWholeCard (size_cards cards) (map axis (range_with_len 1 region.n) ++ part) size-whole
-      (all-append IsWholeCard (map axis (range_with_len 1 region.n)) part
-      (all-mapped IsWholeCard axis 1 region.n (λ i low high.
-      number-whole (numbered_name (codes "NAXIS") i) (slice_index region.len (i - 1)) (length-numbered_name (codes "NAXIS") i (omega arith, omega arith)) (short (i - 1) (omega arith)) (open-word (numbered_name (codes "NAXIS") i) (axis-open i))))
-      (all-filter IsWholeCard (λ card. not (is_in_some whole_names (card_name card))) (map plain_card (filter (is_kept (was_primary cards) (axis_count cards)) cards)) (kept-whole (is_kept (was_primary cards) (axis_count cards))))))
 
 -- a card in place of another of a header's bytes
 flat-append : (xs ys : List (List ℕ)) → flat_map (λ c. c) (xs ++ ys) ≡ flat_map (λ c. c) xs ++ flat_map (λ c. c) ys
@@ -279,3 +178,105 @@ module _ (xs : List (List ℕ)) (a b : List ℕ) (ys : List (List ℕ)) (are : A
       ∙ (ap (λ l. F xs ++ (b ++ l)) behind
       ∙ (sym (split b fill)
       ∙ (λ i. (F (xs ++ b ∷ ys) ++ codes "END") ++ blanks (whole_blocks_of (80 * (same-count i + 1)) - same-text i)))))
+
+-- by the laws of cards
+module _ (laws : CardLaws) where
+  packed-name-by : (name : List ℕ) (found : Option (List ℕ)) → packed_name name ≡ found → length name ≡ 8 → ¬ (name ≡ padded (codes "END")) → (length (unwrap_or found name) ≡ 8) × ¬ (unwrap_or found name ≡ padded (codes "END"))
+  packed-name-by name None e eight other = (eight, other)
+  packed-name-by name (Some b) e eight other = (
+    renamed-length laws name b (laws.names.packed_renamed name b e),
+    λ same. let none : plain_name b ≡ None = ap plain_name same ∙ end-not-plain in let some = laws.names.packed_back name b e in cc,
+  )
+
+  -- a name of an image that has another in a packed header has 8 bytes
+  plain-length : (a b : List ℕ) → IsRenamed a b → length a ≡ 8
+  unfolding IsRenamed renamings
+  plain-length a b (inl h) = ap length h.0
+  plain-length a b (inr (inl h)) = ap length h.0
+  plain-length a b (inr (inr (inl h))) = ap length h.0
+  plain-length a b (inr (inr (inr (inl h)))) = ap length h.0
+  plain-length a b (inr (inr (inr (inr (inl h))))) = ap length h.0
+  plain-length a b (inr (inr (inr (inr (inr (inl h)))))) = ap length h.0
+  plain-length a b (inr (inr (inr (inr (inr (inr (inl h))))))) = ap length h.0
+  plain-length a b (inr (inr (inr (inr (inr (inr (inr (inl h)))))))) = ap length h.0
+  plain-length a b (inr (inr (inr (inr (inr (inr (inr (inr (inl h))))))))) = ap length h.0
+  plain-length a b (inr (inr (inr (inr (inr (inr (inr (inr (inr (inl h)))))))))) = ap length h.0
+  plain-length a b (inr (inr (inr (inr (inr (inr (inr (inr (inr (inr (inl h))))))))))) =
+      ap length h.plain_made ∙ laws.numbers.eight_bytes (codes "NAXIS") h.number (omega arith, omega (arith, h.high))
+  plain-length a b (inr (inr (inr (inr (inr (inr (inr (inr (inr (inr (inr h))))))))))) = absurd h
+
+  plain-name-by : (name : List ℕ) (found : Option (List ℕ)) → plain_name name ≡ found → length name ≡ 8 → ¬ (name ≡ padded (codes "END")) → (length (unwrap_or found name) ≡ 8) × ¬ (unwrap_or found name ≡ padded (codes "END"))
+  plain-name-by name None e eight other = (eight, other)
+  plain-name-by name (Some a) e eight other = (
+    plain-length a name (laws.names.plain_renamed a name e),
+    λ same. let none : packed_name a ≡ None = ap packed_name same ∙ end-not-packed in let some = laws.names.plain_back a name e in cc,
+  )
+
+  pub packed-whole : (card : List ℕ) → IsWholeCard card → IsWholeCard (packed_card card)
+  packed-whole card is =
+      let name = packed-name-by (card_name card) (packed_name (card_name card)) refl (name-long card is.bytes) is.no_end in
+      renamed-whole card (unwrap_or (packed_name (card_name card)) (card_name card)) is.bytes name.0 name.1
+
+  pub plain-whole : (card : List ℕ) → IsWholeCard card → IsWholeCard (plain_card card)
+  plain-whole card is =
+      let name = plain-name-by (card_name card) (plain_name (card_name card)) refl (name-long card is.bytes) is.no_end in
+      renamed-whole card (unwrap_or (plain_name (card_name card)) (card_name card)) is.bytes name.0 name.1
+
+  pub number-whole : (name : List ℕ) (v : ℕ) → length name ≡ 8 → v < 10 ^ 18 → ¬ (name ≡ padded (codes "END")) → IsWholeCard (int_card_bytes name (pos v))
+  number-whole name v eight short other = record { bytes = laws.made.integer_length name (pos v) eight short; no_end = λ e. other (sym (laws.made.integer_name name (pos v) eight) ∙ e) }
+
+  pub flag-whole : (name : List ℕ) (b : Bool) → length name ≡ 8 → ¬ (name ≡ padded (codes "END")) → IsWholeCard (logical_card_bytes name b)
+  flag-whole name b eight other = record { bytes = laws.made.logical_length name b eight; no_end = λ e. other (sym (laws.made.logical_name name b eight) ∙ e) }
+
+  pub text-whole : (name text : List ℕ) → length name ≡ 8 → length text ≤ 68 → ¬ (name ≡ padded (codes "END")) → IsWholeCard (text_card_bytes name text)
+  text-whole name text eight short other = record { bytes = laws.made.text_length name text eight short; no_end = λ e. other (sym (laws.made.text_name name text eight) ∙ e) }
+
+  -- the header of the image, and of a part of it
+  module _ (cards : List (List ℕ)) (are : AreWholeCards cards) where
+    named-whole : (name : List ℕ) → AreWholeCards (map plain_card (first_named name cards))
+    named-whole name = all-map IsWholeCard IsWholeCard plain_card (first_named name cards) plain-whole (all-found IsWholeCard (has_name name) cards are)
+
+    size-whole : AreWholeCards (size_cards cards)
+    size-whole = all-append IsWholeCard (restored_word (codes "ZBITPIX") cards) (restored_word (codes "ZNAXIS") cards) (named-whole (padded (codes "ZBITPIX"))) (named-whole (padded (codes "ZNAXIS")))
+
+    leading-whole : AreWholeCards (leading_card cards)
+    leading-whole =
+        or-whole (word_card (codes "XTENSION") (codes "IMAGE")) (map plain_card (option_to_list (find says_what cards)))
+        (text-whole (padded (codes "XTENSION")) (codes "IMAGE") refl (omega arith) (open-word (padded (codes "XTENSION")) refl))
+        (all-map IsWholeCard IsWholeCard plain_card (option_to_list (find says_what cards)) plain-whole (all-found IsWholeCard says_what cards are))
+
+    counts-whole : (b : Bool) → AreWholeCards (cond b [] (or_card (number_card (codes "PCOUNT") 0) (restored_word (codes "ZPCOUNT") cards) ++ or_card (number_card (codes "GCOUNT") 1) (restored_word (codes "ZGCOUNT") cards)))
+    counts-whole true = tt
+    counts-whole false =
+        all-append IsWholeCard (or_card (number_card (codes "PCOUNT") 0) (restored_word (codes "ZPCOUNT") cards)) (or_card (number_card (codes "GCOUNT") 1) (restored_word (codes "ZGCOUNT") cards))
+        (or-whole (number_card (codes "PCOUNT") 0) (restored_word (codes "ZPCOUNT") cards) (number-whole (padded (codes "PCOUNT")) 0 refl (omega arith) (open-word (padded (codes "PCOUNT")) refl)) (named-whole (padded (codes "ZPCOUNT"))))
+        (or-whole (number_card (codes "GCOUNT") 1) (restored_word (codes "ZGCOUNT") cards) (number-whole (padded (codes "GCOUNT")) 1 refl (omega arith) (open-word (padded (codes "GCOUNT")) refl)) (named-whole (padded (codes "ZGCOUNT"))))
+
+    kept-whole : (keep : List ℕ → Bool) → AreWholeCards (map plain_card (filter keep cards))
+    kept-whole keep = all-map IsWholeCard IsWholeCard plain_card (filter keep cards) plain-whole (all-filter IsWholeCard keep cards are)
+
+    pub plain-cards : AreWholeCards (plain_header cards)
+    unfolding plain_header
+    plain-cards =
+        all-append IsWholeCard (leading_card cards) (size_cards cards ++ (flat_map (axis_card cards) (range_with_len 1 (axis_count cards)) ++ (count_cards cards ++ other_cards cards))) leading-whole
+        (all-append IsWholeCard (size_cards cards) (flat_map (axis_card cards) (range_with_len 1 (axis_count cards)) ++ (count_cards cards ++ other_cards cards)) size-whole
+        (all-append IsWholeCard (flat_map (axis_card cards) (range_with_len 1 (axis_count cards))) (count_cards cards ++ other_cards cards)
+        (all-flat IsWholeCard (axis_card cards) 1 (axis_count cards) (λ i low high. named-whole (numbered_name (codes "ZNAXIS") i)))
+        (all-append IsWholeCard (count_cards cards) (other_cards cards) (counts-whole (was_primary cards)) (kept-whole (is_kept (was_primary cards) (axis_count cards))))))
+
+    axis-open : (i : ℕ) → bytes_eq (numbered_name (codes "NAXIS") i) (padded (codes "END")) ≡ false
+    unfolding numbered_name
+    axis-open i = refl
+
+    pub cutout-cards : (region : Region) → region.n ≤ 9 → ((i : ℕ) → i < region.n → slice_index region.len i < 10 ^ 18) → AreWholeCards (cutout_header cards region)
+    unfolding cutout_header
+    cutout-cards region few short =
+        let axis = λ (i : ℕ). numbered_number_card (codes "NAXIS") i (slice_index region.len (i - 1)) in
+        let part = part_cards_of (was_primary cards) (axis_count cards) cards in
+        all-append IsWholeCard (or_card (flag_card (codes "SIMPLE")) (restored_word (codes "ZSIMPLE") cards)) (size_cards cards ++ (map axis (range_with_len 1 region.n) ++ part))
+        (or-whole (flag_card (codes "SIMPLE")) (restored_word (codes "ZSIMPLE") cards) (flag-whole (padded (codes "SIMPLE")) true refl (open-word (padded (codes "SIMPLE")) refl)) (named-whole (padded (codes "ZSIMPLE"))))
+        (all-append IsWholeCard (size_cards cards) (map axis (range_with_len 1 region.n) ++ part) size-whole
+        (all-append IsWholeCard (map axis (range_with_len 1 region.n)) part
+        (all-mapped IsWholeCard axis 1 region.n (λ i low high.
+        number-whole (numbered_name (codes "NAXIS") i) (slice_index region.len (i - 1)) (laws.numbers.eight_bytes (codes "NAXIS") i (omega arith, omega arith)) (short (i - 1) (omega arith)) (open-word (numbered_name (codes "NAXIS") i) (axis-open i))))
+        (all-filter IsWholeCard (λ card. not (is_in_some whole_names (card_name card))) (map plain_card (filter (is_kept (was_primary cards) (axis_count cards)) cards)) (kept-whole (is_kept (was_primary cards) (axis_count cards))))))

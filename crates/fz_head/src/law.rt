@@ -16,6 +16,7 @@ ghost use Rattle.fz_head.specs.SumCards.{AreDropped, AreSumCards, IsSumCard};
 ghost use Rattle.fz_head.specs.ThereAndBack.{HasCards, IsPacking, MayBePacked};
 
 use fz_block::cards_law;
+use fz_card::card_laws;
 
 /// The header of an image comes back, card for card, from its packed header, whatever the plan for its
 /// shape and whatever the totals; and whatever the cards of sums at its end, of which each is dropped.
@@ -24,7 +25,9 @@ pub fn there_and_back_law()
         plain_header (packed_header (cards_of header) p s) ≡ cards_of header }
     ensures sums { (header : List ℕ) (h : Header) (p : Plan) (s : Totals) (sums : List (List ℕ)) → MayBePacked header h → p.shape ≡ h.axes → AreDropped sums →
         plain_header (packed_with (cards_of header) p s sums) ≡ cards_of header }
-{}
+{
+    card_laws();
+}
 
 /// Cards of sums as they are made, blank and not, are cards of sums, and these are dropped; in a packed
 /// header they come last.
@@ -34,7 +37,9 @@ pub fn sum_cards_law()
     ensures blank { (sums : Bool) → AreSumCards (sum_cards sums) }
     ensures dropped { (sums : List (List ℕ)) → AreSumCards sums → AreDropped sums }
     ensures last { (cards : List (List ℕ)) (p : Plan) (s : Totals) (sums : List (List ℕ)) → packed_with cards p s sums ≡ packed_with cards p s [] ++ sums }
-{}
+{
+    card_laws();
+}
 
 /// How many cards a packed header has does not depend on the lengths and counts in it; and with sums as
 /// the options ask for them, it has at most 256 blocks with END, 36 cards in each.
@@ -54,7 +59,9 @@ pub fn whole_cards_law()
     ensures plain { (cards : List (List ℕ)) → All IsCardBeforeEnd cards → All IsCardBeforeEnd (plain_header cards) }
     ensures cutout { (cards : List (List ℕ)) (region : Region) → All IsCardBeforeEnd cards → region.n ≤ 9 → ((i : ℕ) → i < region.n → slice_index region.len i < 10 ^ 18)
         → All IsCardBeforeEnd (cutout_header cards region) }
-{}
+{
+    card_laws();
+}
 
 /// A card in place of another one of a header's bytes, as DATASUM in place of the blank one, makes the bytes
 /// of the header with that card.
@@ -72,5 +79,6 @@ pub fn accepted_law()
     ensures cards { (header : List ℕ) (h : Header) (p : Plan) (s : Totals) (sums : List (List ℕ)) (k start : ℕ) (bytes : List ℕ) → IsPacking header h p s sums
         → HasCards bytes (packed_with (cards_of header) p s sums) → IsAccepted p s bytes (facts_of (suc k) start bytes) }
 {
+    card_laws();
     cards_law();
 }

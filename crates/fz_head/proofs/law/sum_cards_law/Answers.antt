@@ -6,13 +6,13 @@ use Rattle.fz_head.proofs.MadeCards.{datasum-is, checksum-is, blanks-are, sums-d
 use Rattle.fz_head.proofs.law.sum_cards_law.Goals as goal
 
 pub returns-clause-datasum : goal.returns-clause-datasum
-returns-clause-datasum c = datasum-is
+returns-clause-datasum c = datasum-is c.card_laws.ensures
 
 pub returns-clause-checksum : goal.returns-clause-checksum
-returns-clause-checksum c = checksum-is
+returns-clause-checksum c = checksum-is c.card_laws.ensures
 
 pub returns-clause-blank : goal.returns-clause-blank
-returns-clause-blank c = blanks-are
+returns-clause-blank c = blanks-are c.card_laws.ensures
 
 pub returns-clause-dropped : goal.returns-clause-dropped
 returns-clause-dropped c = sums-dropped

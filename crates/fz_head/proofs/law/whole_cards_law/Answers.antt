@@ -10,10 +10,10 @@ pub returns-clause-read : goal.returns-clause-read
 returns-clause-read c = λ header is. all-before-end (cards_of header) (cards-whole header is)
 
 pub returns-clause-packed : goal.returns-clause-packed
-returns-clause-packed c = λ header h p s sums is. all-before-end (packed_with (cards_of header) p s sums) (packed-cards header h p s sums is)
+returns-clause-packed c = λ header h p s sums is. all-before-end (packed_with (cards_of header) p s sums) (packed-cards c.card_laws.ensures header h p s sums is)
 
 pub returns-clause-plain : goal.returns-clause-plain
-returns-clause-plain c = λ cards are. all-before-end (plain_header cards) (plain-cards cards (all-whole cards are))
+returns-clause-plain c = λ cards are. all-before-end (plain_header cards) (plain-cards c.card_laws.ensures cards (all-whole cards are))
 
 pub returns-clause-cutout : goal.returns-clause-cutout
-returns-clause-cutout c = λ cards region are few short. all-before-end (cutout_header cards region) (cutout-cards cards (all-whole cards are) region few short)
+returns-clause-cutout c = λ cards region are few short. all-before-end (cutout_header cards region) (cutout-cards c.card_laws.ensures cards (all-whole cards are) region few short)
