@@ -47,3 +47,6 @@ pub mod Whole
 pub mod WholeCards
 pub mod WholeMade
 pub mod WrittenCards
+pub mod CheckedImages
+pub mod Fills
+pub mod TakenImages

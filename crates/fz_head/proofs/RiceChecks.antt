@@ -8,13 +8,13 @@ use Rattle.fz_head.specs.PackedChecks.{block_checks, bytepix_checks, parameter_c
 use Rattle.fz_head.specs.PackedPlan.{is_rice_name, parameter_number, said_codec}
 
 -- the checks of BLOCKSIZE, and those of BYTEPIX
-abbrev blocks : ℕ → List (List ℕ) → List (Bool × Fault)
+abbrev pub blocks : ℕ → List (List ℕ) → List (Bool × Fault)
 blocks k cards = block_checks k cards (parameter_number (codes "BLOCKSIZE") cards)
 
-abbrev bytes : ℕ → List (List ℕ) → List (Bool × Fault)
+abbrev pub bytes : ℕ → List (List ℕ) → List (Bool × Fault)
 bytes k cards = bytepix_checks k cards (parameter_number (codes "BYTEPIX") cards)
 
-of-rice : (k : ℕ) (cards : List (List ℕ)) → is_rice_name (said_codec cards) ≡ true → first_refusal (parameter_checks k cards) ≡ first_refusal (blocks k cards ++ bytes k cards)
+pub of-rice : (k : ℕ) (cards : List (List ℕ)) → is_rice_name (said_codec cards) ≡ true → first_refusal (parameter_checks k cards) ≡ first_refusal (blocks k cards ++ bytes k cards)
 of-rice k cards rice = ap (λ b. first_refusal (if b then blocks k cards ++ bytes k cards else [])) rice
 
 pub in-block : (k : ℕ) (cards : List (List ℕ)) (x : Fault) → is_rice_name (said_codec cards) ≡ true → first_refusal (blocks k cards) ≡ Some x → first_refusal (parameter_checks k cards) ≡ Some x

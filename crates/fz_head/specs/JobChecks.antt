@@ -1,6 +1,6 @@
 -- The checks that a job makes of one HDU, behind those that every job makes, and what it learns of it (FITS 4.0, sections 3.3.2,
 -- 7.3 and 10.1).
-use Rattle.std.specs.Prelude.{◌≡◌, ℕ, ◌+◌, ◌-◌, ◌<◌, ◌≤◌, ◌&&◌, ◌||◌, ◌==◌, not, nat_lt, Bool, List, [], ◌∷◌, ◌++◌, drop, take, codes, slice_index, Option, Some, None, is_some, unwrap_or, Result, Ok, if◌then◌else◌}
+use Rattle.std.specs.Prelude.{◌≡◌, ℕ, ◌+◌, ◌-◌, ◌<◌, ◌≤◌, ◌&&◌, ◌||◌, ◌==◌, not, nat_lt, Bool, true, List, [], ◌∷◌, ◌++◌, drop, take, codes, slice_index, Option, Some, None, is_some, unwrap_or, Result, Ok, if◌then◌else◌}
 use Rattle.std.specs.List.{flat_map, position, range_with_len}
 use Rattle.fz_base.specs.Refusal.{refusal, first_refusal}
 use Rattle.fz_base.specs.declared.fault.Fault.{Fault}
@@ -8,6 +8,7 @@ use Rattle.fz_base.specs.declared.fault.Place.TheVariants.{Byte}
 use Rattle.fz_base.specs.declared.kind.Kind.TheVariants.{AlreadyPacked, DataFill, NotPacked, OutOfBox}
 use Rattle.fz_card.specs.Made.{numbered_name}
 use Rattle.fz_block.specs.Checks.{is_set, unless_refused}
+use Rattle.fz_block.specs.Facts.{IsHeaderOf}
 use Rattle.fz_block.specs.Hdus.{cards_of, size_at}
 use Rattle.fz_block.specs.Header.{data_start_of, next_start_of}
 use Rattle.fz_block.specs.Walk.{hdu_of}
@@ -26,7 +27,7 @@ use Rattle.fz_head.specs.PackChecks.{pack_checks, refused_at}
 use Rattle.fz_head.specs.PackedChecks.{at_name, at_word, packed_checks}
 use Rattle.fz_head.specs.PackedPlan.{numbered_in, plan_of_cards, size_of}
 use Rattle.fz_head.specs.PlainHeader.{axis_count}
-use Rattle.fz_head.specs.Planned.{pack_plan_of}
+use Rattle.fz_head.specs.Planned.{AreOptions, pack_plan_of}
 use Rattle.fz_head.specs.TableChecks.{compressed_table, repeated_table_names, table_card_checks}
 
 -- a card says that a table holds a packed image, or that it is a compressed table
@@ -63,6 +64,13 @@ data_fill h fill =
 -- the checks that `pack` makes of one HDU of a file
 abbrev pub pack_hdu_checks : PackOptions → List ℕ → Header → List (Bool × Fault)
 pack_hdu_checks o file h = pack_header_checks o h (hdu_of file h).header ++ (if is_packable h then data_fill h (fill_in file h) ∷ [] else [])
+
+-- An image of a file that `pack` takes with these options: no check refuses anything of it.
+pub record IsImageToPack (o : PackOptions) (file : List ℕ) (h : Header) : Type 0 where
+  pub options : AreOptions o
+  pub is_header : IsHeaderOf (hdu_of file h).header h
+  pub packable : is_packable h ≡ true
+  pub passed : first_refusal (pack_hdu_checks o file h) ≡ None
 
 -- the HDU is HDU 1, behind a primary with NAXIS 0
 abbrev pub is_after_empty : List ℕ → Header → Bool

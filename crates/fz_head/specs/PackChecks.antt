@@ -13,7 +13,7 @@ use Rattle.fz_card.specs.Reading.{zero_of, has_text}
 use Rattle.fz_card.specs.Tables.Names.{Numbered}
 use Rattle.fz_block.specs.Cards.{is_named}
 use Rattle.fz_block.specs.Checks.{unless_refused}
-use Rattle.fz_block.specs.Hdus.{cards_of}
+use Rattle.fz_block.specs.Hdus.{behind_end, cards_of}
 use Rattle.fz_block.specs.declared.header.Header.{Header}
 use Rattle.fz_grid.specs.Arrays.{product}
 use Rattle.fz_grid.specs.Grid.{tile_count}
@@ -56,10 +56,6 @@ is_reserved_card primary n card =
 abbrev pub reserved_index : Bool → ℕ → List (List ℕ) → Option ℕ
 reserved_index primary n cards = position (is_reserved_card primary n) cards
 
--- where the letters END of the header end
-abbrev pub behind_end : List ℕ → ℕ
-behind_end header = 80 * length (cards_of header) + 3
-
 -- how many blanks stand behind END before the first other byte
 abbrev pub fill_place : List ℕ → Option ℕ
 fill_place header = position (λ b. not (b == byte " ")) (drop (behind_end header) header)
@@ -87,12 +83,12 @@ abbrev pub repeated_names : Header → List ℕ → Bool × Fault
 repeated_names h header = refused_at h.hdu (first_repeat image_names itself (cards_of header)) Duplicate
 
 -- only blanks stand behind the letters END
-abbrev pub fill_check : Header → List ℕ → Bool × Fault
-fill_check h header = (is_some (fill_place header), refusal h.hdu (Byte (h.start + behind_end header + unwrap_or (fill_place header) 0)) HeaderFill)
+abbrev pub header_fill : Header → List ℕ → Bool × Fault
+header_fill h header = (is_some (fill_place header), refusal h.hdu (Byte (h.start + behind_end header + unwrap_or (fill_place header) 0)) HeaderFill)
 
 -- the checks of the cards alone, in their order
 abbrev pub name_checks : Header → List ℕ → List (Bool × Fault)
-name_checks h header = reserved_names h header ∷ repeated_names h header ∷ fill_check h header ∷ []
+name_checks h header = reserved_names h header ∷ repeated_names h header ∷ header_fill h header ∷ []
 
 -- at most 2^40 pixels, 2^26 pixels in a tile, 2^31 - 1 tiles, and 256 blocks of packed header with END, 36 cards in each
 abbrev pub limit_checks : Header → Plan → Bool → List (List ℕ) → List (Bool × Fault)

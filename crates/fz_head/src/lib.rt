@@ -1,10 +1,11 @@
 //! Plans and headers of packed images: which HDUs are images to pack or packed tables, how an image is packed, and its header
 //! there and back.
 //!
-//! Reading order: `options`, `plan`, `planning`, `unpacking`, `job_checks`, `boxes`, `totals`, `packed`, `plain`, `law`.
+//! Reading order: `options`, `plan`, `planning`, `unpacking`, `job_checks`, `boxes`, `totals`, `packed`, `plain`, `law`, `checked`.
 #![tactic(auto)]
 
 mod boxes;
+mod checked;
 mod empty_primary;
 mod find;
 mod job_checks;
@@ -30,6 +31,7 @@ mod volumes;
 mod written;
 
 pub use boxes::image_to_cut;
+pub use checked::{fill_law, image_to_pack_law, pack_plan_law, packed_image_law};
 pub use empty_primary::to_empty_primary;
 pub use job_checks::{PackedImage, fill_check, image_to_unpack, missing_hdu, plan_to_pack};
 pub use law::{

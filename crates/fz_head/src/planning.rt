@@ -8,7 +8,7 @@ ghost use Rattle.fz_block.specs.Hdus.{cards_of};
 ghost use Rattle.fz_grid.specs.Region.{IsDivided, lengths_of};
 ghost use Rattle.fz_tile.specs.Codecs.{CanWrite};
 ghost use Rattle.fz_head.specs.Packable.{has_integers, is_packable, is_primary};
-ghost use Rattle.fz_head.specs.PackChecks.{name_checks, limit_checks, offset_check as offset_check_of, fill_check, is_plio, no_totals, is_axis_above, is_of_other_sort, is_reserved_card as is_reserved_card_of, is_table_name as is_table_name_of, pack_answer, reserved_index};
+ghost use Rattle.fz_head.specs.PackChecks.{name_checks, limit_checks, offset_check as offset_check_of, header_fill, is_plio, no_totals, is_axis_above, is_of_other_sort, is_reserved_card as is_reserved_card_of, is_table_name as is_table_name_of, pack_answer, reserved_index};
 ghost use Rattle.fz_head.specs.Planned.{AreOptions, codec_for as codec_for_of, is_wide as is_wide_of, pack_plan_of};
 ghost use Rattle.fz_head.specs.PackedHeader.{packed_header, parameter_cards, sum_cards};
 ghost use Rattle.fz_head.specs.Written.{first_cards};
@@ -246,7 +246,7 @@ fn is_table_name(card: &Card) -> bool
 fn check_fill(buf: &[u8], header: &Header) -> Result<(), Fault>
     requires header { IsHeaderOf buf.now header.now }
     requires end { next_start_of header.now ≤ 2 ^ 62 }
-    ensures { IsFirstOf (fill_check header.now buf.now ∷ []) result }
+    ensures { IsFirstOf (header_fill header.now buf.now ∷ []) result }
 {
     let start = CARD_LEN * header.cards as usize + 3;
     match first_other(buf.split_at(start).1) {

@@ -2,7 +2,7 @@ use Rattle.std.proofs.Common.{[], ◌∷◌, arith, ap, sym, ◌∙◌}
 use Rattle.fz_base.specs.Refusal.{first_refusal}
 use Rattle.fz_base.specs.declared.kind.Kind.TheVariants.{Duplicate, Reserved}
 use Rattle.fz_head.specs.Packable.{is_primary}
-use Rattle.fz_head.specs.PackChecks.{fill_check, refused_at, repeated_names, reserved_index, reserved_names}
+use Rattle.fz_head.specs.PackChecks.{header_fill, refused_at, repeated_names, reserved_index, reserved_names}
 use Rattle.fz_head.specs.Repeats.{first_repeat, image_names, itself}
 use Rattle.fz_head.proofs.FrontCards.{header-cards, header-end}
 use Rattle.fz_head.proofs.RefusalLists.{first-of-third}
@@ -21,6 +21,6 @@ returns c =
     let cards = header-cards buf h c.requires.header in
     let reserved = ap (reserved_index (is_primary h.sort) h.axes.n) cards ∙ sym c.first_reserved.ensures in
     let repeated = ap (first_repeat image_names itself) cards ∙ sym c.first_repeat.ensures in
-    first-of-third (reserved_names h buf) (repeated_names h buf) (fill_check h buf) c.check_fill.result
+    first-of-third (reserved_names h buf) (repeated_names h buf) (header_fill h buf) c.check_fill.result
     (ap (λ found. first_refusal (refused_at h.hdu found Reserved ∷ [])) reserved ∙ c.in_ok-refuse_at.ensures)
     (ap (λ found. first_refusal (refused_at h.hdu found Duplicate ∷ [])) repeated ∙ c.in_ok-refuse_at-2.ensures) c.check_fill.ensures

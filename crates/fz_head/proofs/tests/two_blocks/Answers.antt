@@ -1,4 +1,4 @@
-use Rattle.std.proofs.Common.{arith, rules}
+use Rattle.std.proofs.Common.{arith}
 use Rattle.fz_head.proofs.tests.two_blocks.Goals as goal
 
 -- the buffer has two blocks
