@@ -1,8 +1,8 @@
 -- A packed HDU of which no check refuses anything: its plan divides the image into tiles that can be read, and its table has a row for
 -- each.
 use Rattle.std.proofs.Common.{◌≡◌, ℕ, ◌+◌, ◌<◌, ◌≤◌, ◌⊎◌, Bool, true, false, cond, List, [], ◌∷◌, ◌++◌, length, get_or, map, min, refl, ap, sym, ◌∙◌, subst, arith, inl, inr, codes}
-use Rattle.std.specs.Prelude.{ℤ, pos, negsuc, ◌&&◌, not, ◌==◌, nat_le, Option, Some, None, Ok, is_some, slice_index}
-use Rattle.std.specs.List.{flat_map, range_with_len}
+use Rattle.std.specs.Prelude.{ℤ, pos, negsuc, ◌&&◌, not, ◌==◌, nat_le, Option, Some, None, Ok, is_some}
+use Rattle.std.specs.List.{range_with_len}
 use Rattle.std.specs.Ordering.{int_eq}
 use Rattle.std.proofs.lemmas.Bool.{and_parts, eqb-true, leb-true, ltb-false, not-false, or_cases}
 use Rattle.std.proofs.lemmas.Bool.Decides.{Decides-int_eq, nat_tests}

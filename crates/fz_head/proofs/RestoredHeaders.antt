@@ -7,7 +7,7 @@ use Rattle.std.proofs.lemmas.Bool.{both_ways}
 use Rattle.std.proofs.lemmas.Slice.Eq.{bytes_eq-Decides}
 use Rattle.fz_card.specs.Layout.{card_name, padded}
 use Rattle.fz_card.specs.Made.{numbered_name}
-use Rattle.fz_card.specs.CardLists.{has_name}
+use Rattle.fz_card.specs.CardLists.{first_of_name, has_name}
 use Rattle.fz_block.specs.Cards.{card_at}
 use Rattle.fz_block.specs.Facts.{IsHeaderOf}
 use Rattle.fz_block.specs.Header.{whole_blocks_of}
@@ -15,7 +15,6 @@ use Rattle.fz_block.specs.Hdus.{cards_of}
 use Rattle.fz_block.specs.declared.header.Header.{Header}
 use Rattle.fz_grid.specs.declared.region.Region.{Region}
 use Rattle.fz_head.specs.declared.plan.Plan.{Plan}
-use Rattle.fz_head.specs.CardLists.{first_named}
 use Rattle.fz_head.specs.Conditions.{IsPackedPlan}
 use Rattle.fz_head.specs.PlainHeader.{axis_count, cutout_header, plain_header}
 use Rattle.fz_head.proofs.FrontCards.{HasEnd, header-cards, header-end, size-names}
@@ -46,7 +45,7 @@ module _ (header : List ℕ) (h : Header) (p : Plan) (is : IsHeaderOf header h) 
   count : length cards ≡ h.cards
   count = cards-count header h is
 
-  codec : 1 ≤ length (first_named (padded (codes "ZCMPTYPE")) cards)
+  codec : 1 ≤ length (option_to_list (first_of_name (padded (codes "ZCMPTYPE")) cards))
   codec = any-found (has_name (padded (codes "ZCMPTYPE"))) cards (says header h p planned).has_codec
 
   sizes : (card_name (card_at header 1) ≡ padded (codes "BITPIX")) × (card_name (card_at header 2) ≡ padded (codes "NAXIS"))
@@ -64,7 +63,7 @@ module _ (header : List ℕ) (h : Header) (p : Plan) (is : IsHeaderOf header h) 
       no-less (suc (suc zero)) one not-one not-two = absurd (not-two refl)
       no-less (suc (suc (suc n))) one not-one not-two = omega arith
 
-  card-found : (i : ℕ) (name : List ℕ) → i < h.cards → card_name (card_at header i) ≡ name → 1 ≤ length (first_named name cards)
+  card-found : (i : ℕ) (name : List ℕ) → i < h.cards → card_name (card_at header i) ≡ name → 1 ≤ length (option_to_list (first_of_name name cards))
   card-found i name within named =
       one-found (has_name name) cards
       (ap (list_any (has_name name)) (header-cards header h is) ∙ any_of (has_name name) (card_at header) 0 h.cards i (omega arith) (omega arith) ((bytes_eq-Decides (card_name (card_at header i)) name).1 named))

@@ -13,11 +13,10 @@ use Rattle.fz_card.specs.Made.{numbered_name}
 use Rattle.fz_card.specs.Naming.{is_dropped, is_in, is_in_some, number_behind}
 use Rattle.fz_card.specs.Tables.{own_names, packed_names}
 use Rattle.fz_card.specs.Tables.Names.{Numbered}
-use Rattle.fz_card.specs.CardLists.{has_name}
+use Rattle.fz_card.specs.CardLists.{first_of_name, has_name}
 use Rattle.fz_card.specs.Reading.{has_text}
 use Rattle.fz_block.specs.Cards.{is_named}
 use Rattle.fz_grid.specs.declared.region.Region.{Region}
-use Rattle.fz_head.specs.CardLists.{first_named}
 use Rattle.fz_head.specs.PackedHeader.{flag_card, number_card, numbered_number_card, word_card}
 use Rattle.fz_head.specs.PlainHeader.{axis_card, axis_count, count_cards, count_cards_of, count_names, cutout_header, is_kept, leading_card, or_card, other_cards, part_cards_of, plain_card, plain_header, restored_word, says_what, size_cards, was_primary, whole_names}
 use Rattle.fz_head.proofs.Ranges.{Between}
@@ -53,13 +52,13 @@ hits (name ∷ names) card = cond (has_name name card) 1 0 + hits names card
 -- how many of the names some card has
 abbrev founds : List (List ℕ) → List (List ℕ) → ℕ
 founds [] cards = 0
-founds (name ∷ names) cards = length (first_named name cards) + founds names cards
+founds (name ∷ names) cards = length (option_to_list (first_of_name name cards)) + founds names cards
 
 founds-nothing : (names : List (List ℕ)) → founds names [] ≡ 0
 founds-nothing [] = refl
 founds-nothing (name ∷ names) = omega (arith, founds-nothing names)
 
-found-more : (name card : List ℕ) (cards : List (List ℕ)) → length (first_named name (card ∷ cards)) ≤ cond (has_name name card) 1 0 + length (first_named name cards)
+found-more : (name card : List ℕ) (cards : List (List ℕ)) → length (option_to_list (first_of_name name (card ∷ cards))) ≤ cond (has_name name card) 1 0 + length (option_to_list (first_of_name name cards))
 found-more name card cards = by_test (has_name name card)
   where
     by_test : (b : Bool) → length (option_to_list (cond b (Some card) (find (has_name name) cards))) ≤ cond b 1 0 + length (option_to_list (find (has_name name) cards))
@@ -140,14 +139,14 @@ axes-found : (cards : List (List ℕ)) (a n : ℕ) → length (flat_map (axis_ca
 axes-found cards a zero = refl
 axes-found cards a (suc n) =
     length-append (axis_card cards a) (flat_map (axis_card cards) (range_with_len (a + 1) n))
-    ∙ omega (arith, length-map (first_named (numbered_name (codes "ZNAXIS") a) cards) plain_card, axes-found cards (a + 1) n)
+    ∙ omega (arith, length-map (option_to_list (first_of_name (numbered_name (codes "ZNAXIS") a) cards)) plain_card, axes-found cards (a + 1) n)
 
 fewer-axes : (cards : List (List ℕ)) (a n m : ℕ) → n ≤ m → founds (axis-names a n) cards ≤ founds (axis-names a m) cards
 fewer-axes cards a zero m less = omega arith
 fewer-axes cards a (suc n) zero less = absurd (omega arith)
 fewer-axes cards a (suc n) (suc m) less = omega (arith, fewer-axes cards (a + 1) n m (omega arith))
 
-each-axis : (cards : List (List ℕ)) (a n : ℕ) → Between a n (λ i. 1 ≤ length (first_named (numbered_name (codes "ZNAXIS") i) cards)) → n ≤ founds (axis-names a n) cards
+each-axis : (cards : List (List ℕ)) (a n : ℕ) → Between a n (λ i. 1 ≤ length (option_to_list (first_of_name (numbered_name (codes "ZNAXIS") i) cards))) → n ≤ founds (axis-names a n) cards
 each-axis cards a zero each = omega arith
 each-axis cards a (suc n) each = omega (arith, each a (omega arith) (omega arith), each-axis cards (a + 1) n (λ i low high. each i (omega arith) (omega arith)))
 
@@ -159,10 +158,10 @@ or-one card (Some c) = refl
 leading-one : (cards : List (List ℕ)) → length (leading_card cards) ≡ 1
 leading-one cards = or-one (word_card (codes "XTENSION") (codes "IMAGE")) (find says_what cards)
 
-sizes-found : (cards : List (List ℕ)) → length (size_cards cards) ≡ length (first_named (padded (codes "ZBITPIX")) cards) + length (first_named (padded (codes "ZNAXIS")) cards)
+sizes-found : (cards : List (List ℕ)) → length (size_cards cards) ≡ length (option_to_list (first_of_name (padded (codes "ZBITPIX")) cards)) + length (option_to_list (first_of_name (padded (codes "ZNAXIS")) cards))
 sizes-found cards =
     length-append (restored_word (codes "ZBITPIX") cards) (restored_word (codes "ZNAXIS") cards)
-    ∙ omega (arith, length-map (first_named (padded (codes "ZBITPIX")) cards) plain_card, length-map (first_named (padded (codes "ZNAXIS")) cards) plain_card)
+    ∙ omega (arith, length-map (option_to_list (first_of_name (padded (codes "ZBITPIX")) cards)) plain_card, length-map (option_to_list (first_of_name (padded (codes "ZNAXIS")) cards)) plain_card)
 
 counts-two : (cards : List (List ℕ)) (primary : Bool) → length (count_cards_of primary cards) ≤ 2
 counts-two cards true = omega arith
@@ -186,11 +185,11 @@ fewer-kept keep (x ∷ xs) = by_test (keep x) (fewer-kept keep xs)
 
 -- the cards that a packed header has of itself
 pub record HasOwn (cards : List (List ℕ)) : Type 0 where
-  pub bitpix : 1 ≤ length (first_named (padded (codes "BITPIX")) cards)
-  pub naxis : 1 ≤ length (first_named (padded (codes "NAXIS")) cards)
-  pub codec : 1 ≤ length (first_named (padded (codes "ZCMPTYPE")) cards)
+  pub bitpix : 1 ≤ length (option_to_list (first_of_name (padded (codes "BITPIX")) cards))
+  pub naxis : 1 ≤ length (option_to_list (first_of_name (padded (codes "NAXIS")) cards))
+  pub codec : 1 ≤ length (option_to_list (first_of_name (padded (codes "ZCMPTYPE")) cards))
   pub few : axis_count cards ≤ 9
-  pub axes : (i : ℕ) → 1 ≤ i → i ≤ axis_count cards → 1 ≤ length (first_named (numbered_name (codes "ZNAXIS") i) cards)
+  pub axes : (i : ℕ) → 1 ≤ i → i ≤ axis_count cards → 1 ≤ length (option_to_list (first_of_name (numbered_name (codes "ZNAXIS") i) cards))
 
 module _ (cards : List (List ℕ)) (own : HasOwn cards) where
   abbrev kept : List (List ℕ)
@@ -256,6 +255,6 @@ any-found has (x ∷ xs) there = by_test (has x) (position has xs) (sym (ap is_n
     by_test false (Some i) there later = later refl
 
 -- a header with a card of a name has a card
-pub some-card : (name : List ℕ) (cards : List (List ℕ)) → 1 ≤ length (first_named name cards) → 1 ≤ length cards
+pub some-card : (name : List ℕ) (cards : List (List ℕ)) → 1 ≤ length (option_to_list (first_of_name name cards)) → 1 ≤ length cards
 some-card name [] there = absurd (omega arith)
 some-card name (card ∷ cards) there = omega arith

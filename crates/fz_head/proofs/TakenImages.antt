@@ -1,5 +1,5 @@
 -- An image of a file of which no check of `pack` refuses anything.
-use Rattle.std.proofs.Common.{◌≡◌, ℕ, true, cond, List, [], ◌∷◌, ◌++◌, length, replicate, ap, subst}
+use Rattle.std.proofs.Common.{◌≡◌, ℕ, cond, List, [], ◌∷◌, ◌++◌, length, replicate, ap, subst}
 use Rattle.std.specs.Prelude.{None, Ok}
 use Rattle.fz_base.specs.Refusal.{first_refusal}
 use Rattle.fz_block.specs.Checks.{unless_refused}

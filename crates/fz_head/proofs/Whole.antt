@@ -10,14 +10,13 @@ use Rattle.fz_card.specs.Layout.{blanks, card_name, padded}
 use Rattle.fz_card.specs.Made.{int_card_bytes, logical_card_bytes, text_card_bytes, numbered_name}
 use Rattle.fz_card.specs.Naming.{is_dropped, is_in_some, number_behind, packed_name, plain_name}
 use Rattle.fz_card.specs.Tables.{IsRenamed, own_names, packed_names, renamings}
-use Rattle.fz_card.specs.CardLists.{has_name}
+use Rattle.fz_card.specs.CardLists.{first_of_name, has_name}
 use Rattle.fz_card.specs.Laws.{CardLaws}
 use Rattle.fz_block.specs.Cards.{card_at, end_among, is_named}
 use Rattle.fz_block.specs.Header.{whole_blocks_of}
 use Rattle.fz_block.specs.Hdus.{IsHeader, cards_of, header_bytes}
 use Rattle.fz_grid.specs.declared.region.Region.{Region}
 use Rattle.fz_sum.specs.Cards.{with_card}
-use Rattle.fz_head.specs.CardLists.{first_named}
 use Rattle.fz_head.specs.PackedHeader.{packed_card, flag_card, number_card, numbered_number_card, word_card}
 use Rattle.fz_head.specs.PlainHeader.{axis_card, axis_count, count_cards, cutout_header, is_kept, leading_card, or_card, other_cards, part_cards_of, plain_card, plain_header, restored_word, says_what, size_cards, was_primary, whole_names}
 use Rattle.fz_head.specs.SumCards.{IsDroppedCard, IsSumCard}
@@ -233,8 +232,8 @@ module _ (laws : CardLaws) where
 
   -- the header of the image, and of a part of it
   module _ (cards : List (List ℕ)) (are : AreWholeCards cards) where
-    named-whole : (name : List ℕ) → AreWholeCards (map plain_card (first_named name cards))
-    named-whole name = all-map IsWholeCard IsWholeCard plain_card (first_named name cards) plain-whole (all-found IsWholeCard (has_name name) cards are)
+    named-whole : (name : List ℕ) → AreWholeCards (map plain_card (option_to_list (first_of_name name cards)))
+    named-whole name = all-map IsWholeCard IsWholeCard plain_card (option_to_list (first_of_name name cards)) plain-whole (all-found IsWholeCard (has_name name) cards are)
 
     size-whole : AreWholeCards (size_cards cards)
     size-whole = all-append IsWholeCard (restored_word (codes "ZBITPIX") cards) (restored_word (codes "ZNAXIS") cards) (named-whole (padded (codes "ZBITPIX"))) (named-whole (padded (codes "ZNAXIS")))

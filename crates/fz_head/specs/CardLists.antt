@@ -1,16 +1,11 @@
 -- The cards of a header as a list, looked up by their names.
 use Rattle.std.specs.Prelude.{ℕ, List, [], Option, unwrap_or}
 use Rattle.std.specs.List.{position}
-use Rattle.std.specs.Option.{option_to_list}
 use Rattle.fz_card.specs.CardLists.{first_of_name, has_name}
 
 -- the index of the first card of this name
 abbrev pub index_of : List ℕ → List (List ℕ) → Option ℕ
 index_of name cards = position (has_name name) cards
-
--- the first card of this name: a list of this card, or of none
-abbrev pub first_named : List ℕ → List (List ℕ) → List (List ℕ)
-first_named name cards = option_to_list (first_of_name name cards)
 
 -- the first card of this name, or no bytes where there is none
 abbrev pub the_card : List ℕ → List (List ℕ) → List ℕ

@@ -12,7 +12,7 @@ use Rattle.fz_card.specs.CardLists.{first_of_name}
 use Rattle.fz_block.specs.Cards.{is_named}
 use Rattle.fz_block.specs.Hdus.{size_in}
 use Rattle.fz_grid.specs.declared.region.Region.{Region}
-use Rattle.fz_head.specs.CardLists.{first_named, the_card}
+use Rattle.fz_head.specs.CardLists.{the_card}
 use Rattle.fz_head.specs.PackedHeader.{number_card, flag_card, word_card, numbered_number_card}
 
 -- the card under the name that it has in the image: columns 1 to 8 change, and nothing else
@@ -26,7 +26,7 @@ or_card card (c ∷ cs) = c ∷ cs
 
 -- the first card of this word, as a card of the image
 abbrev pub restored_word : List ℕ → List (List ℕ) → List (List ℕ)
-restored_word word cards = map plain_card (first_named (padded word) cards)
+restored_word word cards = map plain_card (option_to_list (first_of_name (padded word) cards))
 
 -- the image is a primary
 abbrev pub was_primary : List (List ℕ) → Bool
@@ -46,7 +46,7 @@ leading_card cards = or_card (word_card (codes "XTENSION") (codes "IMAGE")) (map
 
 -- the card of axis i
 abbrev pub axis_card : List (List ℕ) → ℕ → List (List ℕ)
-axis_card cards i = map plain_card (first_named (numbered_name (codes "ZNAXIS") i) cards)
+axis_card cards i = map plain_card (option_to_list (first_of_name (numbered_name (codes "ZNAXIS") i) cards))
 
 -- BITPIX and NAXIS of the image
 abbrev pub size_cards : List (List ℕ) → List (List ℕ)

@@ -91,7 +91,7 @@ pub fn fill_check(header: &Header, fill: &[u8]) -> Result<(), Fault>
     requires fill { len fill.now ≤ 2880 }
     ensures { IsFirstOf (data_fill header.now fill.now ∷ []) result }
 {
-    match first_other(fill) {
+    match first_non_zero(fill) {
         Some(i) => Err(refused(
             header,
             Place::Byte(data_start(header) + header.data_len + i as u64),
@@ -102,7 +102,7 @@ pub fn fill_check(header: &Header, fill: &[u8]) -> Result<(), Fault>
 }
 
 // How many zeros stand before the first other byte.
-fn first_other(bytes: &[u8]) -> Option<usize>
+fn first_non_zero(bytes: &[u8]) -> Option<usize>
     ensures { result ≡ position (λ b. not (b == 0)) bytes.now }
 {
     bytes.iter().position(|byte| *byte != 0)

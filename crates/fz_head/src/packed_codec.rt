@@ -89,7 +89,7 @@ fn is_scaling_column(text: &[u8]) -> bool
 }
 
 /// Whether the codec is RICE_1.
-pub(crate) fn is_rice(buf: &[u8], header: &Header) -> bool
+pub(crate) fn says_rice(buf: &[u8], header: &Header) -> bool
     requires { IsHeaderOf buf.now header.now }
     ensures { result ≡ is_rice_name (said_codec (cards_of buf.now)) }
 {
@@ -98,7 +98,7 @@ pub(crate) fn is_rice(buf: &[u8], header: &Header) -> bool
 }
 
 /// Whether the codec is PLIO_1.
-pub(crate) fn is_plio(buf: &[u8], header: &Header) -> bool
+pub(crate) fn says_plio(buf: &[u8], header: &Header) -> bool
     requires { IsHeaderOf buf.now header.now }
     ensures { result ≡ is_plio_name (said_codec (cards_of buf.now)) }
 {
@@ -106,7 +106,7 @@ pub(crate) fn is_plio(buf: &[u8], header: &Header) -> bool
 }
 
 // Whether the tiles are plain bytes.
-fn is_plain(buf: &[u8], header: &Header) -> bool
+fn says_plain(buf: &[u8], header: &Header) -> bool
     requires { IsHeaderOf buf.now header.now }
     ensures { result ≡ is_plain_name (said_codec (cards_of buf.now)) }
 {
@@ -114,11 +114,11 @@ fn is_plain(buf: &[u8], header: &Header) -> bool
 }
 
 // Whether ZCMPTYPE names one of the codecs.
-fn is_codec(buf: &[u8], header: &Header) -> bool
+fn says_codec(buf: &[u8], header: &Header) -> bool
     requires { IsHeaderOf buf.now header.now }
     ensures { result ≡ is_codec_name (said_codec (cards_of buf.now)) }
 {
-    is_rice(buf, header) || is_plio(buf, header) || is_plain(buf, header)
+    says_rice(buf, header) || says_plio(buf, header) || says_plain(buf, header)
 }
 
 /// ZCMPTYPE names one of the codecs.
@@ -132,7 +132,7 @@ pub(crate) fn check_codec(buf: &[u8], header: &Header) -> Result<(), Fault>
         no_text,
         at_name(buf, header, &Name::ZCMPTYPE, Kind::BadCard),
     )?;
-    let unknown = !is_codec(buf, header);
+    let unknown = !says_codec(buf, header);
     refuse_when(
         unknown,
         at_name(buf, header, &Name::ZCMPTYPE, Kind::UnknownCodec),
@@ -161,7 +161,7 @@ fn is_coded_long(buf: &[u8], header: &Header, bitpix: Option<i64>) -> bool
     requires { IsHeaderOf buf.now header.now }
     ensures { result ≡ (is_integer (pos 64) bitpix && not (is_plain_name (said_codec (cards_of buf.now)))) }
 {
-    is_integer(bitpix, 64) && !is_plain(buf, header)
+    is_integer(bitpix, 64) && !says_plain(buf, header)
 }
 
 /// ZBITPIX is that of an integer image, and pixels of 64 bits have no code.

@@ -11,7 +11,7 @@ ghost use Rattle.fz_tile.specs.Codecs.{ReadsCodes};
 ghost use Rattle.fz_head.specs.Along.{smaller_of};
 ghost use Rattle.fz_head.specs.Written.{first_cards};
 
-use crate::packed_codec::{is_plio, is_rice};
+use crate::packed_codec::{says_plio, says_rice};
 use crate::said::{at_name, integer_said, is_positive, refuse_when, size, stands};
 use fz_base::{Fault, Kind};
 use fz_block::{Header, card};
@@ -203,12 +203,12 @@ pub(crate) fn check_parameters(buf: &[u8], header: &Header) -> Result<Codec, Fau
     ensures value { IfOk result (λ v. v ≡ codec_named (said_codec (cards_of buf.now)) (cards_of buf.now)) }
     ensures codes { IfOk result ReadsCodes }
 {
-    if is_rice(buf, header) {
+    if says_rice(buf, header) {
         let block = block(buf, header)?;
         let bytepix = bytepix(buf, header)?;
         return Ok(Codec::Rice { block, bytepix });
     }
-    if is_plio(buf, header) {
+    if says_plio(buf, header) {
         Ok(Codec::Plio)
     } else {
         Ok(Codec::Plain)

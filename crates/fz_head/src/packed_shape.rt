@@ -102,12 +102,12 @@ fn tile_length(buf: &[u8], header: &Header, i: u32, axis: u32) -> Result<u32, Fa
     let said = stands(buf, header, &name);
     let other = said && !is_positive(length);
     refuse_when(other, at_name(buf, header, &name, Kind::BadCard))?;
-    Ok(cut_tile(said, size(length), i, axis))
+    Ok(length_within(said, size(length), i, axis))
 }
 
 // The length of a tile along axis i: as it is said, cut to the axis; else the whole first axis, and 1 along
 // the others.
-fn cut_tile(said: bool, length: u64, i: u32, axis: u32) -> u32
+fn length_within(said: bool, length: u64, i: u32, axis: u32) -> u32
     ensures { result ≡ (if said then min length axis else default_tile i axis) }
 {
     if said {

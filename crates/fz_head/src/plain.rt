@@ -185,12 +185,12 @@ fn is_table_card(card: &Card, n: u32) -> bool
 {
     let name = card.name();
     is_dropped(name)
-        || is_axis_above(name, n)
+        || is_packed_axis_above(name, n)
         || (has_name(card, &Name::EXTNAME) && card.has_text(b"COMPRESSED_IMAGE"))
 }
 
 // Whether the name is that of an axis which the image has not.
-fn is_axis_above(name: Name, n: u32) -> bool
+fn is_packed_axis_above(name: Name, n: u32) -> bool
     ensures { result ≡ (is_in (Numbered (codes "ZNAXIS") 99) name.bytes && not (is_in (Numbered (codes "ZNAXIS") n) name.bytes)) }
 {
     is_numbered(name, b"ZNAXIS", 99) && !is_numbered(name, b"ZNAXIS", n)

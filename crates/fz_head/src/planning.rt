@@ -182,7 +182,7 @@ fn check_names(buf: &[u8], header: &Header) -> Result<(), Fault>
         first_repeat(buf, header.cards, Once::Image),
         Kind::Duplicate,
     )?;
-    check_fill(buf, header)
+    check_header_fill(buf, header)
 }
 
 // The index of the first card that would not come back as it is from a packed header.
@@ -243,13 +243,13 @@ fn is_table_name(card: &Card) -> bool
 }
 
 // Only blanks stand behind the letters END.
-fn check_fill(buf: &[u8], header: &Header) -> Result<(), Fault>
+fn check_header_fill(buf: &[u8], header: &Header) -> Result<(), Fault>
     requires header { IsHeaderOf buf.now header.now }
     requires end { next_start_of header.now ≤ 2 ^ 62 }
     ensures { IsFirstOf (header_fill header.now buf.now ∷ []) result }
 {
     let start = CARD_LEN * header.cards as usize + 3;
-    match first_other(buf.split_at(start).1) {
+    match first_non_blank(buf.split_at(start).1) {
         Some(i) => Err(refused(
             header,
             Place::Byte(header.start + (start + i) as u64),
@@ -260,7 +260,7 @@ fn check_fill(buf: &[u8], header: &Header) -> Result<(), Fault>
 }
 
 // How many blanks stand before the first other byte.
-fn first_other(bytes: &[u8]) -> Option<usize>
+fn first_non_blank(bytes: &[u8]) -> Option<usize>
     ensures place { result ≡ position (λ b. not (b == 32)) bytes.now }
     ensures within { IfSome result (λ i. i < len bytes.now) }
 {

@@ -71,7 +71,7 @@ fn stands_once(name: Name, of: Once) -> bool
 {
     match of {
         Once::Image => is_image_name(name),
-        Once::Table => is_table_name(name),
+        Once::Table => is_packed_name(name),
     }
 }
 
@@ -90,7 +90,7 @@ fn is_image_name(name: Name) -> bool
 
 // Whether the name stands once in a packed header.
 #[tactic(auto, using(crate::proofs::Positions::names_after_names))]
-fn is_table_name(name: Name) -> bool
+fn is_packed_name(name: Name) -> bool
     ensures { result ≡ is_in_some table_names name.bytes }
 {
     is_array_name(name) || is_compression_name(name)

@@ -19,7 +19,7 @@ ghost use Rattle.fz_head.specs.PlainHeader.{was_primary};
 
 use crate::Plan;
 use crate::find::first_offset;
-use crate::packed_codec::{check_bitpix, check_codec, check_scaling, is_plio};
+use crate::packed_codec::{check_bitpix, check_codec, check_scaling, says_plio};
 use crate::packed_rice::check_parameters;
 use crate::packed_shape::check_shape;
 use crate::planning::is_wide;
@@ -189,7 +189,7 @@ fn check_line_list(buf: &[u8], header: &Header) -> Result<(), Fault>
     requires { IsHeaderOf buf.now header.now }
     ensures { IsFirstOf (line_list_check header.now.hdu (cards_of buf.now) ∷ []) result }
 {
-    if !is_plio(buf, header) {
+    if !says_plio(buf, header) {
         return Ok(());
     }
     refuse_at(header, offset_card(buf, header), Kind::PlioOffset)

@@ -5,10 +5,10 @@ use Rattle.fz_head.proofs.packed_rice.check_parameters.Goals as goal
 
 pub returns-in_err-block-clause-exact : goal.returns-in_err-block-clause-exact
 returns-in_err-block-clause-exact c =
-    let refused = in-block c.args.header.now.hdu (cards_of c.args.buf.now) _ (sym c.is_rice.ensures ∙ c.if-is_rice.true) c.in_err-block.ensures.exact in
+    let refused = in-block c.args.header.now.hdu (cards_of c.args.buf.now) _ (sym c.says_rice.ensures ∙ c.if-says_rice.true) c.in_err-block.ensures.exact in
     search (rules, refused)
 
 pub returns-in_err-bytepix-clause-exact : goal.returns-in_err-bytepix-clause-exact
 returns-in_err-bytepix-clause-exact c =
-    let refused = in-bytepix c.args.header.now.hdu (cards_of c.args.buf.now) _ (sym c.is_rice.ensures ∙ c.if-is_rice.true) c.in_ok-block.ensures.exact c.in_err-bytepix.ensures.exact in
+    let refused = in-bytepix c.args.header.now.hdu (cards_of c.args.buf.now) _ (sym c.says_rice.ensures ∙ c.if-says_rice.true) c.in_ok-block.ensures.exact c.in_err-bytepix.ensures.exact in
     search (rules, refused)

@@ -21,6 +21,6 @@ returns c =
     let cards = header-cards buf h c.requires.header in
     let reserved = ap (reserved_index (is_primary h.sort) h.axes.n) cards ∙ sym c.first_reserved.ensures in
     let repeated = ap (first_repeat image_names itself) cards ∙ sym c.first_repeat.ensures in
-    first-of-third (reserved_names h buf) (repeated_names h buf) (header_fill h buf) c.check_fill.result
+    first-of-third (reserved_names h buf) (repeated_names h buf) (header_fill h buf) c.check_header_fill.result
     (ap (λ found. first_refusal (refused_at h.hdu found Reserved ∷ [])) reserved ∙ c.in_ok-refuse_at.ensures)
-    (ap (λ found. first_refusal (refused_at h.hdu found Duplicate ∷ [])) repeated ∙ c.in_ok-refuse_at-2.ensures) c.check_fill.ensures
+    (ap (λ found. first_refusal (refused_at h.hdu found Duplicate ∷ [])) repeated ∙ c.in_ok-refuse_at-2.ensures) c.check_header_fill.ensures
