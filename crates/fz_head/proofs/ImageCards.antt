@@ -2,7 +2,7 @@
 use Rattle.std.proofs.Common.{◌≡◌, ℕ, ◌<◌, ◌≤◌, ◌^◌, Bool, true, false, List, [], get_or, map, sym, refl, ap, ◌∙◌, arith, zero-add}
 use Rattle.std.specs.Prelude.{◌&&◌, ◌||◌, not, Some, None, codes}
 use Rattle.std.specs.List.{range_with_len}
-use Rattle.std.proofs.lemmas.Bool.{and_from, both_ways}
+use Rattle.std.proofs.lemmas.Bool.{and_from, both_ways, or_parts}
 use Rattle.std.proofs.lemmas.List.{length-take-le}
 use Rattle.std.proofs.lemmas.List.FromFn.{length-map-range_with_len, get_or-map-range_with_len}
 use Rattle.fz_card.specs.Layout.{card_name}
@@ -32,10 +32,6 @@ pub record IsImage (header : List ℕ) (primary : Bool) (n last : ℕ) : Type 0 
 pub false_of : (b : Bool) → (b ≡ true → ⊥) → b ≡ false
 false_of true never = absurd (never refl)
 false_of false never = refl
-
-pub or_parts : (a b : Bool) → (a || b) ≡ false → (a ≡ false) × (b ≡ false)
-or_parts true b e = cc
-or_parts false b e = (refl, e)
 
 pub or_false : (a b : Bool) → a ≡ false → b ≡ false → (a || b) ≡ false
 or_false a b e f = rw (e, f) refl

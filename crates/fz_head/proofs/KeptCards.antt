@@ -1,7 +1,7 @@
 -- Which cards of an image come back in their places: all but the mandatory ones.
 use Rattle.std.proofs.Common.{◌≡◌, ℕ, ◌+◌, ◌<◌, ◌≤◌, Bool, true, false, cond, List, ◌++◌, drop, sym, refl, ap, ◌∙◌, arith, inl, inr}
 use Rattle.std.specs.Prelude.{◌⊎◌, ◌&&◌, not, Some, codes}
-use Rattle.std.proofs.lemmas.Bool.{cases_lt, and_parts, and_from, and_left, both_ways}
+use Rattle.std.proofs.lemmas.Bool.{cases_lt, and_parts, and_from, and_left, both_ways, or_parts}
 use Rattle.std.proofs.lemmas.List.{take-append-drop}
 use Rattle.std.proofs.lemmas.Slice.Eq.{bytes_eq-Decides}
 use Rattle.fz_card.specs.Laws.{CardLaws}
@@ -17,7 +17,7 @@ use Rattle.fz_head.specs.PackedHeader.{packed_card}
 use Rattle.fz_head.specs.PlainHeader.{count_names, front_names, is_front, is_kept, is_table_card}
 use Rattle.fz_head.proofs.CardNames.{new_name, was-named, new_name-of, new_name-kept, was-axis, was-extname, simple-pair, xtension-pair, bitpix-pair, naxis-pair, pcount-pair, gcount-pair, axis-pair}
 use Rattle.fz_head.proofs.FrontCards.{Place, At_first, At_bitpix, At_naxis, At_axis, At_pcount, At_gcount, front_count, first_word}
-use Rattle.fz_head.proofs.ImageCards.{IsImage, right_sort, named_allowed, no_axis_above, is_free, new_card_name, apart, false_of, or_false, or_first, or_second, or_parts}
+use Rattle.fz_head.proofs.ImageCards.{IsImage, right_sort, named_allowed, no_axis_above, is_free, new_card_name, apart, false_of, or_false, or_first, or_second}
 
 -- a card of the front
 front-by : (primary : Bool) (n : ℕ) (card : List ℕ) → (is_in_some (front_names n) (card_name card) ≡ true) ⊎ ((not primary && is_in_some count_names (card_name card)) ≡ true) → is_kept primary n card ≡ false

@@ -1,8 +1,8 @@
 -- The checks of the axes and tiles that a packed header says, one after another.
-use Rattle.std.proofs.Common.{◌≡◌, ℕ, ◌<◌, ◌≤◌, ◌^◌, Bool, true, false, List, [], ◌∷◌, ◌++◌, get_or, refl, ap, sym, ◌∙◌, arith}
+use Rattle.std.proofs.Common.{◌≡◌, ℕ, ◌<◌, ◌≤◌, ◌^◌, Bool, false, List, [], ◌∷◌, ◌++◌, get_or, ap, sym, ◌∙◌, arith}
 use Rattle.std.specs.Prelude.{◌||◌, nat_lt, Option, Some, None}
 use Rattle.std.specs.List.{flat_map, range_with_len}
-use Rattle.std.proofs.lemmas.Bool.{ltb-false}
+use Rattle.std.proofs.lemmas.Bool.{ltb-false, or_parts}
 use Rattle.fz_base.specs.Refusal.{first_refusal}
 use Rattle.fz_base.specs.declared.fault.Fault.{Fault}
 use Rattle.fz_block.specs.Facts.{nine_axes}
@@ -57,14 +57,10 @@ large-of cards shape tile large axes lengths is =
     ∙ (ap (λ l. is-large l (lengths_of tile)) (ap lengths_of axes ∙ lengths-nine_axes (said_axes cards))
     ∙ ap (is-large (said_axes cards)) (ap lengths_of lengths ∙ lengths-nine_axes (said_tile cards)))
 
-neither : (a b : Bool) → (a || b) ≡ false → (a ≡ false) × (b ≡ false)
-neither true b e = cc
-neither false b e = (refl, e)
-
 pub divided-of : (shape tile : Axes) → (1 ≤ shape.n) × (shape.n ≤ 9) → tile.n ≡ shape.n → ((i : ℕ) → i < shape.n → (1 ≤ get_or tile.len i 0) × (get_or tile.len i 0 ≤ get_or shape.len i 0)) → is-large (lengths_of shape) (lengths_of tile) ≡ false → IsDivided shape tile
 divided-of shape tile number same each small =
-    let one = neither (nat_lt (2 ^ 40) (product (lengths_of shape))) _ small in
-    let two = neither (nat_lt (2 ^ 26) (product (lengths_of tile))) _ one.1 in
+    let one = or_parts (nat_lt (2 ^ 40) (product (lengths_of shape))) _ small in
+    let two = or_parts (nat_lt (2 ^ 26) (product (lengths_of tile))) _ one.1 in
     let tiles = ltb-false 2147483647 (tile_count (lengths_of shape) (lengths_of tile)) two.1 in
     record {
       some = number.0;
