@@ -4,7 +4,7 @@ use Rattle.std.specs.List.{All}
 use Rattle.std.specs.Option.{option_map}
 use Rattle.std.proofs.lemmas.List.{append-nil, append_assoc}
 use Rattle.std.proofs.lemmas.List.Elements.{All-append, All-nil, All-cons}
-use Rattle.fz_base.specs.Source.{logged, MayLog, LogsOnly, LogsWithin, IsWithin}
+use Rattle.fz_base.specs.Source.{logged, MayLog, LogsOnly, LogsWithin, IsRangeBetween}
 
 -- nothing more
 mapped_nothing : (ranges : Option (List (ℕ × ℕ))) → ranges ≡ option_map (λ rs. rs ++ []) ranges
@@ -42,12 +42,12 @@ all_wider Kind Wider more wider all = search (wider, all)
 pub logs_wider : (Kind Wider : ℕ × ℕ → Type 0) (old new : Option (List (ℕ × ℕ))) → ((r : ℕ × ℕ) → Kind r → Wider r) → LogsOnly Kind old new → LogsOnly Wider old new
 logs_wider Kind Wider old new wider logs = (logs.0, all_wider Kind Wider logs.0 wider logs.1, logs.2)
 
-pub within_wider : (from to from' to' : ℕ) → from' ≤ from → to ≤ to' → (r : ℕ × ℕ) → IsWithin from to r → IsWithin from' to' r
+pub within_wider : (from to from' to' : ℕ) → from' ≤ from → to ≤ to' → (r : ℕ × ℕ) → IsRangeBetween from to r → IsRangeBetween from' to' r
 within_wider from to from' to' low high r is = (is.0, omega (arith, is.1, low), omega (arith, is.2, high))
 
 pub logs_within_wider : (from to from' to' : ℕ) (old new : Option (List (ℕ × ℕ))) → from' ≤ from → to ≤ to' → LogsWithin from to old new → LogsWithin from' to' old new
-logs_within_wider from to from' to' old new low high logs = logs_wider (IsWithin from to) (IsWithin from' to') old new (within_wider from to from' to' low high) logs
+logs_within_wider from to from' to' old new low high logs = logs_wider (IsRangeBetween from to) (IsRangeBetween from' to') old new (within_wider from to from' to' low high) logs
 
 -- one read between two places
 pub logs_within_one : (from to at count : ℕ) (old new : Option (List (ℕ × ℕ))) → 0 < count → from ≤ at → at + count ≤ to → MayLog at count old new → LogsWithin from to old new
-logs_within_one from to at count old new some low high may = logs_one (IsWithin from to) at count old new (some, low, high) may
+logs_within_one from to at count old new some low high may = logs_one (IsRangeBetween from to) at count old new (some, low, high) may

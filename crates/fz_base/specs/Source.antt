@@ -15,8 +15,8 @@ abbrev pub MayLog : ℕ → ℕ → Option (List (ℕ × ℕ)) → Option (List 
 MayLog at count old new = (new ≡ old) ⊎ (new ≡ logged at count old)
 
 -- a range that is not empty and lies between two places
-abbrev pub IsWithin : ℕ → ℕ → ℕ × ℕ → Type 0
-IsWithin from to range = (0 < range.1) × (from ≤ range.0) × (range.0 + range.1 ≤ to)
+abbrev pub IsRangeBetween : ℕ → ℕ → ℕ × ℕ → Type 0
+IsRangeBetween from to range = (0 < range.1) × (from ≤ range.0) × (range.0 + range.1 ≤ to)
 
 -- more ranges were read, if any, and each of them is of this kind
 abbrev pub LogsOnly : (ℕ × ℕ → Type 0) → Option (List (ℕ × ℕ)) → Option (List (ℕ × ℕ)) → Type 0
@@ -24,7 +24,7 @@ LogsOnly Kind old new = (more : List (ℕ × ℕ)) × All Kind more × (new ≡ 
 
 -- each of the ranges that were read lies between two places
 abbrev pub LogsWithin : ℕ → ℕ → Option (List (ℕ × ℕ)) → Option (List (ℕ × ℕ)) → Type 0
-LogsWithin from to old new = LogsOnly (IsWithin from to) old new
+LogsWithin from to old new = LogsOnly (IsRangeBetween from to) old new
 
 -- where the bytes are told, there are so many
 abbrev pub HoldsLength : Option (List ℕ) → ℕ → Type 0

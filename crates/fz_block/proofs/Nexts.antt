@@ -1,7 +1,7 @@
 -- The next header of a file: what its two calls say together.
 use Rattle.std.proofs.Common.{◌≡◌, ℕ, ◌+◌, ◌*◌, ◌≤◌, ◌<◌, max, min, false, nat_lt, List, [], ◌∷◌, length, take, drop, Option, Some, None, IfSome, Result, Ok, Err, refl, sym, ◌∙◌, ap, arith}
 use Rattle.std.proofs.lemmas.Bool.Decides.{nat_tests}
-use Rattle.fz_base.specs.Source.{Reads, HoldsLength, IsWithin, LogsWithin, MayLog}
+use Rattle.fz_base.specs.Source.{Reads, HoldsLength, IsRangeBetween, LogsWithin, MayLog}
 use Rattle.fz_base.specs.Stop.{IsDefined, IfAnswered}
 use Rattle.fz_base.specs.Refusal.{first_refusal}
 use Rattle.fz_base.specs.Takings.{first_past, highest}
@@ -66,7 +66,7 @@ peak_given (Some g) old new live k start n blocks low =
 pub logs_next : (len start n count : ℕ) (old mid new : Option (List (ℕ × ℕ))) → count ≡ 2880 * n → 0 < n → n ≤ 256 → start + 2880 * n ≤ len →
     LogsWithin start (min len (start + 737280)) old mid → MayLog start count mid new → LogsWithin start (min len (start + 737280)) old new
 logs_next len start n count old mid new size some few within first second =
-    logs_both (IsWithin start (min len (start + 737280))) old mid new first
+    logs_both (IsRangeBetween start (min len (start + 737280))) old mid new first
     (logs_within_one start (min len (start + 737280)) start count mid new (omega (arith, size, some)) (omega arith) (omega (arith, size, few, within)) second)
 
 -- the blocks that were found are looked at
@@ -95,5 +95,5 @@ pub touched_next : (held : Option (List ℕ)) (len k start n count : ℕ) (old m
 touched_next None len k start n count old mid new told blocks size some within first second = tt
 touched_next (Some g) len k start n count old mid new told blocks size some within first second =
     let most = touched_found k start n g blocks (omega (arith, told, within)) in
-    logs_both (IsWithin start (header_touched k start g)) old mid new first
+    logs_both (IsRangeBetween start (header_touched k start g)) old mid new first
     (logs_within_one start (header_touched k start g) start count mid new (omega (arith, size, some)) (omega arith) (omega (arith, size, most)) second)

@@ -4,7 +4,7 @@ use Rattle.std.specs.Option.{option_map}
 use Rattle.std.proofs.lemmas.Bool.Decides.{nat_tests}
 use Rattle.std.proofs.lemmas.List.{length-drop}
 use Rattle.fz_base.specs.Refusal.{refusal, first_refusal}
-use Rattle.fz_base.specs.Source.{HoldsLength, IsWithin, LogsWithin}
+use Rattle.fz_base.specs.Source.{HoldsLength, IsRangeBetween, LogsWithin}
 use Rattle.fz_base.specs.declared.fault.Fault.{Fault}
 use Rattle.fz_base.specs.declared.fault.Place.TheVariants.{Byte, Card}
 use Rattle.fz_base.specs.declared.kind.Kind.TheVariants.{NotFits, Truncated, TrailingBytes, Limit}
@@ -98,7 +98,7 @@ touched_first (Some g) len k start old new told logs =
 pub logs_on : (len start b : ℕ) (old mid new : Option (List (ℕ × ℕ))) → LogsWithin start (min len (start + 2880 * b)) old mid →
     LogsWithin (start + 2880 * b) (min len (start + 2880 * (b + 1))) mid new → LogsWithin start (min len (start + 2880 * (b + 1))) old new
 logs_on len start b old mid new first second =
-    logs_both (IsWithin start (min len (start + 2880 * (b + 1)))) old mid new
+    logs_both (IsRangeBetween start (min len (start + 2880 * (b + 1)))) old mid new
     (logs_within_wider start (min len (start + 2880 * b)) start (min len (start + 2880 * (b + 1))) old mid (omega arith) (omega arith) first)
     (logs_within_wider (start + 2880 * b) (min len (start + 2880 * (b + 1))) start (min len (start + 2880 * (b + 1))) mid new (omega arith) (omega arith) second)
 
@@ -119,10 +119,10 @@ touched_blocks held len k start b n old new told begins searched few most logs =
 pub touched_both : (held : Option (List ℕ)) (k start : ℕ) (old mid new : Option (List (ℕ × ℕ))) → IfSome held (λ g. LogsWithin start (header_touched k start g) old mid) →
     IfSome held (λ g. LogsWithin start (header_touched k start g) mid new) → IfSome held (λ g. LogsWithin start (header_touched k start g) old new)
 touched_both None k start old mid new first second = tt
-touched_both (Some g) k start old mid new first second = logs_both (IsWithin start (header_touched k start g)) old mid new first second
+touched_both (Some g) k start old mid new first second = logs_both (IsRangeBetween start (header_touched k start g)) old mid new first second
 
 pub logs_begun : (len start : ℕ) (old mid new : Option (List (ℕ × ℕ))) → LogsWithin start (min len (start + 2880)) old mid →
     LogsWithin start (min len (start + 737280)) mid new → LogsWithin start (min len (start + 737280)) old new
 logs_begun len start old mid new first second =
-    logs_both (IsWithin start (min len (start + 737280))) old mid new
+    logs_both (IsRangeBetween start (min len (start + 737280))) old mid new
     (logs_within_wider start (min len (start + 2880)) start (min len (start + 737280)) old mid (omega arith) (omega arith) first) second

@@ -2,7 +2,7 @@
 use Rattle.std.proofs.Common.{◌≡◌, ℕ, Bool, true, false, List, [], ◌∷◌, ◌++◌, refl, sym, subst, inr, arith}
 use Rattle.std.specs.Prelude.{Option, Result, Ok, Err, OnOk, OnErr, Contains, if◌then◌else◌}
 use Rattle.std.proofs.lemmas.List.Elements.{Contains-append_left, Contains-append_right}
-use Rattle.fz_base.specs.Source.{logged, MayLog, LogsOnly, LogsWithin, IsWithin}
+use Rattle.fz_base.specs.Source.{logged, MayLog, LogsOnly, LogsWithin, IsRangeBetween}
 use Rattle.fz_base.proofs.Logs.{logs_none, logs_wider}
 use Rattle.fz_survey.specs.Reads.{IsWithinOne}
 
@@ -13,7 +13,7 @@ read_logs (Err e) at count old new ok err = err
 
 -- within one place, and so within one of several
 pub logs_in : (places : List (ℕ × ℕ)) (from to : ℕ) (old new : Option (List (ℕ × ℕ))) → Contains places (from, to) → LogsWithin from to old new → LogsOnly (IsWithinOne places) old new
-logs_in places from to old new has logs = logs_wider (IsWithin from to) (IsWithinOne places) old new (λ r is. ((from, to), has, is)) logs
+logs_in places from to old new has logs = logs_wider (IsRangeBetween from to) (IsWithinOne places) old new (λ r is. ((from, to), has, is)) logs
 
 -- nothing was read
 pub logs_same : (places : List (ℕ × ℕ)) (old new : Option (List (ℕ × ℕ))) → new ≡ old → LogsOnly (IsWithinOne places) old new

@@ -1,16 +1,16 @@
 use Rattle.std.proofs.Common.{◌+◌}
-use Rattle.fz_base.specs.Source.{IsWithin}
+use Rattle.fz_base.specs.Source.{IsRangeBetween}
 use Rattle.fz_base.proofs.Logs.{logs_none, logs_within_one, logs_both, logs_within_wider}
 use Rattle.fz_base.proofs.laws.log_law.Goals as goal
 
 pub returns-clause-none : goal.returns-clause-none
-returns-clause-none c = λ from to ranges. logs_none (IsWithin from to) ranges
+returns-clause-none c = λ from to ranges. logs_none (IsRangeBetween from to) ranges
 
 pub returns-clause-one : goal.returns-clause-one
 returns-clause-one c = logs_within_one
 
 pub returns-clause-both : goal.returns-clause-both
-returns-clause-both c = λ from to old mid new first second. logs_both (IsWithin from to) old mid new first second
+returns-clause-both c = λ from to old mid new first second. logs_both (IsRangeBetween from to) old mid new first second
 
 pub returns-clause-wider : goal.returns-clause-wider
 returns-clause-wider c = logs_within_wider

@@ -1,7 +1,7 @@
 -- One more piece is copied.
 use Rattle.std.proofs.Common.{◌≡◌, ℕ, ◌+◌, ◌-◌, ◌≤◌, List, Option, length, take, drop, IfSome, subst, arith, rules}
 use Rattle.fz_base.specs.Sink.{written}
-use Rattle.fz_base.specs.Source.{HoldsLength, LogsWithin, IsWithin}
+use Rattle.fz_base.specs.Source.{HoldsLength, LogsWithin, IsRangeBetween}
 use Rattle.fz_base.proofs.Logs.{logs_both, logs_within_wider}
 use Rattle.fz_base.proofs.Overwriting.{written-piece, held-within}
 use Rattle.fz_base.proofs.output.copy.Goals as goal
@@ -11,7 +11,7 @@ returns-in_err-copy_piece-clause-log g c =
     let from : ℕ = c.args.from + c.loop-done.done in
     let to : ℕ = from + c.min-piece.result in
     let more : LogsWithin from to (g.S.Source.ranges c.loop-done.source) (g.S.Source.ranges c.copy_piece.new.source) = search rules in
-    logs_both (IsWithin c.args.from (c.args.from + c.args.count)) (g.S.Source.ranges c.args.source.now) (g.S.Source.ranges c.loop-done.source) (g.S.Source.ranges c.copy_piece.new.source)
+    logs_both (IsRangeBetween c.args.from (c.args.from + c.args.count)) (g.S.Source.ranges c.args.source.now) (g.S.Source.ranges c.loop-done.source) (g.S.Source.ranges c.copy_piece.new.source)
     c.loop-done.invariant.log
     (logs_within_wider from to c.args.from (c.args.from + c.args.count) (g.S.Source.ranges c.loop-done.source) (g.S.Source.ranges c.copy_piece.new.source) (omega arith) (omega arith) more)
 
@@ -31,7 +31,7 @@ loop-done-preserved g c =
       created = search rules;
       writes = search rules;
       few = search rules;
-      log = logs_both (IsWithin c.args.from (c.args.from + c.args.count)) (g.S.Source.ranges c.args.source.now) (g.S.Source.ranges c.loop-done.source) (g.S.Source.ranges c.copy_piece.new.source)
+      log = logs_both (IsRangeBetween c.args.from (c.args.from + c.args.count)) (g.S.Source.ranges c.args.source.now) (g.S.Source.ranges c.loop-done.source) (g.S.Source.ranges c.copy_piece.new.source)
           c.loop-done.invariant.log
           (logs_within_wider from to c.args.from (c.args.from + c.args.count) (g.S.Source.ranges c.loop-done.source) (g.S.Source.ranges c.copy_piece.new.source) (omega arith) (omega arith) more);
       shut = λ shut. c.in_ok-copy_piece.ensures.shut (c.loop-done.invariant.shut shut);

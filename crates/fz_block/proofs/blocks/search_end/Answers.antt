@@ -1,6 +1,6 @@
 -- Where the source tells its bytes, the search answers what the definition says.
 use Rattle.std.proofs.Common.{◌≡◌, ◌+◌, ◌*◌, min, ℕ, List, Option, Result, Ok, Err, refl, sym, subst, arith, rules, IfSome}
-use Rattle.fz_base.specs.Source.{HoldsLength, IsWithin}
+use Rattle.fz_base.specs.Source.{HoldsLength, IsRangeBetween}
 use Rattle.fz_base.specs.Stop.{IsDefined}
 use Rattle.fz_base.proofs.Logs.{logs_none}
 use Rattle.fz_base.specs.declared.failure.Stop.{Stop}
@@ -15,7 +15,7 @@ loop-b-init g c = record {
   held = refl;
   attached = refl;
   tally = refl;
-  log = logs_none (IsWithin c.args.start (min c.args.length (c.args.start + 2880 * 0))) (g.S.Source.ranges c.args.source.now);
+  log = logs_none (IsRangeBetween c.args.start (min c.args.length (c.args.start + 2880 * 0))) (g.S.Source.ranges c.args.source.now);
   within = omega (arith, c.requires.within);
   searched = search_begins (g.S.Source.held c.args.source.now) c.args.length c.args.hdu c.args.start
       (g.met.S.Source.agrees c.args.source.now c.args.length c.requires.attached) c.requires.within;
