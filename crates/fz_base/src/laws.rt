@@ -1,6 +1,7 @@
 //! What the definitions of logs and of contents promise together.
 ghost use Rattle.std.specs.Prelude.{ℕ, ◌≡◌, ◌+◌, ◌≤◌, ◌<◌, List, [], ◌∷◌, ◌++◌, length, Option, Some};
 ghost use Rattle.fz_base.specs.FirstByte.{IsShut, StaysShut, with_first_byte};
+ghost use Rattle.fz_base.specs.Ranges.{LogsSomeLaw, LogsAllLaw, LogsWithinLaw, LogsJoinLaw};
 ghost use Rattle.fz_base.specs.Sink.{written, emptied};
 ghost use Rattle.fz_base.specs.Source.{logged, MayLog, LogsWithin};
 
@@ -10,6 +11,15 @@ pub fn log_law()
     ensures one { (from to at count : ℕ) (old new : Option (List (ℕ × ℕ))) → 0 < count → from ≤ at → at + count ≤ to → MayLog at count old new → LogsWithin from to old new }
     ensures both { (from to : ℕ) (old mid new : Option (List (ℕ × ℕ))) → LogsWithin from to old mid → LogsWithin from to mid new → LogsWithin from to old new }
     ensures wider { (from to from' to' : ℕ) (old new : Option (List (ℕ × ℕ))) → from' ≤ from → to ≤ to' → LogsWithin from to old new → LogsWithin from' to' old new }
+{}
+
+/// Where the bytes of reads lie in some ranges, only bytes of these ranges were read; what is read one
+/// after another in some ranges is read in them.
+pub fn ranges_law()
+    ensures some { LogsSomeLaw }
+    ensures all { LogsAllLaw }
+    ensures within { LogsWithinLaw }
+    ensures join { LogsJoinLaw }
 {}
 
 /// Writes one after another are one write, also behind the end; what was written behind byte 0 of an

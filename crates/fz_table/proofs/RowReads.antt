@@ -3,7 +3,8 @@ use Rattle.std.proofs.Common.{◌≡◌, ℕ, zero, suc, ◌+◌, ◌*◌, ◌<�
 use Rattle.std.proofs.Math.Nat.{mul-add, mul-suc}
 use Rattle.std.proofs.lemmas.Bool.Decides.{nat_tests}
 use Rattle.fz_table.specs.Rows.{descriptor_len, descriptor_start, row_start, StandsInRow, IsTable}
-use Rattle.fz_table.specs.Reads.{descriptor_ranges, LiesIn, follows, two_reads, row_reads, row_ranges, two_fill, is_filled}
+use Rattle.fz_base.specs.Ranges.{LiesIn}
+use Rattle.fz_table.specs.Reads.{descriptor_ranges, follows, two_reads, row_reads, row_ranges, two_fill, is_filled}
 use Rattle.fz_table.specs.declared.column.Column.{Column}
 use Rattle.fz_table.specs.declared.table.Table.{Table}
 

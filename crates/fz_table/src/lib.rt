@@ -24,7 +24,7 @@ pub use cards::first_named;
 pub use choice::record_of;
 pub use column::Column;
 pub use neighbours::{filled_law, is_filled, row_in, row_in_law};
-pub use reading::{find_record, logs_law, read_record, read_row, row_reads_law};
+pub use reading::{find_record, read_record, read_row, row_reads_law};
 pub use record::{Record, Tile, TileColumn};
 pub use row::Row;
 pub use rows::{descriptor, descriptor_law, range, write_row};

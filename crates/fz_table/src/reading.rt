@@ -1,11 +1,12 @@
 //! The reading of rows and records.
 ghost use Rattle.std.specs.Prelude.{ℕ, ◌≡◌, ◌+◌, ◌*◌, ◌≤◌, ◌<◌, ◌^◌, length as len, take, drop, Some, IfOk, IfSome, IfNone, OnOk, OnErr};
 ghost use Rattle.fz_base.specs.Stop.{ReadsOnly, IsDefined, IsRefused, IfAnswered, IfRefused};
+ghost use Rattle.fz_base.specs.Ranges.{Logs};
 ghost use Rattle.fz_base.specs.Source.{logged, MayLog};
 ghost use Rattle.fz_table.specs.Rows.{descriptor_len, descriptor_in, row_at, described_at, descriptor_at, descriptor_start, IsTable, IsRowOf, StandsInRow};
 ghost use Rattle.fz_table.specs.Records.{record_at, record_of, record_bytes, StandsInHeap, IsOfRow};
 ghost use Rattle.fz_table.specs.declared.row.Row.{Row as RowSays};
-ghost use Rattle.fz_table.specs.Reads.{descriptor_ranges, follows, two_reads, row_reads, Logs, RowReadsLaw, LogsSomeLaw, LogsAllLaw, LogsWithinLaw, LogsJoinLaw};
+ghost use Rattle.fz_table.specs.Reads.{descriptor_ranges, follows, two_reads, row_reads, RowReadsLaw};
 
 use crate::choice::record_of;
 use crate::rows::{NOTHING, WIDE_LEN, descriptor, descriptor_in, descriptor_len, row_start};
@@ -222,13 +223,4 @@ pub fn read_record<S: Source>(source: &mut S, chosen: &Record, into: &mut [u8]) 
 /// What is read of a row are bytes of the descriptors of its named columns.
 pub fn row_reads_law()
     ensures { RowReadsLaw }
-{}
-
-/// Where the bytes of reads lie in some ranges, only bytes of these ranges were read; what is read one
-/// after another in some ranges is read in them.
-pub fn logs_law()
-    ensures some { LogsSomeLaw }
-    ensures all { LogsAllLaw }
-    ensures within { LogsWithinLaw }
-    ensures join { LogsJoinLaw }
 {}

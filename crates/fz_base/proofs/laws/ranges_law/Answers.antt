@@ -1,5 +1,5 @@
-use Rattle.fz_table.proofs.Logs.{some_lie, all_lie, within_lie, join}
-use Rattle.fz_table.proofs.reading.logs_law.Goals as goal
+use Rattle.fz_base.proofs.Ranges.{some_lie, all_lie, within_lie, join}
+use Rattle.fz_base.proofs.laws.ranges_law.Goals as goal
 
 pub returns-clause-some : goal.returns-clause-some
 returns-clause-some c = some_lie
