@@ -2,6 +2,7 @@
 use Rattle.std.proofs.Common.{◌≡◌, ℕ, zero, suc, pos, ℤ, ◌+◌, ◌-◌, ◌*◌, ◌==◌, Bool, false, List, ◌++◌, get_or, Option, Some, None, Ok, Err, unwrap_or, refl, ap, sym, ◌∙◌, arith}
 use Rattle.std.specs.List.{flat_map, range_with_len}
 use Rattle.std.proofs.lemmas.List.{append_assoc}
+use Rattle.std.proofs.lemmas.List.FromFn.{length-map-range_with_len}
 use Rattle.fz_base.specs.Refusal.{first_refusal}
 use Rattle.fz_base.specs.declared.fault.Fault.{Fault}
 use Rattle.fz_card.specs.Reading.{integer_of}
@@ -11,7 +12,6 @@ use Rattle.fz_block.specs.Facts.{IsHeaderOf, nine_axes}
 use Rattle.fz_block.specs.Header.{data_start_of}
 use Rattle.fz_block.specs.Checks.{unless_refused}
 use Rattle.fz_block.specs.declared.header.Header.{Header}
-use Rattle.fz_block.proofs.AxisLists.{axes_count}
 use Rattle.fz_block.proofs.Refusals.{passed, stopped}
 use Rattle.fz_table.specs.Columns.{field_count, columns_len, column_called}
 use Rattle.fz_table.specs.Tables.{array_checks, field_checks, form_checks, width_checks, heap_checks, column_checks, table_checks, table_in, table_of, row_len_of, row_count_of, rows_len_of, heap_start_of, bad_table, coded_name, stored_name, gzip_name}
@@ -107,7 +107,7 @@ second_len header two = rw two refl
 
 pub data_rows : (header : List ℕ) (h : Header) → IsHeaderOf header h → h.bitpix ≡ pos 8 → h.axes.n ≡ 2 → h.gcount ≡ 1 → h.data_len ≡ rows_len_of h + h.pcount
 data_rows header h is bits axes one =
-    let two : size_at header 2 ≡ 2 = sym (axes_count header) ∙ (sym (ap (λ (k : Header). k.axes.n) is.facts) ∙ axes) in
+    let two : size_at header 2 ≡ 2 = sym (length-map-range_with_len (size_at header) 3 (size_at header 2)) ∙ (sym (ap (λ (k : Header). k.axes.n) is.facts) ∙ axes) in
     let eight : size_at header 1 ≡ 8 = said (integer_of (card_at header 1)) (sym (ap (λ (k : Header). k.bitpix) is.facts) ∙ bits) in
     let once : gcount_of h.hdu header ≡ 1 = sym (ap (λ (k : Header). k.gcount) is.facts) ∙ one in
     let first : get_or h.axes.len 0 0 ≡ size_at header 3 = ap (λ (k : Header). get_or k.axes.len 0 0) is.facts ∙ first_len header two in

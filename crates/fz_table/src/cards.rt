@@ -8,7 +8,7 @@ ghost use Rattle.fz_table.specs.Tables.{bad_table};
 
 use crate::form::{Form, form_in};
 use fz_base::{Fault, Kind, Place};
-use fz_block::{Header, card};
+use fz_block::{Header, card, first_card_law};
 use fz_card::{CARD_LEN, FIELD_LEN, NAME_LEN, Name, numbered};
 
 /// The index of the first card before END with this name.
@@ -21,12 +21,12 @@ pub fn first_named(buf: &[u8], header: &Header, name: &Name) -> Option<u32>
 }
 
 // The index of the first of so many cards with this name.
-#[tactic(auto, using(fz_block::proofs::Firsts::firsts))]
 fn first_among(buf: &[u8], cards: u32, name: &Name) -> Option<u32>
     requires { 80 * cards ≤ len buf.now }
     ensures first { result ≡ first_among (λ card. bytes_eq (card_name card) name.now.bytes) cards buf.now }
     ensures within { IfSome result (λ i. i < cards) }
 {
+    first_card_law();
     for i in 0..cards {
         if has_name(buf, i, name) {
             return Some(i);
