@@ -5,3 +5,5 @@ pub mod Missing
 pub mod Outcomes
 pub mod Places
 pub mod Walking
+pub mod WorkBounds
+pub mod WorkTakings

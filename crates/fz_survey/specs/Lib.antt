@@ -2,3 +2,5 @@ pub mod Judges
 pub mod Looks
 pub mod Reads
 pub mod Surveys
+pub mod Takes
+pub mod Workspace

@@ -1,9 +1,12 @@
 //! Small files, with the values of the rules.
-use crate::{Survey, survey_to_cut, survey_to_pack, survey_to_unpack};
-use fz_base::{Fault, Kind, MemSource, Meter, Place, Source, Stop};
+use crate::{
+    Survey, Wants, Workspace, survey_to_cut, survey_to_pack, survey_to_unpack, workspace_law,
+};
+use fz_base::{Fault, Kind, MemSource, Meter, Place, Short, Source, Stop};
 use fz_block::BLOCK_LEN;
 use fz_grid::Region;
 use fz_head::{CodecWord, PackOptions};
+use fz_pool::Window;
 use std::alloc::Global;
 use std::test::Fail;
 
@@ -181,5 +184,89 @@ fn a_look_at_a_packed_image(rt: HostRuntime) -> Result<(), Fail> {
     let length = source.attach("any").map_err(Stop::reading)?;
     let missing = survey_to_cut(&mut source, length, &mut meter, &mut block, None, &region);
     assert_eq!(rt; missing, refused(1, Place::Byte(2880), Kind::NotPacked));
+    Ok(())
+}
+
+/// What a job that packs wants for headers of one block and tiles of 4 pixels.
+const TO_PACK: Wants = Wants {
+    header_len: 2880,
+    translates: true,
+    tile: Some(4),
+};
+
+/// What one that writes nothing wants for them.
+const TO_VERIFY: Wants = Wants {
+    header_len: 2880,
+    translates: false,
+    tile: Some(4),
+};
+
+/// What one that looks at headers alone wants.
+const TO_LIST: Wants = Wants {
+    header_len: 2880,
+    translates: false,
+    tile: None,
+};
+
+/// What is live and asked at each taking of the job that packs, with one worker.
+const TAKINGS: [(u64, u64); 7] = [
+    (0, 2880),
+    (2880, 5760),
+    (8640, 32),
+    (8672, 96),
+    (8768, 32),
+    (8800, 96),
+    (8896, 65_536),
+];
+
+/// The lengths of the buffers that a taking gives under a limit, and then what is live and the peak, when all
+/// is handed back.
+fn take_and_give_back(
+    alloc: Global,
+    limit: u64,
+    wants: &Wants,
+) -> Result<(Result<[u64; 3], Short>, u64, u64), Short> {
+    let mut window = Window::new(alloc, 1).map_err(|_| Short::NoMemory)?;
+    let mut meter = Meter::new(alloc, limit);
+    workspace_law();
+    let answer = match Workspace::take(&mut meter, &mut window, wants) {
+        Ok(space) => {
+            let lengths = [space.header.len(), space.translated.len(), space.copy.len()];
+            space.give_back(&mut meter, &mut window);
+            Ok(lengths)
+        }
+        Err(short) => Err(short),
+    };
+    Ok((answer, meter.live(), meter.peak()))
+}
+
+#[test]
+fn buffers_of_a_job(rt: HostRuntime) -> Result<(), Fail> {
+    let alloc = rt.alloc();
+    let cases = [
+        (TO_PACK, [2880, 5760, 65_536], 74_432),
+        (TO_VERIFY, [2880, 0, 65_536], 68_672),
+        (TO_LIST, [2880, 0, 0], 2880),
+    ];
+    for (wants, lengths, all) in cases {
+        assert_eq!(rt;
+            take_and_give_back(alloc, all, &wants),
+            Ok((Ok(lengths), 0, all))
+        );
+    }
+    Ok(())
+}
+
+#[test]
+fn each_taking_at_the_limit(rt: HostRuntime) -> Result<(), Fail> {
+    let alloc = rt.alloc();
+    for (live, asked) in TAKINGS {
+        let limit = live + asked - 1;
+        let over = Short::OverLimit { live, asked, limit };
+        assert_eq!(rt;
+            take_and_give_back(alloc, limit, &TO_PACK),
+            Ok((Err(over), 0, live))
+        );
+    }
     Ok(())
 }
