@@ -1,7 +1,11 @@
 pub mod BufferLemmas
+pub mod CutFileLemmas
 pub mod ExtensionFileLemmas
+pub mod FaultFileLemmas
 pub mod LongFileLemmas
 pub mod PlainFileLemmas
 pub mod RiceFileLemmas
+pub mod StandingLemmas
 pub mod SumFileLemmas
 pub mod WorkedCards
+pub mod WorkedWalks

@@ -1,7 +1,9 @@
 pub mod Buffers
+pub mod CutFile
 pub mod Cutout
 pub mod Drill
 pub mod ExtensionFile
+pub mod FaultFile
 pub mod FirstFault
 pub mod HandMade
 pub mod Lines

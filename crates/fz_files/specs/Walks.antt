@@ -84,12 +84,12 @@ abbrev pub header_fault : Job → List ℕ → Option Fault
 header_fault job file = fault_of_walk job file (job_walk job file)
 
 -- the headers that a job looks at in a file whose headers have no fault
+abbrev pub found_headers : Result (List Header) Fault → List Header
+found_headers (Ok hs) = hs
+found_headers (Err fault) = []
+
 abbrev pub headers_for : Job → List ℕ → List Header
 headers_for job file = found_headers (job_walk job file)
-  where
-    found_headers : Result (List Header) Fault → List Header
-    found_headers (Ok hs) = hs
-    found_headers (Err fault) = []
 
 -- an HDU that the checks of every job come to: its number, and the byte at which it begins
 pub record Reached : Type 0 where

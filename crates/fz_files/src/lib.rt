@@ -7,4 +7,7 @@ mod worked;
 
 pub use job::Job;
 pub use law::buffers_law;
-pub use worked::{extension_file_law, long_file_law, plain_file_law, rice_file_law, sum_file_law};
+pub use worked::{
+    cut_file_law, extension_file_law, fault_file_law, long_file_law, plain_file_law, rice_file_law,
+    sum_file_law,
+};

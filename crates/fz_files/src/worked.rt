@@ -1,11 +1,17 @@
 //! Files that were packed by hand, as the definitions have them: no code runs.
-ghost use Rattle.std.specs.Prelude.{◌≡◌, ◌++◌, true};
+ghost use Rattle.std.specs.Prelude.{◌≡◌, ◌++◌, None, true};
 ghost use Rattle.fz_block.specs.Facts.{facts_of};
 ghost use Rattle.fz_head.specs.Planned.{pack_plan_of};
+ghost use Rattle.fz_files.specs.declared.job.Job.TheVariants.{Pack, Unpack};
+ghost use Rattle.fz_files.specs.CutFile.{table_facts, box_sieve, box_numbers, box_ranges, step_sieve, step_numbers, ends_sieve, ends_ranges};
+ghost use Rattle.fz_files.specs.Cutout.{AreCutFrom, touched as touched_of};
 ghost use Rattle.fz_files.specs.ExtensionFile.{image_cards, row_pixels, image_hdu, extension_file, bare_options, image_plan, image_tiles, image_rows, image_table_cards, packed_extension};
+ghost use Rattle.fz_files.specs.FaultFile.{reserved_file, reserved_fault, trailing_file, trailing_fault};
+ghost use Rattle.fz_files.specs.FirstFault.{IsFirstFault};
 ghost use Rattle.fz_files.specs.LongFile.{line_cards, line_pixels, line_hdu, line_file, long_options, long_plan, long_tiles, long_rows, long_cards, long_file};
 ghost use Rattle.fz_files.specs.Packed.{IsPackedFile, array_of, heap_of, rows_from, sum_before, table_header, tile_codes, with_sums};
 ghost use Rattle.fz_files.specs.PlainFile.{grid_cards, grid_hdu, grid_file, plain_options, plain_plan, plain_tiles, plain_rows, plain_heap, plain_data, plain_cards, plain_file};
+ghost use Rattle.fz_files.specs.StandsFor.{StandsFor};
 ghost use Rattle.fz_files.specs.SumFile.{sum_options, sum_file_cards, blank_sum, sum_file};
 ghost use Rattle.fz_files.specs.RiceFile.{small_cards, small_hdu, small_file, rice_options, rice_plan, rice_tiles, rice_rows, rice_heap, rice_cards, rice_file};
 
@@ -21,7 +27,7 @@ pub fn rice_file_law()
 {}
 
 /// The same of an image of 5 by 3 pixels without a codec, whose tiles of 2 by 2 pixels are cut short at the upper
-/// ends of the axes: as `specs/PlainFile.antt` writes it out.
+/// ends of the axes: as `specs/PlainFile.antt` writes it out. It stands for the file of the image.
 pub fn plain_file_law()
     ensures plan { pack_plan_of plain_options (facts_of 0 0 grid_hdu.header) ≡ plain_plan }
     ensures tiles { tile_codes plain_plan (array_of plain_plan grid_hdu.payload) ≡ plain_tiles }
@@ -29,6 +35,7 @@ pub fn plain_file_law()
     ensures heap { heap_of plain_tiles ≡ plain_heap }
     ensures cards { table_header plain_plan grid_cards plain_tiles ≡ plain_cards }
     ensures file { IsPackedFile plain_options grid_file plain_file }
+    ensures restored { StandsFor plain_file grid_file }
 {}
 
 /// The file of [`plain_file_law`] with sums: DATASUM and CHECKSUM stand behind the cards of the image, as
@@ -60,4 +67,23 @@ pub fn extension_file_law()
     ensures heap { heap_of image_tiles ≡ row_pixels ++ row_pixels }
     ensures cards { table_header image_plan image_cards image_tiles ≡ image_table_cards }
     ensures file { IsPackedFile bare_options extension_file packed_extension }
+{}
+
+/// The first fault of the file of [`rice_file_law`] with ten bytes behind it, and of the same with a card whose name
+/// is reserved: `pack` refuses the card, which is of HDU 0, before the bytes, from which HDU 1 would begin; `unpack`
+/// does not look for reserved names.
+pub fn fault_file_law()
+    ensures own { IsFirstFault (Pack rice_options) reserved_file reserved_fault }
+    ensures every { IsFirstFault (Pack rice_options) trailing_file trailing_fault }
+    ensures unpack { IsFirstFault Unpack reserved_file trailing_fault }
+{}
+
+/// Parts of the image that the packed file of [`plain_file_law`] holds: the pixels of a box and those of a box with
+/// steps, and the ranges of the file that a cut reads for the box, and for a box with steps that leave a tile out, as
+/// `specs/CutFile.antt` writes them out.
+pub fn cut_file_law()
+    ensures pixels { AreCutFrom plain_file table_facts box_sieve box_numbers }
+    ensures steps { AreCutFrom plain_file table_facts step_sieve step_numbers }
+    ensures touched { touched_of None box_sieve plain_file ≡ box_ranges }
+    ensures gaps { touched_of None ends_sieve plain_file ≡ ends_ranges }
 {}

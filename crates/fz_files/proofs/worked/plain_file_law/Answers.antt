@@ -1,5 +1,6 @@
 -- The law, by computing.
 use Rattle.fz_files.proofs.PlainFileLemmas.{tiles_are, rows_are, heap_is, is_planned, cards_are, is_packed}
+use Rattle.fz_files.proofs.StandingLemmas.{stands_for}
 use Rattle.fz_files.proofs.worked.plain_file_law.Goals as goal
 
 pub returns-clause-plan : goal.returns-clause-plan
@@ -19,3 +20,6 @@ returns-clause-cards c = cards_are
 
 pub returns-clause-file : goal.returns-clause-file
 returns-clause-file c = is_packed
+
+pub returns-clause-restored : goal.returns-clause-restored
+returns-clause-restored c = stands_for
