@@ -2,8 +2,11 @@ pub mod BufferLemmas
 pub mod CutFileLemmas
 pub mod ExtensionFileLemmas
 pub mod FaultFileLemmas
+pub mod FaultLemmas
+pub mod ImageLemmas
 pub mod LongFileLemmas
 pub mod PlainFileLemmas
+pub mod RestoredLemmas
 pub mod RiceFileLemmas
 pub mod StandingLemmas
 pub mod SumFileLemmas

@@ -6,6 +6,7 @@ pub mod ExtensionFile
 pub mod FaultFile
 pub mod FirstFault
 pub mod HandMade
+pub mod Laws
 pub mod Lines
 pub mod LongFile
 pub mod Packed
