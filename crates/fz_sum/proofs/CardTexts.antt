@@ -7,9 +7,9 @@ use Rattle.std.specs.List.{list_all}
 use Rattle.std.proofs.lemmas.Bool.Decides.{nat_tests}
 use Rattle.std.proofs.lemmas.Fmt.{decimal_is_IsNumeral, decimal_nonempty, length-decimal-le}
 use Rattle.std.proofs.lemmas.Str.Parse.{digit_at}
+use Rattle.fz_card.specs.Laws.{MadeCardLaws}
 use Rattle.fz_card.specs.Made.{is_unquoted, IsCardText}
 use Rattle.fz_card.specs.Value.{IsTrimmed}
-use Rattle.fz_card.proofs.Texts.{is_unquoted-decimal}
 use Rattle.fz_sum.specs.Characters.{byte_characters, characters}
 use Rattle.fz_sum.proofs.ByteCharacters.{and-true, fine}
 
@@ -93,12 +93,12 @@ digit-mark : (x : ℕ) → IsInRange 48 57 x → x ≢ 32
 digit-mark x range = grind arith
 
 -- a card can hold the digits of a sum
-pub decimal-card_text : (sum : ℕ) → sum < 2 ^ 32 → IsCardText (decimal sum)
-decimal-card_text sum small =
+pub decimal-card_text : MadeCardLaws → (sum : ℕ) → sum < 2 ^ 32 → IsCardText (decimal sum)
+decimal-card_text made sum small =
     let some = decimal_nonempty sum (omega arith) in
     let short = length-decimal-le 10 sum (omega arith) (omega arith) (omega arith) in
     record {
       fits = omega (arith, short);
-      unquoted = is_unquoted-decimal sum (omega arith);
+      unquoted = made.number_unquoted sum (omega arith);
       trimmed = digit-mark _ (digit_at (decimal sum) (length (decimal sum) - 1) (decimal_is_IsNumeral sum (omega arith)).0.1 (omega (arith, some)));
     }

@@ -1,6 +1,6 @@
 -- The number that a text gives: the function gives it exactly where the text does.
 use Rattle.std.proofs.Common.{◌≡◌, ℕ, ◌^◌, ◌<◌, ◌≢◌, Bool, true, false, cond, eqb, ltb, List, [], ◌∷◌, length, take, get_or, sym, refl, ap, ◌∙◌, subst, arith}
-use Rattle.std.specs.Prelude.{◌&&◌, ◌↔◌, Option, Some, None, IfSome, IfNone}
+use Rattle.std.specs.Prelude.{◌&&◌, Option, Some, None, IfSome, IfNone}
 use Rattle.std.specs.Char.{is_ascii_digit}
 use Rattle.std.specs.List.{list_all}
 use Rattle.std.specs.Option.{option_and_then, option_map}
@@ -8,11 +8,10 @@ use Rattle.std.specs.Str.{all_ascii_digits}
 use Rattle.std.specs.Str.Parse.{IsNumeral, digits_value, without_leading_plus}
 use Rattle.std.proofs.lemmas.Bool.Decides.{nat_tests}
 use Rattle.std.proofs.lemmas.Str.Parse.{without_leading_plus_none}
+use Rattle.fz_card.specs.Laws.{BlankLaws, CardLaws}
 use Rattle.fz_card.specs.Plain.{skip_blanks, ReadsNumeral}
 use Rattle.fz_card.specs.Reading.{text_of}
-use Rattle.fz_card.specs.Value.{TextValue}
 use Rattle.fz_card.proofs.Readings.{some-if, and-true, lt-true, digits}
-use Rattle.fz_card.proofs.Splits.{skip_blanks-after, skip_blanks-blanks}
 use Rattle.fz_sum.specs.Texts.{GivesSum, CardGivesSum, sum_of_digits, sum_of_text, sum_of_card}
 
 pub all-digits : (text : List ℕ) → list_all is_ascii_digit text ≡ all_ascii_digits text
@@ -100,18 +99,18 @@ unblank (b ∷ bs) e = by_test (eqb b 32) (other b (and-true (is_ascii_digit b) 
     by_test : (test : Bool) → test ≡ false → cond test (skip_blanks bs) (b ∷ bs) ≡ b ∷ bs
     by_test test f = rw f refl
 
-pub text-gives : (text : List ℕ) (sum : ℕ) → sum_of_text text ≡ Some sum → GivesSum text sum
+pub text-gives : BlankLaws → (text : List ℕ) (sum : ℕ) → sum_of_text text ≡ Some sum → GivesSum text sum
 unfolding sum_of_text
-text-gives text sum e =
-    let after = skip_blanks-after text in
+text-gives blanks text sum e =
+    let after = blanks.skipped text in
     let is = digits-sum (skip_blanks text) sum e in
     record { before = after.count; digits = skip_blanks text; parts = after.parts; numeral = is.numeral; value = is.value; fits = is.fits }
 
-pub gives-text : (text : List ℕ) (sum : ℕ) → GivesSum text sum → sum_of_text text ≡ Some sum
+pub gives-text : BlankLaws → (text : List ℕ) (sum : ℕ) → GivesSum text sum → sum_of_text text ≡ Some sum
 unfolding sum_of_text
-gives-text text sum gives =
+gives-text blanks text sum gives =
     let skipped : skip_blanks text ≡ gives.digits =
-    ap skip_blanks gives.parts ∙ (skip_blanks-blanks gives.before gives.digits ∙ unblank gives.digits (digits.from gives.digits gives.numeral.1)) in
+    ap skip_blanks gives.parts ∙ (blanks.behind_blanks gives.before gives.digits ∙ unblank gives.digits (digits.from gives.digits gives.numeral.1)) in
     ap sum_of_digits skipped ∙ sum-digits gives.digits sum (record { numeral = gives.numeral; value = gives.value; fits = gives.fits })
 
 -- the same of a card
@@ -119,37 +118,33 @@ and-then-some : (read : Option (List ℕ)) (sum : ℕ) → option_and_then sum_o
 and-then-some None sum e = cc
 and-then-some (Some text) sum e = (text, refl, e)
 
--- the text of a card as a function, which is a law of the cards
-abbrev pub TextOfLaw : Type 0
-TextOfLaw = (card a : List ℕ) → TextValue card a ↔ (text_of card ≡ Some a)
-
-pub card-gives : TextOfLaw → (card : List ℕ) (sum : ℕ) → sum_of_card card ≡ Some sum → CardGivesSum card sum
+pub card-gives : CardLaws → (card : List ℕ) (sum : ℕ) → sum_of_card card ≡ Some sum → CardGivesSum card sum
 unfolding sum_of_card
-card-gives texts card sum e =
+card-gives laws card sum e =
     let found = and-then-some (text_of card) sum e in
-    record { text = found.0; has = (texts card found.0).1 found.1; gives = text-gives found.0 sum found.2 }
+    record { text = found.0; has = (laws.values.text card found.0).1 found.1; gives = text-gives laws.blanks found.0 sum found.2 }
 
-pub gives-card : TextOfLaw → (card : List ℕ) (sum : ℕ) → CardGivesSum card sum → sum_of_card card ≡ Some sum
+pub gives-card : CardLaws → (card : List ℕ) (sum : ℕ) → CardGivesSum card sum → sum_of_card card ≡ Some sum
 unfolding sum_of_card
-gives-card texts card sum gives =
-    ap (option_and_then sum_of_text) ((texts card gives.text).0 gives.has) ∙ gives-text gives.text sum gives.gives
+gives-card laws card sum gives =
+    ap (option_and_then sum_of_text) ((laws.values.text card gives.text).0 gives.has) ∙ gives-text laws.blanks gives.text sum gives.gives
 
 -- what a function answers whose result is known
-pub text-value : (text : List ℕ) (read : Option ℕ) → read ≡ sum_of_text text → IfSome read (GivesSum text)
-text-value text None e = tt
-text-value text (Some sum) e = text-gives text sum (sym e)
+pub text-value : BlankLaws → (text : List ℕ) (read : Option ℕ) → read ≡ sum_of_text text → IfSome read (GivesSum text)
+text-value blanks text None e = tt
+text-value blanks text (Some sum) e = text-gives blanks text sum (sym e)
 
-pub text-none : (text : List ℕ) (read : Option ℕ) → read ≡ sum_of_text text → IfNone read ((sum : ℕ) → ¬ (GivesSum text sum))
-text-none text None e = λ sum gives. let f = gives-text text sum gives in cc
-text-none text (Some sum) e = tt
+pub text-none : BlankLaws → (text : List ℕ) (read : Option ℕ) → read ≡ sum_of_text text → IfNone read ((sum : ℕ) → ¬ (GivesSum text sum))
+text-none blanks text None e = λ sum gives. let f = gives-text blanks text sum gives in cc
+text-none blanks text (Some sum) e = tt
 
-pub card-value : TextOfLaw → (card : List ℕ) (read : Option ℕ) → read ≡ sum_of_card card → IfSome read (CardGivesSum card)
-card-value texts card None e = tt
-card-value texts card (Some sum) e = card-gives texts card sum (sym e)
+pub card-value : CardLaws → (card : List ℕ) (read : Option ℕ) → read ≡ sum_of_card card → IfSome read (CardGivesSum card)
+card-value laws card None e = tt
+card-value laws card (Some sum) e = card-gives laws card sum (sym e)
 
-pub card-none : TextOfLaw → (card : List ℕ) (read : Option ℕ) → read ≡ sum_of_card card → IfNone read ((sum : ℕ) → ¬ (CardGivesSum card sum))
-card-none texts card None e = λ sum gives. let f = gives-card texts card sum gives in cc
-card-none texts card (Some sum) e = tt
+pub card-none : CardLaws → (card : List ℕ) (read : Option ℕ) → read ≡ sum_of_card card → IfNone read ((sum : ℕ) → ¬ (CardGivesSum card sum))
+card-none laws card None e = λ sum gives. let f = gives-card laws card sum gives in cc
+card-none laws card (Some sum) e = tt
 
 -- a card without a text, and one whose text was read into a buffer
 pub card-untold : (card buffer : List ℕ) (len read : Option ℕ) → option_map (λ (n : ℕ). take n buffer) len ≡ text_of card → len ≡ None → read ≡ None → read ≡ sum_of_card card

@@ -6,6 +6,7 @@ use Rattle.std.specs.Option.{option_and_then, option_copied, option_map}
 use Rattle.std.proofs.lemmas.Bool.Decides.{nat_tests}
 use Rattle.std.proofs.lemmas.List.{length-append}
 use Rattle.fz_card.specs.declared.card.Card.{Card}
+use Rattle.fz_card.specs.Laws.{CardLaws}
 use Rattle.fz_card.specs.Layout.{blanks}
 use Rattle.fz_card.specs.Reading.{text_of}
 use Rattle.fz_card.specs.CardLists.{IsFirstOfName, first_of_name}
@@ -15,7 +16,7 @@ use Rattle.fz_sum.specs.Sums.{ones_sum}
 use Rattle.fz_sum.specs.Cards.{datasum_name, checksum_name}
 use Rattle.fz_sum.specs.Texts.{GivesSum, CardGivesSum, sum_of_card}
 use Rattle.fz_sum.specs.Verdicts.{HasSumText, IsDatasumVerdict, IsChecksumVerdict, is_some_text, is_sum, verdict_of, datasum_verdict, checksum_verdict}
-use Rattle.fz_sum.proofs.SumTexts.{TextOfLaw, card-gives, gives-card}
+use Rattle.fz_sum.proofs.SumTexts.{card-gives, gives-card}
 use Rattle.fz_sum.proofs.VerdictLemmas.{told-is, told-not}
 
 -- the bytes of a card that was found, and is looked at
@@ -54,7 +55,7 @@ eqb-same a b h = grind (arith, nat_tests)
 eqb-other : (a b : ℕ) → eqb a b ≡ false → a ≢ b
 eqb-other a b h g = grind (arith, nat_tests)
 
-module _ (texts : TextOfLaw) (firsts : (name card : List ℕ) (cards : List (List ℕ)) → (first_of_name name cards ≡ Some card) ↔ IsFirstOfName name cards card) where
+module _ (laws : CardLaws) (firsts : (name card : List ℕ) (cards : List (List ℕ)) → (first_of_name name cards ≡ Some card) ↔ IsFirstOfName name cards card) where
   one-first : (name a b : List ℕ) (cards : List (List ℕ)) → IsFirstOfName name cards a → IsFirstOfName name cards b → a ≡ b
   one-first name a b cards first second =
       let e = (firsts name a cards).1 first in
@@ -68,9 +69,9 @@ module _ (texts : TextOfLaw) (firsts : (name card : List ℕ) (cards : List (Lis
       by_tests : (card : List ℕ) (told right : Bool) → first_of_name datasum_name cards ≡ Some card → is_some_text (text_of card) ≡ told → is_sum (sum_of_card card) (ones_sum payload) ≡ right → IsDatasumVerdict cards payload (cond told (cond right Right Wrong) Absent)
       by_tests card false right e t r = λ other first has.
           let same : other ≡ card = one-first datasum_name other card cards first ((firsts datasum_name card cards).0 e) in
-          told-not texts card (text_of card) refl t (subst HasSumText same has)
-      by_tests card true true e t r = (card, (firsts datasum_name card cards).0 e, card-gives texts card (ones_sum payload) (is-sum (sum_of_card card) (ones_sum payload) r))
-      by_tests card true false e t r = (card, (firsts datasum_name card cards).0 e, told-is texts card (text_of card) refl t, λ gives. no-sum (sum_of_card card) (ones_sum payload) r (gives-card texts card (ones_sum payload) gives))
+          told-not laws.values.text card (text_of card) refl t (subst HasSumText same has)
+      by_tests card true true e t r = (card, (firsts datasum_name card cards).0 e, card-gives laws card (ones_sum payload) (is-sum (sum_of_card card) (ones_sum payload) r))
+      by_tests card true false e t r = (card, (firsts datasum_name card cards).0 e, told-is laws.values.text card (text_of card) refl t, λ gives. no-sum (sum_of_card card) (ones_sum payload) r (gives-card laws card (ones_sum payload) gives))
 
       by_card : (card : Option (List ℕ)) → first_of_name datasum_name cards ≡ card → IsDatasumVerdict cards payload (cond (is_some_text (option_and_then text_of card)) (cond (is_sum (option_and_then sum_of_card card) (ones_sum payload)) Right Wrong) Absent)
       by_card None e = λ card first. let f = (firsts datasum_name card cards).1 first in absurd (let g : None ≡ Some card = sym e ∙ f in cc)
@@ -98,9 +99,9 @@ module _ (texts : TextOfLaw) (firsts : (name card : List ℕ) (cards : List (Lis
       by_tests : (card : List ℕ) (told right : Bool) → first_of_name checksum_name cards ≡ Some card → is_some_text (text_of card) ≡ told → eqb (ones_sum (header ++ payload)) 4294967295 ≡ right → IsChecksumVerdict cards header payload (cond told (cond right Right Wrong) Absent)
       by_tests card false right e t r = λ other first has.
           let same : other ≡ card = one-first checksum_name other card cards first ((firsts checksum_name card cards).0 e) in
-          told-not texts card (text_of card) refl t (subst HasSumText same has)
-      by_tests card true true e t r = (card, (firsts checksum_name card cards).0 e, told-is texts card (text_of card) refl t, eqb-same (ones_sum (header ++ payload)) 4294967295 r)
-      by_tests card true false e t r = (card, (firsts checksum_name card cards).0 e, told-is texts card (text_of card) refl t, eqb-other (ones_sum (header ++ payload)) 4294967295 r)
+          told-not laws.values.text card (text_of card) refl t (subst HasSumText same has)
+      by_tests card true true e t r = (card, (firsts checksum_name card cards).0 e, told-is laws.values.text card (text_of card) refl t, eqb-same (ones_sum (header ++ payload)) 4294967295 r)
+      by_tests card true false e t r = (card, (firsts checksum_name card cards).0 e, told-is laws.values.text card (text_of card) refl t, eqb-other (ones_sum (header ++ payload)) 4294967295 r)
 
       by_card : (card : Option (List ℕ)) → first_of_name checksum_name cards ≡ card → IsChecksumVerdict cards header payload (cond (is_some_text (option_and_then text_of card)) (cond (eqb (ones_sum (header ++ payload)) 4294967295) Right Wrong) Absent)
       by_card None e = λ card first. let f = (firsts checksum_name card cards).1 first in absurd (let g : None ≡ Some card = sym e ∙ f in cc)

@@ -2,11 +2,11 @@
 use Rattle.std.proofs.Common.{◌≡◌, ℕ, ◌<◌, ◌≢◌, Bool, true, false, cond, ltb, List, [], ◌∷◌, length, sym, refl, ◌∙◌, subst, arith}
 use Rattle.std.specs.Prelude.{Option, Some, None}
 use Rattle.std.proofs.lemmas.Bool.Decides.{nat_tests}
+use Rattle.fz_card.specs.Laws.{TextOfLaw}
 use Rattle.fz_card.specs.Reading.{text_of}
 use Rattle.fz_sum.specs.declared.verdicts.Verdict.{Verdict}
 use Rattle.fz_sum.specs.declared.verdicts.Verdict.TheVariants.{Absent, Right, Wrong}
 use Rattle.fz_sum.specs.Verdicts.{HasSumText, TellsSum, IsVerdict, is_some_text, verdict_of}
-use Rattle.fz_sum.proofs.SumTexts.{TextOfLaw}
 
 some-test : (text : List ℕ) → ltb 0 (length text) ≡ true → text ≢ []
 some-test [] e = λ none. cc

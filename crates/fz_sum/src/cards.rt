@@ -3,13 +3,14 @@ ghost use Rattle.std.specs.Prelude.{◌≡◌};
 ghost use Rattle.fz_sum.specs.Cards.{datasum_card, checksum_card, blank_checksum_card};
 
 use crate::encoding::characters;
-use fz_card::{Card, Name, text_card};
+use fz_card::{Card, Name, made_cards_law, text_card};
 use itoa::Buffer;
 
 /// The card DATASUM with the digits of this sum (FITS 4.0, section 4.4.2.7).
 pub fn datasum_card(sum: u32) -> Card
     ensures { result.bytes ≡ datasum_card sum }
 {
+    made_cards_law();
     let mut buffer = Buffer::new();
     text_card(Name::DATASUM, buffer.format(sum).as_bytes())
 }

@@ -11,7 +11,7 @@ ghost use Rattle.fz_sum.specs.declared.verdicts.Verdict.{Verdict};
 
 use crate::text::sum_of_card;
 use crate::verdicts::Verdict;
-use fz_card::{Card, FIELD_LEN, Name, first_of_name, first_of_name_law, text_law};
+use fz_card::{Card, FIELD_LEN, Name, card_laws, first_of_name, first_of_name_law, text_law};
 
 /// The sum of an HDU whose CHECKSUM is right: all ones.
 const ALL_ONES: u32 = 4_294_967_295;
@@ -105,5 +105,5 @@ pub fn verdicts_law()
     ensures checksum { (cards : List (List ℕ)) (header payload : List ℕ) (v : Verdict) → IsChecksumVerdict cards header payload v ↔ (checksum_verdict_of cards header payload ≡ v) }
 {
     first_of_name_law();
-    text_law();
+    card_laws();
 }

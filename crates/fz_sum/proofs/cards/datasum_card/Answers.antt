@@ -6,7 +6,7 @@ use Rattle.fz_sum.proofs.cards.datasum_card.Goals as goal
 
 pub text_card-requires : goal.text_card-requires
 text_card-requires c =
-    subst IsCardText (sym (c.as_bytes.ensures.value ∙ c.format.ensures.text)) (decimal-card_text c.args.sum (omega arith))
+    subst IsCardText (sym (c.as_bytes.ensures.value ∙ c.format.ensures.text)) (decimal-card_text c.made_cards_law.ensures c.args.sum (omega arith))
 
 pub returns : goal.returns
 unfolding datasum_card

@@ -8,7 +8,7 @@ unfolding sum_of_text
 returns-clause-function c = c.sum_of_digits.ensures ∙ ap sum_of_digits c.without_first_blanks.ensures
 
 pub returns-clause-value : goal.returns-clause-value
-returns-clause-value c = text-value c.args.text.now _ (returns-clause-function c)
+returns-clause-value c = text-value c.blanks_law.ensures c.args.text.now _ (returns-clause-function c)
 
 pub returns-clause-none : goal.returns-clause-none
-returns-clause-none c = text-none c.args.text.now _ (returns-clause-function c)
+returns-clause-none c = text-none c.blanks_law.ensures c.args.text.now _ (returns-clause-function c)
