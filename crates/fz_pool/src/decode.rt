@@ -1,8 +1,8 @@
 //! The tiles of a window from bytes.
-ghost use Rattle.std.specs.Prelude.{◌≡◌, ℕ, ◌*◌, ◌<◌, ◌≤◌, length, Ok, None, IfOk, IfSome, IfNone, OnOk, OnErr, slice_index_or};
+ghost use Rattle.std.specs.Prelude.{◌≡◌, ℕ, ◌*◌, ◌<◌, ◌≤◌, length, Ok, None, IfOk, IfSome, IfNone, OnOk, slice_index_or};
 ghost use Rattle.fz_pool.specs.declared.slot.Slot.{Slot};
-ghost use Rattle.fz_pool.specs.Window.{IsFilled, slot_sizes};
-ghost use Rattle.fz_pool.specs.Calls.{AreForDecoding, AreDecoded, AreSameFrom, HaveNumbers, IsLowestFault};
+ghost use Rattle.fz_pool.specs.Window.{IsFilled};
+ghost use Rattle.fz_pool.specs.Calls.{AreForDecoding, AreDecoded, HaveNumbers, KeepsWindow, IsLowestFault};
 
 use crate::round::code_slots;
 use crate::{Slot, Window};
@@ -44,11 +44,7 @@ pub fn decode_window<R: Threads + Sync, G: Gate>(
     ensures numbers { IfOk result (λ o. IfNone o (HaveNumbers count window.old.slots window.new.slots)) }
     ensures fault { IfOk result (λ o. IfSome o (λ p. IsLowestFault count window.old.slots window.new.slots p.0 p.1)) }
     ensures decoded { OnOk result (AreDecoded count window.old.slots window.new.slots) }
-    ensures others { AreSameFrom count window.old.slots window.new.slots }
-    ensures sizes { slot_sizes window.new.slots ≡ slot_sizes window.old.slots }
-    ensures slots { length window.new.slots ≡ length window.old.slots }
-    ensures workers { window.new.workers ≡ window.old.workers }
-    ensures no_memory { OnErr result (window.new ≡ window.old) }
+    ensures kept { KeepsWindow result count window.old window.new }
     ensures none { count ≡ 0 → result ≡ Ok None }
 {
     let workers = window.workers();

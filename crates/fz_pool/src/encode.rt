@@ -1,7 +1,7 @@
 //! The tiles of a window to bytes.
-ghost use Rattle.std.specs.Prelude.{◌≡◌, ◌*◌, ◌≤◌, length, Ok, OnOk, OnErr};
-ghost use Rattle.fz_pool.specs.Window.{IsFilled, slot_sizes};
-ghost use Rattle.fz_pool.specs.Calls.{AreForEncoding, AreEncoded, AreSameFrom};
+ghost use Rattle.std.specs.Prelude.{◌≡◌, ◌*◌, ◌≤◌, Ok, OnOk};
+ghost use Rattle.fz_pool.specs.Window.{IsFilled};
+ghost use Rattle.fz_pool.specs.Calls.{AreForEncoding, AreEncoded, KeepsWindow};
 
 use crate::Window;
 use crate::round::code_slots;
@@ -24,11 +24,7 @@ pub fn encode_window<R: Threads + Sync, G: Gate>(
     requires count { count ≤ 2 * window.old.workers }
     requires ready { AreForEncoding count window.old.slots }
     ensures encoded { OnOk result (AreEncoded count window.old.slots window.new.slots) }
-    ensures others { AreSameFrom count window.old.slots window.new.slots }
-    ensures sizes { slot_sizes window.new.slots ≡ slot_sizes window.old.slots }
-    ensures slots { length window.new.slots ≡ length window.old.slots }
-    ensures workers { window.new.workers ≡ window.old.workers }
-    ensures no_memory { OnErr result (window.new ≡ window.old) }
+    ensures kept { KeepsWindow result count window.old window.new }
     ensures none { count ≡ 0 → result ≡ Ok tt }
 {
     let workers = window.workers();
