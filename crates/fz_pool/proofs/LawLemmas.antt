@@ -1,6 +1,7 @@
 -- What the laws for callers rest on.
-use Rattle.std.proofs.Common.{◌≡◌, ◌≢◌, ℕ, zero, suc, ◌+◌, ◌<◌, ◌≤◌, Bool, ℤ, pos, List, [], ◌∷◌, ◌++◌, map, length, take, get_or, set, Some, slice_get, inl, inr, ⊎_elim, refl, sym, ap, ◌∙◌, subst, arith}
+use Rattle.std.proofs.Common.{◌≡◌, ◌≢◌, ℕ, zero, suc, ◌+◌, ◌*◌, ◌<◌, ◌≤◌, eqb, cond, Bool, true, false, ℤ, pos, List, [], ◌∷◌, ◌++◌, map, length, take, get_or, set, Some, slice_get, inl, inr, ⊎_elim, refl, sym, ap, ◌∙◌, subst, arith}
 use Rattle.std.specs.Prelude.{unsigned_abs}
+use Rattle.std.specs.List.{flat_map}
 use Rattle.std.proofs.lemmas.List.{get_or-map, get_or-take, get_or-set_same, get_or-set_other, get_or_default, get_or_append_left, get_or_push, length-append, length-map, same_lists}
 use Rattle.std.proofs.lemmas.Option.{get_or_from_slice_get, slice_get_within}
 use Rattle.std.proofs.Math.Seq.{map-set_same}
@@ -8,13 +9,13 @@ use mathlib.Core.Logic.{dite}
 use native.Mathlib.Decide.{dec_le, ℕ_discrete}
 use Rattle.fz_tile.specs.declared.codec.Codec.{Codec}
 use Rattle.fz_tile.specs.declared.fault.TileFault.{TileFault}
-use Rattle.fz_tile.specs.Pixels.{IsBitpix, HoldPixels}
-use Rattle.fz_tile.specs.Codecs.{CanRead}
-use Rattle.fz_tile.specs.TileCode.{TileCode, tile_code, IsWritten}
-use Rattle.fz_tile.specs.Laws.{StandsUnrefused, IsRefusedOnce}
+use Rattle.fz_tile.specs.Pixels.{IsBitpix, HoldPixels, halves}
+use Rattle.fz_tile.specs.Codecs.{CanRead, CanWrite}
+use Rattle.fz_tile.specs.TileCode.{TileCode, tile_code, IsWritten, AreElements}
+use Rattle.fz_tile.specs.Laws.{StandsUnrefused, IsRefusedOnce, FillsColumn}
 use Rattle.fz_pool.specs.declared.slot.Job.{Job}
 use Rattle.fz_pool.specs.declared.slot.Slot.{Slot}
-use Rattle.fz_pool.specs.Slots.{bits_of_pixel, numbers_of, record_of, IsEncoded, IsReady, HasNumbers, HasFault}
+use Rattle.fz_pool.specs.Slots.{bits_of_pixel, places_of, numbers_of, record_of, IsForEncoding, IsEncoded, IsReady, HasNumbers, HasFault}
 use Rattle.fz_pool.specs.Window.{Pool, slot_size, with_slot, IsPut}
 use Rattle.fz_pool.specs.Calls.{AreReady, AreForDecoding, AreEncoded, HaveNumbers, IsLowestFault}
 use Rattle.fz_pool.specs.Round.{HoldsTile, HoldTiles, coded_tile, coded_tiles, IsTileOf, AreTilesOf}
@@ -46,6 +47,47 @@ coded_one codec bits x y pixels h e =
     let written : IsWritten (tile_code codec bits pixels) y.job.place y.job.len y.code = subst (λ (c : Codec). IsWritten (tile_code c bits pixels) y.job.place y.job.len y.code) h.codec_is
     (subst (λ (b : ℕ). IsWritten (tile_code x.job.codec b pixels) y.job.place y.job.len y.code) h.bits_are first) in
     same_code (coded_tile y) (tile_code codec bits pixels) written.place_is written.bytes_are
+
+-- a BITPIX that is one is the bits of its pixels
+abs_back : (b : ℤ) → IsBitpix b → pos (unsigned_abs b) ≡ b
+abs_back b is = ⊎_elim
+    (λ (e : b ≡ pos 8). subst (λ (z : ℤ). pos (unsigned_abs z) ≡ z) (sym e) refl)
+    (⊎_elim
+    (λ (e : b ≡ pos 16). subst (λ (z : ℤ). pos (unsigned_abs z) ≡ z) (sym e) refl)
+    (⊎_elim
+    (λ (e : b ≡ pos 32). subst (λ (z : ℤ). pos (unsigned_abs z) ≡ z) (sym e) refl)
+    (λ (e : b ≡ pos 64). subst (λ (z : ℤ). pos (unsigned_abs z) ≡ z) (sym e) refl)))
+    is
+
+-- two places for each pixel of 64 bits
+halves_len : (xs : List ℤ) → length (flat_map halves xs) ≡ 2 * length xs
+halves_len [] = refl
+halves_len (x ∷ xs) = let h = halves_len xs in omega arith
+
+count_back : (two : Bool) (xs : List ℤ) (n : ℕ) → length (cond two (flat_map halves xs) xs) ≡ cond two (2 * n) n → length xs ≡ n
+count_back true xs n e = let h = halves_len xs in omega arith
+count_back false xs n e = e
+
+-- the pixels in a slot's numbers are as many as its job says
+pixels_of : (x : Slot) (xs : List ℤ) → IsForEncoding x → HoldPixels (bits_of_pixel x.job) (numbers_of x) xs → length xs ≡ x.job.pixels
+pixels_of x xs ready h = count_back (eqb (bits_of_pixel x.job) 64) xs x.job.pixels (ap (λ (l : List ℤ). length l) (sym h.are) ∙ long_all (places_of x.job) x.numbers ready.places)
+
+module _ (fills : FillsColumn) where
+  pub length_told : (x y : Slot) → IsForEncoding x → IsEncoded x y
+      → (length (record_of y) ≡ y.job.len) × (y.job.len ≤ length y.code) × AreElements x.job.codec (bits_of_pixel x.job) x.job.pixels (coded_tile y)
+  length_told x y ready e =
+      let bits : ℕ = bits_of_pixel x.job in
+      let xs : List ℤ = ready.hold.0 in
+      let hold : HoldPixels bits (numbers_of x) xs = ready.hold.1 in
+      let written : IsWritten (tile_code x.job.codec bits xs) y.job.place y.job.len y.code = e.written xs hold in
+      let count : length xs ≡ x.job.pixels = pixels_of x xs ready hold in
+      let some = ready.pixels.0 in let most = ready.pixels.1 in
+      let can : CanWrite x.job.codec (pos bits) = subst (CanWrite x.job.codec) (sym (abs_back x.job.bitpix ready.codec.size)) ready.codec in (
+        long_all y.job.len y.code written.within,
+        written.within,
+        subst (λ (c : TileCode). AreElements x.job.codec bits x.job.pixels c) (sym (same_code (coded_tile y) (tile_code x.job.codec bits xs) written.place_is written.bytes_are))
+            (subst (λ (n : ℕ). AreElements x.job.codec bits n (tile_code x.job.codec bits xs)) count (fills x.job.codec bits xs can (omega arith) (omega arith))),
+      )
 
 -- some element, where there is one
 some_of : {A : Type 0} (l : List A) (k : ℕ) → k < length l → A
@@ -92,17 +134,6 @@ tiles_all (suc n) old new a b have =
     )
 
 -- ---- faults
-
--- a BITPIX that is one is the bits of its pixels
-abs_back : (b : ℤ) → IsBitpix b → pos (unsigned_abs b) ≡ b
-abs_back b is = ⊎_elim
-    (λ (e : b ≡ pos 8). subst (λ (z : ℤ). pos (unsigned_abs z) ≡ z) (sym e) refl)
-    (⊎_elim
-    (λ (e : b ≡ pos 16). subst (λ (z : ℤ). pos (unsigned_abs z) ≡ z) (sym e) refl)
-    (⊎_elim
-    (λ (e : b ≡ pos 32). subst (λ (z : ℤ). pos (unsigned_abs z) ≡ z) (sym e) refl)
-    (λ (e : b ≡ pos 64). subst (λ (z : ℤ). pos (unsigned_abs z) ≡ z) (sym e) refl)))
-    is
 
 can_read : (j : Job) → CanRead j.codec j.bitpix → CanRead j.codec (pos (bits_of_pixel j))
 can_read j can = subst (CanRead j.codec) (sym (abs_back j.bitpix can.size)) can

@@ -3,12 +3,12 @@ use Rattle.std.specs.Prelude.{◌≡◌, ℕ, ◌+◌, ◌*◌, ◌<◌, ◌≤�
 use Rattle.fz_tile.specs.declared.codec.Codec.{Codec}
 use Rattle.fz_tile.specs.declared.fault.TileFault.{TileFault}
 use Rattle.fz_tile.specs.Codecs.{CanRead}
-use Rattle.fz_tile.specs.TileCode.{tile_code}
+use Rattle.fz_tile.specs.TileCode.{tile_code, AreElements}
 use Rattle.fz_pool.specs.declared.slot.Slot.{Slot}
-use Rattle.fz_pool.specs.Slots.{record_of, IsReady, HasFault}
+use Rattle.fz_pool.specs.Slots.{bits_of_pixel, record_of, IsForEncoding, IsEncoded, IsReady, HasFault}
 use Rattle.fz_pool.specs.Window.{Pool, fresh_slot, fresh_bytes, slot_size, slot_sizes, asked_for, with_slot, IsPut}
 use Rattle.fz_pool.specs.Calls.{AreReady, AreForDecoding, AreEncoded, HaveNumbers, IsLowestFault}
-use Rattle.fz_pool.specs.Round.{HoldTiles, coded_tiles, AreTilesOf}
+use Rattle.fz_pool.specs.Round.{HoldTiles, coded_tile, coded_tiles, AreTilesOf}
 
 -- ---- lengths of buffers
 
@@ -48,6 +48,12 @@ ReadiesNext = (encode : Bool) (i : ℕ) (old new : Pool) (x : Slot) → AreReady
 abbrev pub EncodesTiles : Type 0
 EncodesTiles = (codec : Codec) (bits : ℕ) (tiles : List (List ℤ)) (old new : List Slot) → length tiles ≤ length new → HoldTiles codec bits old tiles
     → AreEncoded (length tiles) old new → coded_tiles (length tiles) new ≡ map (tile_code codec bits) tiles
+
+-- a slot that was encoded tells how many bytes its tile has: they are within its code, and some elements of their
+-- column, no more than the plain bytes
+abbrev pub TellsLength : Type 0
+TellsLength = (x y : Slot) → IsForEncoding x → IsEncoded x y
+    → (length (record_of y) ≡ y.job.len) × (y.job.len ≤ length y.code) × AreElements x.job.codec (bits_of_pixel x.job) x.job.pixels (coded_tile y)
 
 -- slots that were decoded without a fault have the pixels of the tiles for which their records stand, in order
 abbrev pub DecodesTiles : Type 0

@@ -1,7 +1,7 @@
 //! Laws for those who fill a window, have it coded and read it: no code runs.
-ghost use Rattle.fz_pool.specs.Laws.{AreFresh, AreAsMany, IsAlike, AsksForFresh, AsksAlike, PutsSlot, ReadiesNext, EncodesTiles, DecodesTiles, HasNoFault, IsOneLowest};
+ghost use Rattle.fz_pool.specs.Laws.{AreFresh, AreAsMany, IsAlike, AsksForFresh, AsksAlike, PutsSlot, ReadiesNext, EncodesTiles, TellsLength, DecodesTiles, HasNoFault, IsOneLowest};
 
-use fz_tile::one_fault_law;
+use fz_tile::{column_law, one_fault_law};
 
 /// The lengths of the buffers after `fill`, and what is asked for them, which no call over the window
 /// changes.
@@ -26,6 +26,14 @@ pub fn round_law()
     ensures encoded { EncodesTiles }
     ensures decoded { DecodesTiles }
 {}
+
+/// A slot that was encoded tells how many bytes its tile has: at least one, no more than the plain bytes, and whole
+/// elements of their column (FITS 4.0, sections 7.3.5 and 10.1.3). They are the first of its code.
+pub fn length_law()
+    ensures { TellsLength }
+{
+    column_law();
+}
 
 /// `decode_window` answers None only where no record is faulty, and there is one lowest fault at most.
 pub fn lowest_fault_law()

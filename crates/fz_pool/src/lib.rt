@@ -25,7 +25,7 @@ pub use board::{Board, Hand, Running, TableKey, Turn, View};
 pub use decode::decode_window;
 pub use encode::encode_window;
 pub use law::window_law;
-pub use laws::{lowest_fault_law, put_law, round_law, sizes_law};
+pub use laws::{length_law, lowest_fault_law, put_law, round_law, sizes_law};
 pub use slot::{Job, Slot};
 pub use steps::{draw, home, work};
 pub use window::Window;
