@@ -1,6 +1,11 @@
 pub mod CoreLemmas
 pub mod StoryLemmas
-pub mod RunningLemmas
+pub mod TurnLemmas
+pub mod KeptLemmas
+pub mod DrawLemmas
+pub mod HomeLemmas
+pub mod SeatLemmas
+pub mod EndLemmas
 pub mod WindowLemmas
 pub mod MovingLemmas
 pub mod RoundLemmas

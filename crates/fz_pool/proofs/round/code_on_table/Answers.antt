@@ -4,7 +4,7 @@ use lib.ListN.{get_elem?}
 use Rattle.fz_pool.specs.declared.slot.Slot.{Slot}
 use Rattle.std.specs.Mem.Slots.{slots_items}
 use Rattle.fz_pool.specs.Slots.{IsReady}
-use Rattle.fz_pool.proofs.RunningLemmas.{opens}
+use Rattle.fz_pool.proofs.EndLemmas.{opens}
 use Rattle.fz_pool.proofs.RoundLemmas.{outs_are, ready_all, few_all, values_all, results_all, have_all, sizes_all, same_all}
 use Rattle.fz_pool.proofs.round.code_on_table.Goals as goal
 

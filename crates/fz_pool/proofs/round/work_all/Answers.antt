@@ -1,7 +1,7 @@
 use Rattle.std.proofs.Common.{Bool, subst}
 use Rattle.fz_pool.specs.Slots.{IsResult}
 use Rattle.fz_pool.specs.Running.{starts_of}
-use Rattle.fz_pool.proofs.RunningLemmas.{closes}
+use Rattle.fz_pool.proofs.EndLemmas.{closes}
 use Rattle.fz_pool.proofs.round.work_all.Goals as goal
 
 pub returns-clause-results : goal.returns-clause-results

@@ -1,6 +1,6 @@
 use Rattle.std.proofs.Common.{arith}
 use Rattle.fz_pool.specs.Running.{starts_of}
-use Rattle.fz_pool.proofs.RunningLemmas.{draws}
+use Rattle.fz_pool.proofs.DrawLemmas.{draws}
 use Rattle.fz_pool.proofs.steps.draw.Goals as goal
 
 pub fetch_add-ticket-requires : goal.fetch_add-ticket-requires

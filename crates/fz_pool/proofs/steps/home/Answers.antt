@@ -1,6 +1,6 @@
 use Rattle.std.proofs.Common.{arith}
 use Rattle.fz_pool.specs.Running.{starts_of}
-use Rattle.fz_pool.proofs.RunningLemmas.{homes}
+use Rattle.fz_pool.proofs.HomeLemmas.{homes}
 use Rattle.fz_pool.proofs.steps.home.Goals as goal
 
 pub load-requires : goal.load-requires

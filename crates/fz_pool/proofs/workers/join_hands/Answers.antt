@@ -1,7 +1,7 @@
 use Rattle.std.proofs.Common.{arith}
 use Rattle.fz_pool.specs.Hands.{IsBack}
 use Rattle.fz_pool.specs.Running.{starts_of}
-use Rattle.fz_pool.proofs.RunningLemmas.{joins}
+use Rattle.fz_pool.proofs.SeatLemmas.{joins}
 use Rattle.fz_pool.proofs.MovingLemmas.{popped}
 use Rattle.fz_pool.proofs.workers.join_hands.Goals as goal
 

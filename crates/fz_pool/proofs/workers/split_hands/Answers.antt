@@ -1,6 +1,6 @@
 use Rattle.std.proofs.Common.{arith}
 use Rattle.fz_pool.specs.Running.{starts_of}
-use Rattle.fz_pool.proofs.RunningLemmas.{splits}
+use Rattle.fz_pool.proofs.SeatLemmas.{splits}
 use Rattle.fz_pool.proofs.workers.split_hands.Goals as goal
 
 pub split_seat-requires : goal.split_seat-requires
