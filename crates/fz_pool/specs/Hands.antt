@@ -5,9 +5,11 @@ use lib.ListN.{get_elem?}
 use Rattle.atomic_table.specs.Seated.{TableId}
 use Rattle.atomic_table.specs.declared.shared.Seat.{Seat}
 use Rattle.fz_pool.specs.declared.slot.Slot.{Slot}
+use Rattle.fz_pool.specs.declared.board.TableKey.{TableKey}
 use Rattle.fz_pool.specs.declared.board.View.{View}
 use Rattle.fz_pool.specs.declared.board.Turn.TheVariants.{Idle, Tile, Ended, Lead}
 use Rattle.fz_pool.specs.Slots.{IsReady, IsResult}
+use Rattle.fz_pool.specs.Running.{starts_of}
 
 abbrev pub Hand : Type 0
 Hand = Seat (Option Slot) View
@@ -43,9 +45,10 @@ pub record HoldsResult (h : Hand) (i : ℕ) : Type 0 where
   pub result : IsResult h.me.0.encode slot after
   pub held : h.me.1 ≡ (i, Some after) ∷ []
 
--- a worker's hand before its first draw
-pub record IsSeated (table : TableId) (encode : Bool) (h : Hand) : Type 0 where
+-- a worker's hand before its first draw, for the slots that its table was made for
+pub record IsSeated (table : TableId) (key : TableKey) (encode : Bool) (h : Hand) : Type 0 where
   pub at : h.table_id ≡ table
+  pub has_starts : h.me.0.starts ≡ starts_of key
   pub encodes : h.me.0.encode ≡ encode
   pub idle : IsIdle h
 
@@ -55,10 +58,11 @@ pub record IsBack (table : TableId) (h : Hand) : Type 0 where
   pub ended : HasEnded h
 
 -- the first seat may still split off so many hands, and so many are not joined again
-pub record Leads (table : TableId) (encode : Bool) (left out : ℕ) (late : Bool) (h : Hand) : Type 0 where
+pub record Leads (table : TableId) (key : TableKey) (encode : Bool) (left unjoined : ℕ) (late : Bool) (h : Hand) : Type 0 where
   pub at : h.table_id ≡ table
+  pub has_starts : h.me.0.starts ≡ starts_of key
   pub encodes : h.me.0.encode ≡ encode
-  pub turn : h.me.0.turn ≡ Lead left out late
+  pub turn : h.me.0.turn ≡ Lead left unjoined late
 
 -- a seat of the same table and number, for the same slots
 pub record IsSame (h h' : Hand) : Type 0 where

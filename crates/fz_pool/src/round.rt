@@ -37,7 +37,7 @@ fn work_all<R: Threads + Sync, G: Gate>(
 ) -> Closed<Option<Slot>, Global>
     requires table { board.shared.table_id.words ≡ 1 }
     requires workers { (0 < workers) × (workers ≤ 64) }
-    requires lead { Leads board.shared.table_id encode workers 0 false first }
+    requires lead { Leads board.shared.table_id board.shared.key encode workers 0 false first }
     requires encode { board.shared.key.encode ≡ encode }
     requires empty { hands.items ≡ [] }
     requires room { workers ≤ vec_capacity hands }

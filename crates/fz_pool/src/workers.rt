@@ -45,11 +45,11 @@ fn code_tiles<G: Gate>(board: &Board, hand: &mut Hand, gate: &G, worker: u32, en
 // Splits off a hand for each worker.
 fn split_hands(board: &Board, first: &mut Hand, hands: &mut Vec<Hand>, workers: usize, encode: bool)
     requires table { board.now.shared.table_id.words ≡ 1 }
-    requires lead { Leads board.now.shared.table_id encode workers 0 false first.old }
+    requires lead { Leads board.now.shared.table_id board.now.shared.key encode workers 0 false first.old }
     requires empty { hands.old.items ≡ [] }
     requires room { workers ≤ vec_capacity hands.old }
-    ensures lead { Leads board.now.shared.table_id encode 0 workers false first.new }
-    ensures seated { All (IsSeated board.now.shared.table_id encode) hands.new.items }
+    ensures lead { Leads board.now.shared.table_id board.now.shared.key encode 0 workers false first.new }
+    ensures seated { All (IsSeated board.now.shared.table_id board.now.shared.key encode) hands.new.items }
     ensures count { vec_len hands.new ≡ workers }
 {
     for _i in 0..workers {
@@ -61,9 +61,9 @@ fn split_hands(board: &Board, first: &mut Hand, hands: &mut Vec<Hand>, workers: 
 fn join_hands(board: &Board, first: &mut Hand, mut hands: Vec<Hand>, encode: bool)
     requires table { board.now.shared.table_id.words ≡ 1 }
     requires some { 0 < vec_len hands }
-    requires lead { Leads board.now.shared.table_id encode 0 (vec_len hands) false first.old }
+    requires lead { Leads board.now.shared.table_id board.now.shared.key encode 0 (vec_len hands) false first.old }
     requires back { All (IsBack board.now.shared.table_id) hands.items }
-    ensures { Leads board.now.shared.table_id encode 0 0 true first.new }
+    ensures { Leads board.now.shared.table_id board.now.shared.key encode 0 0 true first.new }
 {
     while let Some(hand) = hands.pop() {
         board.shared.join_seat::<JoinFact>(first, hand);
@@ -83,7 +83,7 @@ fn work_at_once<R: Threads + Sync, G: Gate>(
     requires table { board.now.shared.table_id.words ≡ 1 }
     requires workers { worker + length hands.old ≤ 64 }
     requires threads { 0 < threads }
-    requires seated { All (IsSeated board.now.shared.table_id encode) hands.old }
+    requires seated { All (IsSeated board.now.shared.table_id board.now.shared.key encode) hands.old }
     ensures { All (IsBack board.now.shared.table_id) hands.new }
 {
     thread::for_each_mut(
@@ -91,7 +91,7 @@ fn work_at_once<R: Threads + Sync, G: Gate>(
         hands,
         threads,
         &|i: usize, hand: &mut Hand|
-            requires { (worker + i < 64) × (board.now.shared.table_id.words ≡ 1) × IsSeated board.now.shared.table_id encode hand.old }
+            requires { (worker + i < 64) × (board.now.shared.table_id.words ≡ 1) × IsSeated board.now.shared.table_id board.now.shared.key encode hand.old }
             ensures { IsBack board.entry.now.shared.table_id hand.new }
         { code_tiles(board, hand, gate, (worker + i) as u32, encode) },
     );
@@ -120,7 +120,7 @@ fn work_on_demand<R: Threads + Sync, G: Gate>(
 )
     requires table { board.now.shared.table_id.words ≡ 1 }
     requires workers { worker + length hands.old ≤ 64 }
-    requires seated { All (IsSeated board.now.shared.table_id encode) hands.old }
+    requires seated { All (IsSeated board.now.shared.table_id board.now.shared.key encode) hands.old }
     ensures { All (IsBack board.now.shared.table_id) hands.new }
 {
     if hands.len() < 2 || !one_more_pays(board, worker) {
@@ -145,17 +145,17 @@ fn work_beside<R: Threads + Sync, G: Gate>(
     requires table { board.now.shared.table_id.words ≡ 1 }
     requires one { length own.old ≡ 1 }
     requires workers { worker + 1 + length others.old ≤ 64 }
-    requires own { All (IsSeated board.now.shared.table_id encode) own.old }
-    requires others { All (IsSeated board.now.shared.table_id encode) others.old }
+    requires own { All (IsSeated board.now.shared.table_id board.now.shared.key encode) own.old }
+    requires others { All (IsSeated board.now.shared.table_id board.now.shared.key encode) others.old }
     ensures own { All (IsBack board.now.shared.table_id) own.new }
     ensures others { All (IsBack board.now.shared.table_id) others.new }
 {
     let mut there = ||
-        requires { IsSync R.row × IsSync G.row × (board.now.shared.table_id.words ≡ 1) × (worker + 1 + length others.now ≤ 64) × All (IsSeated board.now.shared.table_id encode) others.now }
+        requires { IsSync R.row × IsSync G.row × (board.now.shared.table_id.words ≡ 1) × (worker + 1 + length others.now ≤ 64) × All (IsSeated board.now.shared.table_id board.now.shared.key encode) others.now }
         ensures { All (IsBack board.entry.now.shared.table_id) others.exit.now }
     { work_on_demand(rt, board, gate, encode, worker + 1, others) };
     let mut here = ||
-        requires { IsSync R.row × IsSync G.row × (board.now.shared.table_id.words ≡ 1) × (worker + length own.now ≤ 64) × All (IsSeated board.now.shared.table_id encode) own.now }
+        requires { IsSync R.row × IsSync G.row × (board.now.shared.table_id.words ≡ 1) × (worker + length own.now ≤ 64) × All (IsSeated board.now.shared.table_id board.now.shared.key encode) own.now }
         ensures { All (IsBack board.entry.now.shared.table_id) own.exit.now }
     { work_at_once(rt, board, gate, encode, worker, 1, own) };
     join_mut(rt, &mut there, &mut here);
@@ -185,10 +185,10 @@ pub(crate) fn run<R: Threads + Sync, G: Gate>(
 )
     requires table { board.now.shared.table_id.words ≡ 1 }
     requires workers { (0 < workers) × (workers ≤ 64) }
-    requires lead { Leads board.now.shared.table_id encode workers 0 false first.old }
+    requires lead { Leads board.now.shared.table_id board.now.shared.key encode workers 0 false first.old }
     requires empty { hands.items ≡ [] }
     requires room { workers ≤ vec_capacity hands }
-    ensures { Leads board.now.shared.table_id encode 0 0 true first.new }
+    ensures { Leads board.now.shared.table_id board.now.shared.key encode 0 0 true first.new }
 {
     split_hands(board, first, &mut hands, workers, encode);
     if large {
