@@ -62,10 +62,15 @@ turns views j = tile_if (get_elem? views j)
 
 -- The ticket and the seats' turns show this state of the core, for so many tiles, where the worker w has the seat w + 1
 pub record Shows (count ticket : ℕ) (turn : ℕ → Option ℕ) (s : WindowState) : Type 0 where
+  -- the next tile is the same
   pub next : s.ticket ≡ ticket
+  -- each worker holds the tile that is its seat's turn
   pub held : (w : ℕ) → s.held w ≡ turn (w + 1)
+  -- a tile that was not drawn has its start
   pub at_start : (k : ℕ) → ticket ≤ k → s.tiles k ≡ start
+  -- a seat's tile is out
   pub is_turn : (j k : ℕ) → turn j ≡ Some k → s.tiles k ≡ out
+  -- any other tile that was drawn is done
   pub otherwise : (k : ℕ) → k < ticket → k < count → ((j : ℕ) → turn j ≢ Some k) → s.tiles k ≡ done k
 
 -- there is a list of events that leads to such a state
@@ -149,7 +154,7 @@ SeatState = Me (Option Slot) View
 abbrev pub StepAt : Type 0
 StepAt = Step (Option Slot)
 
--- a draw that found the word n
+-- a draw that found the word n, which is the number of a tile: the seat gets it with its slot
 pub record DrewTile (m : SeatState) (n : ℕ) (m' : SeatState) : Type 0 where
   pub view : m'.0 ≡ record m.0 { turn = Tile n; seen = n + 1 }
   pub slot : Slot
@@ -157,10 +162,12 @@ pub record DrewTile (m : SeatState) (n : ℕ) (m' : SeatState) : Type 0 where
   pub ready : IsReady m.0.encode slot
   pub held : m'.1 ≡ (n, Some slot) ∷ m.1
 
+-- a draw that found the word n and no tile of this number
 pub record DrewNone (m : SeatState) (n : ℕ) (m' : SeatState) : Type 0 where
   pub view : m'.0 ≡ record m.0 { turn = Ended; seen = n + 1 }
   pub held : m'.1 ≡ m.1
 
+-- what a draw tells: a tile where one was left, else none
 pub record TellsDraw (st : StepAt) (m : SeatState) (n : ℕ) (m' : SeatState) : Type 0 where
   pub slots : st.slots ≡ length m.0.starts
   pub few : st.slots ≤ 128
