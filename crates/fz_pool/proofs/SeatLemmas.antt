@@ -2,7 +2,7 @@
 use Rattle.std.proofs.Common.{◌≡◌, ◌⊎◌, ℕ, zero, suc, ◌+◌, ◌-◌, ◌<◌, ◌≤◌, Bool, true, List, [], ◌∷◌, ◌++◌, length, set, Option, Some, inl, inr, ⊎_elim, refl, sym, ap, ◌∙◌, subst, arith, length-set, length-append}
 use mathlib.Core.Option.{none, some, some-injective, some-ne-none}
 use lib.ListN.{get_elem?}
-use Rattle.atomic_table.specs.Table.{State, step, Splits, Joins}
+use Rattle.atomic_table.specs.Table.{State, Splits, Joins}
 use Rattle.atomic_table.proofs.Lists.{set_here, set_else, at_longer}
 use Rattle.fz_pool.specs.declared.slot.Slot.{Slot}
 use Rattle.fz_pool.specs.declared.board.View.{View}

@@ -2,7 +2,6 @@
 use Rattle.std.specs.Prelude.{◌≡◌, ℕ, ◌+◌, ◌*◌, ◌<◌, ◌≤◌, Bool, ℤ, List, length, map, replicate, slice_get, slice_index_or, Some}
 use Rattle.fz_tile.specs.declared.codec.Codec.{Codec}
 use Rattle.fz_tile.specs.declared.fault.TileFault.{TileFault}
-use Rattle.fz_tile.specs.Codecs.{CanRead}
 use Rattle.fz_tile.specs.TileCode.{tile_code, AreElements}
 use Rattle.fz_pool.specs.declared.slot.Slot.{Slot}
 use Rattle.fz_pool.specs.Slots.{bits_of_pixel, record_of, IsForEncoding, IsEncoded, IsReady, HasFault}
