@@ -1,9 +1,11 @@
 #!/usr/bin/env bash
-# Times encode_window and decode_window on this machine, in a scratch folder. RT names another rt.
+# Times encode_window and decode_window on this machine: run.sh [FOLDER [RICE_1|PLIO_1|stored]], in a scratch folder.
+# RT names another rt.
 set -eu
 root=$(cd "$(dirname "$0")/../.." && pwd)
 scratch=${1:-$(mktemp -d)}
 bench=$scratch/crates/window_bench
+rm -rf "$bench/proofs"
 mkdir -p "$bench/src"
 for name in fz_base fz_bits fz_rice fz_plio fz_tile fz_pool; do
   rm -rf "$scratch/crates/$name"
@@ -17,5 +19,5 @@ cp "$root/bench/window/main.rt.txt" "$bench/src/main.rt"
   cp "$root/bench/window/proofs/$file" "$bench/proofs/${file%.txt}"
 done
 cd "$bench"
-"${RT:-rt}" run > "$scratch/log" 2>&1 || { tail -5 "$scratch/log"; exit 1; }
-for _ in 1 2 3; do ./out/window_bench; done
+"${RT:-rt}" run -- nothing > "$scratch/log" 2>&1 || { tail -5 "$scratch/log"; exit 1; }
+for _ in 1 2 3; do ./out/window_bench ${2:+"$2"}; done
