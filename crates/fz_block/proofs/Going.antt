@@ -1,5 +1,5 @@
 -- A walk over HDUs, one step at a time.
-use Rattle.std.proofs.Common.{◌≡◌, ℕ, zero, suc, ◌+◌, ◌*◌, ◌<◌, ◌≤◌, ◌⊎◌, inl, inr, ◌==◌, ◌&&◌, ◌||◌, not, nat_lt, nat_le, IsOk, Bool, true, false, List, [], ◌∷◌, ◌++◌, length, take, drop, map, codes, bytes_eq, Option, Some, None, is_none, Result, Ok, Err, if◌then◌else◌, refl, sym, subst, ◌∙◌, ap, arith}
+use Rattle.std.proofs.Common.{◌≡◌, ℕ, zero, suc, ◌+◌, ◌*◌, ◌<◌, ◌≤◌, ◌⊎◌, inl, inr, ◌==◌, ◌&&◌, ◌||◌, not, nat_lt, nat_le, IsOk, Bool, true, false, List, [], ◌∷◌, ◌++◌, length, take, drop, map, codes, bytes_eq, None, is_none, Result, Ok, Err, if◌then◌else◌, refl, sym, subst, ◌∙◌, ap, arith}
 use Rattle.std.proofs.lemmas.Bool.Decides.{nat_tests}
 use Rattle.std.proofs.lemmas.List.{take-take, length-append, length-take, length-drop}
 use Rattle.fz_base.specs.Refusal.{refusal, first_refusal}
@@ -9,7 +9,7 @@ use Rattle.fz_base.specs.declared.kind.Kind.TheVariants.{NotFits, Truncated, Lon
 use Rattle.fz_block.specs.Cards.{card_at, end_of}
 use Rattle.fz_block.specs.Checks.{Judge, unjudged, is_set, header_room, block_checks, blocks_to_end, header_blocks_of, header_of, header_in, hdu_at, followed_by, by_judgement, judged, walk_from}
 use Rattle.fz_block.specs.Hdus.{IsHdu, hdu_bytes}
-use Rattle.fz_block.specs.Header.{next_start_of, data_start_of, whole_blocks_of}
+use Rattle.fz_block.specs.Header.{next_start_of}
 use Rattle.fz_block.specs.Walk.{hdu_of, begins_hdu, is_stop, stops, RefusesNone, PassesAt, PassFrom}
 use Rattle.fz_block.specs.declared.header.Header.{Header}
 use Rattle.fz_block.proofs.HduLemmas.{answered, blocks_inside, is_answered, blocks_of, StandsIn, its_payload, its_hdu}

@@ -1,17 +1,17 @@
 -- HDUs that pass the checks of every job, one behind another, are those that a walk finds.
-use Rattle.std.proofs.Common.{◌≡◌, ℕ, zero, suc, ◌+◌, ◌*◌, ◌/◌, ◌<◌, ◌≤◌, ◌^◌, ◌==◌, IsOk, Bool, true, false, List, [], ◌∷◌, ◌++◌, length, take, drop, map, Option, Some, None, Result, Ok, Err, if◌then◌else◌, refl, sym, subst, ◌∙◌, ap, arith}
+use Rattle.std.proofs.Common.{◌≡◌, ℕ, zero, suc, ◌+◌, ◌*◌, ◌/◌, ◌<◌, ◌≤◌, ◌^◌, ◌==◌, IsOk, true, false, List, [], ◌∷◌, ◌++◌, length, take, drop, Option, Some, None, Ok, if◌then◌else◌, refl, sym, subst, ◌∙◌, ap, arith}
 use Rattle.std.specs.List.{flat_map}
 use Rattle.std.specs.Result.{result_map_both}
 use Rattle.std.proofs.lemmas.Bool.Decides.{nat_tests}
-use Rattle.std.proofs.lemmas.List.{append_assoc, append-nil, drop-drop, drop_all, take_at, length-append, length-drop}
+use Rattle.std.proofs.lemmas.List.{append_assoc, drop-drop, take_at, length-append, length-drop}
 use Rattle.std.proofs.Math.Seq.{drop-append_seam}
 use Rattle.fz_base.specs.Refusal.{first_refusal}
 use Rattle.fz_base.specs.declared.fault.Fault.{Fault}
-use Rattle.fz_block.specs.Checks.{unless_refused, header_checks, header_of, hdu_at, hdu_end, unjudged, followed_by, by_judgement, judged, walk_from, fault_as}
-use Rattle.fz_block.specs.Facts.{facts_of, begun_at, facts_as}
+use Rattle.fz_block.specs.Checks.{unless_refused, header_checks, header_of, hdu_at, hdu_end, unjudged, followed_by, judged, walk_from, fault_as}
+use Rattle.fz_block.specs.Facts.{facts_of, facts_as}
 use Rattle.fz_block.specs.Hdus.{Hdu, hdu_bytes, IsHdu, AreHdus, data_len_of}
 use Rattle.fz_block.specs.Header.{whole_blocks_of, next_start_of}
-use Rattle.fz_block.specs.Walk.{StandsAt, PassesAt, PassFrom, facts_from, begins_hdu}
+use Rattle.fz_block.specs.Walk.{StandsAt, PassesAt, PassFrom, facts_from}
 use Rattle.fz_block.specs.declared.header.Header.{Header}
 use Rattle.fz_block.proofs.Found.{found_header}
 use Rattle.fz_block.proofs.Numbers.{checks_renumbered}

@@ -1,5 +1,5 @@
 -- The header is that of the file, where the source tells its bytes and the buffer has room for it.
-use Rattle.std.proofs.Common.{◌≡◌, ℕ, ◌+◌, ◌*◌, ◌≤◌, ◌<◌, List, Option, Result, Err, sym, subst, rules, length, ap, ◌∙◌, IfOk, IfSome, arith}
+use Rattle.std.proofs.Common.{◌≡◌, ℕ, ◌*◌, ◌≤◌, ◌<◌, List, Option, Result, Err, sym, subst, rules, length, IfOk, IfSome, arith}
 use Rattle.fz_base.specs.Source.{Reads, HoldsLength}
 use Rattle.fz_base.specs.Stop.{IsDefined, IfAnswered}
 use Rattle.fz_base.specs.declared.failure.Stop.{Stop}

@@ -1,4 +1,4 @@
-use Rattle.std.proofs.Common.{[], ◌++◌, ◌∷◌, arith}
+use Rattle.std.proofs.Common.{arith}
 use Rattle.fz_block.proofs.Going.{all_pass, only_last, simple_first}
 use Rattle.fz_block.proofs.laws.found_hdus_law.Goals as goal
 

@@ -1,4 +1,4 @@
-use Rattle.std.proofs.Common.{length, sym, ◌∙◌, ap, arith, refl}
+use Rattle.std.proofs.Common.{length, sym, ◌∙◌, arith, refl}
 use Rattle.fz_block.specs.Checks.{unjudged}
 use Rattle.fz_block.proofs.Going.{stops_there}
 use Rattle.fz_block.proofs.OneList.{one_list}
