@@ -1,4 +1,4 @@
-use Rattle.std.proofs.Common.{◌≡◌, ◌+◌, ◌-◌, ◌*◌, ◌≤◌, ◌<◌, ap, sym, arith}
+use Rattle.std.proofs.Common.{◌≡◌, ◌+◌, ◌-◌, ◌*◌, ◌≤◌, ◌<◌, ap, arith}
 use Rattle.fz_grid.specs.Sieve.{picks_before}
 use Rattle.fz_grid.proofs.PartAxes.{count_steps, first_pick, last_pick}
 use Rattle.fz_grid.proofs.part.part_along.Goals as goal

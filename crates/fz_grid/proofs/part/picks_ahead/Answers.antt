@@ -1,5 +1,5 @@
 use Rattle.std.proofs.Common.{arith}
-use Rattle.fz_grid.proofs.PartAxes.{none_before, some_before}
+use Rattle.fz_grid.proofs.PartAxes.{some_before}
 use Rattle.fz_grid.proofs.part.picks_ahead.Goals as goal
 
 pub returns : goal.returns

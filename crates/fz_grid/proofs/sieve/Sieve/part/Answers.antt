@@ -1,4 +1,4 @@
-use Rattle.std.proofs.Common.{◌≡◌, ℕ, ◌-◌, ◌<◌, length, get_or, take, ap, sym, ◌∙◌, arith, length-set}
+use Rattle.std.proofs.Common.{◌≡◌, length, get_or, take, ap, sym, ◌∙◌, arith, length-set}
 use Rattle.fz_grid.specs.Grid.{moved}
 use Rattle.fz_grid.specs.Region.{region_corner}
 use Rattle.fz_grid.specs.Sieve.{sieve_lo, sieve_step, stepped}

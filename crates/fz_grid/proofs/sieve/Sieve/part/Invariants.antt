@@ -1,6 +1,5 @@
-use Rattle.std.proofs.Common.{◌≡◌, ℕ, ◌+◌, ◌-◌, ◌*◌, ◌<◌, ◌≤◌, get_or, length}
+use Rattle.std.proofs.Common.{◌≡◌, ℕ, ◌<◌, get_or, length}
 use Rattle.fz_grid.specs.Region.{AreSameFrom, IsZeroFrom}
-use Rattle.fz_grid.specs.Sieve.{pick_count, picks_before}
 use Rattle.fz_grid.proofs.PartAxes.{IsPartBy}
 use Rattle.fz_grid.proofs.sieve.Sieve.part.Given as goal
 
