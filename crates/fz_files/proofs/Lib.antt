@@ -10,5 +10,9 @@ pub mod RestoredLemmas
 pub mod RiceFileLemmas
 pub mod StandingLemmas
 pub mod SumFileLemmas
+pub mod TableCodes
+pub mod TableImage
+pub mod TablePlaces
+pub mod TableRows
 pub mod WorkedCards
 pub mod WorkedWalks

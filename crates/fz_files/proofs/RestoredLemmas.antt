@@ -42,7 +42,7 @@ StandsForOneList =
 
 -- ---- the tiles of an image
 
-axes_again : (lengths : List ℕ) → lengths_of (nine_axes lengths) ≡ lengths
+pub axes_again : (lengths : List ℕ) → lengths_of (nine_axes lengths) ≡ lengths
 axes_again lengths = take-append_seam lengths (replicate (9 - length lengths) 0)
 
 -- the lengths of a tile, which divides the array

@@ -1,11 +1,16 @@
 //! The laws of the definitions: no code runs.
 ghost use Rattle.fz_files.specs.Buffers.{AreBounded};
-ghost use Rattle.fz_files.specs.Laws.{HasOneFirstFault, StandsForOneFile};
+ghost use Rattle.fz_files.specs.Laws.{HasOneFirstFault, StandsForOneFile, TablesStandForImages};
 
-use fz_block::walk_law;
-use fz_grid::tiles_law;
-use fz_head::packed_image_law;
-use fz_tile::{one_fault_law, one_record_law};
+use fz_block::{cards_law, walk_law};
+use fz_grid::{shape_law, tile_pixels_law, tiles_law};
+use fz_head::{
+    accepted_law, image_to_pack_law, packed_image_law, sum_cards_law, there_and_back_law,
+    whole_cards_law,
+};
+use fz_sum::sum_law;
+use fz_table::descriptor_law;
+use fz_tile::{column_law, one_fault_law, one_record_law, plain_law, slice_law, tile_code_law};
 
 /// No taking of a job on a file passes its bound, for every file and every number of workers: the bound is that of
 /// the longest header and the largest tile that the job meets.
@@ -30,4 +35,26 @@ pub fn one_file_law()
     packed_image_law();
     tiles_law();
     walk_law();
+}
+
+/// The table of an image that `pack` takes stands for the image, whatever file the table is in: the way there and
+/// back.
+pub fn table_law()
+    ensures { TablesStandForImages }
+{
+    accepted_law();
+    cards_law();
+    column_law();
+    descriptor_law();
+    image_to_pack_law();
+    plain_law();
+    shape_law();
+    slice_law();
+    sum_cards_law();
+    sum_law();
+    there_and_back_law();
+    tile_code_law();
+    tile_pixels_law();
+    tiles_law();
+    whole_cards_law();
 }
