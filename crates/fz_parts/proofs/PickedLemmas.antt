@@ -1,5 +1,5 @@
 -- The tiles with a pick, as a list.
-use Rattle.std.proofs.Common.{◌≡◌, ℕ, suc, zero, ◌+◌, ◌<◌, ◌≤◌, Bool, true, false, cond, IsTrue, Contains, ℤ, List, [], ◌∷◌, length, get_or, refl, ap, subst, sym, ◌∙◌, arith, inl, inr}
+use Rattle.std.proofs.Common.{◌≡◌, ℕ, suc, zero, ◌+◌, ◌<◌, ◌≤◌, Bool, true, false, cond, IsTrue, Contains, ℤ, List, [], ◌∷◌, ap, subst, sym, ◌∙◌, arith, inl, inr}
 use Rattle.std.specs.List.{filter, range_with_len}
 use Rattle.std.proofs.lemmas.Bool.{cases_lt}
 use Rattle.fz_grid.specs.declared.sieve.Sieve.{Sieve}
@@ -10,7 +10,7 @@ use Rattle.fz_grid.specs.Laws.{CoordinatesAreInOneTile}
 use Rattle.fz_grid.specs.Overlap.{IsInBox, has_pixel}
 use Rattle.fz_grid.specs.Arrays.{coordinates_of, product}
 use Rattle.fz_grid.specs.Sieve.{IsPick, picked_tiles, sieve_hi, sieve_lo, sieve_step}
-use Rattle.fz_parts.specs.Cutout.{HoldsParts, Sifts, numbers_at, part_lengths, picked_numbers, picks_in_cutout, picks_in_tile}
+use Rattle.fz_parts.specs.Cutout.{HoldsParts, Sifts, numbers_at, part_lengths, picked_numbers, picks_in_tile}
 use Rattle.fz_parts.proofs.BoxLemmas.{PlaceLaws, box_length, box_nth, moved_box}
 use Rattle.fz_parts.proofs.CutoutLemmas.{cutout_whole, parts_make, pick_inside, sieve_axes, some_pick, tiles_give}
 use Rattle.fz_parts.proofs.PartLemmas.{pick_numbers}
