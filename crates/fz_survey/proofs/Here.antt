@@ -7,19 +7,24 @@ use Rattle.std.proofs.lemmas.List.{drop-take, take-take, length-map}
 use Rattle.std.proofs.lemmas.List.FromFn.{length-range_with_len}
 use Rattle.fz_card.specs.Reading.{integer_of}
 use Rattle.fz_block.specs.Cards.{card_at}
-use Rattle.fz_block.specs.Hdus.{size_at, size_in}
+use Rattle.fz_block.specs.Hdus.{IsHdu, size_at, size_in}
 use Rattle.fz_block.specs.Facts.{IsHeaderOf}
 use Rattle.fz_block.specs.Header.{next_start_of}
+use Rattle.fz_block.specs.Walk.{hdu_of}
 use Rattle.fz_block.specs.declared.header.Header.{Header}
-use Rattle.fz_block.proofs.HduLemmas.{its_header}
 use Rattle.fz_head.specs.JobChecks.{is_after_empty}
 use Rattle.fz_survey.proofs.Judged.{IsHere}
 
-pub stands_here : (held : Option (List ℕ)) (len : ℕ) (h : Header) (buf : List ℕ) (after_empty : Bool) → HoldsLength held len → IsHeaderOf buf h → Reads held h.start buf → next_start_of h ≤ len →
+-- what stands in a file with its data is an HDU of it, which is a law of the headers
+abbrev pub HduLaw : Type 0
+HduLaw = (file header : List ℕ) (h : Header) → IsHeaderOf header h → take (length header) (drop h.start file) ≡ header → next_start_of h ≤ length file →
+    ((hdu_of file h).header ≡ header) × IsHdu h.hdu (hdu_of file h)
+
+pub stands_here : HduLaw → (held : Option (List ℕ)) (len : ℕ) (h : Header) (buf : List ℕ) (after_empty : Bool) → HoldsLength held len → IsHeaderOf buf h → Reads held h.start buf → next_start_of h ≤ len →
     IfSome held (λ g. after_empty ≡ is_after_empty g h) → IfSome held (IsHere h buf after_empty)
-stands_here None len h buf after_empty told facts read within after = tt
-stands_here (Some g) len h buf after_empty told facts read within after = record {
-  header = its_header g buf h record { facts = facts; place = sym read; within = subst (λ n. next_start_of h ≤ n) (sym told) within };
+stands_here hdus None len h buf after_empty told facts read within after = tt
+stands_here hdus (Some g) len h buf after_empty told facts read within after = record {
+  header = (hdus g buf h facts (sym read) (subst (λ n. next_start_of h ≤ n) (sym told) within)).0;
   after = after;
 }
 

@@ -15,7 +15,7 @@ ghost use Rattle.fz_survey.specs.Surveys.{pixels_of_tile, looks_at_fill as looks
 use crate::JobChecks;
 use crate::fill::check_fill;
 use fz_base::{Fault, Source, Stop};
-use fz_block::Header;
+use fz_block::{Header, hdu_law};
 use fz_grid::{Region, volume};
 use fz_head::{
     PackOptions, Plan, image_to_cut, image_to_unpack, is_packable, is_packed, plan_to_pack,
@@ -61,6 +61,7 @@ pub(crate) fn check_hdu<S: Source>(
     ensures attached { S.attached source.new ≡ S.attached source.old }
     ensures cause { ReadsOnly (S.tally source.old) (S.tally source.new) result }
 {
+    hdu_law();
     let found = match check_header(checks, header, buf, after_empty) {
         Ok(found) => found,
         Err(fault) => return Err(Stop::Refused(fault)),

@@ -17,7 +17,7 @@ returns-in-Err-clause-exact g c =
     let held : Option (List ℕ) = g.S.Source.held c.args.source.now in
     let told : HoldsLength held c.args.length = g.met.S.Source.agrees c.args.source.now c.args.length c.requires.attached in
     let here : IfSome held (IsHere c.args.header.now c.args.buf.now c.args.after_empty) =
-    stands_here held c.args.length c.args.header.now c.args.buf.now c.args.after_empty told c.requires.header c.requires.read c.requires.within.0 c.requires.after in
+    stands_here c.hdu_law.ensures.hdu held c.args.length c.args.header.now c.args.buf.now c.args.after_empty told c.requires.header c.requires.read c.requires.within.0 c.requires.after in
     hdu_refused held c.args.checks.now c.args.header.now c.args.buf.now c.args.after_empty _ here (sym c.check_header.ensures.exact ∙ c.in-Err.is)
 
 pub returns-then-not-looks_at_fill-clause-exact : goal.returns-then-not-looks_at_fill-clause-exact
@@ -25,7 +25,7 @@ returns-then-not-looks_at_fill-clause-exact g c =
     let held : Option (List ℕ) = g.S.Source.held c.args.source.now in
     let told : HoldsLength held c.args.length = g.met.S.Source.agrees c.args.source.now c.args.length c.requires.attached in
     let here : IfSome held (IsHere c.args.header.now c.args.buf.now c.args.after_empty) =
-    stands_here held c.args.length c.args.header.now c.args.buf.now c.args.after_empty told c.requires.header c.requires.read c.requires.within.0 c.requires.after in
+    stands_here c.hdu_law.ensures.hdu held c.args.length c.args.header.now c.args.buf.now c.args.after_empty told c.requires.header c.requires.read c.requires.within.0 c.requires.after in
     hdu_passed held c.args.checks.now c.args.header.now c.args.buf.now c.args.after_empty _ here (sym c.check_header.ensures.exact ∙ c.in-Ok.is)
     (sym c.looks_at_fill.ensures ∙ c.if-not-looks_at_fill.true)
 
@@ -34,7 +34,7 @@ returns-in-Ok-check_fill-clause-exact g c =
     let held : Option (List ℕ) = g.S.Source.held c.args.source.now in
     let told : HoldsLength held c.args.length = g.met.S.Source.agrees c.args.source.now c.args.length c.requires.attached in
     let here : IfSome held (IsHere c.args.header.now c.args.buf.now c.args.after_empty) =
-    stands_here held c.args.length c.args.header.now c.args.buf.now c.args.after_empty told c.requires.header c.requires.read c.requires.within.0 c.requires.after in
+    stands_here c.hdu_law.ensures.hdu held c.args.length c.args.header.now c.args.buf.now c.args.after_empty told c.requires.header c.requires.read c.requires.within.0 c.requires.after in
     subst (λ (a : Result (Unit {0}) Stop). IfSome held (λ f. IsDefined (hdu_look c.args.checks.now f c.args.header.now) (filled_look c.in-Ok.found a))) c.in-Ok-check_fill.is
     (hdu_filled held c.args.checks.now c.args.header.now c.args.buf.now c.args.after_empty c.in-Ok.found c.check_fill.result here (sym c.check_header.ensures.exact ∙ c.in-Ok.is)
     (sym c.looks_at_fill.ensures ∙ c.if-not-looks_at_fill.false) c.check_fill.ensures.exact)
@@ -44,7 +44,7 @@ returns-in-Err-check_fill-clause-exact g c =
     let held : Option (List ℕ) = g.S.Source.held c.args.source.now in
     let told : HoldsLength held c.args.length = g.met.S.Source.agrees c.args.source.now c.args.length c.requires.attached in
     let here : IfSome held (IsHere c.args.header.now c.args.buf.now c.args.after_empty) =
-    stands_here held c.args.length c.args.header.now c.args.buf.now c.args.after_empty told c.requires.header c.requires.read c.requires.within.0 c.requires.after in
+    stands_here c.hdu_law.ensures.hdu held c.args.length c.args.header.now c.args.buf.now c.args.after_empty told c.requires.header c.requires.read c.requires.within.0 c.requires.after in
     subst (λ (a : Result (Unit {0}) Stop). IfSome held (λ f. IsDefined (hdu_look c.args.checks.now f c.args.header.now) (filled_look c.in-Ok.found a))) c.in-Err-check_fill.is
     (hdu_filled held c.args.checks.now c.args.header.now c.args.buf.now c.args.after_empty c.in-Ok.found c.check_fill.result here (sym c.check_header.ensures.exact ∙ c.in-Ok.is)
     (sym c.looks_at_fill.ensures ∙ c.if-not-looks_at_fill.false) c.check_fill.ensures.exact)
