@@ -12,6 +12,7 @@ pub mod StandingLemmas
 pub mod SumFileLemmas
 pub mod TableCodes
 pub mod TableImage
+pub mod TablePasses
 pub mod TablePlaces
 pub mod TableRows
 pub mod WorkedCards

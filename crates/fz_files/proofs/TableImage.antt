@@ -11,7 +11,7 @@ use Rattle.fz_base.specs.declared.fault.Fault.{Fault}
 use Rattle.fz_block.specs.Cards.{card_at, is_named}
 use Rattle.fz_block.specs.Checks.{is_set, unless_refused}
 use Rattle.fz_block.specs.Facts.{IsHeaderOf, facts_of, nine_axes}
-use Rattle.fz_block.specs.Hdus.{HasBlankFill, IsCardBeforeEnd, IsHeader, axes_of, cards_of, data_len_of, gcount_of, hdu_bytes, header_bytes, naxis_of, pcount_of, places, size_at, size_in}
+use Rattle.fz_block.specs.Hdus.{Hdu, HasBlankFill, IsCardBeforeEnd, IsHeader, axes_of, cards_of, data_len_of, gcount_of, hdu_bytes, header_bytes, naxis_of, pcount_of, places, size_at, size_in}
 use Rattle.fz_card.specs.Reading.{integer_of, logical_of}
 use Rattle.fz_block.specs.Header.{data_start_of, next_start_of, whole_blocks_of}
 use Rattle.fz_block.specs.Walk.{hdu_of}
@@ -37,22 +37,22 @@ use Rattle.fz_head.specs.Accepted.{IsAccepted}
 use Rattle.fz_head.specs.Conditions.{AreShort}
 use Rattle.fz_head.specs.JobChecks.{IsImageToPack, fill_in}
 use Rattle.fz_head.specs.PackChecks.{limit_checks, name_checks, offset_check, pack_answer, pack_checks}
-use Rattle.fz_head.specs.Packable.{has_integers, is_image as is_image_sort, is_packable, is_packed}
+use Rattle.fz_head.specs.Packable.{has_integers, is_image as is_image_sort, is_primary, is_packable, is_packed}
 use Rattle.std.specs.List.{list_all}
 use Rattle.fz_head.specs.PackedChecks.{packed_checks, plan_answer}
 use Rattle.fz_head.specs.PackedHeader.{packed_header, packed_with, sum_cards}
 use Rattle.fz_head.specs.PackedPlan.{plan_of_cards}
 use Rattle.fz_head.specs.PackedTable.{packed_table}
-use Rattle.fz_head.specs.PlainHeader.{plain_header}
+use Rattle.fz_head.specs.PlainHeader.{plain_header, was_primary}
 use Rattle.fz_head.specs.Planned.{pack_plan_of, pixel_len}
 use Rattle.fz_head.specs.SumCards.{AreDropped, AreSumCards, IsSumCard}
 use Rattle.fz_head.specs.ThereAndBack.{IsPacking, MayBePacked}
 use Rattle.fz_head.specs.declared.options.PackOptions.{PackOptions}
 use Rattle.fz_head.specs.declared.plan.Plan.{Plan}
 use Rattle.fz_head.specs.declared.totals.Totals.{Totals}
-use Rattle.fz_files.specs.Laws.{IsTableOf}
+use Rattle.fz_files.specs.Laws.{IsTableOf, IsTaken, codes_from, table_hdu, totals_from}
 use Rattle.fz_files.specs.Packed.{array_of, coded_count, greatest, heap_of, packed_data, pixel_bits, stored_count, sum_before, table_header, tile_codes, tiles_in, totals_of, with_sums, zero_filled}
-use Rattle.fz_files.specs.Restored.{IsImageOf, RowStandsFor, RowsStandFor, StandsForAs, HduStandsFor, image_bytes, image_table, is_image, pixels_of, plan_in}
+use Rattle.fz_files.specs.Restored.{IsImageOf, RowStandsFor, RowsStandFor, StandsForAs, HduStandsFor, image_bytes, image_table, is_image, is_packed_primary, pixels_of, plan_in}
 use Rattle.fz_files.proofs.RestoredLemmas.{axes_again}
 use Rattle.fz_files.proofs.TableCodes.{IsCodeOf, TileCodesHold, code_is, coded_within, eight_bytes, greatest_within, heap_within, stored_within, tile_is, tile_no_more, zero_is}
 use Rattle.fz_files.proofs.TablePlaces.{DescriptorsAreRead}
@@ -97,26 +97,36 @@ plain_image h is =
     let three = three_of_six (is_image_sort h.sort) (nat_le 1 h.axes.n) (list_all (nat_le 1) (lengths_of h.axes)) (has_integers h.bitpix) (h.pcount == 0) (h.gcount == 1) is in
     record { axes = grind (arith, nat_tests, three.0); pcount = grind (arith, nat_tests, three.1); gcount = grind (arith, nat_tests, three.2) }
 
--- the length of its data
-facts_len : (k start : ℕ) (header : List ℕ) → IsPlainImage (facts_of k start header) → data_len_of k header ≡ pixel_len (facts_of k start header).bitpix * product (lengths_of (facts_of k start header).axes)
-facts_len k start header is =
+-- the length of the data of an HDU that has an axis
+pub facts_len : (k start : ℕ) (header : List ℕ) → 1 ≤ (facts_of k start header).axes.n →
+    data_len_of k header ≡ unsigned_abs (facts_of k start header).bitpix / 8 * (gcount_of k header * (pcount_of k header + product (lengths_of (facts_of k start header).axes)))
+facts_len k start header axes =
     let count : length (axes_of header) ≡ naxis_of header = length-map-range_with_len (size_at header) 3 (naxis_of header) in
-    let axes : 1 ≤ length (axes_of header) = is.axes in
-    let some : (naxis_of header == 0) ≡ false = grind (arith, nat_tests, count, axes) in
+    let has : 1 ≤ length (axes_of header) = axes in
+    let some : (naxis_of header == 0) ≡ false = grind (arith, nat_tests, count, has) in
     let size : size_at header 1 ≡ unsigned_abs (facts_of k start header).bitpix = abs_is (integer_of (card_at header 1)) in
     let all : places (axes_of header) ≡ product (lengths_of (nine_axes (axes_of header))) = places_are (axes_of header) ∙ ap product (sym (axes_again (axes_of header))) in
-    let pcount : pcount_of k header ≡ 0 = is.pcount in
-    let gcount : gcount_of k header ≡ 1 = is.gcount in
-    let one : (b m : ℕ) → b * (1 * (0 + m)) ≡ b * m = λ b m. grind arith in
     ap (λ b. if b then 0 else size_at header 1 / 8 * (gcount_of k header * (pcount_of k header + places (axes_of header)))) some
-    ∙ ((λ i. size i / 8 * (gcount i * (pcount i + all i))) ∙ one (unsigned_abs (facts_of k start header).bitpix / 8) (product (lengths_of (nine_axes (axes_of header)))))
+    ∙ (λ i. size i / 8 * (gcount_of k header * (pcount_of k header + all i)))
 
 image_len : (header : List ℕ) (h : Header) → IsHeaderOf header h → is_packable h ≡ true → h.data_len ≡ pixel_len h.bitpix * product (lengths_of h.axes)
 image_len header h is packable =
     subst (λ (f : Header). f.data_len ≡ pixel_len f.bitpix * product (lengths_of f.axes)) (sym is.facts)
-    (facts_len h.hdu h.start header (plain_image (facts_of h.hdu h.start header) (subst (λ f. is_packable f ≡ true) is.facts packable)))
+    (of_facts (plain_image (facts_of h.hdu h.start header) (subst (λ f. is_packable f ≡ true) is.facts packable)))
+  where
+    one : (b m : ℕ) → b * (1 * (0 + m)) ≡ b * m
+    one b m = grind arith
 
-le_blocks : (n : ℕ) → n ≤ whole_blocks_of n
+    of_facts : IsPlainImage (facts_of h.hdu h.start header) →
+        data_len_of h.hdu header ≡ pixel_len (facts_of h.hdu h.start header).bitpix * product (lengths_of (facts_of h.hdu h.start header).axes)
+    of_facts image =
+        let pcount : pcount_of h.hdu header ≡ 0 = image.pcount in
+        let gcount : gcount_of h.hdu header ≡ 1 = image.gcount in
+        facts_len h.hdu h.start header image.axes
+        ∙ ((λ i. unsigned_abs (facts_of h.hdu h.start header).bitpix / 8 * (gcount i * (pcount i + product (lengths_of (facts_of h.hdu h.start header).axes))))
+        ∙ one (unsigned_abs (facts_of h.hdu h.start header).bitpix / 8) (product (lengths_of (facts_of h.hdu h.start header).axes)))
+
+pub le_blocks : (n : ℕ) → n ≤ whole_blocks_of n
 le_blocks n = omega arith
 
 -- the data and the fill of an HDU that stands in its file
@@ -166,7 +176,7 @@ first_none [] ys e = refl
 first_none ((true, fault) ∷ xs) ys e = absurd cc
 first_none ((false, fault) ∷ xs) ys e = first_none xs ys e
 
-answer_is : {A : Type 0} (answer found : A) (refused : Option Fault) → unless_refused answer refused ≡ Ok found → answer ≡ found
+pub answer_is : {A : Type 0} (answer found : A) (refused : Option Fault) → unless_refused answer refused ≡ Ok found → answer ≡ found
 answer_is answer found None e = cc
 answer_is answer found (Some fault) e = absurd cc
 
@@ -348,45 +358,83 @@ numbered_from_1 : (n : ℕ) → 0 < n → (k : ℕ) × (n ≡ suc k)
 numbered_from_1 zero some = absurd omega (arith, some)
 numbered_from_1 (suc k) some = (k, refl)
 
+-- the cards of sums of the table
+abbrev pub sums_from : PackOptions → List ℕ → Header → List (List ℕ)
+sums_from o source from =
+    let p = pack_plan_of o from in
+    let es = codes_from o source from in
+    sums_of o.sums (packed_header (cards_of (hdu_of source from).header) p (totals_of p es)) (packed_data p es)
+
+packing_is : TableLaws → (o : PackOptions) (source : List ℕ) (from : Header) → IsTaken o source from → IsPacking (hdu_of source from).header from (pack_plan_of o from) (totals_from o source from) (sums_from o source from)
+packing_is l o source from is =
+    let p : Plan = pack_plan_of o from in
+    let cs : List (List ℕ) = cards_of (hdu_of source from).header in
+    let t : Totals = totals_of p (codes_from o source from) in
+    let content : List ℕ = packed_data p (codes_from o source from) in
+    record {
+      is_header = is.image.is_header;
+      simple = is.simple;
+      plan = record { options = o; allowed = is.image.options; with_sums = refl; packable = is.image.packable; answer = l.answer o source from is.image };
+      totals = totals_short l o.sums p (hdu_of source from).payload (payload_bytes source from is.bytes) (l.divided o source from is.image) (l.writable o source from is.image);
+      sums_are = sums_are l.datasum l.checksum l.fits o.sums (packed_header cs p t) content;
+      count = sums_count o.sums (packed_header cs p t) content;
+    }
+
+pub made_is : TableLaws → (o : PackOptions) (source : List ℕ) (from : Header) →
+    (table_hdu o source from).header ≡ header_bytes (packed_with (cards_of (hdu_of source from).header) (pack_plan_of o from) (totals_from o source from) (sums_from o source from))
+made_is l o source from =
+    ap header_bytes
+    (with_sums_are l.last o.sums (cards_of (hdu_of source from).header) (pack_plan_of o from) (totals_of (pack_plan_of o from) (codes_from o source from))
+    (packed_data (pack_plan_of o from) (codes_from o source from)) refl)
+
+pub accepted_is : TableLaws → (o : PackOptions) (source : List ℕ) (from : Header) (k start : ℕ) → IsTaken o source from →
+    IsAccepted (pack_plan_of o from) (totals_from o source from) (table_hdu o source from).header (facts_of (suc k) start (table_hdu o source from).header)
+accepted_is l o source from k start is =
+    l.accepted (hdu_of source from).header from (pack_plan_of o from) (totals_from o source from) (sums_from o source from) k start (table_hdu o source from).header
+    (packing_is l o source from is) (made_is l o source from)
+
 table_is : TableLaws → (o : PackOptions) (source : List ℕ) (from : Header) (file : List ℕ) (h : Header) → IsTableOf o source from file h → IsTableSaid o source from file h
 table_is l o source from file h is =
     let p : Plan = pack_plan_of o from in
     let image : List ℕ = (hdu_of source from).header in
-    let cs : List (List ℕ) = cards_of image in
-    let payload : List ℕ = (hdu_of source from).payload in
-    let t : Totals = totals_of p (tile_codes p (array_of p payload)) in
-    let content : List ℕ = packed_data p (tile_codes p (array_of p payload)) in
-    let sums : List (List ℕ) = sums_of o.sums (packed_header cs p t) content in
+    let s : Totals = totals_from o source from in
+    let sums : List (List ℕ) = sums_from o source from in
     let header : List ℕ = (hdu_of file h).header in
-    let bytes : AreBytes payload = payload_bytes source from is.bytes in
-    let sums_ok : AreSumCards sums = sums_are l.datasum l.checksum l.fits o.sums (packed_header cs p t) content in
-    let packing : IsPacking image from p (totals_with o.sums t) sums =
-    record {
-      is_header = is.taken.is_header;
-      simple = is.simple;
-      plan = record { options = o; allowed = is.taken.options; with_sums = refl; packable = is.taken.packable; answer = l.answer o source from is.taken };
-      totals = totals_short l o.sums p payload bytes (l.divided o source from is.taken) (l.writable o source from is.taken);
-      sums_are = sums_ok;
-      count = sums_count o.sums (packed_header cs p t) content;
-    } in
-    let made : header ≡ header_bytes (packed_with cs p (totals_with o.sums t) sums) = is.header ∙ ap header_bytes (with_sums_are l.last o.sums cs p t content refl) in
+    let same : header ≡ (table_hdu o source from).header = ap (λ (d : Hdu). d.header) is.table in
+    let packing : IsPacking image from p s sums = packing_is l o source from is.taken in
     let number = numbered_from_1 h.hdu is.behind in
-    let accepted : IsAccepted p (totals_with o.sums t) header h =
-    subst (λ f. IsAccepted p (totals_with o.sums t) header f) (sym (is.facts ∙ ap (λ n. facts_of n h.start header) number.1))
-    (l.accepted image from p (totals_with o.sums t) sums number.0 h.start header packing made) in
-    let cards : cards_of header ≡ packed_with cs p (totals_with o.sums t) sums = ap cards_of made ∙ l.cards (packed_with cs p (totals_with o.sums t) sums) (l.whole image from p (totals_with o.sums t) sums packing) in
+    let accepted : IsAccepted p s header h =
+    subst (λ f. IsAccepted p s header f) (sym (is.facts ∙ ap (λ n. facts_of n h.start header) number.1))
+    (subst (λ bytes. IsAccepted p s bytes (facts_of (suc number.0) h.start bytes)) (sym same) (accepted_is l o source from number.0 h.start is.taken)) in
+    let cards : cards_of header ≡ packed_with (cards_of image) p s sums =
+    ap cards_of (same ∙ made_is l o source from) ∙ l.cards (packed_with (cards_of image) p s sums) (l.whole image from p s sums packing) in
     let may : MayBePacked image from =
     record {
-      is_header = is.taken.is_header;
-      simple = λ first. first_true (is_named (codes "SIMPLE") (card_at image 0)) (unwrap_or (logical_of (card_at image 0)) false) (is.simple first);
-      names = names_none o from image p (l.answer o source from is.taken);
+      is_header = is.taken.image.is_header;
+      simple = λ first. first_true (is_named (codes "SIMPLE") (card_at image 0)) (unwrap_or (logical_of (card_at image 0)) false) (is.taken.simple first);
+      names = names_none o from image p (l.answer o source from is.taken.image);
     } in
     record {
       packed = accepted.packed;
       plan = plan_said p h.hdu header (accepted.plan true (λ e. refl));
-      table = table_said (packed_table p (data_start_of h) t.heap) header h accepted.table;
-      cards = ap plain_header cards ∙ l.back image from p (totals_with o.sums t) sums may (plan_shape o from) (l.dropped sums sums_ok);
+      table = table_said (packed_table p (data_start_of h) s.heap) header h accepted.table;
+      cards = ap plain_header cards ∙ l.back image from p s sums may (plan_shape o from) (l.dropped sums packing.sums_are);
     }
+
+-- the image of the table was a primary where the image is one
+primary_said : (cards : List (List ℕ)) → (plan_of_cards cards).primary ≡ was_primary cards
+unfolding plan_of_cards
+primary_said cards = refl
+
+plan_primary : (o : PackOptions) (h : Header) → (pack_plan_of o h).primary ≡ is_primary h.sort
+unfolding pack_plan_of
+plan_primary o h = refl
+
+pub table_was_primary : TableLaws → (o : PackOptions) (source : List ℕ) (from : Header) (file : List ℕ) (h : Header) → IsTableOf o source from file h → is_packed_primary file h ≡ is_primary from.sort
+table_was_primary l o source from file h is =
+    let said : IsTableSaid o source from file h = table_is l o source from file h is in
+    ap (λ b. b && was_primary (cards_of (hdu_of file h).header)) said.packed
+    ∙ (sym (primary_said (cards_of (hdu_of file h).header)) ∙ (ap (λ (p : Plan). p.primary) said.plan ∙ plan_primary o from))
 
 -- ---- the image
 
@@ -412,9 +460,9 @@ table_stands l o source from file h is =
     let image : List ℕ = (hdu_of source from).header in
     let payload : List ℕ = (hdu_of source from).payload in
     let a : NumberArray = array_of p payload in
-    let bytes : AreBytes payload = payload_bytes source from is.bytes in
-    let divided : IsDivided p.shape p.tile = l.divided o source from is.taken in
-    let can : CanWrite p.codec p.bitpix = l.writable o source from is.taken in
+    let bytes : AreBytes payload = payload_bytes source from is.taken.bytes in
+    let divided : IsDivided p.shape p.tile = l.divided o source from is.taken.image in
+    let can : CanWrite p.codec p.bitpix = l.writable o source from is.taken.image in
     let said : IsTableSaid o source from file h = table_is l o source from file h is in
     let most : length (heap_of (tile_codes p a)) ≤ pixel_bits p / 8 * product (lengths_of p.shape) = heap_most l p payload bytes divided can in
     let few : pixel_bits p / 8 * product (lengths_of p.shape) < 2 ^ 63 = let limit : pixel_bits p / 8 * product (lengths_of p.shape) ≤ 8 * 2 ^ 40 = bytes_few p divided can in omega (arith, limit) in
@@ -423,11 +471,11 @@ table_stands l o source from file h is =
     let row : (t : ℕ) → t < tiles_in p → RowStandsFor file h t (tile a (lengths_of p.tile) t) =
     λ t less.
     stands_by file h p (packed_table p (data_start_of h) (length (heap_of (tile_codes p a)))) t (tile a (lengths_of p.tile) t) said.plan said.table
-    (rows_are l.read file h p a t is.payload less fits (l.pixels a (lengths_of p.tile) t) (code_at l p payload bytes divided can t less)) in
+    (rows_are l.read file h p a t (ap (λ (d : Hdu). d.payload) is.table) less fits (l.pixels a (lengths_of p.tile) t) (code_at l p payload bytes divided can t less)) in
     let numbers : length a.numbers ≡ product a.lengths = (l.stores (pixel_bits p) (product (lengths_of p.shape)) payload (can_write p.codec p.bitpix can).size bytes).0 in
     let again : image_bytes (plan_in file h) (cards_of (hdu_of file h).header) a ≡ hdu_bytes (hdu_of source from) =
     (λ i. header_bytes (said.cards i) ++ zero_filled (plain_bytes (pixel_bits (said.plan i)) a.numbers))
-    ∙ (λ i. l.bytes image is.taken.is_header.whole (l.header_fill o source from is.taken) i ++ image_data l o source from is.taken is.bytes is.whole i) in
+    ∙ (λ i. l.bytes image is.taken.image.is_header.whole (l.header_fill o source from is.taken.image) i ++ image_data l o source from is.taken.image is.taken.bytes is.taken.whole i) in
     subst (λ b. StandsForAs b file h (hdu_bytes (hdu_of source from))) (sym said.packed)
     (record {
       array = a;

@@ -1,22 +1,25 @@
 -- What the definitions promise, for every file.
-use Rattle.std.specs.Prelude.{ℕ, ◌≡◌, ◌<◌, true, List, length, codes, Option}
+use Rattle.std.specs.Prelude.{ℕ, suc, ◌≡◌, ◌+◌, ◌^◌, ◌<◌, ◌≤◌, true, List, length, codes, Option}
 use Rattle.fz_base.specs.declared.fault.Fault.{Fault}
 use Rattle.fz_block.specs.Cards.{card_at}
 use Rattle.fz_block.specs.Checks.{is_set}
 use Rattle.fz_block.specs.Facts.{facts_of}
-use Rattle.fz_block.specs.Hdus.{cards_of, hdu_bytes, header_bytes}
+use Rattle.fz_block.specs.Hdus.{Hdu, cards_of, hdu_bytes, header_bytes}
 use Rattle.fz_block.specs.Header.{whole_blocks_of}
-use Rattle.fz_block.specs.Walk.{hdu_of}
+use Rattle.fz_block.specs.Walk.{PassesAt, hdu_of}
 use Rattle.fz_block.specs.declared.header.Header.{Header}
 use Rattle.fz_tile.specs.Plain.{AreBytes}
 use Rattle.fz_tile.specs.TileCode.{TileCode}
+use Rattle.fz_head.specs.Accepted.{IsAccepted}
 use Rattle.fz_head.specs.JobChecks.{IsImageToPack}
+use Rattle.fz_head.specs.Packable.{is_primary}
 use Rattle.fz_head.specs.Planned.{pack_plan_of}
 use Rattle.fz_head.specs.declared.options.PackOptions.{PackOptions}
+use Rattle.fz_head.specs.declared.totals.Totals.{Totals}
 use Rattle.fz_files.specs.declared.job.Job.{Job}
 use Rattle.fz_files.specs.FirstFault.{IsFirstFault}
-use Rattle.fz_files.specs.Packed.{array_of, packed_data, table_header, tile_codes, with_sums}
-use Rattle.fz_files.specs.Restored.{HduStandsFor}
+use Rattle.fz_files.specs.Packed.{array_of, packed_data, table_header, tile_codes, totals_of, with_sums}
+use Rattle.fz_files.specs.Restored.{HduStandsFor, is_packed_primary}
 use Rattle.fz_files.specs.StandsFor.{StandsFor}
 
 -- a file has at most one first fault for a job; it has none, or this one
@@ -31,21 +34,46 @@ StandsForOneFile = (file restored other : List ℕ) → StandsFor file restored 
 abbrev pub codes_from : PackOptions → List ℕ → Header → List TileCode
 codes_from o source from = tile_codes (pack_plan_of o from) (array_of (pack_plan_of o from) (hdu_of source from).payload)
 
--- An HDU of a file, behind its first one, is the table of an image of another file, which `pack` takes with these options. An image in
--- HDU 0 begins with SIMPLE = T, and its data stand in their file.
-pub record IsTableOf (o : PackOptions) (source : List ℕ) (from : Header) (file : List ℕ) (h : Header) : Type 0 where
-  pub taken : IsImageToPack o source from
+-- what the header of its table tells, with or without cards of sums
+abbrev pub totals_from : PackOptions → List ℕ → Header → Totals
+totals_from o source from = record (totals_of (pack_plan_of o from) (codes_from o source from)) { sums = o.sums }
+
+-- the HDU of its table
+abbrev pub table_hdu : PackOptions → List ℕ → Header → Hdu
+table_hdu o source from =
+    let p = pack_plan_of o from in
+    let codes = codes_from o source from in
+    record { header = header_bytes (with_sums o.sums (table_header p (cards_of (hdu_of source from).header) codes) (packed_data p codes)); payload = packed_data p codes }
+
+-- An image of a file that `pack` takes with these options: in HDU 0 it begins with SIMPLE = T, and its data stand in the file.
+pub record IsTaken (o : PackOptions) (source : List ℕ) (from : Header) : Type 0 where
+  pub image : IsImageToPack o source from
   pub bytes : AreBytes source
   pub simple : from.hdu ≡ 0 → is_set (codes "SIMPLE") (card_at (hdu_of source from).header 0) ≡ true
   pub whole : length (hdu_of source from).payload ≡ whole_blocks_of from.data_len
+
+-- its table passes the checks of every job behind the first HDU, wherever it stands in a file
+abbrev pub TablesPass : Type 0
+TablesPass =
+    (o : PackOptions) (source : List ℕ) (from : Header) (k start len : ℕ) → IsTaken o source from → suc k < 65536 → start + length (hdu_bytes (table_hdu o source from)) ≤ len → len ≤ 2 ^ 62 →
+    PassesAt (suc k) start len (table_hdu o source from)
+
+-- it is a packed image behind the first HDU, of which no check refuses anything
+abbrev pub TablesAreAccepted : Type 0
+TablesAreAccepted =
+    (o : PackOptions) (source : List ℕ) (from : Header) (k start : ℕ) → IsTaken o source from →
+    IsAccepted (pack_plan_of o from) (totals_from o source from) (table_hdu o source from).header (facts_of (suc k) start (table_hdu o source from).header)
+
+-- an HDU of a file, behind its first one, is the table of an image of another file
+pub record IsTableOf (o : PackOptions) (source : List ℕ) (from : Header) (file : List ℕ) (h : Header) : Type 0 where
+  pub taken : IsTaken o source from
   pub behind : 0 < h.hdu
   pub facts : h ≡ facts_of h.hdu h.start (hdu_of file h).header
-  pub header :
-      (hdu_of file h).header
-      ≡ header_bytes
-      (with_sums o.sums (table_header (pack_plan_of o from) (cards_of (hdu_of source from).header) (codes_from o source from)) (packed_data (pack_plan_of o from) (codes_from o source from)))
-  pub payload : (hdu_of file h).payload ≡ packed_data (pack_plan_of o from) (codes_from o source from)
+  pub table : hdu_of file h ≡ table_hdu o source from
 
--- it stands for the image
+-- it stands for the image, and was a primary where the image is one
 abbrev pub TablesStandForImages : Type 0
 TablesStandForImages = (o : PackOptions) (source : List ℕ) (from : Header) (file : List ℕ) (h : Header) → IsTableOf o source from file h → HduStandsFor file h (hdu_bytes (hdu_of source from))
+
+abbrev pub TablesWerePrimary : Type 0
+TablesWerePrimary = (o : PackOptions) (source : List ℕ) (from : Header) (file : List ℕ) (h : Header) → IsTableOf o source from file h → is_packed_primary file h ≡ is_primary from.sort

@@ -1,8 +1,8 @@
 //! The laws of the definitions: no code runs.
 ghost use Rattle.fz_files.specs.Buffers.{AreBounded};
-ghost use Rattle.fz_files.specs.Laws.{HasOneFirstFault, StandsForOneFile, TablesStandForImages};
+ghost use Rattle.fz_files.specs.Laws.{HasOneFirstFault, StandsForOneFile, TablesAreAccepted, TablesPass, TablesStandForImages, TablesWerePrimary};
 
-use fz_block::{cards_law, walk_law};
+use fz_block::{cards_law, found_law, walk_law};
 use fz_grid::{shape_law, tile_pixels_law, tiles_law};
 use fz_head::{
     accepted_law, image_to_pack_law, packed_image_law, sum_cards_law, there_and_back_law,
@@ -37,15 +37,19 @@ pub fn one_file_law()
     walk_law();
 }
 
-/// The table of an image that `pack` takes stands for the image, whatever file the table is in: the way there and
-/// back.
+/// The table of an image that `pack` takes, behind the first HDU of whatever file: no check of `unpack` refuses it, it
+/// stands for the image, and it was a primary where the image is one.
 pub fn table_law()
-    ensures { TablesStandForImages }
+    ensures passes { TablesPass }
+    ensures accepted { TablesAreAccepted }
+    ensures stands { TablesStandForImages }
+    ensures primary { TablesWerePrimary }
 {
     accepted_law();
     cards_law();
     column_law();
     descriptor_law();
+    found_law();
     image_to_pack_law();
     plain_law();
     shape_law();

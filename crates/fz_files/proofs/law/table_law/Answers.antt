@@ -1,11 +1,12 @@
 -- The header, the rows and the pixels, there and back.
-use Rattle.fz_files.proofs.TableImage.{table_stands}
+use Rattle.fz_files.proofs.TableImage.{TableLaws, accepted_is, table_stands, table_was_primary}
+use Rattle.fz_files.proofs.TablePasses.{table_passes}
 use Rattle.fz_files.proofs.law.table_law.Goals as goal
 
 pub returns : goal.returns
 returns c =
-    table_stands
-    (record {
+    let laws : TableLaws =
+    record {
       read = c.descriptor_law.ensures;
       hold = c.tile_code_law.ensures.holds;
       fills = c.column_law.ensures;
@@ -33,4 +34,5 @@ returns c =
       whole = c.whole_cards_law.ensures.packed;
       bytes = c.cards_law.ensures.bytes;
       cards = c.cards_law.ensures.cards;
-    })
+    } in
+    record { passes = table_passes c.found_law.ensures.blocks laws; accepted = accepted_is laws; stands = table_stands laws; primary = table_was_primary laws }
