@@ -1,0 +1,5 @@
+pub mod Outs
+pub mod Passing
+pub mod Sources
+pub mod Standing
+pub mod Way
