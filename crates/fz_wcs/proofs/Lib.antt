@@ -1,0 +1,4 @@
+pub mod ScanLemmas
+pub mod ReadingLemmas
+pub mod NumberLemmas
+pub mod DecimalLemmas

@@ -1,0 +1,4 @@
+pub mod Decimals
+pub mod Scans
+pub mod Reading
+pub mod Laws
