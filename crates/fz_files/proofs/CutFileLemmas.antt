@@ -120,7 +120,7 @@ pub plan_checks_none : first_refusal (packed_checks 1 (block_of plain_cards) tru
 unfolding integer_of logical_of text_of quoted number_behind numbered_name digits end_among
 plan_checks_none = refl
 
-abbrev box_none : (sieve : Sieve) → Type 0
+abbrev pub box_none : (sieve : Sieve) → Type 0
 box_none sieve = first_refusal (box_checks 1 (cards_of (block_of plain_cards)) (box_of sieve)) ≡ None
 
 checks_none : (sieve : Sieve) → box_none sieve → first_refusal (cut_hdu_checks plain_file (box_of sieve) table_facts) ≡ None
@@ -141,7 +141,7 @@ stops_behind sieve box =
     ap (λ b. if b then unless_refused true (first_refusal (cut_hdu_checks plain_file (box_of sieve) table_facts)) else Ok false) packed
     ∙ ap (unless_refused true) (checks_none sieve box)
 
-walk_is : (sieve : Sieve) → box_none sieve → walk_of (cut_judge None sieve plain_file) 65536 plain_file ≡ Ok (first_facts ∷ table_facts ∷ [])
+pub walk_is : (sieve : Sieve) → box_none sieve → walk_of (cut_judge None sieve plain_file) 65536 plain_file ≡ Ok (first_facts ∷ table_facts ∷ [])
 walk_is sieve box =
     goes_on (cut_judge None sieve plain_file) 65535 0 0 plain_file first_facts (Ok (table_facts ∷ [])) first_at (passes_first sieve) refl
     (stops_at (cut_judge None sieve plain_file) 65534 1 2880 plain_file table_facts table_at (stops_behind sieve box))
@@ -151,7 +151,7 @@ reached_is sieve box =
     reaches_on (cut_judge None sieve plain_file) 65535 0 0 plain_file first_facts (record { hdu = 1; start = 2880 } ∷ []) first_at (passes_first sieve) refl
     (reaches_last (cut_judge None sieve plain_file) 65534 1 2880 plain_file table_facts table_at (stops_behind sieve box))
 
-no_fault : (sieve : Sieve) → box_none sieve → header_fault (Cut None sieve) plain_file ≡ None
+pub no_fault : (sieve : Sieve) → box_none sieve → header_fault (Cut None sieve) plain_file ≡ None
 unfolding job_walk
 no_fault sieve box =
     ap (fault_of_walk (Cut None sieve) plain_file) (walk_is sieve box)
@@ -168,7 +168,7 @@ headers_touched : (header_range plain_file (record { hdu = 0; start = 0 }) ∷ h
 unfolding header_touched end_among logical_of
 headers_touched = refl
 
-rows_are : (sieve : Sieve) (rows : List ℕ) → box_none sieve → picked_tiles_of plain_plan sieve ≡ rows →
+pub rows_are : (sieve : Sieve) (rows : List ℕ) → box_none sieve → picked_tiles_of plain_plan sieve ≡ rows →
     rows_for (Cut None sieve) plain_file (headers_for (Cut None sieve) plain_file) ≡ map (image_row table_facts) rows
 unfolding job_walk
 rows_are sieve rows box is =
@@ -186,11 +186,11 @@ touched_is sieve rows box is =
     ap (λ r. rows_touched r (Cut None sieve) plain_file) (no_fault sieve box) ∙ ap (flat_map (ranges_of_row plain_file)) (rows_are sieve rows box is) in
     λ i. heads i ++ behind i
 
-box_box : box_none box_sieve
+pub box_box : box_none box_sieve
 unfolding integer_of numbered_name digits end_among
 box_box = refl
 
-box_tiles : picked_tiles_of plain_plan box_sieve ≡ 0 ∷ 1 ∷ 3 ∷ 4 ∷ []
+pub box_tiles : picked_tiles_of plain_plan box_sieve ≡ 0 ∷ 1 ∷ 3 ∷ 4 ∷ []
 box_tiles = refl
 
 ends_box : box_none ends_sieve

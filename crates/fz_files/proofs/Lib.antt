@@ -1,5 +1,6 @@
 pub mod BufferLemmas
 pub mod CutFileLemmas
+pub mod CutoutLemmas
 pub mod ExtensionFileLemmas
 pub mod FaultFileLemmas
 pub mod FaultLemmas

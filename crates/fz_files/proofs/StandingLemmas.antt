@@ -73,25 +73,25 @@ headers_are = ap found_headers walk_is
 
 -- ---- the rows
 
-abbrev RowStands : ℕ → Type 0
+abbrev pub RowStands : ℕ → Type 0
 RowStands row = RowStandsFor plain_file table_facts row (tile_of_grid row)
 
 abbrev six : List ℕ
 six = 0 ∷ 1 ∷ 2 ∷ 3 ∷ 4 ∷ 5 ∷ []
 
-stands : (row : ℕ) → RowIs (plan_in plain_file table_facts) (image_table plain_file table_facts) row (tile_of_grid row) → RowStands row
+pub stands : (row : ℕ) → RowIs (plan_in plain_file table_facts) (image_table plain_file table_facts) row (tile_of_grid row) → RowStands row
 stands row r = record { found = r.found; chosen = r.chosen; count = r.count; means = r.means }
 
 abbrev all_are : (p : Plan) (t : Table) → Type 0
 all_are p t = AllByRecursion (λ row. RowIs p t row (tile_of_grid row)) six
 
-rows_stand : AllByRecursion RowStands six
+pub rows_stand : AllByRecursion RowStands six
 rows_stand = (stands 0 r.0, (stands 1 r.1.0, (stands 2 r.1.1.0, (stands 3 r.1.1.1.0, (stands 4 r.1.1.1.1.0, (stands 5 r.1.1.1.1.1.0, tt))))))
   where
     r : all_are (plan_in plain_file table_facts) (image_table plain_file table_facts)
     r = subst (λ p. all_are p (image_table plain_file table_facts)) (sym plan_is) (subst (all_are plain_plan) (sym table_is) (row_0, (row_1, (row_2, (row_3, (row_4, (row_5, tt)))))))
 
-sound_rows : (rows : List ℕ) → AllByRecursion RowStands rows → IsFirstRowFault plain_file (map (image_row table_facts) rows) None
+pub sound_rows : (rows : List ℕ) → AllByRecursion RowStands rows → IsFirstRowFault plain_file (map (image_row table_facts) rows) None
 sound_rows [] each = tt
 sound_rows (row ∷ rows) each = ((tile_of_grid row, each.0), sound_rows rows each.1)
 

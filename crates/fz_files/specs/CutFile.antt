@@ -1,9 +1,11 @@
 -- Parts that are cut from the packed file of `PlainFile`: the pixels, and the ranges of the file that they are read from, written out by
 -- hand (FITS 4.0, sections 7.3 and 10.1).
-use Rattle.std.specs.Prelude.{ℕ, pos, ℤ, List, [], ◌∷◌}
+use Rattle.std.specs.Prelude.{ℕ, pos, ℤ, List, [], ◌∷◌, ◌++◌, codes, replicate}
 use Rattle.fz_block.specs.declared.header.Header.{Header}
 use Rattle.fz_block.specs.declared.header.Sort.TheVariants.{BinTable}
 use Rattle.fz_grid.specs.declared.sieve.Sieve.{Sieve}
+use Rattle.fz_files.specs.HandMade.{block_of, card_of}
+use Rattle.fz_files.specs.PlainFile.{plain_cards}
 
 -- the header of the table, behind the empty primary: 21 cards in one block, and 96 bytes of rows and 15 bytes of heap behind it
 abbrev pub table_facts : Header
@@ -70,4 +72,46 @@ ends_ranges =
     (0, 2880) ∷ (2880, 2880)
     ∷ (5760, 8) ∷ (5768, 8) ∷ (5856, 4)
     ∷ (5792, 8) ∷ (5800, 8) ∷ (5864, 2)
+    ∷ []
+
+-- the cutout of the box: the cards of a primary image of 3 by 2 pixels, the pixels, and fill
+abbrev pub box_cards : List (List ℕ)
+box_cards =
+    card_of (codes "SIMPLE  =                    T")
+    ∷ card_of (codes "BITPIX  =                    8")
+    ∷ card_of (codes "NAXIS   =                    2")
+    ∷ card_of (codes "NAXIS1  =                    3")
+    ∷ card_of (codes "NAXIS2  =                    2")
+    ∷ []
+
+abbrev pub box_file : List ℕ
+box_file = block_of box_cards ++ ((0x07 ∷ 0x08 ∷ 0x09 ∷ 0x0C ∷ 0x0D ∷ 0x0E ∷ []) ++ replicate 2874 0)
+
+-- the cards of the table, and behind them reference pixels of both axes
+abbrev pub reference_cards : List (List ℕ)
+reference_cards = plain_cards ++ card_of (codes "CRPIX1  =                  3.0") ∷ card_of (codes "CRPIX2  =                  2.5") ∷ []
+
+-- the cards of the cutout of the box, whose corner is one pixel behind the first along both axes
+abbrev pub moved_cards : List (List ℕ)
+moved_cards = box_cards ++ card_of (codes "CRPIX1  =                  2.0") ∷ card_of (codes "CRPIX2  =                  1.5") ∷ []
+
+-- every second pixel from the second on along axis 1, and all along axis 2
+abbrev pub second_sieve : Sieve
+second_sieve = record {
+  n = 2;
+  lo = 1 ∷ 0 ∷ 0 ∷ 0 ∷ 0 ∷ 0 ∷ 0 ∷ 0 ∷ 0 ∷ [];
+  hi = 3 ∷ 2 ∷ 0 ∷ 0 ∷ 0 ∷ 0 ∷ 0 ∷ 0 ∷ 0 ∷ [];
+  step = 2 ∷ 1 ∷ 0 ∷ 0 ∷ 0 ∷ 0 ∷ 0 ∷ 0 ∷ 0 ∷ [];
+}
+
+-- the cards of its cutout, which keeps both reference pixels
+abbrev pub kept_cards : List (List ℕ)
+kept_cards =
+    card_of (codes "SIMPLE  =                    T")
+    ∷ card_of (codes "BITPIX  =                    8")
+    ∷ card_of (codes "NAXIS   =                    2")
+    ∷ card_of (codes "NAXIS1  =                    2")
+    ∷ card_of (codes "NAXIS2  =                    3")
+    ∷ card_of (codes "CRPIX1  =                  3.0")
+    ∷ card_of (codes "CRPIX2  =                  2.5")
     ∷ []

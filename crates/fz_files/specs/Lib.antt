@@ -1,6 +1,7 @@
 pub mod Buffers
 pub mod CutFile
 pub mod Cutout
+pub mod CutoutBytes
 pub mod Drill
 pub mod ExtensionFile
 pub mod FaultFile

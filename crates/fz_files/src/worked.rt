@@ -3,7 +3,8 @@ ghost use Rattle.std.specs.Prelude.{◌≡◌, ◌++◌, None, true};
 ghost use Rattle.fz_block.specs.Facts.{facts_of};
 ghost use Rattle.fz_head.specs.Planned.{pack_plan_of};
 ghost use Rattle.fz_files.specs.declared.job.Job.TheVariants.{Pack, Unpack};
-ghost use Rattle.fz_files.specs.CutFile.{table_facts, box_sieve, box_numbers, box_ranges, step_sieve, step_numbers, ends_sieve, ends_ranges};
+ghost use Rattle.fz_files.specs.CutFile.{table_facts, box_sieve, box_file, box_ranges, reference_cards, moved_cards, second_sieve, kept_cards, step_sieve, step_numbers, ends_sieve, ends_ranges};
+ghost use Rattle.fz_files.specs.CutoutBytes.{IsCutout, cutout_cards};
 ghost use Rattle.fz_files.specs.Cutout.{AreCutFrom, touched as touched_of};
 ghost use Rattle.fz_files.specs.ExtensionFile.{image_cards, row_pixels, image_hdu, extension_file, bare_options, image_plan, image_tiles, image_rows, image_table_cards, packed_extension};
 ghost use Rattle.fz_files.specs.FaultFile.{reserved_file, reserved_fault, trailing_file, trailing_fault};
@@ -78,11 +79,13 @@ pub fn fault_file_law()
     ensures unpack { IsFirstFault Unpack reserved_file trailing_fault }
 {}
 
-/// Parts of the image that the packed file of [`plain_file_law`] holds: the pixels of a box and those of a box with
-/// steps, and the ranges of the file that a cut reads for the box, and for a box with steps that leave a tile out, as
+/// Parts of the image that the packed file of [`plain_file_law`] holds: the cutout of a box, whose reference pixels
+/// are moved by its corner, but not along an axis with a step; the pixels of a box with steps; and the ranges of the file that a cut reads for the box, and for a box with steps that leave a tile out, as
 /// `specs/CutFile.antt` writes them out.
 pub fn cut_file_law()
-    ensures pixels { AreCutFrom plain_file table_facts box_sieve box_numbers }
+    ensures file { IsCutout None box_sieve plain_file box_file }
+    ensures moved { cutout_cards box_sieve reference_cards ≡ moved_cards }
+    ensures kept { cutout_cards second_sieve reference_cards ≡ kept_cards }
     ensures steps { AreCutFrom plain_file table_facts step_sieve step_numbers }
     ensures touched { touched_of None box_sieve plain_file ≡ box_ranges }
     ensures gaps { touched_of None ends_sieve plain_file ≡ ends_ranges }
