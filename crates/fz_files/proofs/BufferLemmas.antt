@@ -1,5 +1,5 @@
 -- The takings of a job stay within its bound.
-use Rattle.std.proofs.Common.{◌≡◌, ℕ, zero, suc, ◌+◌, ◌*◌, ◌≤◌, ◌==◌, true, false, nat_lt, Bool, List, [], ◌∷◌, ◌++◌, length, map, max, Option, Some, None, Result, Ok, Err, refl, sym, ◌∙◌, ap, arith, if◌then◌else◌}
+use Rattle.std.proofs.Common.{◌≡◌, ℕ, zero, suc, ◌+◌, ◌*◌, ◌≤◌, ◌==◌, true, false, nat_lt, Bool, List, [], ◌∷◌, ◌++◌, length, map, max, Option, Some, None, Result, Ok, Err, refl, ◌∙◌, ap, arith, if◌then◌else◌}
 use Rattle.std.proofs.lemmas.Bool.Decides.{nat_tests}
 use Rattle.fz_base.specs.Takings.{piled, first_past}
 use Rattle.fz_base.specs.declared.fault.Fault.{Fault}
@@ -9,9 +9,9 @@ use Rattle.fz_block.specs.Takings.{header_taking, where_going_on, for_those_afte
 use Rattle.fz_block.specs.declared.header.Header.{Header}
 use Rattle.fz_files.specs.declared.job.Job.{Job}
 use Rattle.fz_files.specs.declared.job.Job.TheVariants.{Pack, Unpack, Cut, Verify, List as ListHdus, Drill}
-use Rattle.fz_files.specs.Buffers.{buffer_bound, found_len, header_len, slot_buffers, slots_buffers, work_buffers, longest_header, largest_tile, header_takings, work_takings, file_takings, job_bound, job_takings, IsOfFile}
+use Rattle.fz_files.specs.Buffers.{buffer_bound, found_len, header_len, slots_buffers, work_buffers, longest_header, largest_tile, header_takings, work_takings, file_takings, job_bound, job_takings, IsOfFile}
 use Rattle.fz_files.specs.Packed.{greatest}
-use Rattle.fz_files.specs.Walks.{Reached, reached_behind, reached_after, reached_from, reached_by, header_fault, job_walk}
+use Rattle.fz_files.specs.Walks.{reached_behind, reached_after, reached_from, reached_by, header_fault}
 
 one_within : (b live asked : ℕ) (ts : List (ℕ × ℕ)) → live + asked ≤ b → first_past b ts ≡ None → first_past b ((live, asked) ∷ ts) ≡ None
 one_within b live asked ts room rest = let test : nat_lt b (live + asked) ≡ false = grind (arith, nat_tests) in rw test rest

@@ -1,5 +1,5 @@
 -- The parts of the packed file of `PlainFile`, by the definitions.
-use Rattle.std.proofs.Common.{◌≡◌, ℕ, zero, suc, ◌<◌, ◌==◌, ◌&&◌, ◌||◌, nat_lt, true, false, Bool, ℤ, pos, negsuc, List, [], ◌∷◌, ◌++◌, length, map, Contains, All, Option, Some, None, Result, Ok, Err, if◌then◌else◌, append-nil, refl, sym, subst, ◌∙◌, ap, arith}
+use Rattle.std.proofs.Common.{◌≡◌, ℕ, zero, suc, ◌&&◌, ◌||◌, nat_lt, true, false, Bool, ℤ, pos, negsuc, List, [], ◌∷◌, ◌++◌, length, map, Contains, All, Some, None, Ok, if◌then◌else◌, append-nil, refl, sym, subst, ◌∙◌, ap, arith}
 use Rattle.std.proofs.lemmas.Bool.Decides.{nat_tests}
 use Rattle.std.proofs.lemmas.List.Elements.{All-cons, All-nil}
 use Rattle.std.specs.List.{AllByRecursion, flat_map, list_all}

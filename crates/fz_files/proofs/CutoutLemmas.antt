@@ -1,6 +1,6 @@
 -- The cutout of the packed file of `PlainFile`, by the definitions.
 use Rattle.std.specs.List.{AllByRecursion}
-use Rattle.std.proofs.Common.{◌≡◌, ℕ, List, [], ◌∷◌, ◌++◌, map, None, refl, sym, subst, ◌∙◌, ap}
+use Rattle.std.proofs.Common.{◌≡◌, [], ◌∷◌, None, refl, sym, subst, ◌∙◌, ap}
 use Rattle.std.specs.Fmt.{digits}
 use Rattle.fz_card.specs.Made.{int_card_bytes, logical_card_bytes, numbered_name}
 use Rattle.fz_card.specs.Naming.{number_behind, plain_name, is_dropped}
@@ -9,12 +9,11 @@ use Rattle.fz_card.specs.Reading.{integer_of, text_of}
 use Rattle.fz_card.specs.Tables.{renamings, packed_names, own_names}
 use Rattle.fz_wcs.specs.Reading.{decimal_of, shifted}
 use Rattle.fz_wcs.specs.Scans.{decimal_in}
-use Rattle.fz_block.specs.declared.header.Header.{Header}
 use Rattle.fz_head.specs.PlainHeader.{cutout_header}
 use Rattle.fz_files.specs.declared.job.Job.TheVariants.{Cut}
 use Rattle.fz_files.specs.CutFile.{table_facts, box_sieve, box_numbers, box_file, reference_cards, moved_cards, second_sieve, kept_cards}
 use Rattle.fz_files.specs.CutoutBytes.{IsCutout, cutout_bytes, cutout_cards}
-use Rattle.fz_files.specs.FirstFault.{IsFirstFault, IsFaultBehind, IsFirstRowFault, image_row}
+use Rattle.fz_files.specs.FirstFault.{IsFirstFault, IsFaultBehind, IsFirstRowFault}
 use Rattle.fz_files.specs.PlainFile.{plain_cards, plain_file, plain_plan}
 use Rattle.fz_files.specs.Walks.{found_headers, headers_for, job_walk, last_of}
 use Rattle.fz_files.proofs.CutFileLemmas.{box_is, box_box, box_tiles, cards_are, no_fault, plan_is, rows_are, walk_is}

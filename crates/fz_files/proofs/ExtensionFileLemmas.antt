@@ -10,15 +10,15 @@ use Rattle.fz_card.specs.Tables.{renamings}
 use Rattle.fz_grid.specs.Grid.{tile}
 use Rattle.fz_block.specs.Cards.{end_among}
 use Rattle.fz_block.specs.Facts.{facts_of}
-use Rattle.fz_block.specs.Hdus.{IsHeader, AreHdusOf, hdu_bytes, cards_of, data_len_of, header_bytes}
+use Rattle.fz_block.specs.Hdus.{IsHeader, AreHdusOf, cards_of, data_len_of, header_bytes}
 use Rattle.fz_block.specs.Header.{whole_blocks_of}
 use Rattle.fz_head.specs.Packable.{is_packable}
-use Rattle.fz_head.specs.PackedHeader.{number_card, numbered_number_card, numbered_word_card, packed_card, packed_header, descriptor_form}
+use Rattle.fz_head.specs.PackedHeader.{number_card, numbered_word_card, packed_card, packed_header, descriptor_form}
 use Rattle.fz_head.specs.Planned.{pack_plan_of}
 use Rattle.fz_files.specs.ExtensionFile.{bare_hdu, image_cards, row_pixels, image_hdu, extension_file, bare_options, image_plan, image_tiles, image_rows, image_data, image_table_cards, packed_extension}
 use Rattle.fz_files.specs.HandMade.{card_of, block_of}
 use Rattle.fz_files.specs.Packed.{IsPackedFile, array_of, heap_of, packed_data, packed_file, packed_from, packed_hdu, packed_image, packed_table, rows_from, table_header, tile_codes}
-use Rattle.fz_files.proofs.WorkedCards.{value_is, digit_name, numbered_is, decimal_16, made_xtension, made_bitpix, made_naxis, made_naxis1, made_gcount, made_tfields, made_ttype1, made_no_codes, made_ttype2, made_zimage, made_nocompress, made_naxis2, made_ztile1, made_ztile2, packed_bitpix, packed_naxis, packed_axis_1, packed_axis_2}
+use Rattle.fz_files.proofs.WorkedCards.{value_is, digit_name, decimal_16, made_xtension, made_bitpix, made_naxis, made_naxis1, made_gcount, made_tfields, made_ttype1, made_no_codes, made_ttype2, made_zimage, made_nocompress, made_naxis2, made_ztile1, made_ztile2, packed_bitpix, packed_naxis, packed_axis_1, packed_axis_2}
 
 pub tiles_are : tile_codes image_plan (array_of image_plan image_hdu.payload) ≡ image_tiles
 unfolding tile_codes tile

@@ -1,5 +1,5 @@
 -- The first faults of the files with faults, by the definitions.
-use Rattle.std.proofs.Common.{◌≡◌, ℕ, false, pos, List, [], ◌∷◌, Option, Some, None, Result, Ok, Err, refl, sym, subst, ◌∙◌, ap}
+use Rattle.std.proofs.Common.{◌≡◌, ℕ, false, pos, List, [], ◌∷◌, Some, Ok, Err, refl, sym, subst, ap}
 use Rattle.std.specs.Fmt.{digits}
 use Rattle.fz_base.specs.Refusal.{refusal}
 use Rattle.fz_base.specs.declared.fault.Fault.{Fault}

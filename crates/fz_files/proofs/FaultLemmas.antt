@@ -1,6 +1,6 @@
 -- A file has at most one first fault for a job.
 use Rattle.std.specs.Prelude.{⊤}
-use Rattle.std.proofs.Common.{◌≡◌, ℕ, ◌<◌, ◌≤◌, ◌⊎◌, inl, inr, Bool, true, false, ℤ, pos, unsigned_abs, List, [], ◌∷◌, ◌++◌, length, map, Option, Some, None, Result, Ok, Err, if◌then◌else◌, cond, refl, sym, subst, ◌∙◌, ap}
+use Rattle.std.proofs.Common.{◌≡◌, ℕ, ◌<◌, ◌≤◌, inl, inr, Bool, true, false, ℤ, pos, unsigned_abs, List, [], ◌∷◌, ◌++◌, length, map, Option, Some, None, Result, Ok, Err, if◌then◌else◌, cond, refl, sym, subst, ◌∙◌, ap}
 use Rattle.std.specs.List.{filter, flat_map, range_with_len}
 use Rattle.fz_base.specs.Refusal.{refusal}
 use Rattle.fz_base.specs.declared.fault.Fault.{Fault}
@@ -9,23 +9,21 @@ use Rattle.fz_block.specs.Checks.{Judge, walk_of}
 use Rattle.fz_block.specs.Walk.{AreHeadersBetween, RefusesNone, stops}
 use Rattle.fz_block.specs.declared.header.Header.{Header}
 use Rattle.fz_grid.specs.declared.sieve.Sieve.{Sieve}
-use Rattle.fz_table.specs.Records.{record_at, record_bytes}
+use Rattle.fz_table.specs.Records.{record_bytes}
 use Rattle.fz_table.specs.declared.record.Record.{Record}
 use Rattle.fz_tile.specs.Codecs.{CanRead}
 use Rattle.fz_tile.specs.Laws.{StandsUnrefused, IsRefusedOnce}
 use Rattle.fz_tile.specs.Pixels.{IsBitpix}
-use Rattle.fz_tile.specs.Record.{IsRecord}
 use Rattle.fz_tile.specs.Refusals.{IsFault}
 use Rattle.fz_tile.specs.declared.codec.Codec.{Codec}
-use Rattle.fz_tile.specs.declared.fault.TileFault.{TileFault}
 use Rattle.fz_head.specs.JobChecks.{missing_hdu}
 use Rattle.fz_head.specs.TileKinds.{kind_of_tile}
 use Rattle.fz_head.specs.declared.plan.Plan.{Plan}
 use Rattle.fz_files.specs.declared.job.Job.{Job}
 use Rattle.fz_files.specs.declared.job.Job.TheVariants.{Pack, Unpack, Cut, Verify, List as ListHdus, Drill}
-use Rattle.fz_files.specs.FirstFault.{ImageRow, RecordIsFaulty, IsRowFault, IsRowSound, IsFirstRowFault, IsFirstFault, IsFaultBehind, image_row, rows_of, all_rows, picked_rows, picked_tiles_of, rows_for}
+use Rattle.fz_files.specs.FirstFault.{ImageRow, IsRowFault, IsRowSound, IsFirstRowFault, IsFirstFault, IsFaultBehind, image_row, rows_of, all_rows, picked_rows, picked_tiles_of, rows_for}
 use Rattle.fz_files.specs.Packed.{pixel_bits, tiles_in}
-use Rattle.fz_files.specs.Restored.{RowStandsFor, image_table, is_image, pixels_of, place_in, plan_in, tile_of}
+use Rattle.fz_files.specs.Restored.{is_image, pixels_of, place_in, plan_in}
 use Rattle.fz_files.specs.Walks.{header_fault, headers_for, found_headers, job_walk, fault_of_walk, cut_end_fault, missing_of, last_of, unpack_judge, cut_judge}
 use Rattle.fz_files.proofs.ImageLemmas.{UnpackFindsImage, CutFindsImage, EachIs, IsReadable, ReadableIf, cut_from_readable, unpacked_readable}
 

@@ -12,7 +12,7 @@ use Rattle.fz_block.specs.Facts.{facts_of}
 use Rattle.fz_block.specs.Hdus.{IsHeader, AreHdusOf, cards_of, data_len_of, header_bytes}
 use Rattle.fz_block.specs.Header.{whole_blocks_of}
 use Rattle.fz_head.specs.Packable.{is_packable}
-use Rattle.fz_head.specs.PackedHeader.{number_card, word_card, numbered_number_card, numbered_word_card, packed_card, packed_header, descriptor_form}
+use Rattle.fz_head.specs.PackedHeader.{number_card, numbered_number_card, numbered_word_card, packed_card, packed_header, descriptor_form}
 use Rattle.fz_head.specs.Planned.{pack_plan_of}
 use Rattle.fz_files.specs.HandMade.{card_of, block_of}
 use Rattle.fz_files.specs.Packed.{IsPackedFile, array_of, heap_of, packed_data, packed_file, packed_from, packed_hdu, packed_image, packed_table, rows_from, table_header, tile_codes}

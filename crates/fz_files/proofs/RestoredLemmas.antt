@@ -1,10 +1,8 @@
 -- A packed file stands for at most one file.
-use Rattle.std.specs.Prelude.{⊤}
-use Rattle.std.proofs.Common.{◌≡◌, ℕ, zero, suc, ◌<◌, ◌≤◌, Bool, true, false, ℤ, pos, slice_index, List, [], ◌∷◌, ◌++◌, length, map, replicate, Option, Some, None, Result, Ok, Err, if◌then◌else◌, refl, sym, subst, ◌∙◌, ap, arith, ◌-◌}
+use Rattle.std.proofs.Common.{◌≡◌, ℕ, ◌<◌, ◌≤◌, Bool, true, false, ℤ, pos, slice_index, List, [], ◌∷◌, ◌++◌, length, replicate, Option, Some, None, if◌then◌else◌, refl, sym, subst, ◌∙◌, ap, ◌-◌}
 use Rattle.std.proofs.Math.Seq.{take-append_seam}
 use Rattle.std.proofs.Math.ListN.{get_or-append}
 use Rattle.std.proofs.lemmas.List.FromFn.{length-map-range_with_len}
-use Rattle.std.specs.List.{range_with_len}
 use Rattle.fz_base.specs.declared.fault.Fault.{Fault}
 use Rattle.fz_block.specs.Checks.{walk_of}
 use Rattle.fz_block.specs.Facts.{nine_axes}
@@ -28,7 +26,7 @@ use Rattle.fz_files.specs.declared.job.Job.{Job}
 use Rattle.fz_files.specs.declared.job.Job.TheVariants.{Unpack}
 use Rattle.fz_files.specs.FirstFault.{IsFaultBehind}
 use Rattle.fz_files.specs.Packed.{pixel_bits}
-use Rattle.fz_files.specs.Restored.{RowStandsFor, RowsStandFor, RecordMeans, IsImageOf, StandsForAs, HduStandsFor, HdusStandFor, header_in, image_bytes, is_image, is_packed_primary, place_in, plan_in, standing}
+use Rattle.fz_files.specs.Restored.{RowStandsFor, RowsStandFor, RecordMeans, StandsForAs, HduStandsFor, HdusStandFor, header_in, image_bytes, is_image, is_packed_primary, place_in, plan_in, standing}
 use Rattle.fz_files.specs.StandsFor.{StandsFor}
 use Rattle.fz_files.specs.Walks.{header_fault, headers_for, found_headers, job_walk, unpack_judge}
 use Rattle.fz_files.proofs.ImageLemmas.{UnpackFindsImage, EachIs, IsReadable, ReadableIf, unpacked_readable}

@@ -1,6 +1,6 @@
 -- The packed file of `PlainFile` stands for the file that it was made of, by the definitions.
 use Rattle.std.specs.List.{AllByRecursion, filter, flat_map, range_with_len}
-use Rattle.std.proofs.Common.{◌≡◌, ℕ, zero, suc, ◌<◌, ◌&&◌, true, false, List, [], ◌∷◌, ◌++◌, map, Option, Some, None, Result, Ok, Err, if◌then◌else◌, cond, append-nil, refl, sym, subst, ◌∙◌, ap, arith}
+use Rattle.std.proofs.Common.{◌≡◌, ℕ, zero, suc, ◌<◌, ◌&&◌, true, false, List, [], ◌∷◌, map, None, Ok, if◌then◌else◌, cond, append-nil, refl, sym, subst, ◌∙◌, ap, arith}
 use Rattle.std.specs.Fmt.{digits}
 use Rattle.fz_base.specs.Refusal.{first_refusal}
 use Rattle.fz_card.specs.Made.{numbered_name}
@@ -10,7 +10,6 @@ use Rattle.fz_card.specs.Reading.{integer_of, logical_of, text_of}
 use Rattle.fz_card.specs.Tables.{renamings, packed_names, own_names}
 use Rattle.fz_block.specs.Cards.{end_among}
 use Rattle.fz_block.specs.Checks.{unless_refused, walk_of}
-use Rattle.fz_block.specs.Hdus.{cards_of}
 use Rattle.fz_grid.specs.Region.{lengths_of}
 use Rattle.fz_grid.specs.Grid.{tile}
 use Rattle.fz_table.specs.declared.table.Table.{Table}
@@ -27,7 +26,7 @@ use Rattle.fz_files.specs.FirstFault.{IsFirstFault, IsFaultBehind, IsFirstRowFau
 use Rattle.fz_files.specs.HandMade.{block_of}
 use Rattle.fz_files.specs.Packed.{tiles_in}
 use Rattle.fz_files.specs.PlainFile.{plain_cards, plain_file, plain_plan, grid_file}
-use Rattle.fz_files.specs.Restored.{RowStandsFor, RowsStandFor, IsImageOf, StandsForAs, HdusStandFor, image_bytes, image_table, is_image, is_packed_primary, plan_in, standing}
+use Rattle.fz_files.specs.Restored.{RowStandsFor, IsImageOf, StandsForAs, HdusStandFor, image_bytes, image_table, is_image, is_packed_primary, plan_in, standing}
 use Rattle.fz_files.specs.StandsFor.{StandsFor}
 use Rattle.fz_files.specs.Walks.{fault_of_walk, found_headers, header_fault, headers_for, job_walk, unpack_judge}
 use Rattle.fz_files.proofs.CutFileLemmas.{first_facts, first_at, table_at, cards_are, plan_is, table_is, both_none, packed, table_checks_none, plan_checks_none, RowIs, grid_array, tile_of_grid, row_0, row_1, row_2, row_3, row_4, row_5}

@@ -4,13 +4,13 @@ use Rattle.std.proofs.lemmas.Fmt.{decimal_step, decimal-digits_of}
 use Rattle.fz_card.specs.Made.{text_card_bytes}
 use Rattle.fz_card.specs.Reading.{integer_of}
 use Rattle.fz_block.specs.Facts.{facts_of}
-use Rattle.fz_block.specs.Hdus.{cards_of, header_bytes}
+use Rattle.fz_block.specs.Hdus.{header_bytes}
 use Rattle.fz_head.specs.Planned.{pack_plan_of}
 use Rattle.fz_sum.specs.Cards.{datasum_card, checksum_card, blank_checksum_card}
 use Rattle.fz_sum.specs.Characters.{byte_characters, characters}
 use Rattle.fz_sum.specs.Sums.{word_total, carried, ones_sum}
 use Rattle.fz_files.specs.HandMade.{card_of, block_of}
-use Rattle.fz_files.specs.Packed.{IsPackedFile, packed_data, packed_file, packed_from, packed_hdu, packed_image, packed_table, sum_before, table_header, with_datasum, with_sums}
+use Rattle.fz_files.specs.Packed.{IsPackedFile, packed_file, packed_from, packed_hdu, packed_image, packed_table, sum_before, with_sums}
 use Rattle.fz_files.specs.PlainFile.{grid_cards, grid_hdu, grid_file, plain_plan, plain_tiles, plain_data, plain_cards}
 use Rattle.fz_files.specs.SumFile.{sum_options, sum_file_cards, blank_sum, sum_file}
 use Rattle.fz_files.proofs.PlainFileLemmas.{tiles_are, packable, cards_before, is_alone, cards_are, data_are}

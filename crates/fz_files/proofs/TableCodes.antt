@@ -1,8 +1,7 @@
 -- What is written for the tiles of an array that can be packed.
-use Rattle.std.proofs.Common.{◌≡◌, ◌≢◌, ℕ, zero, suc, ◌+◌, ◌-◌, ◌*◌, ◌/◌, ◌%◌, ◌^◌, ◌<◌, ◌≤◌, ◌==◌, ◌⊎◌, inl, inr, nat_lt, max, Bool, true, false, ℤ, pos, List, [], ◌∷◌, ◌++◌, length, map, All, slice_index, slice_index_or, Option, Some, None, if◌then◌else◌, unsigned_abs, refl, sym, subst, ◌∙◌, ap, arith}
+use Rattle.std.proofs.Common.{◌≡◌, ℕ, zero, suc, ◌+◌, ◌*◌, ◌/◌, ◌^◌, ◌<◌, ◌≤◌, ◌⊎◌, inl, inr, nat_lt, Bool, true, false, ℤ, pos, List, [], ◌∷◌, ◌++◌, length, map, All, slice_index_or, Option, Some, None, if◌then◌else◌, unsigned_abs, refl, sym, subst, ◌∙◌, ap, arith}
 use Rattle.std.proofs.Math.Nat.{div-le_self, mul-le-mul}
 use Rattle.std.proofs.lemmas.Bool.{cases_lt}
-use Rattle.std.proofs.lemmas.Bool.Decides.{nat_tests}
 use Rattle.std.proofs.lemmas.List.{get_or-map, get_or_past, length-append, length-map}
 use Rattle.std.proofs.lemmas.List.Concat.{length-flat_map}
 use Rattle.std.proofs.lemmas.List.Sums.{sum_by-cons}
@@ -11,8 +10,8 @@ use Rattle.fz_bits.specs.Numbers.{IsNumber}
 use Rattle.fz_grid.specs.Arrays.{NumberArray, coordinates_of, product}
 use Rattle.fz_grid.specs.Division.{AreTileLengths, tile_places}
 use Rattle.fz_grid.specs.Grid.{corner_of, lengths_from, tile, tile_corner, tile_count, tile_counts, tile_lengths}
-use Rattle.fz_grid.specs.Laws.{TilesAreAtTheirPlaces, TilesHaveAPixel, TilesHaveAllPixels, TilesHaveTheirPixels}
-use Rattle.fz_grid.specs.Region.{IsDivided, lengths_of}
+use Rattle.fz_grid.specs.Laws.{TilesAreAtTheirPlaces, TilesHaveAllPixels, TilesHaveTheirPixels}
+use Rattle.fz_grid.specs.Region.{lengths_of}
 use Rattle.fz_tile.specs.Codecs.{CanWrite}
 use Rattle.fz_tile.specs.Laws.{FillsColumn, HasPlainLen}
 use Rattle.fz_tile.specs.Pixels.{IsBitpix}
@@ -21,7 +20,6 @@ use Rattle.fz_tile.specs.Record.{IsRecord}
 use Rattle.fz_tile.specs.TileCode.{AreElements, TileCode, code_of, shorter, tile_code}
 use Rattle.fz_tile.specs.declared.codec.Codec.{Codec}
 use Rattle.fz_tile.specs.declared.codec.Codec.TheVariants.{Rice, Plio, Plain}
-use Rattle.fz_tile.specs.declared.coded.Place2.{Place2}
 use Rattle.fz_tile.specs.declared.coded.Place2.TheVariants as place
 use Rattle.fz_head.specs.PackedTable.{coded_unit}
 use Rattle.fz_head.specs.Planned.{pixel_len}

@@ -1,5 +1,5 @@
 -- The table of an image that `pack` takes stands for the image.
-use Rattle.std.proofs.Common.{◌≡◌, ℕ, zero, suc, ◌+◌, ◌-◌, ◌*◌, ◌/◌, ◌^◌, ◌<◌, ◌≤◌, ◌==◌, ◌&&◌, ◌⊎◌, inl, inr, nat_le, nat_lt, min, Bool, true, false, ℤ, pos, negsuc, List, [], ◌∷◌, ◌++◌, length, take, drop, map, replicate, All, Option, Some, None, unwrap_or, Result, Ok, Err, if◌then◌else◌, unsigned_abs, codes, refl, sym, subst, ◌∙◌, ap, arith}
+use Rattle.std.proofs.Common.{◌≡◌, ℕ, zero, suc, ◌+◌, ◌-◌, ◌*◌, ◌/◌, ◌^◌, ◌<◌, ◌≤◌, ◌==◌, ◌&&◌, inl, inr, nat_le, nat_lt, min, Bool, true, false, ℤ, pos, negsuc, List, [], ◌∷◌, ◌++◌, length, take, drop, map, replicate, All, Option, Some, None, unwrap_or, Ok, if◌then◌else◌, unsigned_abs, codes, refl, sym, subst, ◌∙◌, ap, arith}
 use Rattle.std.proofs.Math.Nat.{mul-le-mul}
 use Rattle.std.proofs.Math.Seq.{take-add, take-append_seam}
 use Rattle.std.proofs.lemmas.Bool.Decides.{nat_tests}
@@ -9,14 +9,14 @@ use Rattle.std.proofs.lemmas.List.FromFn.{length-map-range_with_len}
 use Rattle.fz_base.specs.Refusal.{first_refusal}
 use Rattle.fz_base.specs.declared.fault.Fault.{Fault}
 use Rattle.fz_block.specs.Cards.{card_at, is_named}
-use Rattle.fz_block.specs.Checks.{is_set, unless_refused}
+use Rattle.fz_block.specs.Checks.{unless_refused}
 use Rattle.fz_block.specs.Facts.{IsHeaderOf, facts_of, nine_axes}
 use Rattle.fz_block.specs.Hdus.{Hdu, HasBlankFill, IsCardBeforeEnd, IsHeader, axes_of, cards_of, data_len_of, gcount_of, hdu_bytes, header_bytes, naxis_of, pcount_of, places, size_at, size_in}
 use Rattle.fz_card.specs.Reading.{integer_of, logical_of}
 use Rattle.fz_block.specs.Header.{data_start_of, next_start_of, whole_blocks_of}
 use Rattle.fz_block.specs.Walk.{hdu_of}
 use Rattle.fz_block.specs.declared.header.Header.{Header}
-use Rattle.fz_grid.specs.Arrays.{IsArray, NumberArray, product}
+use Rattle.fz_grid.specs.Arrays.{NumberArray, product}
 use Rattle.fz_grid.specs.Division.{AreTileLengths}
 use Rattle.fz_grid.specs.Grid.{tile, tile_lengths}
 use Rattle.fz_grid.specs.Laws.{DividedArraysHaveTiles, TilesAreAtTheirPlaces, TilesHaveAPixel, TilesHaveAllPixels, TilesHaveTheirPixels}
@@ -37,7 +37,7 @@ use Rattle.fz_head.specs.Accepted.{IsAccepted}
 use Rattle.fz_head.specs.Conditions.{AreShort}
 use Rattle.fz_head.specs.JobChecks.{IsImageToPack, fill_in}
 use Rattle.fz_head.specs.PackChecks.{limit_checks, name_checks, offset_check, pack_answer, pack_checks}
-use Rattle.fz_head.specs.Packable.{has_integers, is_image as is_image_sort, is_primary, is_packable, is_packed}
+use Rattle.fz_head.specs.Packable.{has_integers, is_image as is_image_sort, is_primary, is_packable}
 use Rattle.std.specs.List.{list_all}
 use Rattle.fz_head.specs.PackedChecks.{packed_checks, plan_answer}
 use Rattle.fz_head.specs.PackedHeader.{packed_header, packed_with, sum_cards}
@@ -51,8 +51,8 @@ use Rattle.fz_head.specs.declared.options.PackOptions.{PackOptions}
 use Rattle.fz_head.specs.declared.plan.Plan.{Plan}
 use Rattle.fz_head.specs.declared.totals.Totals.{Totals}
 use Rattle.fz_files.specs.Laws.{IsTableOf, IsTaken, codes_from, table_hdu, totals_from}
-use Rattle.fz_files.specs.Packed.{array_of, coded_count, greatest, heap_of, packed_data, pixel_bits, stored_count, sum_before, table_header, tile_codes, tiles_in, totals_of, with_sums, zero_filled}
-use Rattle.fz_files.specs.Restored.{IsImageOf, RowStandsFor, RowsStandFor, StandsForAs, HduStandsFor, image_bytes, image_table, is_image, is_packed_primary, pixels_of, plan_in}
+use Rattle.fz_files.specs.Packed.{array_of, coded_count, greatest, heap_of, packed_data, pixel_bits, stored_count, sum_before, tile_codes, tiles_in, totals_of, with_sums, zero_filled}
+use Rattle.fz_files.specs.Restored.{RowStandsFor, StandsForAs, HduStandsFor, image_bytes, image_table, is_image, is_packed_primary, plan_in}
 use Rattle.fz_files.proofs.RestoredLemmas.{axes_again}
 use Rattle.fz_files.proofs.TableCodes.{IsCodeOf, TileCodesHold, code_is, coded_within, eight_bytes, greatest_within, heap_within, stored_within, tile_is, tile_no_more, zero_is}
 use Rattle.fz_files.proofs.TablePlaces.{DescriptorsAreRead}

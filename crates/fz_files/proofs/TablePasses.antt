@@ -1,5 +1,5 @@
 -- The table of an image passes the checks of every job.
-use Rattle.std.proofs.Common.{◌≡◌, ℕ, zero, suc, ◌+◌, ◌-◌, ◌*◌, ◌/◌, ◌^◌, ◌<◌, ◌≤◌, ◌==◌, ◌&&◌, not, nat_lt, min, Bool, true, false, pos, List, [], ◌∷◌, ◌++◌, length, take, drop, map, replicate, bytes_eq, codes, is_some, Option, Some, None, Result, Ok, Err, IsOk, unsigned_abs, refl, sym, subst, ◌∙◌, ap, arith}
+use Rattle.std.proofs.Common.{◌≡◌, ℕ, suc, ◌+◌, ◌-◌, ◌*◌, ◌/◌, ◌^◌, ◌<◌, ◌≤◌, ◌==◌, ◌&&◌, not, nat_lt, min, Bool, true, false, List, [], ◌∷◌, ◌++◌, length, take, replicate, bytes_eq, codes, is_some, Option, Some, None, Ok, IsOk, unsigned_abs, refl, sym, subst, ◌∙◌, ap, arith}
 use Rattle.std.proofs.Math.Seq.{take-length}
 use Rattle.std.proofs.lemmas.Bool.Decides.{nat_tests}
 use Rattle.std.proofs.lemmas.List.{length-append, length-replicate}
@@ -8,8 +8,8 @@ use Rattle.fz_base.specs.Refusal.{first_refusal}
 use Rattle.fz_base.specs.declared.fault.Fault.{Fault}
 use Rattle.fz_card.specs.Made.{text_card_bytes}
 use Rattle.fz_block.specs.Cards.{end_of}
-use Rattle.fz_block.specs.Checks.{begin_checks, block_checks, blocks_to_end, end_checks, ends_in_last_block, header_blocks_of, header_checks, header_of, header_room, hdu_end, unless_refused}
-use Rattle.fz_block.specs.Facts.{IsHeaderOf, facts_of, nine_axes}
+use Rattle.fz_block.specs.Checks.{block_checks, blocks_to_end, end_checks, ends_in_last_block, header_blocks_of, header_checks, header_of, header_room, hdu_end, unless_refused}
+use Rattle.fz_block.specs.Facts.{IsHeaderOf, facts_of}
 use Rattle.fz_block.specs.Hdus.{Hdu, IsHeader, cards_of, data_len_of, hdu_bytes, header_bytes}
 use Rattle.fz_block.specs.Header.{whole_blocks_of}
 use Rattle.fz_block.specs.Mandatory.{mandatory_checks}
@@ -28,7 +28,6 @@ use Rattle.fz_head.specs.declared.totals.Totals.{Totals}
 use Rattle.fz_tile.specs.TileCode.{TileCode, tile_code}
 use Rattle.fz_files.specs.Laws.{IsTaken, codes_from, table_hdu, totals_from}
 use Rattle.fz_files.specs.Packed.{array_of, heap_of, packed_data, pixel_bits, rows_from, tile_codes, tiles_in, zero_filled}
-use Rattle.fz_files.proofs.RestoredLemmas.{axes_again}
 use Rattle.fz_files.proofs.TableImage.{TableLaws, accepted_is, answer_is, facts_len, le_blocks, made_is, sums_from}
 use Rattle.fz_files.proofs.TablePlaces.{rows_len}
 

@@ -1,24 +1,18 @@
 -- Where the rows and the bytes of the tiles of a packed table stand, and that reading a row finds the bytes of its tile.
-use Rattle.std.proofs.Common.{◌≡◌, ℕ, zero, suc, ◌+◌, ◌-◌, ◌*◌, ◌/◌, ◌%◌, ◌<◌, ◌≤◌, ◌==◌, ◌&&◌, not, nat_lt, min, Bool, true, false, ℤ, List, [], ◌∷◌, ◌++◌, length, take, drop, slice_index_or, Option, Some, None, Result, Ok, Err, if◌then◌else◌, unsigned_abs, refl, sym, subst, ◌∙◌, ap, arith}
-use Rattle.std.proofs.Math.Seq.{take-append_seam, drop-append_seam, drop-append-add}
+use Rattle.std.proofs.Common.{◌≡◌, ℕ, zero, suc, ◌+◌, ◌*◌, ◌/◌, ◌%◌, ◌<◌, ◌≤◌, ◌==◌, nat_lt, min, Bool, true, false, List, [], ◌∷◌, ◌++◌, length, drop, slice_index_or, Ok, if◌then◌else◌, refl, sym, ◌∙◌, ap, arith}
+use Rattle.std.proofs.Math.Seq.{drop-append_seam}
 use Rattle.std.proofs.lemmas.Bool.Decides.{nat_tests}
 use Rattle.std.proofs.lemmas.List.{append_assoc, drop-drop, length-append}
 use Rattle.std.proofs.lemmas.Nat.{div-add-mod'}
-use Rattle.fz_base.specs.declared.fault.Fault.{Fault}
-use Rattle.fz_block.specs.Checks.{unless_refused}
-use Rattle.fz_grid.specs.Region.{lengths_of}
-use Rattle.fz_table.specs.Records.{record_at, record_bytes, record_of}
-use Rattle.fz_table.specs.Rows.{FitsDescriptor, descriptor_at, descriptor_bytes, descriptor_in, packed_row, row_at, row_start}
+use Rattle.fz_table.specs.Records.{record_of}
+use Rattle.fz_table.specs.Rows.{FitsDescriptor, descriptor_bytes, descriptor_in, packed_row, row_at}
 use Rattle.fz_table.specs.declared.array.Descriptor.{Descriptor}
 use Rattle.fz_table.specs.declared.record.Record.{Record}
 use Rattle.fz_table.specs.declared.record.Tile.{Tile}
 use Rattle.fz_table.specs.declared.record.TileColumn.{TileColumn}
 use Rattle.fz_table.specs.declared.record.TileColumn.TheVariants as column
 use Rattle.fz_table.specs.declared.row.Row.{Row}
-use Rattle.fz_table.specs.declared.table.Table.{Table}
 use Rattle.fz_tile.specs.TileCode.{TileCode}
-use Rattle.fz_tile.specs.declared.coded.Place2.{Place2}
-use Rattle.fz_tile.specs.declared.coded.Place2.TheVariants as place
 use Rattle.fz_head.specs.PackedTable.{coded_unit, packed_table, planned_descriptor, planned_row, planned_rows}
 use Rattle.fz_head.specs.Planned.{pixel_len}
 use Rattle.fz_head.specs.declared.plan.Plan.{Plan}

@@ -1,8 +1,7 @@
 -- The rows of the table of an image stand for the tiles of the image.
-use Rattle.std.proofs.Common.{◌≡◌, ℕ, zero, suc, ◌+◌, ◌-◌, ◌*◌, ◌/◌, ◌%◌, ◌^◌, ◌<◌, ◌≤◌, nat_lt, min, Bool, true, false, ℤ, pos, List, [], ◌∷◌, ◌++◌, length, take, drop, map, replicate, slice_index_or, Option, Some, None, Result, Ok, Err, if◌then◌else◌, refl, sym, subst, ◌∙◌, ap, arith}
+use Rattle.std.proofs.Common.{◌≡◌, ℕ, ◌+◌, ◌-◌, ◌*◌, ◌/◌, ◌%◌, ◌<◌, ◌≤◌, min, Bool, ℤ, List, ◌++◌, length, take, drop, map, replicate, Ok, if◌then◌else◌, refl, sym, subst, ◌∙◌, ap, arith}
 use Rattle.std.proofs.Math.Nat.{div-le_self}
 use Rattle.std.proofs.Math.Seq.{take-append_seam, drop-append_seam, drop-append-add}
-use Rattle.std.proofs.lemmas.Bool.Decides.{nat_tests}
 use Rattle.std.proofs.lemmas.List.{append_assoc, drop-drop, length-append, take-append-drop}
 use Rattle.std.proofs.lemmas.List.FromFn.{get_or-map-range_with_len, length-map-range_with_len}
 use Rattle.std.specs.List.{range_with_len}
@@ -14,7 +13,6 @@ use Rattle.fz_grid.specs.Grid.{tile}
 use Rattle.fz_grid.specs.Region.{lengths_of}
 use Rattle.fz_table.specs.Records.{record_at, record_bytes, record_of}
 use Rattle.fz_table.specs.Rows.{FitsDescriptor, packed_row, row_at}
-use Rattle.fz_table.specs.declared.array.Descriptor.{Descriptor}
 use Rattle.fz_table.specs.declared.record.Record.{Record}
 use Rattle.fz_table.specs.declared.record.TileColumn.TheVariants as column
 use Rattle.fz_table.specs.declared.table.Table.{Table}
@@ -28,7 +26,7 @@ use Rattle.fz_head.specs.PackedTable.{coded_unit, packed_table, planned_row, pla
 use Rattle.fz_head.specs.Planned.{pixel_len}
 use Rattle.fz_head.specs.declared.plan.Plan.{Plan}
 use Rattle.fz_files.specs.Packed.{described, heap_of, is_coded, packed_data, pixel_bits, row_of, rows_from, tile_codes, tiles_in}
-use Rattle.fz_files.specs.Restored.{RecordMeans, RowStandsFor, image_table, is_plain_codec, pixels_of, plan_in, tile_of}
+use Rattle.fz_files.specs.Restored.{RecordMeans, RowStandsFor, image_table, pixels_of, plan_in, tile_of}
 use Rattle.fz_files.proofs.TableCodes.{IsCodeOf}
 use Rattle.fz_files.proofs.TablePlaces.{DescriptorsAreRead, StandsAmong, coded_found, record_standing, row_is, row_saying, rows_len, some_elements, stands_among, stored_found, whole_elements}
 

@@ -1,5 +1,5 @@
 -- Walks over the HDUs of a file, step by step, for the worked files.
-use Rattle.std.proofs.Common.{◌≡◌, ℕ, suc, ◌==◌, Bool, true, false, List, [], ◌∷◌, length, Result, Ok, Err, if◌then◌else◌, ◌∙◌, ap}
+use Rattle.std.proofs.Common.{◌≡◌, ℕ, suc, ◌==◌, true, false, List, [], ◌∷◌, length, Result, Ok, Err, if◌then◌else◌, ◌∙◌, ap}
 use Rattle.fz_base.specs.declared.fault.Fault.{Fault}
 use Rattle.fz_block.specs.Checks.{Judge, hdu_at, by_judgement, followed_by, judged, walk_from}
 use Rattle.fz_block.specs.Header.{next_start_of}

@@ -1,6 +1,6 @@
 -- The bytes of a cutout: the header of the part, with the reference pixels that the cut moves, the pixels, and fill (FITS 4.0, sections
 -- 3.3.2, 4.4.1 and 8.1).
-use Rattle.std.specs.Prelude.{ℕ, zero, suc, ◌≡◌, ◌==◌, ◌-◌, ℤ, List, [], ◌∷◌, ◌++◌, map, length, replicate, slice_index, codes, Option, Some, None, unwrap_or, if◌then◌else◌}
+use Rattle.std.specs.Prelude.{ℕ, zero, suc, ◌≡◌, ◌==◌, ◌-◌, ℤ, List, [], ◌∷◌, ◌++◌, map, replicate, slice_index, codes, Option, Some, None, unwrap_or, if◌then◌else◌}
 use Rattle.fz_card.specs.Layout.{card_name}
 use Rattle.fz_card.specs.Naming.{number_behind, up_to}
 use Rattle.fz_wcs.specs.Reading.{shifted}

@@ -5,7 +5,7 @@ use Rattle.fz_base.specs.declared.fault.Fault.{Fault}
 use Rattle.fz_base.specs.declared.fault.Place.TheVariants.{Byte, Card}
 use Rattle.fz_base.specs.declared.kind.Kind.TheVariants.{Reserved, TrailingBytes}
 use Rattle.fz_files.specs.HandMade.{card_of, block_of}
-use Rattle.fz_files.specs.RiceFile.{small_cards, small_hdu, small_file}
+use Rattle.fz_files.specs.RiceFile.{small_cards, small_hdu}
 
 -- bytes that are no HDU
 abbrev pub ten_zeros : List ℕ

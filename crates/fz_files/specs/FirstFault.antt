@@ -1,6 +1,6 @@
 -- The first fault of a file for a job: first that of the headers, HDU by HDU, and then that of the rows, from row 0 of the first packed
 -- HDU up (FITS 4.0, sections 7.3.5 and 10.1.3).
-use Rattle.std.specs.Prelude.{ℕ, ◌≡◌, ◌⊎◌, ℤ, Bool, List, [], ◌∷◌, map, Option, Some, None, Ok, Err, ⊤}
+use Rattle.std.specs.Prelude.{ℕ, ◌≡◌, ◌⊎◌, ℤ, List, [], ◌∷◌, map, Option, Some, None, Ok, Err, ⊤}
 use Rattle.std.specs.List.{filter, flat_map, range_with_len}
 use Rattle.fz_base.specs.Refusal.{refusal}
 use Rattle.fz_base.specs.declared.fault.Fault.{Fault}
@@ -14,7 +14,6 @@ use Rattle.fz_table.specs.declared.record.Record.{Record}
 use Rattle.fz_tile.specs.Refusals.{IsFault}
 use Rattle.fz_tile.specs.declared.fault.TileFault.{TileFault}
 use Rattle.fz_head.specs.TileKinds.{kind_of_tile}
-use Rattle.fz_head.specs.declared.options.PackOptions.{PackOptions}
 use Rattle.fz_head.specs.declared.plan.Plan.{Plan}
 use Rattle.fz_files.specs.declared.job.Job.{Job}
 use Rattle.fz_files.specs.declared.job.Job.TheVariants.{Pack, Unpack, Cut, Verify, List as ListHdus, Drill}

@@ -1,11 +1,10 @@
 -- The packed file of a file: each image that can be packed becomes the table of its tiles, and every other HDU stays as it is (FITS 4.0,
 -- sections 7.3.5, 10.1 and 10.1.3).
-use Rattle.std.specs.Prelude.{ℕ, zero, suc, ◌≡◌, ◌==◌, ◌+◌, ◌-◌, ◌/◌, ◌&&◌, Bool, true, false, ℤ, List, [], ◌∷◌, ◌++◌, length, map, max, replicate, unsigned_abs, codes, if◌then◌else◌}
+use Rattle.std.specs.Prelude.{ℕ, zero, suc, ◌≡◌, ◌+◌, ◌-◌, ◌/◌, Bool, true, false, List, [], ◌∷◌, ◌++◌, length, map, max, replicate, unsigned_abs, codes, if◌then◌else◌}
 use Rattle.std.specs.List.{flat_map, range_with_len}
 use Rattle.fz_block.specs.Facts.{facts_of}
 use Rattle.fz_block.specs.Hdus.{Hdu, AreHdusOf, hdu_bytes, cards_of, header_bytes}
 use Rattle.fz_block.specs.Header.{whole_blocks_of}
-use Rattle.fz_block.specs.declared.header.Header.{Header}
 use Rattle.fz_grid.specs.Arrays.{NumberArray, product}
 use Rattle.fz_grid.specs.Grid.{tile, tile_count}
 use Rattle.fz_grid.specs.Region.{lengths_of}
