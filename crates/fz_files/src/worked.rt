@@ -80,8 +80,9 @@ pub fn fault_file_law()
 {}
 
 /// Parts of the image that the packed file of [`plain_file_law`] holds: the cutout of a box, whose reference pixels
-/// are moved by its corner, but not along an axis with a step; the pixels of a box with steps; and the ranges of the file that a cut reads for the box, and for a box with steps that leave a tile out, as
-/// `specs/CutFile.antt` writes them out.
+/// are moved by its corner, but not along an axis with a step; the pixels of a box with steps; and the ranges of the
+/// file that a cut reads for the box, and for a box with steps that leave a tile out, as `specs/CutFile.antt` writes
+/// them out.
 pub fn cut_file_law()
     ensures file { IsCutout None box_sieve plain_file box_file }
     ensures moved { cutout_cards box_sieve reference_cards ≡ moved_cards }
