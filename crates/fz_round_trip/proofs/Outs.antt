@@ -1,5 +1,5 @@
 -- The HDUs of a packed file, one after another.
-use Rattle.std.proofs.Common.{◌≡◌, ℕ, zero, suc, ◌+◌, Bool, true, false, List, [], ◌∷◌, ◌++◌, length, map, if◌then◌else◌, append-nil, refl, sym, subst, ◌∙◌, ap}
+use Rattle.std.proofs.Common.{◌≡◌, ℕ, suc, Bool, true, false, List, [], ◌∷◌, ◌++◌, map, if◌then◌else◌, append-nil, refl, sym, ◌∙◌, ap}
 use Rattle.std.proofs.lemmas.Grind.{flat_map-append}
 use Rattle.std.specs.List.{flat_map}
 use Rattle.fz_block.specs.Facts.{IsHeaderOf, begun_at, facts_of}
@@ -10,7 +10,6 @@ use Rattle.fz_head.specs.EmptyPrimary.{empty_primary}
 use Rattle.fz_head.specs.Packable.{is_packable}
 use Rattle.fz_head.specs.Planned.{pack_plan_of}
 use Rattle.fz_head.specs.declared.options.PackOptions.{PackOptions}
-use Rattle.fz_head.specs.declared.plan.Plan.{Plan}
 use Rattle.fz_files.specs.Laws.{table_hdu}
 use Rattle.fz_files.specs.Packed.{before_table, packed_from, packed_hdu, packed_image, packed_table}
 use Rattle.fz_round_trip.proofs.Sources.{AreSources, IsSource}

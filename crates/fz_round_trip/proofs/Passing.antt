@@ -1,6 +1,5 @@
 -- The HDUs of a packed file pass the checks of every job, and those of `unpack`.
-use Rattle.std.specs.Prelude.{⊤}
-use Rattle.std.proofs.Common.{◌≡◌, ℕ, zero, suc, ◌+◌, ◌*◌, ◌^◌, ◌<◌, ◌≤◌, ◌==◌, ◌&&◌, ◌||◌, not, nat_lt, Bool, true, false, cond, List, [], ◌∷◌, ◌++◌, length, map, pos, is_some, Option, Some, None, Result, Ok, Err, IsOk, if◌then◌else◌, codes, position, refl, sym, subst, ◌∙◌, ap, arith}
+use Rattle.std.proofs.Common.{◌≡◌, ℕ, suc, ◌+◌, ◌^◌, ◌<◌, ◌≤◌, ◌&&◌, ◌||◌, not, nat_lt, Bool, true, false, cond, List, [], ◌∷◌, ◌++◌, length, map, pos, is_some, Option, Some, None, Result, Ok, Err, IsOk, if◌then◌else◌, codes, position, refl, sym, ◌∙◌, ap, arith}
 use Rattle.std.proofs.lemmas.Bool.Decides.{nat_tests}
 use Rattle.std.proofs.lemmas.List.{length-append}
 use Rattle.std.specs.Fmt.{digits}
@@ -11,30 +10,29 @@ use Rattle.fz_card.specs.Made.{int_card_bytes, logical_card_bytes}
 use Rattle.fz_card.specs.Reading.{integer_of, logical_of, text_of}
 use Rattle.fz_block.specs.Cards.{card_at, end_among, first_among}
 use Rattle.fz_block.specs.Checks.{hdu_end, header_of, is_set, unless_refused}
-use Rattle.fz_block.specs.Facts.{IsHeaderOf, begun_at, facts_of, sort_named, sort_of}
+use Rattle.fz_block.specs.Facts.{begun_at, facts_of}
 use Rattle.fz_block.specs.Hdus.{Hdu, IsHdu, IsHeader, cards_of, hdu_bytes, header_bytes}
 use Rattle.fz_block.specs.Walk.{PassFrom, PassesAt, hdu_of}
 use Rattle.fz_block.specs.declared.header.Header.{Header}
-use Rattle.fz_block.specs.declared.header.Sort.{Sort}
-use Rattle.fz_block.specs.declared.header.Sort.TheVariants.{Primary, Image, BinTable, Other}
+use Rattle.fz_block.specs.declared.header.Sort.TheVariants.{Primary}
 use Rattle.fz_table.specs.Tables.{table_checks, table_in, table_of}
 use Rattle.fz_table.specs.declared.table.Table.{Table}
 use Rattle.fz_tile.specs.Plain.{AreBytes}
 use Rattle.fz_head.specs.Accepted.{IsAccepted}
 use Rattle.fz_head.specs.EmptyPrimary.{empty_primary}
-use Rattle.fz_head.specs.JobChecks.{already_packed, data_fill, fill_in, image_checks, pack_hdu_checks, pack_header_checks, says_packed, unpack_checks}
+use Rattle.fz_head.specs.JobChecks.{already_packed, data_fill, fill_in, image_checks, pack_hdu_checks, says_packed, unpack_checks}
 use Rattle.fz_head.specs.PackChecks.{pack_checks}
-use Rattle.fz_head.specs.Packable.{is_packable, is_packed, is_primary, is_table}
+use Rattle.fz_head.specs.Packable.{is_packable, is_packed, is_table}
 use Rattle.fz_head.specs.PackedChecks.{packed_checks, plan_answer}
 use Rattle.fz_head.specs.PackedPlan.{plan_of_cards}
-use Rattle.fz_head.specs.Planned.{AreOptions, pack_plan_of}
+use Rattle.fz_head.specs.Planned.{AreOptions}
 use Rattle.fz_head.specs.Repeats.{counted_name, first_repeat, table_names}
 use Rattle.fz_head.specs.TableChecks.{compressed_table, repeated_table_names, table_card_checks}
 use Rattle.fz_head.specs.declared.options.PackOptions.{PackOptions}
 use Rattle.fz_head.specs.declared.plan.Plan.{Plan}
 use Rattle.fz_head.specs.declared.totals.Totals.{Totals}
-use Rattle.fz_files.specs.Laws.{IsTaken, TablesAreAccepted, TablesPass, table_hdu}
-use Rattle.fz_round_trip.proofs.Outs.{empty_hdu, first_outs, out_of, outs}
+use Rattle.fz_files.specs.Laws.{TablesPass, table_hdu}
+use Rattle.fz_round_trip.proofs.Outs.{empty_hdu, out_of, outs}
 use Rattle.fz_round_trip.proofs.Sources.{AreSources, IsSource, taken}
 
 -- what is taken of the laws of HDUs that pass

@@ -1,17 +1,16 @@
 -- The HDUs of a file that `pack` takes.
 use Rattle.std.specs.Prelude.{⊤}
-use Rattle.std.proofs.Common.{◌≡◌, ℕ, zero, suc, ◌+◌, ◌<◌, ◌≤◌, Bool, true, false, List, [], ◌∷◌, ◌++◌, length, map, Option, Some, None, Result, Ok, Err, IsOk, ◌||◌, codes, refl, sym, subst, ◌∙◌, ap, arith}
+use Rattle.std.proofs.Common.{◌≡◌, ℕ, suc, ◌+◌, Bool, true, false, List, [], ◌∷◌, length, map, Option, Some, None, IsOk, ◌||◌, refl, sym, subst, ◌∙◌, ap}
 use Rattle.fz_base.specs.Refusal.{first_refusal}
 use Rattle.fz_base.specs.declared.fault.Fault.{Fault}
-use Rattle.fz_block.specs.Cards.{card_at}
-use Rattle.fz_block.specs.Checks.{is_set, unless_refused}
-use Rattle.fz_block.specs.Facts.{IsHeaderOf, facts_of}
+use Rattle.fz_block.specs.Checks.{unless_refused}
+use Rattle.fz_block.specs.Facts.{IsHeaderOf}
 use Rattle.fz_block.specs.Hdus.{data_len_of, hdu_bytes}
 use Rattle.fz_block.specs.Header.{next_start_of, whole_blocks_of}
 use Rattle.fz_block.specs.Walk.{AreHeadersBetween, PassFrom, PassesAt, RefusesNone, begins_hdu, hdu_of, is_stop, stops}
 use Rattle.fz_block.specs.declared.header.Header.{Header}
 use Rattle.fz_tile.specs.Plain.{AreBytes}
-use Rattle.fz_head.specs.JobChecks.{IsImageToPack, pack_hdu_checks}
+use Rattle.fz_head.specs.JobChecks.{pack_hdu_checks}
 use Rattle.fz_head.specs.Packable.{is_packable}
 use Rattle.fz_head.specs.Planned.{AreOptions}
 use Rattle.fz_head.specs.declared.options.PackOptions.{PackOptions}

@@ -1,7 +1,5 @@
 -- What the HDUs of a packed file stand for.
-use Rattle.std.specs.Prelude.{⊤}
-use Rattle.std.proofs.Common.{◌≡◌, ℕ, zero, suc, ◌+◌, ◌*◌, ◌^◌, ◌<◌, ◌≤◌, ◌==◌, ◌&&◌, ◌||◌, Bool, true, false, true≢false, cond, ℤ, List, [], ◌∷◌, ◌++◌, length, map, Option, Some, None, Result, Ok, Err, IsOk, bytes_eq, codes, if◌then◌else◌, append-nil, refl, sym, subst, ◌∙◌, ap, arith}
-use Rattle.std.proofs.lemmas.List.{length-append}
+use Rattle.std.proofs.Common.{◌≡◌, ℕ, zero, suc, ◌+◌, ◌<◌, ◌≤◌, ◌==◌, ◌&&◌, ◌||◌, Bool, true, false, true≢false, cond, ℤ, List, [], ◌∷◌, ◌++◌, length, map, Option, Some, None, IsOk, bytes_eq, codes, if◌then◌else◌, refl, sym, subst, ◌∙◌, ap, arith}
 use Rattle.std.specs.Fmt.{digits}
 use Rattle.std.specs.List.{filter, flat_map, list_any, range_with_len}
 use Rattle.fz_base.specs.Refusal.{first_refusal}
@@ -10,33 +8,28 @@ use Rattle.fz_card.specs.Made.{int_card_bytes, logical_card_bytes}
 use Rattle.fz_card.specs.Reading.{integer_of, text_of}
 use Rattle.fz_block.specs.Cards.{card_at}
 use Rattle.fz_block.specs.Checks.{is_set, unless_refused}
-use Rattle.fz_block.specs.Facts.{IsHeaderOf, facts_of, sort_named, sort_of}
-use Rattle.fz_block.specs.Hdus.{AreHdusOf, Hdu, cards_of, hdu_bytes, header_bytes, size_at}
-use Rattle.fz_block.specs.Walk.{AreHeadersBetween, PassFrom, RefusesNone, facts_from, hdu_of, is_stop, stops}
+use Rattle.fz_block.specs.Facts.{facts_of, sort_named, sort_of}
+use Rattle.fz_block.specs.Hdus.{Hdu, cards_of, hdu_bytes, header_bytes, size_at}
+use Rattle.fz_block.specs.Walk.{RefusesNone, facts_from, hdu_of, is_stop, stops}
 use Rattle.fz_block.specs.declared.header.Header.{Header}
-use Rattle.fz_block.specs.declared.header.Sort.{Sort}
 use Rattle.fz_block.specs.declared.header.Sort.TheVariants.{Primary, Image, BinTable, Other}
 use Rattle.fz_grid.specs.Grid.{tile}
 use Rattle.fz_grid.specs.Region.{lengths_of}
 use Rattle.fz_tile.specs.Plain.{AreBytes}
-use Rattle.fz_head.specs.Accepted.{IsAccepted}
 use Rattle.fz_head.specs.EmptyPrimary.{empty_primary}
 use Rattle.fz_head.specs.JobChecks.{is_after_empty, says_packed, unpack_checks, unpack_hdu_checks}
 use Rattle.fz_head.specs.Packable.{is_packable, is_packed, is_primary, is_table}
 use Rattle.fz_head.specs.PlainHeader.{was_primary}
 use Rattle.fz_head.specs.Planned.{AreOptions, pack_plan_of}
 use Rattle.fz_head.specs.declared.options.PackOptions.{PackOptions}
-use Rattle.fz_head.specs.declared.plan.Plan.{Plan}
-use Rattle.fz_files.specs.declared.job.Job.TheVariants.{Pack, Unpack}
-use Rattle.fz_files.specs.FirstFault.{ImageRow, IsFaultBehind, IsFirstFault, IsFirstRowFault, IsRowSound, all_rows, image_row, rows_of}
+use Rattle.fz_files.specs.FirstFault.{ImageRow, IsFirstRowFault, all_rows, image_row, rows_of}
 use Rattle.fz_files.specs.Laws.{IsTableOf, IsTaken, TablesAreAccepted, TablesStandForImages, TablesWerePrimary, table_hdu, totals_from}
-use Rattle.fz_files.specs.Packed.{IsPackedFile, packed_file, tiles_in}
-use Rattle.fz_files.specs.Restored.{HduStandsFor, HdusStandFor, IsImageOf, RowStandsFor, StandsForAs, header_in, is_image, is_packed_primary, plan_in, standing}
-use Rattle.fz_files.specs.StandsFor.{IsProfileFile, StandsFor}
-use Rattle.fz_files.specs.Walks.{fault_of_walk, found_headers, header_fault, headers_for, job_walk, pack_judge, unpack_judge}
-use Rattle.fz_round_trip.proofs.Outs.{empty_hdu, out_of, outs, outs_are}
-use Rattle.fz_round_trip.proofs.Passing.{PassingLaws, accepted_none, copied_none, copied_packed, copied_says, empty_facts, empty_is, empty_len, outs_pass}
-use Rattle.fz_round_trip.proofs.Sources.{AreSources, IsSource, never_stops, sources, taken}
+use Rattle.fz_files.specs.Packed.{tiles_in}
+use Rattle.fz_files.specs.Restored.{HduStandsFor, HdusStandFor, RowStandsFor, StandsForAs, header_in, is_image, is_packed_primary, plan_in, standing}
+use Rattle.fz_files.specs.Walks.{unpack_judge}
+use Rattle.fz_round_trip.proofs.Outs.{empty_hdu, out_of, outs}
+use Rattle.fz_round_trip.proofs.Passing.{accepted_none, copied_none, copied_packed, copied_says}
+use Rattle.fz_round_trip.proofs.Sources.{AreSources, IsSource, taken}
 
 -- what is taken of the laws of tables
 pub record TableLaws : Type 0 where

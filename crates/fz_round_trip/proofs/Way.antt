@@ -1,6 +1,5 @@
 -- The way there and back.
-use Rattle.std.proofs.Common.{◌≡◌, ℕ, zero, suc, ◌+◌, ◌^◌, ◌<◌, ◌≤◌, Bool, true, false, List, [], ◌∷◌, ◌++◌, length, map, Option, Some, None, Result, Ok, Err, if◌then◌else◌, refl, sym, subst, ◌∙◌, ap, arith}
-use Rattle.std.proofs.lemmas.List.{length-append}
+use Rattle.std.proofs.Common.{◌≡◌, ℕ, ◌+◌, ◌^◌, ◌<◌, ◌≤◌, Bool, true, false, List, [], ◌∷◌, ◌++◌, length, map, Option, Some, None, Result, Ok, Err, if◌then◌else◌, refl, sym, subst, ◌∙◌, ap, arith}
 use Rattle.std.proofs.lemmas.List.{length-map}
 use Rattle.std.specs.List.{flat_map}
 use Rattle.fz_base.specs.declared.fault.Fault.{Fault}
@@ -12,12 +11,12 @@ use Rattle.fz_head.specs.Packable.{is_packable}
 use Rattle.fz_head.specs.declared.options.PackOptions.{PackOptions}
 use Rattle.fz_files.specs.declared.job.Job.{Job}
 use Rattle.fz_files.specs.declared.job.Job.TheVariants.{Pack, Unpack}
-use Rattle.fz_files.specs.FirstFault.{IsFaultBehind, IsFirstFault, IsFirstRowFault, all_rows}
+use Rattle.fz_files.specs.FirstFault.{IsFaultBehind, IsFirstRowFault, all_rows}
 use Rattle.fz_files.specs.Laws.{table_hdu}
 use Rattle.fz_files.specs.Packed.{IsPackedFile, packed_file}
 use Rattle.fz_files.specs.Restored.{HdusStandFor, standing}
 use Rattle.fz_files.specs.StandsFor.{IsProfileFile, StandsFor}
-use Rattle.fz_files.specs.Walks.{cut_end_fault, fault_of_walk, found_headers, header_fault, headers_for, job_walk, pack_judge, unpack_judge}
+use Rattle.fz_files.specs.Walks.{fault_of_walk, found_headers, header_fault, job_walk, pack_judge, unpack_judge}
 use Rattle.fz_round_trip.proofs.Outs.{empty_hdu, out_of, outs, outs_are}
 use Rattle.fz_round_trip.proofs.Passing.{PassingLaws, outs_pass}
 use Rattle.fz_round_trip.proofs.Sources.{AreSources, never_stops, sources}
