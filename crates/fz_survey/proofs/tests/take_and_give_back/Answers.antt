@@ -1,5 +1,5 @@
 -- What is handed back is what was taken.
-use Rattle.std.proofs.Common.{rules, ◌≡◌, ℕ, ◌+◌, ◌≤◌, Option, refl, sym, ap, ◌∙◌, subst, arith, sum}
+use Rattle.std.proofs.Common.{◌≡◌, refl, sym, ap, subst, arith, sum}
 use Rattle.fz_pool.specs.Window.{Pool}
 use Rattle.fz_survey.specs.Workspace.{AreSizedFor, window_for, work_buffers}
 use Rattle.fz_survey.proofs.tests.take_and_give_back.Goals as goal
