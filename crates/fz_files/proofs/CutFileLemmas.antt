@@ -21,6 +21,7 @@ use Rattle.fz_grid.specs.Arrays.{NumberArray}
 use Rattle.fz_grid.specs.Grid.{tile}
 use Rattle.fz_grid.specs.Region.{lengths_of}
 use Rattle.fz_grid.specs.declared.sieve.Sieve.{Sieve}
+use Rattle.fz_parts.specs.Cutout.{picked_numbers}
 use Rattle.fz_table.specs.Columns.{first_named, columns_len, column_called}
 use Rattle.fz_table.specs.Forms.{elements_len, form_in}
 use Rattle.fz_table.specs.Reads.{tile_ranges}
@@ -36,7 +37,7 @@ use Rattle.fz_head.specs.PackedPlan.{plan_of_cards}
 use Rattle.fz_head.specs.declared.plan.Plan.{Plan}
 use Rattle.fz_files.specs.declared.job.Job.TheVariants.{Cut}
 use Rattle.fz_files.specs.CutFile.{table_facts, box_sieve, box_numbers, box_ranges, step_sieve, step_numbers, ends_sieve, ends_ranges}
-use Rattle.fz_files.specs.Cutout.{AreCutFrom, header_range, picked_numbers, ranges_of_row, rows_touched, touched}
+use Rattle.fz_files.specs.Cutout.{AreCutFrom, header_range, ranges_of_row, rows_touched, touched}
 use Rattle.fz_files.specs.FirstFault.{image_row, picked_rows, picked_tiles_of, rows_for}
 use Rattle.fz_files.specs.HandMade.{block_of}
 use Rattle.fz_files.specs.PlainFile.{plain_cards, plain_file, plain_plan}

@@ -159,6 +159,15 @@ cut_rows finds law wanted sieve file hs walk stop =
     let found = finds (cut_judge wanted sieve file) 65536 file hs walk in
     picked_readable file sieve (last_of hs) (cut_from_readable law wanted sieve 65536 0 0 found.3.0 file hs found.3.2 walk stop)
 
+pub cut_header : WalkFindsHeaders → CutFindsImage → (wanted : Option ℕ) (sieve : Sieve) (file : List ℕ) → header_fault (Cut wanted sieve) file ≡ None →
+    EachIs (IsReadable file) (last_of (headers_for (Cut wanted sieve) file))
+unfolding job_walk
+cut_header finds law wanted sieve file none =
+    let found = found_walk (Cut wanted sieve) file (walk_of (cut_judge wanted sieve file) 65536 file) none in
+    let walk = finds (cut_judge wanted sieve file) 65536 file found.0 found.1 in
+    subst (λ r. EachIs (IsReadable file) (last_of (found_headers r))) (sym found.1)
+    (cut_from_readable law wanted sieve 65536 0 0 walk.3.0 file found.0 walk.3.2 found.1 (stops_if wanted (cut_judge wanted sieve file) file found.0 found.2))
+
 rows_readable : WalkFindsHeaders → UnpackFindsImage → CutFindsImage → (job : Job) (file : List ℕ) → header_fault job file ≡ None → AreReadable file (rows_for job file (headers_for job file))
 unfolding job_walk
 rows_readable finds law law' (Pack o) file none = tt

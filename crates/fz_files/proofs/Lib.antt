@@ -6,6 +6,7 @@ pub mod FaultFileLemmas
 pub mod FaultLemmas
 pub mod ImageLemmas
 pub mod LongFileLemmas
+pub mod OneCutout
 pub mod PlainFileLemmas
 pub mod RestoredLemmas
 pub mod RiceFileLemmas

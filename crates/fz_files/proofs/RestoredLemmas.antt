@@ -53,7 +53,7 @@ tile_lengths_are lengths tile same divided = record {
       subst (λ n. 1 ≤ n) here some;
 }
 
-cards_divide : (cards : List (List ℕ)) → IsDivided (plan_of_cards cards).shape (plan_of_cards cards).tile →
+pub cards_divide : (cards : List (List ℕ)) → IsDivided (plan_of_cards cards).shape (plan_of_cards cards).tile →
     AreTileLengths (lengths_of (plan_of_cards cards).shape) (lengths_of (plan_of_cards cards).tile)
 unfolding plan_of_cards
 cards_divide cards divided =
@@ -65,7 +65,7 @@ cards_divide cards divided =
 
 -- ---- an image
 
-one_row : StandsForOneList → (file : List ℕ) (h : Header) (t : ℕ) (xs ys : List ℤ) → IsReadable file h → RowStandsFor file h t xs → RowStandsFor file h t ys → ys ≡ xs
+pub one_row : StandsForOneList → (file : List ℕ) (h : Header) (t : ℕ) (xs ys : List ℤ) → IsReadable file h → RowStandsFor file h t xs → RowStandsFor file h t ys → ys ≡ xs
 one_row one file h t xs ys is a b =
     let p : Plan = plan_in file h in
     let same : b.found ≡ a.found = same_record b.found a.found _ b.chosen a.chosen in
@@ -109,7 +109,7 @@ standing_are file P (h ∷ (k ∷ hs)) are = by_test (is_packed_primary file k)
     by_test false = are
 
 -- a file without a fault has none in its headers
-no_header_fault : (refused : Option Fault) (job : Job) (file : List ℕ) → IsFaultBehind refused job file None → refused ≡ None
+pub no_header_fault : (refused : Option Fault) (job : Job) (file : List ℕ) → IsFaultBehind refused job file None → refused ≡ None
 no_header_fault None job file is = refl
 no_header_fault (Some fault) job file is = absurd cc
 

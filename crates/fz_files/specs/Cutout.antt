@@ -4,21 +4,17 @@ use Rattle.std.specs.List.{flat_map}
 use Rattle.fz_base.specs.declared.fault.Fault.{Fault}
 use Rattle.fz_block.specs.Checks.{header_touched}
 use Rattle.fz_block.specs.declared.header.Header.{Header}
-use Rattle.fz_grid.specs.Arrays.{NumberArray, IsArray, at}
-use Rattle.fz_grid.specs.Grid.{box_coordinates, tile}
+use Rattle.fz_grid.specs.Arrays.{NumberArray, IsArray}
+use Rattle.fz_grid.specs.Grid.{tile}
 use Rattle.fz_grid.specs.Region.{lengths_of}
-use Rattle.fz_grid.specs.Sieve.{sieve_lo, sieve_lengths, sieve_step, stepped}
 use Rattle.fz_grid.specs.declared.sieve.Sieve.{Sieve}
+use Rattle.fz_parts.specs.Cutout.{picked_numbers}
 use Rattle.fz_table.specs.Reads.{tile_ranges}
 use Rattle.fz_files.specs.declared.job.Job.{Job}
 use Rattle.fz_files.specs.declared.job.Job.TheVariants.{Cut}
 use Rattle.fz_files.specs.FirstFault.{ImageRow, picked_tiles_of, rows_for}
 use Rattle.fz_files.specs.Restored.{RowStandsFor, image_table, plan_in, tile_of}
 use Rattle.fz_files.specs.Walks.{Reached, header_fault, headers_for, reached_by}
-
--- the numbers of an array at the picks of a sieve, axis 1 fastest
-abbrev pub picked_numbers : NumberArray → Sieve → List ℤ
-picked_numbers a sieve = map (λ k. at a (stepped (sieve_lo sieve) (sieve_step sieve) k)) (box_coordinates (sieve_lengths sieve))
 
 -- The rows of the tiles that hold a pick stand for these tiles of an array; nothing is said of other tiles.
 pub record PickedRowsStandFor (file : List ℕ) (h : Header) (sieve : Sieve) (a : NumberArray) : Type 0 where

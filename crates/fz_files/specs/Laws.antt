@@ -1,5 +1,5 @@
 -- What the definitions promise, for every file.
-use Rattle.std.specs.Prelude.{ℕ, suc, ◌≡◌, ◌+◌, ◌^◌, ◌<◌, ◌≤◌, true, List, length, codes, Option}
+use Rattle.std.specs.Prelude.{ℕ, suc, ◌≡◌, ◌+◌, ◌^◌, ◌<◌, ◌≤◌, true, List, [], ◌∷◌, length, codes, Option}
 use Rattle.fz_base.specs.declared.fault.Fault.{Fault}
 use Rattle.fz_block.specs.Cards.{card_at}
 use Rattle.fz_block.specs.Checks.{is_set}
@@ -8,6 +8,9 @@ use Rattle.fz_block.specs.Hdus.{Hdu, cards_of, hdu_bytes, header_bytes}
 use Rattle.fz_block.specs.Header.{whole_blocks_of}
 use Rattle.fz_block.specs.Walk.{PassesAt, hdu_of}
 use Rattle.fz_block.specs.declared.header.Header.{Header}
+use Rattle.fz_grid.specs.Region.{lengths_of}
+use Rattle.fz_grid.specs.declared.sieve.Sieve.{Sieve}
+use Rattle.fz_parts.specs.Cutout.{Sifts}
 use Rattle.fz_tile.specs.Plain.{AreBytes}
 use Rattle.fz_tile.specs.TileCode.{TileCode}
 use Rattle.fz_head.specs.Accepted.{IsAccepted}
@@ -17,10 +20,13 @@ use Rattle.fz_head.specs.Planned.{pack_plan_of}
 use Rattle.fz_head.specs.declared.options.PackOptions.{PackOptions}
 use Rattle.fz_head.specs.declared.totals.Totals.{Totals}
 use Rattle.fz_files.specs.declared.job.Job.{Job}
+use Rattle.fz_files.specs.declared.job.Job.TheVariants.{Cut}
+use Rattle.fz_files.specs.CutoutBytes.{IsCutout}
 use Rattle.fz_files.specs.FirstFault.{IsFirstFault}
 use Rattle.fz_files.specs.Packed.{array_of, packed_data, table_header, tile_codes, totals_of, with_sums}
-use Rattle.fz_files.specs.Restored.{HduStandsFor, is_packed_primary}
+use Rattle.fz_files.specs.Restored.{HduStandsFor, is_packed_primary, plan_in}
 use Rattle.fz_files.specs.StandsFor.{StandsFor}
+use Rattle.fz_files.specs.Walks.{headers_for, last_of}
 
 -- a file has at most one first fault for a job; it has none, or this one
 abbrev pub HasOneFirstFault : Type 0
@@ -29,6 +35,12 @@ HasOneFirstFault = (job : Job) (file : List ℕ) (found other : Option Fault) �
 -- a packed file stands for at most one file
 abbrev pub StandsForOneFile : Type 0
 StandsForOneFile = (file restored other : List ℕ) → StandsFor file restored → StandsFor file other → restored ≡ other
+
+-- and at most one file is cut from it by a sieve of the image
+abbrev pub CutsOutOneFile : Type 0
+CutsOutOneFile =
+    (wanted : Option ℕ) (sieve : Sieve) (file part other : List ℕ) (h : Header) → last_of (headers_for (Cut wanted sieve) file) ≡ h ∷ [] → Sifts (lengths_of (plan_in file h).shape) sieve →
+    IsCutout wanted sieve file part → IsCutout wanted sieve file other → part ≡ other
 
 -- what is written for the tiles of an image that `pack` takes
 abbrev pub codes_from : PackOptions → List ℕ → Header → List TileCode

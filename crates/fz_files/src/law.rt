@@ -1,6 +1,6 @@
 //! The laws of the definitions: no code runs.
 ghost use Rattle.fz_files.specs.Buffers.{AreBounded};
-ghost use Rattle.fz_files.specs.Laws.{HasOneFirstFault, StandsForOneFile, TablesAreAccepted, TablesPass, TablesStandForImages, TablesWerePrimary};
+ghost use Rattle.fz_files.specs.Laws.{CutsOutOneFile, HasOneFirstFault, StandsForOneFile, TablesAreAccepted, TablesPass, TablesStandForImages, TablesWerePrimary};
 
 use fz_block::{cards_law, found_law, walk_law};
 use fz_grid::{shape_law, tile_pixels_law, tiles_law};
@@ -8,6 +8,7 @@ use fz_head::{
     accepted_law, image_to_pack_law, packed_image_law, sum_cards_law, there_and_back_law,
     whole_cards_law,
 };
+use fz_parts::picked_tiles_law;
 use fz_sum::sum_law;
 use fz_table::descriptor_law;
 use fz_tile::{column_law, one_fault_law, one_record_law, plain_law, slice_law, tile_code_law};
@@ -34,6 +35,16 @@ pub fn one_file_law()
     one_record_law();
     packed_image_law();
     tiles_law();
+    walk_law();
+}
+
+/// At most one file is cut from a packed file by a sieve of the image.
+pub fn one_cutout_law()
+    ensures { CutsOutOneFile }
+{
+    one_record_law();
+    packed_image_law();
+    picked_tiles_law();
     walk_law();
 }
 
