@@ -9,7 +9,8 @@ use Rattle.fz_block.specs.Takings.{header_taking, where_going_on, for_those_afte
 use Rattle.fz_block.specs.declared.header.Header.{Header}
 use Rattle.fz_files.specs.declared.job.Job.{Job}
 use Rattle.fz_files.specs.declared.job.Job.TheVariants.{Pack, Unpack, Cut, Verify, List as ListHdus, Drill}
-use Rattle.fz_files.specs.Buffers.{buffer_bound, found_len, header_len, slots_buffers, work_buffers, longest_header, largest_tile, header_takings, work_takings, file_takings, job_bound, job_takings, IsOfFile}
+use Rattle.fz_base.specs.JobBuffers.{buffer_bound, slots_buffers}
+use Rattle.fz_files.specs.Buffers.{found_len, header_len, work_buffers, longest_header, largest_tile, header_takings, work_takings, file_takings, job_bound, job_takings, IsOfFile}
 use Rattle.fz_files.specs.Packed.{greatest}
 use Rattle.fz_files.specs.Walks.{reached_behind, reached_after, reached_from, reached_by, header_fault}
 

@@ -1,7 +1,8 @@
 -- The buffers of a job and their bound. All are taken from one meter: one block; each header in turn while the block is live; and
 -- then, at once and before anything is written, what the work takes.
-use Rattle.std.specs.Prelude.{ℕ, zero, suc, ◌≡◌, ◌+◌, ◌*◌, List, [], ◌∷◌, ◌++◌, map, Option, Some, None, Result, Ok, Err, ⊤}
+use Rattle.std.specs.Prelude.{ℕ, ◌≡◌, ◌+◌, ◌*◌, List, [], ◌∷◌, ◌++◌, map, Option, Some, None, Result, Ok, Err, ⊤}
 use Rattle.std.specs.List.{filter}
+use Rattle.fz_base.specs.JobBuffers.{buffer_bound, slots_buffers}
 use Rattle.fz_base.specs.Takings.{piled, first_past}
 use Rattle.fz_base.specs.declared.fault.Fault.{Fault}
 use Rattle.fz_block.specs.Checks.{header_blocks_of}
@@ -20,11 +21,6 @@ use Rattle.fz_files.specs.Drill.{drill_file, drill_options, drill_packed, drill_
 use Rattle.fz_files.specs.Packed.{greatest}
 use Rattle.fz_files.specs.Restored.{is_image, plan_in}
 use Rattle.fz_files.specs.Walks.{Reached, header_fault, headers_for, last_of, pack_judge, unpack_judge, cut_judge, reached_by}
-
--- The bound for a longest header of H bytes, a largest tile of n pixels and W workers: the header, the translated header, which is
--- at most one block longer, one block, two slots for each worker, and the copy buffer.
-unfoldable pub buffer_bound : ℕ → ℕ → ℕ → ℕ
-buffer_bound H n W = 2 * H + 5760 + 2 * W * (16 * n + 64) + 65536
 
 -- the length of a header whose END was found
 abbrev pub found_len : Result ℕ Fault → ℕ
@@ -74,15 +70,6 @@ workers_of (Drill rows) asked = 4
 -- the bound of a job on a file, asked for so many workers
 abbrev pub job_bound : Job → List ℕ → ℕ → ℕ
 job_bound job file asked = buffer_bound (longest_header job file) (largest_tile job file) (workers_of job asked)
-
--- the buffers of one slot, for tiles of at most n pixels: the numbers, of which a pixel has two of 4 bytes, and the bytes of a record
-abbrev pub slot_buffers : ℕ → List ℕ
-slot_buffers n = 8 * n ∷ (8 * n + 64) ∷ []
-
--- the buffers of so many slots
-abbrev pub slots_buffers : ℕ → ℕ → List ℕ
-slots_buffers n zero = []
-slots_buffers n (suc slots) = slot_buffers n ++ slots_buffers n slots
 
 -- What the work of a job takes, in this order: the longest header, the translated header, the slots, and the copy buffer. Where
 -- nothing is written no header is translated, and `list` looks at headers alone.
