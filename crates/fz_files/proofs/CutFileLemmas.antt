@@ -82,7 +82,7 @@ pub plan_is : plan_in plain_file table_facts ≡ plain_plan
 plan_is = ap plan_of_cards cards_are ∙ plan_of
 
 -- the table, whose rows begin at byte 5760 of the file
-abbrev plain_table : Table
+abbrev pub plain_table : Table
 plain_table = record {
   row_bytes = 16;
   rows = 6;
@@ -241,7 +241,7 @@ pub record RowIs (p : Plan) (t : Table) (row : ℕ) (xs : List ℤ) : Type 0 whe
   pub means : RecordMeans plain_file p found xs
 
 -- the record of a tile that stands in the heap as so many bytes from here on
-abbrev stored_at : ℕ → ℕ → Record
+abbrev pub stored_at : ℕ → ℕ → Record
 stored_at start len = record { column = column.Stored; start = start; total = len; read = len }
 
 -- numbers from 0 to 255
@@ -261,7 +261,7 @@ second_true : (a b : Bool) → (a && b) ≡ true → b ≡ true
 second_true true b e = e
 second_true false b e = absurd cc
 
-numbers_are : (xs : List ℤ) → list_all is_byte xs ≡ true → All (IsNumber 8) xs
+pub numbers_are : (xs : List ℤ) → list_all is_byte xs ≡ true → All (IsNumber 8) xs
 numbers_are [] e = All-nil (IsNumber 8)
 numbers_are (x ∷ xs) e = All-cons (IsNumber 8) x xs (number_is x (first_true (is_byte x) (list_all is_byte xs) e)) (numbers_are xs (second_true (is_byte x) (list_all is_byte xs) e))
 

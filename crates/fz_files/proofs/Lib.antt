@@ -4,6 +4,7 @@ pub mod CutoutLemmas
 pub mod ExtensionFileLemmas
 pub mod FaultFileLemmas
 pub mod FaultLemmas
+pub mod FaultRowLemmas
 pub mod ImageLemmas
 pub mod LongFileLemmas
 pub mod OneCutout

@@ -34,7 +34,7 @@ use Rattle.fz_files.proofs.WorkedWalks.{goes_on, ends_with}
 
 -- ---- the headers
 
-card_checks_none : first_refusal (table_card_checks table_facts (block_of plain_cards)) ≡ None
+pub card_checks_none : first_refusal (table_card_checks table_facts (block_of plain_cards)) ≡ None
 unfolding is_packed end_among logical_of number_behind numbered_name digits
 card_checks_none = refl
 
@@ -75,7 +75,7 @@ headers_are = ap found_headers walk_is
 abbrev pub RowStands : ℕ → Type 0
 RowStands row = RowStandsFor plain_file table_facts row (tile_of_grid row)
 
-abbrev six : List ℕ
+abbrev pub six : List ℕ
 six = 0 ∷ 1 ∷ 2 ∷ 3 ∷ 4 ∷ 5 ∷ []
 
 pub stands : (row : ℕ) → RowIs (plan_in plain_file table_facts) (image_table plain_file table_facts) row (tile_of_grid row) → RowStands row

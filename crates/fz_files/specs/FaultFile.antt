@@ -2,9 +2,10 @@
 use Rattle.std.specs.Prelude.{ℕ, List, [], ◌∷◌, ◌++◌, codes, replicate, Option, Some}
 use Rattle.fz_base.specs.Refusal.{refusal}
 use Rattle.fz_base.specs.declared.fault.Fault.{Fault}
-use Rattle.fz_base.specs.declared.fault.Place.TheVariants.{Byte, Card}
-use Rattle.fz_base.specs.declared.kind.Kind.TheVariants.{Reserved, TrailingBytes}
-use Rattle.fz_files.specs.HandMade.{card_of, block_of}
+use Rattle.fz_base.specs.declared.fault.Place.TheVariants.{Byte, Card, Row as AtRow}
+use Rattle.fz_base.specs.declared.kind.Kind.TheVariants.{DescriptorRange, Reserved, TrailingBytes}
+use Rattle.fz_files.specs.HandMade.{card_of, block_of, empty_cards}
+use Rattle.fz_files.specs.PlainFile.{plain_cards, plain_heap}
 use Rattle.fz_files.specs.RiceFile.{small_cards, small_hdu}
 
 -- bytes that are no HDU
@@ -29,3 +30,20 @@ reserved_fault = Some (refusal 0 (Card 5) Reserved)
 -- the fault of the bytes, from which HDU 1 would begin
 abbrev pub trailing_fault : Option Fault
 trailing_fault = Some (refusal 1 (Byte 5760) TrailingBytes)
+
+-- the rows of the packed file of `PlainFile`, where those of tiles 3 and 5 describe 16 pixels each, which end behind the heap
+abbrev pub past_rows : List ℕ
+past_rows =
+    0 ∷ 0 ∷ 0 ∷ 0 ∷ 0 ∷ 0 ∷ 0 ∷ 0 ∷ 0 ∷ 0 ∷ 0 ∷ 4 ∷ 0 ∷ 0 ∷ 0 ∷ 0
+    ∷ 0 ∷ 0 ∷ 0 ∷ 0 ∷ 0 ∷ 0 ∷ 0 ∷ 0 ∷ 0 ∷ 0 ∷ 0 ∷ 4 ∷ 0 ∷ 0 ∷ 0 ∷ 4
+    ∷ 0 ∷ 0 ∷ 0 ∷ 0 ∷ 0 ∷ 0 ∷ 0 ∷ 0 ∷ 0 ∷ 0 ∷ 0 ∷ 2 ∷ 0 ∷ 0 ∷ 0 ∷ 8
+    ∷ 0 ∷ 0 ∷ 0 ∷ 0 ∷ 0 ∷ 0 ∷ 0 ∷ 0 ∷ 0 ∷ 0 ∷ 0 ∷ 16 ∷ 0 ∷ 0 ∷ 0 ∷ 10
+    ∷ 0 ∷ 0 ∷ 0 ∷ 0 ∷ 0 ∷ 0 ∷ 0 ∷ 0 ∷ 0 ∷ 0 ∷ 0 ∷ 2 ∷ 0 ∷ 0 ∷ 0 ∷ 12
+    ∷ 0 ∷ 0 ∷ 0 ∷ 0 ∷ 0 ∷ 0 ∷ 0 ∷ 0 ∷ 0 ∷ 0 ∷ 0 ∷ 16 ∷ 0 ∷ 0 ∷ 0 ∷ 14 ∷ []
+
+abbrev pub past_file : List ℕ
+past_file = block_of empty_cards ++ (block_of plain_cards ++ (past_rows ++ (plain_heap ++ replicate 2769 0)))
+
+-- the fault of the lower of both rows
+abbrev pub past_fault : Option Fault
+past_fault = Some (refusal 1 (AtRow 3) DescriptorRange)

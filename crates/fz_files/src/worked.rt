@@ -7,7 +7,7 @@ ghost use Rattle.fz_files.specs.CutFile.{table_facts, box_sieve, box_file, box_r
 ghost use Rattle.fz_files.specs.CutoutBytes.{IsCutout, cutout_cards};
 ghost use Rattle.fz_files.specs.Cutout.{AreCutFrom, touched as touched_of};
 ghost use Rattle.fz_files.specs.ExtensionFile.{image_cards, row_pixels, image_hdu, extension_file, bare_options, image_plan, image_tiles, image_rows, image_table_cards, packed_extension};
-ghost use Rattle.fz_files.specs.FaultFile.{reserved_file, reserved_fault, trailing_file, trailing_fault};
+ghost use Rattle.fz_files.specs.FaultFile.{past_file, past_fault, reserved_file, reserved_fault, trailing_file, trailing_fault};
 ghost use Rattle.fz_files.specs.FirstFault.{IsFirstFault};
 ghost use Rattle.fz_files.specs.LongFile.{line_cards, line_pixels, line_hdu, line_file, long_options, long_plan, long_tiles, long_rows, long_cards, long_file};
 ghost use Rattle.fz_files.specs.Packed.{IsPackedFile, array_of, heap_of, rows_from, sum_before, table_header, tile_codes, with_sums};
@@ -72,11 +72,13 @@ pub fn extension_file_law()
 
 /// The first fault of the file of [`rice_file_law`] with ten bytes behind it, and of the same with a card whose name
 /// is reserved: `pack` refuses the card, which is of HDU 0, before the bytes, from which HDU 1 would begin; `unpack`
-/// does not look for reserved names.
+/// does not look for reserved names. Of two rows of a packed file that describe bytes behind the heap the lower is
+/// refused.
 pub fn fault_file_law()
     ensures own { IsFirstFault (Pack rice_options) reserved_file reserved_fault }
     ensures every { IsFirstFault (Pack rice_options) trailing_file trailing_fault }
     ensures unpack { IsFirstFault Unpack reserved_file trailing_fault }
+    ensures row { IsFirstFault Unpack past_file past_fault }
 {}
 
 /// Parts of the image that the packed file of [`plain_file_law`] holds: the cutout of a box, whose reference pixels
