@@ -8,6 +8,7 @@ pub mod FaultRowLemmas
 pub mod ImageLemmas
 pub mod LongFileLemmas
 pub mod OneCutout
+pub mod OtherFileLemmas
 pub mod PlainFileLemmas
 pub mod RestoredLemmas
 pub mod RiceFileLemmas

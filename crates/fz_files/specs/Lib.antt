@@ -10,6 +10,7 @@ pub mod HandMade
 pub mod Laws
 pub mod Lines
 pub mod LongFile
+pub mod OtherFile
 pub mod Packed
 pub mod PlainFile
 pub mod Restored

@@ -1,6 +1,7 @@
 //! Files that were packed by hand, as the definitions have them: no code runs.
 ghost use Rattle.std.specs.Prelude.{◌≡◌, ◌++◌, None, true};
 ghost use Rattle.fz_block.specs.Facts.{facts_of};
+ghost use Rattle.fz_head.specs.PackedPlan.{plan_of_cards};
 ghost use Rattle.fz_head.specs.Planned.{pack_plan_of};
 ghost use Rattle.fz_files.specs.declared.job.Job.TheVariants.{Pack, Unpack};
 ghost use Rattle.fz_files.specs.CutFile.{table_facts, box_sieve, box_file, box_ranges, reference_cards, moved_cards, second_sieve, kept_cards, step_sieve, step_numbers, ends_sieve, ends_ranges};
@@ -10,6 +11,7 @@ ghost use Rattle.fz_files.specs.ExtensionFile.{image_cards, row_pixels, image_hd
 ghost use Rattle.fz_files.specs.FaultFile.{past_file, past_fault, reserved_file, reserved_fault, trailing_file, trailing_fault};
 ghost use Rattle.fz_files.specs.FirstFault.{IsFirstFault};
 ghost use Rattle.fz_files.specs.LongFile.{line_cards, line_pixels, line_hdu, line_file, long_options, long_plan, long_tiles, long_rows, long_cards, long_file};
+ghost use Rattle.fz_files.specs.OtherFile.{image_file, other_cards, other_file, other_plan};
 ghost use Rattle.fz_files.specs.Packed.{IsPackedFile, array_of, heap_of, rows_from, sum_before, table_header, tile_codes, with_sums};
 ghost use Rattle.fz_files.specs.PlainFile.{grid_cards, grid_hdu, grid_file, plain_options, plain_plan, plain_tiles, plain_rows, plain_heap, plain_data, plain_cards, plain_file};
 ghost use Rattle.fz_files.specs.StandsFor.{StandsFor};
@@ -92,4 +94,13 @@ pub fn cut_file_law()
     ensures steps { AreCutFrom plain_file table_facts step_sieve step_numbers }
     ensures touched { touched_of None box_sieve plain_file ≡ box_ranges }
     ensures gaps { touched_of None ends_sieve plain_file ≡ ends_ranges }
+{}
+
+/// A file of another packer, as `specs/OtherFile.antt` writes it out: its plan, and the file that it stands for. Its
+/// table has one column and says neither the length of the tile, which is then the whole axis, nor BYTEPIX, which is
+/// then 4, so that the code is one of 32 bits of pixels of 16. Its first HDU is a primary without data, which stands
+/// for nothing, though its cards are not those that `pack` writes. The sums and the name of the table do not come back.
+pub fn other_file_law()
+    ensures plan { plan_of_cards other_cards ≡ other_plan }
+    ensures restored { StandsFor other_file image_file }
 {}
