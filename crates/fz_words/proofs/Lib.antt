@@ -1,0 +1,5 @@
+pub mod DigitLemmas
+pub mod ListLemmas
+pub mod PartLemmas
+pub mod RangeLemmas
+pub mod WordLemmas

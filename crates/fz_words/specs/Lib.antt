@@ -1,0 +1,6 @@
+pub mod Cut
+pub mod Jobs
+pub mod Parts
+pub mod Seen
+pub mod Table
+pub mod Values

@@ -1,0 +1,17 @@
+//! The words of the command line: what they ask for.
+//!
+//! Reading order: `table`, `cut`, `part`, `line`, `number`, `lists`, `settings`, `request`.
+#![tactic(auto)]
+
+mod cut;
+mod line;
+mod lists;
+mod number;
+mod part;
+mod request;
+mod settings;
+mod table;
+#[cfg(test)]
+mod tests;
+
+pub use request::{Request, Usage, read_words};

@@ -1,0 +1,178 @@
+//! What the words of the command line ask for.
+ghost use Rattle.std.specs.Prelude.{◌≡◌};
+ghost use Rattle.std.specs.Option.{option_map};
+ghost use Rattle.std.specs.Result.{result_ok};
+ghost use Rattle.fz_words.specs.Jobs.{cut_of, drill_of, job_of, list_of, names_in, one_operand, pack_of, pack_options_of, unpack_of, verify_of};
+ghost use Rattle.fz_words.specs.Parts.{texts_of};
+ghost use Rattle.fz_words.specs.Seen.{asked_in, seen_line, seen_names, seen_text};
+
+use crate::line::Line;
+use crate::number::short_in;
+use crate::settings::{
+    MEMORY, block_of, box_of, codec_of, hdu_of, memory_of, sums_of, tile_of, workers_of,
+};
+use crate::table::Command;
+use fz_files::Job;
+use fz_head::PackOptions;
+
+/// What the words ask for.
+#[derive(Clone, Copy, Debug, PartialEq, Eq)]
+pub struct Request<'a> {
+    pub job: Job,
+    /// The number of workers, from 1 to 64; 1 for a command that has no such option.
+    pub workers: u32,
+    /// The bytes that the job's buffers may take together, from 1 to 2^40.
+    pub memory: u64,
+    /// The name IN of the file that is read; empty for a drill.
+    pub input: &'a str,
+    /// The name OUT of the file that is written; empty for a command that writes none.
+    pub output: &'a str,
+}
+
+/// The words are no command of this program.
+#[derive(Clone, Copy, Debug, PartialEq, Eq)]
+pub struct Usage;
+
+/// What the words ask for, which are those behind the program's name; Usage exactly where they are outside the
+/// grammar.
+pub fn read_words(words: &[String]) -> Result<Request<'_>, Usage>
+    ensures job { asked_in result ≡ job_of (texts_of words.now) }
+{
+    let (first, others) = words.split_first().ok_or(Usage)?;
+    let command = Command::named(first.as_str()).ok_or(Usage)?;
+    let line = Line::of(command, others);
+    if !line.is_inside() {
+        return Err(Usage);
+    }
+    match command {
+        Command::Pack => pack_of(&line),
+        Command::Unpack => unpack_of(&line),
+        Command::Cut => cut_of(&line),
+        Command::Verify => verify_of(&line),
+        Command::List => list_of(&line),
+        Command::Drill => drill_of(&line),
+    }
+}
+
+fn pack_of<'a>(line: &Line<'a>) -> Result<Request<'a>, Usage>
+    ensures { asked_in result ≡ pack_of (seen_line line.now) }
+{
+    let options = pack_options_of(line)?;
+    let memory = memory_of(line)?;
+    let (input, output) = names_of(line)?;
+    Ok(Request {
+        job: Job::Pack(options),
+        workers: options.workers,
+        memory,
+        input,
+        output,
+    })
+}
+
+fn pack_options_of(line: &Line<'_>) -> Result<PackOptions, Usage>
+    ensures { result_ok result ≡ pack_options_of (seen_line line.now) }
+{
+    let codec = codec_of(line)?;
+    Ok(PackOptions {
+        codec,
+        tile: tile_of(line)?,
+        block: block_of(codec, line)?,
+        sums: sums_of(line)?,
+        workers: workers_of(line)?,
+    })
+}
+
+fn unpack_of<'a>(line: &Line<'a>) -> Result<Request<'a>, Usage>
+    ensures { asked_in result ≡ unpack_of (seen_line line.now) }
+{
+    let workers = workers_of(line)?;
+    let memory = memory_of(line)?;
+    let (input, output) = names_of(line)?;
+    Ok(Request {
+        job: Job::Unpack,
+        workers,
+        memory,
+        input,
+        output,
+    })
+}
+
+fn cut_of<'a>(line: &Line<'a>) -> Result<Request<'a>, Usage>
+    ensures { asked_in result ≡ cut_of (seen_line line.now) }
+{
+    let hdu = hdu_of(line)?;
+    let sieve = box_of(line)?;
+    let workers = workers_of(line)?;
+    let memory = memory_of(line)?;
+    let (input, output) = names_of(line)?;
+    Ok(Request {
+        job: Job::Cut { hdu, sieve },
+        workers,
+        memory,
+        input,
+        output,
+    })
+}
+
+fn verify_of<'a>(line: &Line<'a>) -> Result<Request<'a>, Usage>
+    ensures { asked_in result ≡ verify_of (seen_line line.now) }
+{
+    let memory = memory_of(line)?;
+    let input = one_operand(line)?;
+    Ok(Request {
+        job: Job::Verify,
+        workers: 1,
+        memory,
+        input,
+        output: "",
+    })
+}
+
+fn list_of<'a>(line: &Line<'a>) -> Result<Request<'a>, Usage>
+    ensures { asked_in result ≡ list_of (seen_line line.now) }
+{
+    let input = one_operand(line)?;
+    Ok(Request {
+        job: Job::List,
+        workers: 1,
+        memory: MEMORY,
+        input,
+        output: "",
+    })
+}
+
+fn drill_of<'a>(line: &Line<'a>) -> Result<Request<'a>, Usage>
+    ensures { asked_in result ≡ drill_of (seen_line line.now) }
+{
+    let operand = one_operand(line)?;
+    let rows = short_in(operand, 1, 16384).ok_or(Usage)?;
+    Ok(Request {
+        job: Job::Drill { rows },
+        workers: 1,
+        memory: MEMORY,
+        input: "",
+        output: "",
+    })
+}
+
+// The one operand.
+fn one_operand<'a>(line: &Line<'a>) -> Result<&'a str, Usage>
+    ensures { seen_text result ≡ one_operand (seen_line line.now).operands }
+{
+    match (line.operand(0), line.operand(1)) {
+        (Some(word), None) if !word.is_empty() => Ok(word),
+        _ => Err(Usage),
+    }
+}
+
+// The names IN and OUT.
+fn names_of<'a>(line: &Line<'a>) -> Result<(&'a str, &'a str), Usage>
+    ensures { seen_names result ≡ names_in (seen_line line.now).operands }
+{
+    match (line.operand(0), line.operand(1), line.operand(2)) {
+        (Some(input), Some(output), None) if !input.is_empty() && !output.is_empty() => {
+            Ok((input, output))
+        }
+        _ => Err(Usage),
+    }
+}
