@@ -35,11 +35,16 @@ pub struct Usage;
 
 /// What the words ask for, which are those behind the program's name; Usage exactly where they are outside the
 /// grammar.
+#[tactic(auto, unfolding(crate::specs::Jobs::job_of))]
 pub fn read_words(words: &[String]) -> Result<Request<'_>, Usage>
     ensures job { asked_in result ≡ job_of (texts_of words.now) }
 {
-    let (first, others) = words.split_first().ok_or(Usage)?;
-    let command = Command::named(first.as_str()).ok_or(Usage)?;
+    let [first, others @ ..] = words else {
+        return Err(Usage);
+    };
+    let Some(command) = Command::named(first.as_str()) else {
+        return Err(Usage);
+    };
     let line = Line::of(command, others);
     if !line.is_inside() {
         return Err(Usage);
