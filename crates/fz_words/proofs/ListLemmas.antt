@@ -1,11 +1,13 @@
 -- Lists between commas, piece by piece.
-use Rattle.std.proofs.Common.{◌≡◌, ℕ, zero, suc, ◌+◌, ◌-◌, ◌<◌, ◌≤◌, Bool, true, false, cond, List, [], ◌∷◌, ◌++◌, length, map, drop, take, set, replicate, sym, refl, ap, ◌∙◌, subst, arith, append_assoc, length-append}
-use Rattle.std.specs.Prelude.{◌==◌, not, nat_le, nat_lt, Option, Some, None}
+use Rattle.std.proofs.Common.{◌≡◌, ℕ, zero, suc, ◌+◌, ◌-◌, ◌<◌, ◌≤◌, Bool, true, false, cond, List, [], ◌∷◌, ◌++◌, length, map, drop, take, get_or, set, replicate, inl, inr, sym, refl, ap, ◌∙◌, subst, arith, append_assoc, length-append}
+use Rattle.std.specs.Prelude.{◌==◌, ◌⊎◌, ◌≢◌, IfNone, not, nat_le, nat_lt, Option, Some, None}
 use Rattle.std.specs.List.{after_first, before_first, onto_first, position_or_len, slice_split}
 use Rattle.std.specs.Option.{option_and_then, option_map}
 use Rattle.std.proofs.Math.Seq.{set-append_seam}
 use Rattle.std.proofs.lemmas.Bool.Decides.{nat_tests}
-use Rattle.std.proofs.lemmas.List.{length-drop, length-map, map-append, take_all}
+use Rattle.std.proofs.lemmas.Bool.{cases_lt}
+use Rattle.std.proofs.lemmas.Grind.{get_or-set_at}
+use Rattle.std.proofs.lemmas.List.{get_or-set_other, length-drop, length-replicate, length-map, map-append, take_all}
 use Rattle.std.proofs.lemmas.List.Splits.{slice_split_first}
 use Rattle.fz_block.specs.declared.axes.Axes.{Axes}
 use Rattle.fz_grid.specs.declared.sieve.Sieve.{Sieve}
@@ -215,3 +217,58 @@ ranges-end text sieve rest h end =
     let all : all_some (map range_in (pieces 44 text)) ≡ Some h.xs = h.read ∙ ap (joined range_in h.xs) end in
     let is : sieve ≡ sieve_of h.xs = λ i. record { n = h.count i; lo = h.los i; hi = h.his i; step = h.steps i } in
     sym (ap (λ r. option_map sieve_of (option_and_then at_most_nine r)) all ∙ ap (option_map sieve_of) (joined-last h.xs h.few) ∙ ap (λ s. Some s) (sym is))
+
+-- a fact of each entry of a table, where one entry more has it
+pub each-next : (P : ℕ → Type 0) (table : List ℕ) (n v : ℕ) → n < length table → ((i : ℕ) → i < n → P (get_or table i 0)) → P v → (i : ℕ) → i < n + 1 → P (get_or (set table n v) i 0)
+each-next P table n v within before has i low = next (cases_lt i n)
+  where
+    next : (i < n) ⊎ (n ≤ i) → P (get_or (set table n v) i 0)
+    next (inl lower) =
+        let other = get_or-set_other table n i v 0 (omega (arith, lower)) in
+        subst P (sym other) (before i lower)
+    next (inr last) =
+        let same : i ≡ n = omega (arith, low, last) in
+        subst P (sym (get_or-set_at table n i v 0 same within)) has
+
+-- the same of the entries of two tables
+pub each-next-two : (P : ℕ → ℕ → Type 0) (table others : List ℕ) (n v w : ℕ) → n < length table → n < length others → ((i : ℕ) → i < n → P (get_or table i 0) (get_or others i 0)) → P v w → (i : ℕ) → i < n + 1 → P (get_or (set table n v) i 0) (get_or (set others n w) i 0)
+each-next-two P table others n v w within inside before has i low = next (cases_lt i n)
+  where
+    next : (i < n) ⊎ (n ≤ i) → P (get_or (set table n v) i 0) (get_or (set others n w) i 0)
+    next (inl lower) =
+        let apart : i ≢ n = omega (arith, lower) in
+        let one = get_or-set_other table n i v 0 apart in
+        let two = get_or-set_other others n i w 0 apart in
+        rw (one, two) (before i lower)
+    next (inr last) =
+        let same : i ≡ n = omega (arith, low, last) in
+        rw (get_or-set_at table n i v 0 same within, get_or-set_at others n i w 0 same inside) has
+
+length-nine : (xs : List ℕ) → length xs ≤ 9 → length (nine xs) ≡ 9
+length-nine xs few =
+    let long = length-append xs (replicate (9 - length xs) 0) in
+    let zeros = length-replicate {A = ℕ} (9 - length xs) 0 in
+    omega (arith, long, zeros, few)
+
+nine-room : (table xs : List ℕ) (n : ℕ) → table ≡ nine xs → length xs ≤ 9 → n < 9 → n < length table
+nine-room table xs n same few low =
+    let long = ap length same ∙ length-nine xs few in
+    omega (arith, long, low)
+
+pub lengths-room : (text : List ℕ) (n : ℕ) (table : List ℕ) (rest : Option (List ℕ)) → LengthsRead text n table rest → n < 9 → n < length table
+lengths-room text n table rest h low = nine-room table h.xs n h.entries h.few low
+
+map-few : (f : Range → ℕ) (xs : List Range) → length xs ≤ 9 → length (map f xs) ≤ 9
+map-few f xs few = omega (arith, length-map xs f, few)
+
+-- there is room for one range more
+pub ranges-room : (text : List ℕ) (n : ℕ) (lo hi step : List ℕ) (rest : Option (List ℕ)) → RangesRead text n lo hi step rest → n < 9 → (n < length lo) × (n < length hi) × (n < length step)
+ranges-room text n lo hi step rest h low = (
+  nine-room lo (map (λ r. r.lo - 1) h.xs) n h.los (map-few (λ r. r.lo - 1) h.xs h.few) low,
+  nine-room hi (map (λ r. r.hi - 1) h.xs) n h.his (map-few (λ r. r.hi - 1) h.xs h.few) low,
+  nine-room step (map (λ r. r.step) h.xs) n h.steps (map-few (λ r. r.step) h.xs h.few) low,
+)
+
+pub if-none : {A : Type 0} (o : Option A) (P : Type 0) → P → IfNone o P
+if-none None P p = p
+if-none (Some x) P p = tt

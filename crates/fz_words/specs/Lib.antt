@@ -1,5 +1,6 @@
 pub mod Cut
 pub mod Jobs
+pub mod Lawful
 pub mod Parts
 pub mod Seen
 pub mod Table

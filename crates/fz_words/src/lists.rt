@@ -1,8 +1,8 @@
 //! Lists of lengths, and boxes.
-ghost use Rattle.std.specs.Prelude.{◌≡◌, ◌≤◌, ◌<◌, ◌^◌, IfSome, length};
+ghost use Rattle.std.specs.Prelude.{◌≡◌, ◌≤◌, ◌<◌, ◌^◌, IfSome, Some};
 ghost use Rattle.std.specs.Option.{option_copied, option_map};
 ghost use Rattle.fz_head.specs.Planned.{IsTile};
-ghost use Rattle.fz_grid.specs.Sieve.{IsSieve};
+ghost use Rattle.fz_words.specs.Lawful.{IsBox};
 ghost use Rattle.fz_words.specs.Seen.{seen_range};
 ghost use Rattle.fz_words.specs.Values.{box_in, lengths_in, range_in, step_in};
 
@@ -17,6 +17,7 @@ const MOST: usize = 9;
 /// 1 to 9 lengths, joined by commas.
 pub(crate) fn lengths_in(text: &str) -> Option<Axes>
     ensures value { result ≡ lengths_in text.now }
+    ensures lawful { IfSome result (λ axes. IsTile (Some axes)) }
 {
     let mut axes = Axes { n: 0, len: [0; 9] };
     let mut rest = Some(text);
@@ -44,6 +45,7 @@ pub(crate) struct Range {
 /// 1 to 9 ranges, joined by commas: the sieve is counted from 0.
 pub(crate) fn box_in(text: &str) -> Option<Sieve>
     ensures value { result ≡ box_in text.now }
+    ensures lawful { IfSome result IsBox }
 {
     let mut sieve = Sieve {
         n: 0,

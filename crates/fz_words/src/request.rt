@@ -1,8 +1,10 @@
 //! What the words of the command line ask for.
-ghost use Rattle.std.specs.Prelude.{◌≡◌};
+ghost use Rattle.std.specs.Prelude.{◌≡◌, ◌≤◌, IfOk};
 ghost use Rattle.std.specs.Option.{option_map};
 ghost use Rattle.std.specs.Result.{result_ok};
+ghost use Rattle.fz_head.specs.Planned.{AreOptions};
 ghost use Rattle.fz_words.specs.Jobs.{cut_of, drill_of, job_of, list_of, names_in, one_operand, pack_of, pack_options_of, unpack_of, verify_of};
+ghost use Rattle.fz_words.specs.Lawful.{IsLawful};
 ghost use Rattle.fz_words.specs.Parts.{texts_of};
 ghost use Rattle.fz_words.specs.Seen.{asked_in, seen_line, seen_names, seen_text};
 
@@ -38,6 +40,7 @@ pub struct Usage;
 #[tactic(auto, unfolding(crate::specs::Jobs::job_of))]
 pub fn read_words(words: &[String]) -> Result<Request<'_>, Usage>
     ensures job { asked_in result ≡ job_of (texts_of words.now) }
+    ensures lawful { IfOk result IsLawful }
 {
     let [first, others @ ..] = words else {
         return Err(Usage);
@@ -60,7 +63,8 @@ pub fn read_words(words: &[String]) -> Result<Request<'_>, Usage>
 }
 
 fn pack_of<'a>(line: &Line<'a>) -> Result<Request<'a>, Usage>
-    ensures { asked_in result ≡ pack_of (seen_line line.now) }
+    ensures value { asked_in result ≡ pack_of (seen_line line.now) }
+    ensures lawful { IfOk result IsLawful }
 {
     let options = pack_options_of(line)?;
     let memory = memory_of(line)?;
@@ -75,7 +79,8 @@ fn pack_of<'a>(line: &Line<'a>) -> Result<Request<'a>, Usage>
 }
 
 fn pack_options_of(line: &Line<'_>) -> Result<PackOptions, Usage>
-    ensures { result_ok result ≡ pack_options_of (seen_line line.now) }
+    ensures value { result_ok result ≡ pack_options_of (seen_line line.now) }
+    ensures lawful { IfOk result (λ o. AreOptions o × (1 ≤ o.workers) × (o.workers ≤ 64)) }
 {
     let codec = codec_of(line)?;
     Ok(PackOptions {
@@ -88,7 +93,8 @@ fn pack_options_of(line: &Line<'_>) -> Result<PackOptions, Usage>
 }
 
 fn unpack_of<'a>(line: &Line<'a>) -> Result<Request<'a>, Usage>
-    ensures { asked_in result ≡ unpack_of (seen_line line.now) }
+    ensures value { asked_in result ≡ unpack_of (seen_line line.now) }
+    ensures lawful { IfOk result IsLawful }
 {
     let workers = workers_of(line)?;
     let memory = memory_of(line)?;
@@ -103,7 +109,8 @@ fn unpack_of<'a>(line: &Line<'a>) -> Result<Request<'a>, Usage>
 }
 
 fn cut_of<'a>(line: &Line<'a>) -> Result<Request<'a>, Usage>
-    ensures { asked_in result ≡ cut_of (seen_line line.now) }
+    ensures value { asked_in result ≡ cut_of (seen_line line.now) }
+    ensures lawful { IfOk result IsLawful }
 {
     let hdu = hdu_of(line)?;
     let sieve = box_of(line)?;
@@ -120,7 +127,8 @@ fn cut_of<'a>(line: &Line<'a>) -> Result<Request<'a>, Usage>
 }
 
 fn verify_of<'a>(line: &Line<'a>) -> Result<Request<'a>, Usage>
-    ensures { asked_in result ≡ verify_of (seen_line line.now) }
+    ensures value { asked_in result ≡ verify_of (seen_line line.now) }
+    ensures lawful { IfOk result IsLawful }
 {
     let memory = memory_of(line)?;
     let input = one_operand(line)?;
@@ -134,7 +142,8 @@ fn verify_of<'a>(line: &Line<'a>) -> Result<Request<'a>, Usage>
 }
 
 fn list_of<'a>(line: &Line<'a>) -> Result<Request<'a>, Usage>
-    ensures { asked_in result ≡ list_of (seen_line line.now) }
+    ensures value { asked_in result ≡ list_of (seen_line line.now) }
+    ensures lawful { IfOk result IsLawful }
 {
     let input = one_operand(line)?;
     Ok(Request {
@@ -147,7 +156,8 @@ fn list_of<'a>(line: &Line<'a>) -> Result<Request<'a>, Usage>
 }
 
 fn drill_of<'a>(line: &Line<'a>) -> Result<Request<'a>, Usage>
-    ensures { asked_in result ≡ drill_of (seen_line line.now) }
+    ensures value { asked_in result ≡ drill_of (seen_line line.now) }
+    ensures lawful { IfOk result IsLawful }
 {
     let operand = one_operand(line)?;
     let rows = short_in(operand, 1, 16384).ok_or(Usage)?;

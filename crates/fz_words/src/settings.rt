@@ -1,7 +1,9 @@
 //! What the options of a line say.
-ghost use Rattle.std.specs.Prelude.{◌≡◌};
+ghost use Rattle.std.specs.Prelude.{◌≡◌, ◌≤◌, ◌<◌, ◌^◌, IfOk, IfSome};
 ghost use Rattle.std.specs.Result.{result_ok};
+ghost use Rattle.fz_head.specs.Planned.{IsTile};
 ghost use Rattle.fz_words.specs.Jobs.{block_of, box_of, codec_of, hdu_of, memory_of, sums_of, tile_of, workers_of};
+ghost use Rattle.fz_words.specs.Lawful.{IsBox};
 ghost use Rattle.fz_words.specs.Seen.{seen_line};
 ghost use Rattle.fz_words.specs.Values.{codec_in};
 
@@ -40,7 +42,8 @@ fn codec_in(text: &str) -> Option<CodecWord>
 
 /// The lengths of a tile along the leading axes, if they are given.
 pub(crate) fn tile_of(line: &Line<'_>) -> Result<Option<Axes>, Usage>
-    ensures { result_ok result ≡ tile_of (seen_line line.now) }
+    ensures value { result_ok result ≡ tile_of (seen_line line.now) }
+    ensures lawful { IfOk result IsTile }
 {
     match line.value(OptionName::Tile)? {
         None => Ok(None),
@@ -50,7 +53,8 @@ pub(crate) fn tile_of(line: &Line<'_>) -> Result<Option<Axes>, Usage>
 
 /// The numbers in a block of the Rice code, which no other codec has; 32, where they are not given.
 pub(crate) fn block_of(codec: CodecWord, line: &Line<'_>) -> Result<u32, Usage>
-    ensures { result_ok result ≡ block_of codec (seen_line line.now) }
+    ensures value { result_ok result ≡ block_of codec (seen_line line.now) }
+    ensures lawful { IfOk result (λ block. (1 ≤ block) × (block ≤ 32767)) }
 {
     match (line.value(OptionName::Block)?, codec) {
         (None, _) => Ok(32),
@@ -68,7 +72,8 @@ pub(crate) fn sums_of(line: &Line<'_>) -> Result<bool, Usage>
 
 /// The number of workers; 1, where it is not given.
 pub(crate) fn workers_of(line: &Line<'_>) -> Result<u32, Usage>
-    ensures { result_ok result ≡ workers_of (seen_line line.now) }
+    ensures value { result_ok result ≡ workers_of (seen_line line.now) }
+    ensures lawful { IfOk result (λ workers. (1 ≤ workers) × (workers ≤ 64)) }
 {
     match line.value(OptionName::Workers)? {
         None => Ok(1),
@@ -78,7 +83,8 @@ pub(crate) fn workers_of(line: &Line<'_>) -> Result<u32, Usage>
 
 /// The bytes that buffers may take.
 pub(crate) fn memory_of(line: &Line<'_>) -> Result<u64, Usage>
-    ensures { result_ok result ≡ memory_of (seen_line line.now) }
+    ensures value { result_ok result ≡ memory_of (seen_line line.now) }
+    ensures lawful { IfOk result (λ memory. (1 ≤ memory) × (memory ≤ 2 ^ 40)) }
 {
     match line.value(OptionName::Memory)? {
         None => Ok(MEMORY),
@@ -88,7 +94,8 @@ pub(crate) fn memory_of(line: &Line<'_>) -> Result<u64, Usage>
 
 /// The number of the HDU, if it is given.
 pub(crate) fn hdu_of(line: &Line<'_>) -> Result<Option<u32>, Usage>
-    ensures { result_ok result ≡ hdu_of (seen_line line.now) }
+    ensures value { result_ok result ≡ hdu_of (seen_line line.now) }
+    ensures lawful { IfOk result (λ hdu. IfSome hdu (λ h. h < 2 ^ 16)) }
 {
     match line.value(OptionName::Hdu)? {
         None => Ok(None),
@@ -98,7 +105,8 @@ pub(crate) fn hdu_of(line: &Line<'_>) -> Result<Option<u32>, Usage>
 
 /// The box, which has to be given.
 pub(crate) fn box_of(line: &Line<'_>) -> Result<Sieve, Usage>
-    ensures { result_ok result ≡ box_of (seen_line line.now) }
+    ensures value { result_ok result ≡ box_of (seen_line line.now) }
+    ensures lawful { IfOk result IsBox }
 {
     let text = line.value(OptionName::Box)?.ok_or(Usage)?;
     box_in(text).ok_or(Usage)
