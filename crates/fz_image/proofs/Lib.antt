@@ -1,0 +1,13 @@
+pub mod Codes
+pub mod Sizes
+pub mod Progresses
+pub mod Gathering
+pub mod Headers
+pub mod LoadedTiles
+pub mod TileTotals
+pub mod Writes
+pub mod EncodedTiles
+pub mod TableSums
+pub mod WholeTables
+pub mod ImageData
+pub mod WholeImages

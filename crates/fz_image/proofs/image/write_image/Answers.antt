@@ -1,0 +1,56 @@
+-- The table of the codes is that of the image.
+use Rattle.std.proofs.Common.{◌≡◌, ℕ, ◌+◌, ◌≤◌, ◌<◌, ◌^◌, List, Option, IfSome, sym, ap, ◌∙◌, subst, arith}
+use Rattle.std.proofs.lemmas.Result.{IfOk-weaker}
+use Rattle.fz_block.specs.Hdus.{cards_of}
+use Rattle.fz_image.specs.Image.{HoldsCodes, HoldsTable}
+use Rattle.fz_image.specs.Layout.{HasPixels, IsLayout, IsPlan, layout_of}
+use Rattle.fz_image.specs.Tiles.{codes_from}
+use Rattle.fz_image.specs.declared.layout.Layout.{Layout}
+use Rattle.fz_image.proofs.ImageData.{image_plan, pixels_len}
+use Rattle.fz_image.proofs.WholeImages.{holds_table, image_layout, image_pixels}
+use Rattle.fz_image.proofs.image.write_image.Goals as goal
+
+pub of-layout-requires-clause-plan : goal.of-layout-requires-clause-plan
+of-layout-requires-clause-plan g c =
+    let is = c.requires.plan in
+    let h = c.args.header.now in
+    image_plan c.args.buf.now h c.args.sums c.args.plan.now is
+    (c.pack_plan_law.ensures.divided is.options h c.args.buf.now c.args.plan.now is.allowed c.requires.header is.packable is.answer)
+    (c.pack_plan_law.ensures.writable is.options h c.args.buf.now c.args.plan.now is.allowed is.packable is.answer)
+
+pub write_table-requires-clause-layout : goal.write_table-requires-clause-layout
+write_table-requires-clause-layout g c κs within =
+    let is = c.requires.plan in
+    let h = c.args.header.now in
+    let plan : IsPlan c.args.plan.now = image_plan c.args.buf.now h c.args.sums c.args.plan.now is
+    (c.pack_plan_law.ensures.divided is.options h c.args.buf.now c.args.plan.now is.allowed c.requires.header is.packable is.answer)
+    (c.pack_plan_law.ensures.writable is.options h c.args.buf.now c.args.plan.now is.allowed is.packable is.answer) in
+    subst IsLayout (sym c.of-layout.ensures)
+    (image_layout h c.args.plan.now (c.args.at + c.header_len.result) plan (omega (arith, c.header_len.ensures.some)) (omega (arith, c.requires.at, c.header_len.ensures.short)) c.requires.end)
+
+pub write_table-requires-clause-pixels : goal.write_table-requires-clause-pixels
+write_table-requires-clause-pixels g c κs within =
+    let h = c.args.header.now in
+    let p = c.args.plan.now in
+    let attached : Option ℕ = g.S.Source.attached c.args.source.now in
+    subst (HasPixels attached) (sym c.of-layout.ensures)
+    (image_pixels h p (c.args.at + c.header_len.result) attached (pixels_len c.args.buf.now h c.args.sums p c.requires.header c.requires.plan) c.requires.within.0 c.requires.within.1 c.requires.within.2)
+
+pub returns-clause-table : goal.returns-clause-table
+returns-clause-table g c =
+    let buf = c.args.buf.now in
+    let h = c.args.header.now in
+    let p = c.args.plan.now in
+    let sums = c.args.sums in
+    let at = c.args.at in
+    let rows_at : ℕ = at + c.header_len.result in
+    let held : Option (List ℕ) = g.S.Source.held c.args.source.now in
+    let before : Option (List ℕ) = g.K.Sink.contents c.args.sink.now in
+    let now : Option (List ℕ) = g.K.Sink.contents c.write_table.new.sink in
+    let l : Layout = c.of-layout.result in
+    IfOk-weaker c.write_table.result
+    (λ end. IfSome held (λ file. HoldsCodes sums l (cards_of buf) (codes_from l file 0 l.tiles) at end before now))
+    (λ end. IfSome held (λ file. HoldsTable sums p h file at end before now))
+    (λ end holds. holds_table c.slice_law.ensures.pixels sums h p rows_at buf held at end before now c.requires.header c.requires.read (pixels_len buf h sums p c.requires.header c.requires.plan)
+    (subst (λ (k : Layout). IfSome held (λ file. HoldsCodes sums k (cards_of buf) (codes_from k file 0 k.tiles) at end before now)) c.of-layout.ensures holds))
+    c.write_table.ensures.table

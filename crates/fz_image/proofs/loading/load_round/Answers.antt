@@ -1,0 +1,46 @@
+-- One tile after another.
+use Rattle.std.proofs.Common.{◌≡◌, ℕ, ◌+◌, ◌*◌, ◌<◌, List, Option, replicate, refl, sym, ap, ◌∙◌, subst, arith, rules}
+use Rattle.fz_image.specs.Tiles.{AreLoaded, IsLoaded}
+use Rattle.fz_image.proofs.LoadedTiles.{loaded_more, loaded_none}
+use Rattle.fz_image.proofs.loading.load_round.Goals as goal
+
+pub loop-i-init : goal.loop-i-init
+loop-i-init g c = record {
+  held = refl;
+  attached = refl;
+  reads = refl;
+  sizes = refl;
+  workers = refl;
+  loaded = loaded_none c.args.layout.now (g.S.Source.held c.args.source.now) c.args.first c.args.window.now;
+}
+
+pub load_next-requires-clause-pixels : goal.load_next-requires-clause-pixels
+load_next-requires-clause-pixels g c = (c.requires.pixels.0, c.loop-i.invariant.attached ∙ c.requires.pixels.1, c.requires.pixels.2)
+
+pub load_next-requires-clause-window : goal.load_next-requires-clause-window
+load_next-requires-clause-window g c =
+    let n : ℕ = c.requires.window.0 in
+    (n, c.loop-i.invariant.sizes ∙ c.requires.window.1 ∙ ap (λ (k : ℕ). replicate {A = ℕ × ℕ} (2 * k) (2 * n, 8 * n + 64)) (sym c.loop-i.invariant.workers), c.requires.window.2)
+
+pub load_next-requires-clause-near : goal.load_next-requires-clause-near
+load_next-requires-clause-near g c = omega (arith, c.loop-i.invariant.workers, c.requires.near)
+
+pub loop-i-preserved : goal.loop-i-preserved
+loop-i-preserved g c =
+    let l = c.args.layout.now in
+    let held : Option (List ℕ) = g.S.Source.held c.args.source.now in
+    let put = c.in_ok-load_next.ensures.put in
+    let now : IsLoaded l held (c.args.first + c.loop-i.i) put.0 = subst (λ (h : Option (List ℕ)). IsLoaded l h (c.args.first + c.loop-i.i) put.0) c.loop-i.invariant.held put.2 in
+    record {
+      held = search rules;
+      attached = search rules;
+      reads = search rules;
+      sizes = c.in_ok-load_next.ensures.sizes ∙ c.loop-i.invariant.sizes;
+      workers = c.in_ok-load_next.ensures.workers ∙ c.loop-i.invariant.workers;
+      loaded = loaded_more l held c.args.first c.loop-i.i c.loop-i.window c.load_next.new.window put.0 put.1 now c.loop-i.invariant.loaded c.put_law.ensures.ready;
+    }
+
+pub returns-clause-loaded : goal.returns-clause-loaded
+returns-clause-loaded g c =
+    let all : c.loop-i.i ≡ c.args.count = search rules in
+    subst (λ n. AreLoaded c.args.layout.now (g.S.Source.held c.args.source.now) c.args.first n c.loop-i.window) all c.loop-i.invariant.loaded

@@ -1,0 +1,29 @@
+-- The pixels stand in the numbers, and are those of the tile.
+use Rattle.std.proofs.Common.{◌≡◌, ℕ, ◌+◌, ◌*◌, List, length, IfSome, refl, sym, ap, ◌∙◌, rules}
+use Rattle.std.specs.Prelude.{unsigned_abs}
+use Rattle.fz_grid.specs.Arrays.{product}
+use Rattle.fz_grid.specs.Division.{tile_places}
+use Rattle.fz_grid.specs.Grid.{tile_corner, tile_lengths}
+use Rattle.fz_grid.specs.Region.{lengths_of, places_of, region_corner, region_lengths}
+use Rattle.fz_image.specs.Tiles.{pixels_of}
+use Rattle.fz_image.proofs.LoadedTiles.{hold_tile, round_trip, told_tile}
+use Rattle.fz_image.proofs.loading.load_tile.Goals as goal
+
+pub returns-clause-holds : goal.returns-clause-holds
+returns-clause-holds g c =
+    let l = c.args.layout.now in
+    let t : ℕ = c.args.tile in
+    let r = c.tile_box-region.result in
+    let shape = c.grid.ensures.shape in
+    let tile = c.grid.ensures.tile in
+    let corner : region_corner r ≡ tile_corner (lengths_of l.plan.shape) (lengths_of l.plan.tile) t =
+    c.tile_box-region.ensures.corner ∙ (λ i. tile_corner (lengths_of (shape i)) (lengths_of (tile i)) t) in
+    let lengths : region_lengths r ≡ tile_lengths (lengths_of l.plan.shape) (lengths_of l.plan.tile) t =
+    c.tile_box-region.ensures.lengths ∙ (λ i. tile_lengths (lengths_of (shape i)) (lengths_of (tile i)) t) in
+    let places : List ℕ = places_of (lengths_of l.plan.shape) (region_corner r) (region_lengths r) in
+    let at : places ≡ tile_places (lengths_of l.plan.shape) (lengths_of l.plan.tile) t = λ i. places_of (lengths_of l.plan.shape) (corner i) (lengths i) in
+    let n : ℕ = c.tile_pixels-pixels.result in
+    let count : length places ≡ n = c.place_law.ensures.pixels (lengths_of l.plan.shape) (region_corner r) (region_lengths r) ∙ ap product lengths ∙ sym c.tile_pixels-pixels.ensures.pixels in
+    hold_tile l (g.S.Source.held c.args.source.now) t n _ c.read_front.new.numbers c.read_region.new.into (ap unsigned_abs (round_trip l.plan.bitpix c.requires.layout.plan.writable.size)) c.tile_pixels-pixels.ensures.pixels c.tile_pixels-pixels.ensures.some c.tile_pixels-pixels.ensures.most c.read_front.ensures.pixels
+    (told_tile l (g.S.Source.held c.args.source.now) c.requires.pixels.0 t n c.read_region.new.into places c.requires.layout c.requires.pixels.2 (g.met.S.Source.agrees c.args.source.now c.requires.pixels.0 c.requires.pixels.1)
+    c.tiles_law.ensures.places at count c.in_ok-read_region.ensures.below c.in_ok-read_region.ensures.pixels)

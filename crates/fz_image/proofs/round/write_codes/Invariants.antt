@@ -1,0 +1,18 @@
+-- The bytes of the first i tiles stand behind the heap.
+use Rattle.std.proofs.Common.{◌≡◌, ◌+◌}
+use Rattle.fz_base.specs.FirstByte.{StaysShut}
+use Rattle.fz_base.specs.Sink.{written}
+use Rattle.fz_files.specs.Packed.{heap_of}
+use Rattle.fz_pool.specs.Round.{coded_tiles}
+use Rattle.fz_image.specs.Layout.{heap_at_of}
+use Rattle.fz_image.specs.Progress.{with_heap}
+use Rattle.fz_image.proofs.round.write_codes.Given as goal
+
+abbrev pub invariant-loop-i : goal.invariant-loop-i
+invariant-loop-i g l = record {
+  created : g.K.Sink.created l.sink ≡ g.K.Sink.created l.fn.sink;
+  writes : g.K.Sink.tally l.sink ≡ g.K.Sink.tally l.fn.sink;
+  shut : StaysShut (g.K.Sink.contents l.fn.sink) (g.K.Sink.contents l.sink);
+  progress : l.progress ≡ with_heap l.layout l.fn.progress (coded_tiles l.i l.window.slots);
+  contents : g.K.Sink.contents l.sink ≡ written (heap_at_of l.layout + l.fn.progress.heap) (heap_of (coded_tiles l.i l.window.slots)) (g.K.Sink.contents l.fn.sink);
+}

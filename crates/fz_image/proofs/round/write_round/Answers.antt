@@ -1,0 +1,50 @@
+-- The next tiles go behind those that were written.
+use Rattle.std.proofs.Common.{◌≡◌, ℕ, ◌+◌, ◌*◌, ◌<◌, ◌≤◌, ◌^◌, List, Option, OnOk, length, sym, ap, ◌∙◌, subst, arith, rules}
+use Rattle.fz_files.specs.Packed.{heap_of, rows_from}
+use Rattle.fz_pool.specs.Round.{coded_tiles}
+use Rattle.fz_image.specs.Layout.{rows_len_of}
+use Rattle.fz_image.specs.Progress.{tiles_written, with_tiles}
+use Rattle.fz_image.specs.Tiles.{AreCodesFrom}
+use Rattle.fz_image.specs.declared.progress.Progress.{Progress}
+use Rattle.fz_image.proofs.Codes.{rows_len}
+use Rattle.fz_image.proofs.EncodedTiles.{on_ok_both}
+use Rattle.fz_image.proofs.Progresses.{more_written, summed_small}
+use Rattle.fz_image.proofs.TileTotals.{next_fits}
+use Rattle.std.proofs.lemmas.Result.{on_ok_weaker}
+use Rattle.fz_image.proofs.round.write_round.Goals as goal
+
+pub write_tiles-requires-clause-next : goal.write_tiles-requires-clause-next
+write_tiles-requires-clause-next g c =
+    let l = c.args.layout.now in
+    let was = c.requires.so_far.1 in
+    let e = c.in_ok-encode_tiles.ensures.encoded in
+    let es = coded_tiles c.min-count.result c.encode_tiles.new.window.slots in
+    let none : 0 + length was.codes ≡ length was.codes = omega arith in
+    let at : c.args.progress.now.tiles ≡ length was.codes = ap (λ (q : Progress). q.tiles) was.progress ∙ none in
+    let heap : c.args.progress.now.heap ≡ 0 + length (heap_of was.codes) = ap (λ (q : Progress). q.heap) was.progress in
+    let near : c.min-count.result ≤ 2 * c.encode_tiles.new.window.workers = omega (arith, c.in_ok-encode_tiles.ensures.workers, c.min-count.ensures, c.workers.ensures.value) in
+    let few : length was.codes + length es ≤ l.tiles = omega (arith, at, e.number, c.min-count.ensures, c.requires.left) in
+    record {
+      filled = e.filled;
+      near = near;
+      lens = e.lens;
+      fits = next_fits l was.codes es c.args.progress.now.heap c.requires.layout was.each (subst (λ n. AreCodesFrom l n es) at e.each) few heap;
+    }
+
+pub write_tiles-requires-clause-summed : goal.write_tiles-requires-clause-summed
+write_tiles-requires-clause-summed g c = summed_small c.args.layout.now (g.S.Source.held c.args.source.now) c.requires.so_far.0 (g.K.Sink.contents c.args.sink.now) c.args.progress.now c.requires.layout c.requires.so_far.1
+
+pub returns-clause-more : goal.returns-clause-more
+returns-clause-more g c =
+    let l = c.args.layout.now in
+    let e = c.in_ok-encode_tiles.ensures.encoded in
+    let es = coded_tiles c.min-count.result c.encode_tiles.new.window.slots in
+    let few : c.args.progress.now.tiles + c.min-count.result ≤ l.tiles = omega (arith, c.min-count.ensures, c.requires.left) in
+    on_ok_both c.write_tiles.result (λ progress contents. λ before was. more_written l (g.S.Source.held c.args.source.now) before (g.K.Sink.contents c.args.sink.now) (g.K.Sink.contents c.write_tiles.new.sink) c.args.progress.now c.write_tiles.new.progress es c.min-count.result
+    c.sum_law.ensures.joined c.output_law.ensures.next c.requires.layout e.each e.number few e.told progress contents was) c.write_tiles.ensures.progress c.write_tiles.ensures.contents
+
+pub returns-clause-grown : goal.returns-clause-grown
+returns-clause-grown g c =
+    let e = c.in_ok-encode_tiles.ensures.encoded in
+    let some : 1 ≤ c.min-count.result = omega (arith, c.min-count.ensures, c.workers.ensures.some, c.requires.left) in
+    on_ok_weaker c.write_tiles.result (λ progress. omega (arith, ap (λ (q : Progress). q.tiles) progress, e.number, some)) c.write_tiles.ensures.progress

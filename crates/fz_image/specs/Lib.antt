@@ -1,0 +1,5 @@
+pub mod Image
+pub mod Layout
+pub mod Progress
+pub mod Stops
+pub mod Tiles

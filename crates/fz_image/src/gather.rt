@@ -1,0 +1,64 @@
+//! The pixels of a tile, read from the image.
+ghost use Rattle.std.specs.Prelude.{ℕ, ◌≡◌, ◌+◌, ◌*◌, ◌<◌, ◌≤◌, ◌^◌, ◌++◌, Some, take, drop, length as len, OnOk, IfSome};
+ghost use Rattle.fz_grid.specs.Arrays.{product};
+ghost use Rattle.fz_grid.specs.Region.{IsShape, IsWithin, lengths_of, places_of, region_corner, region_lengths};
+ghost use Rattle.fz_image.specs.Stops.{OnlyReads};
+ghost use Rattle.fz_image.specs.Tiles.{AreBelow, pixels_at_places};
+
+use fz_base::{Source, Stop};
+use fz_block::Axes;
+use fz_grid::{Region, runs};
+
+/// Reads the bytes of the pixels of a region of an image, axis 1 fastest: each run of neighbouring pixels at
+/// once.
+pub(crate) fn read_region<S: Source>(
+    source: &mut S,
+    pixels_at: u64,
+    pixel_len: u32,
+    shape: &Axes,
+    region: &Region,
+    into: &mut [u8],
+) -> Result<(), Stop>
+    requires within { (n : ℕ) × (S.attached source.old ≡ Some n) × (pixels_at + pixel_len * product (lengths_of shape.now) ≤ n) }
+    requires near { pixels_at + pixel_len * product (lengths_of shape.now) < 2 ^ 63 }
+    requires pixel { 0 < pixel_len }
+    requires shape { IsShape shape.now }
+    requires region { IsWithin shape.now region.now }
+    requires room { len into.old ≡ pixel_len * product (region_lengths region.now) }
+    ensures pixels { OnOk result (IfSome (S.held source.old) (λ g. into.new ≡ pixels_at_places pixel_len (drop pixels_at g) (places_of (lengths_of shape.now) (region_corner region.now) (region_lengths region.now)))) }
+    ensures below { AreBelow (product (lengths_of shape.now)) (places_of (lengths_of shape.now) (region_corner region.now) (region_lengths region.now)) }
+    ensures len { len into.new ≡ len into.old }
+    ensures held { S.held source.new ≡ S.held source.old }
+    ensures attached { S.attached source.new ≡ S.attached source.old }
+    ensures cause { OnlyReads (S.tally source.old) (S.tally source.new) result }
+{
+    let mut done = 0u64;
+    for (first, count) in runs(shape, region) {
+        let len = u64::from(pixel_len) * count;
+        let from = pixels_at + u64::from(pixel_len) * first;
+        read_part(source, from, into, done, len)?;
+        done += len;
+    }
+    Ok(())
+}
+
+// Reads bytes from this place of the source on into a part of a buffer.
+fn read_part<S: Source>(
+    source: &mut S,
+    from: u64,
+    into: &mut [u8],
+    at: u64,
+    count: u64,
+) -> Result<(), Stop>
+    requires within { (n : ℕ) × (S.attached source.old ≡ Some n) × (from + count ≤ n) }
+    requires some { 0 < count }
+    requires room { at + count ≤ len into.old }
+    ensures part { OnOk result (IfSome (S.held source.old) (λ g. take (at + count) into.new ≡ take at into.old ++ take count (drop from g))) }
+    ensures len { len into.new ≡ len into.old }
+    ensures held { S.held source.new ≡ S.held source.old }
+    ensures attached { S.attached source.new ≡ S.attached source.old }
+    ensures cause { OnlyReads (S.tally source.old) (S.tally source.new) result }
+{
+    let part = &mut into[at as usize..(at + count) as usize];
+    source.read_at(from, part).map_err(Stop::reading)
+}

@@ -1,0 +1,218 @@
+//! The table of an image, written whole.
+ghost use Rattle.std.specs.Prelude.{ℕ, ◌≡◌, ◌+◌, ◌-◌, ◌*◌, ◌<◌, ◌≤◌, ◌^◌, IsTrue, true, codes, Some, IfOk, IfSome, OnOk, replicate, length as len};
+ghost use Rattle.fz_base.specs.FirstByte.{StaysShut};
+ghost use Rattle.fz_base.specs.Sink.{written};
+ghost use Rattle.fz_base.specs.Source.{Reads};
+ghost use Rattle.fz_base.specs.Stop.{Writes};
+ghost use Rattle.fz_block.specs.Cards.{card_at};
+ghost use Rattle.fz_block.specs.Checks.{is_set};
+ghost use Rattle.fz_block.specs.Facts.{IsHeaderOf};
+ghost use Rattle.fz_block.specs.Hdus.{cards_of, header_bytes};
+ghost use Rattle.fz_block.specs.Header.{next_start_of, whole_blocks_of};
+ghost use Rattle.fz_grid.specs.Arrays.{product};
+ghost use Rattle.fz_grid.specs.Grid.{tile_lengths};
+ghost use Rattle.fz_grid.specs.Region.{lengths_of};
+ghost use Rattle.fz_head.specs.Conditions.{AreShort, IsPackPlan};
+ghost use Rattle.fz_head.specs.PackedHeader.{packed_header};
+ghost use Rattle.fz_head.specs.declared.totals.Totals.{Totals as TotalsOf};
+ghost use Rattle.fz_pool.specs.Window.{slot_sizes};
+ghost use Rattle.fz_image.specs.Image.{HoldsCodes, HoldsTable};
+ghost use Rattle.fz_image.specs.Layout.{HasPixels, IsLayout};
+ghost use Rattle.fz_image.specs.Progress.{IsWritten};
+ghost use Rattle.fz_image.specs.Stops.{CodesAndWrites};
+ghost use Rattle.fz_image.specs.Tiles.{HasSlotsFor, HaveRoom, codes_from};
+
+use crate::header::make_header;
+use crate::layout::Layout;
+use crate::progress::Progress;
+use crate::round::write_round;
+use fz_base::{Gate, Sink, Source, Stop, output_law, write_behind};
+use fz_block::{BLOCK_LEN, Header, cards_law};
+use fz_head::{Plan, Totals, pack_plan_law, sizes_law, sum_cards_law, to_packed, whole_cards_law};
+use fz_pool::Window;
+use fz_tile::slice_law;
+use std::thread::Threads;
+
+/// Packs an image: writes its table from a byte of the sink behind byte 0 on, and answers the byte behind it
+/// (FITS 4.0, section 10.1).
+///
+/// `buf` has the header of the image, `header` its facts, and `plan` says how it is packed. `made` has room for a
+/// header that is a block longer, and `copy` for the rows of a round; the slots of the window are those of a tile
+/// of the plan or of a larger one.
+pub fn write_image<R: Threads + Sync, S: Source, K: Sink, G: Gate>(
+    rt: &R,
+    source: &mut S,
+    buf: &[u8],
+    header: &Header,
+    plan: &Plan,
+    sums: bool,
+    sink: &mut K,
+    at: u64,
+    made: &mut [u8],
+    copy: &mut [u8],
+    window: &mut Window,
+    gate: &G,
+) -> Result<u64, Stop>
+    requires header { IsHeaderOf buf.now header.now }
+    requires simple { header.now.hdu ≡ 0 → is_set (codes "SIMPLE") (card_at buf.now 0) ≡ true }
+    requires within { (n : ℕ) × (S.attached source.old ≡ Some n) × (next_start_of header.now ≤ n) }
+    requires end { next_start_of header.now ≤ 2 ^ 62 }
+    requires read { Reads (S.held source.old) header.now.start buf.now }
+    requires plan { IsPackPlan buf.now header.now sums plan.now }
+    requires created { IsTrue (K.created sink.old) }
+    requires at { (0 < at) × (at + 2 ^ 45 ≤ 2 ^ 63) }
+    requires made { len buf.now + 2880 ≤ len made.old }
+    requires copy { 4096 ≤ len copy.old }
+    requires window { HasSlotsFor (product (tile_lengths (lengths_of plan.now.shape) (lengths_of plan.now.tile) 0)) window.old }
+    ensures table { IfOk result (λ end. IfSome (S.held source.old) (λ g. HoldsTable sums plan.now header.now g at end (K.contents sink.old) (K.contents sink.new))) }
+    ensures end { IfOk result (λ end. (at ≤ end) × (end ≤ at + 2 ^ 45)) }
+    ensures shut { StaysShut (K.contents sink.old) (K.contents sink.new) }
+    ensures made { len made.new ≡ len made.old }
+    ensures copy { len copy.new ≡ len copy.old }
+    ensures sizes { slot_sizes window.new.slots ≡ slot_sizes window.old.slots }
+    ensures workers { window.new.workers ≡ window.old.workers }
+    ensures held { S.held source.new ≡ S.held source.old }
+    ensures attached { S.attached source.new ≡ S.attached source.old }
+    ensures created { K.created sink.new ≡ K.created sink.old }
+    ensures cause { CodesAndWrites (S.tally source.old) (S.tally source.new) (K.tally sink.old) (K.tally sink.new) result }
+{
+    pack_plan_law();
+    slice_law();
+    let rows_at = at + header_len(buf, header, plan, sums, made);
+    let layout = Layout::of(header, plan, rows_at);
+    write_table(
+        rt, source, buf, header, plan, sums, sink, at, &layout, made, copy, window, gate,
+    )
+}
+
+// Writes the rows, the heap, the fill and then the header.
+fn write_table<R: Threads + Sync, S: Source, K: Sink, G: Gate>(
+    rt: &R,
+    source: &mut S,
+    buf: &[u8],
+    header: &Header,
+    plan: &Plan,
+    sums: bool,
+    sink: &mut K,
+    at: u64,
+    layout: &Layout,
+    made: &mut [u8],
+    copy: &mut [u8],
+    window: &mut Window,
+    gate: &G,
+) -> Result<u64, Stop>
+    requires header { IsHeaderOf buf.now header.now }
+    requires simple { header.now.hdu ≡ 0 → is_set (codes "SIMPLE") (card_at buf.now 0) ≡ true }
+    requires plan { IsPackPlan buf.now header.now sums plan.now }
+    requires layout { IsLayout layout.now }
+    requires plan_is { layout.now.plan ≡ plan.now }
+    requires pixels { HasPixels (S.attached source.old) layout.now }
+    requires created { IsTrue (K.created sink.old) }
+    requires at { 0 < at }
+    requires near { layout.now.rows_at + 2 ^ 44 ≤ 2 ^ 63 }
+    requires place { (s : TotalsOf) → s.sums ≡ sums → AreShort s → layout.now.rows_at ≡ at + len (header_bytes (packed_header (cards_of buf.now) plan.now s)) }
+    requires made { len buf.now + 2880 ≤ len made.old }
+    requires copy { 4096 ≤ len copy.old }
+    requires window { HaveRoom layout.now window.old }
+    ensures table { IfOk result (λ end. IfSome (S.held source.old) (λ g. HoldsCodes sums layout.now (cards_of buf.now) (codes_from layout.now g 0 layout.now.tiles) at end (K.contents sink.old) (K.contents sink.new))) }
+    ensures end { IfOk result (λ end. (layout.now.rows_at ≤ end) × (end ≤ layout.now.rows_at + 2 ^ 44)) }
+    ensures shut { StaysShut (K.contents sink.old) (K.contents sink.new) }
+    ensures made { len made.new ≡ len made.old }
+    ensures copy { len copy.new ≡ len copy.old }
+    ensures sizes { slot_sizes window.new.slots ≡ slot_sizes window.old.slots }
+    ensures workers { window.new.workers ≡ window.old.workers }
+    ensures held { S.held source.new ≡ S.held source.old }
+    ensures attached { S.attached source.new ≡ S.attached source.old }
+    ensures created { K.created sink.new ≡ K.created sink.old }
+    ensures cause { CodesAndWrites (S.tally source.old) (S.tally source.new) (K.tally sink.old) (K.tally sink.new) result }
+{
+    output_law();
+    let progress = write_tiles(rt, source, sink, layout, window, gate, copy)?;
+    let data_len = layout.rows_len() + progress.heap;
+    let end = write_fill(sink, layout.rows_at, data_len, copy)?;
+    let len = make_header(buf, header, plan, sums, progress, made);
+    write_behind(sink, at, &made[..len])?;
+    Ok(end)
+}
+
+// Writes the rows and the heap of all tiles, round by round.
+fn write_tiles<R: Threads + Sync, S: Source, K: Sink, G: Gate>(
+    rt: &R,
+    source: &mut S,
+    sink: &mut K,
+    layout: &Layout,
+    window: &mut Window,
+    gate: &G,
+    copy: &mut [u8],
+) -> Result<Progress, Stop>
+    requires layout { IsLayout layout.now }
+    requires pixels { HasPixels (S.attached source.old) layout.now }
+    requires created { IsTrue (K.created sink.old) }
+    requires window { HaveRoom layout.now window.old }
+    requires copy { 4096 ≤ len copy.old }
+    ensures written { IfOk result (λ w. IsWritten layout.now (S.held source.old) (K.contents sink.old) (K.contents sink.new) w × (w.tiles ≡ layout.now.tiles)) }
+    ensures shut { StaysShut (K.contents sink.old) (K.contents sink.new) }
+    ensures copy { len copy.new ≡ len copy.old }
+    ensures sizes { slot_sizes window.new.slots ≡ slot_sizes window.old.slots }
+    ensures workers { window.new.workers ≡ window.old.workers }
+    ensures held { S.held source.new ≡ S.held source.old }
+    ensures attached { S.attached source.new ≡ S.attached source.old }
+    ensures created { K.created sink.new ≡ K.created sink.old }
+    ensures cause { CodesAndWrites (S.tally source.old) (S.tally source.new) (K.tally sink.old) (K.tally sink.new) result }
+{
+    let mut progress = Progress::new();
+    while progress.tiles < layout.tiles {
+        write_round(rt, source, sink, layout, &mut progress, window, gate, copy)?;
+    }
+    Ok(progress)
+}
+
+// The length of the header of the table, which does not depend on what it tells of the heap.
+fn header_len(buf: &[u8], header: &Header, plan: &Plan, sums: bool, made: &mut [u8]) -> u64
+    requires header { IsHeaderOf buf.now header.now }
+    requires simple { header.now.hdu ≡ 0 → is_set (codes "SIMPLE") (card_at buf.now 0) ≡ true }
+    requires plan { IsPackPlan buf.now header.now sums plan.now }
+    requires room { len buf.now + 2880 ≤ len made.old }
+    ensures length { (s : TotalsOf) → s.sums ≡ sums → AreShort s → result ≡ len (header_bytes (packed_header (cards_of buf.now) plan.now s)) }
+    ensures some { 0 < result }
+    ensures short { result ≤ 737280 }
+    ensures len { len made.new ≡ len made.old }
+{
+    sizes_law();
+    sum_cards_law();
+    whole_cards_law();
+    cards_law();
+    let none = Totals {
+        heap: 0,
+        emax_coded: 0,
+        emax_stored: 0,
+        sums,
+    };
+    to_packed(buf, header, plan, &none, made) as u64
+}
+
+// Writes zeros behind data of so many bytes, which begin at this byte of the sink, up to whole blocks, and answers
+// the byte behind them.
+fn write_fill<K: Sink>(
+    sink: &mut K,
+    data_at: u64,
+    data_len: u64,
+    zeros: &mut [u8],
+) -> Result<u64, Stop>
+    requires created { IsTrue (K.created sink.old) }
+    requires behind { 0 < data_at }
+    requires near { data_at + data_len + 2880 ≤ 2 ^ 63 }
+    requires room { 2880 ≤ len zeros.old }
+    ensures filled { OnOk result (K.contents sink.new ≡ written (data_at + data_len) (replicate (whole_blocks_of data_len - data_len) 0) (K.contents sink.old)) }
+    ensures end { IfOk result (λ end. end ≡ data_at + whole_blocks_of data_len) }
+    ensures shut { StaysShut (K.contents sink.old) (K.contents sink.new) }
+    ensures len { len zeros.new ≡ len zeros.old }
+    ensures created { K.created sink.new ≡ K.created sink.old }
+    ensures cause { Writes (K.tally sink.old) (K.tally sink.new) result }
+{
+    let filled = data_len.div_ceil(BLOCK_LEN as u64) * BLOCK_LEN as u64;
+    let zeros = &mut zeros[..(filled - data_len) as usize];
+    zeros.fill(0);
+    write_behind(sink, data_at + data_len, zeros)?;
+    Ok(data_at + filled)
+}

@@ -1,0 +1,16 @@
+//! Writes the table of a packed image: its header, its rows, its heap and the fill.
+//!
+//! Reading order: `layout`, `progress`; `gather`, `loading` (the tiles of a round into the window), `descriptors`,
+//! `round` (a round of tiles), `header`, `image`.
+#![tactic(auto)]
+
+mod descriptors;
+mod gather;
+mod header;
+mod image;
+mod layout;
+mod loading;
+mod progress;
+mod round;
+
+pub use image::write_image;
