@@ -1,10 +1,10 @@
 -- What is written for tiles, one tile after another: their rows, their bytes and the greatest counts.
-use Rattle.std.proofs.Common.{◌≡◌, ℕ, zero, suc, ◌+◌, ◌-◌, ◌*◌, ◌/◌, ◌<◌, ◌≤◌, ◌^◌, max, Bool, true, false, ℤ, List, [], ◌∷◌, ◌++◌, length, map, take, drop, slice_get, slice_index_or, Some, subst, refl, sym, ap, ◌∙◌, arith, if◌then◌else◌}
+use Rattle.std.proofs.Common.{◌≡◌, ℕ, ◌+◌, ◌-◌, ◌*◌, ◌<◌, ◌≤◌, max, Bool, true, false, List, [], ◌∷◌, ◌++◌, length, map, take, drop, slice_get, slice_index_or, Some, subst, refl, sym, ap, ◌∙◌, arith, if◌then◌else◌}
 use Rattle.std.proofs.lemmas.List.{append_assoc, append-nil, length-append, length-take-le, map-append, take_more}
 use Rattle.std.proofs.lemmas.Option.{get_or_from_slice_get, slice_get_within}
 use Rattle.std.proofs.lemmas.Grind.{flat_map-append}
 use Rattle.std.proofs.Math.Seq.{take-add}
-use Rattle.std.proofs.Math.Nat.{mul-le-mul_left, mul-suc, mul-zero, add-zero}
+use Rattle.std.proofs.Math.Nat.{mul-suc, mul-zero, add-zero}
 use Rattle.fz_table.specs.Rows.{packed_row}
 use Rattle.fz_table.specs.declared.array.Descriptor.{Descriptor}
 use Rattle.fz_tile.specs.TileCode.{TileCode}

@@ -1,5 +1,5 @@
 -- The tiles of a round, encoded.
-use Rattle.std.proofs.Common.{◌≡◌, ℕ, suc, ◌+◌, ◌*◌, ◌^◌, ◌<◌, ◌≤◌, ℤ, pos, List, [], ◌∷◌, length, map, take, slice_index_or, replicate, ⊎_elim, Option, Some, None, IfSome, Result, OnOk, Ok, Err, refl, sym, ap, ◌∙◌, subst, arith}
+use Rattle.std.proofs.Common.{◌≡◌, ℕ, suc, ◌+◌, ◌*◌, ◌≤◌, ℤ, pos, List, [], ◌∷◌, length, map, take, replicate, ⊎_elim, Option, Some, None, IfSome, Result, OnOk, Ok, Err, refl, sym, ap, ◌∙◌, subst, arith}
 use Rattle.std.specs.Prelude.{unsigned_abs}
 use Rattle.std.proofs.lemmas.List.{length-map, length-take-le}
 use Rattle.fz_tile.specs.Codecs.{CanWrite}
@@ -7,13 +7,12 @@ use Rattle.fz_tile.specs.Laws.{FillsColumn}
 use Rattle.fz_tile.specs.Pixels.{IsBitpix}
 use Rattle.fz_tile.specs.TileCode.{AreElements, tile_code}
 use Rattle.fz_files.specs.Packed.{pixel_bits}
-use Rattle.fz_pool.specs.declared.slot.Slot.{Slot}
 use Rattle.fz_pool.specs.Calls.{AreEncoded}
 use Rattle.fz_pool.specs.Laws.{AreAsMany, EncodesTiles}
 use Rattle.fz_pool.specs.Round.{coded_tile, coded_tiles}
 use Rattle.fz_pool.specs.Window.{Pool, slot_sizes}
 use Rattle.fz_image.specs.Layout.{IsLayout}
-use Rattle.fz_image.specs.Tiles.{AreCodesFrom, AreEncodedTiles, AreLoaded, HasSlotsFor, HaveTheirPixels, codes_from, pixels_of, tiles_from}
+use Rattle.fz_image.specs.Tiles.{AreCodesFrom, AreEncodedTiles, AreLoaded, HaveTheirPixels, codes_from, tiles_from}
 use Rattle.fz_image.specs.declared.layout.Layout.{Layout}
 
 -- the bits of a pixel as BITPIX

@@ -1,7 +1,7 @@
 -- The tiles of an image, from the bytes of their pixels to the slots of a window.
-use Rattle.std.proofs.Common.{◌≡◌, ◌≢◌, ℕ, zero, suc, ◌+◌, ◌-◌, ◌*◌, ◌/◌, ◌^◌, ◌<◌, ◌≤◌, ◌⊎◌, inl, inr, true, ℤ, pos, to_z, of_z, w32, ⊎_elim, List, [], ◌∷◌, ◌++◌, length, take, drop, map, slice_index_or, Option, Some, None, IfSome, refl, sym, ap, ◌∙◌, subst, arith}
+use Rattle.std.proofs.Common.{◌≡◌, ℕ, zero, suc, ◌+◌, ◌-◌, ◌*◌, ◌/◌, ◌^◌, ◌<◌, ◌≤◌, ◌⊎◌, inl, inr, true, ℤ, pos, to_z, of_z, w32, ⊎_elim, List, [], ◌∷◌, ◌++◌, length, take, drop, map, slice_index_or, Option, Some, None, IfSome, refl, sym, ap, ◌∙◌, subst, arith}
 use Rattle.std.specs.List.{range_with_len}
-use Rattle.std.proofs.lemmas.List.{drop_at, get_or_append_left, get_or_push, length-append, length-drop, length-take-le, take_at}
+use Rattle.std.proofs.lemmas.List.{get_or_append_left, get_or_push, length-append, length-drop, length-take-le, take_at}
 use Rattle.std.proofs.lemmas.List.FromFn.{get_or-map-range_with_len, length-map-range_with_len, map-range_with_len_more}
 use Rattle.std.proofs.Math.Seq.{drop-append-add}
 use Rattle.std.proofs.Math.Nat.{mul-le-mul_left, mul-suc, mul-zero}
@@ -15,9 +15,8 @@ use Rattle.fz_tile.specs.Pixels.{HoldPixels, IsBitpix, place_count}
 use Rattle.fz_tile.specs.Plain.{pixel_of, stored_pixels}
 use Rattle.fz_files.specs.Packed.{pixel_bits}
 use Rattle.fz_pool.specs.declared.slot.Slot.{Slot}
-use Rattle.fz_pool.specs.Calls.{AreForEncoding, AreReady}
 use Rattle.fz_pool.specs.Laws.{ReadiesNext}
-use Rattle.fz_pool.specs.Round.{HoldTiles, HoldsTile}
+use Rattle.fz_pool.specs.Round.{HoldsTile}
 use Rattle.fz_pool.specs.Window.{IsPut, Pool}
 use Rattle.fz_image.specs.Layout.{IsLayout, pixel_bytes_of}
 use Rattle.fz_image.specs.Tiles.{AreBelow, AreLoaded, HaveTheirPixels, HoldTile, IsLoaded, image_in, pixels_at_places, pixels_of, tile_in, tiles_from}

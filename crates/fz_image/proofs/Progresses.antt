@@ -5,7 +5,7 @@ use Rattle.std.proofs.lemmas.List.{length-append, map-append}
 use Rattle.std.proofs.Math.Nat.{mul-add, mul-le-mul_left, mul-zero}
 use Rattle.fz_grid.proofs.Ranges.{range_append}
 use Rattle.fz_base.specs.Sink.{written}
-use Rattle.fz_sum.specs.Pieces.{Added, after, total_at}
+use Rattle.fz_sum.specs.Pieces.{total_at}
 use Rattle.fz_tile.specs.TileCode.{TileCode, tile_code}
 use Rattle.fz_head.specs.PackedTable.{planned_row}
 use Rattle.fz_files.specs.Packed.{coded_count, greatest, heap_of, pixel_bits, rows_from, stored_count}

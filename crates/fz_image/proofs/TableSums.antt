@@ -1,5 +1,5 @@
 -- The sums of a table that was written, and the cards that tell them.
-use Rattle.std.proofs.Common.{◌≡◌, ℕ, ◌+◌, ◌-◌, ◌*◌, ◌/◌, ◌%◌, ◌^◌, ◌<◌, ◌≤◌, max, Bool, true, List, [], ◌∷◌, ◌++◌, length, map, replicate, take, All, refl, sym, ap, ◌∙◌, subst, arith}
+use Rattle.std.proofs.Common.{◌≡◌, ℕ, ◌+◌, ◌-◌, ◌*◌, ◌%◌, ◌≤◌, max, Bool, true, List, [], ◌∷◌, ◌++◌, length, map, replicate, All, refl, sym, ap, ◌∙◌, subst, arith}
 use Rattle.std.proofs.lemmas.List.{append_assoc, length-append}
 use Rattle.std.proofs.lemmas.List.Elements.{All-take}
 use Rattle.std.proofs.Math.Seq.{take-append_seam}
@@ -16,7 +16,7 @@ use Rattle.fz_head.specs.declared.plan.Plan.{Plan}
 use Rattle.fz_head.specs.declared.totals.Totals.{Totals}
 use Rattle.fz_head.specs.Conditions.{AreShort}
 use Rattle.fz_head.specs.PackedHeader.{packed_header, packed_with, sum_cards}
-use Rattle.fz_files.specs.Packed.{coded_count, greatest, heap_of, packed_data, rows_from, stored_count, table_header, totals_of, with_sums}
+use Rattle.fz_files.specs.Packed.{coded_count, greatest, heap_of, packed_data, rows_from, stored_count, table_header, with_sums}
 use Rattle.fz_image.specs.Image.{datasum_put, sum_cards_put}
 use Rattle.fz_image.specs.Layout.{IsLayout, rows_len_of}
 use Rattle.fz_image.specs.Progress.{no_progress, with_tiles}

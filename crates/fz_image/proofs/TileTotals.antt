@@ -1,12 +1,12 @@
 -- The tiles of an image have together no more pixels than the image, and what is written for them no more bytes.
-use Rattle.std.proofs.Common.{◌≡◌, ℕ, zero, suc, ◌+◌, ◌-◌, ◌*◌, ◌/◌, ◌%◌, ◌<◌, ◌≤◌, ◌⊎◌, inl, inr, min, List, [], ◌∷◌, ◌++◌, length, take, slice_index, refl, sym, ap, ◌∙◌, subst, arith}
+use Rattle.std.proofs.Common.{◌≡◌, ℕ, zero, suc, ◌+◌, ◌-◌, ◌*◌, ◌/◌, ◌%◌, ◌<◌, ◌≤◌, min, List, [], ◌∷◌, ◌++◌, length, take, slice_index, refl, sym, ap, ◌∙◌, subst, arith}
 use Rattle.std.specs.Prelude.{⊤}
 use Rattle.std.proofs.lemmas.List.{length-append}
 use Rattle.std.proofs.lemmas.Nat.{div-mul-add, mod-mul-add, mul-le}
-use Rattle.std.proofs.Math.Nat.{add-mul, le-div_iff_mul-le, mul-add, mul-le-mul_left, mul-zero, mul_comm}
+use Rattle.std.proofs.Math.Nat.{add-mul, mul-add, mul-le-mul_left, mul-zero, mul_comm}
 use Rattle.fz_grid.specs.Arrays.{coordinates_of, product}
-use Rattle.fz_grid.specs.Grid.{corner_of, lengths_from, tile_counts, tile_count}
-use Rattle.fz_grid.specs.Region.{IsDivided, lengths_of}
+use Rattle.fz_grid.specs.Grid.{corner_of, lengths_from, tile_counts}
+use Rattle.fz_grid.specs.Region.{lengths_of}
 use Rattle.fz_tile.specs.TileCode.{TileCode}
 use Rattle.fz_files.specs.Packed.{heap_of, pixel_bits}
 use Rattle.fz_image.specs.Layout.{IsLayout, pixel_bytes_of}

@@ -1,5 +1,5 @@
 -- The image of a file, and its table: what is written for the tiles of the payload, and the cards of the HDU.
-use Rattle.std.proofs.Common.{◌≡◌, ℕ, ◌+◌, ◌*◌, ◌/◌, ◌^◌, ◌≤◌, Bool, ℤ, List, length, map, take, drop, Option, Some, None, IfSome, Result, Ok, Err, refl, sym, subst, ◌∙◌, ap, take-take, take_all, arith}
+use Rattle.std.proofs.Common.{◌≡◌, ℕ, ◌+◌, ◌*◌, ◌/◌, ◌^◌, ◌≤◌, Bool, List, length, map, take, drop, Option, Some, None, IfSome, refl, sym, ◌∙◌, ap, take-take, take_all, arith}
 use Rattle.std.specs.List.{range_with_len}
 use Rattle.std.proofs.Math.Nat.{mul-zero}
 use Rattle.std.proofs.lemmas.List.FromFn.{length-map-range_with_len}
@@ -16,13 +16,13 @@ use Rattle.fz_grid.specs.Grid.{tile}
 use Rattle.fz_grid.specs.Region.{lengths_of}
 use Rattle.fz_tile.specs.Laws.{SlicesPixels}
 use Rattle.fz_tile.specs.Plain.{pixel_of, stored_pixels}
-use Rattle.fz_tile.specs.TileCode.{TileCode, tile_code}
+use Rattle.fz_tile.specs.TileCode.{tile_code}
 use Rattle.fz_head.specs.Planned.{pixel_len}
 use Rattle.fz_head.specs.declared.plan.Plan.{Plan}
 use Rattle.fz_files.specs.Packed.{array_of, packed_table, pixel_bits, tile_codes, tiles_in}
 use Rattle.fz_image.specs.Image.{HoldsCodes, HoldsTable}
 use Rattle.fz_image.specs.Layout.{HasPixels, IsLayout, IsPlan, layout_of}
-use Rattle.fz_image.specs.Tiles.{codes_from, image_in, tile_in}
+use Rattle.fz_image.specs.Tiles.{codes_from}
 
 -- ---- the layout
 

@@ -1,12 +1,11 @@
 -- The table of an image, from the writes that made it.
-use Rattle.std.proofs.Common.{◌≡◌, ℕ, ◌+◌, ◌-◌, ◌*◌, ◌^◌, ◌≤◌, Bool, List, ◌++◌, length, replicate, Option, Some, None, IfSome, refl, sym, ap, ◌∙◌, subst, arith}
+use Rattle.std.proofs.Common.{◌≡◌, ℕ, ◌+◌, ◌-◌, ◌*◌, ◌^◌, ◌≤◌, Bool, List, ◌++◌, length, replicate, Option, Some, None, IfSome, sym, ap, ◌∙◌, arith}
 use Rattle.std.proofs.lemmas.List.{length-append, length-replicate}
 use Rattle.std.proofs.Math.Nat.{mul-zero}
 use Rattle.fz_base.specs.Sink.{written}
 use Rattle.fz_block.specs.Hdus.{header_bytes}
 use Rattle.fz_block.specs.Header.{whole_blocks_of}
 use Rattle.fz_tile.specs.TileCode.{TileCode}
-use Rattle.fz_head.specs.declared.plan.Plan.{Plan}
 use Rattle.fz_files.specs.Packed.{heap_of, packed_data, packed_table, rows_from, table_header, with_sums}
 use Rattle.fz_image.specs.Image.{HoldsCodes}
 use Rattle.fz_image.specs.Layout.{IsLayout, heap_at_of, rows_len_of}

@@ -6,7 +6,6 @@ use Rattle.fz_grid.specs.Grid.{tile, tile_lengths}
 use Rattle.fz_grid.specs.Region.{lengths_of}
 use Rattle.fz_tile.specs.Pixels.{HoldPixels, place_count}
 use Rattle.fz_tile.specs.TileCode.{TileCode, tile_code, AreElements}
-use Rattle.fz_head.specs.declared.plan.Plan.{Plan}
 use Rattle.fz_files.specs.Packed.{array_of, pixel_bits}
 use Rattle.fz_pool.specs.declared.slot.Slot.{Slot}
 use Rattle.fz_pool.specs.Calls.{AreForEncoding}

@@ -1,9 +1,9 @@
 -- The row of each tile goes behind those of the tiles before it.
-use Rattle.std.proofs.Common.{◌≡◌, ℕ, ◌+◌, ◌-◌, ◌*◌, ◌≤◌, List, length, take, refl, sym, ap, ◌∙◌, subst, arith, rules}
+use Rattle.std.proofs.Common.{◌≡◌, ◌+◌, ◌*◌, ◌≤◌, length, take, refl, sym, ap, ◌∙◌, arith, rules}
 use Rattle.std.proofs.lemmas.List.{take_all}
 use Rattle.std.proofs.lemmas.Slice.{take-put_mid}
 use Rattle.std.proofs.Math.Nat.{mul-suc, mul-zero}
-use Rattle.fz_files.specs.Packed.{heap_of, rows_from}
+use Rattle.fz_files.specs.Packed.{rows_from}
 use Rattle.fz_pool.specs.Round.{coded_tiles}
 use Rattle.fz_image.specs.Layout.{pixel_bytes_of}
 use Rattle.fz_image.proofs.Codes.{heap_len_more, next_within, no_heap, no_rows, row_len, row_put, slot_within}

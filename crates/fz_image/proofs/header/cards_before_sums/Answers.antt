@@ -1,5 +1,5 @@
 -- The cards are counted.
-use Rattle.std.proofs.Common.{◌≡◌, ℕ, ◌+◌, sym, ap, arith}
+use Rattle.std.proofs.Common.{arith}
 use Rattle.fz_image.proofs.Headers.{packed_count}
 use Rattle.fz_image.proofs.header.cards_before_sums.Goals as goal
 

@@ -7,7 +7,7 @@ use Rattle.fz_block.specs.Cards.{card_at, end_of}
 use Rattle.fz_block.specs.Header.{whole_blocks_of}
 use Rattle.fz_block.specs.Hdus.{IsCardBeforeEnd, cards_of, header_bytes}
 use Rattle.fz_block.specs.declared.header.Header.{Header}
-use Rattle.fz_sum.specs.Cards.{blank_checksum_card, checksum_card, datasum_card}
+use Rattle.fz_sum.specs.Cards.{blank_checksum_card, datasum_card}
 use Rattle.fz_sum.specs.Sums.{carried}
 use Rattle.fz_head.specs.Conditions.{AreShort, IsPackPlan}
 use Rattle.fz_head.specs.PackedHeader.{packed_header, packed_with, sum_cards}

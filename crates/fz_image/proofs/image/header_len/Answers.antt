@@ -1,8 +1,8 @@
 -- The header is as long whatever it tells of the heap.
-use Rattle.std.proofs.Common.{◌≡◌, ℕ, ◌<◌, ◌^◌, Bool, List, All, refl, sym, ◌∙◌, subst, arith}
-use Rattle.fz_block.specs.Hdus.{IsCardBeforeEnd, cards_of}
+use Rattle.std.proofs.Common.{Bool, refl, sym, ◌∙◌, subst, arith}
+use Rattle.fz_block.specs.Hdus.{cards_of}
 use Rattle.fz_head.specs.Conditions.{AreShort, IsPackPlan}
-use Rattle.fz_head.specs.PackedHeader.{packed_with, sum_cards}
+use Rattle.fz_head.specs.PackedHeader.{sum_cards}
 use Rattle.fz_head.specs.ThereAndBack.{IsPacking}
 use Rattle.fz_head.specs.declared.totals.Totals.{Totals}
 use Rattle.fz_image.proofs.Headers.{same_size}

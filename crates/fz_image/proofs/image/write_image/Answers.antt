@@ -1,9 +1,9 @@
 -- The table of the codes is that of the image.
-use Rattle.std.proofs.Common.{◌≡◌, ℕ, ◌+◌, ◌≤◌, ◌<◌, ◌^◌, List, Option, IfSome, sym, ap, ◌∙◌, subst, arith}
+use Rattle.std.proofs.Common.{ℕ, ◌+◌, List, Option, IfSome, sym, subst, arith}
 use Rattle.std.proofs.lemmas.Result.{IfOk-weaker}
 use Rattle.fz_block.specs.Hdus.{cards_of}
 use Rattle.fz_image.specs.Image.{HoldsCodes, HoldsTable}
-use Rattle.fz_image.specs.Layout.{HasPixels, IsLayout, IsPlan, layout_of}
+use Rattle.fz_image.specs.Layout.{HasPixels, IsLayout, IsPlan}
 use Rattle.fz_image.specs.Tiles.{codes_from}
 use Rattle.fz_image.specs.declared.layout.Layout.{Layout}
 use Rattle.fz_image.proofs.ImageData.{image_plan, pixels_len}

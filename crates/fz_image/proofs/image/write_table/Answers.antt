@@ -1,8 +1,7 @@
 -- The writes of the rows, the heap, the fill and then the header make the table.
-use Rattle.std.proofs.Common.{◌≡◌, ℕ, ◌+◌, ◌-◌, ◌≤◌, ◌<◌, ◌^◌, List, Option, length, take, refl, sym, ap, ◌∙◌, arith}
+use Rattle.std.proofs.Common.{◌≡◌, ℕ, ◌+◌, ◌-◌, List, length, take, refl, sym, ap, ◌∙◌, arith}
 use Rattle.std.proofs.lemmas.List.{length-take}
 use Rattle.fz_block.specs.Hdus.{cards_of, header_bytes}
-use Rattle.fz_block.specs.Header.{whole_blocks_of}
 use Rattle.fz_head.specs.Conditions.{AreShort}
 use Rattle.fz_head.specs.declared.plan.Plan.{Plan}
 use Rattle.fz_head.specs.declared.totals.Totals.{Totals}

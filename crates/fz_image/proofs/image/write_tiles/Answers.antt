@@ -1,5 +1,5 @@
 -- One round after another.
-use Rattle.std.proofs.Common.{◌≡◌, ℕ, ◌≤◌, List, Option, refl, ◌∙◌, subst, sym, rules}
+use Rattle.std.proofs.Common.{ℕ, List, Option, refl, ◌∙◌, subst, sym, rules}
 use Rattle.fz_image.specs.Progress.{IsWritten}
 use Rattle.fz_image.proofs.Progresses.{written_few, written_none}
 use Rattle.fz_image.proofs.image.write_tiles.Goals as goal

@@ -1,5 +1,5 @@
 -- One tile after another.
-use Rattle.std.proofs.Common.{◌≡◌, ℕ, ◌+◌, ◌*◌, ◌<◌, List, Option, replicate, refl, sym, ap, ◌∙◌, subst, arith, rules}
+use Rattle.std.proofs.Common.{◌≡◌, ℕ, ◌+◌, ◌*◌, List, Option, replicate, refl, sym, ap, ◌∙◌, subst, arith, rules}
 use Rattle.fz_image.specs.Tiles.{AreLoaded, IsLoaded}
 use Rattle.fz_image.proofs.LoadedTiles.{loaded_more, loaded_none}
 use Rattle.fz_image.proofs.loading.load_round.Goals as goal

@@ -1,11 +1,10 @@
 -- The pixels stand in the numbers, and are those of the tile.
-use Rattle.std.proofs.Common.{◌≡◌, ℕ, ◌+◌, ◌*◌, List, length, IfSome, refl, sym, ap, ◌∙◌, rules}
+use Rattle.std.proofs.Common.{◌≡◌, ℕ, List, length, sym, ap, ◌∙◌}
 use Rattle.std.specs.Prelude.{unsigned_abs}
 use Rattle.fz_grid.specs.Arrays.{product}
 use Rattle.fz_grid.specs.Division.{tile_places}
 use Rattle.fz_grid.specs.Grid.{tile_corner, tile_lengths}
 use Rattle.fz_grid.specs.Region.{lengths_of, places_of, region_corner, region_lengths}
-use Rattle.fz_image.specs.Tiles.{pixels_of}
 use Rattle.fz_image.proofs.LoadedTiles.{hold_tile, round_trip, told_tile}
 use Rattle.fz_image.proofs.loading.load_tile.Goals as goal
 

@@ -1,8 +1,7 @@
 -- The tiles are read, and then encoded.
-use Rattle.std.proofs.Common.{◌≡◌, ℕ, ◌*◌, ◌+◌, ◌≤◌, List, OnOk, replicate, sym, ap, ◌∙◌, subst, arith, rules}
+use Rattle.std.proofs.Common.{◌≡◌, ℕ, ◌*◌, ◌+◌, OnOk, replicate, sym, ap, ◌∙◌, arith, rules}
 use Rattle.std.proofs.lemmas.Result.{on_ok_weaker}
 use Rattle.fz_pool.specs.Calls.{AreEncoded}
-use Rattle.fz_image.specs.Tiles.{AreLoaded}
 use Rattle.fz_image.proofs.EncodedTiles.{encoded_tiles}
 use Rattle.fz_image.proofs.round.encode_tiles.Goals as goal
 

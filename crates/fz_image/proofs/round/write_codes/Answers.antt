@@ -1,5 +1,5 @@
 -- The bytes of each tile go behind those of the tiles before it.
-use Rattle.std.proofs.Common.{◌≡◌, ℕ, ◌+◌, ◌<◌, ◌≤◌, ◌^◌, List, length, refl, sym, ap, ◌∙◌, arith, rules}
+use Rattle.std.proofs.Common.{◌≡◌, ◌+◌, length, refl, ap, ◌∙◌, arith, rules}
 use Rattle.fz_base.specs.Sink.{written}
 use Rattle.fz_files.specs.Packed.{heap_of}
 use Rattle.fz_pool.specs.Round.{coded_tile, coded_tiles}

@@ -1,12 +1,9 @@
 -- The next tiles go behind those that were written.
-use Rattle.std.proofs.Common.{◌≡◌, ℕ, ◌+◌, ◌*◌, ◌<◌, ◌≤◌, ◌^◌, List, Option, OnOk, length, sym, ap, ◌∙◌, subst, arith, rules}
-use Rattle.fz_files.specs.Packed.{heap_of, rows_from}
+use Rattle.std.proofs.Common.{◌≡◌, ◌+◌, ◌*◌, ◌≤◌, length, ap, ◌∙◌, subst, arith}
+use Rattle.fz_files.specs.Packed.{heap_of}
 use Rattle.fz_pool.specs.Round.{coded_tiles}
-use Rattle.fz_image.specs.Layout.{rows_len_of}
-use Rattle.fz_image.specs.Progress.{tiles_written, with_tiles}
 use Rattle.fz_image.specs.Tiles.{AreCodesFrom}
 use Rattle.fz_image.specs.declared.progress.Progress.{Progress}
-use Rattle.fz_image.proofs.Codes.{rows_len}
 use Rattle.fz_image.proofs.EncodedTiles.{on_ok_both}
 use Rattle.fz_image.proofs.Progresses.{more_written, summed_small}
 use Rattle.fz_image.proofs.TileTotals.{next_fits}
