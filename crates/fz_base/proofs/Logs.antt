@@ -4,7 +4,7 @@ use Rattle.std.specs.List.{All}
 use Rattle.std.specs.Option.{option_map}
 use Rattle.std.proofs.lemmas.List.{append-nil, append_assoc}
 use Rattle.std.proofs.lemmas.List.Elements.{All-append, All-nil, All-cons}
-use Rattle.fz_base.specs.Source.{logged, MayLog, LogsOnly, LogsWithin, IsRangeBetween}
+use Rattle.fz_base.specs.Source.{MayLog, LogsOnly, LogsWithin, IsRangeBetween}
 
 -- nothing more
 mapped_nothing : (ranges : Option (List (ℕ × ℕ))) → ranges ≡ option_map (λ rs. rs ++ []) ranges

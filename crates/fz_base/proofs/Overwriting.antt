@@ -1,5 +1,5 @@
 -- A write over a list: grow it with zeros, then put the bytes over those at the place.
-use Rattle.std.proofs.Common.{◌≡◌, ℕ, ◌+◌, ◌-◌, ◌<◌, ◌≤◌, List, [], ◌∷◌, ◌++◌, length, take, drop, replicate, min, Option, Some, None, IfSome, refl, sym, ◌∙◌, ap, inl, inr, arith}
+use Rattle.std.proofs.Common.{◌≡◌, ℕ, ◌+◌, ◌-◌, ◌<◌, ◌≤◌, List, [], ◌∷◌, ◌++◌, length, take, drop, replicate, Option, Some, None, IfSome, refl, sym, ◌∙◌, ap, inl, inr, arith}
 use Rattle.std.proofs.lemmas.List.{take_all, drop_all, take-append-le, append-nil, append_assoc, length-append, length-replicate, length-take, length-drop, drop-drop, take-replicate}
 use Rattle.std.proofs.Math.Seq.{take-append-add, take-append_seam, drop-append-add, take-add}
 use Rattle.std.proofs.lemmas.Bool.{cases_lt}

@@ -1,8 +1,8 @@
 -- Writes behind byte 0 leave it: it is 0, or the contents are empty.
-use Rattle.std.proofs.Common.{◌≡◌, ◌≢◌, ℕ, zero, suc, ◌+◌, ◌<◌, ◌⊎◌, inl, inr, List, [], ◌∷◌, ◌++◌, take, drop, length, replicate, Option, Some, None, Result, Ok, Err, OnOk, OnErr, refl, sym, subst, ap, ◌∙◌, arith}
+use Rattle.std.proofs.Common.{◌≡◌, ◌≢◌, ℕ, zero, suc, ◌+◌, ◌<◌, inl, inr, List, [], ◌∷◌, ◌++◌, take, drop, length, replicate, Option, Some, None, Result, Ok, Err, OnOk, OnErr, refl, sym, subst, ◌∙◌, arith}
 use Rattle.std.proofs.Math.Nat.{sub-zero}
 use Rattle.fz_base.specs.Sink.{overwrite, written, MayWrite, emptied}
-use Rattle.fz_base.specs.FirstByte.{IsShut, StaysShut, StopsShut, with_first_byte}
+use Rattle.fz_base.specs.FirstByte.{IsShut, StaysShut, StopsShut}
 
 gap_shut : ◌≢◌ {A = ℕ} 0 83
 gap_shut e = absurd (omega arith)

@@ -19,3 +19,7 @@ with_first_byte contents = written 0 (83 ∷ []) contents
 -- contents that were shut are so after a call that stopped, or are whole: the S was the last that was missing
 abbrev pub StopsShut : Option (List ℕ) → Option (List ℕ) → Type 0
 StopsShut old new = StaysShut old new ⊎ (new ≡ with_first_byte old)
+
+-- contents after a seal that stopped: as they were, or with the S in front
+abbrev pub StopsSealing : Option (List ℕ) → Option (List ℕ) → Type 0
+StopsSealing old new = (new ≡ old) ⊎ (new ≡ with_first_byte old)

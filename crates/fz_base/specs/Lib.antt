@@ -14,3 +14,4 @@ pub mod Sink
 pub mod Source
 pub mod Stop
 pub mod Takings
+pub mod Told

@@ -1,16 +1,20 @@
 //! What the definitions of logs and of contents promise together.
+ghost use Rattle.std.specs.Option.{option_map};
 ghost use Rattle.std.specs.Prelude.{ℕ, ◌≡◌, ◌+◌, ◌≤◌, ◌<◌, List, [], ◌∷◌, ◌++◌, length, Option, Some};
 ghost use Rattle.fz_base.specs.FirstByte.{IsShut, StaysShut, with_first_byte};
 ghost use Rattle.fz_base.specs.Ranges.{LogsSomeLaw, LogsAllLaw, LogsWithinLaw, LogsJoinLaw};
 ghost use Rattle.fz_base.specs.Sink.{written, emptied};
 ghost use Rattle.fz_base.specs.Source.{logged, MayLog, LogsWithin};
+ghost use Rattle.fz_base.specs.Told.{StaysTold};
 
-/// Logs of several reads: none, one, one after another, and within wider places.
+/// Logs of several reads: none, one, one after another, and within wider places. A log with more behind it stays
+/// told, whatever the more is.
 pub fn log_law()
     ensures none { (from to : ℕ) (ranges : Option (List (ℕ × ℕ))) → LogsWithin from to ranges ranges }
     ensures one { (from to at count : ℕ) (old new : Option (List (ℕ × ℕ))) → 0 < count → from ≤ at → at + count ≤ to → MayLog at count old new → LogsWithin from to old new }
     ensures both { (from to : ℕ) (old mid new : Option (List (ℕ × ℕ))) → LogsWithin from to old mid → LogsWithin from to mid new → LogsWithin from to old new }
     ensures wider { (from to from' to' : ℕ) (old new : Option (List (ℕ × ℕ))) → from' ≤ from → to ≤ to' → LogsWithin from to old new → LogsWithin from' to' old new }
+    ensures told { (more : List (ℕ × ℕ)) (old new : Option (List (ℕ × ℕ))) → new ≡ option_map (λ rs. rs ++ more) old → StaysTold old new }
 {}
 
 /// Where the bytes of reads lie in some ranges, only bytes of these ranges were read; what is read one
@@ -22,10 +26,13 @@ pub fn ranges_law()
     ensures join { LogsJoinLaw }
 {}
 
-/// Writes one after another are one write, also behind the end; what was written behind byte 0 of an
-/// empty output, and then sealed, is the output.
+/// Writes one after another are one write, also behind the end, and where the later one is made first; writes at
+/// places that have nothing in common go in any order. What was written behind byte 0 of an empty output, and then
+/// sealed, is the output.
 pub fn output_law()
     ensures next { (at : ℕ) (front back : List ℕ) (contents : Option (List ℕ)) → written (at + length front) back (written at front contents) ≡ written at (front ++ back) contents }
+    ensures apart { (at from : ℕ) (x y : List ℕ) (contents : Option (List ℕ)) → at + length x ≤ from → written at x (written from y contents) ≡ written from y (written at x contents) }
+    ensures joined { (at from : ℕ) (x y : List ℕ) (contents : Option (List ℕ)) → from ≡ at + length x → written at x (written from y contents) ≡ written at (x ++ y) contents }
     ensures behind { (bytes contents : List ℕ) → written (length contents) bytes (Some contents) ≡ Some (contents ++ bytes) }
     ensures sealed { (bytes : List ℕ) → with_first_byte (written 1 bytes (Some [])) ≡ Some (83 ∷ bytes) }
     ensures empty { (contents : Option (List ℕ)) → IsShut (emptied contents) }

@@ -1,9 +1,10 @@
 //! How an output is written: its first byte last, so that what was cut short is no FITS file.
 ghost use Rattle.std.specs.Prelude.{ℕ, ◌≡◌, ◌+◌, ◌^◌, ◌≤◌, ◌<◌, true, IsTrue, Some, IfSome, take, drop, length as len, OnOk, OnErr};
-ghost use Rattle.fz_base.specs.FirstByte.{StaysShut, StopsShut, with_first_byte};
+ghost use Rattle.fz_base.specs.FirstByte.{StaysShut, StopsSealing, StopsShut, with_first_byte};
 ghost use Rattle.fz_base.specs.Sink.{written, MayWrite};
 ghost use Rattle.fz_base.specs.Source.{LogsWithin};
 ghost use Rattle.fz_base.specs.Stop.{ReadsAndWrites, Writes};
+ghost use Rattle.fz_base.specs.Told.{StaysTold};
 
 use crate::{Sink, Source, Stop};
 
@@ -15,6 +16,7 @@ pub fn write_behind<K: Sink>(sink: &mut K, at: u64, bytes: &[u8]) -> Result<(), 
     ensures written { OnOk result (K.contents sink.new ≡ written at bytes.now (K.contents sink.old)) }
     ensures partly { OnErr result (MayWrite at bytes.now (K.contents sink.old) (K.contents sink.new)) }
     ensures shut { StaysShut (K.contents sink.old) (K.contents sink.new) }
+    ensures told { StaysTold (K.contents sink.old) (K.contents sink.new) }
     ensures created { K.created sink.new ≡ K.created sink.old }
     ensures cause { Writes (K.tally sink.old) (K.tally sink.new) result }
 {
@@ -41,6 +43,7 @@ pub fn copy<S: Source, K: Sink>(
     requires behind { 0 < to }
     ensures copied { OnOk result (IfSome (S.held source.old) (λ g. K.contents sink.new ≡ written to (take count (drop from g)) (K.contents sink.old))) }
     ensures shut { StaysShut (K.contents sink.old) (K.contents sink.new) }
+    ensures told { StaysTold (K.contents sink.old) (K.contents sink.new) }
     ensures log { LogsWithin from (from + count) (S.ranges source.old) (S.ranges source.new) }
     ensures held { S.held source.new ≡ S.held source.old }
     ensures attached { S.attached source.new ≡ S.attached source.old }
@@ -76,6 +79,7 @@ fn copy_piece<S: Source, K: Sink>(
     requires behind { 0 < to }
     ensures copied { OnOk result (IfSome (S.held source.old) (λ g. K.contents sink.new ≡ written to (take (len piece.old) (drop from g)) (K.contents sink.old))) }
     ensures shut { StaysShut (K.contents sink.old) (K.contents sink.new) }
+    ensures told { StaysTold (K.contents sink.old) (K.contents sink.new) }
     ensures log { LogsWithin from (from + len piece.old) (S.ranges source.old) (S.ranges source.new) }
     ensures held { S.held source.new ≡ S.held source.old }
     ensures attached { S.attached source.new ≡ S.attached source.old }
@@ -93,6 +97,8 @@ pub fn seal<K: Sink>(sink: &mut K) -> Result<(), Stop>
     ensures sealed { OnOk result (K.contents sink.new ≡ with_first_byte (K.contents sink.old)) }
     ensures finished { OnOk result (K.finished sink.new ≡ true) }
     ensures stopped { OnErr result (StopsShut (K.contents sink.old) (K.contents sink.new)) }
+    ensures left { OnErr result (StopsSealing (K.contents sink.old) (K.contents sink.new)) }
+    ensures told { StaysTold (K.contents sink.old) (K.contents sink.new) }
     ensures created { K.created sink.new ≡ K.created sink.old }
     ensures cause { Writes (K.tally sink.old) (K.tally sink.new) result }
 {

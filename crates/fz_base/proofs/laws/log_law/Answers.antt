@@ -1,6 +1,6 @@
-use Rattle.std.proofs.Common.{◌+◌}
 use Rattle.fz_base.specs.Source.{IsRangeBetween}
 use Rattle.fz_base.proofs.Logs.{logs_none, logs_within_one, logs_both, logs_within_wider}
+use Rattle.fz_base.proofs.Told.{logged_told}
 use Rattle.fz_base.proofs.laws.log_law.Goals as goal
 
 pub returns-clause-none : goal.returns-clause-none
@@ -14,3 +14,6 @@ returns-clause-both c = λ from to old mid new first second. logs_both (IsRangeB
 
 pub returns-clause-wider : goal.returns-clause-wider
 returns-clause-wider c = logs_within_wider
+
+pub returns-clause-told : goal.returns-clause-told
+returns-clause-told c = logged_told

@@ -1,12 +1,18 @@
-use Rattle.std.proofs.Common.{[], ◌∷◌, List, Some, refl, ap, ◌∙◌}
-use Rattle.std.proofs.lemmas.List.{append-nil}
+use Rattle.std.proofs.Common.{refl}
 use Rattle.fz_base.specs.Sink.{written}
 use Rattle.fz_base.proofs.Overwriting.{written-next, written-behind}
 use Rattle.fz_base.proofs.Shut.{emptied_shut, written_shut}
+use Rattle.fz_base.proofs.Writes.{writes_apart, writes_joined}
 use Rattle.fz_base.proofs.laws.output_law.Goals as goal
 
 pub returns-clause-next : goal.returns-clause-next
 returns-clause-next c = written-next
+
+pub returns-clause-apart : goal.returns-clause-apart
+returns-clause-apart c = writes_apart
+
+pub returns-clause-joined : goal.returns-clause-joined
+returns-clause-joined c = writes_joined
 
 pub returns-clause-behind : goal.returns-clause-behind
 returns-clause-behind c = written-behind

@@ -1,5 +1,5 @@
 -- One more piece is copied.
-use Rattle.std.proofs.Common.{◌≡◌, ℕ, ◌+◌, ◌-◌, ◌≤◌, List, Option, length, take, drop, IfSome, subst, arith, rules}
+use Rattle.std.proofs.Common.{◌≡◌, ℕ, ◌+◌, List, Option, take, drop, IfSome, arith, rules}
 use Rattle.fz_base.specs.Sink.{written}
 use Rattle.fz_base.specs.Source.{HoldsLength, LogsWithin, IsRangeBetween}
 use Rattle.fz_base.proofs.Logs.{logs_both, logs_within_wider}
@@ -35,6 +35,7 @@ loop-done-preserved g c =
           c.loop-done.invariant.log
           (logs_within_wider from to c.args.from (c.args.from + c.args.count) (g.S.Source.ranges c.loop-done.source) (g.S.Source.ranges c.copy_piece.new.source) (omega arith) (omega arith) more);
       shut = λ shut. c.in_ok-copy_piece.ensures.shut (c.loop-done.invariant.shut shut);
+      told = λ told. c.in_ok-copy_piece.ensures.told (c.loop-done.invariant.told told);
       copied = written-piece held (g.K.Sink.contents c.args.sink.now) (g.K.Sink.contents c.loop-done.sink) (g.K.Sink.contents c.copy_piece.new.sink) c.args.from c.args.to c.loop-done.done c.min-piece.result
           (held-within held c.requires.within.0 (c.args.from + (c.loop-done.done + c.min-piece.result)) told (omega (arith, c.requires.within.2))) c.loop-done.invariant.copied piece;
     }

@@ -1,8 +1,9 @@
--- So many bytes are copied; no count rose, byte 0 is as it was, and what was read lies in the range.
+-- So many bytes are copied; no count rose, byte 0 is as it was, contents are told as before, and what was read lies in the range.
 use Rattle.std.proofs.Common.{◌≡◌, ◌+◌, ◌-◌, ◌≤◌, take, drop, IfSome}
 use Rattle.fz_base.specs.FirstByte.{StaysShut}
 use Rattle.fz_base.specs.Sink.{written}
 use Rattle.fz_base.specs.Source.{LogsWithin}
+use Rattle.fz_base.specs.Told.{StaysTold}
 use Rattle.fz_base.proofs.output.copy.Given as goal
 
 abbrev pub invariant-loop-done : goal.invariant-loop-done
@@ -15,6 +16,7 @@ invariant-loop-done g l = record {
   few : l.done ≤ l.count;
   log : LogsWithin l.from (l.from + l.count) (g.S.Source.ranges l.fn.source) (g.S.Source.ranges l.source);
   shut : StaysShut (g.K.Sink.contents l.fn.sink) (g.K.Sink.contents l.sink);
+  told : StaysTold (g.K.Sink.contents l.fn.sink) (g.K.Sink.contents l.sink);
   copied : IfSome (g.S.Source.held l.fn.source) (λ f. g.K.Sink.contents l.sink ≡ written l.to (take l.done (drop l.from f)) (g.K.Sink.contents l.fn.sink));
 }
 

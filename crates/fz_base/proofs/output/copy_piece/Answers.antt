@@ -1,5 +1,5 @@
 -- One read is one range.
-use Rattle.std.proofs.Common.{◌+◌, length, inr, arith, rules}
+use Rattle.std.proofs.Common.{◌+◌, length, arith, rules}
 use Rattle.fz_base.specs.Source.{MayLog}
 use Rattle.fz_base.proofs.Logs.{logs_within_one}
 use Rattle.fz_base.proofs.output.copy_piece.Goals as goal
