@@ -11,6 +11,7 @@ pub mod Groups
 pub mod HduLemmas
 pub mod HeaderLemmas
 pub mod MandatoryLemmas
+pub mod Named
 pub mod Nexts
 pub mod Numbers
 pub mod OneList

@@ -1,8 +1,9 @@
 //! A header of a file once more, in a buffer that is there already.
 ghost use Rattle.std.specs.Prelude.{◌≡◌, ◌⊎◌, ◌+◌, ◌*◌, ◌^◌, ◌≤◌, ◌<◌, Some, min, take, length as len, IfOk, IfSome};
 ghost use Rattle.fz_base.specs.Source.{Reads, LogsWithin};
-ghost use Rattle.fz_base.specs.Stop.{ReadsOnly, IsDefined};
-ghost use Rattle.fz_block.specs.Checks.{header_touched, hdu_at};
+ghost use Rattle.fz_base.specs.Stop.{ReadsOnly, IsDefined, IfRefused};
+ghost use Rattle.fz_block.specs.Again.{hdu_again_at};
+ghost use Rattle.fz_block.specs.Checks.{header_touched};
 ghost use Rattle.fz_block.specs.Facts.{IsHeaderOf};
 ghost use Rattle.fz_block.specs.Header.{next_start_of};
 
@@ -15,8 +16,8 @@ use fz_base::{Kind, Place, Source, Stop};
 /// Reads and checks the header of the HDU that begins at this byte once more, into the first bytes of a buffer,
 /// which has room for the longest header of the file (FITS 4.0, sections 3.3.1 and 4.4.1).
 ///
-/// Refused as by `header_blocks` and then `read_header`. A source that gives other bytes than before, with a
-/// header that the buffer has no room for, is refused with BadCard at card 0.
+/// Refused as by `header_blocks`; then with BadCard at card 0 where the buffer has no room for the header,
+/// since the source gives other bytes than before; then as by `read_header`.
 pub fn header_again<S: Source>(
     source: &mut S,
     length: u64,
@@ -28,7 +29,8 @@ pub fn header_again<S: Source>(
     requires attached { S.attached source.old ≡ Some length }
     requires within { (start < length) ⊎ ((hdu ≡ 0) × (start ≡ 0)) }
     requires block { len block.old ≡ 2880 }
-    ensures exact { IfSome (S.held source.old) (λ g. IfOk (hdu_at hdu start g) (λ h. 2880 * h.blocks ≤ len buf.old → IsDefined (hdu_at hdu start g) result)) }
+    ensures exact { IfSome (S.held source.old) (λ g. IsDefined (hdu_again_at (len buf.old) hdu start g) result) }
+    ensures refused { IfRefused result (λ x. x.hdu ≡ hdu) }
     ensures room { IfOk result (λ h. 2880 * h.blocks ≤ len buf.old) }
     ensures bytes { IfOk result (λ h. Reads (S.held source.old) start (take (2880 * h.blocks) buf.new)) }
     ensures facts { IfOk result (λ h. IsHeaderOf (take (2880 * h.blocks) buf.new) h × (h.hdu ≡ hdu) × (h.start ≡ start)) }

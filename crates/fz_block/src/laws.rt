@@ -4,6 +4,7 @@ ghost use Rattle.std.specs.List.{flat_map, position};
 ghost use Rattle.std.specs.Option.{option_map};
 ghost use Rattle.std.specs.Result.{result_map_both};
 ghost use Rattle.fz_base.specs.Refusal.{first_refusal};
+ghost use Rattle.fz_block.specs.Again.{hdu_again_at};
 ghost use Rattle.fz_block.specs.Cards.{card_at, first_among, first_card};
 ghost use Rattle.fz_block.specs.Checks.{Judge, is_set, fault_as, header_blocks_of, header_of, hdu_at, hdu_end, walk_of, headers_of};
 ghost use Rattle.fz_block.specs.Facts.{IsHeaderOf, begun_at, facts_as};
@@ -61,6 +62,13 @@ pub fn number_law()
 pub fn found_law()
     ensures blocks { (k start : ℕ) (file header : List ℕ) → StandsAt k start file header → header_blocks_of k start file ≡ Ok (length header / 2880) }
     ensures header { (k start : ℕ) (file header : List ℕ) → StandsAt k start file header → hdu_at k start file ≡ header_of k start (length file) header }
+{}
+
+/// A header that is read once more into a buffer with room for it is the one of the first reading: it is
+/// answered where it passes the checks, and no other is.
+pub fn again_law()
+    ensures room { (room k start : ℕ) (file : List ℕ) (h : Header) → hdu_at k start file ≡ Ok h → 2880 * h.blocks ≤ room → hdu_again_at room k start file ≡ Ok h }
+    ensures found { (room k start : ℕ) (file : List ℕ) (h : Header) → hdu_again_at room k start file ≡ Ok h → (hdu_at k start file ≡ Ok h) × (2880 * h.blocks ≤ room) }
 {}
 
 /// A walk over HDUs, which makes the checks of every job and then those of a job for one HDU after

@@ -1,8 +1,8 @@
 //! Each public call on a file that is taken, and rows of refused files with the values of the rules.
 use crate::{
-    Axes, BLOCK_LEN, Header, Sort, buffered_header, card, cards_law, data_start, first_card_law,
-    found_law, hdu_law, hdu_list_law, header_again, header_blocks, next_start, number_law,
-    read_header, start_law, walk_law,
+    Axes, BLOCK_LEN, Header, Sort, again_law, buffered_header, card, cards_law, data_start,
+    first_card_law, found_law, hdu_law, hdu_list_law, header_again, header_blocks, next_start,
+    number_law, read_header, start_law, walk_law,
 };
 use fz_base::{Fault, Kind, MemSource, Place, Source, Stop};
 use std::alloc::Global;
@@ -154,6 +154,7 @@ fn places(rt: HostRuntime) {
     walk_law();
     cards_law();
     first_card_law();
+    again_law();
 }
 
 /// A source of such a file, whose header was looked for, and read, where it has one block.
@@ -208,9 +209,9 @@ fn a_header_in_a_buffer(rt: HostRuntime) {
     assert_eq!(rt; buffered_header(&block, 5760, 0, 0), Ok(SMALL));
 }
 
-/// What `header_again` answers of the table, with a buffer of so many bytes.
-fn table_again(alloc: Global, room: usize) -> Result<Header, Stop> {
-    let mut source = source_of(alloc, 8640, &TABLE_CARDS)?;
+/// What `header_again` answers of HDU 1 of a file with these cards, with a buffer of so many bytes.
+fn header_once_more(alloc: Global, cards: &[Text], room: usize) -> Result<Header, Stop> {
+    let mut source = source_of(alloc, 8640, cards)?;
     let length = source.attach("any").map_err(Stop::reading)?;
     if length <= 2880 || room > 2 * BLOCK_LEN {
         return Err(Stop::NoMemory);
@@ -223,14 +224,31 @@ fn table_again(alloc: Global, room: usize) -> Result<Header, Stop> {
 #[test]
 fn a_header_once_more(rt: HostRuntime) {
     let alloc = rt.alloc();
-    assert_eq!(rt; table_again(alloc, 5760), Ok(TABLE));
-    assert_eq!(rt; table_again(alloc, 2880), Ok(TABLE));
-    let fault = Fault {
-        hdu: 1,
-        at: Place::Card(0),
-        kind: Kind::BadCard,
-    };
-    assert_eq!(rt; table_again(alloc, 2879), Err(Stop::Refused(fault)));
+    for room in [5760, 2880] {
+        assert_eq!(rt; header_once_more(alloc, &TABLE_CARDS, room), Ok(TABLE));
+    }
+}
+
+#[test]
+fn headers_that_are_refused_again(rt: HostRuntime) {
+    let alloc = rt.alloc();
+    let mut foreign = TABLE_CARDS;
+    foreign[4] = (36, b"EXTENSION");
+    let mut faulty = TABLE_CARDS;
+    faulty[6] = (38, NAXIS_1);
+    let cases = [
+        (foreign, 0, Place::Byte(2880), Kind::TrailingBytes),
+        (TABLE_CARDS, 2879, Place::Card(0), Kind::BadCard),
+        (faulty, 2879, Place::Card(0), Kind::BadCard),
+        (faulty, 2880, Place::Card(4), Kind::BadCard),
+    ];
+    for (cards, room, at, kind) in cases {
+        let fault = Fault { hdu: 1, at, kind };
+        assert_eq!(rt;
+            header_once_more(alloc, &cards, room),
+            Err(Stop::Refused(fault))
+        );
+    }
 }
 
 #[test]
