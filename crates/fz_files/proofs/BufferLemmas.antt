@@ -7,11 +7,11 @@ use Rattle.fz_block.specs.Checks.{Judge, header_blocks_of, hdu_at}
 use Rattle.fz_block.specs.Header.{next_start_of}
 use Rattle.fz_block.specs.Takings.{header_taking, where_going_on, for_those_after, walk_takings}
 use Rattle.fz_block.specs.declared.header.Header.{Header}
+use Rattle.fz_head.specs.Greatest.{greatest}
 use Rattle.fz_files.specs.declared.job.Job.{Job}
 use Rattle.fz_files.specs.declared.job.Job.TheVariants.{Pack, Unpack, Cut, Verify, List as ListHdus, Drill}
 use Rattle.fz_base.specs.JobBuffers.{buffer_bound, slots_buffers}
-use Rattle.fz_files.specs.Buffers.{found_len, header_len, work_buffers, longest_header, largest_tile, header_takings, work_takings, file_takings, job_bound, job_takings, IsOfFile}
-use Rattle.fz_files.specs.Packed.{greatest}
+use Rattle.fz_files.specs.Buffers.{found_len, header_len, job_buffers, longest_header, largest_tile, header_takings, work_takings, file_takings, job_bound, job_takings, IsOfFile}
 use Rattle.fz_files.specs.Walks.{reached_behind, reached_after, reached_from, reached_by, header_fault}
 
 one_within : (b live asked : ℕ) (ts : List (ℕ × ℕ)) → live + asked ≤ b → first_past b ts ≡ None → first_past b ((live, asked) ∷ ts) ≡ None
@@ -101,7 +101,7 @@ piled_within b live (n ∷ ns) room = one_within b live n (piled (live + n) ns) 
 slots_and_copy : (n W : ℕ) → total (slots_buffers n (2 * W) ++ 65536 ∷ []) ≡ 2 * W * (16 * n + 64) + 65536
 slots_and_copy n W = total_append (slots_buffers n (2 * W)) (65536 ∷ []) ∙ ap (λ t. t + 65536) (slots_total n (2 * W))
 
-work_within : (job : Job) (H n W : ℕ) → 2880 + total (work_buffers job H n W) ≤ buffer_bound H n W
+work_within : (job : Job) (H n W : ℕ) → 2880 + total (job_buffers job H n W) ≤ buffer_bound H n W
 unfolding buffer_bound
 work_within (Pack o) H n W = let same : _ = slots_and_copy n W in omega arith
 work_within Unpack H n W = let same : _ = slots_and_copy n W in omega arith
@@ -114,7 +114,7 @@ behind_within : (found : Option Fault) (job : Job) (file : List ℕ) (W : ℕ) �
     first_past (buffer_bound (longest_header job file) (largest_tile job file) W) (work_takings found job file W) ≡ None
 behind_within (Some fault) job file W = refl
 behind_within None job file W =
-    piled_within (buffer_bound (longest_header job file) (largest_tile job file) W) 2880 (work_buffers job (longest_header job file) (largest_tile job file) W)
+    piled_within (buffer_bound (longest_header job file) (largest_tile job file) W) 2880 (job_buffers job (longest_header job file) (largest_tile job file) W)
     (work_within job (longest_header job file) (largest_tile job file) W)
 
 header_room : (H n W : ℕ) → 2880 + H ≤ buffer_bound H n W

@@ -31,6 +31,7 @@ use Rattle.fz_table.specs.declared.record.Record.{Record}
 use Rattle.fz_table.specs.declared.record.TileColumn.TheVariants as column
 use Rattle.fz_table.specs.declared.table.Table.{Table}
 use Rattle.fz_head.specs.JobChecks.{cut_hdu_checks, packed_card_checks, image_checks, box_checks, missing_hdu}
+use Rattle.fz_head.specs.Judges.{cut_judge}
 use Rattle.fz_head.specs.Packable.{is_packed}
 use Rattle.fz_head.specs.PackedChecks.{packed_checks}
 use Rattle.fz_head.specs.PackedPlan.{plan_of_cards}
@@ -42,7 +43,7 @@ use Rattle.fz_files.specs.FirstFault.{image_row, picked_rows, picked_tiles_of, r
 use Rattle.fz_files.specs.HandMade.{block_of}
 use Rattle.fz_files.specs.PlainFile.{plain_cards, plain_file, plain_plan}
 use Rattle.fz_files.specs.Restored.{RecordMeans, image_table, pixels_of, plan_in, tile_of}
-use Rattle.fz_files.specs.Walks.{box_of, cut_judge, fault_of_walk, found_headers, header_fault, headers_for, job_walk, last_of, reached_by, reached_from}
+use Rattle.fz_files.specs.Walks.{box_of, fault_of_walk, found_headers, header_fault, headers_for, job_walk, last_of, reached_by, reached_from}
 use Rattle.fz_files.proofs.WorkedWalks.{goes_on, reaches_last, reaches_on, stops_at}
 
 -- ---- the headers
@@ -133,30 +134,30 @@ checks_none sieve box =
 
 -- ---- the walk
 
-passes_first : (sieve : Sieve) → cut_judge None sieve plain_file first_facts ≡ Ok false
+passes_first : (sieve : Sieve) → cut_judge None (box_of sieve) plain_file first_facts ≡ Ok false
 unfolding is_packed
 passes_first sieve = refl
 
-stops_behind : (sieve : Sieve) → box_none sieve → cut_judge None sieve plain_file table_facts ≡ Ok true
+stops_behind : (sieve : Sieve) → box_none sieve → cut_judge None (box_of sieve) plain_file table_facts ≡ Ok true
 stops_behind sieve box =
     ap (λ b. if b then unless_refused true (first_refusal (cut_hdu_checks plain_file (box_of sieve) table_facts)) else Ok false) packed
     ∙ ap (unless_refused true) (checks_none sieve box)
 
-pub walk_is : (sieve : Sieve) → box_none sieve → walk_of (cut_judge None sieve plain_file) 65536 plain_file ≡ Ok (first_facts ∷ table_facts ∷ [])
+pub walk_is : (sieve : Sieve) → box_none sieve → walk_of (cut_judge None (box_of sieve) plain_file) 65536 plain_file ≡ Ok (first_facts ∷ table_facts ∷ [])
 walk_is sieve box =
-    goes_on (cut_judge None sieve plain_file) 65535 0 0 plain_file first_facts (Ok (table_facts ∷ [])) first_at (passes_first sieve) refl
-    (stops_at (cut_judge None sieve plain_file) 65534 1 2880 plain_file table_facts table_at (stops_behind sieve box))
+    goes_on (cut_judge None (box_of sieve) plain_file) 65535 0 0 plain_file first_facts (Ok (table_facts ∷ [])) first_at (passes_first sieve) refl
+    (stops_at (cut_judge None (box_of sieve) plain_file) 65534 1 2880 plain_file table_facts table_at (stops_behind sieve box))
 
-reached_is : (sieve : Sieve) → box_none sieve → reached_from (cut_judge None sieve plain_file) 65536 0 0 plain_file ≡ record { hdu = 0; start = 0 } ∷ record { hdu = 1; start = 2880 } ∷ []
+reached_is : (sieve : Sieve) → box_none sieve → reached_from (cut_judge None (box_of sieve) plain_file) 65536 0 0 plain_file ≡ record { hdu = 0; start = 0 } ∷ record { hdu = 1; start = 2880 } ∷ []
 reached_is sieve box =
-    reaches_on (cut_judge None sieve plain_file) 65535 0 0 plain_file first_facts (record { hdu = 1; start = 2880 } ∷ []) first_at (passes_first sieve) refl
-    (reaches_last (cut_judge None sieve plain_file) 65534 1 2880 plain_file table_facts table_at (stops_behind sieve box))
+    reaches_on (cut_judge None (box_of sieve) plain_file) 65535 0 0 plain_file first_facts (record { hdu = 1; start = 2880 } ∷ []) first_at (passes_first sieve) refl
+    (reaches_last (cut_judge None (box_of sieve) plain_file) 65534 1 2880 plain_file table_facts table_at (stops_behind sieve box))
 
 pub no_fault : (sieve : Sieve) → box_none sieve → header_fault (Cut None sieve) plain_file ≡ None
 unfolding job_walk
 no_fault sieve box =
     ap (fault_of_walk (Cut None sieve) plain_file) (walk_is sieve box)
-    ∙ ap (λ r. if (is_stop (cut_judge None sieve plain_file first_facts) || (is_stop r || false)) then None else Some (missing_hdu None 2 (length plain_file))) (stops_behind sieve box)
+    ∙ ap (λ r. if (is_stop (cut_judge None (box_of sieve) plain_file first_facts) || (is_stop r || false)) then None else Some (missing_hdu None 2 (length plain_file))) (stops_behind sieve box)
     ∙ ap (λ r. if (is_stop r || true) then None else Some (missing_hdu None 2 (length plain_file))) (passes_first sieve)
 
 -- ---- what is read

@@ -14,6 +14,7 @@ use Rattle.fz_block.specs.Cards.{end_among, first_among}
 use Rattle.fz_block.specs.Checks.{header_blocks_of, header_of, hdu_at}
 use Rattle.fz_block.specs.declared.header.Header.{Header}
 use Rattle.fz_block.specs.declared.header.Sort.TheVariants.{Primary}
+use Rattle.fz_head.specs.Judges.{pack_judge, unpack_judge}
 use Rattle.fz_head.specs.Packable.{is_packable, is_packed}
 use Rattle.fz_head.specs.PackedHeader.{packed_header}
 use Rattle.fz_head.specs.Planned.{pack_plan_of}
@@ -22,7 +23,7 @@ use Rattle.fz_files.specs.declared.job.Job.TheVariants.{Pack, Unpack}
 use Rattle.fz_files.specs.FaultFile.{reserved_file, reserved_fault, trailing_file, trailing_fault}
 use Rattle.fz_files.specs.FirstFault.{IsFirstFault, IsFaultBehind}
 use Rattle.fz_files.specs.RiceFile.{rice_options}
-use Rattle.fz_files.specs.Walks.{header_fault, job_walk, fault_of_walk, pack_judge, unpack_judge}
+use Rattle.fz_files.specs.Walks.{header_fault, job_walk, fault_of_walk}
 use Rattle.fz_files.proofs.WorkedWalks.{refused_at_hdu, refused_by_job, goes_on}
 
 -- a fault of the headers is the first

@@ -17,6 +17,7 @@ use Rattle.fz_tile.specs.Pixels.{IsBitpix}
 use Rattle.fz_tile.specs.Refusals.{IsFault}
 use Rattle.fz_tile.specs.declared.codec.Codec.{Codec}
 use Rattle.fz_head.specs.JobChecks.{missing_hdu}
+use Rattle.fz_head.specs.Judges.{unpack_judge, cut_judge}
 use Rattle.fz_head.specs.TileKinds.{kind_of_tile}
 use Rattle.fz_head.specs.declared.plan.Plan.{Plan}
 use Rattle.fz_files.specs.declared.job.Job.{Job}
@@ -24,7 +25,7 @@ use Rattle.fz_files.specs.declared.job.Job.TheVariants.{Pack, Unpack, Cut, Verif
 use Rattle.fz_files.specs.FirstFault.{ImageRow, IsRowFault, IsRowSound, IsFirstRowFault, IsFirstFault, IsFaultBehind, image_row, rows_of, all_rows, picked_rows, picked_tiles_of, rows_for}
 use Rattle.fz_files.specs.Packed.{pixel_bits, tiles_in}
 use Rattle.fz_files.specs.Restored.{is_image, pixels_of, place_in, plan_in}
-use Rattle.fz_files.specs.Walks.{header_fault, headers_for, found_headers, job_walk, fault_of_walk, cut_end_fault, missing_of, last_of, unpack_judge, cut_judge}
+use Rattle.fz_files.specs.Walks.{header_fault, headers_for, found_headers, job_walk, fault_of_walk, cut_end_fault, missing_of, last_of, box_of}
 use Rattle.fz_files.proofs.ImageLemmas.{UnpackFindsImage, CutFindsImage, EachIs, IsReadable, ReadableIf, cut_from_readable, unpacked_readable}
 
 -- what a walk that answers says of its headers
@@ -153,20 +154,20 @@ unpacked_rows finds law file hs walk =
     let found = finds (unpack_judge file) 65536 file hs walk in
     all_readable file hs (unpacked_readable law 0 0 found.3.0 file hs found.3.2 found.2)
 
-cut_rows : WalkFindsHeaders → CutFindsImage → (wanted : Option ℕ) (sieve : Sieve) (file : List ℕ) (hs : List Header) → walk_of (cut_judge wanted sieve file) 65536 file ≡ Ok hs →
-    stops (cut_judge wanted sieve file) hs ≡ true → AreReadable file (flat_map (picked_rows file sieve) (last_of hs))
+cut_rows : WalkFindsHeaders → CutFindsImage → (wanted : Option ℕ) (sieve : Sieve) (file : List ℕ) (hs : List Header) → walk_of (cut_judge wanted (box_of sieve) file) 65536 file ≡ Ok hs →
+    stops (cut_judge wanted (box_of sieve) file) hs ≡ true → AreReadable file (flat_map (picked_rows file sieve) (last_of hs))
 cut_rows finds law wanted sieve file hs walk stop =
-    let found = finds (cut_judge wanted sieve file) 65536 file hs walk in
+    let found = finds (cut_judge wanted (box_of sieve) file) 65536 file hs walk in
     picked_readable file sieve (last_of hs) (cut_from_readable law wanted sieve 65536 0 0 found.3.0 file hs found.3.2 walk stop)
 
 pub cut_header : WalkFindsHeaders → CutFindsImage → (wanted : Option ℕ) (sieve : Sieve) (file : List ℕ) → header_fault (Cut wanted sieve) file ≡ None →
     EachIs (IsReadable file) (last_of (headers_for (Cut wanted sieve) file))
 unfolding job_walk
 cut_header finds law wanted sieve file none =
-    let found = found_walk (Cut wanted sieve) file (walk_of (cut_judge wanted sieve file) 65536 file) none in
-    let walk = finds (cut_judge wanted sieve file) 65536 file found.0 found.1 in
+    let found = found_walk (Cut wanted sieve) file (walk_of (cut_judge wanted (box_of sieve) file) 65536 file) none in
+    let walk = finds (cut_judge wanted (box_of sieve) file) 65536 file found.0 found.1 in
     subst (λ r. EachIs (IsReadable file) (last_of (found_headers r))) (sym found.1)
-    (cut_from_readable law wanted sieve 65536 0 0 walk.3.0 file found.0 walk.3.2 found.1 (stops_if wanted (cut_judge wanted sieve file) file found.0 found.2))
+    (cut_from_readable law wanted sieve 65536 0 0 walk.3.0 file found.0 walk.3.2 found.1 (stops_if wanted (cut_judge wanted (box_of sieve) file) file found.0 found.2))
 
 rows_readable : WalkFindsHeaders → UnpackFindsImage → CutFindsImage → (job : Job) (file : List ℕ) → header_fault job file ≡ None → AreReadable file (rows_for job file (headers_for job file))
 unfolding job_walk
@@ -175,9 +176,9 @@ rows_readable finds law law' Unpack file none =
     let found = found_walk Unpack file (walk_of (unpack_judge file) 65536 file) none in
     subst (λ r. AreReadable file (all_rows file (found_headers r))) (sym found.1) (unpacked_rows finds law file found.0 found.1)
 rows_readable finds law law' (Cut wanted sieve) file none =
-    let found = found_walk (Cut wanted sieve) file (walk_of (cut_judge wanted sieve file) 65536 file) none in
+    let found = found_walk (Cut wanted sieve) file (walk_of (cut_judge wanted (box_of sieve) file) 65536 file) none in
     subst (λ r. AreReadable file (flat_map (picked_rows file sieve) (last_of (found_headers r)))) (sym found.1)
-    (cut_rows finds law' wanted sieve file found.0 found.1 (stops_if wanted (cut_judge wanted sieve file) file found.0 found.2))
+    (cut_rows finds law' wanted sieve file found.0 found.1 (stops_if wanted (cut_judge wanted (box_of sieve) file) file found.0 found.2))
 rows_readable finds law law' Verify file none =
     let found = found_walk Verify file (walk_of (unpack_judge file) 65536 file) none in
     subst (λ r. AreReadable file (all_rows file (found_headers r))) (sym found.1) (unpacked_rows finds law file found.0 found.1)

@@ -14,6 +14,7 @@ use Rattle.fz_grid.specs.Grid.{tile}
 use Rattle.fz_table.specs.Records.{record_at, record_of}
 use Rattle.fz_table.specs.Tables.{table_checks}
 use Rattle.fz_head.specs.JobChecks.{image_checks, unpack_hdu_checks}
+use Rattle.fz_head.specs.Judges.{unpack_judge}
 use Rattle.fz_head.specs.Packable.{is_packed}
 use Rattle.fz_head.specs.PackedChecks.{packed_checks}
 use Rattle.fz_head.specs.TableChecks.{table_card_checks}
@@ -25,7 +26,7 @@ use Rattle.fz_files.specs.HandMade.{block_of}
 use Rattle.fz_files.specs.Packed.{tiles_in}
 use Rattle.fz_files.specs.PlainFile.{plain_cards, plain_plan}
 use Rattle.fz_files.specs.Restored.{image_table, is_image, plan_in, tile_of}
-use Rattle.fz_files.specs.Walks.{fault_of_walk, found_headers, header_fault, headers_for, job_walk, unpack_judge}
+use Rattle.fz_files.specs.Walks.{fault_of_walk, found_headers, header_fault, headers_for, job_walk}
 use Rattle.fz_files.proofs.CutFileLemmas.{first_facts, plan_is, table_is, both_none, packed, table_checks_none, plan_checks_none, plain_table, stored_at, numbers_are, tile_of_grid}
 use Rattle.fz_files.proofs.StandingLemmas.{card_checks_none, six}
 use Rattle.fz_files.proofs.TableRows.{RowIsOf, stands_by}

@@ -11,9 +11,10 @@ use Rattle.fz_block.specs.declared.header.Header.{Header}
 use Rattle.fz_grid.specs.declared.region.Region.{Region}
 use Rattle.fz_grid.specs.declared.sieve.Sieve.{Sieve}
 use Rattle.fz_head.specs.JobChecks.{IsImageOf, image_in, is_after_empty, cut_checks, cut_hdu_checks, unpack_checks, unpack_hdu_checks}
+use Rattle.fz_head.specs.Judges.{unpack_judge, cut_judge, is_wanted}
 use Rattle.fz_head.specs.Packable.{is_packed}
 use Rattle.fz_files.specs.Restored.{header_in, is_image}
-use Rattle.fz_files.specs.Walks.{unpack_judge, cut_judge, is_wanted, box_of, last_of}
+use Rattle.fz_files.specs.Walks.{box_of, last_of}
 
 -- ---- checks that refuse nothing
 
@@ -118,17 +119,17 @@ last_stops judge (suc more) k start file hs is stop =
     by_here later (Ok h) is = by_judge later h (judge h) refl is
 
 -- the HDU at which `cut` stops can be read
-cut_readable : CutFindsImage → (wanted : Option ℕ) (sieve : Sieve) (file : List ℕ) (h : Header) → IsHeaderOf (header_in file h) h → cut_judge wanted sieve file h ≡ Ok true → IsReadable file h
+cut_readable : CutFindsImage → (wanted : Option ℕ) (sieve : Sieve) (file : List ℕ) (h : Header) → IsHeaderOf (header_in file h) h → cut_judge wanted (box_of sieve) file h ≡ Ok true → IsReadable file h
 cut_readable law wanted sieve file h is stop =
-    law h (header_in file h) (is_after_empty file h) (box_of sieve) is (cut_none (is_wanted wanted file h) (first_refusal (cut_hdu_checks file (box_of sieve) h)) stop)
+    law h (header_in file h) (is_after_empty file h) (box_of sieve) is (cut_none (is_wanted wanted (header_in file h) h) (first_refusal (cut_hdu_checks file (box_of sieve) h)) stop)
 
 both_are : CutFindsImage → (wanted : Option ℕ) (sieve : Sieve) (file : List ℕ) (hs : List Header) → EachIs (λ h. IsHeaderOf (header_in file h) h) hs →
-    EachIs (λ h. cut_judge wanted sieve file h ≡ Ok true) hs → EachIs (IsReadable file) hs
+    EachIs (λ h. cut_judge wanted (box_of sieve) file h ≡ Ok true) hs → EachIs (IsReadable file) hs
 both_are law wanted sieve file [] are stop = tt
 both_are law wanted sieve file (h ∷ hs) are stop = (cut_readable law wanted sieve file h are.0 stop.0, both_are law wanted sieve file hs are.1 stop.1)
 
 pub cut_from_readable : CutFindsImage → (wanted : Option ℕ) (sieve : Sieve) (most k start end : ℕ) (file : List ℕ) (hs : List Header) → AreHeadersBetween k start end file hs →
-    walk_from (cut_judge wanted sieve file) most k start file ≡ Ok hs → stops (cut_judge wanted sieve file) hs ≡ true → EachIs (IsReadable file) (last_of hs)
+    walk_from (cut_judge wanted (box_of sieve) file) most k start file ≡ Ok hs → stops (cut_judge wanted (box_of sieve) file) hs ≡ true → EachIs (IsReadable file) (last_of hs)
 cut_from_readable law wanted sieve most k start end file hs are is stop =
     both_are law wanted sieve file (last_of hs) (last_is (λ h. IsHeaderOf (header_in file h) h) hs (are_headers k start end file hs are))
-    (last_stops (cut_judge wanted sieve file) most k start file hs is stop)
+    (last_stops (cut_judge wanted (box_of sieve) file) most k start file hs is stop)

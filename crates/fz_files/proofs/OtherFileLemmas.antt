@@ -30,6 +30,7 @@ use Rattle.fz_tile.specs.Record.{Means}
 use Rattle.fz_tile.specs.declared.codec.Codec.TheVariants as codec
 use Rattle.fz_tile.specs.declared.coded.Place2.TheVariants as place
 use Rattle.fz_head.specs.JobChecks.{image_checks, unpack_hdu_checks}
+use Rattle.fz_head.specs.Judges.{unpack_judge}
 use Rattle.fz_head.specs.Packable.{is_packed}
 use Rattle.fz_head.specs.PackedChecks.{packed_checks}
 use Rattle.fz_head.specs.PackedPlan.{plan_of_cards}
@@ -43,7 +44,7 @@ use Rattle.fz_files.specs.OtherFile.{other_cards, other_file, other_heap, other_
 use Rattle.fz_files.specs.Packed.{tiles_in}
 use Rattle.fz_files.specs.Restored.{RowStandsFor, IsImageOf, StandsForAs, HdusStandFor, image_bytes, image_table, is_image, is_packed_primary, plan_in, standing}
 use Rattle.fz_files.specs.StandsFor.{StandsFor}
-use Rattle.fz_files.specs.Walks.{fault_of_walk, found_headers, header_fault, headers_for, job_walk, unpack_judge}
+use Rattle.fz_files.specs.Walks.{fault_of_walk, found_headers, header_fault, headers_for, job_walk}
 use Rattle.fz_files.proofs.CutFileLemmas.{both_none}
 use Rattle.fz_files.proofs.TableRows.{RowIsOf, stands_by}
 use Rattle.fz_files.proofs.WorkedWalks.{goes_on, ends_with}

@@ -19,6 +19,7 @@ use Rattle.fz_tile.specs.declared.codec.Codec.{Codec}
 use Rattle.fz_tile.specs.declared.coded.Place2.{Place2}
 use Rattle.fz_table.specs.Records.{record_bytes}
 use Rattle.fz_table.specs.declared.record.Record.{Record}
+use Rattle.fz_head.specs.Judges.{unpack_judge}
 use Rattle.fz_head.specs.PackedPlan.{plan_of_cards, said_axes, said_tile, tile_along}
 use Rattle.fz_head.specs.PlainHeader.{axis_count}
 use Rattle.fz_head.specs.declared.plan.Plan.{Plan}
@@ -28,7 +29,7 @@ use Rattle.fz_files.specs.FirstFault.{IsFaultBehind}
 use Rattle.fz_files.specs.Packed.{pixel_bits}
 use Rattle.fz_files.specs.Restored.{RowStandsFor, RowsStandFor, RecordMeans, StandsForAs, HduStandsFor, HdusStandFor, header_in, image_bytes, is_image, is_packed_primary, place_in, plan_in, standing}
 use Rattle.fz_files.specs.StandsFor.{StandsFor}
-use Rattle.fz_files.specs.Walks.{header_fault, headers_for, found_headers, job_walk, unpack_judge}
+use Rattle.fz_files.specs.Walks.{header_fault, headers_for, found_headers, job_walk}
 use Rattle.fz_files.proofs.ImageLemmas.{UnpackFindsImage, EachIs, IsReadable, ReadableIf, unpacked_readable}
 use Rattle.fz_files.proofs.FaultLemmas.{WalkFindsHeaders, found_walk, readable_plan, same_record}
 

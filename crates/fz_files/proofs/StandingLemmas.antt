@@ -14,6 +14,7 @@ use Rattle.fz_grid.specs.Region.{lengths_of}
 use Rattle.fz_grid.specs.Grid.{tile}
 use Rattle.fz_table.specs.declared.table.Table.{Table}
 use Rattle.fz_head.specs.JobChecks.{image_checks, unpack_hdu_checks}
+use Rattle.fz_head.specs.Judges.{unpack_judge}
 use Rattle.fz_head.specs.Packable.{is_packed}
 use Rattle.fz_head.specs.PackedChecks.{packed_checks}
 use Rattle.fz_head.specs.PlainHeader.{plain_header, was_primary}
@@ -28,7 +29,7 @@ use Rattle.fz_files.specs.Packed.{tiles_in}
 use Rattle.fz_files.specs.PlainFile.{plain_cards, plain_file, plain_plan, grid_file}
 use Rattle.fz_files.specs.Restored.{RowStandsFor, IsImageOf, StandsForAs, HdusStandFor, image_bytes, image_table, is_image, is_packed_primary, plan_in, standing}
 use Rattle.fz_files.specs.StandsFor.{StandsFor}
-use Rattle.fz_files.specs.Walks.{fault_of_walk, found_headers, header_fault, headers_for, job_walk, unpack_judge}
+use Rattle.fz_files.specs.Walks.{fault_of_walk, found_headers, header_fault, headers_for, job_walk}
 use Rattle.fz_files.proofs.CutFileLemmas.{first_facts, first_at, table_at, cards_are, plan_is, table_is, both_none, packed, table_checks_none, plan_checks_none, RowIs, grid_array, tile_of_grid, row_0, row_1, row_2, row_3, row_4, row_5}
 use Rattle.fz_files.proofs.WorkedWalks.{goes_on, ends_with}
 

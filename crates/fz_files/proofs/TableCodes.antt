@@ -21,10 +21,11 @@ use Rattle.fz_tile.specs.TileCode.{AreElements, TileCode, code_of, shorter, tile
 use Rattle.fz_tile.specs.declared.codec.Codec.{Codec}
 use Rattle.fz_tile.specs.declared.codec.Codec.TheVariants.{Rice, Plio, Plain}
 use Rattle.fz_tile.specs.declared.coded.Place2.TheVariants as place
+use Rattle.fz_head.specs.Greatest.{greatest}
 use Rattle.fz_head.specs.PackedTable.{coded_unit}
 use Rattle.fz_head.specs.Planned.{pixel_len}
 use Rattle.fz_head.specs.declared.plan.Plan.{Plan}
-use Rattle.fz_files.specs.Packed.{coded_count, greatest, heap_of, is_coded, pixel_bits, stored_count, tile_codes, tiles_in}
+use Rattle.fz_files.specs.Packed.{coded_count, heap_of, is_coded, pixel_bits, stored_count, tile_codes, tiles_in}
 use Rattle.fz_files.specs.Restored.{is_plain_codec}
 
 -- what is written for a tile is a record that stands for it, and for no other list of as many pixels

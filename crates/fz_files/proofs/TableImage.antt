@@ -35,6 +35,7 @@ use Rattle.fz_tile.specs.declared.codec.Codec.{Codec}
 use Rattle.fz_bits.specs.Numbers.{IsNumber}
 use Rattle.fz_head.specs.Accepted.{IsAccepted}
 use Rattle.fz_head.specs.Conditions.{AreShort}
+use Rattle.fz_head.specs.Greatest.{greatest}
 use Rattle.fz_head.specs.JobChecks.{IsImageToPack, fill_in}
 use Rattle.fz_head.specs.PackChecks.{limit_checks, name_checks, offset_check, pack_answer, pack_checks}
 use Rattle.fz_head.specs.Packable.{has_integers, is_image as is_image_sort, is_primary, is_packable}
@@ -51,7 +52,7 @@ use Rattle.fz_head.specs.declared.options.PackOptions.{PackOptions}
 use Rattle.fz_head.specs.declared.plan.Plan.{Plan}
 use Rattle.fz_head.specs.declared.totals.Totals.{Totals}
 use Rattle.fz_files.specs.Laws.{IsTableOf, IsTaken, codes_from, table_hdu, totals_from}
-use Rattle.fz_files.specs.Packed.{array_of, coded_count, greatest, heap_of, packed_data, pixel_bits, stored_count, sum_before, tile_codes, tiles_in, totals_of, with_sums, zero_filled}
+use Rattle.fz_files.specs.Packed.{array_of, coded_count, heap_of, packed_data, pixel_bits, stored_count, sum_before, tile_codes, tiles_in, totals_of, with_sums, zero_filled}
 use Rattle.fz_files.specs.Restored.{RowStandsFor, StandsForAs, HduStandsFor, image_bytes, image_table, is_image, is_packed_primary, plan_in}
 use Rattle.fz_files.proofs.RestoredLemmas.{axes_again}
 use Rattle.fz_files.proofs.TableCodes.{IsCodeOf, TileCodesHold, code_is, coded_within, eight_bytes, greatest_within, heap_within, stored_within, tile_is, tile_no_more, zero_is}

@@ -1,26 +1,26 @@
 -- The buffers of a job and their bound. All are taken from one meter: one block; each header in turn while the block is live; and
 -- then, at once and before anything is written, what the work takes.
-use Rattle.std.specs.Prelude.{ℕ, ◌≡◌, ◌+◌, ◌*◌, List, [], ◌∷◌, ◌++◌, map, Option, Some, None, Result, Ok, Err, ⊤}
+use Rattle.std.specs.Prelude.{ℕ, ◌≡◌, ◌*◌, true, false, List, [], ◌∷◌, ◌++◌, map, Option, Some, None, Result, Ok, Err, ⊤}
 use Rattle.std.specs.List.{filter}
-use Rattle.fz_base.specs.JobBuffers.{buffer_bound, slots_buffers}
+use Rattle.fz_base.specs.JobBuffers.{buffer_bound}
 use Rattle.fz_base.specs.Takings.{piled, first_past}
 use Rattle.fz_base.specs.declared.fault.Fault.{Fault}
 use Rattle.fz_block.specs.Checks.{header_blocks_of}
 use Rattle.fz_block.specs.Takings.{walk_takings}
 use Rattle.fz_block.specs.declared.header.Header.{Header}
-use Rattle.fz_grid.specs.Arrays.{product}
-use Rattle.fz_grid.specs.Region.{lengths_of}
+use Rattle.fz_head.specs.Greatest.{greatest}
+use Rattle.fz_head.specs.Judges.{pack_judge, unpack_judge, cut_judge}
 use Rattle.fz_head.specs.Packable.{is_packable}
 use Rattle.fz_head.specs.Planned.{pack_plan_of}
+use Rattle.fz_head.specs.WorkBuffers.{pixels_of_tile, work_buffers}
 use Rattle.fz_head.specs.declared.plan.Plan.{Plan}
 use Rattle.fz_files.specs.declared.job.Job.{Job}
 use Rattle.fz_files.specs.declared.job.Job.TheVariants.{Pack, Unpack, Cut, Verify, List as ListHdus, Drill}
 use Rattle.fz_head.specs.declared.options.CodecWord.{CodecWord}
 use Rattle.fz_head.specs.declared.options.CodecWord.TheVariants as word
 use Rattle.fz_files.specs.Drill.{drill_file, drill_options, drill_packed, drill_sieve}
-use Rattle.fz_files.specs.Packed.{greatest}
 use Rattle.fz_files.specs.Restored.{is_image, plan_in}
-use Rattle.fz_files.specs.Walks.{Reached, header_fault, headers_for, last_of, pack_judge, unpack_judge, cut_judge, reached_by}
+use Rattle.fz_files.specs.Walks.{Reached, box_of, header_fault, headers_for, last_of, reached_by}
 
 -- the length of a header whose END was found
 abbrev pub found_len : Result ℕ Fault → ℕ
@@ -34,10 +34,6 @@ header_len file r = found_len (header_blocks_of r.hdu r.start file)
 abbrev pub longest_header : Job → List ℕ → ℕ
 longest_header (Drill rows) file = 2880
 longest_header job file = greatest (map (header_len file) (reached_by job file))
-
--- the pixels of a whole tile
-abbrev pub tile_pixels : Plan → ℕ
-tile_pixels p = product (lengths_of p.tile)
 
 -- the plans of the images whose tiles a job works on
 abbrev pub plans_for : Job → List ℕ → List Header → List Plan
@@ -56,7 +52,7 @@ plans_behind None job file = plans_for job file (headers_for job file)
 -- The pixels of the largest tile that a job works on, or 0. Those of `drill` are rows of 256.
 abbrev pub largest_tile : Job → List ℕ → ℕ
 largest_tile (Drill rows) file = 256
-largest_tile job file = greatest (map tile_pixels (plans_behind (header_fault job file) job file))
+largest_tile job file = greatest (map pixels_of_tile (plans_behind (header_fault job file) job file))
 
 -- how many workers a job has that is asked for so many: `verify` and `list` have one, `drill` four
 abbrev pub workers_of : Job → ℕ → ℕ
@@ -71,21 +67,21 @@ workers_of (Drill rows) asked = 4
 abbrev pub job_bound : Job → List ℕ → ℕ → ℕ
 job_bound job file asked = buffer_bound (longest_header job file) (largest_tile job file) (workers_of job asked)
 
--- What the work of a job takes, in this order: the longest header, the translated header, the slots, and the copy buffer. Where
--- nothing is written no header is translated, and `list` looks at headers alone.
-abbrev pub work_buffers : Job → ℕ → ℕ → ℕ → List ℕ
-work_buffers (Pack o) H n W = H ∷ (H + 2880) ∷ (slots_buffers n (2 * W) ++ 65536 ∷ [])
-work_buffers Unpack H n W = H ∷ (H + 2880) ∷ (slots_buffers n (2 * W) ++ 65536 ∷ [])
-work_buffers (Cut wanted sieve) H n W = H ∷ (H + 2880) ∷ (slots_buffers n (2 * W) ++ 65536 ∷ [])
-work_buffers Verify H n W = H ∷ (slots_buffers n (2 * W) ++ 65536 ∷ [])
-work_buffers ListHdus H n W = H ∷ []
-work_buffers (Drill rows) H n W = []
+-- What the work of a job takes for headers of at most H bytes and tiles of at most n pixels, with W workers. Where nothing is written
+-- no header is translated, and `list` looks at headers alone.
+abbrev pub job_buffers : Job → ℕ → ℕ → ℕ → List ℕ
+job_buffers (Pack o) H n W = work_buffers H true (Some n) W
+job_buffers Unpack H n W = work_buffers H true (Some n) W
+job_buffers (Cut wanted sieve) H n W = work_buffers H true (Some n) W
+job_buffers Verify H n W = work_buffers H false (Some n) W
+job_buffers ListHdus H n W = work_buffers H false None W
+job_buffers (Drill rows) H n W = []
 
 -- the headers, one at a time while one block is live
 abbrev pub header_takings : Job → List ℕ → List (ℕ × ℕ)
 header_takings (Pack o) file = walk_takings (pack_judge o file) 2880 65535 0 0 file
 header_takings Unpack file = walk_takings (unpack_judge file) 2880 65536 0 0 file
-header_takings (Cut wanted sieve) file = walk_takings (cut_judge wanted sieve file) 2880 65536 0 0 file
+header_takings (Cut wanted sieve) file = walk_takings (cut_judge wanted (box_of sieve) file) 2880 65536 0 0 file
 header_takings Verify file = walk_takings (unpack_judge file) 2880 65536 0 0 file
 header_takings ListHdus file = walk_takings (unpack_judge file) 2880 65536 0 0 file
 header_takings (Drill rows) file = []
@@ -93,7 +89,7 @@ header_takings (Drill rows) file = []
 -- the work of a job is taken where no header is refused
 abbrev pub work_takings : Option Fault → Job → List ℕ → ℕ → List (ℕ × ℕ)
 work_takings (Some fault) job file W = []
-work_takings None job file W = piled 2880 (work_buffers job (longest_header job file) (largest_tile job file) W)
+work_takings None job file W = piled 2880 (job_buffers job (longest_header job file) (largest_tile job file) W)
 
 -- what a job with W workers takes of its meter for a file, each taking with what is live before it
 abbrev pub file_takings : Job → List ℕ → ℕ → List (ℕ × ℕ)

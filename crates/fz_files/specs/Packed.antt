@@ -1,6 +1,6 @@
 -- The packed file of a file: each image that can be packed becomes the table of its tiles, and every other HDU stays as it is (FITS 4.0,
 -- sections 7.3.5, 10.1 and 10.1.3).
-use Rattle.std.specs.Prelude.{ℕ, zero, suc, ◌≡◌, ◌+◌, ◌-◌, ◌/◌, Bool, true, false, List, [], ◌∷◌, ◌++◌, length, map, max, replicate, unsigned_abs, codes, if◌then◌else◌}
+use Rattle.std.specs.Prelude.{ℕ, zero, suc, ◌≡◌, ◌+◌, ◌-◌, ◌/◌, Bool, true, false, List, [], ◌∷◌, ◌++◌, length, map, replicate, unsigned_abs, codes, if◌then◌else◌}
 use Rattle.std.specs.List.{flat_map, range_with_len}
 use Rattle.fz_block.specs.Facts.{facts_of}
 use Rattle.fz_block.specs.Hdus.{Hdu, AreHdusOf, hdu_bytes, cards_of, header_bytes}
@@ -21,6 +21,7 @@ use Rattle.fz_head.specs.declared.plan.Plan.{Plan}
 use Rattle.fz_head.specs.declared.totals.Totals.{Totals}
 use Rattle.fz_head.specs.Packable.{is_packable}
 use Rattle.fz_head.specs.EmptyPrimary.{empty_primary}
+use Rattle.fz_head.specs.Greatest.{greatest}
 use Rattle.fz_head.specs.PackedHeader.{packed_header}
 use Rattle.fz_head.specs.PackedTable.{coded_unit}
 use Rattle.fz_head.specs.Planned.{pack_plan_of, pixel_len}
@@ -74,11 +75,6 @@ rows_from p offset (e ∷ es) = row_of p offset e ++ rows_from p (offset + lengt
 -- the heap: the bytes of the tiles in their order, without gaps
 unfoldable pub heap_of : List TileCode → List ℕ
 heap_of codes = flat_map (λ (e : TileCode). e.bytes) codes
-
--- the greatest of some numbers, or 0
-abbrev pub greatest : List ℕ → ℕ
-greatest [] = 0
-greatest (n ∷ ns) = max n (greatest ns)
 
 -- what the header tells of the heap: its length, and the greatest count in each column
 abbrev pub totals_of : Plan → List TileCode → Totals

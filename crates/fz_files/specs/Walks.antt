@@ -1,27 +1,17 @@
 -- Which HDUs each job looks at, and where their headers are refused (FITS 4.0, sections 3.1, 3.3 and 10.1).
 use Rattle.std.specs.Prelude.{ℕ, zero, suc, ◌==◌, ◌+◌, ◌-◌, Bool, true, false, List, [], ◌∷◌, ◌++◌, length, replicate, Option, Some, None, Result, Ok, Err, if◌then◌else◌}
-use Rattle.fz_base.specs.Refusal.{first_refusal}
 use Rattle.fz_base.specs.declared.fault.Fault.{Fault}
-use Rattle.fz_block.specs.Checks.{Judge, hdu_at, unless_refused, walk_of}
+use Rattle.fz_block.specs.Checks.{Judge, hdu_at, walk_of}
 use Rattle.fz_block.specs.Header.{next_start_of}
-use Rattle.fz_block.specs.Walk.{hdu_of, stops}
+use Rattle.fz_block.specs.Walk.{stops}
 use Rattle.fz_block.specs.declared.header.Header.{Header}
 use Rattle.fz_grid.specs.Sieve.{sieve_lo, sieve_hi}
 use Rattle.fz_grid.specs.declared.region.Region.{Region}
 use Rattle.fz_grid.specs.declared.sieve.Sieve.{Sieve}
-use Rattle.fz_head.specs.JobChecks.{pack_hdu_checks, unpack_hdu_checks, cut_hdu_checks, missing_hdu}
-use Rattle.fz_head.specs.Packable.{is_packed}
-use Rattle.fz_head.specs.declared.options.PackOptions.{PackOptions}
+use Rattle.fz_head.specs.JobChecks.{missing_hdu}
+use Rattle.fz_head.specs.Judges.{pack_judge, unpack_judge, cut_judge}
 use Rattle.fz_files.specs.declared.job.Job.{Job}
 use Rattle.fz_files.specs.declared.job.Job.TheVariants.{Pack, Unpack, Cut, Verify, List as ListHdus, Drill}
-
--- what `pack` says of an HDU: it goes on behind it
-abbrev pub pack_judge : PackOptions → List ℕ → Judge
-pack_judge o file h = unless_refused false (first_refusal (pack_hdu_checks o file h))
-
--- what `unpack`, `verify` and `list` say of one
-abbrev pub unpack_judge : List ℕ → Judge
-unpack_judge file h = unless_refused false (first_refusal (unpack_hdu_checks file h))
 
 -- how long a box is along each axis, both ends included
 abbrev pub lengths_between : List ℕ → List ℕ → List ℕ
@@ -37,22 +27,12 @@ box_of sieve = record {
   len = lengths_between (sieve_lo sieve) (sieve_hi sieve) ++ replicate (9 - sieve.n) 0;
 }
 
--- the HDU that a part is cut from: that of the wanted number, or the first packed one
-abbrev pub is_wanted : Option ℕ → List ℕ → Header → Bool
-is_wanted None file h = is_packed (hdu_of file h).header h
-is_wanted (Some k) file h = h.hdu == k
-
--- what `cut` says of an HDU: it goes on behind those before the one that it cuts from, and stops at that
-abbrev pub cut_judge : Option ℕ → Sieve → List ℕ → Judge
-cut_judge wanted sieve file h =
-    if is_wanted wanted file h then unless_refused true (first_refusal (cut_hdu_checks file (box_of sieve) h)) else Ok false
-
 -- the headers that a job looks at, or the first fault among them; a file that is packed has room for the empty primary, and `drill`
 -- looks at no file
 unfoldable pub job_walk : Job → List ℕ → Result (List Header) Fault
 job_walk (Pack o) file = walk_of (pack_judge o file) 65535 file
 job_walk Unpack file = walk_of (unpack_judge file) 65536 file
-job_walk (Cut wanted sieve) file = walk_of (cut_judge wanted sieve file) 65536 file
+job_walk (Cut wanted sieve) file = walk_of (cut_judge wanted (box_of sieve) file) 65536 file
 job_walk Verify file = walk_of (unpack_judge file) 65536 file
 job_walk ListHdus file = walk_of (unpack_judge file) 65536 file
 job_walk (Drill rows) file = Ok []
@@ -70,7 +50,7 @@ missing_of wanted judge file hs = if stops judge hs then None else Some (missing
 abbrev pub cut_end_fault : Job → List ℕ → List Header → Option Fault
 cut_end_fault (Pack o) file hs = None
 cut_end_fault Unpack file hs = None
-cut_end_fault (Cut wanted sieve) file hs = missing_of wanted (cut_judge wanted sieve file) file hs
+cut_end_fault (Cut wanted sieve) file hs = missing_of wanted (cut_judge wanted (box_of sieve) file) file hs
 cut_end_fault Verify file hs = None
 cut_end_fault ListHdus file hs = None
 cut_end_fault (Drill rows) file hs = None
@@ -116,7 +96,7 @@ reached_from judge (suc more) k start file =
 unfoldable pub reached_by : Job → List ℕ → List Reached
 reached_by (Pack o) file = reached_from (pack_judge o file) 65535 0 0 file
 reached_by Unpack file = reached_from (unpack_judge file) 65536 0 0 file
-reached_by (Cut wanted sieve) file = reached_from (cut_judge wanted sieve file) 65536 0 0 file
+reached_by (Cut wanted sieve) file = reached_from (cut_judge wanted (box_of sieve) file) 65536 0 0 file
 reached_by Verify file = reached_from (unpack_judge file) 65536 0 0 file
 reached_by ListHdus file = reached_from (unpack_judge file) 65536 0 0 file
 reached_by (Drill rows) file = []

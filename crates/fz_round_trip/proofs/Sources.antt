@@ -11,11 +11,11 @@ use Rattle.fz_block.specs.Walk.{AreHeadersBetween, PassFrom, PassesAt, RefusesNo
 use Rattle.fz_block.specs.declared.header.Header.{Header}
 use Rattle.fz_tile.specs.Plain.{AreBytes}
 use Rattle.fz_head.specs.JobChecks.{pack_hdu_checks}
+use Rattle.fz_head.specs.Judges.{pack_judge}
 use Rattle.fz_head.specs.Packable.{is_packable}
 use Rattle.fz_head.specs.Planned.{AreOptions}
 use Rattle.fz_head.specs.declared.options.PackOptions.{PackOptions}
 use Rattle.fz_files.specs.Laws.{IsTaken}
-use Rattle.fz_files.specs.Walks.{pack_judge}
 
 -- a header of the file, which is that of HDU k: it passes the checks of every job, and those of `pack`
 pub record IsSource (o : PackOptions) (file : List ℕ) (k : ℕ) (h : Header) : Type 0 where

@@ -18,6 +18,7 @@ use Rattle.fz_grid.specs.Region.{lengths_of}
 use Rattle.fz_tile.specs.Plain.{AreBytes}
 use Rattle.fz_head.specs.EmptyPrimary.{empty_primary}
 use Rattle.fz_head.specs.JobChecks.{is_after_empty, says_packed, unpack_checks, unpack_hdu_checks}
+use Rattle.fz_head.specs.Judges.{unpack_judge}
 use Rattle.fz_head.specs.Packable.{is_packable, is_packed, is_primary, is_table}
 use Rattle.fz_head.specs.PlainHeader.{was_primary}
 use Rattle.fz_head.specs.Planned.{AreOptions, pack_plan_of}
@@ -26,7 +27,6 @@ use Rattle.fz_files.specs.FirstFault.{ImageRow, IsFirstRowFault, all_rows, image
 use Rattle.fz_files.specs.Laws.{IsTableOf, IsTaken, TablesAreAccepted, TablesStandForImages, TablesWerePrimary, table_hdu, totals_from}
 use Rattle.fz_files.specs.Packed.{tiles_in}
 use Rattle.fz_files.specs.Restored.{HduStandsFor, HdusStandFor, RowStandsFor, StandsForAs, header_in, is_image, is_packed_primary, plan_in, standing}
-use Rattle.fz_files.specs.Walks.{unpack_judge}
 use Rattle.fz_round_trip.proofs.Outs.{empty_hdu, out_of, outs}
 use Rattle.fz_round_trip.proofs.Passing.{accepted_none, copied_none, copied_packed, copied_says}
 use Rattle.fz_round_trip.proofs.Sources.{AreSources, IsSource, taken}

@@ -7,6 +7,7 @@ use Rattle.fz_block.specs.Checks.{Judge, headers_of, walk_of}
 use Rattle.fz_block.specs.Hdus.{AreHdusOf, Hdu, hdu_bytes}
 use Rattle.fz_block.specs.Walk.{AreHeadersBetween, PassFrom, RefusesNone, facts_from, hdu_of, stops}
 use Rattle.fz_block.specs.declared.header.Header.{Header}
+use Rattle.fz_head.specs.Judges.{pack_judge, unpack_judge}
 use Rattle.fz_head.specs.Packable.{is_packable}
 use Rattle.fz_head.specs.declared.options.PackOptions.{PackOptions}
 use Rattle.fz_files.specs.declared.job.Job.{Job}
@@ -16,7 +17,7 @@ use Rattle.fz_files.specs.Laws.{table_hdu}
 use Rattle.fz_files.specs.Packed.{IsPackedFile, packed_file}
 use Rattle.fz_files.specs.Restored.{HdusStandFor, standing}
 use Rattle.fz_files.specs.StandsFor.{IsProfileFile, StandsFor}
-use Rattle.fz_files.specs.Walks.{fault_of_walk, found_headers, header_fault, job_walk, pack_judge, unpack_judge}
+use Rattle.fz_files.specs.Walks.{fault_of_walk, found_headers, header_fault, job_walk}
 use Rattle.fz_round_trip.proofs.Outs.{empty_hdu, out_of, outs, outs_are}
 use Rattle.fz_round_trip.proofs.Passing.{PassingLaws, outs_pass}
 use Rattle.fz_round_trip.proofs.Sources.{AreSources, never_stops, sources}
