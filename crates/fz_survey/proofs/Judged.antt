@@ -14,11 +14,13 @@ use Rattle.fz_block.proofs.Refusals.{passed, stopped}
 use Rattle.fz_head.specs.JobChecks.{cut_checks, data_fill, fill_in, image_in, image_to_cut, image_to_unpack, is_after_empty, pack_header_checks, plan_to_pack, unpack_checks}
 use Rattle.fz_head.specs.declared.job_checks.PackedImage.{PackedImage}
 use Rattle.fz_head.specs.declared.plan.Plan.{Plan}
+use Rattle.fz_head.specs.Judges.{is_wanted}
 use Rattle.fz_head.specs.Packable.{is_packable, is_packed}
 use Rattle.fz_head.specs.Planned.{pack_plan_of}
-use Rattle.fz_survey.specs.Judges.{is_wanted, judge_of}
+use Rattle.fz_head.specs.WorkBuffers.{pixels_of_tile}
+use Rattle.fz_survey.specs.Judges.{judge_of}
 use Rattle.fz_survey.specs.Looks.{tiled, tiled_plan, tiled_image, cut_image, look_of, hdu_look}
-use Rattle.fz_survey.specs.Surveys.{pixels_of_tile, tile_pixels, looks_at_fill}
+use Rattle.fz_survey.specs.Surveys.{tile_pixels, looks_at_fill}
 use Rattle.fz_survey.specs.declared.checks.JobChecks.{JobChecks}
 use Rattle.fz_survey.specs.declared.checks.JobChecks.TheVariants.{Pack, Unpack, Cut}
 use Rattle.fz_survey.specs.declared.look.Look.{Look}

@@ -1,5 +1,6 @@
 pub mod Here
 pub mod Judged
+pub mod Kept
 pub mod Looked
 pub mod Missing
 pub mod Outcomes

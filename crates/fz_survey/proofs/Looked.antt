@@ -4,7 +4,7 @@ use Rattle.std.specs.Prelude.{◌&&◌, Contains, Option, Some, None, Result, Ok
 use Rattle.std.specs.Result.{result_map_both}
 use Rattle.fz_base.specs.Counts.{Tally}
 use Rattle.fz_base.specs.Source.{LogsOnly, LogsWithin}
-use Rattle.fz_base.specs.Stop.{IsDefined, StoppedReading}
+use Rattle.fz_base.specs.Stop.{IsDefined, StoppedReading, TellsLimit}
 use Rattle.fz_base.specs.Takings.{first_past, TellsFirstPast}
 use Rattle.fz_base.specs.declared.fault.Fault.{Fault}
 use Rattle.fz_base.specs.declared.failure.Stop.{Stop}
@@ -51,6 +51,21 @@ reading_tells (Some g) limit takings before now ReadFault none why = tt
 reading_tells (Some g) limit takings before now WriteFault none why = absurd why
 reading_tells (Some g) limit takings before now (OverLimit live asked told) none why = absurd why
 reading_tells (Some g) limit takings before now NoMemory none why = tt
+
+pub reading_passes_none : (limit most : ℕ) (before now : Tally) (stop : Stop) → StoppedReading before now stop → TellsLimit {X = Looked} limit most (Err stop)
+reading_passes_none limit most before now (Refused x) why = tt
+reading_passes_none limit most before now ReadFault why = tt
+reading_passes_none limit most before now WriteFault why = tt
+reading_passes_none limit most before now (OverLimit live asked told) why = absurd why
+reading_passes_none limit most before now NoMemory why = tt
+
+-- a taking that passed the limit stops the caller too
+pub limit_told : (X Y : Type 0) (limit most : ℕ) (stop : Stop) → TellsLimit {X = X} limit most (Err stop) → TellsLimit {X = Y} limit most (Err stop)
+limit_told X Y limit most (Refused x) tells = tt
+limit_told X Y limit most ReadFault tells = tt
+limit_told X Y limit most WriteFault tells = tt
+limit_told X Y limit most (OverLimit live asked told) tells = tells
+limit_told X Y limit most NoMemory tells = tt
 
 -- what was read of the header, and then of the fill
 first_place : (p : ℕ × ℕ) (places : List (ℕ × ℕ)) → Contains (p ∷ places) p

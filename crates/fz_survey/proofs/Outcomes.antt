@@ -10,9 +10,10 @@ use Rattle.fz_block.specs.Header.{next_start_of}
 use Rattle.fz_block.specs.Takings.{for_those_after, where_going_on}
 use Rattle.fz_block.specs.Walk.{is_stop}
 use Rattle.fz_block.specs.declared.header.Header.{Header}
+use Rattle.fz_head.specs.Greatest.{greatest}
 use Rattle.fz_survey.specs.Judges.{judge_of}
 use Rattle.fz_survey.specs.Looks.{joined, looked, looked_by, tiled, with_header}
-use Rattle.fz_survey.specs.Surveys.{greatest, header_len, stopped_at, survey_of, tile_pixels}
+use Rattle.fz_survey.specs.Surveys.{header_len, stopped_at, survey_of, tile_pixels}
 use Rattle.fz_survey.specs.declared.checks.JobChecks.{JobChecks}
 use Rattle.fz_survey.specs.declared.look.Looked.{Looked}
 

@@ -1,4 +1,5 @@
 pub mod Judges
+pub mod Laws
 pub mod Looks
 pub mod Reads
 pub mod Surveys

@@ -7,11 +7,13 @@ use Rattle.fz_block.specs.Header.{next_start_of}
 use Rattle.fz_grid.specs.declared.region.Region.{Region}
 use Rattle.fz_block.specs.declared.header.Header.{Header}
 use Rattle.fz_head.specs.JobChecks.{plan_to_pack, image_to_unpack, image_to_cut}
+use Rattle.fz_head.specs.Judges.{is_wanted}
+use Rattle.fz_head.specs.WorkBuffers.{pixels_of_tile}
 use Rattle.fz_head.specs.declared.job_checks.PackedImage.{PackedImage}
 use Rattle.fz_head.specs.declared.options.PackOptions.{PackOptions}
 use Rattle.fz_head.specs.declared.plan.Plan.{Plan}
-use Rattle.fz_survey.specs.Judges.{is_wanted, judge_of}
-use Rattle.fz_survey.specs.Surveys.{header_len, pixels_of_tile, tile_pixels}
+use Rattle.fz_survey.specs.Judges.{judge_of}
+use Rattle.fz_survey.specs.Surveys.{header_len, tile_pixels}
 use Rattle.fz_survey.specs.declared.checks.JobChecks.{JobChecks}
 use Rattle.fz_survey.specs.declared.checks.JobChecks.TheVariants.{Pack, Unpack, Cut}
 use Rattle.fz_survey.specs.declared.look.Look.{Look}

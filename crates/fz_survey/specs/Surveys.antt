@@ -1,5 +1,5 @@
 -- What the first look of a job learns of a file: it goes over the headers, as far as the job does, and keeps a few numbers.
-use Rattle.std.specs.Prelude.{ℕ, zero, suc, ◌*◌, ◌≤◌, ◌<◌, ◌^◌, max, Bool, false, List, [], ◌∷◌, ◌++◌, length, map, Option, Some, None, IfSome, Result, Ok, Err, if◌then◌else◌}
+use Rattle.std.specs.Prelude.{ℕ, zero, suc, ◌*◌, ◌≤◌, ◌<◌, ◌^◌, Bool, false, List, [], ◌∷◌, ◌++◌, length, map, Option, Some, None, IfSome, Result, Ok, Err, if◌then◌else◌}
 use Rattle.std.specs.Result.{result_map_both}
 use Rattle.fz_base.specs.declared.fault.Fault.{Fault}
 use Rattle.fz_block.specs.Checks.{header_touched, hdu_at, walk_of}
@@ -9,24 +9,20 @@ use Rattle.fz_block.specs.Takings.{for_those_after, walk_takings}
 use Rattle.fz_block.specs.Walk.{hdu_of, is_stop}
 use Rattle.fz_block.specs.Checks.{Judge}
 use Rattle.fz_block.specs.declared.header.Header.{Header}
-use Rattle.fz_grid.specs.Arrays.{product}
-use Rattle.fz_grid.specs.Region.{lengths_of}
 use Rattle.fz_grid.specs.declared.region.Region.{Region}
+use Rattle.fz_head.specs.Greatest.{greatest}
 use Rattle.fz_head.specs.JobChecks.{data_end_of, missing_hdu}
+use Rattle.fz_head.specs.Judges.{is_wanted}
 use Rattle.fz_head.specs.Packable.{is_packable, is_packed}
 use Rattle.fz_head.specs.PackedPlan.{plan_of_cards}
 use Rattle.fz_head.specs.Planned.{pack_plan_of}
-use Rattle.fz_head.specs.declared.plan.Plan.{Plan}
-use Rattle.fz_survey.specs.Judges.{is_wanted, judge_of, most_hdus}
+use Rattle.fz_head.specs.WorkBuffers.{pixels_of_tile}
+use Rattle.fz_survey.specs.Judges.{judge_of, most_hdus}
 use Rattle.fz_survey.specs.declared.checks.JobChecks.{JobChecks}
 use Rattle.fz_survey.specs.declared.checks.JobChecks.TheVariants.{Pack, Unpack, Cut}
 use Rattle.fz_survey.specs.declared.survey.Survey.{Survey}
 
--- the pixels of a tile that no edge cuts short
-abbrev pub pixels_of_tile : Plan → ℕ
-pixels_of_tile p = product (lengths_of p.tile)
-
--- the same of the image that stands in a table with this header
+-- the pixels of a tile of the image that stands in a table with this header
 abbrev pub packed_tile : List ℕ → ℕ
 packed_tile header = pixels_of_tile (plan_of_cards (cards_of header))
 
@@ -38,11 +34,6 @@ tile_in (Cut wanted region) header h = if is_wanted wanted header h then packed_
 
 unfoldable pub tile_pixels : JobChecks → List ℕ → Header → ℕ
 tile_pixels checks file h = tile_in checks (hdu_of file h).header h
-
--- the greatest of some numbers, or 0
-abbrev pub greatest : List ℕ → ℕ
-greatest [] = 0
-greatest (n ∷ ns) = max n (greatest ns)
 
 -- the bytes of a header
 abbrev pub header_len : Header → ℕ

@@ -1,26 +1,17 @@
--- The buffers that a job takes at once behind its first look: the longest header, the translated header, the slots of the window,
--- and the copy buffer. A job takes those that it wants.
-use Rattle.std.specs.Prelude.{ℕ, ◌≡◌, ◌+◌, ◌*◌, ◌≤◌, Bool, true, false, List, [], ◌∷◌, ◌++◌, length, replicate, sum, Option, Some, None}
-use Rattle.fz_base.specs.JobBuffers.{slots_buffers, buffer_bound}
+-- The buffers that a job holds behind its first look: a header, a translated header, the slots of the window, and the copy buffer. A
+-- job takes those that it wants.
+use Rattle.std.specs.Prelude.{ℕ, ◌≡◌, ◌+◌, ◌*◌, ◌<◌, ◌≤◌, List, [], length, replicate, sum, Option, Some, None}
+use Rattle.fz_base.specs.JobBuffers.{buffer_bound}
 use Rattle.fz_base.specs.Takings.{first_past, piled}
+use Rattle.fz_head.specs.WorkBuffers.{translated_buffers, work_buffers}
 use Rattle.fz_pool.specs.Window.{Pool, asked_for, fresh_slot, slot_sizes}
 use Rattle.fz_pool.specs.declared.slot.Slot.{Slot}
 use Rattle.fz_survey.specs.declared.workspace.Wants.{Wants}
 use Rattle.fz_survey.specs.declared.workspace.Workspace.{Workspace}
 
--- the translated header is at most one block longer than the longest header
-abbrev pub translated_buffers : Bool → ℕ → List ℕ
-translated_buffers true header_len = (header_len + 2880) ∷ []
-translated_buffers false header_len = []
-
--- what W workers on tiles of at most n pixels take: two slots for each, and the copy buffer
-abbrev pub tile_buffers : ℕ → Option ℕ → List ℕ
-tile_buffers W None = []
-tile_buffers W (Some n) = slots_buffers n (2 * W) ++ 65536 ∷ []
-
--- what a job takes that wants these, with W workers, in this order
-abbrev pub work_buffers : Wants → ℕ → List ℕ
-work_buffers wants W = wants.header_len ∷ (translated_buffers wants.translates wants.header_len ++ tile_buffers W wants.tile)
+-- what a job takes that wants these, with W workers
+abbrev pub wanted_buffers : Wants → ℕ → List ℕ
+wanted_buffers wants W = work_buffers wants.header_len wants.translates wants.tile W
 
 -- the length of the copy buffer, where there is one
 abbrev pub copy_len : Option ℕ → ℕ
@@ -54,7 +45,7 @@ held_bytes w pool = length w.header + length w.translated + length w.copy + aske
 
 -- as long as no buffer changes its length, what is held is what was taken
 abbrev pub HoldsWhatItTook : Type 0
-HoldsWhatItTook = (wants : Wants) (w : Workspace) (pool : Pool) → HasLengths wants w → AreSizedFor wants.tile pool → held_bytes w pool ≡ sum (work_buffers wants pool.workers)
+HoldsWhatItTook = (wants : Wants) (w : Workspace) (pool : Pool) → HasLengths wants w → AreSizedFor wants.tile pool → held_bytes w pool ≡ sum (wanted_buffers wants pool.workers)
 
 -- the pixels of the largest tile, or 0
 abbrev pub pixels_of : Option ℕ → ℕ
@@ -63,8 +54,16 @@ pixels_of (Some n) = n
 
 -- with one block that is live before, all are within the bound
 abbrev pub StaysInBound : Type 0
-StaysInBound = (wants : Wants) (W : ℕ) → 2880 + sum (work_buffers wants W) ≤ buffer_bound wants.header_len (pixels_of wants.tile) W
+StaysInBound = (wants : Wants) (W : ℕ) → 2880 + sum (wanted_buffers wants W) ≤ buffer_bound wants.header_len (pixels_of wants.tile) W
+
+-- the bound is no smaller for a longer header and a larger tile
+abbrev pub BoundGrows : Type 0
+BoundGrows = (H H' n n' W : ℕ) → H ≤ H' → n ≤ n' → buffer_bound H n W ≤ buffer_bound H' n' W
 
 -- buffers that are within a limit together pass it with none of them
 abbrev pub PassesNoLimit : Type 0
 PassesNoLimit = (limit live : ℕ) (buffers : List ℕ) → live + sum buffers ≤ limit → first_past limit (piled live buffers) ≡ None
+
+-- the first buffer that passes a limit is, with what is live before it, no more than all of them together
+abbrev pub PassesWithinAll : Type 0
+PassesWithinAll = (limit live before asked : ℕ) (buffers : List ℕ) → first_past limit (piled live buffers) ≡ Some (before, asked) → (limit < before + asked) × (before + asked ≤ live + sum buffers)

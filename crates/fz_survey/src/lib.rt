@@ -14,7 +14,7 @@ mod tests;
 mod workspace;
 
 pub use checks::JobChecks;
-pub use laws::workspace_law;
+pub use laws::{survey_law, workspace_law};
 pub use survey::{Survey, survey_headers};
 pub use surveys::{survey_to_cut, survey_to_pack, survey_to_unpack};
 pub use workspace::{Wants, Workspace};

@@ -6,11 +6,13 @@ ghost use Rattle.fz_block.specs.Facts.{IsHeaderOf};
 ghost use Rattle.fz_block.specs.Header.{next_start_of};
 ghost use Rattle.fz_grid.specs.Region.{IsDivided};
 ghost use Rattle.fz_head.specs.JobChecks.{IsBox, data_end_of, data_fill, fill_in, is_after_empty};
+ghost use Rattle.fz_head.specs.Judges.{is_wanted as is_wanted_of};
 ghost use Rattle.fz_head.specs.Planned.{AreOptions};
-ghost use Rattle.fz_survey.specs.Judges.{AreChecks, is_wanted as is_wanted_of};
+ghost use Rattle.fz_head.specs.WorkBuffers.{pixels_of_tile};
+ghost use Rattle.fz_survey.specs.Judges.{AreChecks};
 ghost use Rattle.fz_survey.specs.Looks.{cut_look, hdu_look, look_of, pack_look, unpack_look};
 ghost use Rattle.fz_survey.specs.Reads.{IsWithinOne};
-ghost use Rattle.fz_survey.specs.Surveys.{pixels_of_tile, looks_at_fill as looks_at_fill_of, fill_places};
+ghost use Rattle.fz_survey.specs.Surveys.{looks_at_fill as looks_at_fill_of, fill_places};
 
 use crate::JobChecks;
 use crate::fill::check_fill;

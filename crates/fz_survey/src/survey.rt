@@ -1,8 +1,9 @@
 //! The walk over the HDUs of a file, with the checks of a job, and what it learns.
-ghost use Rattle.std.specs.Prelude.{◌≡◌, ◌⊎◌, ◌==◌, ◌&&◌, ◌||◌, ◌^◌, ◌<◌, ◌≤◌, max, Some, length as len, IfOk, IfSome};
+ghost use Rattle.std.specs.Prelude.{◌≡◌, ◌⊎◌, ◌==◌, ◌&&◌, ◌||◌, ◌+◌, ◌^◌, ◌<◌, ◌≤◌, max, Some, length as len, IfOk, IfSome};
 ghost use Rattle.fz_base.specs.Source.{LogsOnly};
-ghost use Rattle.fz_base.specs.Stop.{ReadsAndTakes, IsDefined};
+ghost use Rattle.fz_base.specs.Stop.{ReadsAndTakes, IsDefined, TellsLimit};
 ghost use Rattle.fz_base.specs.Takings.{TellsFirstPast, highest};
+ghost use Rattle.fz_base.specs.Told.{StaysTold};
 ghost use Rattle.fz_block.specs.Checks.{header_blocks_of};
 ghost use Rattle.fz_block.specs.Hdus.{size_at};
 ghost use Rattle.fz_block.specs.Header.{next_start_of};
@@ -53,7 +54,10 @@ pub fn survey_headers<S: Source>(
     ensures risen { meter.old.peak ≤ meter.new.peak }
     ensures first_past { IfSome (S.held source.old) (λ g. TellsFirstPast meter.old.limit (survey_takings checks.now meter.old.live g) result) }
     ensures peak { IfSome (S.held source.old) (λ g. meter.new.peak ≤ max meter.old.peak (highest (survey_takings checks.now meter.old.live g))) }
+    ensures most { TellsLimit meter.old.limit (meter.old.live + 737280) result }
+    ensures peak_most { meter.new.peak ≤ max meter.old.peak (meter.old.live + 737280) }
     ensures touched { IfSome (S.held source.old) (λ g. LogsOnly (IsWithinOne (survey_places checks.now g)) (S.ranges source.old) (S.ranges source.new)) }
+    ensures told { StaysTold (S.ranges source.old) (S.ranges source.new) }
     ensures held { S.held source.new ≡ S.held source.old }
     ensures attached { S.attached source.new ≡ S.attached source.old }
     ensures cause { ReadsAndTakes (S.tally source.old) (S.tally source.new) meter.old.limit result }
@@ -133,7 +137,10 @@ fn look_at<S: Source>(
     ensures risen { meter.old.peak ≤ meter.new.peak }
     ensures first_past { IfSome (S.held source.old) (λ g. TellsFirstPast meter.old.limit (header_taking meter.old.live (header_blocks_of hdu start g)) result) }
     ensures peak { IfSome (S.held source.old) (λ g. meter.new.peak ≤ max meter.old.peak (highest (header_taking meter.old.live (header_blocks_of hdu start g)))) }
+    ensures most { TellsLimit meter.old.limit (meter.old.live + 737280) result }
+    ensures peak_most { meter.new.peak ≤ max meter.old.peak (meter.old.live + 737280) }
     ensures touched { IfSome (S.held source.old) (λ g. LogsOnly (IsWithinOne (hdu_places checks.now hdu start g)) (S.ranges source.old) (S.ranges source.new)) }
+    ensures told { StaysTold (S.ranges source.old) (S.ranges source.new) }
     ensures held { S.held source.new ≡ S.held source.old }
     ensures attached { S.attached source.new ≡ S.attached source.old }
     ensures cause { ReadsAndTakes (S.tally source.old) (S.tally source.new) meter.old.limit result }

@@ -1,8 +1,9 @@
 //! The first look of each job.
-ghost use Rattle.std.specs.Prelude.{◌≡◌, ◌≤◌, max, Some, length as len, IfOk, IfSome, IsSome};
+ghost use Rattle.std.specs.Prelude.{◌≡◌, ◌+◌, ◌≤◌, max, Some, length as len, IfOk, IfSome, IsSome};
 ghost use Rattle.fz_base.specs.Source.{LogsOnly};
-ghost use Rattle.fz_base.specs.Stop.{ReadsAndTakes, IsDefined};
+ghost use Rattle.fz_base.specs.Stop.{ReadsAndTakes, IsDefined, TellsLimit};
 ghost use Rattle.fz_base.specs.Takings.{TellsFirstPast, highest};
+ghost use Rattle.fz_base.specs.Told.{StaysTold};
 ghost use Rattle.fz_head.specs.JobChecks.{IsBox};
 ghost use Rattle.fz_head.specs.Planned.{AreOptions};
 ghost use Rattle.fz_survey.specs.Reads.{IsWithinOne};
@@ -35,7 +36,10 @@ pub fn survey_to_pack<S: Source>(
     ensures risen { meter.old.peak ≤ meter.new.peak }
     ensures first_past { IfSome (S.held source.old) (λ g. TellsFirstPast meter.old.limit (survey_takings (Pack options.now) meter.old.live g) result) }
     ensures peak { IfSome (S.held source.old) (λ g. meter.new.peak ≤ max meter.old.peak (highest (survey_takings (Pack options.now) meter.old.live g))) }
+    ensures most { TellsLimit meter.old.limit (meter.old.live + 737280) result }
+    ensures peak_most { meter.new.peak ≤ max meter.old.peak (meter.old.live + 737280) }
     ensures touched { IfSome (S.held source.old) (λ g. LogsOnly (IsWithinOne (survey_places (Pack options.now) g)) (S.ranges source.old) (S.ranges source.new)) }
+    ensures told { StaysTold (S.ranges source.old) (S.ranges source.new) }
     ensures held { S.held source.new ≡ S.held source.old }
     ensures attached { S.attached source.new ≡ S.attached source.old }
     ensures cause { ReadsAndTakes (S.tally source.old) (S.tally source.new) meter.old.limit result }
@@ -61,7 +65,10 @@ pub fn survey_to_unpack<S: Source>(
     ensures risen { meter.old.peak ≤ meter.new.peak }
     ensures first_past { IfSome (S.held source.old) (λ g. TellsFirstPast meter.old.limit (survey_takings Unpack meter.old.live g) result) }
     ensures peak { IfSome (S.held source.old) (λ g. meter.new.peak ≤ max meter.old.peak (highest (survey_takings Unpack meter.old.live g))) }
+    ensures most { TellsLimit meter.old.limit (meter.old.live + 737280) result }
+    ensures peak_most { meter.new.peak ≤ max meter.old.peak (meter.old.live + 737280) }
     ensures touched { IfSome (S.held source.old) (λ g. LogsOnly (IsWithinOne (survey_places Unpack g)) (S.ranges source.old) (S.ranges source.new)) }
+    ensures told { StaysTold (S.ranges source.old) (S.ranges source.new) }
     ensures held { S.held source.new ≡ S.held source.old }
     ensures attached { S.attached source.new ≡ S.attached source.old }
     ensures cause { ReadsAndTakes (S.tally source.old) (S.tally source.new) meter.old.limit result }
@@ -93,7 +100,10 @@ pub fn survey_to_cut<S: Source>(
     ensures risen { meter.old.peak ≤ meter.new.peak }
     ensures first_past { IfSome (S.held source.old) (λ g. TellsFirstPast meter.old.limit (survey_takings (Cut wanted region.now) meter.old.live g) result) }
     ensures peak { IfSome (S.held source.old) (λ g. meter.new.peak ≤ max meter.old.peak (highest (survey_takings (Cut wanted region.now) meter.old.live g))) }
+    ensures most { TellsLimit meter.old.limit (meter.old.live + 737280) result }
+    ensures peak_most { meter.new.peak ≤ max meter.old.peak (meter.old.live + 737280) }
     ensures touched { IfSome (S.held source.old) (λ g. LogsOnly (IsWithinOne (survey_places (Cut wanted region.now) g)) (S.ranges source.old) (S.ranges source.new)) }
+    ensures told { StaysTold (S.ranges source.old) (S.ranges source.new) }
     ensures held { S.held source.new ≡ S.held source.old }
     ensures attached { S.attached source.new ≡ S.attached source.old }
     ensures cause { ReadsAndTakes (S.tally source.old) (S.tally source.new) meter.old.limit result }

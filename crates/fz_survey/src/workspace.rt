@@ -2,9 +2,10 @@
 ghost use Rattle.std.specs.Prelude.{◌≡◌, ◌+◌, ◌*◌, ◌≤◌, [], ◌∷◌, ◌++◌, Some, sum, length as len, IfOk, OnOk, OnErr};
 ghost use Rattle.fz_base.specs.Meter.{handed_back};
 ghost use Rattle.fz_base.specs.JobBuffers.{slots_buffers};
+ghost use Rattle.fz_head.specs.WorkBuffers.{tile_buffers, translated_buffers};
 ghost use Rattle.fz_pool.specs.Window.{IsEmpty};
 ghost use Rattle.fz_survey.specs.Takes.{Takes};
-ghost use Rattle.fz_survey.specs.Workspace.{HasLengths, copy_len, held_bytes, tile_buffers, translated_buffers, window_for, work_buffers};
+ghost use Rattle.fz_survey.specs.Workspace.{HasLengths, copy_len, held_bytes, wanted_buffers, window_for};
 
 use fz_base::{Bytes, Meter, Short};
 use fz_block::BLOCK_LEN;
@@ -42,7 +43,7 @@ impl Workspace {
     /// hands all back, and leaves the window empty.
     pub fn take(meter: &mut Meter, window: &mut Window, wants: &Wants) -> Result<Workspace, Short>
         requires empty { IsEmpty window.old }
-        ensures takings { Takes (work_buffers wants.now window.old.workers) meter.old meter.new result }
+        ensures takings { Takes (wanted_buffers wants.now window.old.workers) meter.old meter.new result }
         ensures lengths { IfOk result (HasLengths wants.now) }
         ensures filled { OnOk result (window.new ≡ window_for window.old.workers wants.now.tile) }
         ensures unfilled { OnErr result (window.new ≡ window.old) }

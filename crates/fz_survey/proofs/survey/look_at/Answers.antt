@@ -1,20 +1,33 @@
 -- The header of the HDU, and then what the job says of it.
-use Rattle.std.proofs.Common.{ℕ, ◌≤◌, max, List, Option, Result, IfSome, sym, ap, subst}
+use Rattle.std.proofs.Common.{◌≡◌, ℕ, ◌+◌, ◌≤◌, max, List, Option, Result, Err, IfSome, sym, ap, subst, rules}
 use Rattle.fz_base.specs.Meter.{Gauge}
-use Rattle.fz_base.specs.Stop.{IsDefined}
+use Rattle.fz_base.specs.Stop.{IsDefined, TellsLimit}
 use Rattle.fz_base.specs.Takings.{highest}
 use Rattle.fz_base.specs.declared.failure.Stop.{Stop}
 use Rattle.fz_block.specs.Checks.{header_blocks_of}
+use Rattle.fz_block.specs.declared.next.ReadHeader.{ReadHeader}
 use Rattle.fz_block.specs.Takings.{header_taking}
 use Rattle.fz_survey.specs.Looks.{hdu_look, looked}
 use Rattle.fz_survey.specs.declared.look.Look.{Look}
+use Rattle.fz_survey.specs.declared.look.Looked.{Looked}
 use Rattle.fz_survey.proofs.Here.{first_axes}
-use Rattle.fz_survey.proofs.Looked.{answered_look, looked_after, reading_tells, header_places, both_places, after_by_number}
+use Rattle.fz_survey.proofs.Kept.{more_told, both_told}
+use Rattle.fz_survey.proofs.Looked.{answered_look, looked_after, reading_tells, reading_passes_none, limit_told, header_places, both_places, after_by_number}
 use Rattle.fz_survey.proofs.survey.look_at.Goals as goal
 
 pub returns-in_err-read-clause-touched : goal.returns-in_err-read-clause-touched
 returns-in_err-read-clause-touched g c =
     header_places (g.S.Source.held c.args.source.now) c.args.checks.now c.args.hdu c.args.start (g.S.Source.ranges c.args.source.now) (g.S.Source.ranges c.header_at.new.source) c.header_at.ensures.touched
+
+pub returns-in_err-read-clause-most : goal.returns-in_err-read-clause-most
+returns-in_err-read-clause-most g c =
+    let stopped : c.from_residual.result ≡ Err c.in_err-read.field-0.0 = search rules in
+    subst (λ (r : Result Looked Stop). TellsLimit c.args.meter.now.limit (c.args.meter.now.live + 737280) r) (sym stopped)
+    (limit_told ReadHeader Looked c.args.meter.now.limit (c.args.meter.now.live + 737280) c.in_err-read.field-0.0 c.in_err-read.ensures.limit)
+
+pub returns-in-Err-clause-most : goal.returns-in-Err-clause-most
+returns-in-Err-clause-most g c =
+    reading_passes_none c.args.meter.now.limit (c.args.meter.now.live + 737280) (g.S.Source.tally c.header_at.new.source) (g.S.Source.tally c.check_hdu-answer.new.source) _ c.in-Err.ensures.cause.stop
 
 pub check_hdu-answer-requires-clause-after : goal.check_hdu-answer-requires-clause-after
 check_hdu-answer-requires-clause-after g c =
@@ -61,3 +74,18 @@ returns-in-Err-clause-first_past g c =
 pub returns-in-Ok-clause-empty : goal.returns-in-Ok-clause-empty
 returns-in-Ok-clause-empty g c =
     first_axes (g.S.Source.held c.args.source.now) c.args.hdu c.args.start c.in_ok-read.read.bytes c.in_ok-read.read.facts c.in_ok-read.ensures.facts.0 c.in_ok-read.ensures.bytes
+
+pub returns-in_err-read-clause-told : goal.returns-in_err-read-clause-told
+returns-in_err-read-clause-told g c = more_told c.header_at.ensures.log.0 (g.S.Source.ranges c.args.source.now) (g.S.Source.ranges c.header_at.new.source) c.header_at.ensures.log.2
+
+pub returns-in-Ok-clause-told : goal.returns-in-Ok-clause-told
+returns-in-Ok-clause-told g c =
+    both_told (g.S.Source.ranges c.args.source.now) (g.S.Source.ranges c.header_at.new.source) (g.S.Source.ranges c.check_hdu-answer.new.source)
+    (more_told c.header_at.ensures.log.0 (g.S.Source.ranges c.args.source.now) (g.S.Source.ranges c.header_at.new.source) c.header_at.ensures.log.2)
+    (more_told c.check_hdu-answer.ensures.log.0 (g.S.Source.ranges c.header_at.new.source) (g.S.Source.ranges c.check_hdu-answer.new.source) c.check_hdu-answer.ensures.log.2)
+
+pub returns-in-Err-clause-told : goal.returns-in-Err-clause-told
+returns-in-Err-clause-told g c =
+    both_told (g.S.Source.ranges c.args.source.now) (g.S.Source.ranges c.header_at.new.source) (g.S.Source.ranges c.check_hdu-answer.new.source)
+    (more_told c.header_at.ensures.log.0 (g.S.Source.ranges c.args.source.now) (g.S.Source.ranges c.header_at.new.source) c.header_at.ensures.log.2)
+    (more_told c.check_hdu-answer.ensures.log.0 (g.S.Source.ranges c.header_at.new.source) (g.S.Source.ranges c.check_hdu-answer.new.source) c.check_hdu-answer.ensures.log.2)

@@ -3,7 +3,7 @@ use Rattle.std.proofs.Common.{◌≡◌, ◌≢◌, ℕ, ◌+◌, ◌<◌, ◌�
 use Rattle.std.specs.Prelude.{◌||◌}
 use Rattle.fz_base.specs.Refusal.{refusal}
 use Rattle.fz_base.specs.Source.{HoldsLength, LogsOnly}
-use Rattle.fz_base.specs.Stop.{IsDefined, StoppedTaking}
+use Rattle.fz_base.specs.Stop.{IsDefined, StoppedTaking, TellsLimit}
 use Rattle.fz_base.specs.Takings.{first_past, highest, TellsFirstPast}
 use Rattle.fz_base.specs.declared.fault.Place.TheVariants.{Byte}
 use Rattle.fz_base.specs.declared.kind.Kind.TheVariants.{Limit}
@@ -18,6 +18,8 @@ use Rattle.fz_survey.specs.Reads.{IsWithinOne}
 use Rattle.fz_survey.specs.Surveys.{hdu_places, surveyed, survey_takings}
 use Rattle.fz_survey.specs.declared.look.Looked.{Looked}
 use Rattle.fz_survey.specs.declared.survey.Survey.{Survey}
+use Rattle.fz_survey.proofs.Kept.{both_told}
+use Rattle.fz_survey.proofs.Looked.{limit_told}
 use Rattle.fz_survey.proofs.Walking.{Begun, IsAt, walk_begins, touched_more, peak_more, exact_stops, past_stops, exact_ends, past_ends, walk_next, exact_too_long, past_too_long, moved, empty_first, empty_next, not_at_end, not_stopped}
 use Rattle.fz_survey.proofs.survey.survey_headers.Goals as goal
 
@@ -25,11 +27,13 @@ pub loop-hdu-init : goal.loop-hdu-init
 loop-hdu-init g c = record {
   held = refl;
   attached = refl;
+  told = λ t. t;
   tally = refl;
   block = c.requires.block;
   live = refl;
   limit = refl;
   risen = omega arith;
+  most = omega arith;
   within = inr (refl, refl);
   first = λ e. refl;
   empty = empty_first (g.S.Source.held c.args.source.now);
@@ -79,6 +83,23 @@ returns-in_err-found-clause-peak g c =
     c.args.meter.now.limit c.loop-hdu.meter.limit c.args.meter.now.live c.loop-hdu.meter.live c.loop-hdu.invariant.held c.loop-hdu.invariant.limit c.loop-hdu.invariant.live c.look_at.ensures.peak in
     peak_more b c.loop-hdu.hdu c.loop-hdu.start c.loop-hdu.meter.peak (g.S.Source.ranges c.loop-hdu.source) c.loop-hdu.seen held c.look_at.new.meter.peak c.loop-hdu.invariant.walked few low
 
+pub returns-in_err-found-clause-most : goal.returns-in_err-found-clause-most
+returns-in_err-found-clause-most g c =
+    let limit : ℕ = c.args.meter.now.limit in
+    let most : ℕ = c.args.meter.now.live + 737280 in
+    let stopped : c.from_residual.result ≡ Err c.in_err-found.field-0.0 = search rules in
+    let there : TellsLimit {X = Looked} c.loop-hdu.meter.limit (c.loop-hdu.meter.live + 737280) (Err c.in_err-found.field-0.0) = c.in_err-found.ensures.most in
+    let here : TellsLimit {X = Looked} limit most (Err c.in_err-found.field-0.0) =
+    subst (λ (n : ℕ). TellsLimit {X = Looked} n most (Err c.in_err-found.field-0.0)) c.loop-hdu.invariant.limit
+    (subst (λ (n : ℕ). TellsLimit {X = Looked} c.loop-hdu.meter.limit (n + 737280) (Err c.in_err-found.field-0.0)) c.loop-hdu.invariant.live there) in
+    subst (λ (r : Result Survey Stop). TellsLimit limit most r) (sym stopped) (limit_told Looked Survey limit most c.in_err-found.field-0.0 here)
+
+pub returns-in_err-found-clause-peak_most : goal.returns-in_err-found-clause-peak_most
+returns-in_err-found-clause-peak_most g c = omega (arith, c.loop-hdu.invariant.most, c.look_at.ensures.peak_most, c.loop-hdu.invariant.live)
+
+pub returns-then-is_last-clause-peak_most : goal.returns-then-is_last-clause-peak_most
+returns-then-is_last-clause-peak_most g c = omega (arith, c.loop-hdu.invariant.most, c.look_at.ensures.peak_most, c.loop-hdu.invariant.live)
+
 pub returns-in_err-found-clause-touched : goal.returns-in_err-found-clause-touched
 returns-in_err-found-clause-touched g c =
     let held : Option (List ℕ) = g.S.Source.held c.args.source.now in
@@ -88,6 +109,14 @@ returns-in_err-found-clause-touched g c =
     subst (λ (h : Option (List ℕ)). IfSome h (λ f. LogsOnly (IsWithinOne (hdu_places c.args.checks.now c.loop-hdu.hdu c.loop-hdu.start f)) (g.S.Source.ranges c.loop-hdu.source) (g.S.Source.ranges c.look_at.new.source)))
     c.loop-hdu.invariant.held c.look_at.ensures.touched in
     touched_more b c.loop-hdu.hdu c.loop-hdu.start c.loop-hdu.meter.peak (g.S.Source.ranges c.loop-hdu.source) c.loop-hdu.seen held (g.S.Source.ranges c.look_at.new.source) c.loop-hdu.invariant.walked few logs
+
+pub returns-in_err-found-clause-told : goal.returns-in_err-found-clause-told
+returns-in_err-found-clause-told g c =
+    both_told (g.S.Source.ranges c.args.source.now) (g.S.Source.ranges c.loop-hdu.source) (g.S.Source.ranges c.look_at.new.source) c.loop-hdu.invariant.told c.look_at.ensures.told
+
+pub returns-then-is_last-clause-told : goal.returns-then-is_last-clause-told
+returns-then-is_last-clause-told g c =
+    both_told (g.S.Source.ranges c.args.source.now) (g.S.Source.ranges c.loop-hdu.source) (g.S.Source.ranges c.look_at.new.source) c.loop-hdu.invariant.told c.look_at.ensures.told
 
 pub returns-then-is_last-clause-peak : goal.returns-then-is_last-clause-peak
 returns-then-is_last-clause-peak g c =
@@ -157,11 +186,13 @@ loop-hdu-preserved g c =
     record {
       held = search rules;
       attached = search rules;
+      told = both_told (g.S.Source.ranges c.args.source.now) (g.S.Source.ranges c.loop-hdu.source) (g.S.Source.ranges c.look_at.new.source) c.loop-hdu.invariant.told c.look_at.ensures.told;
       tally = search rules;
       block = search rules;
       live = search rules;
       limit = search rules;
       risen = omega (arith, c.loop-hdu.invariant.risen, c.look_at.ensures.risen);
+      most = omega (arith, c.loop-hdu.invariant.most, c.look_at.ensures.peak_most, c.loop-hdu.invariant.live);
       within = inl (omega (arith, c.in_ok-found.ensures.found.inside, c.next_start-start.ensures, more));
       first = λ e. absurd (omega (arith, e));
       empty = empty_next held c.loop-hdu.hdu c.loop-hdu.start c.in_ok-found.found.header.axes.n c.loop-hdu.invariant.first empty;

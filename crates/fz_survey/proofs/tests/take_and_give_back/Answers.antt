@@ -1,7 +1,7 @@
 -- What is handed back is what was taken.
 use Rattle.std.proofs.Common.{◌≡◌, refl, sym, ap, subst, arith, sum}
 use Rattle.fz_pool.specs.Window.{Pool}
-use Rattle.fz_survey.specs.Workspace.{AreSizedFor, window_for, work_buffers}
+use Rattle.fz_survey.specs.Workspace.{AreSizedFor, wanted_buffers, window_for}
 use Rattle.fz_survey.proofs.tests.take_and_give_back.Goals as goal
 
 pub give_back-requires : goal.give_back-requires
@@ -11,5 +11,5 @@ give_back-requires c =
     let workers : c.take.new.window.workers ≡ c.in_ok-window.window.workers = ap (λ (p : Pool). p.workers) filled in
     let held = c.workspace_law.ensures.held c.args.wants.now c.in-Ok.space c.take.new.window c.in-Ok.ensures.lengths sizes in
     let live = ap (λ g. g.live) c.in-Ok.ensures.takings.all.1 in
-    let same = ap (λ W. sum (work_buffers c.args.wants.now W)) workers in
+    let same = ap (λ W. sum (wanted_buffers c.args.wants.now W)) workers in
     omega (arith, held, live, same)
