@@ -5,7 +5,6 @@ pub mod Gathering
 pub mod Headers
 pub mod LoadedTiles
 pub mod TileTotals
-pub mod Writes
 pub mod EncodedTiles
 pub mod TableSums
 pub mod WholeTables

@@ -7,8 +7,9 @@ use Rattle.fz_grid.proofs.Ranges.{range_append}
 use Rattle.fz_base.specs.Sink.{written}
 use Rattle.fz_sum.specs.Pieces.{total_at}
 use Rattle.fz_tile.specs.TileCode.{TileCode, tile_code}
+use Rattle.fz_head.specs.Greatest.{greatest}
 use Rattle.fz_head.specs.PackedTable.{planned_row}
-use Rattle.fz_files.specs.Packed.{coded_count, greatest, heap_of, pixel_bits, rows_from, stored_count}
+use Rattle.fz_files.specs.Packed.{coded_count, heap_of, pixel_bits, rows_from, stored_count}
 use Rattle.fz_image.specs.Layout.{IsLayout, heap_at_of, rows_len_of}
 use Rattle.fz_image.specs.Progress.{IsWritten, no_progress, tiles_written, with_heap, with_rows, with_tile, with_tiles}
 use Rattle.fz_image.specs.Tiles.{AreCodesFrom, codes_from, tile_in, tiles_from}
@@ -17,7 +18,6 @@ use Rattle.fz_image.specs.declared.progress.Progress.{Progress}
 use Rattle.fz_image.proofs.Codes.{greatest_map, greatest_more, heap_append, heap_more, no_heap, no_rows, rows_append, rows_len}
 use Rattle.fz_image.proofs.Sizes.{pixel_bytes_small, rows_small}
 use Rattle.fz_image.proofs.TileTotals.{codes_append, codes_within}
-use Rattle.fz_image.proofs.Writes.{writes_apart}
 
 -- the total of joined lists
 abbrev pub Joins : Type 0
@@ -26,6 +26,10 @@ Joins = (at : ℕ) (a b : List ℕ) → total_at at (a ++ b) ≡ total_at at a +
 -- writes one after another
 abbrev pub WritesNext : Type 0
 WritesNext = (at : ℕ) (front back : List ℕ) (contents : Option (List ℕ)) → written (at + length front) back (written at front contents) ≡ written at (front ++ back) contents
+
+-- writes of which the first ends before the second begins
+abbrev pub WritesApart : Type 0
+WritesApart = (at from : ℕ) (x y : List ℕ) (contents : Option (List ℕ)) → at + length x ≤ from → written at x (written from y contents) ≡ written from y (written at x contents)
 
 -- no bytes add nothing
 no_total : (at : ℕ) → total_at at [] ≡ 0
@@ -117,9 +121,9 @@ progress_joined l cs es joins rows =
     λ i. record { tiles = tiles i; heap = heap i; coded = coded i; stored = stored i; sum = record { total = total i; count = counted i } }
 
 -- and the contents
-pub contents_joined : (l : Layout) (cs es : List TileCode) (before : Option (List ℕ)) → WritesNext → l.row_len ≡ planned_row l.plan → length cs + length es ≤ l.tiles →
+pub contents_joined : (l : Layout) (cs es : List TileCode) (before : Option (List ℕ)) → WritesNext → WritesApart → l.row_len ≡ planned_row l.plan → length cs + length es ≤ l.tiles →
     tiles_written l (with_tiles l no_progress cs) es (tiles_written l no_progress cs before) ≡ tiles_written l no_progress (cs ++ es) before
-contents_joined l cs es before next rows few =
+contents_joined l cs es before next swap rows few =
     let H : ℕ = heap_at_of l + 0 in
     let R : ℕ = l.rows_at + l.row_len * 0 in
     let h1 : List ℕ = heap_of cs in
@@ -135,16 +139,16 @@ contents_joined l cs es before next rows few =
     let apart : R + length r1 + length r2 ≤ H = omega (arith, mul-zero l.row_len, one, two, most, mul-add l.row_len (length cs) (length es)) in
     ap (λ n. written n h2 (written (l.rows_at + l.row_len * (0 + length cs)) r2 (written H h1 (written R r1 before)))) heap_place
     ∙ ap (λ n. written (H + length h1) h2 (written n r2 (written H h1 (written R r1 before)))) place
-    ∙ ap (written (H + length h1) h2) (writes_apart (R + length r1) H r2 h1 (written R r1 before) apart)
+    ∙ ap (written (H + length h1) h2) (swap (R + length r1) H r2 h1 (written R r1 before) apart)
     ∙ next H h1 h2 (written (R + length r1) r2 (written R r1 before))
     ∙ ap (written H (h1 ++ h2)) (next R r1 r2 before)
     ∙ (let heaps = heap_append cs es in let all = rows_append l.plan 0 cs es in λ i. written H (sym heaps i) (written R (sym all i) before))
 
 -- ---- the next tiles of an image
 
-pub more_written : (l : Layout) (held before c0 c1 : Option (List ℕ)) (w w' : Progress) (es : List TileCode) (count : ℕ) → Joins → WritesNext → IsLayout l → AreCodesFrom l w.tiles es → length es ≡ count → w.tiles + count ≤ l.tiles →
+pub more_written : (l : Layout) (held before c0 c1 : Option (List ℕ)) (w w' : Progress) (es : List TileCode) (count : ℕ) → Joins → WritesNext → WritesApart → IsLayout l → AreCodesFrom l w.tiles es → length es ≡ count → w.tiles + count ≤ l.tiles →
     IfSome held (λ file. es ≡ codes_from l file w.tiles count) → w' ≡ with_tiles l w es → c1 ≡ tiles_written l w es c0 → IsWritten l held before c0 w → IsWritten l held before c1 w'
-more_written l held before c0 c1 w w' es count joins next is each size few told progress contents was =
+more_written l held before c0 c1 w w' es count joins next swap is each size few told progress contents was =
     let at : w.tiles ≡ length was.codes = ap (λ (q : Progress). q.tiles) was.progress ∙ (let none : 0 + length was.codes ≡ length was.codes = omega arith in none) in
     let here : AreCodesFrom l (0 + length was.codes) es = subst (λ n. AreCodesFrom l n es) (at ∙ (let none : length was.codes ≡ 0 + length was.codes = omega arith in none)) each in
     let fits : length was.codes + length es ≤ l.tiles = omega (arith, at, size, few) in
@@ -154,7 +158,7 @@ more_written l held before c0 c1 w w' es count joins next is each size few told 
       each = codes_append l 0 was.codes es was.each here;
       some = omega (arith, all, fits);
       progress = progress ∙ ap (λ (q : Progress). with_tiles l q es) was.progress ∙ progress_joined l was.codes es joins is.row_len;
-      contents = contents ∙ (λ i. tiles_written l (was.progress i) es (was.contents i)) ∙ contents_joined l was.codes es before next is.row_len fits;
+      contents = contents ∙ (λ i. tiles_written l (was.progress i) es (was.contents i)) ∙ contents_joined l was.codes es before next swap is.row_len fits;
       told = told_joined held was.told told;
     }
   where

@@ -15,8 +15,9 @@ use Rattle.fz_tile.specs.declared.coded.Place2.TheVariants.{Coded, Stored}
 use Rattle.fz_head.specs.declared.plan.Plan.{Plan}
 use Rattle.fz_head.specs.declared.totals.Totals.{Totals}
 use Rattle.fz_head.specs.Conditions.{AreShort}
+use Rattle.fz_head.specs.Greatest.{greatest}
 use Rattle.fz_head.specs.PackedHeader.{packed_header, packed_with, sum_cards}
-use Rattle.fz_files.specs.Packed.{coded_count, greatest, heap_of, packed_data, rows_from, stored_count, table_header, with_sums}
+use Rattle.fz_files.specs.Packed.{coded_count, heap_of, packed_data, rows_from, stored_count, table_header, with_sums}
 use Rattle.fz_image.specs.Image.{datasum_put, sum_cards_put}
 use Rattle.fz_image.specs.Layout.{IsLayout, rows_len_of}
 use Rattle.fz_image.specs.Progress.{no_progress, with_tiles}

@@ -17,7 +17,10 @@ use Rattle.fz_image.proofs.Codes.{rows_len}
 use Rattle.fz_image.proofs.Progresses.{WritesNext}
 use Rattle.fz_image.proofs.Sizes.{pixel_bytes_small, rows_small}
 use Rattle.fz_image.proofs.TileTotals.{codes_within}
-use Rattle.fz_image.proofs.Writes.{writes_joined}
+
+-- a write before another, which begins where it ends, is one write of both
+abbrev pub WritesJoined : Type 0
+WritesJoined = (at from : ℕ) (x y : List ℕ) (contents : Option (List ℕ)) → from ≡ at + length x → written at x (written from y contents) ≡ written at (x ++ y) contents
 
 -- the rows, the heap, the fill and then the header are the table
 module _ (l : Layout) (codes : List TileCode) (head : List ℕ) (at : ℕ) (next : WritesNext) (is : IsLayout l) (count : length codes ≡ l.tiles) (place : l.rows_at ≡ at + length head) where
@@ -45,10 +48,10 @@ module _ (l : Layout) (codes : List TileCode) (head : List ℕ) (at : ℕ) (next
       ∙ ap (written (l.rows_at + length (R ++ H)) (replicate (whole_blocks_of (length (R ++ H)) - length (R ++ H)) 0)) first
       ∙ next l.rows_at (R ++ H) (replicate (whole_blocks_of (length (R ++ H)) - length (R ++ H)) 0) c0
 
-  table_put : (len : ℕ) (c0 c1 c2 c3 : Option (List ℕ)) → len ≡ length (R ++ H) → c1 ≡ tiles_written l no_progress codes c0 → c2 ≡ written (l.rows_at + len) (replicate (whole_blocks_of len - len) 0) c1 → c3 ≡ written at head c2 →
+  table_put : WritesJoined → (len : ℕ) (c0 c1 c2 c3 : Option (List ℕ)) → len ≡ length (R ++ H) → c1 ≡ tiles_written l no_progress codes c0 → c2 ≡ written (l.rows_at + len) (replicate (whole_blocks_of len - len) 0) c1 → c3 ≡ written at head c2 →
       c3 ≡ written at (head ++ packed_data l.plan codes) c0
-  table_put len c0 c1 c2 c3 size was now last =
-      last ∙ ap (written at head) (data_put len c0 c1 c2 size was now) ∙ writes_joined next at l.rows_at head (packed_data l.plan codes) c0 place
+  table_put joined len c0 c1 c2 c3 size was now last =
+      last ∙ ap (written at head) (data_put len c0 c1 c2 size was now) ∙ joined at l.rows_at head (packed_data l.plan codes) c0 place
 
   data_len : length (packed_data l.plan codes) ≡ whole_blocks_of (length (R ++ H))
   data_len =
@@ -56,12 +59,12 @@ module _ (l : Layout) (codes : List TileCode) (head : List ℕ) (at : ℕ) (next
       omega (arith, length-append (R ++ H) (replicate {A = ℕ} (whole_blocks_of (length (R ++ H)) - length (R ++ H)) 0), zeros)
 
 -- what stands in the sink after all writes
-pub holds_codes : (l : Layout) (sums : Bool) (cards : List (List ℕ)) (held c0 c1 c2 c3 : Option (List ℕ)) (w : Progress) (at end len : ℕ) (head : List ℕ) → WritesNext → IsLayout l → (was : IsWritten l held c0 c1 w) → w.tiles ≡ l.tiles →
+pub holds_codes : (l : Layout) (sums : Bool) (cards : List (List ℕ)) (held c0 c1 c2 c3 : Option (List ℕ)) (w : Progress) (at end len : ℕ) (head : List ℕ) → WritesNext → WritesJoined → IsLayout l → (was : IsWritten l held c0 c1 w) → w.tiles ≡ l.tiles →
     head ≡ header_bytes (with_sums sums (table_header l.plan cards was.codes) (packed_data l.plan was.codes)) → l.rows_at ≡ at + length head → len ≡ rows_len_of l + w.heap →
     c2 ≡ written (l.rows_at + len) (replicate (whole_blocks_of len - len) 0) c1 → c3 ≡ written at head c2 → end ≡ l.rows_at + whole_blocks_of len → IfSome held (λ file. HoldsCodes sums l cards (codes_from l file 0 l.tiles) at end c0 c3)
 unfolding packed_table
-holds_codes l sums cards None c0 c1 c2 c3 w at end len head next is was tiles head_is place len_is now last end_is = tt
-holds_codes l sums cards (Some file) c0 c1 c2 c3 w at end len head next is was tiles head_is place len_is now last end_is =
+holds_codes l sums cards None c0 c1 c2 c3 w at end len head next joined is was tiles head_is place len_is now last end_is = tt
+holds_codes l sums cards (Some file) c0 c1 c2 c3 w at end len head next joined is was tiles head_is place len_is now last end_is =
     let codes : List TileCode = was.codes in
     let number : w.tiles ≡ 0 + length codes = ap (λ (q : Progress). q.tiles) was.progress in
     let count : length codes ≡ l.tiles = omega (arith, number, tiles) in
@@ -69,7 +72,7 @@ holds_codes l sums cards (Some file) c0 c1 c2 c3 w at end len head next is was t
     let size : len ≡ length (rows_from l.plan 0 codes ++ heap_of codes) = omega (arith, len_is, heap, both l codes head at next is count place) in
     let all : codes ≡ codes_from l file 0 l.tiles = was.told ∙ ap (codes_from l file 0) count in
     let bytes : head ++ packed_data l.plan codes ≡ packed_table sums l.plan cards codes = ap (λ t. t ++ packed_data l.plan codes) head_is in
-    let put = table_put l codes head at next is count place len c0 c1 c2 c3 size was.contents now last in
+    let put = table_put l codes head at next is count place joined len c0 c1 c2 c3 size was.contents now last in
     let long : length (head ++ packed_data l.plan codes) ≡ length head + whole_blocks_of (length (rows_from l.plan 0 codes ++ heap_of codes)) =
     length-append head (packed_data l.plan codes) ∙ ap (λ n. length head + n) (data_len l codes head at next is count place) in
     record {

@@ -1,11 +1,12 @@
 //! The pixels of a tile, read from the image.
 ghost use Rattle.std.specs.Prelude.{ℕ, ◌≡◌, ◌+◌, ◌*◌, ◌<◌, ◌≤◌, ◌^◌, ◌++◌, Some, take, drop, length as len, OnOk, IfSome};
+ghost use Rattle.fz_base.specs.Stop.{OnlyReads};
+ghost use Rattle.fz_base.specs.Told.{StaysTold};
 ghost use Rattle.fz_grid.specs.Arrays.{product};
 ghost use Rattle.fz_grid.specs.Region.{IsShape, IsWithin, lengths_of, places_of, region_corner, region_lengths};
-ghost use Rattle.fz_image.specs.Stops.{OnlyReads};
 ghost use Rattle.fz_image.specs.Tiles.{AreBelow, pixels_at_places};
 
-use fz_base::{Source, Stop};
+use fz_base::{Source, Stop, log_law};
 use fz_block::Axes;
 use fz_grid::{Region, runs};
 
@@ -29,6 +30,7 @@ pub(crate) fn read_region<S: Source>(
     ensures below { AreBelow (product (lengths_of shape.now)) (places_of (lengths_of shape.now) (region_corner region.now) (region_lengths region.now)) }
     ensures len { len into.new ≡ len into.old }
     ensures held { S.held source.new ≡ S.held source.old }
+    ensures told_ranges { StaysTold (S.ranges source.old) (S.ranges source.new) }
     ensures attached { S.attached source.new ≡ S.attached source.old }
     ensures cause { OnlyReads (S.tally source.old) (S.tally source.new) result }
 {
@@ -56,9 +58,11 @@ fn read_part<S: Source>(
     ensures part { OnOk result (IfSome (S.held source.old) (λ g. take (at + count) into.new ≡ take at into.old ++ take count (drop from g))) }
     ensures len { len into.new ≡ len into.old }
     ensures held { S.held source.new ≡ S.held source.old }
+    ensures told_ranges { StaysTold (S.ranges source.old) (S.ranges source.new) }
     ensures attached { S.attached source.new ≡ S.attached source.old }
     ensures cause { OnlyReads (S.tally source.old) (S.tally source.new) result }
 {
+    log_law();
     let part = &mut into[at as usize..(at + count) as usize];
     source.read_at(from, part).map_err(Stop::reading)
 }

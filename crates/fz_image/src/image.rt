@@ -3,7 +3,8 @@ ghost use Rattle.std.specs.Prelude.{ℕ, ◌≡◌, ◌+◌, ◌-◌, ◌*◌, �
 ghost use Rattle.fz_base.specs.FirstByte.{StaysShut};
 ghost use Rattle.fz_base.specs.Sink.{written};
 ghost use Rattle.fz_base.specs.Source.{Reads};
-ghost use Rattle.fz_base.specs.Stop.{Writes};
+ghost use Rattle.fz_base.specs.Stop.{CodesAndWrites, Writes};
+ghost use Rattle.fz_base.specs.Told.{StaysTold};
 ghost use Rattle.fz_block.specs.Cards.{card_at};
 ghost use Rattle.fz_block.specs.Checks.{is_set};
 ghost use Rattle.fz_block.specs.Facts.{IsHeaderOf};
@@ -19,7 +20,6 @@ ghost use Rattle.fz_pool.specs.Window.{slot_sizes};
 ghost use Rattle.fz_image.specs.Image.{HoldsCodes, HoldsTable};
 ghost use Rattle.fz_image.specs.Layout.{HasPixels, IsLayout};
 ghost use Rattle.fz_image.specs.Progress.{IsWritten};
-ghost use Rattle.fz_image.specs.Stops.{CodesAndWrites};
 ghost use Rattle.fz_image.specs.Tiles.{HasSlotsFor, HaveRoom, codes_from};
 
 use crate::header::make_header;
@@ -67,11 +67,13 @@ pub fn write_image<R: Threads + Sync, S: Source, K: Sink, G: Gate>(
     ensures table { IfOk result (λ end. IfSome (S.held source.old) (λ g. HoldsTable sums plan.now header.now g at end (K.contents sink.old) (K.contents sink.new))) }
     ensures end { IfOk result (λ end. (at ≤ end) × (end ≤ at + 2 ^ 45)) }
     ensures shut { StaysShut (K.contents sink.old) (K.contents sink.new) }
+    ensures told_contents { StaysTold (K.contents sink.old) (K.contents sink.new) }
     ensures made { len made.new ≡ len made.old }
     ensures copy { len copy.new ≡ len copy.old }
     ensures sizes { slot_sizes window.new.slots ≡ slot_sizes window.old.slots }
     ensures workers { window.new.workers ≡ window.old.workers }
     ensures held { S.held source.new ≡ S.held source.old }
+    ensures told_ranges { StaysTold (S.ranges source.old) (S.ranges source.new) }
     ensures attached { S.attached source.new ≡ S.attached source.old }
     ensures created { K.created sink.new ≡ K.created sink.old }
     ensures cause { CodesAndWrites (S.tally source.old) (S.tally source.new) (K.tally sink.old) (K.tally sink.new) result }
@@ -117,11 +119,13 @@ fn write_table<R: Threads + Sync, S: Source, K: Sink, G: Gate>(
     ensures table { IfOk result (λ end. IfSome (S.held source.old) (λ g. HoldsCodes sums layout.now (cards_of buf.now) (codes_from layout.now g 0 layout.now.tiles) at end (K.contents sink.old) (K.contents sink.new))) }
     ensures end { IfOk result (λ end. (layout.now.rows_at ≤ end) × (end ≤ layout.now.rows_at + 2 ^ 44)) }
     ensures shut { StaysShut (K.contents sink.old) (K.contents sink.new) }
+    ensures told_contents { StaysTold (K.contents sink.old) (K.contents sink.new) }
     ensures made { len made.new ≡ len made.old }
     ensures copy { len copy.new ≡ len copy.old }
     ensures sizes { slot_sizes window.new.slots ≡ slot_sizes window.old.slots }
     ensures workers { window.new.workers ≡ window.old.workers }
     ensures held { S.held source.new ≡ S.held source.old }
+    ensures told_ranges { StaysTold (S.ranges source.old) (S.ranges source.new) }
     ensures attached { S.attached source.new ≡ S.attached source.old }
     ensures created { K.created sink.new ≡ K.created sink.old }
     ensures cause { CodesAndWrites (S.tally source.old) (S.tally source.new) (K.tally sink.old) (K.tally sink.new) result }
@@ -152,10 +156,12 @@ fn write_tiles<R: Threads + Sync, S: Source, K: Sink, G: Gate>(
     requires copy { 4096 ≤ len copy.old }
     ensures written { IfOk result (λ w. IsWritten layout.now (S.held source.old) (K.contents sink.old) (K.contents sink.new) w × (w.tiles ≡ layout.now.tiles)) }
     ensures shut { StaysShut (K.contents sink.old) (K.contents sink.new) }
+    ensures told_contents { StaysTold (K.contents sink.old) (K.contents sink.new) }
     ensures copy { len copy.new ≡ len copy.old }
     ensures sizes { slot_sizes window.new.slots ≡ slot_sizes window.old.slots }
     ensures workers { window.new.workers ≡ window.old.workers }
     ensures held { S.held source.new ≡ S.held source.old }
+    ensures told_ranges { StaysTold (S.ranges source.old) (S.ranges source.new) }
     ensures attached { S.attached source.new ≡ S.attached source.old }
     ensures created { K.created sink.new ≡ K.created sink.old }
     ensures cause { CodesAndWrites (S.tally source.old) (S.tally source.new) (K.tally sink.old) (K.tally sink.new) result }
@@ -206,6 +212,7 @@ fn write_fill<K: Sink>(
     ensures filled { OnOk result (K.contents sink.new ≡ written (data_at + data_len) (replicate (whole_blocks_of data_len - data_len) 0) (K.contents sink.old)) }
     ensures end { IfOk result (λ end. end ≡ data_at + whole_blocks_of data_len) }
     ensures shut { StaysShut (K.contents sink.old) (K.contents sink.new) }
+    ensures told_contents { StaysTold (K.contents sink.old) (K.contents sink.new) }
     ensures len { len zeros.new ≡ len zeros.old }
     ensures created { K.created sink.new ≡ K.created sink.old }
     ensures cause { Writes (K.tally sink.old) (K.tally sink.new) result }

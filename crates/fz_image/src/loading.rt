@@ -1,12 +1,13 @@
 //! The tiles of a round, read into the slots of the window.
 ghost use Rattle.std.specs.Prelude.{◌≡◌, ◌+◌, ◌*◌, ◌/◌, ◌<◌, ◌≤◌, ◌^◌, unsigned_abs, take, length as len, OnOk};
+ghost use Rattle.fz_base.specs.Stop.{OnlyReads};
+ghost use Rattle.fz_base.specs.Told.{StaysTold};
 ghost use Rattle.fz_pool.specs.Window.{IsPut, slot_size, slot_sizes};
 ghost use Rattle.fz_pool.specs.declared.slot.Slot.{Slot as SlotOf};
 ghost use Rattle.fz_tile.specs.Pixels.{HoldPixels, IsBitpix, place_count as place_count_of};
 ghost use Rattle.fz_tile.specs.Plain.{stored_pixels};
 ghost use Rattle.fz_tile.specs.declared.coded.Place2.TheVariants.{Stored};
 ghost use Rattle.fz_image.specs.Layout.{HasPixels, IsLayout};
-ghost use Rattle.fz_image.specs.Stops.{OnlyReads};
 ghost use Rattle.fz_image.specs.Tiles.{AreLoaded, HasRoom, HaveRoom, HoldTile, IsLoaded, pixels_of};
 
 use crate::gather::read_region;
@@ -33,6 +34,7 @@ pub(crate) fn load_round<S: Source>(
     ensures sizes { slot_sizes window.new.slots ≡ slot_sizes window.old.slots }
     ensures workers { window.new.workers ≡ window.old.workers }
     ensures held { S.held source.new ≡ S.held source.old }
+    ensures told_ranges { StaysTold (S.ranges source.old) (S.ranges source.new) }
     ensures attached { S.attached source.new ≡ S.attached source.old }
     ensures cause { OnlyReads (S.tally source.old) (S.tally source.new) result }
 {
@@ -60,6 +62,7 @@ fn load_next<S: Source>(
     ensures sizes { slot_sizes window.new.slots ≡ slot_sizes window.old.slots }
     ensures workers { window.new.workers ≡ window.old.workers }
     ensures held { S.held source.new ≡ S.held source.old }
+    ensures told_ranges { StaysTold (S.ranges source.old) (S.ranges source.new) }
     ensures attached { S.attached source.new ≡ S.attached source.old }
     ensures cause { OnlyReads (S.tally source.old) (S.tally source.new) result }
 {
@@ -82,6 +85,7 @@ fn load_slot<S: Source>(
     ensures loaded { OnOk result (IsLoaded layout.now (S.held source.old) tile slot.new) }
     ensures size { slot_size slot.new ≡ slot_size slot.old }
     ensures held { S.held source.new ≡ S.held source.old }
+    ensures told_ranges { StaysTold (S.ranges source.old) (S.ranges source.new) }
     ensures attached { S.attached source.new ≡ S.attached source.old }
     ensures cause { OnlyReads (S.tally source.old) (S.tally source.new) result }
 {
@@ -107,6 +111,7 @@ fn load_tile<S: Source>(
     ensures numbers { len numbers.new ≡ len numbers.old }
     ensures code { len code.new ≡ len code.old }
     ensures held { S.held source.new ≡ S.held source.old }
+    ensures told_ranges { StaysTold (S.ranges source.old) (S.ranges source.new) }
     ensures attached { S.attached source.new ≡ S.attached source.old }
     ensures cause { OnlyReads (S.tally source.old) (S.tally source.new) result }
 {

@@ -2,13 +2,13 @@
 ghost use Rattle.std.specs.Prelude.{ℕ, ◌≡◌, ◌+◌, ◌*◌, ◌^◌, ◌<◌, ◌≤◌, IsTrue, List, Option, length as len, OnOk};
 ghost use Rattle.fz_base.specs.FirstByte.{StaysShut};
 ghost use Rattle.fz_base.specs.Sink.{written};
-ghost use Rattle.fz_base.specs.Stop.{Writes};
+ghost use Rattle.fz_base.specs.Stop.{Codes, CodesAndWrites, Writes};
+ghost use Rattle.fz_base.specs.Told.{StaysTold};
 ghost use Rattle.fz_files.specs.Packed.{heap_of};
 ghost use Rattle.fz_pool.specs.Round.{coded_tiles};
 ghost use Rattle.fz_pool.specs.Window.{slot_sizes};
 ghost use Rattle.fz_image.specs.Layout.{HasPixels, IsLayout, heap_at_of};
 ghost use Rattle.fz_image.specs.Progress.{AreNext, IsWritten, tiles_written, with_heap, with_tiles};
-ghost use Rattle.fz_image.specs.Stops.{Codes, CodesAndWrites};
 ghost use Rattle.fz_image.specs.Tiles.{AreEncodedTiles, HaveRoom};
 
 use crate::descriptors::put_rows;
@@ -43,10 +43,12 @@ pub(crate) fn write_round<R: Threads + Sync, S: Source, K: Sink, G: Gate>(
     ensures more { OnOk result ((before : Option (List ℕ)) → IsWritten layout.now (S.held source.old) before (K.contents sink.old) progress.old → IsWritten layout.now (S.held source.old) before (K.contents sink.new) progress.new) }
     ensures grown { OnOk result (progress.old.tiles < progress.new.tiles) }
     ensures shut { StaysShut (K.contents sink.old) (K.contents sink.new) }
+    ensures told_contents { StaysTold (K.contents sink.old) (K.contents sink.new) }
     ensures sizes { slot_sizes window.new.slots ≡ slot_sizes window.old.slots }
     ensures workers { window.new.workers ≡ window.old.workers }
     ensures rows { len rows.new ≡ len rows.old }
     ensures held { S.held source.new ≡ S.held source.old }
+    ensures told_ranges { StaysTold (S.ranges source.old) (S.ranges source.new) }
     ensures attached { S.attached source.new ≡ S.attached source.old }
     ensures created { K.created sink.new ≡ K.created sink.old }
     ensures cause { CodesAndWrites (S.tally source.old) (S.tally source.new) (K.tally sink.old) (K.tally sink.new) result }
@@ -77,6 +79,7 @@ fn encode_tiles<R: Threads + Sync, S: Source, G: Gate>(
     ensures sizes { slot_sizes window.new.slots ≡ slot_sizes window.old.slots }
     ensures workers { window.new.workers ≡ window.old.workers }
     ensures held { S.held source.new ≡ S.held source.old }
+    ensures told_ranges { StaysTold (S.ranges source.old) (S.ranges source.new) }
     ensures attached { S.attached source.new ≡ S.attached source.old }
     ensures cause { Codes (S.tally source.old) (S.tally source.new) result }
 {
@@ -105,6 +108,7 @@ fn write_tiles<K: Sink>(
     ensures progress { OnOk result (progress.new ≡ with_tiles layout.now progress.old (coded_tiles count window.now.slots)) }
     ensures contents { OnOk result (K.contents sink.new ≡ tiles_written layout.now progress.old (coded_tiles count window.now.slots) (K.contents sink.old)) }
     ensures shut { StaysShut (K.contents sink.old) (K.contents sink.new) }
+    ensures told_contents { StaysTold (K.contents sink.old) (K.contents sink.new) }
     ensures rows { len rows.new ≡ len rows.old }
     ensures created { K.created sink.new ≡ K.created sink.old }
     ensures cause { Writes (K.tally sink.old) (K.tally sink.new) result }
@@ -132,6 +136,7 @@ fn write_codes<K: Sink>(
     ensures progress { OnOk result (progress.new ≡ with_heap layout.now progress.old (coded_tiles count window.now.slots)) }
     ensures contents { OnOk result (K.contents sink.new ≡ written (heap_at_of layout.now + progress.old.heap) (heap_of (coded_tiles count window.now.slots)) (K.contents sink.old)) }
     ensures shut { StaysShut (K.contents sink.old) (K.contents sink.new) }
+    ensures told_contents { StaysTold (K.contents sink.old) (K.contents sink.new) }
     ensures created { K.created sink.new ≡ K.created sink.old }
     ensures cause { Writes (K.tally sink.old) (K.tally sink.new) result }
 {

@@ -14,6 +14,7 @@ loop-first-init g c =
     record {
       held = refl;
       attached = refl;
+      told_ranges = λ told. told;
       reads = refl;
       long = refl;
       apart = subst (λ r. AreApart (runs_left r)) (sym same) runs.runs.longest;
@@ -118,6 +119,7 @@ loop-first-preserved g c =
     record {
       held = search rules;
       attached = search rules;
+      told_ranges = λ told. c.in_ok-read_part.ensures.told_ranges (c.loop-first.invariant.told_ranges told);
       reads = search rules;
       long = c.in_ok-read_part.ensures.len ∙ c.loop-first.invariant.long;
       apart = apart.1;

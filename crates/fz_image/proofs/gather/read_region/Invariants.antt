@@ -1,5 +1,6 @@
 -- The runs that were given are read, and those that are left end within the image and fill the buffer.
 use Rattle.std.proofs.Common.{◌≡◌, ◌+◌, ◌*◌, length}
+use Rattle.fz_base.specs.Told.{StaysTold}
 use Rattle.fz_grid.specs.Arrays.{product}
 use Rattle.fz_grid.specs.Region.{lengths_of, places_of, region_corner, region_lengths}
 use Rattle.fz_grid.specs.Runs.{AreApart, EndWithin, total_length}
@@ -11,6 +12,7 @@ abbrev pub invariant-loop-first : goal.invariant-loop-first
 invariant-loop-first g l = record {
   held : g.S.Source.held l.source ≡ g.S.Source.held l.fn.source;
   attached : g.S.Source.attached l.source ≡ g.S.Source.attached l.fn.source;
+  told_ranges : StaysTold (g.S.Source.ranges l.fn.source) (g.S.Source.ranges l.source);
   reads : g.S.Source.tally l.source ≡ g.S.Source.tally l.fn.source;
   long : length l.into ≡ length l.fn.into;
   apart : AreApart (runs_left l.first-iterator);

@@ -10,10 +10,11 @@ use Rattle.fz_block.specs.declared.header.Header.{Header}
 use Rattle.fz_sum.specs.Cards.{blank_checksum_card, datasum_card}
 use Rattle.fz_sum.specs.Sums.{carried}
 use Rattle.fz_head.specs.Conditions.{AreShort, IsPackPlan}
+use Rattle.fz_head.specs.Greatest.{greatest}
 use Rattle.fz_head.specs.PackedHeader.{packed_header, packed_with, sum_cards}
 use Rattle.fz_head.specs.ThereAndBack.{IsPacking}
 use Rattle.fz_head.specs.declared.totals.Totals.{Totals}
-use Rattle.fz_files.specs.Packed.{coded_count, greatest, heap_of, packed_data, stored_count, table_header, with_sums}
+use Rattle.fz_files.specs.Packed.{coded_count, heap_of, packed_data, stored_count, table_header, with_sums}
 use Rattle.fz_sum.specs.Pieces.{total_at}
 use Rattle.fz_head.specs.declared.plan.Plan.{Plan}
 use Rattle.fz_image.specs.Image.{sum_cards_put}

@@ -38,7 +38,7 @@ returns-clause-table g c =
     ∙ ap (λ (q : Plan). header_bytes (with_sums sums (table_header q (cards_of buf) was.codes) (packed_data q was.codes))) (sym c.requires.plan_is) in
     let len_is : c.rows_len.result + w.heap ≡ rows_len_of l + w.heap = ap (λ n. n + w.heap) c.rows_len.ensures in
     holds_codes l sums (cards_of buf) (g.S.Source.held c.args.source.now) (g.K.Sink.contents c.args.sink.now) (g.K.Sink.contents c.write_tiles.new.sink) (g.K.Sink.contents c.write_fill.new.sink) (g.K.Sink.contents c.write_behind.new.sink)
-    w at c.in_ok-end.end (c.rows_len.result + w.heap) head c.output_law.ensures.next c.requires.layout was tiles head_is place len_is c.in_ok-end.ensures.filled c.in_ok-write_behind.ensures.written c.in_ok-end.ensures.end
+    w at c.in_ok-end.end (c.rows_len.result + w.heap) head c.output_law.ensures.next c.output_law.ensures.joined c.requires.layout was tiles head_is place len_is c.in_ok-end.ensures.filled c.in_ok-write_behind.ensures.written c.in_ok-end.ensures.end
 
 pub returns-clause-end : goal.returns-clause-end
 returns-clause-end g c =

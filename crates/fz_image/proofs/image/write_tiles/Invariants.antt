@@ -1,6 +1,7 @@
 -- The tiles so far are written; the ends are as at the start.
 use Rattle.std.proofs.Common.{◌≡◌, ◌-◌, ◌≤◌, length}
 use Rattle.fz_base.specs.FirstByte.{StaysShut}
+use Rattle.fz_base.specs.Told.{StaysTold}
 use Rattle.fz_pool.specs.Window.{slot_sizes}
 use Rattle.fz_image.specs.Progress.{IsWritten}
 use Rattle.fz_image.proofs.image.write_tiles.Given as goal
@@ -13,6 +14,8 @@ invariant-loop-progress g l = record {
   created : g.K.Sink.created l.sink ≡ g.K.Sink.created l.fn.sink;
   writes : g.K.Sink.tally l.sink ≡ g.K.Sink.tally l.fn.sink;
   shut : StaysShut (g.K.Sink.contents l.fn.sink) (g.K.Sink.contents l.sink);
+  told_ranges : StaysTold (g.S.Source.ranges l.fn.source) (g.S.Source.ranges l.source);
+  told_contents : StaysTold (g.K.Sink.contents l.fn.sink) (g.K.Sink.contents l.sink);
   sizes : slot_sizes l.window.slots ≡ slot_sizes l.fn.window.slots;
   workers : l.window.workers ≡ l.fn.window.workers;
   copy : length l.copy ≡ length l.fn.copy;

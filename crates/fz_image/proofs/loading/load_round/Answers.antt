@@ -8,6 +8,7 @@ pub loop-i-init : goal.loop-i-init
 loop-i-init g c = record {
   held = refl;
   attached = refl;
+  told_ranges = λ told. told;
   reads = refl;
   sizes = refl;
   workers = refl;
@@ -34,6 +35,7 @@ loop-i-preserved g c =
     record {
       held = search rules;
       attached = search rules;
+      told_ranges = λ told. c.in_ok-load_next.ensures.told_ranges (c.loop-i.invariant.told_ranges told);
       reads = search rules;
       sizes = c.in_ok-load_next.ensures.sizes ∙ c.loop-i.invariant.sizes;
       workers = c.in_ok-load_next.ensures.workers ∙ c.loop-i.invariant.workers;

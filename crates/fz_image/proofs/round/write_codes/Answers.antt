@@ -15,6 +15,7 @@ loop-i-init g c = record {
   created = refl;
   writes = refl;
   shut = λ shut. shut;
+  told_contents = λ told. told;
   progress = no_more_heap c.args.layout.now c.args.progress.now;
   contents = no_heap_written (heap_at_of c.args.layout.now + c.args.progress.now.heap) (g.K.Sink.contents c.args.sink.now);
 }
@@ -62,6 +63,7 @@ loop-i-preserved g c =
       created = search rules;
       writes = search rules;
       shut = λ shut. c.in_ok-write_behind.ensures.shut (c.loop-i.invariant.shut shut);
+      told_contents = λ told. c.in_ok-write_behind.ensures.told (c.loop-i.invariant.told_contents told);
       progress = heap_step l w c.loop-i.progress c.add_tile.new.self (coded_tiles c.loop-i.i slots) (coded_tiles (c.loop-i.i + 1) slots) (coded_tile x) c.sum_law.ensures.joined c.loop-i.invariant.progress more c.add_tile.ensures;
       contents = heap_written l w c.loop-i.progress (coded_tiles c.loop-i.i slots) (coded_tiles (c.loop-i.i + 1) slots) (coded_tile x) c.code_of.result.now (g.K.Sink.contents c.args.sink.now) (g.K.Sink.contents c.loop-i.sink) (g.K.Sink.contents c.write_behind.new.sink)
           c.output_law.ensures.next c.loop-i.invariant.progress more c.code_of.ensures.bytes c.loop-i.invariant.contents is;

@@ -2,6 +2,7 @@
 use Rattle.std.proofs.Common.{◌≡◌, ◌+◌}
 use Rattle.fz_base.specs.FirstByte.{StaysShut}
 use Rattle.fz_base.specs.Sink.{written}
+use Rattle.fz_base.specs.Told.{StaysTold}
 use Rattle.fz_files.specs.Packed.{heap_of}
 use Rattle.fz_pool.specs.Round.{coded_tiles}
 use Rattle.fz_image.specs.Layout.{heap_at_of}
@@ -13,6 +14,7 @@ invariant-loop-i g l = record {
   created : g.K.Sink.created l.sink ≡ g.K.Sink.created l.fn.sink;
   writes : g.K.Sink.tally l.sink ≡ g.K.Sink.tally l.fn.sink;
   shut : StaysShut (g.K.Sink.contents l.fn.sink) (g.K.Sink.contents l.sink);
+  told_contents : StaysTold (g.K.Sink.contents l.fn.sink) (g.K.Sink.contents l.sink);
   progress : l.progress ≡ with_heap l.layout l.fn.progress (coded_tiles l.i l.window.slots);
   contents : g.K.Sink.contents l.sink ≡ written (heap_at_of l.layout + l.fn.progress.heap) (heap_of (coded_tiles l.i l.window.slots)) (g.K.Sink.contents l.fn.sink);
 }

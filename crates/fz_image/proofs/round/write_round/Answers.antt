@@ -38,7 +38,7 @@ returns-clause-more g c =
     let es = coded_tiles c.min-count.result c.encode_tiles.new.window.slots in
     let few : c.args.progress.now.tiles + c.min-count.result ≤ l.tiles = omega (arith, c.min-count.ensures, c.requires.left) in
     on_ok_both c.write_tiles.result (λ progress contents. λ before was. more_written l (g.S.Source.held c.args.source.now) before (g.K.Sink.contents c.args.sink.now) (g.K.Sink.contents c.write_tiles.new.sink) c.args.progress.now c.write_tiles.new.progress es c.min-count.result
-    c.sum_law.ensures.joined c.output_law.ensures.next c.requires.layout e.each e.number few e.told progress contents was) c.write_tiles.ensures.progress c.write_tiles.ensures.contents
+    c.sum_law.ensures.joined c.output_law.ensures.next c.output_law.ensures.apart c.requires.layout e.each e.number few e.told progress contents was) c.write_tiles.ensures.progress c.write_tiles.ensures.contents
 
 pub returns-clause-grown : goal.returns-clause-grown
 returns-clause-grown g c =

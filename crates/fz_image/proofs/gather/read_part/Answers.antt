@@ -1,0 +1,16 @@
+-- One read more is told where the reads before it were.
+use Rattle.std.proofs.Common.{◌≡◌, ℕ, List, [], ◌∷◌, ◌++◌, inl, inr, Option, IsSome, Result, Ok, Err, OnOk, OnErr, sym, subst}
+use Rattle.std.specs.Option.{option_map}
+use Rattle.fz_base.specs.Source.{logged, MayLog}
+use Rattle.fz_base.specs.Told.{StaysTold}
+use Rattle.fz_image.proofs.gather.read_part.Goals as goal
+
+read_told : {T E : Type 0} → ((more : List (ℕ × ℕ)) (old new : Option (List (ℕ × ℕ))) → new ≡ option_map (λ rs. rs ++ more) old → StaysTold old new) → (result : Result T E) (at count : ℕ) (old new : Option (List (ℕ × ℕ)))
+    → OnOk result (new ≡ logged at count old) → OnErr result (MayLog at count old new) → StaysTold old new
+read_told law (Ok x) at count old new ok err = law ((at, count) ∷ []) old new ok
+read_told law (Err e) at count old new ok (inl same) = λ told. subst IsSome (sym same) told
+read_told law (Err e) at count old new ok (inr more) = law ((at, count) ∷ []) old new more
+
+pub returns-clause-told_ranges : goal.returns-clause-told_ranges
+returns-clause-told_ranges g c =
+    read_told c.log_law.ensures.told c.read_at.result c.args.from _ (g.S.Source.ranges c.args.source.now) (g.S.Source.ranges c.read_at.new.self) c.read_at.ensures.logged c.read_at.ensures.log_err
