@@ -1,0 +1,14 @@
+pub mod Covering
+pub mod Faults
+pub mod FetchedTiles
+pub mod LineWrites
+pub mod LoadedTiles
+pub mod PartWrites
+pub mod PixelBytes
+pub mod Places
+pub mod Reading
+pub mod Records
+pub mod Rounds
+pub mod Running
+pub mod Wholes
+pub mod Writes

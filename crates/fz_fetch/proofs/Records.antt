@@ -1,0 +1,77 @@
+-- How much of a record is read, and the ranges that are read for a tile.
+use Rattle.std.proofs.Common.{◌≡◌, ℕ, ◌+◌, ◌*◌, min, List, [], ◌∷◌, inr, Option, Some, None, IfSome, Result, Ok, Err, OnOk, OnErr, sym, ap, ◌∙◌, subst}
+use Rattle.fz_base.specs.Ranges.{LiesIn, LogsIn, LogsJoinLaw}
+use Rattle.fz_base.specs.Refusal.{first_refusal}
+use Rattle.fz_base.specs.Source.{MayLog, logged}
+use Rattle.fz_base.specs.declared.fault.Fault.{Fault}
+use Rattle.fz_block.specs.Checks.{unless_refused}
+use Rattle.fz_table.specs.Reads.{record_ranges, row_ranges, tile_ranges}
+use Rattle.fz_table.specs.Records.{chosen_record, record_at, record_bytes, record_of, row_checks}
+use Rattle.fz_table.specs.Rows.{row_at}
+use Rattle.fz_table.specs.declared.record.Record.{Record}
+use Rattle.fz_table.specs.declared.record.Tile.{Tile}
+use Rattle.fz_table.specs.declared.row.Row.{Row}
+use Rattle.fz_table.specs.declared.table.Table.{Table}
+use Rattle.fz_fetch.proofs.Reading.{in_first, in_second}
+
+answered : (x y : Record) (o : Option Fault) → unless_refused x o ≡ Ok y → y ≡ x
+answered x y None same = cc
+answered x y (Some fault) same = absurd cc
+
+-- the record that a row says is read as far as its pixels may take
+chosen_is : (hdu row : ℕ) (t : Table) (says : Row) (tile : Tile) (found : Record) → record_of hdu row t says tile ≡ Ok found → found ≡ chosen_record t says tile
+unfolding record_of
+chosen_is hdu row t says tile found same = answered (chosen_record t says tile) found (first_refusal (row_checks hdu row t says tile)) same
+
+pub read_is : (hdu row : ℕ) (t : Table) (says : Row) (tile : Tile) (found : Record) → record_of hdu row t says tile ≡ Ok found → found.read ≡ min found.total (8 * tile.pixels + 64)
+read_is hdu row t says tile found same =
+    let is : found ≡ chosen_record t says tile = chosen_is hdu row t says tile found same in
+    ap (λ (r : Record). r.read) is ∙ sym (ap (λ (r : Record). min r.total (8 * tile.pixels + 64)) is)
+
+-- ---- ranges
+
+-- a read that was made, or failed, may be logged
+pub may_log : {X E : Type 0} (result : Result X E) (at count : ℕ) (old new : Option (List (ℕ × ℕ))) → OnOk result (new ≡ logged at count old) → OnErr result (MayLog at count old new) → MayLog at count old new
+may_log (Ok x) at count old new done failed = inr done
+may_log (Err e) at count old new done failed = failed
+
+-- what is read in some ranges is read in more
+pub wider : (ranges more : List (ℕ × ℕ)) (old new : Option (List (ℕ × ℕ))) → ((byte : ℕ) → LiesIn ranges byte → LiesIn more byte) → LogsIn ranges old new → LogsIn more old new
+wider ranges more old new lie logs = (logs.0, (λ k d near byte from to. lie byte (logs.1 k d near byte from to)), logs.2)
+
+-- the descriptors of a row are read for its tile, whatever the row says
+pub row_alone : (held : Option (List ℕ)) (hdu row : ℕ) (t : Table) (tile : Tile) (old new : Option (List (ℕ × ℕ))) → LogsIn (row_ranges t row) old new
+    → IfSome held (λ file. LogsIn (tile_ranges file hdu t row tile) old new)
+row_alone None hdu row t tile old new logs = tt
+row_alone (Some file) hdu row t tile old new logs =
+    wider (row_ranges t row) (tile_ranges file hdu t row tile) old new (λ byte lies. in_first (row_ranges t row) (record_ranges (record_at file hdu t row tile)) byte lies) logs
+
+-- and then the record that it says
+pub row_and_record : LogsJoinLaw → (held : Option (List ℕ)) (hdu row : ℕ) (t : Table) (says : Row) (tile : Tile) (found : Record) (old mid new : Option (List (ℕ × ℕ)))
+    → IfSome held (λ file. says ≡ row_at file t row) → record_of hdu row t says tile ≡ Ok found
+    → LogsIn (row_ranges t row) old mid → LogsIn ((found.start, found.read) ∷ []) mid new
+    → IfSome held (λ file. LogsIn (tile_ranges file hdu t row tile) old new)
+row_and_record join None hdu row t says tile found old mid new exact is first second = tt
+row_and_record join (Some file) hdu row t says tile found old mid new exact is first second =
+    let all : List (ℕ × ℕ) = tile_ranges file hdu t row tile in
+    let here : record_at file hdu t row tile ≡ Ok found = sym (ap (λ (s : Row). record_of hdu row t s tile) exact) ∙ is in
+    let one : record_ranges (record_at file hdu t row tile) ≡ (found.start, found.read) ∷ [] = ap record_ranges here in
+    let front = wider (row_ranges t row) all old mid (λ byte lies. in_first (row_ranges t row) (record_ranges (record_at file hdu t row tile)) byte lies) first in
+    let back = wider ((found.start, found.read) ∷ []) all mid new
+    (λ byte lies. in_second (row_ranges t row) (record_ranges (record_at file hdu t row tile)) byte (subst (λ (rs : List (ℕ × ℕ)). LiesIn rs byte) (sym one) lies)) second in
+    join all old mid new front back
+
+-- where the bytes are told, the record is that of the row, and these are its bytes
+pub told_record : (held held' : Option (List ℕ)) (hdu row : ℕ) (t : Table) (says : Row) (known tile : Tile) (found : Record) (bytes : List ℕ) → held' ≡ held → known ≡ tile
+    → IfSome held (λ file. says ≡ row_at file t row) → record_of hdu row t says known ≡ Ok found → IfSome held' (λ file. bytes ≡ record_bytes file found)
+    → IfSome held (λ file. (record_at file hdu t row tile ≡ Ok found) × (bytes ≡ record_bytes file found))
+told_record None held' hdu row t says known tile found bytes same is exact said got = tt
+told_record (Some file) held' hdu row t says known tile found bytes same is exact said got =
+    let here : record_at file hdu t row tile ≡ Ok found =
+    sym (ap (λ (k : Tile). record_of hdu row t (row_at file t row) k) is) ∙ sym (ap (λ (s : Row). record_of hdu row t s known) exact) ∙ said in
+    (here, subst (λ (h : Option (List ℕ)). IfSome h (λ f. bytes ≡ record_bytes f found)) same got)
+
+-- three facts of an answer Ok
+pub all_three : {X E : Type 0} {A B C D : Type 0} (result : Result X E) → OnOk result A → OnOk result B → OnOk result C → (A → B → C → D) → OnOk result D
+all_three (Ok x) a b c make = make a b c
+all_three (Err e) a b c make = tt

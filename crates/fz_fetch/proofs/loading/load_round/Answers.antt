@@ -1,0 +1,13 @@
+-- What is read for the rows is read for their tiles.
+use Rattle.fz_fetch.proofs.LoadedTiles.{rows_alone, rows_then_tiles}
+use Rattle.fz_fetch.proofs.loading.load_round.Goals as goal
+
+pub returns-in_err-read_rows-clause-read : goal.returns-in_err-read_rows-clause-read
+returns-in_err-read_rows-clause-read g c =
+    rows_alone (g.S.Source.held c.args.source.now) c.args.hdu c.args.image.now c.args.tiles.now (g.S.Source.ranges c.args.source.now) (g.S.Source.ranges c.read_rows.new.source) c.read_rows.ensures.read
+
+pub returns-clause-read : goal.returns-clause-read
+returns-clause-read g c =
+    rows_then_tiles c.ranges_law.ensures.join (g.S.Source.held c.args.source.now) (g.S.Source.held c.read_rows.new.source) c.args.hdu c.args.image.now c.args.tiles.now
+    (g.S.Source.ranges c.args.source.now) (g.S.Source.ranges c.read_rows.new.source) (g.S.Source.ranges c.load_tiles-2.new.source)
+    c.read_rows.ensures.held c.read_rows.ensures.read c.load_tiles-2.ensures.read

@@ -1,0 +1,37 @@
+-- One tile after another, up to the first whose row is refused.
+use Rattle.std.proofs.Common.{ℕ, ◌<◌, List, Option, length, slice_index, ◌∙◌, subst, rules}
+use Rattle.fz_fetch.specs.Loaded.{IsLoaded}
+use Rattle.fz_fetch.proofs.LoadedTiles.{loaded_more, read_more}
+use Rattle.fz_fetch.proofs.loading.load_tiles.Goals as goal
+
+pub returns-in-Err-clause-read : goal.returns-in-Err-clause-read
+returns-in-Err-clause-read g c =
+    let near : c.loop-i.i < length c.args.tiles.now = search rules in
+    read_more c.ranges_law.ensures.join (g.S.Source.held c.args.source.now) (g.S.Source.held c.loop-i.source) c.args.hdu c.args.image.now c.args.tiles.now c.loop-i.i
+    (g.S.Source.ranges c.args.source.now) (g.S.Source.ranges c.loop-i.source) (g.S.Source.ranges c.load_next.new.source) near c.loop-i.invariant.held c.loop-i.invariant.read c.load_next.ensures.read
+
+pub returns-in_err-fault-in-Err-clause-read : goal.returns-in_err-fault-in-Err-clause-read
+returns-in_err-fault-in-Err-clause-read g c =
+    let near : c.loop-i.i < length c.args.tiles.now = search rules in
+    read_more c.ranges_law.ensures.join (g.S.Source.held c.args.source.now) (g.S.Source.held c.loop-i.source) c.args.hdu c.args.image.now c.args.tiles.now c.loop-i.i
+    (g.S.Source.ranges c.args.source.now) (g.S.Source.ranges c.loop-i.source) (g.S.Source.ranges c.load_next.new.source) near c.loop-i.invariant.held c.loop-i.invariant.read c.load_next.ensures.read
+
+pub loop-i-preserved : goal.loop-i-preserved
+loop-i-preserved g c =
+    let held : Option (List ℕ) = g.S.Source.held c.args.source.now in
+    let tiles : List ℕ = c.args.tiles.now in
+    let near : c.loop-i.i < length tiles = search rules in
+    let put = c.in-Ok.ensures.put in
+    let now : IsLoaded held c.args.hdu c.args.image.now (slice_index tiles c.loop-i.i) put.0 =
+    subst (λ (h : Option (List ℕ)). IsLoaded h c.args.hdu c.args.image.now (slice_index tiles c.loop-i.i) put.0) c.loop-i.invariant.held put.2 in
+    record {
+      held = search rules;
+      attached = search rules;
+      counts = search rules;
+      sizes = c.load_next.ensures.sizes ∙ c.loop-i.invariant.sizes;
+      workers = c.load_next.ensures.workers ∙ c.loop-i.invariant.workers;
+      told_ranges = λ told. c.load_next.ensures.told_ranges (c.loop-i.invariant.told_ranges told);
+      read = read_more c.ranges_law.ensures.join held (g.S.Source.held c.loop-i.source) c.args.hdu c.args.image.now tiles c.loop-i.i
+          (g.S.Source.ranges c.args.source.now) (g.S.Source.ranges c.loop-i.source) (g.S.Source.ranges c.load_next.new.source) near c.loop-i.invariant.held c.loop-i.invariant.read c.load_next.ensures.read;
+      loaded = loaded_more held c.args.hdu c.args.image.now tiles c.loop-i.i c.loop-i.window c.load_next.new.window put.0 put.1 now c.loop-i.invariant.loaded;
+    }

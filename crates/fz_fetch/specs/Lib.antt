@@ -1,0 +1,9 @@
+pub mod Fetched
+pub mod Images
+pub mod Laws
+pub mod Loaded
+pub mod Pieces
+pub mod Rows
+pub mod Scattered
+pub mod Stops
+pub mod Tiles

@@ -1,0 +1,83 @@
+//! A round of tiles: their rows and records are read, and then decoded.
+ghost use Rattle.std.specs.Prelude.{◌≡◌, ◌*◌, ◌≤◌, length as len, IfSome, OnOk};
+ghost use Rattle.fz_base.specs.Ranges.{LogsIn};
+ghost use Rattle.fz_base.specs.Refusal.{refusal};
+ghost use Rattle.fz_base.specs.Told.{StaysTold};
+ghost use Rattle.fz_base.specs.declared.failure.Stop.TheVariants.{Refused};
+ghost use Rattle.fz_base.specs.declared.fault.Place.TheVariants.{Row as AtRow};
+ghost use Rattle.fz_head.specs.TileKinds.{kind_of_tile};
+ghost use Rattle.fz_pool.specs.Window.{slot_sizes};
+ghost use Rattle.fz_fetch.specs.Fetched.{AreFetched, TellsRowFault, fetched_ranges};
+ghost use Rattle.fz_fetch.specs.Images.{AreTilesOf, HaveRoom, IsReadable, IsSaid};
+ghost use Rattle.fz_fetch.specs.Rows.{StandsWithin};
+ghost use Rattle.fz_fetch.specs.Stops.{Fetches};
+
+use crate::loading::load_round;
+use fz_base::{Fault, Gate, Place, Source, Stop};
+use fz_block::Header;
+use fz_head::{PackedImage, tile_kind};
+use fz_pool::{Window, decode_window, round_law, sizes_law};
+use fz_tile::TileFault;
+use std::thread::Threads;
+
+/// Reads these tiles of the packed image in the HDU with this header into the first slots of the window, and decodes
+/// them by its workers. `rows` has room for the rows of a round; the slots of the window are those of a tile of the
+/// image or of a larger one. Its buffers stay the window's, and keep their lengths.
+///
+/// Refused: the lowest of these rows that is faulty, in the order in which they are given: its record is not found
+/// (GzipTile, TileMissing, DescriptorRange, TileSize), or stands for no pixels (CodeShort, CodeValue, LineList,
+/// PixelRange). No record behind a row whose record is not found is read, and of a record at most 8 bytes for each
+/// pixel and 64 more.
+pub fn fetch_tiles<R: Threads + Sync, S: Source, G: Gate>(
+    rt: &R,
+    source: &mut S,
+    header: &Header,
+    image: &PackedImage,
+    tiles: &[u32],
+    rows: &mut [u8],
+    window: &mut Window,
+    gate: &G,
+) -> Result<(), Stop>
+    requires image { IsReadable image.now }
+    requires within { StandsWithin (S.attached source.old) image.now.table }
+    requires said { IfSome (S.held source.old) (λ g. IsSaid g header.now image.now) }
+    requires tiles { AreTilesOf image.now tiles.now }
+    requires few { len tiles.now ≤ 2 * window.old.workers }
+    requires rows { 4096 ≤ len rows.old }
+    requires window { HaveRoom image.now window.old }
+    ensures fetched { OnOk result (AreFetched (S.held source.old) header.now image.now.plan tiles.now window.new.slots) }
+    ensures fault { TellsRowFault (S.held source.old) header.now tiles.now result }
+    ensures read { IfSome (S.held source.old) (λ g. LogsIn (fetched_ranges g header.now tiles.now) (S.ranges source.old) (S.ranges source.new)) }
+    ensures told_ranges { StaysTold (S.ranges source.old) (S.ranges source.new) }
+    ensures rows { len rows.new ≡ len rows.old }
+    ensures sizes { slot_sizes window.new.slots ≡ slot_sizes window.old.slots }
+    ensures workers { window.new.workers ≡ window.old.workers }
+    ensures held { S.held source.new ≡ S.held source.old }
+    ensures attached { S.attached source.new ≡ S.attached source.old }
+    ensures cause { Fetches (S.tally source.old) (S.tally source.new) result }
+{
+    round_law();
+    sizes_law();
+    // This call tells that there are at most 64 workers.
+    let _workers = window.workers();
+    let loaded = load_round(source, header.hdu, image, tiles, rows, window)?;
+    match decode_window(rt, window, loaded.count, gate) {
+        Ok(Some((i, fault))) => Err(faulty(header.hdu, tiles[i as usize], fault)),
+        Ok(None) => match loaded.refused {
+            Some(fault) => Err(Stop::Refused(fault)),
+            None => Ok(()),
+        },
+        Err(_) => Err(Stop::NoMemory),
+    }
+}
+
+// The record of this row stands for no pixels.
+fn faulty(hdu: u32, row: u32, fault: TileFault) -> Stop
+    ensures { result ≡ Refused (refusal hdu (AtRow row) (kind_of_tile fault)) }
+{
+    Stop::Refused(Fault {
+        hdu,
+        at: Place::Row(row),
+        kind: tile_kind(fault),
+    })
+}

@@ -1,0 +1,21 @@
+//! From the rows of a packed image to its pixels: tiles are read and decoded in the window, round by round, and their
+//! pixels go to their places in what is written.
+//!
+//! Reading order: `tiles`, `rows`, `loading`, `fetching`; `runs`, `bytes`, `scattering`, `picking`, `law`.
+#![tactic(auto)]
+
+mod bytes;
+mod fetching;
+mod law;
+mod loading;
+mod picking;
+mod rows;
+mod runs;
+mod scattering;
+mod tiles;
+
+pub use fetching::fetch_tiles;
+pub use law::scattered_law;
+pub use picking::scatter_picks;
+pub use scattering::scatter_tiles;
+pub use tiles::{MOST_TILES, number_tiles};

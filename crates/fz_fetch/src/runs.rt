@@ -1,0 +1,80 @@
+//! Pixels that are written to their places in an image.
+ghost use Rattle.std.specs.Prelude.{ℕ, ◌≡◌, ◌+◌, ◌*◌, ◌<◌, ◌^◌, IsTrue, length as len, OnOk};
+ghost use Rattle.std.specs.List.{AllByRecursion};
+ghost use Rattle.fz_base.specs.FirstByte.{StaysShut};
+ghost use Rattle.fz_base.specs.Stop.{Writes};
+ghost use Rattle.fz_base.specs.Told.{StaysTold};
+ghost use Rattle.fz_grid.specs.Arrays.{product};
+ghost use Rattle.fz_grid.specs.Region.{IsShape, IsWithin, lengths_of, places_of, region_corner, region_lengths};
+ghost use Rattle.fz_parts.specs.Line.{IsLineWithin, lines_in_cutout};
+ghost use Rattle.fz_parts.specs.Walk.{lines_left};
+ghost use Rattle.fz_fetch.specs.Pieces.{pieces_written};
+
+use fz_base::{Sink, Stop, output_law, write_behind};
+use fz_block::Axes;
+use fz_grid::{Region, runs};
+use fz_parts::Lines;
+
+/// Writes the bytes of the pixels of a region, axis 1 fastest, to their places in an image of this shape, whose data
+/// begin at this byte of the sink behind byte 0: each run of neighbouring pixels at once.
+pub(crate) fn write_region<K: Sink>(
+    sink: &mut K,
+    data_at: u64,
+    pixel_len: u32,
+    shape: &Axes,
+    region: &Region,
+    bytes: &[u8],
+) -> Result<(), Stop>
+    requires created { IsTrue (K.created sink.old) }
+    requires behind { 0 < data_at }
+    requires near { data_at + pixel_len * product (lengths_of shape.now) < 2 ^ 64 }
+    requires shape { IsShape shape.now }
+    requires region { IsWithin shape.now region.now }
+    requires bytes { len bytes.now ≡ pixel_len * product (region_lengths region.now) }
+    ensures written { OnOk result (K.contents sink.new
+        ≡ pieces_written pixel_len data_at (places_of (lengths_of shape.now) (region_corner region.now) (region_lengths region.now)) bytes.now (K.contents sink.old)) }
+    ensures shut { StaysShut (K.contents sink.old) (K.contents sink.new) }
+    ensures told { StaysTold (K.contents sink.old) (K.contents sink.new) }
+    ensures created { K.created sink.new ≡ K.created sink.old }
+    ensures cause { Writes (K.tally sink.old) (K.tally sink.new) result }
+{
+    output_law();
+    let mut done = 0u64;
+    for (first, count) in runs(shape, region) {
+        let len = u64::from(pixel_len) * count;
+        let run = &bytes[done as usize..(done + len) as usize];
+        write_behind(sink, data_at + u64::from(pixel_len) * first, run)?;
+        done += len;
+    }
+    Ok(())
+}
+
+/// Writes the bytes of the picks of these lines to their places in what is cut out of an image, whose data begin at this
+/// byte of the sink behind byte 0: each line at once.
+pub(crate) fn write_lines<K: Sink>(
+    sink: &mut K,
+    data_at: u64,
+    pixel_len: u32,
+    lines: Lines,
+    bytes: &[u8],
+) -> Result<(), Stop>
+    requires created { IsTrue (K.created sink.old) }
+    requires behind { 0 < data_at }
+    requires within { (tile : ℕ) × ((cutout : ℕ) × AllByRecursion (IsLineWithin tile cutout) (lines_left lines) × (data_at + pixel_len * cutout < 2 ^ 64)) }
+    requires bytes { len bytes.now ≡ pixel_len * len (lines_in_cutout (lines_left lines)) }
+    ensures written { OnOk result (K.contents sink.new ≡ pieces_written pixel_len data_at (lines_in_cutout (lines_left lines)) bytes.now (K.contents sink.old)) }
+    ensures shut { StaysShut (K.contents sink.old) (K.contents sink.new) }
+    ensures told { StaysTold (K.contents sink.old) (K.contents sink.new) }
+    ensures created { K.created sink.new ≡ K.created sink.old }
+    ensures cause { Writes (K.tally sink.old) (K.tally sink.new) result }
+{
+    output_law();
+    let mut done = 0u64;
+    for line in lines {
+        let len = u64::from(pixel_len) * u64::from(line.count);
+        let run = &bytes[done as usize..(done + len) as usize];
+        write_behind(sink, data_at + u64::from(pixel_len) * line.in_cutout, run)?;
+        done += len;
+    }
+    Ok(())
+}
