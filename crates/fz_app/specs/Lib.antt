@@ -1,4 +1,8 @@
+pub mod Answer
+pub mod Asked
+pub mod Causes
 pub mod Lines
-pub mod Outcome
+pub mod Outputs
+pub mod Promised
+pub mod Promises
 pub mod Status
-pub mod Words

@@ -1,7 +1,7 @@
 //! What the program does: the words of a command line become a job, the job a status, and the status
 //! a line and a number.
 //!
-//! Reading order: `status`, `words`, `run_job`, `line`, `kind_name`.
+//! Reading order: `status`, `run_job`, `line`, `kind_name`.
 #![tactic(auto)]
 
 mod kind_name;
@@ -10,7 +10,6 @@ mod run_job;
 mod status;
 #[cfg(test)]
 mod tests;
-mod words;
 
 pub use run_job::run;
 pub use status::Status;

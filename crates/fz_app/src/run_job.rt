@@ -1,126 +1,170 @@
 //! The top call: it does all that the program does.
-ghost use Rattle.std.specs.Prelude.{◌≡◌, ◌≢◌, ◌≤◌, ◌^◌, ◌↔◌, [], None, IfSome};
-ghost use Rattle.fz_base.specs.Counts.{Rose};
+ghost use Rattle.std.specs.Prelude.{◌≡◌, ◌≢◌, ◌≤◌, [], Some, IfSome};
+ghost use Rattle.fz_files.specs.declared.job.Job.TheVariants.{Pack};
+ghost use Rattle.fz_head.specs.Planned.{AreOptions};
+ghost use Rattle.fz_words.specs.Lawful.{IsLawful};
+ghost use Rattle.fz_words.specs.Parts.{texts_of};
+ghost use Rattle.fz_words.specs.Seen.{asked_of};
+ghost use Rattle.fz_base.specs.Counts.{CountsKept};
+ghost use Rattle.fz_base.specs.Told.{StaysTold};
+ghost use Rattle.fz_app.specs.Answer.{IsPromisedTo};
+ghost use Rattle.fz_app.specs.Asked.{asked_for, if_built};
+ghost use Rattle.fz_app.specs.Causes.{AreCountsKept, DoneHasCause, IsUnmadeFor, IsUsage, OverLimitHasCause, ReadFaultHasCause, RefusedHasCause, WriteFaultHasCause};
 ghost use Rattle.fz_app.specs.Lines.{status_line, GotLine};
-ghost use Rattle.fz_app.specs.Outcome.{IsAnswer, IsShutOrWhole, OnDone, OnOther, TellsFirstFault, TellsFirstPast, TellsTaking, IfUnmade};
-ghost use Rattle.fz_app.specs.Status.{IsRefused, TellsLimit};
-ghost use Rattle.fz_app.specs.Words.{job_of, texts_of};
-ghost use Rattle.fz_pack.specs.FirstByte.{IsShutOrPacked};
-ghost use Rattle.fz_pack.specs.FirstFault.{first_fault};
-ghost use Rattle.fz_pack.specs.FirstTaking.{takings_of};
-ghost use Rattle.fz_pack.specs.Options.{IsFirstPath};
-ghost use Rattle.fz_pack.specs.Output.{HoldsPacked};
-ghost use Rattle.fz_app.specs.declared.status.Status.TheVariants.{Different, Usage, ReadFault, WriteFault};
+ghost use Rattle.fz_app.specs.Promised.{IsPromised};
+ghost use Rattle.fz_app.specs.Promises.{AreBounded, HasFirstByteLast, HasFirstFault, HasOutput, IsComplete, IsRestored};
+ghost use Rattle.fz_app.specs.declared.status.Status.TheVariants.{Different, Usage as IsUsageStatus};
 
 use crate::line::line_of;
-use crate::status::{Status, stopped};
-use crate::words::{Job, find_job};
+use crate::status::{Status, ended};
 use fz_base::{Gate, Meter, Sink, Source, Stop, Text};
-use fz_pack::{PackOptions, pack};
+use fz_files::{Job, one_first_fault_law};
+use fz_head::PackOptions;
+use fz_pack::pack;
+use fz_pool::Window;
+use fz_round_trip::round_trip_law;
+use fz_words::{Request, Usage, read_words};
 use std::alloc::Global;
 use std::thread::Threads;
 
 /// Does what the words ask for, reads the source, writes the sink and prints to the text, and answers
 /// how that ended. The words are those after the program's name.
 ///
-/// For each status but Done and Different one line is put to the text at the end; if that fails, the
-/// status stays.
+/// Words of the grammar that ask for a job which is not built yet are Usage too. For each status but Done
+/// and Different one line is put to the text at the end; if that fails, the status stays.
 pub fn run<R: Threads + Sync, S: Source, K: Sink, T: Text, G: Gate>(
-    _rt: &R,
-    _alloc: Global,
+    rt: &R,
+    alloc: Global,
     words: &[String],
     source: &mut S,
     sink: &mut K,
     text: &mut T,
-    _gate: &G,
+    gate: &G,
     meter: &mut Meter,
 ) -> Status
     requires empty { IfSome (K.contents sink.old) (λ c. c ≡ []) }
     requires unused { (meter.old.live ≡ 0) × (meter.old.peak ≡ 0) }
 
-    ensures live { meter.new.live ≡ 0 }
-    ensures limit { meter.new.limit ≡ meter.old.limit }
+    ensures output { HasOutput (texts_of words.now) (S.held source.old) (K.contents sink.new) (K.finished sink.new) result }
+    ensures restored { IsRestored (texts_of words.now) (S.held source.old) (K.contents sink.new) result }
+    ensures first_fault { HasFirstFault (texts_of words.now) (S.held source.old) result }
+    ensures buffers { AreBounded (texts_of words.now) (S.held source.old) meter.old meter.new }
+    ensures first_byte { HasFirstByteLast (texts_of words.now) (S.held source.old) (K.contents sink.new) result }
     ensures text { GotLine (status_line result) (T.contents text.old) (T.contents text.new) (T.tally text.old) (T.tally text.new) }
+    ensures complete { IsComplete (texts_of words.now) (S.held source.old) (S.tally source.old) (S.tally source.new) (K.tally sink.old) (K.tally sink.new) meter.old.limit result }
 
     ensures different { result ≢ Different }
-    ensures usage { (result ≡ Usage) ↔ (job_of (texts_of words.now) ≡ None) }
-    // Words that are no job read, make and take nothing.
-    ensures untouched { result ≡ Usage → (source.new ≡ source.old) × (sink.new ≡ sink.old) × (meter.new ≡ meter.old) }
-    ensures refused { IsRefused result → ((S.tally source.new).faults ≡ (S.tally source.old).faults) × ((K.tally sink.new).faults ≡ (K.tally sink.old).faults) }
-    ensures read_fault { result ≡ ReadFault → Rose (S.tally source.old).faults (S.tally source.new).faults }
-    ensures write_fault { result ≡ WriteFault → Rose (K.tally sink.old).faults (K.tally sink.new).faults }
-    ensures over_limit { TellsLimit meter.old.limit (2 ^ 30) result }
-    ensures taking { TellsTaking result }
-    // OverLimit comes exactly where a taking passes the limit, and tells the first.
-    ensures first_past { IfSome (S.held source.old) (λ g. TellsFirstPast meter.old.limit (takings_of g) result) }
+    ensures usage { IsUsage (texts_of words.now) result }
+    // Words that ask for nothing read, make and take nothing.
+    ensures untouched { result ≡ IsUsageStatus → (source.new ≡ source.old) × (sink.new ≡ sink.old) × (meter.new ≡ meter.old) }
+    ensures done { DoneHasCause (texts_of words.now) (S.tally source.old) (S.tally source.new) (K.tally sink.old) (K.tally sink.new) result }
+    ensures refused { RefusedHasCause (texts_of words.now) (S.tally source.old) (S.tally source.new) (K.tally sink.old) (K.tally sink.new) result }
+    ensures read_fault { ReadFaultHasCause (texts_of words.now) (S.tally source.old) (S.tally source.new) result }
+    ensures write_fault { WriteFaultHasCause (texts_of words.now) (K.tally sink.old) (K.tally sink.new) result }
+    ensures over_limit { OverLimitHasCause (texts_of words.now) (S.held source.old) meter.old.limit result }
+    ensures unmade { IsUnmadeFor (texts_of words.now) (S.held source.old) ((K.created sink.new ≡ K.created sink.old) × (K.contents sink.new ≡ K.contents sink.old)) result }
 
-    ensures output { IfSome (job_of (texts_of words.now)) (λ asked. OnDone result (HoldsPacked asked.options (S.held source.old) (K.contents sink.new))) }
-    // What was cut short does not begin with the S of a FITS file.
-    ensures first_byte { OnOther result (IsShutOrWhole (job_of (texts_of words.now)) (S.held source.old) (K.contents sink.new)) }
-    ensures first_fault { TellsFirstFault (S.held source.old) result }
-    // Where neither count of faults rose and the limit allows 2^30 bytes, the first fault alone decides.
-    ensures complete { ¬ (job_of (texts_of words.now) ≡ None) → ¬ Rose (S.tally source.old).faults (S.tally source.new).faults → ¬ Rose (K.tally sink.old).faults (K.tally sink.new).faults → 2 ^ 30 ≤ meter.old.limit → IfSome (S.held source.old) (λ g. IsAnswer (first_fault g) result) }
-    ensures unmade { IfUnmade result ((K.created sink.new ≡ K.created sink.old) × (K.contents sink.new ≡ K.contents sink.old)) }
-    ensures source { S.held source.new ≡ S.held source.old }
-    ensures counts_kept { ((S.tally source.old).faults ≤ (S.tally source.new).faults) × ((K.tally sink.old).faults ≤ (K.tally sink.new).faults) }
+    ensures held { S.held source.new ≡ S.held source.old }
+    ensures told_ranges { StaysTold (S.ranges source.old) (S.ranges source.new) }
+    ensures told_contents { StaysTold (K.contents sink.old) (K.contents sink.new) }
+    ensures counts { AreCountsKept (S.tally source.old) (S.tally source.new) (K.tally sink.old) (K.tally sink.new) (T.tally text.old) (T.tally text.new) }
 {
-    let status = match find_job(words) {
-        None => Status::Usage,
-        Some(
-            Job::Pack {
-                options,
-                input,
-                output,
-            },
-        ) => run_pack(&options, input, output, source, sink, meter),
-    };
+    one_first_fault_law();
+    let status = answer_to(rt, alloc, words, source, sink, gate, meter);
+    // This call tells that the peak is within the limit.
+    let _peak = meter.peak();
     report(text, &status);
     status
 }
 
-// Packs the file of one name into one of another.
-fn run_pack<S: Source, K: Sink>(
-    options: &PackOptions,
-    input: &str,
-    output: &str,
+// Does what the words ask for.
+fn answer_to<R: Threads + Sync, S: Source, K: Sink, G: Gate>(
+    rt: &R,
+    alloc: Global,
+    words: &[String],
     source: &mut S,
     sink: &mut K,
+    gate: &G,
     meter: &mut Meter,
 ) -> Status
     requires empty { IfSome (K.contents sink.old) (λ c. c ≡ []) }
-    requires nothing_live { meter.old.live ≡ 0 }
-    requires options { IsFirstPath options.now }
-    ensures live { meter.new.live ≡ 0 }
-    ensures limit { meter.new.limit ≡ meter.old.limit }
-    ensures job { (result ≢ Different) × (result ≢ Usage) }
-    ensures refused { IsRefused result → ((S.tally source.new).faults ≡ (S.tally source.old).faults) × ((K.tally sink.new).faults ≡ (K.tally sink.old).faults) }
-    ensures read_fault { result ≡ ReadFault → Rose (S.tally source.old).faults (S.tally source.new).faults }
-    ensures write_fault { result ≡ WriteFault → Rose (K.tally sink.old).faults (K.tally sink.new).faults }
-    ensures over_limit { TellsLimit meter.old.limit (2 ^ 30) result }
-    ensures taking { TellsTaking result }
-    ensures first_past { IfSome (S.held source.old) (λ g. TellsFirstPast meter.old.limit (takings_of g) result) }
-
-    ensures output { OnDone result (HoldsPacked options.now (S.held source.old) (K.contents sink.new)) }
-    ensures first_byte { OnOther result (IsShutOrPacked options.now (S.held source.old) (K.contents sink.new)) }
-    ensures first_fault { TellsFirstFault (S.held source.old) result }
-    ensures complete { ¬ Rose (S.tally source.old).faults (S.tally source.new).faults → ¬ Rose (K.tally sink.old).faults (K.tally sink.new).faults → 2 ^ 30 ≤ meter.old.limit → IfSome (S.held source.old) (λ g. IsAnswer (first_fault g) result) }
-    ensures unmade { IfUnmade result ((K.created sink.new ≡ K.created sink.old) × (K.contents sink.new ≡ K.contents sink.old)) }
-    ensures source { S.held source.new ≡ S.held source.old }
-    ensures counts_kept { ((S.tally source.old).faults ≤ (S.tally source.new).faults) × ((K.tally sink.old).faults ≤ (K.tally sink.new).faults) }
+    requires unused { (meter.old.live ≡ 0) × (meter.old.peak ≡ 0) }
+    ensures promised { IsPromisedTo (asked_for (texts_of words.now)) result (λ asked. IsPromised asked (record { held = S.held source.old; ranges = S.ranges source.old; source = S.tally source.old; contents = K.contents sink.old; created = K.created sink.old; finished = K.finished sink.old; sink = K.tally sink.old; meter = meter.old }) (record { held = S.held source.new; ranges = S.ranges source.new; source = S.tally source.new; contents = K.contents sink.new; created = K.created sink.new; finished = K.finished sink.new; sink = K.tally sink.new; meter = meter.new })) }
+    ensures untouched { result ≡ IsUsageStatus → (source.new ≡ source.old) × (sink.new ≡ sink.old) × (meter.new ≡ meter.old) }
 {
-    let length = match source.attach(input) {
-        Ok(length) => length,
-        Err(failed) => return stopped(Stop::reading(failed)),
-    };
-    match pack(source, length, output, sink, meter, options) {
-        Ok(()) => Status::Done,
-        Err(stop) => stopped(stop),
+    match read_words(words) {
+        Ok(request) => run_request(rt, alloc, &request, source, sink, gate, meter),
+        Err(Usage) => Status::Usage,
     }
+}
+
+// Does what is asked for. A job that is not built yet is none of the program's: its words are Usage.
+fn run_request<R: Threads + Sync, S: Source, K: Sink, G: Gate>(
+    rt: &R,
+    alloc: Global,
+    request: &Request<'_>,
+    source: &mut S,
+    sink: &mut K,
+    gate: &G,
+    meter: &mut Meter,
+) -> Status
+    requires lawful { IsLawful request.now }
+    requires empty { IfSome (K.contents sink.old) (λ c. c ≡ []) }
+    requires unused { (meter.old.live ≡ 0) × (meter.old.peak ≡ 0) }
+    ensures promised { IsPromisedTo (if_built (Some (asked_of request.now))) result (λ asked. IsPromised asked (record { held = S.held source.old; ranges = S.ranges source.old; source = S.tally source.old; contents = K.contents sink.old; created = K.created sink.old; finished = K.finished sink.old; sink = K.tally sink.old; meter = meter.old }) (record { held = S.held source.new; ranges = S.ranges source.new; source = S.tally source.new; contents = K.contents sink.new; created = K.created sink.new; finished = K.finished sink.new; sink = K.tally sink.new; meter = meter.new })) }
+    ensures untouched { result ≡ IsUsageStatus → (source.new ≡ source.old) × (sink.new ≡ sink.old) × (meter.new ≡ meter.old) }
+{
+    match &request.job {
+        Job::Pack(options) => ended(run_pack(
+            rt, alloc, request, options, source, sink, gate, meter,
+        )),
+        Job::Unpack | Job::Cut { .. } | Job::Verify | Job::List | Job::Drill { .. } => {
+            Status::Usage
+        }
+    }
+}
+
+// Packs the file IN into OUT.
+fn run_pack<R: Threads + Sync, S: Source, K: Sink, G: Gate>(
+    rt: &R,
+    alloc: Global,
+    request: &Request<'_>,
+    options: &PackOptions,
+    source: &mut S,
+    sink: &mut K,
+    gate: &G,
+    meter: &mut Meter,
+) -> Result<(), Stop>
+    requires job { request.now.job ≡ Pack options.now }
+    requires options { AreOptions options.now }
+    requires workers { (1 ≤ request.now.workers) × (request.now.workers ≤ 64) × (options.now.workers ≡ request.now.workers) }
+    requires empty { IfSome (K.contents sink.old) (λ c. c ≡ []) }
+    requires unused { (meter.old.live ≡ 0) × (meter.old.peak ≡ 0) }
+    ensures promised { IsPromised (asked_of request.now) (record { held = S.held source.old; ranges = S.ranges source.old; source = S.tally source.old; contents = K.contents sink.old; created = K.created sink.old; finished = K.finished sink.old; sink = K.tally sink.old; meter = meter.old }) (record { held = S.held source.new; ranges = S.ranges source.new; source = S.tally source.new; contents = K.contents sink.new; created = K.created sink.new; finished = K.finished sink.new; sink = K.tally sink.new; meter = meter.new }) result }
+{
+    // What is packed comes back.
+    round_trip_law();
+    meter.narrow(request.memory);
+    let length = source.attach(request.input).map_err(Stop::reading)?;
+    let mut window = Window::new(alloc, request.workers).map_err(|_| Stop::NoMemory)?;
+    let output = request.output;
+    pack(
+        rt,
+        source,
+        length,
+        output,
+        sink,
+        meter,
+        &mut window,
+        gate,
+        options,
+    )
 }
 
 // Puts the line of the status, if it has one. If that fails, nothing else can be told.
 fn report<T: Text>(text: &mut T, status: &Status)
-    ensures { GotLine (status_line status.now) (T.contents text.old) (T.contents text.new) (T.tally text.old) (T.tally text.new) }
+    ensures line { GotLine (status_line status.now) (T.contents text.old) (T.contents text.new) (T.tally text.old) (T.tally text.new) }
+    ensures counts { CountsKept (T.tally text.old) (T.tally text.new) }
 {
     let line = line_of(status);
     if !line.is_empty() {

@@ -1,6 +1,7 @@
 //! How a run ends.
 ghost use Rattle.std.specs.Prelude.{◌≡◌};
-ghost use Rattle.fz_app.specs.Status.{status_number, status_of_stop};
+ghost use Rattle.fz_app.specs.Answer.{status_of};
+ghost use Rattle.fz_app.specs.Status.{status_number};
 
 use fz_base::{Fault, Stop};
 
@@ -11,7 +12,7 @@ pub enum Status {
     Done,
     /// `verify` printed all its lines, and one says `wrong`.
     Different,
-    /// The words are no command of this program.
+    /// The words are outside the grammar, or ask for a job that is not built.
     Usage,
     /// The file is refused.
     Refused(Fault),
@@ -43,15 +44,16 @@ impl Status {
     }
 }
 
-/// The status of a job that stopped.
-pub(crate) fn stopped(stop: Stop) -> Status
-    ensures { result ≡ status_of_stop stop }
+/// How a run ends whose job answered.
+pub(crate) fn ended(answer: Result<(), Stop>) -> Status
+    ensures { result ≡ status_of answer }
 {
-    match stop {
-        Stop::Refused(fault) => Status::Refused(fault),
-        Stop::ReadFault => Status::ReadFault,
-        Stop::WriteFault => Status::WriteFault,
-        Stop::OverLimit { live, asked, limit } => Status::OverLimit { live, asked, limit },
-        Stop::NoMemory => Status::NoMemory,
+    match answer {
+        Ok(()) => Status::Done,
+        Err(Stop::Refused(fault)) => Status::Refused(fault),
+        Err(Stop::ReadFault) => Status::ReadFault,
+        Err(Stop::WriteFault) => Status::WriteFault,
+        Err(Stop::OverLimit { live, asked, limit }) => Status::OverLimit { live, asked, limit },
+        Err(Stop::NoMemory) => Status::NoMemory,
     }
 }

@@ -1,21 +1,12 @@
-//! Packs a file: each packable image becomes a table of its tiles. For now the file is one primary
-//! image of 16-bit pixels with two axes, and a tile is a row that is stored as it is.
+//! Packs a file: each image that can be packed becomes the table of its tiles, and every other HDU is copied.
 //!
-//! Reading order: `pack_file`, `headers`, `small_image`, `rest`, `layout`, `workspace`, `write`,
-//! `packed_header`, `cards`.
+//! Reading order: `pack_file`, `law`, `file`, `again`, `hdu`.
 #![tactic(auto)]
 
-mod cards;
-mod headers;
-mod layout;
+mod again;
+mod file;
+mod hdu;
+mod law;
 mod pack_file;
-mod packed_header;
-mod rest;
-mod small_image;
-#[cfg(test)]
-mod tests;
-mod workspace;
-mod write;
 
-pub use fz_packed::{CodecWord, PackOptions};
 pub use pack_file::pack;

@@ -1,89 +1,144 @@
--- The checks of all headers come first; then that of HDU 0 is read once more.
-use Rattle.std.proofs.Common.{◌≡◌, ℕ, ◌+◌, ◌*◌, ◌≤◌, ◌^◌, List, Option, OnErr, Result, Ok, Err, sym, ap, ◌∙◌, subst, rules, arith, length, take, IfSome}
-use Rattle.std.proofs.lemmas.List.{length-replicate}
-use Rattle.fz_base.specs.Stop.{IsDefined, stop_of_short}
+-- The first look stops, or knows the file, and then the work says the rest.
+use Rattle.std.proofs.Common.{◌≡◌, ℕ, ◌+◌, ◌≤◌, max, List, Option, None, IfSome, Result, Err, sum, refl, sym, subst, rules, arith}
+use Rattle.fz_base.specs.Takings.{TellsFirstPast, first_past, piled}
 use Rattle.fz_base.specs.declared.failure.Stop.{Stop}
-use Rattle.fz_block.specs.Checks.{header_blocks_of}
-use Rattle.fz_pack.specs.FirstByte.{StopsShutOrStored}
-use Rattle.fz_pack.specs.FirstFault.{first_fault, TellsFirstFault}
-use Rattle.fz_pack.specs.FirstTaking.{piled, tile_takings, later_takings, TellsFirstPast}
-use Rattle.fz_pack.specs.SmallImage.{small_axes_of}
-use Rattle.fz_base.specs.Meter.{Gauge}
-use Rattle.fz_pack.specs.Headers.{HeadersPass}
-use Rattle.fz_pack.proofs.ChecksInOrder.{headers_stopped, blocks_stopped, known_blocks}
-use Rattle.fz_pack.proofs.FirstTakings.{ShortHeader, short_header, headers_stop, blocks_stop, header_short, header_given}
+use Rattle.fz_files.specs.declared.job.Job.TheVariants.{Pack}
+use Rattle.fz_survey.specs.Surveys.{survey_takings}
+use Rattle.fz_survey.specs.Workspace.{wanted_buffers}
+use Rattle.fz_survey.specs.declared.checks.JobChecks.TheVariants.{Pack as PackChecks}
+use Rattle.fz_base.specs.Stop.{TellsLimit}
+use Rattle.fz_survey.specs.declared.survey.Survey.{Survey}
+use Rattle.fz_pack.specs.Clauses.{TellsFirstFault, greatest_bound}
+use Rattle.fz_pack.proofs.Greatest.{header_within, tells_more, tells_within, work_within}
+use Rattle.fz_pack.specs.Stages.{Works, later_takings, wants_for}
+use Rattle.fz_pack.specs.Written.{AreShutOrWhole, FinishesSeen}
+use Rattle.fz_pack.proofs.Finished.{Knows, work_faulty, work_output, work_peak, work_shut, work_takes, work_unmade}
+use Rattle.fz_pack.proofs.Outcomes.{look_faulty, look_peak, look_takes, untouched_shut, untouched_unmade}
+use Rattle.fz_pack.proofs.Working.{later_works, look_works}
 use Rattle.fz_pack.proofs.pack_file.with_block.Goals as goal
 
-pub returns-in_err-check_headers-clause-first_fault : goal.returns-in_err-check_headers-clause-first_fault
-returns-in_err-check_headers-clause-first_fault g c =
-    let stopped : TellsFirstFault {X = Unit {0}} (g.S.Source.held c.args.source.now) (Err c.in_err-check_headers.field-0.0) =
-    headers_stopped (g.S.Source.held c.args.source.now) c.in_err-check_headers.field-0.0 c.in_err-check_headers.ensures.exact in
-    search rules
-
-pub returns-in_err-check_headers-clause-first_past : goal.returns-in_err-check_headers-clause-first_past
-returns-in_err-check_headers-clause-first_past g c =
+pub returns-in_err-survey-clause-first_fault : goal.returns-in_err-survey-clause-first_fault
+returns-in_err-survey-clause-first_fault g c =
     let held : Option (List ℕ) = g.S.Source.held c.args.source.now in
-    let stopped : c.from_residual.result ≡ Err c.in_err-check_headers.field-0.0 = search rules in
-    subst (λ (r : Result (Unit {0}) Stop). IfSome held (λ f. TellsFirstPast c.args.meter.now.limit (later_takings f) r)) (sym stopped)
-    (headers_stop held c.args.meter.now.limit (g.S.Source.tally c.args.source.now) (g.S.Source.tally c.check_headers.new.source) (2 ^ 30) c.in_err-check_headers.field-0.0 c.in_err-check_headers.ensures.cause c.in_err-check_headers.ensures.exact
-    c.in_err-check_headers.ensures.first_past)
+    let stopped : c.from_residual.result ≡ Err c.in_err-survey.field-0.0 = search rules in
+    subst (λ (r : Result (Unit {0}) Stop). TellsFirstFault (Pack c.args.options.now) held r) (sym stopped)
+    (look_faulty c.args.options.now held c.known_law.ensures.refuse (Unit {0}) c.in_err-survey.field-0.0 c.in_err-survey.ensures.exact)
 
-pub returns-in_err-blocks-clause-first_fault : goal.returns-in_err-blocks-clause-first_fault
-returns-in_err-blocks-clause-first_fault g c =
+pub returns-in_err-survey-clause-first_byte : goal.returns-in_err-survey-clause-first_byte
+returns-in_err-survey-clause-first_byte g c = untouched_shut (g.K.Sink.contents c.args.sink.now) _ c.from_residual.result c.requires.empty
+
+pub returns-in_err-survey-clause-unmade : goal.returns-in_err-survey-clause-unmade
+returns-in_err-survey-clause-unmade g c = untouched_unmade (Pack c.args.options.now) (g.S.Source.held c.args.source.now) _ c.from_residual.result (refl, refl)
+
+pub returns-in_err-survey-clause-first_past : goal.returns-in_err-survey-clause-first_past
+returns-in_err-survey-clause-first_past g c =
     let held : Option (List ℕ) = g.S.Source.held c.args.source.now in
-    let exact : IfSome held (λ f. IsDefined (header_blocks_of 0 0 f) (Err c.in_err-blocks.field-0.0)) = rw c.in_ok-check_headers.ensures.held at c.in_err-blocks.ensures.exact in
-    let stopped : TellsFirstFault {X = Unit {0}} held (Err c.in_err-blocks.field-0.0) =
-    blocks_stopped held c.in_err-blocks.field-0.0 c.in_ok-check_headers.ensures.exact exact in
-    search rules
+    let meter = c.args.meter.now in
+    let W : ℕ = c.args.window.now.workers in
+    let stopped : c.from_residual.result ≡ Err c.in_err-survey.field-0.0 = search rules in
+    subst (λ (r : Result (Unit {0}) Stop). IfSome held (λ file. TellsFirstPast meter.limit (later_takings c.args.options.now file W) r)) (sym stopped)
+    (look_takes c.args.options.now held c.known_law.ensures.refuse (Unit {0}) W meter.live meter.limit c.in_err-survey.field-0.0 _ _ c.requires.one_block
+    c.in_err-survey.ensures.cause.stop c.in_err-survey.ensures.exact c.in_err-survey.ensures.first_past)
 
-pub returns-in_err-blocks-clause-first_past : goal.returns-in_err-blocks-clause-first_past
-returns-in_err-blocks-clause-first_past g c =
+pub returns-in_err-survey-clause-peak : goal.returns-in_err-survey-clause-peak
+returns-in_err-survey-clause-peak g c =
+    look_peak c.args.options.now (g.S.Source.held c.args.source.now) c.buffers_law.ensures.bounded c.args.window.now.workers c.args.meter.now.live c.args.meter.now.peak c.survey_to_pack.new.meter.peak c.requires.one_block c.in_err-survey.ensures.peak
+
+pub returns-in_err-survey-clause-emptied : goal.returns-in_err-survey-clause-emptied
+returns-in_err-survey-clause-emptied g c = λ i. record { slots = c.requires.window i; workers = c.args.window.now.workers }
+
+pub returns-in_err-survey-clause-cause : goal.returns-in_err-survey-clause-cause
+returns-in_err-survey-clause-cause g c =
+    let source = g.S.Source.tally c.args.source.now in
+    let source' = g.S.Source.tally c.survey_to_pack.new.source in
+    let sink = g.K.Sink.tally c.args.sink.now in
+    let stopped : c.from_residual.result ≡ Err c.in_err-survey.field-0.0 = search rules in
+    subst (λ (r : Result (Unit {0}) Stop). Works source source' sink sink c.args.meter.now.limit r) (sym stopped)
+    (look_works (Unit {0}) _ source source' sink c.args.meter.now.limit c.in_err-survey.field-0.0 c.in_err-survey.ensures.cause)
+
+pub returns-clause-output : goal.returns-clause-output
+returns-clause-output g c =
     let held : Option (List ℕ) = g.S.Source.held c.args.source.now in
-    let stopped : c.from_residual-in_err-blocks.result ≡ Err c.in_err-blocks.field-0.0 = search rules in
-    let exact : IfSome held (λ f. IsDefined (header_blocks_of 0 0 f) (Err c.in_err-blocks.field-0.0)) = rw c.in_ok-check_headers.ensures.held at c.in_err-blocks.ensures.exact in
-    subst (λ (r : Result (Unit {0}) Stop). IfSome held (λ f. TellsFirstPast c.args.meter.now.limit (later_takings f) r)) (sym stopped)
-    (blocks_stop held c.args.meter.now.limit (g.S.Source.tally c.check_headers.new.source) (g.S.Source.tally c.header_blocks.new.source) c.in_err-blocks.field-0.0 c.in_err-blocks.ensures.cause.stop c.in_ok-check_headers.ensures.exact exact)
+    let same : g.S.Source.held c.survey_to_pack.new.source ≡ held = search rules in
+    let now : Option (List ℕ) = g.K.Sink.contents c.work.new.sink in
+    let exact : IfSome held (Knows c.args.options.now c.in_ok-survey.survey) = c.in_ok-survey.ensures.exact in
+    let written : IfSome held (λ file. FinishesSeen c.args.options.now file c.in_ok-survey.survey now c.work.result) = rw same at c.work.ensures.written in
+    work_output c.known_law.ensures.know c.args.options.now c.in_ok-survey.survey held now c.work.result exact written
 
-pub returns-in_err-buf-clause-first_past : goal.returns-in_err-buf-clause-first_past
-returns-in_err-buf-clause-first_past g c =
+pub returns-clause-first_fault : goal.returns-clause-first_fault
+returns-clause-first_fault g c =
     let held : Option (List ℕ) = g.S.Source.held c.args.source.now in
-    let stopped : c.from_residual-in_err-buf.result ≡ Err (stop_of_short c.in_err-buf.field-0.0) = search rules in
-    let found : IfSome held (λ f. header_blocks_of 0 0 f ≡ Ok c.in_ok-blocks.blocks) = rw c.in_ok-check_headers.ensures.held at c.in_ok-blocks.ensures.exact in
-    let short : ShortHeader c.args.meter.now.limit c.in_ok-blocks.blocks c.in_err-buf.field-0.0 =
-    short_header c.check_headers.new.meter c.args.meter.now.limit c.in_ok-blocks.blocks (2880 * c.from.result) c.in_err-buf.field-0.0
-    c.in_ok-check_headers.ensures.limit (c.in_ok-check_headers.ensures.live ∙ c.requires.live) (ap (λ n. 2880 * n) c.from.ensures) c.in_err-buf.ensures.refused in
-    subst (λ (r : Result (Unit {0}) Stop). IfSome held (λ f. TellsFirstPast c.args.meter.now.limit (later_takings f) r)) (sym stopped)
-    (header_short held c.args.meter.now.limit c.in_ok-blocks.blocks c.in_err-buf.field-0.0 c.in_ok-check_headers.ensures.exact c.in_ok-check_headers.ensures.first_past found short)
+    let same : g.S.Source.held c.survey_to_pack.new.source ≡ held = search rules in
+    let now : Option (List ℕ) = g.K.Sink.contents c.work.new.sink in
+    let exact : IfSome held (Knows c.args.options.now c.in_ok-survey.survey) = c.in_ok-survey.ensures.exact in
+    let written : IfSome held (λ file. FinishesSeen c.args.options.now file c.in_ok-survey.survey now c.work.result) = rw same at c.work.ensures.written in
+    work_faulty c.known_law.ensures.know c.args.options.now c.in_ok-survey.survey held now c.work.result exact written
 
-pub with_header-answer-requires-clause-headers : goal.with_header-answer-requires-clause-headers
-with_header-answer-requires-clause-headers g c =
+pub returns-clause-first_byte : goal.returns-clause-first_byte
+returns-clause-first_byte g c =
     let held : Option (List ℕ) = g.S.Source.held c.args.source.now in
-    let found : IfSome held (λ f. header_blocks_of 0 0 f ≡ Ok c.in_ok-blocks.blocks) = rw c.in_ok-check_headers.ensures.held at c.in_ok-blocks.ensures.exact in
-    let pass : IfSome held (HeadersPass (2880 * c.in_ok-blocks.blocks)) = known_blocks held c.in_ok-blocks.blocks c.in_ok-check_headers.ensures.exact found in
-    let same : g.S.Source.held c.header_blocks.new.source ≡ held = search rules in
-    let count : length c.as_mut_slice.result.now ≡ 2880 * c.in_ok-blocks.blocks =
-    ap length c.as_mut_slice.ensures.value ∙ (ap length c.in_ok-buf.ensures.bytes ∙ (length-replicate (2880 * c.from.result) 0 ∙ ap (λ n. 2880 * n) c.from.ensures)) in
-    rw (same, count) pass
+    let same : g.S.Source.held c.survey_to_pack.new.source ≡ held = search rules in
+    let now : Option (List ℕ) = g.K.Sink.contents c.work.new.sink in
+    let exact : IfSome held (Knows c.args.options.now c.in_ok-survey.survey) = c.in_ok-survey.ensures.exact in
+    let shut : AreShutOrWhole c.args.options.now c.in_ok-survey.survey held now c.work.result = rw same at c.work.ensures.shut in
+    work_shut c.known_law.ensures.know c.args.options.now c.in_ok-survey.survey held now c.work.result exact shut
 
-pub returns-clause-stopped : goal.returns-clause-stopped
-returns-clause-stopped g c =
-    let same : g.S.Source.held c.header_blocks.new.source ≡ g.S.Source.held c.args.source.now = search rules in
-    let stopped : OnErr c.with_header-answer.result (StopsShutOrStored (g.S.Source.held c.args.source.now) (g.K.Sink.contents c.args.sink.now) (g.K.Sink.contents c.with_header-answer.new.sink)) =
-    rw same at c.with_header-answer.ensures.stopped in
-    stopped
+pub returns-clause-unmade : goal.returns-clause-unmade
+returns-clause-unmade g c =
+    let held : Option (List ℕ) = g.S.Source.held c.args.source.now in
+    let exact : IfSome held (Knows c.args.options.now c.in_ok-survey.survey) = c.in_ok-survey.ensures.exact in
+    work_unmade c.known_law.ensures.know c.args.options.now c.in_ok-survey.survey held _ c.work.result exact c.work.ensures.unmade c.work.ensures.changed
 
 pub returns-clause-first_past : goal.returns-clause-first_past
 returns-clause-first_past g c =
     let held : Option (List ℕ) = g.S.Source.held c.args.source.now in
     let meter = c.args.meter.now in
-    let n : ℕ = c.in_ok-blocks.blocks in
-    let found : IfSome held (λ f. header_blocks_of 0 0 f ≡ Ok n) = rw c.in_ok-check_headers.ensures.held at c.in_ok-blocks.ensures.exact in
-    let same : g.S.Source.held c.header_blocks.new.source ≡ held = search rules in
-    let count : 2880 * c.from.result ≡ 2880 * n = ap (λ k. 2880 * k) c.from.ensures in
-    let before : c.check_headers.new.meter.live ≡ 2880 = c.in_ok-check_headers.ensures.live ∙ c.requires.live in
-    let room : 2880 + 2880 * n ≤ meter.limit = omega (arith, c.in_ok-buf.ensures.taken, before, count, c.in_ok-check_headers.ensures.limit) in
-    let live : c.bytes.new.self.live ≡ 2880 + 2880 * n = omega (arith, ap (λ (k : Gauge). k.live) c.in_ok-buf.ensures.taken.1, before, count) in
-    let limit : c.bytes.new.self.limit ≡ meter.limit = ap (λ (k : Gauge). k.limit) c.in_ok-buf.ensures.taken.1 ∙ c.in_ok-check_headers.ensures.limit in
-    let past : IfSome held (λ f. TellsFirstPast meter.limit (piled (2880 + 2880 * n) (tile_takings (first_fault f) (small_axes_of (take 2880 f)))) c.with_header-answer.result) =
-    rw (same, live, limit) at c.with_header-answer.ensures.first_past in
-    header_given held meter.limit n c.with_header-answer.result c.in_ok-check_headers.ensures.exact c.in_ok-check_headers.ensures.first_past found room past
+    let W : ℕ = c.args.window.now.workers in
+    let exact : IfSome held (Knows c.args.options.now c.in_ok-survey.survey) = c.in_ok-survey.ensures.exact in
+    let none : IfSome held (λ file. first_past meter.limit (survey_takings (PackChecks c.args.options.now) meter.live file) ≡ None) = c.in_ok-survey.ensures.first_past in
+    let tells : TellsFirstPast meter.limit (piled meter.live (wanted_buffers (wants_for c.in_ok-survey.survey) W)) c.work.result =
+    rw (c.in_ok-survey.ensures.live, c.in_ok-survey.ensures.limit) at c.work.ensures.first_past in
+    work_takes c.known_law.ensures.know c.args.options.now c.in_ok-survey.survey W meter.live c.requires.one_block held meter.limit c.work.result exact none tells
+
+pub returns-clause-peak : goal.returns-clause-peak
+returns-clause-peak g c =
+    let held : Option (List ℕ) = g.S.Source.held c.args.source.now in
+    let meter = c.args.meter.now in
+    let W : ℕ = c.args.window.now.workers in
+    let exact : IfSome held (Knows c.args.options.now c.in_ok-survey.survey) = c.in_ok-survey.ensures.exact in
+    let high : c.work.new.meter.peak ≤ max c.survey_to_pack.new.meter.peak (meter.live + sum (wanted_buffers (wants_for c.in_ok-survey.survey) W)) = rw c.in_ok-survey.ensures.live at c.work.ensures.peak in
+    work_peak c.known_law.ensures.know c.args.options.now c.in_ok-survey.survey W meter.live c.requires.one_block c.buffers_law.ensures.bounded c.workspace_law.ensures.bound held meter.peak c.survey_to_pack.new.meter.peak c.work.new.meter.peak
+    exact c.in_ok-survey.ensures.peak high
+
+pub returns-clause-cause : goal.returns-clause-cause
+returns-clause-cause g c = later_works _ _ _ _ _ _ _ c.work.result c.in_ok-survey.ensures.cause.ok c.in_ok-survey.ensures.limit c.work.ensures.cause
+
+pub returns-in_err-survey-clause-most : goal.returns-in_err-survey-clause-most
+returns-in_err-survey-clause-most g c =
+    let W : ℕ = c.args.window.now.workers in
+    let stopped : c.from_residual.result ≡ Err c.in_err-survey.field-0.0 = search rules in
+    let within = header_within c.workspace_law.ensures.bound c.workspace_law.ensures.grows W in
+    subst (λ (r : Result (Unit {0}) Stop). TellsLimit c.args.meter.now.limit (greatest_bound (Pack c.args.options.now) W) r) (sym stopped)
+    (tells_more Survey (Unit {0}) c.args.meter.now.limit c.args.meter.now.limit (c.args.meter.now.live + 737280) (greatest_bound (Pack c.args.options.now) W) c.in_err-survey.field-0.0 refl (omega (arith, within, c.requires.one_block)) c.in_err-survey.ensures.most)
+
+pub returns-in_err-survey-clause-peak_most : goal.returns-in_err-survey-clause-peak_most
+returns-in_err-survey-clause-peak_most g c =
+    let within = header_within c.workspace_law.ensures.bound c.workspace_law.ensures.grows c.args.window.now.workers in
+    omega (arith, within, c.requires.one_block, c.in_err-survey.ensures.peak_most)
+
+pub returns-clause-most : goal.returns-clause-most
+returns-clause-most g c =
+    let W : ℕ = c.args.window.now.workers in
+    let meter = c.survey_to_pack.new.meter in
+    let s = c.in_ok-survey.survey in
+    let within = work_within c.workspace_law.ensures.bound c.workspace_law.ensures.grows W s c.in_ok-survey.ensures.survey.header.1 c.in_ok-survey.ensures.survey.tile in
+    tells_within c.workspace_law.ensures.past _ _ _ _ meter.limit c.args.meter.now.limit meter.live (greatest_bound (Pack c.args.options.now) W) (wanted_buffers (wants_for s) W) c.work.result
+    c.in_ok-survey.ensures.limit (omega (arith, within, c.requires.one_block, c.in_ok-survey.ensures.live)) c.work.ensures.cause.stop c.work.ensures.first_past
+
+pub returns-clause-peak_most : goal.returns-clause-peak_most
+returns-clause-peak_most g c =
+    let s = c.in_ok-survey.survey in
+    let W : ℕ = c.args.window.now.workers in
+    let look = header_within c.workspace_law.ensures.bound c.workspace_law.ensures.grows W in
+    let work = work_within c.workspace_law.ensures.bound c.workspace_law.ensures.grows W s c.in_ok-survey.ensures.survey.header.1 c.in_ok-survey.ensures.survey.tile in
+    omega (arith, look, work, c.requires.one_block, c.in_ok-survey.ensures.live, c.in_ok-survey.ensures.peak_most, c.work.ensures.peak)

@@ -1,0 +1,4 @@
+mod Answered
+mod Complete
+mod PackAnswers
+mod RunPromises

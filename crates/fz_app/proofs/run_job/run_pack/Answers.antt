@@ -1,0 +1,41 @@
+-- What pack says of the source that was attached and of the meter that was narrowed, it says of both as they were before.
+use Rattle.std.proofs.Common.{◌≡◌, min, sym, ap, subst, rules}
+use Rattle.fz_base.specs.Meter.{Gauge, narrowed}
+use Rattle.fz_files.specs.declared.job.Job.{Job}
+use Rattle.fz_app.specs.Promised.{Ends, IsPromised}
+use Rattle.fz_app.proofs.PackAnswers.{packed}
+use Rattle.fz_app.proofs.run_job.run_pack.Goals as goal
+
+pub returns : goal.returns
+returns g c =
+    let held : g.S.Source.held c.attach.new.self ≡ g.S.Source.held c.args.source.now = c.attach.ensures.held in
+    let ranges : g.S.Source.ranges c.attach.new.self ≡ g.S.Source.ranges c.args.source.now = c.attach.ensures.ranges in
+    let tally : g.S.Source.tally c.attach.new.self ≡ g.S.Source.tally c.args.source.now = search rules in
+    let meter : c.narrow.new.self ≡ narrowed c.args.meter.now c.args.request.now.memory = c.narrow.ensures in
+    let limit : c.narrow.new.self.limit ≡ min c.args.meter.now.limit c.args.request.now.memory = ap (λ (m : Gauge). m.limit) meter in
+    let none : c.narrow.new.self.peak ≡ 0 = search rules in
+    let workers : c.in_ok-window.window.workers ≡ c.args.request.now.workers = search rules in
+    let old : Ends = record { held = g.S.Source.held c.args.source.now; ranges = g.S.Source.ranges c.args.source.now; source = g.S.Source.tally c.args.source.now; contents = g.K.Sink.contents c.args.sink.now; created = g.K.Sink.created c.args.sink.now; finished = g.K.Sink.finished c.args.sink.now; sink = g.K.Sink.tally c.args.sink.now; meter = c.args.meter.now } in
+    let new : Ends = record { held = g.S.Source.held c.pack.new.source; ranges = g.S.Source.ranges c.pack.new.source; source = g.S.Source.tally c.pack.new.source; contents = g.K.Sink.contents c.pack.new.sink; created = g.K.Sink.created c.pack.new.sink; finished = g.K.Sink.finished c.pack.new.sink; sink = g.K.Sink.tally c.pack.new.sink; meter = c.pack.new.meter } in
+    record {
+      promised = subst (λ (j : Job). IsPromised (record { job = j; workers = c.args.request.now.workers; memory = c.args.request.now.memory; input = c.args.request.now.input.now; output = c.args.request.now.output.now }) old new c.pack.result) (sym c.requires.job)
+          (packed c.args.options.now c.args.request.now.workers c.args.request.now.memory c.args.request.now.input.now c.args.request.now.output.now old new c.requires.empty c.round_trip_law.ensures c.requires.options c.pack.result
+          (record {
+            output = rw held at c.pack.ensures.output;
+            finished = c.pack.ensures.finished;
+            first_fault = rw held at c.pack.ensures.first_fault;
+            answered = rw (held, tally, limit, workers) at c.pack.ensures.answered;
+            cause = rw (held, tally, limit, workers) at c.pack.ensures.cause;
+            first_byte = rw held at c.pack.ensures.first_byte;
+            unmade = rw held at c.pack.ensures.unmade;
+            live = c.pack.ensures.buffers.live;
+            limit = rw limit at c.pack.ensures.buffers.limit;
+            peak = rw (held, none, workers) at c.pack.ensures.buffers.peak;
+            most = rw (none, workers) at c.pack.ensures.buffers.most;
+            held_is = rw held at c.pack.ensures.kept.held_is;
+            told_ranges = rw ranges at c.pack.ensures.told_ranges;
+            told_contents = c.pack.ensures.told_contents;
+            source_counts = rw tally at c.pack.ensures.kept.source_counts;
+            sink_counts = c.pack.ensures.kept.sink_counts;
+          }));
+    }

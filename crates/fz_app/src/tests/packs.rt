@@ -1,0 +1,150 @@
+//! Files that are packed.
+use super::files::{Row, file_of, fill_block, put_card};
+use super::{Conditions, FREE, grids, headers, outcome_of, records, small, to_pack};
+use crate::Status;
+use fz_base::FreeGate;
+use std::alloc::{AllocError, Global};
+use std::process::Abort;
+use std::test::Fail;
+use std::thread::Threads;
+
+/// The numbers of workers that a row is packed with.
+const WORKERS: [&[&str]; 4] = [
+    &[],
+    &["--workers", "1"],
+    &["--workers=2"],
+    &["--workers", "8"],
+];
+
+/// Asks that the file is packed so, by any number of workers.
+fn assert_packs<R: Threads + Sync + AllocGlobal + Abort>(
+    rt: &R,
+    options: &[&str],
+    plain: &[u8],
+    packed: &[u8],
+) -> Result<(), Fail> {
+    for workers in WORKERS {
+        let words = to_pack(rt.alloc(), options, workers)?;
+        let outcome = outcome_of(rt, &words, plain, FREE, &FreeGate)?;
+        assert_eq!(rt; outcome.status, Status::Done, "{options:?} {workers:?}");
+        assert_eq!(rt; outcome.sink.contents(), packed, "{options:?} {workers:?}");
+        assert_eq!(rt; outcome.text.contents(), b"".as_slice());
+        assert_eq!(rt; outcome.live, 0);
+        assert_eq!(rt; outcome.source.faults(), 0);
+        assert_eq!(rt; outcome.sink.faults(), 0);
+    }
+    Ok(())
+}
+
+fn assert_rows_pack<R: Threads + Sync + AllocGlobal + Abort>(
+    rt: &R,
+    rows: &[Row<'_>],
+) -> Result<(), Fail> {
+    for row in rows {
+        let plain = file_of(rt.alloc(), row.plain)?;
+        let packed = file_of(rt.alloc(), row.packed)?;
+        assert_packs(rt, row.options, &plain, &packed)?;
+    }
+    Ok(())
+}
+
+#[test]
+fn packs_the_small_file(rt: HostRuntime) -> Result<(), Fail> {
+    assert_rows_pack(&rt, &small::ROWS)
+}
+
+#[test]
+fn packs_in_tiles(rt: HostRuntime) -> Result<(), Fail> {
+    assert_rows_pack(&rt, &grids::ROWS)
+}
+
+#[test]
+fn packs_tiles_as_codes_or_stored(rt: HostRuntime) -> Result<(), Fail> {
+    assert_rows_pack(&rt, &records::ROWS)
+}
+
+#[test]
+fn packs_headers_and_many_hdus(rt: HostRuntime) -> Result<(), Fail> {
+    assert_rows_pack(&rt, &headers::ROWS)
+}
+
+// With ample memory this says no more than a row above; `tools/fail_allocations` lets allocations of the run fail.
+#[test]
+fn nothing_is_live_without_memory(rt: HostRuntime) -> Result<(), Fail> {
+    let alloc = rt.alloc();
+    let file = file_of(alloc, &[small::SMALL_FILE])?;
+    let outcome = outcome_of(&rt, &["pack", "IN", "OUT"], &file, FREE, &FreeGate)?;
+    assert!(rt; matches!(outcome.status, Status::Done | Status::NoMemory));
+    assert_eq!(rt; outcome.live, 0);
+    Ok(())
+}
+
+// Also for `tools/fail_allocations`.
+#[test]
+fn ample_memory_packs_the_small_file(rt: HostRuntime) -> Result<(), Fail> {
+    let alloc = rt.alloc();
+    let file = file_of(alloc, &[small::SMALL_FILE])?;
+    let packed = file_of(alloc, &[small::EMPTY_PRIMARY_HDU, small::SMALL_PACKED])?;
+    let outcome = outcome_of(&rt, &["pack", "IN", "OUT"], &file, FREE, &FreeGate)?;
+    assert_eq!(rt; outcome.status, Status::Done);
+    assert_eq!(rt; outcome.sink.contents(), packed.as_slice());
+    Ok(())
+}
+
+/// Cards, so many times the card COMMENT, END, and blanks; and data.
+fn commented(
+    alloc: Global,
+    before: &[u8],
+    cards: &[&str],
+    comments: u32,
+    data: &[u8],
+) -> Result<Vec<u8>, AllocError> {
+    let mut file = before.to_vec(alloc)?;
+    for card in cards {
+        put_card(&mut file, card)?;
+    }
+    for _ in 0..comments {
+        put_card(&mut file, "COMMENT and so on")?;
+    }
+    put_card(&mut file, "END")?;
+    fill_block(&mut file, b' ')?;
+    file.extend_from_slice(data)?;
+    fill_block(&mut file, 0)?;
+    Ok(file)
+}
+
+// A header of 35 cards and END has one block, and one of 36 has two; packed, both have two.
+#[test]
+fn headers_have_whole_blocks(rt: HostRuntime) -> Result<(), Fail> {
+    let alloc = rt.alloc();
+    let primary = file_of(alloc, &[small::EMPTY_PRIMARY_HDU])?;
+    let mut data = vec![in alloc; 0u8; 0]?;
+    for number in small::SMALL_ROWS {
+        data.extend_from_slice(&number.to_be_bytes())?;
+    }
+    data.extend_from_slice(&small::SMALL_CODES)?;
+    for (comments, len) in [(30, 5760), (31, 8640)] {
+        let plain = commented(alloc, &[], &small::SMALL, comments, &small::SMALL_PIXELS)?;
+        assert_eq!(rt; plain.len(), len);
+        let packed = commented(alloc, &primary, &small::SMALL_TABLE, comments, &data)?;
+        assert_eq!(rt; packed.len(), 4 * 2880);
+        assert_packs(&rt, &[], &plain, &packed)?;
+    }
+    Ok(())
+}
+
+// A header of 256 blocks is full: the table's would have more.
+#[test]
+fn packed_header_past_256_blocks_is_refused(rt: HostRuntime) -> Result<(), Fail> {
+    let alloc = rt.alloc();
+    let comments = 256 * 36 - 1 - 5;
+    let plain = commented(alloc, &[], &small::SMALL, comments, &small::SMALL_PIXELS)?;
+    assert_eq!(rt; plain.len(), 257 * 2880);
+    let on = Conditions { sink: 0, ..FREE };
+    let outcome = outcome_of(&rt, &["pack", "IN", "OUT"], &plain, on, &FreeGate)?;
+    assert_eq!(rt;
+        outcome.text.contents(),
+        b"refused: 11 Limit hdu 0 card 9215\n".as_slice()
+    );
+    Ok(())
+}

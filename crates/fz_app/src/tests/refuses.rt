@@ -1,0 +1,451 @@
+//! Files that are refused.
+use super::files::{Hdu, file_of};
+use super::grids::{GRID_ROWS, GRID_TABLE, GRID_TILES};
+use super::headers::NO_IMAGE;
+use super::small::{EMPTY_PRIMARY_HDU, SMALL_FILE, SMALL_PIXELS};
+use super::{Conditions, FREE, outcome_of, to_pack};
+use fz_base::FreeGate;
+use std::alloc::AllocError;
+use std::process::Abort;
+use std::test::Fail;
+use std::thread::Threads;
+
+/// What is done to a file.
+enum Change {
+    Nothing,
+    /// It is cut to so many bytes, or gets zeros up to them.
+    Length(usize),
+    /// A byte is put at a place.
+    Byte(usize, u8),
+    /// The header of the small file gets a further card.
+    Card(&'static str),
+}
+
+/// A file that is refused, what it is packed with, and its line.
+struct Refusal {
+    hdus: &'static [Hdu<'static>],
+    change: Change,
+    options: &'static [&'static str],
+    line: &'static str,
+}
+
+const SIMPLE: &str = "SIMPLE  =                    T";
+
+const NOT_SIMPLE: [Hdu<'static>; 1] = [Hdu {
+    cards: &[
+        "SIMPLE  =                    F",
+        "BITPIX  =                    8",
+        "NAXIS   =                    0",
+    ],
+    numbers: &[],
+    bytes: &[],
+}];
+
+const SIMPLE_ALONE: [Hdu<'static>; 1] = [Hdu {
+    cards: &[SIMPLE],
+    numbers: &[],
+    bytes: &[],
+}];
+
+const OTHER_BITPIX: [Hdu<'static>; 1] = [Hdu {
+    cards: &[
+        SIMPLE,
+        "BITPIX  =                   12",
+        "NAXIS   =                    0",
+    ],
+    numbers: &[],
+    bytes: &[],
+}];
+
+const TEN_AXES: [Hdu<'static>; 1] = [Hdu {
+    cards: &[
+        SIMPLE,
+        "BITPIX  =                    8",
+        "NAXIS   =                   10",
+    ],
+    numbers: &[],
+    bytes: &[],
+}];
+
+/// An image of more bytes than a file has places.
+const NINE_LONG_AXES: [Hdu<'static>; 1] = [Hdu {
+    cards: &[
+        SIMPLE,
+        "BITPIX  =                    8",
+        "NAXIS   =                    9",
+        "NAXIS1  =           2147483647",
+        "NAXIS2  =           2147483647",
+        "NAXIS3  =           2147483647",
+        "NAXIS4  =           2147483647",
+        "NAXIS5  =           2147483647",
+        "NAXIS6  =           2147483647",
+        "NAXIS7  =           2147483647",
+        "NAXIS8  =           2147483647",
+        "NAXIS9  =           2147483647",
+    ],
+    numbers: &[],
+    bytes: &[],
+}];
+
+const RANDOM_GROUPS: [Hdu<'static>; 1] = [Hdu {
+    cards: &[
+        SIMPLE,
+        "BITPIX  =                   16",
+        "NAXIS   =                    2",
+        "NAXIS1  =                    0",
+        "NAXIS2  =                    2",
+        "GROUPS  =                    T",
+    ],
+    numbers: &[],
+    bytes: &[],
+}];
+
+/// Pixels without signs.
+const OFFSET: [Hdu<'static>; 1] = [Hdu {
+    cards: &[
+        SIMPLE,
+        "BITPIX  =                   16",
+        "NAXIS   =                    2",
+        "NAXIS1  =                    4",
+        "NAXIS2  =                    2",
+        "EXTEND  =                    T",
+        "BZERO   =                32768",
+    ],
+    numbers: &[],
+    bytes: &SMALL_PIXELS,
+}];
+
+/// The grid file, packed.
+const PACKED: [Hdu<'static>; 2] = [
+    EMPTY_PRIMARY_HDU,
+    Hdu {
+        cards: &GRID_TABLE,
+        numbers: &GRID_ROWS,
+        bytes: &GRID_TILES,
+    },
+];
+
+/// A compressed table.
+const TABLE: [Hdu<'static>; 2] = [
+    Hdu {
+        cards: &NO_IMAGE,
+        numbers: &[],
+        bytes: &[],
+    },
+    Hdu {
+        cards: &[
+            "XTENSION= 'BINTABLE'",
+            "BITPIX  =                    8",
+            "NAXIS   =                    2",
+            "NAXIS1  =                    4",
+            "NAXIS2  =                    1",
+            "PCOUNT  =                    0",
+            "GCOUNT  =                    1",
+            "TFIELDS =                    1",
+            "TFORM1  = '1J      '",
+            "ZTABLE  =                    T",
+        ],
+        numbers: &[1],
+        bytes: &[],
+    },
+];
+
+/// A file of another packer.
+const OF_ANOTHER: [Hdu<'static>; 2] = [
+    Hdu {
+        cards: &[
+            SIMPLE,
+            "BITPIX  =                   16",
+            "NAXIS   =                    0",
+            "EXTEND  =                    T",
+            "COMMENT empty",
+        ],
+        numbers: &[],
+        bytes: &[],
+    },
+    Hdu {
+        cards: &[
+            "XTENSION= 'BINTABLE'           / binary table",
+            "BITPIX  =                    8",
+            "NAXIS   =                    2",
+            "NAXIS1  =                    8",
+            "NAXIS2  =                    1",
+            "PCOUNT  =                    6",
+            "GCOUNT  =                    1",
+            "TFIELDS =                    1",
+            "TTYPE1  = 'COMPRESSED_DATA'",
+            "TFORM1  = '1PB(6)  '",
+            "ZIMAGE  =                    T",
+            "ZCMPTYPE= 'RICE_1  '",
+            "ZBITPIX =                   16",
+            "ZNAXIS  =                    1",
+            "ZNAXIS1 =                    3",
+            "ZSIMPLE =                    T",
+        ],
+        numbers: &[6, 0],
+        bytes: &[0, 0, 3, 0xe8, 0x0e, 4],
+    },
+];
+
+/// The small file, and behind it an extension with a faulty card.
+const BEHIND: [Hdu<'static>; 2] = [
+    SMALL_FILE,
+    Hdu {
+        cards: &[
+            "XTENSION= 'IMAGE   '",
+            "BITPIX  =                   16",
+            "NAXIS   = 'two     '",
+        ],
+        numbers: &[],
+        bytes: &[],
+    },
+];
+
+const REFUSED: [Refusal; 31] = [
+    Refusal {
+        hdus: &[SMALL_FILE],
+        change: Change::Length(2879),
+        options: &[],
+        line: "refused: 2 Truncated hdu 0 byte 2879\n",
+    },
+    Refusal {
+        hdus: &[SMALL_FILE],
+        change: Change::Length(5759),
+        options: &[],
+        line: "refused: 2 Truncated hdu 0 byte 5759\n",
+    },
+    Refusal {
+        hdus: &[SMALL_FILE],
+        change: Change::Length(0),
+        options: &[],
+        line: "refused: 2 Truncated hdu 0 byte 0\n",
+    },
+    Refusal {
+        hdus: &[SMALL_FILE],
+        change: Change::Length(5770),
+        options: &[],
+        line: "refused: 8 TrailingBytes hdu 1 byte 5760\n",
+    },
+    Refusal {
+        hdus: &[SMALL_FILE],
+        change: Change::Length(8640),
+        options: &[],
+        line: "refused: 8 TrailingBytes hdu 1 byte 5760\n",
+    },
+    Refusal {
+        hdus: &[SMALL_FILE],
+        change: Change::Byte(2879, b'X'),
+        options: &[],
+        line: "refused: 6 HeaderFill hdu 0 byte 2879\n",
+    },
+    Refusal {
+        hdus: &[SMALL_FILE],
+        change: Change::Byte(408, b'X'),
+        options: &[],
+        line: "refused: 6 HeaderFill hdu 0 byte 408\n",
+    },
+    Refusal {
+        hdus: &[SMALL_FILE],
+        change: Change::Byte(408, b'\t'),
+        options: &[],
+        line: "refused: 6 HeaderFill hdu 0 byte 408\n",
+    },
+    Refusal {
+        hdus: &[SMALL_FILE],
+        change: Change::Byte(2896, 1),
+        options: &[],
+        line: "refused: 7 DataFill hdu 0 byte 2896\n",
+    },
+    Refusal {
+        hdus: &[SMALL_FILE],
+        change: Change::Byte(5759, b' '),
+        options: &[],
+        line: "refused: 7 DataFill hdu 0 byte 5759\n",
+    },
+    Refusal {
+        hdus: &[SMALL_FILE],
+        change: Change::Byte(0, b's'),
+        options: &[],
+        line: "refused: 1 NotFits hdu 0 card 0\n",
+    },
+    Refusal {
+        hdus: &[SMALL_FILE],
+        change: Change::Byte(400, b'X'),
+        options: &[],
+        line: "refused: 2 Truncated hdu 0 byte 5760\n",
+    },
+    Refusal {
+        hdus: &NOT_SIMPLE,
+        change: Change::Nothing,
+        options: &[],
+        line: "refused: 1 NotFits hdu 0 card 0\n",
+    },
+    Refusal {
+        hdus: &SIMPLE_ALONE,
+        change: Change::Nothing,
+        options: &[],
+        line: "refused: 4 BadCard hdu 0 card 1\n",
+    },
+    Refusal {
+        hdus: &OTHER_BITPIX,
+        change: Change::Nothing,
+        options: &[],
+        line: "refused: 4 BadCard hdu 0 card 1\n",
+    },
+    Refusal {
+        hdus: &TEN_AXES,
+        change: Change::Nothing,
+        options: &[],
+        line: "refused: 11 Limit hdu 0 card 2\n",
+    },
+    Refusal {
+        hdus: &NINE_LONG_AXES,
+        change: Change::Nothing,
+        options: &[],
+        line: "refused: 11 Limit hdu 0 card 2\n",
+    },
+    Refusal {
+        hdus: &RANDOM_GROUPS,
+        change: Change::Length(5760),
+        options: &[],
+        line: "refused: 12 Groups hdu 0 card 5\n",
+    },
+    Refusal {
+        hdus: &[SMALL_FILE],
+        change: Change::Card("ZTILE1  =                    4"),
+        options: &[],
+        line: "refused: 9 Reserved hdu 0 card 5\n",
+    },
+    Refusal {
+        hdus: &[SMALL_FILE],
+        change: Change::Card("NAXIS3  =                    1"),
+        options: &[],
+        line: "refused: 9 Reserved hdu 0 card 5\n",
+    },
+    Refusal {
+        hdus: &[SMALL_FILE],
+        change: Change::Card("EXTNAME = 'COMPRESSED_IMAGE'"),
+        options: &[],
+        line: "refused: 9 Reserved hdu 0 card 5\n",
+    },
+    Refusal {
+        hdus: &[SMALL_FILE],
+        change: Change::Card("XTENSION= 'IMAGE   '"),
+        options: &[],
+        line: "refused: 9 Reserved hdu 0 card 5\n",
+    },
+    Refusal {
+        hdus: &[SMALL_FILE],
+        change: Change::Card("BITPIX  =                   16"),
+        options: &[],
+        line: "refused: 5 Duplicate hdu 0 card 5\n",
+    },
+    Refusal {
+        hdus: &OFFSET,
+        change: Change::Nothing,
+        options: &["--codec", "plio"],
+        line: "refused: 29 PlioOffset hdu 0 card 6\n",
+    },
+    Refusal {
+        hdus: &PACKED,
+        change: Change::Nothing,
+        options: &[],
+        line: "refused: 10 AlreadyPacked hdu 1 card 12\n",
+    },
+    Refusal {
+        hdus: &TABLE,
+        change: Change::Nothing,
+        options: &[],
+        line: "refused: 10 AlreadyPacked hdu 1 card 9\n",
+    },
+    Refusal {
+        hdus: &OF_ANOTHER,
+        change: Change::Nothing,
+        options: &[],
+        line: "refused: 10 AlreadyPacked hdu 1 card 10\n",
+    },
+    Refusal {
+        hdus: &BEHIND,
+        change: Change::Nothing,
+        options: &[],
+        line: "refused: 4 BadCard hdu 1 card 2\n",
+    },
+    Refusal {
+        hdus: &BEHIND,
+        change: Change::Card("ZTILE1  =                    4"),
+        options: &[],
+        line: "refused: 9 Reserved hdu 0 card 5\n",
+    },
+    Refusal {
+        hdus: &BEHIND,
+        change: Change::Length(8639),
+        options: &[],
+        line: "refused: 2 Truncated hdu 1 byte 8639\n",
+    },
+    Refusal {
+        hdus: &BEHIND,
+        change: Change::Length(5767),
+        options: &[],
+        line: "refused: 8 TrailingBytes hdu 1 byte 5760\n",
+    },
+];
+
+/// Asks that the file is refused with this line, that nothing is live, and that the sink is not called: its first call would
+/// fail.
+fn assert_refused<R: Threads + Sync + AllocGlobal + Abort>(
+    rt: &R,
+    file: &[u8],
+    options: &[&str],
+    line: &str,
+) -> Result<(), Fail> {
+    let words = to_pack(rt.alloc(), options, &["--workers=2"])?;
+    let on = Conditions { sink: 0, ..FREE };
+    let outcome = outcome_of(rt, &words, file, on, &FreeGate)?;
+    assert_eq!(rt; outcome.text.contents(), line.as_bytes(), "{line}");
+    assert_eq!(rt; outcome.status.number(), 3, "{line}");
+    assert_eq!(rt; outcome.sink.contents(), b"".as_slice(), "{line}");
+    assert_eq!(rt; outcome.sink.faults(), 0, "{line}");
+    assert_eq!(rt; outcome.live, 0, "{line}");
+    Ok(())
+}
+
+/// Puts a text at a place, where the file has that.
+fn put(file: &mut [u8], at: usize, text: &[u8]) {
+    if at <= file.len() && text.len() <= file.len() - at {
+        file[at..at + text.len()].copy_from_slice(text);
+    }
+}
+
+fn changed_bytes(file: &mut Vec<u8>, change: &Change) -> Result<(), AllocError> {
+    match change {
+        Change::Nothing => {}
+        Change::Length(len) => file.resize(*len, 0)?,
+        Change::Byte(at, byte) => put(file, *at, &[*byte]),
+        Change::Card(text) => {
+            put(file, 5 * 80, text.as_bytes());
+            put(file, 6 * 80, b"END");
+        }
+    }
+    Ok(())
+}
+
+#[test]
+fn refuses_for_the_first_fault(rt: HostRuntime) -> Result<(), Fail> {
+    for refusal in &REFUSED {
+        let mut file = file_of(rt.alloc(), refusal.hdus)?;
+        changed_bytes(&mut file, &refusal.change)?;
+        assert_refused(&rt, &file, refusal.options, refusal.line)?;
+    }
+    Ok(())
+}
+
+#[test]
+fn refuses_blocks_without_end(rt: HostRuntime) -> Result<(), Fail> {
+    let blanks = vec![in rt.alloc(); b' '; 2880]?;
+    assert_refused(&rt, &blanks, &[], "refused: 1 NotFits hdu 0 card 0\n")?;
+    let mut long = SIMPLE.as_bytes().to_vec(rt.alloc())?;
+    long.resize(256 * 2880, b' ')?;
+    assert_refused(&rt, &long, &[], "refused: 3 LongHeader hdu 0 byte 0\n")?;
+    long.resize(255 * 2880, b' ')?;
+    assert_refused(&rt, &long, &[], "refused: 2 Truncated hdu 0 byte 734400\n")
+}

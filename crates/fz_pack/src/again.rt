@@ -1,0 +1,130 @@
+//! The header of an HDU, read once more.
+ghost use Rattle.std.specs.Prelude.{◌≡◌, ◌⊎◌, ◌+◌, ◌*◌, ◌^◌, ◌≤◌, ◌<◌, ◌||◌, nat_lt, true, Bool, Some, codes, length as len, IfOk, IfSome};
+ghost use Rattle.fz_base.specs.Refusal.{refusal};
+ghost use Rattle.fz_base.specs.Stop.{IfRefused, ReadsOnly};
+ghost use Rattle.fz_base.specs.Told.{StaysTold};
+ghost use Rattle.fz_base.specs.declared.failure.Stop.TheVariants.{Refused};
+ghost use Rattle.fz_base.specs.declared.fault.Place.TheVariants.{Card as AtCard};
+ghost use Rattle.fz_base.specs.declared.kind.Kind.TheVariants.{BadCard};
+ghost use Rattle.fz_block.specs.Cards.{card_at};
+ghost use Rattle.fz_block.specs.Checks.{is_set};
+ghost use Rattle.fz_grid.specs.Region.{IsDivided};
+ghost use Rattle.fz_head.specs.Planned.{AreOptions};
+ghost use Rattle.fz_pack.specs.Clauses.{IsChanged};
+ghost use Rattle.fz_pack.specs.Again.{IsAgain, ReadsAsSeen, is_larger as is_larger_of, largest_of};
+ghost use Rattle.fz_pack.specs.Keeps.{SourceStays};
+
+use fz_base::{Fault, Kind, Place, Source, Stop, log_law};
+use fz_block::{BLOCK_LEN, Header, again_law, card, header_again};
+use fz_card::Name;
+use fz_grid::Grid;
+use fz_head::{PackOptions, Plan, plan_to_pack};
+
+/// An HDU whose header was read once more, and how it is packed, if it is.
+#[derive(Clone, Copy, Debug)]
+pub(crate) struct Again {
+    pub(crate) header: Header,
+    pub(crate) plan: Option<Plan>,
+}
+
+/// Reads the header of an HDU once more, into the first bytes of a buffer, and makes its plan, whose tiles have
+/// at most so many pixels.
+///
+/// Refused: only where the source gives other bytes than before, and then with BadCard at card 0 of the HDU.
+pub(crate) fn read_again<S: Source>(
+    source: &mut S,
+    length: u64,
+    hdu: u32,
+    start: u64,
+    options: &PackOptions,
+    tile: u32,
+    block: &mut [u8],
+    buf: &mut [u8],
+) -> Result<Again, Stop>
+    requires attached { S.attached source.old ≡ Some length }
+    requires within { (start < length) ⊎ ((hdu ≡ 0) × (start ≡ 0)) }
+    requires block { len block.old ≡ 2880 }
+    requires options { AreOptions options.now }
+    ensures again { IfOk result (IsAgain options.now (S.held source.old) length buf.new) }
+    ensures place { IfOk result (λ a. (a.header.hdu ≡ hdu) × (a.header.start ≡ start)) }
+    ensures small { IfOk result (λ a. IfSome a.plan (λ p. largest_of p ≤ tile)) }
+    ensures as_seen { IfSome (S.held source.old) (λ g. ReadsAsSeen options.now g hdu start (len buf.old) tile result) }
+    ensures refused { IfRefused result IsChanged }
+    ensures block { len block.new ≡ 2880 }
+    ensures buf { len buf.new ≡ len buf.old }
+    ensures source { SourceStays (S.held source.old) (S.held source.new) (S.attached source.old) (S.attached source.new) }
+    ensures told { StaysTold (S.ranges source.old) (S.ranges source.new) }
+    ensures cause { ReadsOnly (S.tally source.old) (S.tally source.new) result }
+{
+    match read_planned(source, length, hdu, start, options, tile, block, buf) {
+        Err(Stop::Refused(_)) => Err(changed(hdu)),
+        answer => answer,
+    }
+}
+
+// The same, refused as the header is that was read.
+fn read_planned<S: Source>(
+    source: &mut S,
+    length: u64,
+    hdu: u32,
+    start: u64,
+    options: &PackOptions,
+    tile: u32,
+    block: &mut [u8],
+    buf: &mut [u8],
+) -> Result<Again, Stop>
+    requires attached { S.attached source.old ≡ Some length }
+    requires within { (start < length) ⊎ ((hdu ≡ 0) × (start ≡ 0)) }
+    requires block { len block.old ≡ 2880 }
+    requires options { AreOptions options.now }
+    ensures again { IfOk result (IsAgain options.now (S.held source.old) length buf.new) }
+    ensures place { IfOk result (λ a. (a.header.hdu ≡ hdu) × (a.header.start ≡ start)) }
+    ensures small { IfOk result (λ a. IfSome a.plan (λ p. largest_of p ≤ tile)) }
+    ensures as_seen { IfSome (S.held source.old) (λ g. ReadsAsSeen options.now g hdu start (len buf.old) tile result) }
+    ensures block { len block.new ≡ 2880 }
+    ensures buf { len buf.new ≡ len buf.old }
+    ensures source { SourceStays (S.held source.old) (S.held source.new) (S.attached source.old) (S.attached source.new) }
+    ensures told { StaysTold (S.ranges source.old) (S.ranges source.new) }
+    ensures cause { ReadsOnly (S.tally source.old) (S.tally source.new) result }
+{
+    again_law();
+    log_law();
+    let header = header_again(source, length, hdu, start, block, buf)?;
+    let buf = &buf[..BLOCK_LEN * header.blocks as usize];
+    let plan = plan_to_pack(buf, &header, options).map_err(Stop::Refused)?;
+    if is_larger(&plan, tile) || !begins_file(hdu, buf) {
+        return Err(changed(hdu));
+    }
+    Ok(Again { header, plan })
+}
+
+// Whether the tiles have more pixels than those that were met before.
+fn is_larger(plan: &Option<Plan>, tile: u32) -> bool
+    requires { IfSome plan.now (λ p. IsDivided p.shape p.tile) }
+    ensures { result ≡ is_larger_of tile plan.now }
+{
+    match plan {
+        Some(plan) => Grid::new(plan.shape, plan.tile).largest() > tile,
+        None => false,
+    }
+}
+
+// Whether the header begins as that of this HDU: in HDU 0 with SIMPLE = T.
+fn begins_file(hdu: u32, buf: &[u8]) -> bool
+    requires { 80 ≤ len buf.now }
+    ensures { result ≡ (nat_lt 0 hdu || is_set (codes "SIMPLE") (card_at buf.now 0)) }
+{
+    let first = card(buf, 0);
+    hdu > 0 || (first.name() == Name::SIMPLE && first.logical().unwrap_or(false))
+}
+
+// The source gave other bytes than before.
+fn changed(hdu: u32) -> Stop
+    ensures { result ≡ Refused (refusal hdu (AtCard 0) BadCard) }
+{
+    Stop::Refused(Fault {
+        hdu,
+        at: Place::Card(0),
+        kind: Kind::BadCard,
+    })
+}

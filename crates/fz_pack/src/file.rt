@@ -1,0 +1,115 @@
+//! The packed file, HDU by HDU.
+ghost use Rattle.std.specs.Prelude.{◌≡◌, ◌⊎◌, ◌+◌, ◌*◌, ◌≤◌, ◌<◌, true, [], IsTrue, Some, IsErrOf, length as len, replicate, IfSome, OnOk, OnErr};
+ghost use Rattle.fz_base.specs.FirstByte.{IsShut, with_first_byte};
+ghost use Rattle.fz_base.specs.Sink.{emptied};
+ghost use Rattle.fz_head.specs.Planned.{AreOptions};
+ghost use Rattle.fz_pool.specs.Window.{slot_sizes};
+ghost use Rattle.fz_base.specs.Stop.{IfRefused};
+ghost use Rattle.fz_base.specs.Told.{StaysTold};
+ghost use Rattle.fz_pack.specs.Clauses.{IsChanged};
+ghost use Rattle.fz_pack.specs.Behind.{RewritesSeen};
+ghost use Rattle.fz_pack.specs.Written.{AreShutOrWhole, FinishesSeen};
+ghost use Rattle.fz_pack.specs.Keeps.{Rewrites, SinkStays, SourceStays, SpaceStays, WindowStays};
+
+use crate::again::read_again;
+use crate::hdu::write_hdu;
+use fz_base::{Gate, Sink, Source, Stop, output_law, seal};
+use fz_block::next_start;
+use fz_head::PackOptions;
+use fz_pool::Window;
+use fz_survey::{Survey, Workspace};
+use std::thread::Threads;
+
+/// Makes the sink, writes the packed file, its byte 0 last, and finishes.
+pub(crate) fn write_file<R: Threads + Sync, S: Source, K: Sink, G: Gate>(
+    rt: &R,
+    source: &mut S,
+    length: u64,
+    name: &str,
+    sink: &mut K,
+    window: &mut Window,
+    gate: &G,
+    options: &PackOptions,
+    survey: &Survey,
+    space: &mut Workspace,
+    block: &mut [u8],
+) -> Result<(), Stop>
+    requires attached { S.attached source.old ≡ Some length }
+    requires empty { IfSome (K.contents sink.old) (λ c. c ≡ []) }
+    requires options { AreOptions options.now }
+    requires some { 0 < survey.now.hdus }
+    requires few { survey.now.hdus ≤ 65535 }
+    requires window { slot_sizes window.old.slots ≡ replicate (2 * window.old.workers) (2 * survey.now.tile, 8 * survey.now.tile + 64) }
+    requires header { len space.old.header ≡ survey.now.header_len }
+    requires translated { len space.old.header + 2880 ≤ len space.old.translated }
+    requires copy { 4096 ≤ len space.old.copy }
+    requires block { len block.old ≡ 2880 }
+    ensures written { IfSome (S.held source.old) (λ g. FinishesSeen options.now g survey.now (K.contents sink.new) result) }
+    ensures finished { OnOk result (K.finished sink.new ≡ true) }
+    ensures shut { AreShutOrWhole options.now survey.now (S.held source.old) (K.contents sink.new) result }
+    ensures block { len block.new ≡ 2880 }
+    ensures space { SpaceStays space.old space.new }
+    ensures window { WindowStays window.old window.new }
+    ensures source { SourceStays (S.held source.old) (S.held source.new) (S.attached source.old) (S.attached source.new) }
+    ensures changed { IfRefused result IsChanged }
+    ensures told_ranges { StaysTold (S.ranges source.old) (S.ranges source.new) }
+    ensures told_contents { StaysTold (K.contents sink.old) (K.contents sink.new) }
+    ensures cause { Rewrites (S.tally source.old) (S.tally source.new) (K.tally sink.old) (K.tally sink.new) result }
+{
+    output_law();
+    sink.create(name).map_err(Stop::writing)?;
+    write_hdus(
+        rt, source, length, sink, window, gate, options, survey, space, block,
+    )?;
+    seal(sink)
+}
+
+// Writes the HDUs of the packed file, without byte 0.
+fn write_hdus<R: Threads + Sync, S: Source, K: Sink, G: Gate>(
+    rt: &R,
+    source: &mut S,
+    length: u64,
+    sink: &mut K,
+    window: &mut Window,
+    gate: &G,
+    options: &PackOptions,
+    survey: &Survey,
+    space: &mut Workspace,
+    block: &mut [u8],
+) -> Result<(), Stop>
+    requires attached { S.attached source.old ≡ Some length }
+    requires created { IsTrue (K.created sink.old) }
+    requires options { AreOptions options.now }
+    requires few { survey.now.hdus ≤ 65535 }
+    requires window { slot_sizes window.old.slots ≡ replicate (2 * window.old.workers) (2 * survey.now.tile, 8 * survey.now.tile + 64) }
+    requires header { len space.old.header ≡ survey.now.header_len }
+    requires translated { len space.old.header + 2880 ≤ len space.old.translated }
+    requires copy { 4096 ≤ len space.old.copy }
+    requires block { len block.old ≡ 2880 }
+    ensures written { IfSome (S.held source.old) (λ g. RewritesSeen options.now g survey.now.header_len survey.now.tile survey.now.hdus (K.contents sink.old) (K.contents sink.new) result) }
+    ensures block { len block.new ≡ 2880 }
+    ensures space { SpaceStays space.old space.new }
+    ensures window { WindowStays window.old window.new }
+    ensures source { SourceStays (S.held source.old) (S.held source.new) (S.attached source.old) (S.attached source.new) }
+    ensures sink { SinkStays (K.created sink.old) (K.created sink.new) (K.contents sink.old) (K.contents sink.new) }
+    ensures changed { IfRefused result IsChanged }
+    ensures told_ranges { StaysTold (S.ranges source.old) (S.ranges source.new) }
+    ensures told_contents { StaysTold (K.contents sink.old) (K.contents sink.new) }
+    ensures cause { Rewrites (S.tally source.old) (S.tally source.new) (K.tally sink.old) (K.tally sink.new) result }
+{
+    output_law();
+    let mut start = 0;
+    let mut at = 0;
+    for hdu in 0..survey.hdus {
+        let buf = space.header.as_mut_slice();
+        let again = read_again(source, length, hdu, start, options, survey.tile, block, buf)?;
+        at = write_hdu(
+            rt, source, sink, window, gate, options, &again, at, space, block,
+        )?;
+        start = next_start(&again.header);
+        if start == length {
+            return Ok(());
+        }
+    }
+    Ok(())
+}

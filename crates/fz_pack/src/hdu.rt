@@ -1,0 +1,186 @@
+//! One HDU of the packed file.
+ghost use Rattle.std.specs.Prelude.{ℕ, ◌≡◌, ◌+◌, ◌-◌, ◌^◌, ◌≤◌, ◌<◌, true, IsTrue, Some, if◌then◌else◌, ◌==◌, length as len, IfOk, IfSome, OnOk};
+ghost use Rattle.fz_base.specs.Stop.{ReadsAndWrites, Writes};
+ghost use Rattle.fz_base.specs.Told.{StaysTold};
+ghost use Rattle.fz_block.specs.Header.{next_start_of};
+ghost use Rattle.fz_head.specs.Planned.{AreOptions};
+ghost use Rattle.fz_image.specs.Image.{HoldsTable};
+ghost use Rattle.fz_base.specs.Stop.{CodesAndWrites};
+ghost use Rattle.fz_image.specs.Tiles.{HasSlotsFor};
+ghost use Rattle.fz_pack.specs.Again.{IsAgain, largest_of};
+ghost use Rattle.fz_pack.specs.Behind.{EndsNear, HoldsBytes, HoldsCopy, HoldsHdu, before_image};
+ghost use Rattle.fz_pack.specs.Keeps.{SinkStays, SourceStays, SpaceStays, WindowStays};
+
+use crate::again::Again;
+use fz_base::{Gate, Sink, Source, Stop, copy, log_law, output_law, write_behind};
+use fz_block::{BLOCK_LEN, Header, next_start};
+use fz_head::{PackOptions, Plan, to_empty_primary};
+use fz_image::write_image;
+use fz_pool::Window;
+use fz_survey::Workspace;
+use std::thread::Threads;
+
+/// Writes an HDU, whose header is in the workspace, from this byte of the sink on, but not byte 0 of the file, and
+/// answers the byte behind it.
+pub(crate) fn write_hdu<R: Threads + Sync, S: Source, K: Sink, G: Gate>(
+    rt: &R,
+    source: &mut S,
+    sink: &mut K,
+    window: &mut Window,
+    gate: &G,
+    options: &PackOptions,
+    again: &Again,
+    at: u64,
+    space: &mut Workspace,
+    block: &mut [u8],
+) -> Result<u64, Stop>
+    requires again { (n : ℕ) × (S.attached source.old ≡ Some n) × IsAgain options.now (S.held source.old) n space.old.header again.now }
+    requires first { (again.now.header.hdu ≡ 0 → at ≡ 0) × (0 < again.now.header.hdu → 0 < at) }
+    requires near { at + 2 ^ 46 ≤ 2 ^ 63 }
+    requires created { IsTrue (K.created sink.old) }
+    requires window { IfSome again.now.plan (λ p. HasSlotsFor (largest_of p) window.old) }
+    requires translated { len space.old.header + 2880 ≤ len space.old.translated }
+    requires copy { 4096 ≤ len space.old.copy }
+    requires block { len block.old ≡ 2880 }
+    ensures written { IfOk result (λ end. IfSome (S.held source.old) (λ g. HoldsHdu options.now again.now.header g at end (K.contents sink.old) (K.contents sink.new))) }
+    ensures end { IfOk result (EndsNear again.now.header at) }
+    ensures block { len block.new ≡ 2880 }
+    ensures space { SpaceStays space.old space.new }
+    ensures window { WindowStays window.old window.new }
+    ensures source { SourceStays (S.held source.old) (S.held source.new) (S.attached source.old) (S.attached source.new) }
+    ensures sink { SinkStays (K.created sink.old) (K.created sink.new) (K.contents sink.old) (K.contents sink.new) }
+    ensures told_ranges { StaysTold (S.ranges source.old) (S.ranges source.new) }
+    ensures told_contents { StaysTold (K.contents sink.old) (K.contents sink.new) }
+    ensures cause { CodesAndWrites (S.tally source.old) (S.tally source.new) (K.tally sink.old) (K.tally sink.new) result }
+{
+    match &again.plan {
+        Some(plan) => {
+            output_law();
+            let at = write_before(sink, plan, at, block)?;
+            write_table(
+                rt,
+                source,
+                sink,
+                window,
+                gate,
+                options,
+                &again.header,
+                plan,
+                at,
+                space,
+            )
+        }
+        None => copy_hdu(source, &again.header, sink, at, space.copy.as_mut_slice()),
+    }
+}
+
+// Writes what stands before the table of an image, which is a primary where the image was one, and answers the byte
+// behind it.
+fn write_before<K: Sink>(sink: &mut K, plan: &Plan, at: u64, block: &mut [u8]) -> Result<u64, Stop>
+    requires first { plan.now.primary ≡ true → at ≡ 0 }
+    requires created { IsTrue (K.created sink.old) }
+    requires block { len block.old ≡ 2880 }
+    ensures written { IfOk result (λ end. HoldsBytes (before_image plan.now.primary) at end (K.contents sink.old) (K.contents sink.new)) }
+    ensures short { IfOk result (λ end. (at ≤ end) × (end ≤ at + 2880) × (plan.now.primary ≡ true → end ≡ 2880)) }
+    ensures block { len block.new ≡ 2880 }
+    ensures sink { SinkStays (K.created sink.old) (K.created sink.new) (K.contents sink.old) (K.contents sink.new) }
+    ensures told_contents { StaysTold (K.contents sink.old) (K.contents sink.new) }
+    ensures cause { Writes (K.tally sink.old) (K.tally sink.new) result }
+{
+    if !plan.primary {
+        return Ok(at);
+    }
+    let len = to_empty_primary(block);
+    write_behind(sink, 1, &block[1..len])?;
+    Ok(len as u64)
+}
+
+// Writes the table of an image.
+fn write_table<R: Threads + Sync, S: Source, K: Sink, G: Gate>(
+    rt: &R,
+    source: &mut S,
+    sink: &mut K,
+    window: &mut Window,
+    gate: &G,
+    options: &PackOptions,
+    header: &Header,
+    plan: &Plan,
+    at: u64,
+    space: &mut Workspace,
+) -> Result<u64, Stop>
+    requires again { (n : ℕ) × (S.attached source.old ≡ Some n) × IsAgain options.now (S.held source.old) n space.old.header (record { header = header.now; plan = Some plan.now }) }
+    requires at { (0 < at) × (at + 2 ^ 45 ≤ 2 ^ 63) }
+    requires created { IsTrue (K.created sink.old) }
+    requires window { HasSlotsFor (largest_of plan.now) window.old }
+    requires translated { len space.old.header + 2880 ≤ len space.old.translated }
+    requires copy { 4096 ≤ len space.old.copy }
+    ensures table { IfOk result (λ end. IfSome (S.held source.old) (λ g. HoldsTable options.now.sums plan.now header.now g at end (K.contents sink.old) (K.contents sink.new))) }
+    ensures end { IfOk result (λ end. (at ≤ end) × (end ≤ at + 2 ^ 45)) }
+    ensures space { SpaceStays space.old space.new }
+    ensures window { WindowStays window.old window.new }
+    ensures source { SourceStays (S.held source.old) (S.held source.new) (S.attached source.old) (S.attached source.new) }
+    ensures sink { SinkStays (K.created sink.old) (K.created sink.new) (K.contents sink.old) (K.contents sink.new) }
+    ensures told_ranges { StaysTold (S.ranges source.old) (S.ranges source.new) }
+    ensures told_contents { StaysTold (K.contents sink.old) (K.contents sink.new) }
+    ensures cause { CodesAndWrites (S.tally source.old) (S.tally source.new) (K.tally sink.old) (K.tally sink.new) result }
+{
+    let buf = &space.header.as_slice()[..BLOCK_LEN * header.blocks as usize];
+    write_image(
+        rt,
+        source,
+        buf,
+        header,
+        plan,
+        options.sums,
+        sink,
+        at,
+        space.translated.as_mut_slice(),
+        space.copy.as_mut_slice(),
+        window,
+        gate,
+    )
+}
+
+// Copies an HDU, without byte 0 of the file, and answers the byte behind it.
+fn copy_hdu<S: Source, K: Sink>(
+    source: &mut S,
+    header: &Header,
+    sink: &mut K,
+    at: u64,
+    buffer: &mut [u8],
+) -> Result<u64, Stop>
+    requires within { (n : ℕ) × (S.attached source.old ≡ Some n) × (next_start_of header.now ≤ n) }
+    requires end { next_start_of header.now ≤ 2 ^ 62 }
+    requires some { 0 < header.now.blocks }
+    requires near { at ≤ 2 ^ 63 }
+    requires buffer { 0 < len buffer.old }
+    requires created { IsTrue (K.created sink.old) }
+    ensures copied { IfOk result (λ end. IfSome (S.held source.old) (λ g. HoldsCopy header.now g at end (K.contents sink.old) (K.contents sink.new))) }
+    ensures end { IfOk result (λ end. (at < end) × (end + header.now.start ≡ at + next_start_of header.now)) }
+    ensures len { len buffer.new ≡ len buffer.old }
+    ensures source { SourceStays (S.held source.old) (S.held source.new) (S.attached source.old) (S.attached source.new) }
+    ensures sink { SinkStays (K.created sink.old) (K.created sink.new) (K.contents sink.old) (K.contents sink.new) }
+    ensures told_ranges { StaysTold (S.ranges source.old) (S.ranges source.new) }
+    ensures told_contents { StaysTold (K.contents sink.old) (K.contents sink.new) }
+    ensures cause { ReadsAndWrites (S.tally source.old) (S.tally source.new) (K.tally sink.old) (K.tally sink.new) result }
+{
+    log_law();
+    let skipped = left_for_last(at);
+    let len = next_start(header) - header.start;
+    copy(
+        source,
+        header.start + skipped,
+        len - skipped,
+        sink,
+        at + skipped,
+        buffer,
+    )?;
+    Ok(at + len)
+}
+
+// How many bytes of an HDU that is written from this byte on are left for last: byte 0 of the file.
+fn left_for_last(at: u64) -> u64
+    ensures { result ≡ (if at == 0 then 1 else 0) }
+{
+    u64::from(at == 0)
+}

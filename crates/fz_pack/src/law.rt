@@ -1,0 +1,17 @@
+//! What the first look says of a file: no code runs.
+ghost use Rattle.fz_pack.specs.Stages.{SurveysKnow, SurveysRefuse};
+
+use fz_block::{found_hdus_law, found_law, hdu_law, hdu_list_law, walk_law};
+
+/// A survey of a file knows its HDUs, the longest header and the largest tile; a fault that it tells is the first of
+/// the file's headers.
+pub(crate) fn known_law()
+    ensures know { SurveysKnow }
+    ensures refuse { SurveysRefuse }
+{
+    found_hdus_law();
+    found_law();
+    hdu_law();
+    hdu_list_law();
+    walk_law();
+}
