@@ -1,5 +1,8 @@
 #!/usr/bin/env python3
-"""Writes the files of samples/: seeded, so that no byte of them is unexplained."""
+"""Writes the files of samples/: seeded, so that no byte of them is unexplained.
+
+The packed files are written out card by card and number by number, as docs/FORMAT.md says them, and not by fz.
+"""
 import math
 import random
 import struct
@@ -34,11 +37,78 @@ def star_field(columns, rows, stars, seed):
     return [min(32767, round(pixel)) for line in sky for pixel in line]
 
 
+def text_card(name, text):
+    return f"{name:<8}= {chr(39) + text.ljust(8) + chr(39)}".ljust(80).encode("ascii")
+
+
+def blocks(parts, fill):
+    """Parts one after another, filled to whole blocks."""
+    whole = b"".join(parts)
+    return whole + fill * (-len(whole) % 2880)
+
+
+def header(cards):
+    return blocks([*cards, b"END".ljust(80)], b" ")
+
+
+def grid_file():
+    """A primary image of 5 x 3 pixels of 8 bits, 1 to 15."""
+    cards = [card("SIMPLE", "T"), card("BITPIX", "8"), card("NAXIS", "2"), card("NAXIS1", "5"), card("NAXIS2", "3")]
+    return header(cards) + blocks([bytes(range(1, 16))], b"\0")
+
+
+EMPTY_PRIMARY = header([card("SIMPLE", "T"), card("BITPIX", "8"), card("NAXIS", "0"), card("EXTEND", "T")])
+
+
+def packed_table(heap, rows, forms, own, image_cards):
+    """The table of a packed image: rows are pairs of descriptors, each of a count and an offset."""
+    cards = [text_card("XTENSION", "BINTABLE"), card("BITPIX", "8"), card("NAXIS", "2"), card("NAXIS1", "16")]
+    cards += [card("NAXIS2", str(len(rows))), card("PCOUNT", str(len(heap))), card("GCOUNT", "1"), card("TFIELDS", "2")]
+    cards += [text_card("TTYPE1", "COMPRESSED_DATA"), text_card("TFORM1", forms[0])]
+    cards += [text_card("TTYPE2", "UNCOMPRESSED_DATA"), text_card("TFORM2", forms[1]), card("ZIMAGE", "T")]
+    table = b"".join(struct.pack(">4I", *coded, *stored) for coded, stored in rows)
+    return header(cards + own + image_cards) + blocks([table, heap], b"\0")
+
+
+def image_cards(bitpix, columns, rows):
+    cards = [card("ZSIMPLE", "T"), card("ZBITPIX", str(bitpix)), card("ZNAXIS", "2")]
+    return cards + [card("ZNAXIS1", str(columns)), card("ZNAXIS2", str(rows))]
+
+
+def small_by_rice():
+    """Each row of the small image has the code 00 00 19 48: the first number in 16 bits, k + 1 = 1 in 4 bits, and the
+    differences 0, 1, -1, 1 as 0, 2, 1, 2 in unary."""
+    own = [text_card("ZCMPTYPE", "RICE_1"), card("ZTILE1", "4"), card("ZTILE2", "1")]
+    own += [text_card("ZNAME1", "BLOCKSIZE"), card("ZVAL1", "32"), text_card("ZNAME2", "BYTEPIX"), card("ZVAL2", "2")]
+    rows = [((4, 0), (0, 0)), ((4, 4), (0, 0))]
+    heap = bytes.fromhex("00001948 00001948")
+    return EMPTY_PRIMARY + packed_table(heap, rows, ("1PB(4)", "1PI(0)"), own, image_cards(16, 4, 2))
+
+
+def small_stored():
+    own = [text_card("ZCMPTYPE", "NOCOMPRESS"), card("ZTILE1", "4"), card("ZTILE2", "1")]
+    rows = [((0, 0), (4, 0)), ((0, 0), (4, 8))]
+    heap = bytes.fromhex("0000000100000001 0000000100000001")
+    return EMPTY_PRIMARY + packed_table(heap, rows, ("1PB(0)", "1PI(4)"), own, image_cards(16, 4, 2))
+
+
+def grid_stored():
+    """The grid in tiles of 2 x 2, which are cut short at the right and above."""
+    own = [text_card("ZCMPTYPE", "NOCOMPRESS"), card("ZTILE1", "2"), card("ZTILE2", "2")]
+    places = [(4, 0), (4, 4), (2, 8), (2, 10), (2, 12), (1, 14)]
+    heap = bytes.fromhex("01020607 03040809 050A 0B0C 0D0E 0F")
+    return EMPTY_PRIMARY + packed_table(heap, [((0, 0), it) for it in places], ("1PB(0)", "1PB(4)"), own, image_cards(8, 5, 3))
+
+
 def main():
-    SAMPLES.mkdir(exist_ok=True)
+    (SAMPLES / "packed").mkdir(parents=True, exist_ok=True)
     small = [0, 1, 0, 1, 0, 1, 0, 1]
     (SAMPLES / "small.fits").write_bytes(image(4, 2, small))
+    (SAMPLES / "grid.fits").write_bytes(grid_file())
     (SAMPLES / "star_field.fits").write_bytes(image(128, 96, star_field(128, 96, 40, 7)))
+    (SAMPLES / "packed" / "small.rice.fits").write_bytes(small_by_rice())
+    (SAMPLES / "packed" / "small.none.fits").write_bytes(small_stored())
+    (SAMPLES / "packed" / "grid.2x2.fits").write_bytes(grid_stored())
 
 
 if __name__ == "__main__":

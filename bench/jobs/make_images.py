@@ -1,0 +1,66 @@
+#!/usr/bin/env python3
+"""make_images.py FOLDER: writes the images of the bench, seeded, where they are not there yet.
+
+ccd.fits has 16-bit counts of a CCD: noise with a standard deviation of 12 over a slope; sky.fits the same in 32 bits over
+a wider slope; mask.fits 8-bit flags in runs. Each has 4096 x 4096 pixels.
+"""
+import random
+import struct
+import sys
+from array import array
+from pathlib import Path
+
+SIDE = 4096
+
+
+def card(name, value):
+    return f"{name:<8}= {value:>20}".ljust(80).encode("ascii")
+
+
+def header(bitpix):
+    cards = [card("SIMPLE", "T"), card("BITPIX", str(bitpix)), card("NAXIS", "2")]
+    cards += [card("NAXIS1", str(SIDE)), card("NAXIS2", str(SIDE)), b"END".ljust(80)]
+    return b"".join(cards).ljust(2880, b" ")
+
+
+def noisy(kind, slope, seed):
+    """Rows of noise over a slope, as big-endian numbers."""
+    rng = random.Random(seed)
+    for y in range(SIDE):
+        row = array(kind, [round(1000 + slope * (y + x) + rng.gauss(0, 12)) for x in range(SIDE)])
+        row.byteswap()
+        yield row.tobytes()
+
+
+def flags(seed):
+    """Rows of flags 0 to 3 in runs of 1 to 256 pixels, most of them 0."""
+    rng = random.Random(seed)
+    for _ in range(SIDE):
+        row = bytearray()
+        while len(row) < SIDE:
+            row += bytes([rng.choice((0, 0, 0, 1, 2, 3))]) * rng.randint(1, 256)
+        yield bytes(row[:SIDE])
+
+
+def write(path, bitpix, rows):
+    if path.exists():
+        return
+    unfinished = path.with_suffix(".part")
+    with open(unfinished, "wb") as out:
+        out.write(header(bitpix))
+        for row in rows:
+            out.write(row)
+        out.write(bytes(-(SIDE * SIDE * bitpix // 8) % 2880))
+    unfinished.rename(path)
+
+
+def main():
+    folder = Path(sys.argv[1])
+    folder.mkdir(parents=True, exist_ok=True)
+    write(folder / "ccd.fits", 16, noisy("h", 0.5, 1))
+    write(folder / "sky.fits", 32, noisy("i", 20.0, 2))
+    write(folder / "mask.fits", 8, flags(3))
+
+
+if __name__ == "__main__":
+    main()
