@@ -73,6 +73,21 @@ module _ (at b : ℕ) (ys c : List ℕ) where
   outside i (inl low) = below i low
   outside i (inr high) = above i high
 
+-- a write has its bytes at its places
+pub write_inside : (at : ℕ) (bytes contents : List ℕ) (i : ℕ) → at ≤ i → i < at + length bytes → get_or (overwrite at bytes contents) i 0 ≡ get_or bytes (i - at) 0
+write_inside at [] contents i high low = absurd (omega (arith, high, low))
+write_inside at (b ∷ bytes) contents i high low = inside at b bytes contents i high low
+
+-- and leaves all others as they were
+pub write_outside : (at : ℕ) (bytes contents : List ℕ) (i : ℕ) → (i < at) ⊎ (at + length bytes ≤ i) → get_or (overwrite at bytes contents) i 0 ≡ get_or contents i 0
+write_outside at [] contents i apart = refl
+write_outside at (b ∷ bytes) contents i apart = outside at b bytes contents i apart
+
+-- how long the contents are then
+pub write_long : (at : ℕ) (bytes contents : List ℕ) → 0 < length bytes → length (overwrite at bytes contents) ≡ max (length contents) (at + length bytes)
+write_long at [] contents some = absurd (omega (arith, some))
+write_long at (b ∷ bytes) contents some = long at b bytes contents
+
 -- one range of bytes ends before another begins
 module _ (at from a b : ℕ) (xs ys c : List ℕ) (apart : at + length (a ∷ xs) ≤ from) where
   abbrev once : List ℕ

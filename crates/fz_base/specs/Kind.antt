@@ -1,9 +1,9 @@
 -- The refusal kinds by their fixed numbers.
 use Rattle.std.specs.Prelude.{ℕ}
 use Rattle.fz_base.specs.declared.kind.Kind.{Kind}
-use Rattle.fz_base.specs.declared.kind.Kind.TheVariants.{NotFits, Truncated, LongHeader, BadCard, Duplicate, HeaderFill, DataFill, TrailingBytes, Reserved, AlreadyPacked, Limit, Groups, UnknownCodec, Quantised, CompressedTable, BadTable, RowCount, DescriptorRange, TileMissing, GzipTile, CodeShort, CodeValue, LineList, PixelRange, TileSize, MisplacedPrimary, NotPacked, OutOfBox, PlioOffset, Unbuilt, Unpatchable, BadPatch}
+use Rattle.fz_base.specs.declared.kind.Kind.TheVariants.{NotFits, Truncated, LongHeader, BadCard, Duplicate, HeaderFill, DataFill, TrailingBytes, Reserved, AlreadyPacked, Limit, Groups, UnknownCodec, Quantised, CompressedTable, BadTable, RowCount, DescriptorRange, TileMissing, GzipTile, CodeShort, CodeValue, LineList, PixelRange, TileSize, MisplacedPrimary, NotPacked, OutOfBox, PlioOffset, Unpatchable, BadPatch}
 
--- the number of a kind
+-- the number of a kind; 30 stays unused, since it was the number of a kind that is gone
 abbrev pub kind_number : Kind → ℕ
 kind_number NotFits = 1
 kind_number Truncated = 2
@@ -34,6 +34,5 @@ kind_number MisplacedPrimary = 26
 kind_number NotPacked = 27
 kind_number OutOfBox = 28
 kind_number PlioOffset = 29
-kind_number Unbuilt = 30
 kind_number Unpatchable = 31
 kind_number BadPatch = 32

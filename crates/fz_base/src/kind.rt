@@ -64,8 +64,6 @@ pub enum Kind {
     OutOfBox,
     /// The plan's codec is PLIO, and BZERO has a value that is not zero.
     PlioOffset,
-    /// The file is sound as far as it was looked at, but this program cannot pack it yet.
-    Unbuilt,
     /// The HDU to be patched is not the last, or has not the form of one that `patch` changes.
     Unpatchable,
     /// The image that is given to `patch` is none, has another BITPIX or number of axes than the packed
@@ -74,7 +72,7 @@ pub enum Kind {
 }
 
 impl Kind {
-    /// The number by which the kind is printed, from 1 to 32.
+    /// The number by which the kind is printed, from 1 to 32. No kind has 30.
     pub fn number(self) -> u32
         ensures { result ≡ kind_number self }
     {
@@ -108,7 +106,7 @@ impl Kind {
             Kind::NotPacked => 27,
             Kind::OutOfBox => 28,
             Kind::PlioOffset => 29,
-            Kind::Unbuilt => 30,
+            // 30 stays unused: it was the number of a kind that no job answers any more.
             Kind::Unpatchable => 31,
             Kind::BadPatch => 32,
         }

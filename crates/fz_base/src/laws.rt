@@ -1,9 +1,9 @@
 //! What the definitions of logs and of contents promise together.
 ghost use Rattle.std.specs.Option.{option_map};
-ghost use Rattle.std.specs.Prelude.{ℕ, ◌≡◌, ◌+◌, ◌≤◌, ◌<◌, List, [], ◌∷◌, ◌++◌, length, Option, Some};
+ghost use Rattle.std.specs.Prelude.{ℕ, ◌≡◌, ◌+◌, ◌-◌, ◌≤◌, ◌<◌, ◌⊎◌, max, List, [], ◌∷◌, ◌++◌, length, get_or, Option, Some};
 ghost use Rattle.fz_base.specs.FirstByte.{IsShut, StaysShut, with_first_byte};
 ghost use Rattle.fz_base.specs.Ranges.{LogsSomeLaw, LogsAllLaw, LogsWithinLaw, LogsJoinLaw};
-ghost use Rattle.fz_base.specs.Sink.{written, emptied};
+ghost use Rattle.fz_base.specs.Sink.{overwrite, written, emptied};
 ghost use Rattle.fz_base.specs.Source.{logged, MayLog, LogsWithin};
 ghost use Rattle.fz_base.specs.Told.{StaysTold};
 
@@ -37,4 +37,12 @@ pub fn output_law()
     ensures sealed { (bytes : List ℕ) → with_first_byte (written 1 bytes (Some [])) ≡ Some (83 ∷ bytes) }
     ensures empty { (contents : Option (List ℕ)) → IsShut (emptied contents) }
     ensures shut { (at : ℕ) (bytes : List ℕ) (contents : Option (List ℕ)) → 0 < at → StaysShut contents (written at bytes contents) }
+{}
+
+/// A write has its bytes at its places and leaves all others as they were; with at least one byte the contents then
+/// reach to its end, or as far as before.
+pub fn places_law()
+    ensures inside { (at : ℕ) (bytes contents : List ℕ) (i : ℕ) → at ≤ i → i < at + length bytes → get_or (overwrite at bytes contents) i 0 ≡ get_or bytes (i - at) 0 }
+    ensures outside { (at : ℕ) (bytes contents : List ℕ) (i : ℕ) → (i < at) ⊎ (at + length bytes ≤ i) → get_or (overwrite at bytes contents) i 0 ≡ get_or contents i 0 }
+    ensures long { (at : ℕ) (bytes contents : List ℕ) → 0 < length bytes → length (overwrite at bytes contents) ≡ max (length contents) (at + length bytes) }
 {}

@@ -58,7 +58,7 @@ first_clear true fault checks none = absurd cc
 first_clear false fault checks none = refl
 
 -- a header whose blocks are found begins within the file
-begins_inside : (k start n : ℕ) (g : List ℕ) → header_blocks_of k start g ≡ Ok n → start ≤ length g
+pub begins_inside : (k start n : ℕ) (g : List ℕ) → header_blocks_of k start g ≡ Ok n → start ≤ length g
 unfolding header_blocks_of
 begins_inside k start n g is =
     let all = answered (blocks_to_end (end_of (header_room start g))) n (first_refusal (block_checks k start g)) is in
@@ -67,7 +67,7 @@ begins_inside k start n g is =
     grind (arith, nat_tests, short)
 
 -- a header has as many blocks as were found for it
-as_found : (k start n : ℕ) (g : List ℕ) (h : Header) → header_blocks_of k start g ≡ Ok n → hdu_at k start g ≡ Ok h → 2880 * h.blocks ≡ 2880 * n
+pub as_found : (k start n : ℕ) (g : List ℕ) (h : Header) → header_blocks_of k start g ≡ Ok n → hdu_at k start g ≡ Ok h → 2880 * h.blocks ≡ 2880 * n
 unfolding hdu_at
 as_found k start n g h blocks is =
     let header : List ℕ = take (2880 * n) (drop start g) in
@@ -77,7 +77,7 @@ as_found k start n g h blocks is =
     sym (blocks_of header h (is_answered k start (length g) header h (omega (arith, size, inside.1)) found).facts) ∙ size
 
 -- the blocks were not found
-refused_at : (k start : ℕ) (g : List ℕ) (x : Fault) → header_blocks_of k start g ≡ Err x → hdu_at k start g ≡ Err x
+pub refused_at : (k start : ℕ) (g : List ℕ) (x : Fault) → header_blocks_of k start g ≡ Err x → hdu_at k start g ≡ Err x
 unfolding hdu_at
 refused_at k start g x e = ap (header_in k start g) e
 

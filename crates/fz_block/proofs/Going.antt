@@ -59,7 +59,7 @@ went judge more k start file h hs is = by_here (hdu_at k start file) refl is
     by_here (Err fault) at is = absurd cc
     by_here (Ok g) at is = by_judge g (judge g) at refl is
 
-no_room : (judge : Judge) (k start : ℕ) (file : List ℕ) (hs : List Header) → walk_from judge 0 k start file ≡ Ok hs → ⊥
+pub no_room : (judge : Judge) (k start : ℕ) (file : List ℕ) (hs : List Header) → walk_from judge 0 k start file ≡ Ok hs → ⊥
 unfolding walk_from
 no_room judge k start file hs is = cc
 

@@ -16,6 +16,7 @@ pub mod Nexts
 pub mod Numbers
 pub mod OneList
 pub mod Passing
+pub mod Places
 pub mod Products
 pub mod Refusals
 pub mod Room

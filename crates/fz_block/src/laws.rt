@@ -8,7 +8,7 @@ ghost use Rattle.fz_block.specs.Again.{hdu_again_at};
 ghost use Rattle.fz_block.specs.Cards.{card_at, first_among, first_card};
 ghost use Rattle.fz_block.specs.Checks.{Judge, is_set, fault_as, header_blocks_of, header_of, hdu_at, hdu_end, walk_of, headers_of};
 ghost use Rattle.fz_block.specs.Facts.{IsHeaderOf, begun_at, facts_as};
-ghost use Rattle.fz_block.specs.Hdus.{Hdu, hdu_bytes, IsHeader, IsHdu, AreHdusOf, IsCardBeforeEnd, HasBlankFill, cards_of, header_bytes};
+ghost use Rattle.fz_block.specs.Hdus.{Hdu, hdu_bytes, IsHeader, IsHdu, AreHdusOf, IsCardBeforeEnd, HasBlankFill, cards_of, header_bytes, size_at};
 ghost use Rattle.fz_block.specs.Header.{whole_blocks_of, data_start_of, next_start_of};
 ghost use Rattle.fz_block.specs.Mandatory.{mandatory_checks};
 ghost use Rattle.fz_block.specs.Walk.{hdu_of, StandsAt, PassesAt, PassFrom, facts_from, AreHeadersBetween, AreHeadersFrom, stops, RefusesNone, stop_after};
@@ -62,6 +62,16 @@ pub fn number_law()
 pub fn found_law()
     ensures blocks { (k start : ℕ) (file header : List ℕ) → StandsAt k start file header → header_blocks_of k start file ≡ Ok (length header / 2880) }
     ensures header { (k start : ℕ) (file header : List ℕ) → StandsAt k start file header → hdu_at k start file ≡ header_of k start (length file) header }
+{}
+
+/// A header that the checks of every job find at a place: it is the header of that HDU there, it has the blocks
+/// that the search finds, and where it begins the file its axes are as many as card 2 of the file says. A walk
+/// finds each of its headers so.
+pub fn hdu_at_law()
+    ensures facts { (k start : ℕ) (file : List ℕ) (h : Header) → hdu_at k start file ≡ Ok h → (h.hdu ≡ k) × (h.start ≡ start) × IsHeaderOf (hdu_of file h).header h }
+    ensures blocks { (k start : ℕ) (file : List ℕ) (h : Header) → hdu_at k start file ≡ Ok h → header_blocks_of k start file ≡ Ok h.blocks }
+    ensures axes { (file : List ℕ) (h : Header) → hdu_at 0 0 file ≡ Ok h → h.axes.n ≡ size_at file 2 }
+    ensures walk { (judge : Judge) (most : ℕ) (file : List ℕ) (hs : List Header) → walk_of judge most file ≡ Ok hs → All (λ h. hdu_at h.hdu h.start file ≡ Ok h) hs }
 {}
 
 /// A header that is read once more into a buffer with room for it is the one of the first reading: it is

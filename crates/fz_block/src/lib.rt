@@ -22,8 +22,8 @@ pub use blocks::{BLOCK_LEN, header_blocks};
 pub use cards::card;
 pub use header::{Header, Sort, data_start, next_start};
 pub use laws::{
-    again_law, cards_law, first_card_law, found_hdus_law, found_law, hdu_law, hdu_list_law,
-    number_law, passing_law, start_law, walk_law,
+    again_law, cards_law, first_card_law, found_hdus_law, found_law, hdu_at_law, hdu_law,
+    hdu_list_law, number_law, passing_law, start_law, walk_law,
 };
 pub use next::{ReadHeader, header_at};
 pub use read::{buffered_header, read_header};

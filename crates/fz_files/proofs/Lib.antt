@@ -9,6 +9,7 @@ pub mod ImageLemmas
 pub mod LongFileLemmas
 pub mod OneCutout
 pub mod OtherFileLemmas
+pub mod PackedHdus
 pub mod PlainFileLemmas
 pub mod RestoredLemmas
 pub mod RiceFileLemmas

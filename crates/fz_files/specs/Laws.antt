@@ -1,9 +1,9 @@
 -- What the definitions promise, for every file.
-use Rattle.std.specs.Prelude.{ℕ, suc, ◌≡◌, ◌+◌, ◌^◌, ◌<◌, ◌≤◌, true, List, [], ◌∷◌, length, codes, Option}
+use Rattle.std.specs.Prelude.{ℕ, suc, ◌≡◌, ◌+◌, ◌^◌, ◌<◌, ◌≤◌, true, List, [], ◌∷◌, ◌++◌, length, codes, Option, if◌then◌else◌}
 use Rattle.fz_base.specs.declared.fault.Fault.{Fault}
 use Rattle.fz_block.specs.Cards.{card_at}
 use Rattle.fz_block.specs.Checks.{is_set}
-use Rattle.fz_block.specs.Facts.{facts_of}
+use Rattle.fz_block.specs.Facts.{IsHeaderOf, facts_of}
 use Rattle.fz_block.specs.Hdus.{Hdu, cards_of, hdu_bytes, header_bytes}
 use Rattle.fz_block.specs.Header.{whole_blocks_of}
 use Rattle.fz_block.specs.Walk.{PassesAt, hdu_of}
@@ -15,7 +15,8 @@ use Rattle.fz_tile.specs.Plain.{AreBytes}
 use Rattle.fz_tile.specs.TileCode.{TileCode}
 use Rattle.fz_head.specs.Accepted.{IsAccepted}
 use Rattle.fz_head.specs.JobChecks.{IsImageToPack}
-use Rattle.fz_head.specs.Packable.{is_primary}
+use Rattle.fz_head.specs.EmptyPrimary.{empty_primary}
+use Rattle.fz_head.specs.Packable.{is_packable, is_primary}
 use Rattle.fz_head.specs.Planned.{pack_plan_of}
 use Rattle.fz_head.specs.declared.options.PackOptions.{PackOptions}
 use Rattle.fz_head.specs.declared.totals.Totals.{Totals}
@@ -23,7 +24,7 @@ use Rattle.fz_files.specs.declared.job.Job.{Job}
 use Rattle.fz_files.specs.declared.job.Job.TheVariants.{Cut}
 use Rattle.fz_files.specs.CutoutBytes.{IsCutout}
 use Rattle.fz_files.specs.FirstFault.{IsFirstFault}
-use Rattle.fz_files.specs.Packed.{array_of, packed_data, table_header, tile_codes, totals_of, with_sums}
+use Rattle.fz_files.specs.Packed.{array_of, before_table, packed_data, packed_hdu, packed_image, table_header, tile_codes, totals_of, with_sums}
 use Rattle.fz_files.specs.Restored.{HduStandsFor, is_packed_primary, plan_in}
 use Rattle.fz_files.specs.StandsFor.{StandsFor}
 use Rattle.fz_files.specs.Walks.{headers_for, last_of}
@@ -89,3 +90,17 @@ TablesStandForImages = (o : PackOptions) (source : List ℕ) (from : Header) (fi
 
 abbrev pub TablesWerePrimary : Type 0
 TablesWerePrimary = (o : PackOptions) (source : List ℕ) (from : Header) (file : List ℕ) (h : Header) → IsTableOf o source from file h → is_packed_primary file h ≡ is_primary from.sort
+
+-- What an HDU becomes in a packed file, by the facts at its own place: the table of an image that can be packed, or its own bytes.
+abbrev pub HdusArePacked : Type 0
+HdusArePacked = (o : PackOptions) (d : Hdu) (h : Header) → IsHeaderOf d.header h →
+    packed_hdu o h.hdu d ≡ (if is_packable h then before_table h.hdu ++ packed_image o.sums (pack_plan_of o h) d else hdu_bytes d)
+
+-- before the table of an image that is the primary stands the empty primary, and before others nothing
+abbrev pub PrimariesStandFirst : Type 0
+PrimariesStandFirst = (o : PackOptions) (header : List ℕ) (h : Header) → IsHeaderOf header h →
+    before_table h.hdu ≡ (if (pack_plan_of o h).primary then header_bytes empty_primary else [])
+
+-- the table is the bytes of one HDU
+abbrev pub TablesAreHdus : Type 0
+TablesAreHdus = (o : PackOptions) (file : List ℕ) (h : Header) → packed_image o.sums (pack_plan_of o h) (hdu_of file h) ≡ hdu_bytes (table_hdu o file h)

@@ -1,12 +1,12 @@
 //! The laws of the definitions: no code runs.
 ghost use Rattle.fz_files.specs.Buffers.{AreBounded};
-ghost use Rattle.fz_files.specs.Laws.{CutsOutOneFile, HasOneFirstFault, StandsForOneFile, TablesAreAccepted, TablesPass, TablesStandForImages, TablesWerePrimary};
+ghost use Rattle.fz_files.specs.Laws.{CutsOutOneFile, HasOneFirstFault, HdusArePacked, PrimariesStandFirst, StandsForOneFile, TablesAreHdus, TablesAreAccepted, TablesPass, TablesStandForImages, TablesWerePrimary};
 
 use fz_block::{cards_law, found_law, walk_law};
 use fz_grid::{shape_law, tile_pixels_law, tiles_law};
 use fz_head::{
-    accepted_law, image_to_pack_law, packed_image_law, sum_cards_law, there_and_back_law,
-    whole_cards_law,
+    accepted_law, image_to_pack_law, packed_image_law, plan_to_pack_law, primary_law,
+    sum_cards_law, there_and_back_law, whole_cards_law,
 };
 use fz_parts::picked_tiles_law;
 use fz_sum::sum_law;
@@ -72,4 +72,15 @@ pub fn table_law()
     tile_pixels_law();
     tiles_law();
     whole_cards_law();
+}
+
+/// What an HDU becomes in a packed file, by the facts at its own place: the table of an image that can be packed,
+/// which is one HDU, behind the empty primary where the image is the primary; or its own bytes.
+pub fn packed_hdu_law()
+    ensures packed { HdusArePacked }
+    ensures before { PrimariesStandFirst }
+    ensures table { TablesAreHdus }
+{
+    plan_to_pack_law();
+    primary_law();
 }

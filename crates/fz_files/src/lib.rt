@@ -6,7 +6,9 @@ mod law;
 mod worked;
 
 pub use job::Job;
-pub use law::{buffers_law, one_cutout_law, one_file_law, one_first_fault_law, table_law};
+pub use law::{
+    buffers_law, one_cutout_law, one_file_law, one_first_fault_law, packed_hdu_law, table_law,
+};
 pub use worked::{
     cut_file_law, extension_file_law, fault_file_law, long_file_law, other_file_law,
     plain_file_law, rice_file_law, sum_file_law,

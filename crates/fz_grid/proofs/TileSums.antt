@@ -1,5 +1,5 @@
 -- How many pixels tiles have, one by one and together.
-use Rattle.std.proofs.Common.{◌≡◌, ℕ, suc, zero, ◌+◌, ◌-◌, ◌*◌, ◌/◌, ◌%◌, ◌<◌, ◌≤◌, min, List, [], ◌∷◌, refl, ap, sym, ◌∙◌, arith}
+use Rattle.std.proofs.Common.{◌≡◌, ℕ, suc, zero, ◌+◌, ◌-◌, ◌*◌, ◌/◌, ◌%◌, ◌<◌, ◌≤◌, min, List, [], ◌∷◌, length, refl, ap, sym, ◌∙◌, arith}
 use Rattle.std.specs.List.{range_with_len, sum_by}
 use Rattle.std.proofs.lemmas.List.Sums.{sum_by-append, sum_by-cons}
 use Rattle.std.proofs.lemmas.Nat.{div-add-mod', div-mul-add, mod-mul-add, mod_below, mul-le}
@@ -38,6 +38,16 @@ tile_most (n ∷ ns) (t ∷ ts) d tiles =
     let later : product (tile_lengths ns ts (d / g)) ≤ product (tile_lengths ns ts (0 / g)) =
     rw rest (tile_most ns ts (d / g) (tiles_tail n t ns ts tiles)) in
     mul-le (min t (n - d % g * t)) (product (tile_lengths ns ts (d / g))) (min t (n - 0 % g * t)) (product (tile_lengths ns ts (0 / g))) front later
+
+pub tile_whole : (ns ts : List ℕ) (d : ℕ) → length ts ≡ length ns → product (tile_lengths ns ts d) ≤ product ts
+tile_whole [] [] d same = omega arith
+tile_whole [] (t ∷ ts) d same = absurd (omega (arith, same))
+tile_whole (n ∷ ns) [] d same = absurd (omega (arith, same))
+tile_whole (n ∷ ns) (t ∷ ts) d same =
+    let g = tiles_on n t in
+    let front : min t (n - d % g * t) ≤ t = omega arith in
+    let later : product (tile_lengths ns ts (d / g)) ≤ product ts = tile_whole ns ts (d / g) (omega (arith, same)) in
+    mul-le (min t (n - d % g * t)) (product (tile_lengths ns ts (d / g))) t (product ts) front later
 
 -- the numbers of one row of g, by their places in the row
 row_sum : (F H : ℕ → ℕ) (g j i n : ℕ) → i + n ≤ g → sum_by (λ d. F (d % g) * H (d / g)) (range_with_len (j * g + i) n) ≡ sum_by F (range_with_len i n) * H j

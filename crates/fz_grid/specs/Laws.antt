@@ -102,6 +102,11 @@ abbrev pub FirstTilesAreLargest : Type 0
 FirstTilesAreLargest =
     (array tile : List ℕ) (t : ℕ) → AreTileLengths array tile → product (tile_lengths array tile t) ≤ product (tile_lengths array tile 0)
 
+-- nor more than the product of the lengths of a tile, which one at the upper end of an axis is cut short of
+abbrev pub TilesHaveAtMostTheirLengths : Type 0
+TilesHaveAtMostTheirLengths =
+    (array tile : List ℕ) (t : ℕ) → length tile ≡ length array → product (tile_lengths array tile t) ≤ product tile
+
 -- together they have as many pixels as the array
 abbrev pub TilesHaveAllPixels : Type 0
 TilesHaveAllPixels =

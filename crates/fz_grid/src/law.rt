@@ -17,6 +17,7 @@ ghost use Rattle.fz_grid.specs.Laws.{
   TilesAreAtTheirPlaces,
   TilesHaveAPixel,
   TilesHaveAllPixels,
+  TilesHaveAtMostTheirLengths,
   TilesHaveTheirPixels,
   TilesMakeOneArray,
 };
@@ -48,11 +49,12 @@ pub fn tiles_law()
     ensures joined { JoinedHasTheTiles }
 {}
 
-/// Each tile has at least one pixel and no more than tile 0, and together the tiles have as many as the
-/// array.
+/// Each tile has at least one pixel, no more than tile 0, and no more than a tile of these lengths that is
+/// not cut short; and together the tiles have as many as the array.
 pub fn tile_pixels_law()
     ensures some { TilesHaveAPixel }
     ensures most { FirstTilesAreLargest }
+    ensures whole { TilesHaveAtMostTheirLengths }
     ensures all { TilesHaveAllPixels }
 {}
 

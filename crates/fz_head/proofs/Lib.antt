@@ -50,3 +50,5 @@ pub mod WrittenCards
 pub mod CheckedImages
 pub mod Fills
 pub mod TakenImages
+pub mod Primaries
+pub mod Restored

@@ -49,7 +49,7 @@ some-mapped : (o : Option ℕ) → is_some (option_map suc o) ≡ is_some o
 some-mapped None = refl
 some-mapped (Some i) = refl
 
-same-found : {X : Type 0} (has : X → Bool) (xs : List X) → is_some (position has xs) ≡ is_some (find has xs)
+pub same-found : {X : Type 0} (has : X → Bool) (xs : List X) → is_some (position has xs) ≡ is_some (find has xs)
 same-found has [] = refl
 same-found has (x ∷ xs) = ap is_some (position-step has x xs) ∙ by_test (has x) (same-found has xs)
   where

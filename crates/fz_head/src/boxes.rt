@@ -6,6 +6,7 @@ ghost use Rattle.fz_block.specs.Facts.{IsHeaderOf, nine_axes};
 ghost use Rattle.fz_block.specs.Header.{next_start_of};
 ghost use Rattle.fz_block.specs.Hdus.{cards_of};
 ghost use Rattle.fz_grid.specs.Region.{IsWithin};
+ghost use Rattle.fz_table.specs.Rows.{IsTable};
 ghost use Rattle.fz_head.specs.JobChecks.{IsBox, IsImageOf, axis_inside, box_checks, image_to_cut as image_to_cut_of, packed_card_checks};
 ghost use Rattle.fz_head.specs.Packable.{is_packed as is_packed_of};
 ghost use Rattle.fz_head.specs.PackedPlan.{numbered_in, said_axes, size_of};
@@ -95,6 +96,8 @@ pub fn image_to_cut(
     requires region { IsBox region.now }
     ensures exact { result ≡ image_to_cut_of header.now buf.now after_empty region.now }
     ensures image { IfOk result (IsImageOf buf.now header.now) }
+    ensures table { IfOk result (λ i. IsTable i.table) }
+    ensures heap { IfOk result (λ i. i.table.heap_at + i.table.heap_len ≤ next_start_of header.now) }
     ensures within { IfOk result (λ i. IsWithin i.plan.shape region.now) }
 {
     check_packed(buf, header)?;

@@ -1,10 +1,11 @@
 //! What a job checks and learns of the header of one HDU: of an image that is packed, of a packed one that is
 //! unpacked, and of one that a part is cut from.
-ghost use Rattle.std.specs.Prelude.{◌≡◌, ◌*◌, ◌≤◌, ◌^◌, ◌==◌, not, true, [], ◌∷◌, Some, None, position, IfOk, IfSome, length as len};
+ghost use Rattle.std.specs.Prelude.{◌≡◌, ◌+◌, ◌*◌, ◌≤◌, ◌^◌, ◌==◌, not, true, [], ◌∷◌, Some, None, position, IfOk, IfSome, length as len};
 ghost use Rattle.fz_base.specs.Refusal.{IsFirstOf};
 ghost use Rattle.fz_block.specs.Facts.{IsHeaderOf};
 ghost use Rattle.fz_block.specs.Header.{next_start_of};
 ghost use Rattle.fz_grid.specs.Region.{IsDivided};
+ghost use Rattle.fz_table.specs.Rows.{IsTable};
 ghost use Rattle.fz_tile.specs.Codecs.{CanWrite};
 ghost use Rattle.fz_head.specs.Conditions.{IsPackPlan};
 ghost use Rattle.fz_head.specs.JobChecks.{IsImageOf, already_packed, data_fill, image_checks, image_in, image_to_unpack as image_to_unpack_of, missing_hdu as missing_hdu_of, plan_to_pack as plan_to_pack_of, says_packed as says_packed_of};
@@ -120,6 +121,8 @@ pub(crate) fn packed_image(
     ensures exact { IsFirstOf (image_checks header.now buf.now after_empty) result }
     ensures said { IfOk result (λ i. i ≡ image_in header.now buf.now) }
     ensures image { IfOk result (IsImageOf buf.now header.now) }
+    ensures table { IfOk result (λ i. IsTable i.table) }
+    ensures heap { IfOk result (λ i. i.table.heap_at + i.table.heap_len ≤ next_start_of header.now) }
 {
     let table = Table::of(buf, header)?;
     let plan = plan_of(buf, header, &table, after_empty)?;
@@ -139,6 +142,8 @@ pub fn image_to_unpack(
     requires end { next_start_of header.now ≤ 2 ^ 62 }
     ensures exact { result ≡ image_to_unpack_of header.now buf.now after_empty }
     ensures image { IfOk result (λ o. IfSome o (IsImageOf buf.now header.now)) }
+    ensures table { IfOk result (λ o. IfSome o (λ i. IsTable i.table)) }
+    ensures heap { IfOk result (λ o. IfSome o (λ i. i.table.heap_at + i.table.heap_len ≤ next_start_of header.now)) }
 {
     if !is_table(header.sort) {
         return Ok(None);

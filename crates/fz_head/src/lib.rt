@@ -31,7 +31,10 @@ mod volumes;
 mod written;
 
 pub use boxes::image_to_cut;
-pub use checked::{fill_law, image_to_pack_law, pack_plan_law, packed_image_law};
+pub use checked::{
+    fill_law, image_to_pack_law, pack_plan_law, packed_image_law, packed_primary_law,
+    plan_to_pack_law, primary_law,
+};
 pub use empty_primary::to_empty_primary;
 pub use job_checks::{PackedImage, fill_check, image_to_unpack, missing_hdu, plan_to_pack};
 pub use law::{

@@ -83,9 +83,10 @@ record_of hdu row t r tile = unless_refused (chosen_record t r tile) (first_refu
 abbrev pub record_at : List ℕ → ℕ → Table → ℕ → Tile → Result Record Fault
 record_at file hdu t row tile = record_of hdu row t (row_at file t row) tile
 
--- a record has bytes, which stand within the heap
+-- a record has bytes, which stand within the heap; of these at most 8 for each pixel and 64 more are read
 pub record StandsInHeap (t : Table) (tile : Tile) (chosen : Record) : Type 0 where
   pub some : 0 < chosen.read
+  pub limit : chosen.read ≡ min chosen.total (8 * tile.pixels + 64)
   pub first : chosen.read ≤ chosen.total
   pub most : chosen.read ≤ 8 * tile.pixels + 64
   pub start : t.heap_at ≤ chosen.start

@@ -1,4 +1,4 @@
-use Rattle.fz_grid.proofs.TileSums.{tile_most, tile_some, tiles_sum}
+use Rattle.fz_grid.proofs.TileSums.{tile_most, tile_some, tile_whole, tiles_sum}
 use Rattle.fz_grid.proofs.law.tile_pixels_law.Goals as goal
 
 pub returns-clause-some : goal.returns-clause-some
@@ -9,3 +9,6 @@ returns-clause-most c = tile_most
 
 pub returns-clause-all : goal.returns-clause-all
 returns-clause-all c = tiles_sum
+
+pub returns-clause-whole : goal.returns-clause-whole
+returns-clause-whole c = tile_whole

@@ -19,6 +19,7 @@ returns-clause-within c =
     let above : 0 < c.in-Some.total = omega (arith, bytes, total) in
     record {
       some = omega (arith, above, c.min.ensures);
+      limit = omega (arith, c.min.ensures, c.from.ensures);
       first = omega (arith, c.min.ensures);
       most = omega (arith, c.min.ensures, c.from.ensures);
       start = omega (arith, heap.start_is);
