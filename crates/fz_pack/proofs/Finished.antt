@@ -19,7 +19,8 @@ use Rattle.fz_survey.specs.Surveys.{survey_takings, surveyed}
 use Rattle.fz_survey.specs.Workspace.{StaysInBound, wanted_buffers}
 use Rattle.fz_survey.specs.declared.checks.JobChecks.TheVariants.{Pack as PackChecks}
 use Rattle.fz_survey.specs.declared.survey.Survey.{Survey}
-use Rattle.fz_pack.specs.Clauses.{HoldsPacked, IfOverLimit, IsChanged, IsShutOrWhole, IsUnmade, TellsFirstFault}
+use Rattle.fz_pack.specs.Output.{HoldsPacked}
+use Rattle.fz_job.specs.Clauses.{IfOverLimit, IsChanged, IsShutOrWhole, IsUnmade, TellsFirstFault}
 use Rattle.fz_pack.specs.Stages.{IsKnown, SurveysKnow, later_takings, wants_for}
 use Rattle.fz_pack.specs.Written.{ArePacked, AreShutOrWhole, FinishesSeen, IsList}
 use Rattle.fz_pack.proofs.Outcomes.{refused_weaker}

@@ -21,7 +21,8 @@ use Rattle.fz_head.specs.declared.plan.Plan.{Plan}
 use Rattle.fz_files.specs.Packed.{before_table, packed_hdu, packed_image}
 use Rattle.fz_image.specs.Image.{HoldsTable}
 use Rattle.fz_pack.specs.Again.{IsAgain, header_in}
-use Rattle.fz_pack.specs.Behind.{HoldsBytes, HoldsCopy, HoldsHdu, before_image, written_behind}
+use Rattle.fz_job.specs.Behind.{HoldsBytes, HoldsCopy, written_behind}
+use Rattle.fz_pack.specs.Behind.{HoldsHdu, before_image}
 use Rattle.fz_pack.specs.declared.again.Again.{Again}
 
 -- ---- what is written

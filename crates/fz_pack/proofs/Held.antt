@@ -10,7 +10,8 @@ use Rattle.fz_pool.specs.Window.{Pool, slot_sizes}
 use Rattle.fz_survey.specs.Workspace.{HasLengths, HoldsWhatItTook, held_bytes, slots_for, window_for, wanted_buffers}
 use Rattle.fz_survey.specs.declared.workspace.Wants.{Wants}
 use Rattle.fz_survey.specs.declared.workspace.Workspace.{Workspace}
-use Rattle.fz_pack.specs.Keeps.{SpaceStays, WindowStays}
+use Rattle.fz_survey.specs.Workspace.{SpaceStays}
+use Rattle.fz_job.specs.Keeps.{WindowStays}
 
 -- the sum of one
 pub sum_one : (n : ℕ) → sum (n ∷ []) ≡ n

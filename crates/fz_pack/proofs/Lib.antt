@@ -1,4 +1,3 @@
-pub mod Copied
 pub mod Finished
 pub mod Greatest
 pub mod Hdus

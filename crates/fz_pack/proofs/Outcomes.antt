@@ -19,7 +19,7 @@ use Rattle.fz_files.specs.declared.job.Job.TheVariants.{Pack}
 use Rattle.fz_survey.specs.Surveys.{survey_takings, surveyed}
 use Rattle.fz_survey.specs.declared.checks.JobChecks.TheVariants.{Pack as PackChecks}
 use Rattle.fz_survey.specs.declared.survey.Survey.{Survey}
-use Rattle.fz_pack.specs.Clauses.{IfOverLimit, IsChanged, IsShutOrWhole, IsUnmade, TellsFirstFault}
+use Rattle.fz_job.specs.Clauses.{IfOverLimit, ComesLate, IsShutOrWhole, IsUnmade, TellsFirstFault}
 use Rattle.fz_pack.specs.Stages.{SurveysRefuse, later_takings}
 use Rattle.fz_pack.specs.Written.{AreShutOrWhole, FinishesSeen}
 use Rattle.fz_pack.proofs.Takings.{look_tells, look_within}
@@ -68,7 +68,7 @@ pub untouched_unmade : {X : Type 0} (job : Job) (held : Option (List ℕ)) (Same
 untouched_unmade job held Same r is = record {
   faulty = always held (λ file. ¬ (header_fault job file ≡ None) → Same) (λ g faulty. is);
   over_limit = if_over r Same is;
-  refused = if_refused r (λ x. Same ⊎ IsChanged x) (λ x. inl is);
+  refused = if_refused r (λ x. Same ⊎ ComesLate job x) (λ x. inl is);
 }
 
 -- ---- buffers that were not given

@@ -14,7 +14,7 @@ use Rattle.fz_base.specs.declared.failure.Stop.TheVariants.{Refused, ReadFault, 
 use Rattle.fz_head.specs.declared.options.PackOptions.{PackOptions}
 use Rattle.fz_files.specs.Buffers.{AreBounded, job_bound, job_takings}
 use Rattle.fz_files.specs.declared.job.Job.TheVariants.{Pack}
-use Rattle.fz_pack.specs.Clauses.{Answers, HasCause, greatest_bound}
+use Rattle.fz_job.specs.Clauses.{Answers, HasJobCause, greatest_bound}
 use Rattle.fz_pack.specs.Stages.{StoppedWorking, Works, later_takings}
 use Rattle.fz_pack.proofs.Outcomes.{always}
 use Rattle.fz_pack.proofs.Takings.{past_wider, tells_after}
@@ -32,7 +32,7 @@ over_never bounded o None limit W live asked past = tt
 over_never bounded o (Some g) limit W live asked past = λ room. past_never bounded o g limit W live asked past room
 
 pub has_answer : AreBounded → {X : Type 0} (o : PackOptions) (held : Option (List ℕ)) (source source' sink sink' : Tally) (limit W : ℕ) (r : Result X Stop) →
-    HasCause (Pack o) held source source' sink sink' limit W r → Answers (Pack o) held source source' sink sink' limit W r
+    HasJobCause (Pack o) held source source' sink sink' limit W r → Answers (Pack o) held source source' sink sink' limit W r
 has_answer bounded o held source source' sink sink' limit W (Ok x) cause = λ calm quiet. always held (λ g. job_bound (Pack o) g W ≤ limit → ⊤) (λ g room. tt)
 has_answer bounded o held source source' sink sink' limit W (Err (Refused x)) cause = λ calm quiet. always held (λ g. job_bound (Pack o) g W ≤ limit → ⊤) (λ g room. tt)
 has_answer bounded o held source source' sink sink' limit W (Err ReadFault) cause = λ calm quiet. absurd (calm (cause.read_fault refl))
@@ -48,7 +48,7 @@ block_in W = omega arith
 
 -- the block was not given
 pub block_cause : (X : Type 0) (o : PackOptions) (held : Option (List ℕ)) (source sink : Tally) (W : ℕ) (g : Gauge) (short : Short) → g.live ≡ 0 → RefusedFor g 2880 short →
-    HasCause {X = X} (Pack o) held source source sink sink g.limit W (Err (stop_of_short short))
+    HasJobCause {X = X} (Pack o) held source source sink sink g.limit W (Err (stop_of_short short))
 block_cause X o held source sink W g NoRoom nothing why = record {
   done = tt;
   refused = λ is. (refl, refl);
@@ -90,7 +90,7 @@ with_block_first o (Some g) limit W r room tells =
     tells_after limit ((0, 2880) ∷ []) (later_takings o g W) r none tells
 
 pub work_cause : {X : Type 0} (o : PackOptions) (held : Option (List ℕ)) (source source' sink sink' : Tally) (limit W : ℕ) (r : Result X Stop) → 2880 ≤ limit → Works source source' sink sink' limit r → TellsLimit limit (greatest_bound (Pack o) W) r →
-    IfSome held (λ g. TellsFirstPast limit (later_takings o g W) r) → HasCause (Pack o) held source source' sink sink' limit W r
+    IfSome held (λ g. TellsFirstPast limit (later_takings o g W) r) → HasJobCause (Pack o) held source source' sink sink' limit W r
 work_cause o held source source' sink sink' limit W r room works most tells = record {
   done = works.ok;
   refused = λ is. work_refused source source' sink sink' limit r works is;

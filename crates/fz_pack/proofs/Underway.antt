@@ -21,7 +21,8 @@ use Rattle.fz_block.specs.declared.header.Header.{Header}
 use Rattle.fz_head.specs.declared.options.PackOptions.{PackOptions}
 use Rattle.fz_files.specs.Packed.{packed_file, packed_from, packed_hdu}
 use Rattle.fz_pack.specs.Again.{ReadsAsSeen, WereSeen}
-use Rattle.fz_pack.specs.Behind.{AreWritten, HoldsHdu, IsUnderway, RewritesSeen, written_behind}
+use Rattle.fz_job.specs.Behind.{written_behind}
+use Rattle.fz_pack.specs.Behind.{AreWritten, HoldsHdu, IsUnderway, RewritesSeen}
 use Rattle.fz_pack.specs.declared.again.Again.{Again}
 use Rattle.fz_pack.proofs.Hdus.{AreOneWrite, both_behind, none_behind}
 

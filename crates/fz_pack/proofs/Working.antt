@@ -9,8 +9,8 @@ use Rattle.fz_base.specs.declared.failure.Short.TheVariants.{NoMemory as NoRoom,
 use Rattle.fz_base.specs.declared.failure.Stop.{Stop}
 use Rattle.fz_base.specs.declared.failure.Stop.TheVariants.{Refused, ReadFault, WriteFault, OverLimit, NoMemory}
 use Rattle.fz_survey.specs.Takes.{TellsTheLimit}
-use Rattle.fz_pack.specs.Clauses.{IfOverLimit}
-use Rattle.fz_pack.specs.Keeps.{Rewrites, StoppedRewriting}
+use Rattle.fz_job.specs.Clauses.{IfOverLimit}
+use Rattle.fz_job.specs.Keeps.{Rewrites, StoppedRewriting}
 use Rattle.fz_pack.specs.Stages.{StoppedWorking, Works}
 
 pub kept_same : (t : Tally) → CountsKept t t

@@ -1,35 +1,21 @@
 -- The packed file, written but for its byte 0, which comes last (FITS 4.0, section 4.4.1.1).
-use Rattle.std.specs.Prelude.{ℕ, zero, suc, ◌≡◌, ◌+◌, ◌^◌, ◌≤◌, ◌<◌, Bool, true, false, List, [], ◌++◌, length, drop, map, Option, Result, OnOk}
-use Rattle.fz_base.specs.Sink.{written}
+use Rattle.std.specs.Prelude.{ℕ, ◌≡◌, ◌+◌, ◌^◌, ◌≤◌, ◌<◌, Bool, true, false, List, [], ◌++◌, length, map, Option, Result, OnOk}
 use Rattle.fz_base.specs.Stop.{IfRefused}
 use Rattle.fz_base.specs.declared.failure.Stop.{Stop}
-use Rattle.fz_block.specs.Hdus.{hdu_bytes, header_bytes}
+use Rattle.fz_block.specs.Hdus.{header_bytes}
 use Rattle.fz_block.specs.Header.{next_start_of}
 use Rattle.fz_block.specs.Walk.{hdu_of}
 use Rattle.fz_block.specs.declared.header.Header.{Header}
 use Rattle.fz_head.specs.EmptyPrimary.{empty_primary}
 use Rattle.fz_head.specs.declared.options.PackOptions.{PackOptions}
 use Rattle.fz_files.specs.Packed.{packed_hdu, packed_file}
+use Rattle.fz_job.specs.Behind.{HoldsBytes, written_behind}
 use Rattle.fz_pack.specs.Again.{WereSeen}
-
--- bytes from one place on, but not byte 0
-abbrev pub written_behind : ℕ → List ℕ → Option (List ℕ) → Option (List ℕ)
-written_behind zero bytes contents = written 1 (drop 1 bytes) contents
-written_behind (suc at) bytes contents = written (suc at) bytes contents
-
--- bytes were written from one byte on, and end before another
-pub record HoldsBytes (bytes : List ℕ) (at end : ℕ) (before now : Option (List ℕ)) : Type 0 where
-  pub contents : now ≡ written_behind at bytes before
-  pub behind : end ≡ at + length bytes
 
 -- those that stand before the table of an image, which was the primary or not
 abbrev pub before_image : Bool → List ℕ
 before_image true = header_bytes empty_primary
 before_image false = []
-
--- an HDU was copied
-abbrev pub HoldsCopy : Header → List ℕ → ℕ → ℕ → Option (List ℕ) → Option (List ℕ) → Type 0
-HoldsCopy h file at end before now = HoldsBytes (hdu_bytes (hdu_of file h)) at end before now
 
 -- the HDU of the packed file that an HDU of the file becomes was written
 abbrev pub HoldsHdu : PackOptions → Header → List ℕ → ℕ → ℕ → Option (List ℕ) → Option (List ℕ) → Type 0

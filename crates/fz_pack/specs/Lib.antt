@@ -1,6 +1,5 @@
 pub mod Again
 pub mod Behind
-pub mod Clauses
-pub mod Keeps
+pub mod Output
 pub mod Stages
 pub mod Written

@@ -10,9 +10,9 @@ ghost use Rattle.fz_block.specs.Cards.{card_at};
 ghost use Rattle.fz_block.specs.Checks.{is_set};
 ghost use Rattle.fz_grid.specs.Region.{IsDivided};
 ghost use Rattle.fz_head.specs.Planned.{AreOptions};
-ghost use Rattle.fz_pack.specs.Clauses.{IsChanged};
+ghost use Rattle.fz_job.specs.Clauses.{IsChanged};
 ghost use Rattle.fz_pack.specs.Again.{IsAgain, ReadsAsSeen, is_larger as is_larger_of, largest_of};
-ghost use Rattle.fz_pack.specs.Keeps.{SourceStays};
+ghost use Rattle.fz_job.specs.Keeps.{SourceStays};
 
 use fz_base::{Fault, Kind, Place, Source, Stop, log_law};
 use fz_block::{BLOCK_LEN, Header, again_law, card, header_again};

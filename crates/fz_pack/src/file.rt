@@ -6,10 +6,11 @@ ghost use Rattle.fz_head.specs.Planned.{AreOptions};
 ghost use Rattle.fz_pool.specs.Window.{slot_sizes};
 ghost use Rattle.fz_base.specs.Stop.{IfRefused};
 ghost use Rattle.fz_base.specs.Told.{StaysTold};
-ghost use Rattle.fz_pack.specs.Clauses.{IsChanged};
+ghost use Rattle.fz_job.specs.Clauses.{IsChanged};
 ghost use Rattle.fz_pack.specs.Behind.{RewritesSeen};
 ghost use Rattle.fz_pack.specs.Written.{AreShutOrWhole, FinishesSeen};
-ghost use Rattle.fz_pack.specs.Keeps.{Rewrites, SinkStays, SourceStays, SpaceStays, WindowStays};
+ghost use Rattle.fz_survey.specs.Workspace.{SpaceStays};
+ghost use Rattle.fz_job.specs.Keeps.{Rewrites, SinkStays, SourceStays, WindowStays};
 
 use crate::again::read_again;
 use crate::hdu::write_hdu;

@@ -1,21 +1,23 @@
 //! One HDU of the packed file.
-ghost use Rattle.std.specs.Prelude.{ℕ, ◌≡◌, ◌+◌, ◌-◌, ◌^◌, ◌≤◌, ◌<◌, true, IsTrue, Some, if◌then◌else◌, ◌==◌, length as len, IfOk, IfSome, OnOk};
-ghost use Rattle.fz_base.specs.Stop.{ReadsAndWrites, Writes};
+ghost use Rattle.std.specs.Prelude.{ℕ, ◌≡◌, ◌+◌, ◌-◌, ◌^◌, ◌≤◌, ◌<◌, true, IsTrue, Some, length as len, IfOk, IfSome};
+ghost use Rattle.fz_base.specs.Stop.{CodesAndWrites, Writes};
 ghost use Rattle.fz_base.specs.Told.{StaysTold};
 ghost use Rattle.fz_block.specs.Header.{next_start_of};
 ghost use Rattle.fz_head.specs.Planned.{AreOptions};
+ghost use Rattle.fz_pool.specs.Window.{HasSlotsFor};
+ghost use Rattle.fz_job.specs.Behind.{HoldsBytes};
+ghost use Rattle.fz_job.specs.Keeps.{SinkStays, SourceStays, WindowStays};
+ghost use Rattle.fz_survey.specs.Workspace.{SpaceStays};
 ghost use Rattle.fz_image.specs.Image.{HoldsTable};
-ghost use Rattle.fz_base.specs.Stop.{CodesAndWrites};
-ghost use Rattle.fz_image.specs.Tiles.{HasSlotsFor};
 ghost use Rattle.fz_pack.specs.Again.{IsAgain, largest_of};
-ghost use Rattle.fz_pack.specs.Behind.{EndsNear, HoldsBytes, HoldsCopy, HoldsHdu, before_image};
-ghost use Rattle.fz_pack.specs.Keeps.{SinkStays, SourceStays, SpaceStays, WindowStays};
+ghost use Rattle.fz_pack.specs.Behind.{EndsNear, HoldsHdu, before_image};
 
 use crate::again::Again;
-use fz_base::{Gate, Sink, Source, Stop, copy, log_law, output_law, write_behind};
-use fz_block::{BLOCK_LEN, Header, next_start};
+use fz_base::{Gate, Sink, Source, Stop, output_law, write_behind};
+use fz_block::{BLOCK_LEN, Header};
 use fz_head::{PackOptions, Plan, to_empty_primary};
 use fz_image::write_image;
+use fz_job::copy_hdu;
 use fz_pool::Window;
 use fz_survey::Workspace;
 use std::thread::Threads;
@@ -139,48 +141,4 @@ fn write_table<R: Threads + Sync, S: Source, K: Sink, G: Gate>(
         window,
         gate,
     )
-}
-
-// Copies an HDU, without byte 0 of the file, and answers the byte behind it.
-fn copy_hdu<S: Source, K: Sink>(
-    source: &mut S,
-    header: &Header,
-    sink: &mut K,
-    at: u64,
-    buffer: &mut [u8],
-) -> Result<u64, Stop>
-    requires within { (n : ℕ) × (S.attached source.old ≡ Some n) × (next_start_of header.now ≤ n) }
-    requires end { next_start_of header.now ≤ 2 ^ 62 }
-    requires some { 0 < header.now.blocks }
-    requires near { at ≤ 2 ^ 63 }
-    requires buffer { 0 < len buffer.old }
-    requires created { IsTrue (K.created sink.old) }
-    ensures copied { IfOk result (λ end. IfSome (S.held source.old) (λ g. HoldsCopy header.now g at end (K.contents sink.old) (K.contents sink.new))) }
-    ensures end { IfOk result (λ end. (at < end) × (end + header.now.start ≡ at + next_start_of header.now)) }
-    ensures len { len buffer.new ≡ len buffer.old }
-    ensures source { SourceStays (S.held source.old) (S.held source.new) (S.attached source.old) (S.attached source.new) }
-    ensures sink { SinkStays (K.created sink.old) (K.created sink.new) (K.contents sink.old) (K.contents sink.new) }
-    ensures told_ranges { StaysTold (S.ranges source.old) (S.ranges source.new) }
-    ensures told_contents { StaysTold (K.contents sink.old) (K.contents sink.new) }
-    ensures cause { ReadsAndWrites (S.tally source.old) (S.tally source.new) (K.tally sink.old) (K.tally sink.new) result }
-{
-    log_law();
-    let skipped = left_for_last(at);
-    let len = next_start(header) - header.start;
-    copy(
-        source,
-        header.start + skipped,
-        len - skipped,
-        sink,
-        at + skipped,
-        buffer,
-    )?;
-    Ok(at + len)
-}
-
-// How many bytes of an HDU that is written from this byte on are left for last: byte 0 of the file.
-fn left_for_last(at: u64) -> u64
-    ensures { result ≡ (if at == 0 then 1 else 0) }
-{
-    u64::from(at == 0)
 }

@@ -8,8 +8,9 @@ ghost use Rattle.fz_pool.specs.Window.{IsEmpty};
 ghost use Rattle.fz_survey.specs.Workspace.{wanted_buffers};
 ghost use Rattle.fz_files.specs.Buffers.{job_bound};
 ghost use Rattle.fz_files.specs.declared.job.Job.TheVariants.{Pack};
-ghost use Rattle.fz_pack.specs.Clauses.{Answers, HasCause, HoldsPacked, IfOverLimit, IsChanged, IsShutOrWhole, IsUnmade, KeepsBuffers, KeepsSource, TellsFirstFault, greatest_bound};
-ghost use Rattle.fz_pack.specs.Keeps.{SourceStays};
+ghost use Rattle.fz_pack.specs.Output.{HoldsPacked};
+ghost use Rattle.fz_job.specs.Clauses.{Answers, HasJobCause, IfOverLimit, IsChanged, IsShutOrWhole, IsUnmade, KeepsBuffers, KeepsSource, TellsFirstFault, greatest_bound};
+ghost use Rattle.fz_job.specs.Keeps.{SourceStays};
 ghost use Rattle.fz_pack.specs.Stages.{Works, later_takings, wants_for};
 ghost use Rattle.fz_pack.specs.Written.{AreShutOrWhole, FinishesSeen};
 
@@ -51,7 +52,7 @@ pub fn pack<R: Threads + Sync, S: Source, K: Sink, G: Gate>(
     ensures first_fault { TellsFirstFault (Pack options.now) (S.held source.old) result }
     // Where no count of faults rose and the limit is at least the bound, the first fault alone decides.
     ensures answered { Answers (Pack options.now) (S.held source.old) (S.tally source.old) (S.tally source.new) (K.tally sink.old) (K.tally sink.new) meter.old.limit window.old.workers result }
-    ensures cause { HasCause (Pack options.now) (S.held source.old) (S.tally source.old) (S.tally source.new) (K.tally sink.old) (K.tally sink.new) meter.old.limit window.old.workers result }
+    ensures cause { HasJobCause (Pack options.now) (S.held source.old) (S.tally source.old) (S.tally source.new) (K.tally sink.old) (K.tally sink.new) meter.old.limit window.old.workers result }
     // What was cut short does not begin with the S of a FITS file.
     ensures first_byte { IsShutOrWhole (K.contents sink.new) (HoldsPacked options.now (S.held source.old) (K.contents sink.new)) result }
     ensures unmade { IsUnmade (Pack options.now) (S.held source.old) ((K.created sink.new ≡ K.created sink.old) × (K.contents sink.new ≡ K.contents sink.old)) result }

@@ -38,6 +38,10 @@ slot_size x = (length x.numbers, length x.code)
 abbrev pub slot_sizes : List Slot → List (ℕ × ℕ)
 slot_sizes slots = map slot_size slots
 
+-- the slots are those of a window for tiles of so many pixels, or of larger ones
+abbrev pub HasSlotsFor : ℕ → Pool → Type 0
+HasSlotsFor pixels w = (n : ℕ) × (slot_sizes w.slots ≡ replicate (2 * w.workers) (2 * n, 8 * n + 64)) × (pixels ≤ n)
+
 -- what is asked for all slots
 abbrev pub asked_for : List Slot → ℕ
 asked_for slots = sum (map slot_bytes (slot_sizes slots))

@@ -37,6 +37,12 @@ pub record HasLengths (wants : Wants) (w : Workspace) : Type 0 where
 abbrev pub AreSizedFor : Option ℕ → Pool → Type 0
 AreSizedFor tile pool = slot_sizes pool.slots ≡ slot_sizes (slots_for pool.workers tile)
 
+-- the buffers are as long as before
+pub record SpaceStays (old new : Workspace) : Type 0 where
+  pub header : length new.header ≡ length old.header
+  pub translated : length new.translated ≡ length old.translated
+  pub copy : length new.copy ≡ length old.copy
+
 -- the bytes of all these buffers
 abbrev pub held_bytes : Workspace → Pool → ℕ
 held_bytes w pool = length w.header + length w.translated + length w.copy + asked_for pool.slots

@@ -3,7 +3,8 @@ use Rattle.std.proofs.Common.{◌≡◌, ◌+◌, ◌*◌, ◌^◌, ◌<◌, ◌
 use Rattle.fz_base.specs.FirstByte.{StaysShut}
 use Rattle.fz_base.specs.Told.{StaysTold}
 use Rattle.fz_pack.specs.Behind.{IsUnderway}
-use Rattle.fz_pack.specs.Keeps.{SpaceStays, WindowStays}
+use Rattle.fz_survey.specs.Workspace.{SpaceStays}
+use Rattle.fz_job.specs.Keeps.{WindowStays}
 use Rattle.fz_pack.proofs.file.write_hdus.Given as goal
 
 abbrev pub invariant-loop-hdu : goal.invariant-loop-hdu

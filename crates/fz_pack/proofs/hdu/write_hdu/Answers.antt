@@ -2,7 +2,8 @@
 use Rattle.std.proofs.Common.{ℕ, ◌+◌, ◌^◌, ◌<◌, ◌≤◌, List, Option, IfSome, arith}
 use Rattle.std.proofs.lemmas.Result.{IfOk-weaker}
 use Rattle.fz_image.specs.Image.{HoldsTable}
-use Rattle.fz_pack.specs.Behind.{EndsNear, HoldsCopy, HoldsHdu}
+use Rattle.fz_job.specs.Behind.{HoldsCopy}
+use Rattle.fz_pack.specs.Behind.{EndsNear, HoldsHdu}
 use Rattle.fz_pack.proofs.Hdus.{behind_first, holds_copy, holds_table, primary_first, primary_only}
 use Rattle.fz_pack.proofs.hdu.write_hdu.Goals as goal
 

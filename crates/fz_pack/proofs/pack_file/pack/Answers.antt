@@ -9,7 +9,7 @@ use Rattle.fz_base.specs.Takings.{TellsFirstPast}
 use Rattle.fz_base.specs.declared.failure.Stop.{Stop}
 use Rattle.fz_files.specs.Buffers.{job_bound}
 use Rattle.fz_files.specs.declared.job.Job.TheVariants.{Pack}
-use Rattle.fz_pack.specs.Clauses.{HasCause, TellsFirstFault, greatest_bound}
+use Rattle.fz_job.specs.Clauses.{HasJobCause, TellsFirstFault, greatest_bound}
 use Rattle.fz_pack.specs.Stages.{Works, later_takings}
 use Rattle.fz_pack.proofs.Held.{refilled_len}
 use Rattle.fz_pack.proofs.Outcomes.{short_untold, untouched_shut, untouched_unmade}
@@ -36,7 +36,7 @@ returns-in_err-block-clause-cause g c =
     let sink : Tally = g.K.Sink.tally c.args.sink.now in
     let W : ℕ = c.args.window.now.workers in
     let stopped : c.from_residual.result ≡ Err (stop_of_short c.in_err-block.field-0.0) = search rules in
-    subst (λ (r : Result (Unit {0}) Stop). HasCause (Pack c.args.options.now) held source source sink sink c.args.meter.now.limit W r) (sym stopped)
+    subst (λ (r : Result (Unit {0}) Stop). HasJobCause (Pack c.args.options.now) held source source sink sink c.args.meter.now.limit W r) (sym stopped)
     (block_cause (Unit {0}) c.args.options.now held source sink W c.args.meter.now c.in_err-block.field-0.0 c.requires.nothing_live c.in_err-block.ensures.refused)
 
 pub returns-in_err-block-clause-answered : goal.returns-in_err-block-clause-answered

@@ -8,7 +8,7 @@ use Rattle.fz_survey.specs.Workspace.{wanted_buffers}
 use Rattle.fz_survey.specs.declared.checks.JobChecks.TheVariants.{Pack as PackChecks}
 use Rattle.fz_base.specs.Stop.{TellsLimit}
 use Rattle.fz_survey.specs.declared.survey.Survey.{Survey}
-use Rattle.fz_pack.specs.Clauses.{TellsFirstFault, greatest_bound}
+use Rattle.fz_job.specs.Clauses.{TellsFirstFault, greatest_bound}
 use Rattle.fz_pack.proofs.Greatest.{header_within, tells_more, tells_within, work_within}
 use Rattle.fz_pack.specs.Stages.{Works, later_takings, wants_for}
 use Rattle.fz_pack.specs.Written.{AreShutOrWhole, FinishesSeen}

@@ -2,8 +2,8 @@
 use Rattle.std.proofs.Common.{ℕ, ◌≡◌, ◌+◌, ◌-◌, List, Option, IfSome, take, drop, arith}
 use Rattle.fz_base.specs.Sink.{written}
 use Rattle.fz_base.specs.Source.{HoldsLength}
-use Rattle.fz_pack.proofs.Copied.{copied_whole}
-use Rattle.fz_pack.proofs.hdu.copy_hdu.Goals as goal
+use Rattle.fz_job.proofs.Copied.{copied_whole}
+use Rattle.fz_job.proofs.copying.copy_hdu.Goals as goal
 
 pub returns-clause-copied : goal.returns-clause-copied
 returns-clause-copied g c =

@@ -9,24 +9,19 @@ use Rattle.fz_base.specs.Stop.{IfRefused, IsRefused, TellsLimit}
 use Rattle.fz_base.specs.Takings.{TellsFirstPast}
 use Rattle.fz_base.specs.declared.failure.Stop.{Stop}
 use Rattle.fz_base.specs.declared.fault.Fault.{Fault}
-use Rattle.fz_base.specs.declared.fault.Place.TheVariants.{Card}
+use Rattle.fz_base.specs.declared.fault.Place.TheVariants.{Card, Row}
 use Rattle.fz_base.specs.declared.kind.Kind.TheVariants.{BadCard}
 use Rattle.fz_base.specs.declared.failure.Stop.TheVariants.{Refused, ReadFault, WriteFault, OverLimit, NoMemory}
-use Rattle.fz_head.specs.declared.options.PackOptions.{PackOptions}
 use Rattle.fz_pool.specs.Window.{Pool}
 use Rattle.fz_files.specs.Buffers.{job_bound, job_takings, workers_of}
 use Rattle.fz_files.specs.FirstFault.{IsFirstFault}
-use Rattle.fz_files.specs.Packed.{IsPackedFile}
 use Rattle.fz_files.specs.Walks.{header_fault}
 use Rattle.fz_files.specs.declared.job.Job.{Job}
+use Rattle.fz_files.specs.declared.job.Job.TheVariants.{Pack, Unpack, Cut, Verify, List as ListHdus, Drill}
 
 -- the contents, where they and the bytes of the source are told, are an output of the bytes
 abbrev pub HoldsOutput : (List ℕ → List ℕ → Type 0) → Option (List ℕ) → Option (List ℕ) → Type 0
 HoldsOutput Output held contents = IfSome held (λ file. IfSome contents (Output file))
-
--- the output of `pack`
-abbrev pub HoldsPacked : PackOptions → Option (List ℕ) → Option (List ℕ) → Type 0
-HoldsPacked o held contents = HoldsOutput (IsPackedFile o) held contents
 
 -- after Ok the file has no fault for the job, and after Refused x its first fault is x
 abbrev pub TellsFirstFault : {X : Type 0} → Job → Option (List ℕ) → Result X Stop → Type 0
@@ -60,7 +55,7 @@ greatest_bound job asked = buffer_bound 737280 (2 ^ 26) (workers_of job asked)
 -- rose; OverLimit tells the limit and what passes it, which is never
 -- more than the greatest bound; it is the first of the job's takings that passes the limit, and comes where one does. The first taking, of one
 -- block, comes before anything is read: a limit below that decides alone.
-pub record HasCause {X : Type 0} (job : Job) (held : Option (List ℕ)) (source source' sink sink' : Tally) (limit workers : ℕ) (result : Result X Stop) : Type 0 where
+pub record HasJobCause {X : Type 0} (job : Job) (held : Option (List ℕ)) (source source' sink sink' : Tally) (limit workers : ℕ) (result : Result X Stop) : Type 0 where
   pub done : OnOk result ((source' ≡ source) × (sink' ≡ sink))
   pub refused : IsRefused result → (source' ≡ source) × (sink' ≡ sink)
   pub read_fault : IsErrOf result ReadFault → Rose source.faults source'.faults
@@ -88,12 +83,25 @@ IfOverLimit (Err NoMemory) P = ⊤
 abbrev pub IsChanged : Fault → Type 0
 IsChanged x = x ≡ refusal x.hdu (Card 0) BadCard
 
+-- the refusal of a row, whatever row it is
+abbrev pub IsOfSomeRow : Fault → Type 0
+IsOfSomeRow x = (row : ℕ) × (x.at ≡ Row row)
+
+-- The faults that a job may tell behind its first look: that of an HDU which changed, and, of a job that reads rows, that of a row.
+abbrev pub ComesLate : Job → Fault → Type 0
+ComesLate (Pack o) x = IsChanged x
+ComesLate Unpack x = IsChanged x ⊎ IsOfSomeRow x
+ComesLate (Cut wanted sieve) x = IsChanged x ⊎ IsOfSomeRow x
+ComesLate Verify x = IsChanged x ⊎ IsOfSomeRow x
+ComesLate ListHdus x = IsChanged x
+ComesLate (Drill rows) x = ⊥
+
 -- The sink is not made where a header of the file is refused, whatever the answer, and where a buffer passes the limit. A refusal leaves it
--- unmade too, but that of an HDU which changed between both readings.
+-- unmade too, but one that comes behind the first look.
 pub record IsUnmade {X : Type 0} (job : Job) (held : Option (List ℕ)) (Same : Type 0) (result : Result X Stop) : Type 0 where
   pub faulty : IfSome held (λ file. ¬ (header_fault job file ≡ None) → Same)
   pub over_limit : IfOverLimit result Same
-  pub refused : IfRefused result (λ x. Same ⊎ IsChanged x)
+  pub refused : IfRefused result (λ x. Same ⊎ ComesLate job x)
 
 -- Nothing is live, the limit stays, the peak is at most that before or the bound of the job, and the window is empty. Of a file that does
 -- not tell its bytes the greatest bound is said.

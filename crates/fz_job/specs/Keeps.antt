@@ -1,11 +1,10 @@
 -- What the parts of the job keep of what they are lent, and why they stop.
-use Rattle.std.specs.Prelude.{ℕ, ◌≡◌, Bool, List, length, Option, Result, OnOk, IfErr, ⊤}
+use Rattle.std.specs.Prelude.{ℕ, ◌≡◌, Bool, List, Option, Result, OnOk, IfErr, ⊤}
 use Rattle.fz_base.specs.Counts.{Rose, Tally, CountsKept}
 use Rattle.fz_base.specs.FirstByte.{StaysShut}
 use Rattle.fz_base.specs.declared.failure.Stop.{Stop}
 use Rattle.fz_base.specs.declared.failure.Stop.TheVariants.{Refused, ReadFault, WriteFault, OverLimit, NoMemory}
 use Rattle.fz_pool.specs.Window.{Pool, slot_sizes}
-use Rattle.fz_survey.specs.declared.workspace.Workspace.{Workspace}
 
 -- what the source holds, and how long it is
 pub record SourceStays (held held' : Option (List ℕ)) (attached attached' : Option ℕ) : Type 0 where
@@ -16,12 +15,6 @@ pub record SourceStays (held held' : Option (List ℕ)) (attached attached' : Op
 pub record SinkStays (created created' : Bool) (contents contents' : Option (List ℕ)) : Type 0 where
   pub created_is : created' ≡ created
   pub shut : StaysShut contents contents'
-
--- the lengths of the buffers
-pub record SpaceStays (old new : Workspace) : Type 0 where
-  pub header : length new.header ≡ length old.header
-  pub translated : length new.translated ≡ length old.translated
-  pub copy : length new.copy ≡ length old.copy
 
 -- those of the slots, and the number of workers
 pub record WindowStays (old new : Pool) : Type 0 where

@@ -9,7 +9,7 @@ use Rattle.fz_block.specs.Hdus.{hdu_bytes}
 use Rattle.fz_block.specs.Header.{next_start_of, whole_blocks_of}
 use Rattle.fz_block.specs.Walk.{hdu_of}
 use Rattle.fz_block.specs.declared.header.Header.{Header}
-use Rattle.fz_pack.specs.Behind.{HoldsCopy, written_behind}
+use Rattle.fz_job.specs.Behind.{HoldsCopy, written_behind}
 
 -- how long the HDU is
 abbrev len_of : Header → ℕ

@@ -1,0 +1,54 @@
+//! What a job copies, and what it leaves for last.
+ghost use Rattle.std.specs.Prelude.{ℕ, ◌≡◌, ◌+◌, ◌≤◌, ◌<◌, ◌^◌, IsTrue, Some, if◌then◌else◌, ◌==◌, length as len, IfOk, IfSome};
+ghost use Rattle.fz_base.specs.Stop.{ReadsAndWrites};
+ghost use Rattle.fz_base.specs.Told.{StaysTold};
+ghost use Rattle.fz_block.specs.Header.{next_start_of};
+ghost use Rattle.fz_job.specs.Behind.{HoldsCopy};
+ghost use Rattle.fz_job.specs.Keeps.{SinkStays, SourceStays};
+
+use fz_base::{Sink, Source, Stop, copy, log_law};
+use fz_block::{Header, next_start};
+
+/// Copies an HDU to a byte of the sink, without byte 0 of the file, and answers the byte behind it.
+pub fn copy_hdu<S: Source, K: Sink>(
+    source: &mut S,
+    header: &Header,
+    sink: &mut K,
+    at: u64,
+    buffer: &mut [u8],
+) -> Result<u64, Stop>
+    requires within { (n : ℕ) × (S.attached source.old ≡ Some n) × (next_start_of header.now ≤ n) }
+    requires end { next_start_of header.now ≤ 2 ^ 62 }
+    requires some { 0 < header.now.blocks }
+    requires near { at ≤ 2 ^ 63 }
+    requires buffer { 0 < len buffer.old }
+    requires created { IsTrue (K.created sink.old) }
+    ensures copied { IfOk result (λ end. IfSome (S.held source.old) (λ g. HoldsCopy header.now g at end (K.contents sink.old) (K.contents sink.new))) }
+    ensures end { IfOk result (λ end. (at < end) × (end + header.now.start ≡ at + next_start_of header.now)) }
+    ensures len { len buffer.new ≡ len buffer.old }
+    ensures source { SourceStays (S.held source.old) (S.held source.new) (S.attached source.old) (S.attached source.new) }
+    ensures sink { SinkStays (K.created sink.old) (K.created sink.new) (K.contents sink.old) (K.contents sink.new) }
+    ensures told_ranges { StaysTold (S.ranges source.old) (S.ranges source.new) }
+    ensures told_contents { StaysTold (K.contents sink.old) (K.contents sink.new) }
+    ensures cause { ReadsAndWrites (S.tally source.old) (S.tally source.new) (K.tally sink.old) (K.tally sink.new) result }
+{
+    log_law();
+    let skipped = left_for_last(at);
+    let len = next_start(header) - header.start;
+    copy(
+        source,
+        header.start + skipped,
+        len - skipped,
+        sink,
+        at + skipped,
+        buffer,
+    )?;
+    Ok(at + len)
+}
+
+/// How many bytes of an HDU that is written from this byte on are left for last: byte 0 of the file.
+pub fn left_for_last(at: u64) -> u64
+    ensures { result ≡ (if at == 0 then 1 else 0) }
+{
+    u64::from(at == 0)
+}
