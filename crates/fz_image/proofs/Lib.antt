@@ -1,6 +1,7 @@
 pub mod Codes
 pub mod Sizes
 pub mod Progresses
+pub mod Holding
 pub mod Gathering
 pub mod Headers
 pub mod LoadedTiles

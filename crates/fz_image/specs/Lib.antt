@@ -1,3 +1,4 @@
+pub mod Held
 pub mod Image
 pub mod Layout
 pub mod Progress

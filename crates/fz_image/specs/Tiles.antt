@@ -1,5 +1,5 @@
 -- The tiles of an image, from the bytes of its pixels to what is written for them (FITS 4.0, sections 3.3.2, 5.2 and 10.1.3).
-use Rattle.std.specs.Prelude.{ℕ, suc, ◌≡◌, ◌+◌, ◌*◌, ◌^◌, ◌<◌, ◌≤◌, ℤ, List, [], ◌∷◌, length, take, drop, map, replicate, slice_index_or, Option, IfSome, ⊤}
+use Rattle.std.specs.Prelude.{ℕ, suc, ◌≡◌, ◌+◌, ◌*◌, ◌^◌, ◌<◌, ◌≤◌, ℤ, List, [], ◌∷◌, length, take, drop, map, slice_index_or, Option, IfSome, ⊤}
 use Rattle.std.specs.List.{flat_map, range_with_len}
 use Rattle.fz_grid.specs.Arrays.{NumberArray, product}
 use Rattle.fz_grid.specs.Grid.{tile, tile_lengths}
@@ -11,7 +11,7 @@ use Rattle.fz_pool.specs.declared.slot.Slot.{Slot}
 use Rattle.fz_pool.specs.Calls.{AreForEncoding}
 use Rattle.fz_pool.specs.Round.{HoldsTile, HoldTiles, coded_tiles}
 use Rattle.fz_pool.specs.Slots.{IsForEncoding}
-use Rattle.fz_pool.specs.Window.{IsFilled, Pool, slot_sizes}
+use Rattle.fz_pool.specs.Window.{HasSlotsFor, IsFilled, Pool}
 use Rattle.fz_image.specs.declared.layout.Layout.{Layout}
 
 -- the bytes of the pixels at these places, of so many bytes each, one after another
@@ -51,10 +51,6 @@ AreCodesFrom l t (e ∷ es) = AreElements l.plan.codec (pixel_bits l.plan) (pixe
 -- the buffers of slots for tiles of n pixels have room for a tile of the layout
 abbrev pub HasRoom : Layout → ℕ × ℕ → Type 0
 HasRoom l size = (n : ℕ) × (size ≡ (2 * n, 8 * n + 64)) × (pixels_of l 0 ≤ n)
-
--- the slots of a window are those of tiles of so many pixels, or of larger ones
-abbrev pub HasSlotsFor : ℕ → Pool → Type 0
-HasSlotsFor pixels w = (n : ℕ) × (slot_sizes w.slots ≡ replicate (2 * w.workers) (2 * n, 8 * n + 64)) × (pixels ≤ n)
 
 abbrev pub HaveRoom : Layout → Pool → Type 0
 HaveRoom l w = HasSlotsFor (pixels_of l 0) w

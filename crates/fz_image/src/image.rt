@@ -16,29 +16,35 @@ ghost use Rattle.fz_grid.specs.Region.{lengths_of};
 ghost use Rattle.fz_head.specs.Conditions.{AreShort, IsPackPlan};
 ghost use Rattle.fz_head.specs.PackedHeader.{packed_header};
 ghost use Rattle.fz_head.specs.declared.totals.Totals.{Totals as TotalsOf};
-ghost use Rattle.fz_pool.specs.Window.{slot_sizes};
+ghost use Rattle.fz_pool.specs.Window.{HasSlotsFor, slot_sizes};
+ghost use Rattle.fz_image.specs.Held.{AreLast, heap_caught_up};
 ghost use Rattle.fz_image.specs.Image.{HoldsCodes, HoldsTable};
 ghost use Rattle.fz_image.specs.Layout.{HasPixels, IsLayout};
 ghost use Rattle.fz_image.specs.Progress.{IsWritten};
-ghost use Rattle.fz_image.specs.Tiles.{HasSlotsFor, HaveRoom, codes_from};
+ghost use Rattle.fz_image.specs.Tiles.{HaveRoom, codes_from};
 
 use crate::header::make_header;
+use crate::held::write_held;
 use crate::layout::Layout;
 use crate::progress::Progress;
 use crate::round::write_round;
 use fz_base::{Gate, Sink, Source, Stop, output_law, write_behind};
-use fz_block::{BLOCK_LEN, Header, cards_law};
+use fz_block::{Header, cards_law};
 use fz_head::{Plan, Totals, pack_plan_law, sizes_law, sum_cards_law, to_packed, whole_cards_law};
+use fz_job::write_fill;
 use fz_pool::Window;
 use fz_tile::slice_law;
 use std::thread::Threads;
+
+// So many bytes are kept for the rows of a round, in which at most 128 tiles have 32 bytes each.
+const ROWS_LEN: usize = 4096;
 
 /// Packs an image: writes its table from a byte of the sink behind byte 0 on, and answers the byte behind it
 /// (FITS 4.0, section 10.1).
 ///
 /// `buf` has the header of the image, `header` its facts, and `plan` says how it is packed. `made` has room for a
-/// header that is a block longer, and `copy` for the rows of a round; the slots of the window are those of a tile
-/// of the plan or of a larger one.
+/// header that is a block longer, and `copy` for the rows of a round and for codes that are held back; the slots
+/// of the window are those of a tile of the plan or of a larger one.
 pub fn write_image<R: Threads + Sync, S: Source, K: Sink, G: Gate>(
     rt: &R,
     source: &mut S,
@@ -166,9 +172,61 @@ fn write_tiles<R: Threads + Sync, S: Source, K: Sink, G: Gate>(
     ensures created { K.created sink.new ≡ K.created sink.old }
     ensures cause { CodesAndWrites (S.tally source.old) (S.tally source.new) (K.tally sink.old) (K.tally sink.new) result }
 {
+    let (rows, held) = copy.split_at_mut(ROWS_LEN);
+    let mut count = 0;
+    let progress = write_rounds(
+        rt, source, sink, layout, window, gate, rows, held, &mut count,
+    )?;
+    write_held(sink, layout.heap_at() + progress.heap, held, count)?;
+    Ok(progress)
+}
+
+// The same, but the last bytes of the heap are held back.
+fn write_rounds<R: Threads + Sync, S: Source, K: Sink, G: Gate>(
+    rt: &R,
+    source: &mut S,
+    sink: &mut K,
+    layout: &Layout,
+    window: &mut Window,
+    gate: &G,
+    rows: &mut [u8],
+    held: &mut [u8],
+    count: &mut usize,
+) -> Result<Progress, Stop>
+    requires layout { IsLayout layout.now }
+    requires pixels { HasPixels (S.attached source.old) layout.now }
+    requires created { IsTrue (K.created sink.old) }
+    requires window { HaveRoom layout.now window.old }
+    requires rows { 4096 ≤ len rows.old }
+    requires none { count.old ≡ 0 }
+    ensures written { IfOk result (λ w. IsWritten layout.now (S.held source.old) (K.contents sink.old) (heap_caught_up layout.now w count.new held.new (K.contents sink.new)) w × (w.tiles ≡ layout.now.tiles)) }
+    ensures last { IfOk result (λ w. AreLast count.new held.new w) }
+    ensures shut { StaysShut (K.contents sink.old) (K.contents sink.new) }
+    ensures told_contents { StaysTold (K.contents sink.old) (K.contents sink.new) }
+    ensures rows { len rows.new ≡ len rows.old }
+    ensures room { len held.new ≡ len held.old }
+    ensures sizes { slot_sizes window.new.slots ≡ slot_sizes window.old.slots }
+    ensures workers { window.new.workers ≡ window.old.workers }
+    ensures source { S.held source.new ≡ S.held source.old }
+    ensures told_ranges { StaysTold (S.ranges source.old) (S.ranges source.new) }
+    ensures attached { S.attached source.new ≡ S.attached source.old }
+    ensures created { K.created sink.new ≡ K.created sink.old }
+    ensures cause { CodesAndWrites (S.tally source.old) (S.tally source.new) (K.tally sink.old) (K.tally sink.new) result }
+{
     let mut progress = Progress::new();
     while progress.tiles < layout.tiles {
-        write_round(rt, source, sink, layout, &mut progress, window, gate, copy)?;
+        write_round(
+            rt,
+            source,
+            sink,
+            layout,
+            &mut progress,
+            window,
+            gate,
+            rows,
+            held,
+            count,
+        )?;
     }
     Ok(progress)
 }
@@ -195,31 +253,4 @@ fn header_len(buf: &[u8], header: &Header, plan: &Plan, sums: bool, made: &mut [
         sums,
     };
     to_packed(buf, header, plan, &none, made) as u64
-}
-
-// Writes zeros behind data of so many bytes, which begin at this byte of the sink, up to whole blocks, and answers
-// the byte behind them.
-fn write_fill<K: Sink>(
-    sink: &mut K,
-    data_at: u64,
-    data_len: u64,
-    zeros: &mut [u8],
-) -> Result<u64, Stop>
-    requires created { IsTrue (K.created sink.old) }
-    requires behind { 0 < data_at }
-    requires near { data_at + data_len + 2880 ≤ 2 ^ 63 }
-    requires room { 2880 ≤ len zeros.old }
-    ensures filled { OnOk result (K.contents sink.new ≡ written (data_at + data_len) (replicate (whole_blocks_of data_len - data_len) 0) (K.contents sink.old)) }
-    ensures end { IfOk result (λ end. end ≡ data_at + whole_blocks_of data_len) }
-    ensures shut { StaysShut (K.contents sink.old) (K.contents sink.new) }
-    ensures told_contents { StaysTold (K.contents sink.old) (K.contents sink.new) }
-    ensures len { len zeros.new ≡ len zeros.old }
-    ensures created { K.created sink.new ≡ K.created sink.old }
-    ensures cause { Writes (K.tally sink.old) (K.tally sink.new) result }
-{
-    let filled = data_len.div_ceil(BLOCK_LEN as u64) * BLOCK_LEN as u64;
-    let zeros = &mut zeros[..(filled - data_len) as usize];
-    zeros.fill(0);
-    write_behind(sink, data_at + data_len, zeros)?;
-    Ok(data_at + filled)
 }

@@ -1,12 +1,13 @@
 //! Writes the table of a packed image: its header, its rows, its heap and the fill.
 //!
-//! Reading order: `layout`, `progress`; `gather`, `loading` (the tiles of a round into the window), `descriptors`,
+//! Reading order: `layout`, `progress`, `held`; `gather`, `loading` (the tiles of a round into the window), `descriptors`,
 //! `round` (a round of tiles), `header`, `image`.
 #![tactic(auto)]
 
 mod descriptors;
 mod gather;
 mod header;
+mod held;
 mod image;
 mod layout;
 mod loading;

@@ -7,11 +7,13 @@ ghost use Rattle.fz_base.specs.Told.{StaysTold};
 ghost use Rattle.fz_files.specs.Packed.{heap_of};
 ghost use Rattle.fz_pool.specs.Round.{coded_tiles};
 ghost use Rattle.fz_pool.specs.Window.{slot_sizes};
+ghost use Rattle.fz_image.specs.Held.{AreLast, heap_caught_up};
 ghost use Rattle.fz_image.specs.Layout.{HasPixels, IsLayout, heap_at_of};
 ghost use Rattle.fz_image.specs.Progress.{AreNext, IsWritten, tiles_written, with_heap, with_tiles};
 ghost use Rattle.fz_image.specs.Tiles.{AreEncodedTiles, HaveRoom};
 
 use crate::descriptors::put_rows;
+use crate::held::hold_back;
 use crate::layout::Layout;
 use crate::loading::load_round;
 use crate::progress::{Progress, code_of};
@@ -22,7 +24,7 @@ use fz_tile::column_law;
 use std::thread::Threads;
 
 /// Packs the next tiles, as many as the window has slots for: their codes go behind the heap, and their rows
-/// behind the rows.
+/// behind the rows. The last bytes of the heap may be held back, before and then: the first `count` of `held`.
 pub(crate) fn write_round<R: Threads + Sync, S: Source, K: Sink, G: Gate>(
     rt: &R,
     source: &mut S,
@@ -32,22 +34,28 @@ pub(crate) fn write_round<R: Threads + Sync, S: Source, K: Sink, G: Gate>(
     window: &mut Window,
     gate: &G,
     rows: &mut [u8],
+    held: &mut [u8],
+    count: &mut usize,
 ) -> Result<(), Stop>
     requires layout { IsLayout layout.now }
     requires pixels { HasPixels (S.attached source.old) layout.now }
     requires created { IsTrue (K.created sink.old) }
     requires window { HaveRoom layout.now window.old }
     requires rows { 4096 ≤ len rows.old }
-    requires so_far { (before : Option (List ℕ)) × IsWritten layout.now (S.held source.old) before (K.contents sink.old) progress.old }
+    requires held { AreLast count.old held.old progress.old }
+    requires so_far { (before : Option (List ℕ)) × IsWritten layout.now (S.held source.old) before (heap_caught_up layout.now progress.old count.old held.old (K.contents sink.old)) progress.old }
     requires left { progress.old.tiles < layout.now.tiles }
-    ensures more { OnOk result ((before : Option (List ℕ)) → IsWritten layout.now (S.held source.old) before (K.contents sink.old) progress.old → IsWritten layout.now (S.held source.old) before (K.contents sink.new) progress.new) }
+    ensures more { OnOk result ((before : Option (List ℕ)) → IsWritten layout.now (S.held source.old) before (heap_caught_up layout.now progress.old count.old held.old (K.contents sink.old)) progress.old
+        → IsWritten layout.now (S.held source.old) before (heap_caught_up layout.now progress.new count.new held.new (K.contents sink.new)) progress.new) }
+    ensures held { OnOk result (AreLast count.new held.new progress.new) }
     ensures grown { OnOk result (progress.old.tiles < progress.new.tiles) }
     ensures shut { StaysShut (K.contents sink.old) (K.contents sink.new) }
     ensures told_contents { StaysTold (K.contents sink.old) (K.contents sink.new) }
     ensures sizes { slot_sizes window.new.slots ≡ slot_sizes window.old.slots }
     ensures workers { window.new.workers ≡ window.old.workers }
     ensures rows { len rows.new ≡ len rows.old }
-    ensures held { S.held source.new ≡ S.held source.old }
+    ensures room { len held.new ≡ len held.old }
+    ensures source { S.held source.new ≡ S.held source.old }
     ensures told_ranges { StaysTold (S.ranges source.old) (S.ranges source.new) }
     ensures attached { S.attached source.new ≡ S.attached source.old }
     ensures created { K.created sink.new ≡ K.created sink.old }
@@ -55,9 +63,9 @@ pub(crate) fn write_round<R: Threads + Sync, S: Source, K: Sink, G: Gate>(
 {
     output_law();
     sum_law();
-    let count = (2 * window.workers()).min(layout.tiles - progress.tiles);
-    encode_tiles(rt, source, layout, progress.tiles, window, count, gate)?;
-    write_tiles(sink, layout, progress, window, count, rows)
+    let tiles = (2 * window.workers()).min(layout.tiles - progress.tiles);
+    encode_tiles(rt, source, layout, progress.tiles, window, tiles, gate)?;
+    write_tiles(sink, layout, progress, window, tiles, rows, held, count)
 }
 
 // Reads so many tiles into the first slots, and encodes them.
@@ -96,45 +104,58 @@ fn write_tiles<K: Sink>(
     layout: &Layout,
     progress: &mut Progress,
     window: &Window,
-    count: u32,
+    tiles: u32,
     rows: &mut [u8],
+    held: &mut [u8],
+    count: &mut usize,
 ) -> Result<(), Stop>
     requires layout { IsLayout layout.now }
     requires created { IsTrue (K.created sink.old) }
-    requires next { AreNext layout.now progress.old.heap count window.now }
-    requires tiles { progress.old.tiles + count ≤ layout.now.tiles }
+    requires next { AreNext layout.now progress.old.heap tiles window.now }
+    requires tiles { progress.old.tiles + tiles ≤ layout.now.tiles }
     requires summed { progress.old.sum.count ≤ 2 ^ 60 }
-    requires rows { layout.now.row_len * count ≤ len rows.old }
-    ensures progress { OnOk result (progress.new ≡ with_tiles layout.now progress.old (coded_tiles count window.now.slots)) }
-    ensures contents { OnOk result (K.contents sink.new ≡ tiles_written layout.now progress.old (coded_tiles count window.now.slots) (K.contents sink.old)) }
+    requires rows { layout.now.row_len * tiles ≤ len rows.old }
+    requires held { AreLast count.old held.old progress.old }
+    ensures progress { OnOk result (progress.new ≡ with_tiles layout.now progress.old (coded_tiles tiles window.now.slots)) }
+    ensures contents { OnOk result (heap_caught_up layout.now progress.new count.new held.new (K.contents sink.new)
+        ≡ tiles_written layout.now progress.old (coded_tiles tiles window.now.slots) (heap_caught_up layout.now progress.old count.old held.old (K.contents sink.old))) }
+    ensures held { OnOk result (AreLast count.new held.new progress.new) }
     ensures shut { StaysShut (K.contents sink.old) (K.contents sink.new) }
     ensures told_contents { StaysTold (K.contents sink.old) (K.contents sink.new) }
     ensures rows { len rows.new ≡ len rows.old }
+    ensures room { len held.new ≡ len held.old }
     ensures created { K.created sink.new ≡ K.created sink.old }
     ensures cause { Writes (K.tally sink.old) (K.tally sink.new) result }
 {
-    let rows = &mut rows[..layout.row_len as usize * count as usize];
-    put_rows(layout, window, count, progress.heap, rows);
+    output_law();
+    let rows = &mut rows[..layout.row_len as usize * tiles as usize];
+    put_rows(layout, window, tiles, progress.heap, rows);
     let behind_rows = u64::from(layout.row_len) * u64::from(progress.tiles);
     write_behind(sink, layout.rows_at + behind_rows, rows)?;
-    progress.add_rows(layout, count, rows);
-    write_codes(sink, layout, progress, window, count)
+    progress.add_rows(layout, tiles, rows);
+    write_codes(sink, layout, progress, window, tiles, held, count)
 }
 
-// Writes the bytes of the tiles in the first slots behind the heap.
+// Has the bytes of the tiles in the first slots written behind the heap, now or later.
 fn write_codes<K: Sink>(
     sink: &mut K,
     layout: &Layout,
     progress: &mut Progress,
     window: &Window,
-    count: u32,
+    tiles: u32,
+    held: &mut [u8],
+    count: &mut usize,
 ) -> Result<(), Stop>
     requires layout { IsLayout layout.now }
     requires created { IsTrue (K.created sink.old) }
-    requires next { AreNext layout.now progress.old.heap count window.now }
+    requires next { AreNext layout.now progress.old.heap tiles window.now }
     requires summed { progress.old.sum.count ≤ 2 ^ 61 }
-    ensures progress { OnOk result (progress.new ≡ with_heap layout.now progress.old (coded_tiles count window.now.slots)) }
-    ensures contents { OnOk result (K.contents sink.new ≡ written (heap_at_of layout.now + progress.old.heap) (heap_of (coded_tiles count window.now.slots)) (K.contents sink.old)) }
+    requires held { AreLast count.old held.old progress.old }
+    ensures progress { OnOk result (progress.new ≡ with_heap layout.now progress.old (coded_tiles tiles window.now.slots)) }
+    ensures contents { OnOk result (heap_caught_up layout.now progress.new count.new held.new (K.contents sink.new)
+        ≡ written (heap_at_of layout.now + progress.old.heap) (heap_of (coded_tiles tiles window.now.slots)) (heap_caught_up layout.now progress.old count.old held.old (K.contents sink.old))) }
+    ensures held { OnOk result (AreLast count.new held.new progress.new) }
+    ensures room { len held.new ≡ len held.old }
     ensures shut { StaysShut (K.contents sink.old) (K.contents sink.new) }
     ensures told_contents { StaysTold (K.contents sink.old) (K.contents sink.new) }
     ensures created { K.created sink.new ≡ K.created sink.old }
@@ -142,9 +163,15 @@ fn write_codes<K: Sink>(
 {
     output_law();
     sum_law();
-    for i in 0..count {
+    for i in 0..tiles {
         let slot = window.slot(i);
-        write_behind(sink, layout.heap_at() + progress.heap, code_of(slot))?;
+        hold_back(
+            sink,
+            layout.heap_at() + progress.heap,
+            code_of(slot),
+            held,
+            count,
+        )?;
         progress.add_tile(layout, slot);
     }
     Ok(())

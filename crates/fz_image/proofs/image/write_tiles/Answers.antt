@@ -1,51 +1,27 @@
--- One round after another.
-use Rattle.std.proofs.Common.{ℕ, List, Option, refl, ◌∙◌, subst, sym, rules}
+-- What was held back is written, and with it the table of all tiles.
+use Rattle.std.proofs.Common.{◌≡◌, ◌+◌, ℕ, List, Option, sym, ap, ◌∙◌, subst, arith}
+use Rattle.fz_image.specs.Held.{caught_up, heap_caught_up}
 use Rattle.fz_image.specs.Progress.{IsWritten}
-use Rattle.fz_image.proofs.Progresses.{written_few, written_none}
+use Rattle.fz_image.proofs.WholeTables.{data_small}
 use Rattle.fz_image.proofs.image.write_tiles.Goals as goal
 
-pub loop-progress-init : goal.loop-progress-init
-loop-progress-init g c =
-    let none = written_none c.args.layout.now (g.S.Source.held c.args.source.now) (g.K.Sink.contents c.args.sink.now) c.new-progress.result c.new-progress.ensures in
-    record {
-      held = refl;
-      attached = refl;
-      reads = refl;
-      created = refl;
-      writes = refl;
-      shut = λ shut. shut;
-      told_ranges = λ told. told;
-      told_contents = λ told. told;
-      sizes = refl;
-      workers = refl;
-      copy = refl;
-      within = written_few c.args.layout.now (g.S.Source.held c.args.source.now) (g.K.Sink.contents c.args.sink.now) (g.K.Sink.contents c.args.sink.now) c.new-progress.result none;
-      written = none;
-    }
-
-pub loop-progress-preserved : goal.loop-progress-preserved
-loop-progress-preserved g c =
+pub overflow_add-heap_at : goal.overflow_add-heap_at
+overflow_add-heap_at g c =
     let l = c.args.layout.now in
-    let held : Option (List ℕ) = g.S.Source.held c.args.source.now in
-    let before : Option (List ℕ) = g.K.Sink.contents c.args.sink.now in
-    let old = c.loop-progress.invariant in
-    let was : IsWritten l (g.S.Source.held c.loop-progress.source) before (g.K.Sink.contents c.loop-progress.sink) c.loop-progress.progress =
-    subst (λ (h : Option (List ℕ)). IsWritten l h before (g.K.Sink.contents c.loop-progress.sink) c.loop-progress.progress) (sym old.held) old.written in
-    let more = c.in_ok-write_round.ensures.more before was in
-    let now : IsWritten l held before (g.K.Sink.contents c.write_round.new.sink) c.write_round.new.progress =
-    subst (λ (h : Option (List ℕ)). IsWritten l h before (g.K.Sink.contents c.write_round.new.sink) c.write_round.new.progress) old.held more in
-    record {
-      held = search rules;
-      attached = search rules;
-      reads = search rules;
-      created = search rules;
-      writes = search rules;
-      shut = λ shut. c.in_ok-write_round.ensures.shut (old.shut shut);
-      told_ranges = λ told. c.in_ok-write_round.ensures.told_ranges (old.told_ranges told);
-      told_contents = λ told. c.in_ok-write_round.ensures.told_contents (old.told_contents told);
-      sizes = c.in_ok-write_round.ensures.sizes ∙ old.sizes;
-      workers = c.in_ok-write_round.ensures.workers ∙ old.workers;
-      copy = c.in_ok-write_round.ensures.rows ∙ old.copy;
-      within = written_few l held before (g.K.Sink.contents c.write_round.new.sink) c.write_round.new.progress now;
-      written = now;
-    }
+    let w = c.in_ok-progress.progress in
+    let small = data_small l (g.S.Source.held c.args.source.now) (g.K.Sink.contents c.args.sink.now) (heap_caught_up l w c.write_rounds.new.count c.write_rounds.new.held (g.K.Sink.contents c.write_rounds.new.sink)) w c.requires.layout c.in_ok-progress.ensures.written.0 in
+    record { fits = omega (arith, small, c.heap_at.ensures, c.requires.layout.near) }
+
+pub write_held-requires-clause-within : goal.write_held-requires-clause-within
+write_held-requires-clause-within g c = c.in_ok-progress.ensures.last.0
+
+pub write_held-requires-clause-behind : goal.write_held-requires-clause-behind
+write_held-requires-clause-behind g c = omega (arith, c.in_ok-progress.ensures.last.1, c.heap_at.ensures, c.requires.layout.behind)
+
+pub returns-clause-written : goal.returns-clause-written
+returns-clause-written g c =
+    let l = c.args.layout.now in
+    let w = c.in_ok-progress.progress in
+    let all : g.K.Sink.contents c.write_held.new.sink ≡ heap_caught_up l w c.write_rounds.new.count c.write_rounds.new.held (g.K.Sink.contents c.write_rounds.new.sink) =
+    c.in_ok-write_held.ensures.written ∙ ap (λ n. caught_up (n + w.heap) c.write_rounds.new.count c.write_rounds.new.held (g.K.Sink.contents c.write_rounds.new.sink)) c.heap_at.ensures in
+    (subst (λ (k : Option (List ℕ)). IsWritten l (g.S.Source.held c.args.source.now) (g.K.Sink.contents c.args.sink.now) k w) (sym all) c.in_ok-progress.ensures.written.0, c.in_ok-progress.ensures.written.1)

@@ -1,10 +1,11 @@
--- The bytes of the first i tiles stand behind the heap.
-use Rattle.std.proofs.Common.{◌≡◌, ◌+◌}
+-- The bytes of the first i tiles stand behind the heap, once those that are held back do.
+use Rattle.std.proofs.Common.{◌≡◌, ◌+◌, length}
 use Rattle.fz_base.specs.FirstByte.{StaysShut}
 use Rattle.fz_base.specs.Sink.{written}
 use Rattle.fz_base.specs.Told.{StaysTold}
 use Rattle.fz_files.specs.Packed.{heap_of}
 use Rattle.fz_pool.specs.Round.{coded_tiles}
+use Rattle.fz_image.specs.Held.{AreLast, heap_caught_up}
 use Rattle.fz_image.specs.Layout.{heap_at_of}
 use Rattle.fz_image.specs.Progress.{with_heap}
 use Rattle.fz_image.proofs.round.write_codes.Given as goal
@@ -16,5 +17,8 @@ invariant-loop-i g l = record {
   shut : StaysShut (g.K.Sink.contents l.fn.sink) (g.K.Sink.contents l.sink);
   told_contents : StaysTold (g.K.Sink.contents l.fn.sink) (g.K.Sink.contents l.sink);
   progress : l.progress ≡ with_heap l.layout l.fn.progress (coded_tiles l.i l.window.slots);
-  contents : g.K.Sink.contents l.sink ≡ written (heap_at_of l.layout + l.fn.progress.heap) (heap_of (coded_tiles l.i l.window.slots)) (g.K.Sink.contents l.fn.sink);
+  contents : heap_caught_up l.layout l.progress l.count l.held (g.K.Sink.contents l.sink)
+      ≡ written (heap_at_of l.layout + l.fn.progress.heap) (heap_of (coded_tiles l.i l.window.slots)) (heap_caught_up l.layout l.fn.progress l.fn.count l.fn.held (g.K.Sink.contents l.fn.sink));
+  last : AreLast l.count l.held l.progress;
+  room : length l.held ≡ length l.fn.held;
 }

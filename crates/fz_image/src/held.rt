@@ -1,0 +1,121 @@
+//! Bytes that are held back, so that many short pieces are one write.
+ghost use Rattle.std.specs.Prelude.{ℕ, ◌≡◌, ◌+◌, ◌<◌, ◌≤◌, IsTrue, List, Option, length as len, OnOk};
+ghost use Rattle.fz_base.specs.FirstByte.{StaysShut};
+ghost use Rattle.fz_base.specs.Sink.{written};
+ghost use Rattle.fz_base.specs.Stop.{Writes};
+ghost use Rattle.fz_base.specs.Told.{StaysTold};
+ghost use Rattle.fz_image.specs.Held.{caught_up};
+
+use fz_base::{Sink, Stop, output_law, write_behind};
+
+/// Has bytes written to a place behind byte 0, now or later: the first `count` bytes of `held` are held back, and
+/// go just before that place. A piece is held back where it leaves room for others.
+pub(crate) fn hold_back<K: Sink>(
+    sink: &mut K,
+    at: u64,
+    bytes: &[u8],
+    held: &mut [u8],
+    count: &mut usize,
+) -> Result<(), Stop>
+    requires created { IsTrue (K.created sink.old) }
+    requires within { count.old ≤ len held.old }
+    requires behind { count.old < at }
+    ensures written { OnOk result (caught_up (at + len bytes.now) count.new held.new (K.contents sink.new) ≡ written at bytes.now (caught_up at count.old held.old (K.contents sink.old))) }
+    ensures within { OnOk result (count.new ≤ len held.new) }
+    ensures few { OnOk result (count.new ≤ count.old + len bytes.now) }
+    ensures len { len held.new ≡ len held.old }
+    ensures shut { StaysShut (K.contents sink.old) (K.contents sink.new) }
+    ensures told { StaysTold (K.contents sink.old) (K.contents sink.new) }
+    ensures created { K.created sink.new ≡ K.created sink.old }
+    ensures cause { Writes (K.tally sink.old) (K.tally sink.new) result }
+{
+    if bytes.len() > held.len() - *count {
+        return write_first(sink, at, bytes, held, count);
+    }
+    keep(bytes, held, count);
+    Ok(())
+}
+
+// The same where there is no room for the bytes: those that are held back are written.
+fn write_first<K: Sink>(
+    sink: &mut K,
+    at: u64,
+    bytes: &[u8],
+    held: &mut [u8],
+    count: &mut usize,
+) -> Result<(), Stop>
+    requires created { IsTrue (K.created sink.old) }
+    requires within { count.old ≤ len held.old }
+    requires behind { count.old < at }
+    ensures written { OnOk result (caught_up (at + len bytes.now) count.new held.new (K.contents sink.new) ≡ written at bytes.now (caught_up at count.old held.old (K.contents sink.old))) }
+    ensures within { OnOk result (count.new ≤ len held.new) }
+    ensures few { OnOk result (count.new ≤ len bytes.now) }
+    ensures len { len held.new ≡ len held.old }
+    ensures shut { StaysShut (K.contents sink.old) (K.contents sink.new) }
+    ensures told { StaysTold (K.contents sink.old) (K.contents sink.new) }
+    ensures created { K.created sink.new ≡ K.created sink.old }
+    ensures cause { Writes (K.tally sink.old) (K.tally sink.new) result }
+{
+    write_held(sink, at, held, *count)?;
+    *count = 0;
+    begin(sink, at, bytes, held, count)
+}
+
+// The same where none are held back.
+fn begin<K: Sink>(
+    sink: &mut K,
+    at: u64,
+    bytes: &[u8],
+    held: &mut [u8],
+    count: &mut usize,
+) -> Result<(), Stop>
+    requires created { IsTrue (K.created sink.old) }
+    requires none { count.old ≡ 0 }
+    requires behind { 0 < at }
+    ensures written { OnOk result (caught_up (at + len bytes.now) count.new held.new (K.contents sink.new) ≡ written at bytes.now (K.contents sink.old)) }
+    ensures within { OnOk result (count.new ≤ len held.new) }
+    ensures few { OnOk result (count.new ≤ len bytes.now) }
+    ensures len { len held.new ≡ len held.old }
+    ensures shut { StaysShut (K.contents sink.old) (K.contents sink.new) }
+    ensures told { StaysTold (K.contents sink.old) (K.contents sink.new) }
+    ensures created { K.created sink.new ≡ K.created sink.old }
+    ensures cause { Writes (K.tally sink.old) (K.tally sink.new) result }
+{
+    if bytes.len() > held.len() / 2 {
+        return write_behind(sink, at, bytes);
+    }
+    keep(bytes, held, count);
+    Ok(())
+}
+
+// Holds back more bytes, behind those that are held back.
+fn keep(bytes: &[u8], held: &mut [u8], count: &mut usize)
+    requires room { count.old + len bytes.now ≤ len held.old }
+    ensures later { (at : ℕ) (contents : Option (List ℕ)) → count.old ≤ at → caught_up (at + len bytes.now) count.new held.new contents ≡ written at bytes.now (caught_up at count.old held.old contents) }
+    ensures count { count.new ≡ count.old + len bytes.now }
+    ensures len { len held.new ≡ len held.old }
+{
+    output_law();
+    let end = *count + bytes.len();
+    held[*count..end].copy_from_slice(bytes);
+    *count = end;
+}
+
+/// Writes the bytes that are held back, which end before this place.
+pub(crate) fn write_held<K: Sink>(
+    sink: &mut K,
+    end: u64,
+    held: &[u8],
+    count: usize,
+) -> Result<(), Stop>
+    requires created { IsTrue (K.created sink.old) }
+    requires within { count ≤ len held.now }
+    requires behind { count < end }
+    ensures written { OnOk result (K.contents sink.new ≡ caught_up end count held.now (K.contents sink.old)) }
+    ensures shut { StaysShut (K.contents sink.old) (K.contents sink.new) }
+    ensures told { StaysTold (K.contents sink.old) (K.contents sink.new) }
+    ensures created { K.created sink.new ≡ K.created sink.old }
+    ensures cause { Writes (K.tally sink.old) (K.tally sink.new) result }
+{
+    write_behind(sink, end - count as u64, &held[..count])
+}
