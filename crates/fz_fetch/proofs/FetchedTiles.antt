@@ -2,6 +2,7 @@
 use Rattle.std.proofs.Common.{◌≡◌, ℕ, ◌<◌, ◌≤◌, inl, inr, ℤ, List, [], ◌∷◌, ◌++◌, length, map, take, slice_index, slice_index_or, Option, Some, None, IfSome, Err, refl, sym, ap, ◌∙◌, subst, arith}
 use Rattle.fz_base.specs.Ranges.{LogsIn}
 use Rattle.fz_base.specs.Refusal.{refusal}
+use Rattle.fz_base.specs.Stop.{IfRefused}
 use Rattle.fz_base.specs.declared.failure.Stop.{Stop}
 use Rattle.fz_base.specs.declared.failure.Stop.TheVariants.{Refused}
 use Rattle.fz_base.specs.declared.fault.Fault.{Fault}
@@ -29,7 +30,7 @@ use Rattle.fz_pool.specs.Slots.{HasFault, bits_of_pixel, places_of, record_of}
 use Rattle.fz_pool.specs.Window.{fresh_slot}
 use Rattle.fz_pool.specs.declared.slot.Job.{Job}
 use Rattle.fz_pool.specs.declared.slot.Slot.{Slot}
-use Rattle.fz_fetch.specs.Fetched.{AreFetched, HasTile, RowsGive, TellsRowFault, fetched_ranges}
+use Rattle.fz_fetch.specs.Fetched.{AreFetched, HasTile, IsOfRowAmong, RowsGive, TellsRowFault, fetched_ranges}
 use Rattle.fz_fetch.specs.Images.{IsSaid}
 use Rattle.fz_fetch.specs.Loaded.{AreLoaded, IsRecordIn, IsRefusedIn, tiles_ranges}
 use Rattle.fz_fetch.specs.Tiles.{decoding_job}
@@ -162,3 +163,8 @@ fetched_in (Some file) h image tiles old new said logs = subst (λ (rs : List (�
 pub tells : (X : Type 0) (held : Option (List ℕ)) (h : Header) (tiles : List ℕ) (stop : Stop) (x : Fault) → stop ≡ Refused x
     → IfSome held (λ file. IsFirstRowFault file (map (image_row h) tiles) (Some x)) → TellsRowFault {X = X} held h tiles (Err stop)
 tells X held h tiles stop x is first = subst (λ (s : Stop). TellsRowFault {X = X} held h tiles (Err s)) (sym is) first
+
+-- and one that refuses the row of a tile names it
+pub names : (X : Type 0) (hdu : ℕ) (tiles : List ℕ) (i : ℕ) (why : TileFault) (stop : Stop) → i < length tiles
+    → stop ≡ Refused (refusal hdu (AtRow (slice_index tiles i)) (kind_of_tile why)) → IfRefused {X = X} (Err stop) (IsOfRowAmong hdu tiles)
+names X hdu tiles i why stop near is = subst (λ (s : Stop). IfRefused {X = X} (Err s) (IsOfRowAmong hdu tiles)) (sym is) (i, near, (refl, refl))

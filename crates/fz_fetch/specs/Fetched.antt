@@ -3,7 +3,9 @@ use Rattle.std.specs.Prelude.{ℕ, ◌≡◌, ◌<◌, ℤ, List, length, map, t
 use Rattle.std.specs.List.{flat_map}
 use Rattle.fz_base.specs.Stop.{IfRefused}
 use Rattle.fz_base.specs.declared.failure.Stop.{Stop}
+use Rattle.fz_base.specs.declared.fault.Fault.{Fault}
 use Rattle.fz_block.specs.declared.header.Header.{Header}
+use Rattle.fz_table.specs.Records.{IsOfRow}
 use Rattle.fz_tile.specs.Pixels.{HoldPixels, place_count}
 use Rattle.fz_head.specs.declared.plan.Plan.{Plan}
 use Rattle.fz_files.specs.Cutout.{ranges_of_row}
@@ -35,6 +37,10 @@ pub record AreFetched (held : Option (List ℕ)) (h : Header) (p : Plan) (tiles 
   pub pixels : List (List ℤ)
   pub have : HaveTiles p tiles slots pixels
   pub told : IfSome held (λ file. RowsGive file h tiles pixels)
+
+-- a fault of the row of one of these tiles
+abbrev pub IsOfRowAmong : ℕ → List ℕ → Fault → Type 0
+IsOfRowAmong hdu tiles x = (i : ℕ) × (i < length tiles) × IsOfRow hdu (slice_index tiles i) x
 
 -- the first fault of the rows of these tiles is that of the answer Refused
 abbrev pub TellsRowFault : {X : Type 0} → Option (List ℕ) → Header → List ℕ → Result X Stop → Type 0

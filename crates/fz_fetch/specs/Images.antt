@@ -1,5 +1,5 @@
 -- A packed image whose tiles are fetched, and the slots that they are fetched into (FITS 4.0, sections 7.3.5 and 10.1).
-use Rattle.std.specs.Prelude.{ℕ, ◌≡◌, ◌+◌, ◌*◌, ◌<◌, ◌≤◌, List, length, replicate, slice_index}
+use Rattle.std.specs.Prelude.{ℕ, ◌≡◌, ◌+◌, ◌*◌, ◌<◌, ◌≤◌, List, length, slice_index}
 use Rattle.fz_block.specs.declared.header.Header.{Header}
 use Rattle.fz_grid.specs.Region.{IsDivided}
 use Rattle.fz_table.specs.Rows.{IsTable}
@@ -7,7 +7,7 @@ use Rattle.fz_tile.specs.Codecs.{CanRead}
 use Rattle.fz_head.specs.declared.job_checks.PackedImage.{PackedImage}
 use Rattle.fz_files.specs.Packed.{tiles_in}
 use Rattle.fz_files.specs.Restored.{image_table, pixels_of, plan_in}
-use Rattle.fz_pool.specs.Window.{Pool, slot_sizes}
+use Rattle.fz_pool.specs.Window.{HasSlotsFor, Pool}
 
 -- a packed image that can be read: its plan divides it into tiles that can be decoded, of which each has a row
 pub record IsReadable (image : PackedImage) : Type 0 where
@@ -24,10 +24,6 @@ pub record IsSaid (file : List ℕ) (h : Header) (image : PackedImage) : Type 0 
 -- these are numbers of tiles of the image
 abbrev pub AreTilesOf : PackedImage → List ℕ → Type 0
 AreTilesOf image tiles = (i : ℕ) → i < length tiles → slice_index tiles i < tiles_in image.plan
-
--- the slots of a window are those of tiles of so many pixels, or of larger ones
-abbrev pub HasSlotsFor : ℕ → Pool → Type 0
-HasSlotsFor pixels w = (n : ℕ) × (slot_sizes w.slots ≡ replicate (2 * w.workers) (2 * n, 8 * n + 64)) × (pixels ≤ n)
 
 -- so do those of the image's largest tile, which is tile 0
 abbrev pub HaveRoom : PackedImage → Pool → Type 0

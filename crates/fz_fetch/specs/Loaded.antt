@@ -3,7 +3,7 @@ use Rattle.std.specs.Prelude.{ℕ, ◌≡◌, ◌<◌, ◌≤◌, List, length, 
 use Rattle.std.specs.List.{flat_map}
 use Rattle.fz_base.specs.declared.fault.Fault.{Fault}
 use Rattle.fz_table.specs.Reads.{tile_ranges}
-use Rattle.fz_table.specs.Records.{record_at, record_bytes}
+use Rattle.fz_table.specs.Records.{IsOfRow, record_at, record_bytes}
 use Rattle.fz_table.specs.declared.record.Record.{Record}
 use Rattle.fz_head.specs.declared.job_checks.PackedImage.{PackedImage}
 use Rattle.fz_files.specs.Restored.{tile_of}
@@ -34,7 +34,8 @@ AreLoaded held hdu image tiles count slots = (i : ℕ) (d : Slot) → i < count 
 -- all tiles were loaded, or the row of the next one is refused with this fault
 abbrev pub StopsAt : Option (List ℕ) → ℕ → PackedImage → List ℕ → ℕ → Option Fault → Type 0
 StopsAt held hdu image tiles count None = count ≡ length tiles
-StopsAt held hdu image tiles count (Some fault) = (count < length tiles) × IfSome held (λ file. IsRefusedIn file hdu image (slice_index tiles count) fault)
+StopsAt held hdu image tiles count (Some fault) =
+    (count < length tiles) × IsOfRow hdu (slice_index tiles count) fault × IfSome held (λ file. IsRefusedIn file hdu image (slice_index tiles count) fault)
 
 -- the first of these tiles are loaded, up to the first whose row is refused
 pub record LoadsTiles (held : Option (List ℕ)) (hdu : ℕ) (image : PackedImage) (tiles : List ℕ) (slots : List Slot) (l : Loaded) : Type 0 where

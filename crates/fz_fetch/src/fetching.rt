@@ -2,12 +2,13 @@
 ghost use Rattle.std.specs.Prelude.{◌≡◌, ◌*◌, ◌≤◌, length as len, IfSome, OnOk};
 ghost use Rattle.fz_base.specs.Ranges.{LogsIn};
 ghost use Rattle.fz_base.specs.Refusal.{refusal};
+ghost use Rattle.fz_base.specs.Stop.{IfRefused};
 ghost use Rattle.fz_base.specs.Told.{StaysTold};
 ghost use Rattle.fz_base.specs.declared.failure.Stop.TheVariants.{Refused};
 ghost use Rattle.fz_base.specs.declared.fault.Place.TheVariants.{Row as AtRow};
 ghost use Rattle.fz_head.specs.TileKinds.{kind_of_tile};
 ghost use Rattle.fz_pool.specs.Window.{slot_sizes};
-ghost use Rattle.fz_fetch.specs.Fetched.{AreFetched, TellsRowFault, fetched_ranges};
+ghost use Rattle.fz_fetch.specs.Fetched.{AreFetched, IsOfRowAmong, TellsRowFault, fetched_ranges};
 ghost use Rattle.fz_fetch.specs.Images.{AreTilesOf, HaveRoom, IsReadable, IsSaid};
 ghost use Rattle.fz_fetch.specs.Rows.{StandsWithin};
 ghost use Rattle.fz_fetch.specs.Stops.{Fetches};
@@ -46,6 +47,7 @@ pub fn fetch_tiles<R: Threads + Sync, S: Source, G: Gate>(
     requires rows { 4096 ≤ len rows.old }
     requires window { HaveRoom image.now window.old }
     ensures fetched { OnOk result (AreFetched (S.held source.old) header.now image.now.plan tiles.now window.new.slots) }
+    ensures row { IfRefused result (IsOfRowAmong header.now.hdu tiles.now) }
     ensures fault { TellsRowFault (S.held source.old) header.now tiles.now result }
     ensures read { IfSome (S.held source.old) (λ g. LogsIn (fetched_ranges g header.now tiles.now) (S.ranges source.old) (S.ranges source.new)) }
     ensures told_ranges { StaysTold (S.ranges source.old) (S.ranges source.new) }

@@ -12,6 +12,8 @@ mod picking;
 mod rows;
 mod runs;
 mod scattering;
+#[cfg(test)]
+mod tests;
 mod tiles;
 
 pub use fetching::fetch_tiles;

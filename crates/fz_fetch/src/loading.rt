@@ -5,7 +5,7 @@ ghost use Rattle.fz_base.specs.Stop.{IfRefused, IsRefused, ReadsOnly};
 ghost use Rattle.fz_base.specs.Told.{StaysTold};
 ghost use Rattle.fz_base.specs.declared.failure.Stop.TheVariants.{Refused};
 ghost use Rattle.fz_table.specs.Reads.{tile_ranges};
-ghost use Rattle.fz_table.specs.Records.{StandsInHeap, record_bytes};
+ghost use Rattle.fz_table.specs.Records.{IsOfRow, StandsInHeap, record_bytes};
 ghost use Rattle.fz_tile.specs.Codecs.{CanRead};
 ghost use Rattle.fz_files.specs.Packed.{tiles_in};
 ghost use Rattle.fz_files.specs.Restored.{pixels_of, tile_of};
@@ -143,6 +143,7 @@ fn load_next<S: Source>(
     requires window { HaveRoom image.now window.old }
     requires near { i < 2 * window.old.workers }
     ensures put { OnOk result ((x : SlotOf) × IsPut window.old i x window.new × IsLoaded (S.held source.old) hdu image.now tile x) }
+    ensures place { IfRefused result (IsOfRow hdu tile) }
     ensures refused { IfRefused result (λ x. IfSome (S.held source.old) (λ g. IsRefusedIn g hdu image.now tile x)) }
     ensures same { IsRefused result → window.new ≡ window.old }
     ensures read { IfSome (S.held source.old) (λ g. LogsIn (tile_ranges g hdu image.now.table tile (tile_of image.now.plan tile)) (S.ranges source.old) (S.ranges source.new)) }

@@ -11,10 +11,10 @@ ghost use Rattle.fz_parts.specs.Cutout.{part_lengths};
 ghost use Rattle.fz_tile.specs.Pixels.{IsBitpix};
 ghost use Rattle.fz_files.specs.Packed.{pixel_bits, tiles_in};
 ghost use Rattle.fz_files.specs.Restored.{pixels_of};
-ghost use Rattle.fz_pool.specs.Window.{slot_size, slot_sizes};
+ghost use Rattle.fz_pool.specs.Window.{HasSlotsFor, slot_size, slot_sizes};
 ghost use Rattle.fz_pool.specs.declared.slot.Slot.{Slot as SlotOf};
 ghost use Rattle.fz_fetch.specs.Fetched.{HasTile, HaveTiles, HoldsPixels};
-ghost use Rattle.fz_fetch.specs.Images.{HasSlotFor, HasSlotsFor};
+ghost use Rattle.fz_fetch.specs.Images.{HasSlotFor};
 ghost use Rattle.fz_fetch.specs.Scattered.{part_written, parts_written};
 
 use crate::bytes::{pixel_len, place_count, put_picks};

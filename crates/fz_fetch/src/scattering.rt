@@ -8,10 +8,10 @@ ghost use Rattle.fz_grid.specs.Region.{IsDivided, lengths_of};
 ghost use Rattle.fz_tile.specs.Pixels.{IsBitpix};
 ghost use Rattle.fz_files.specs.Packed.{pixel_bits, tiles_in};
 ghost use Rattle.fz_files.specs.Restored.{pixels_of};
-ghost use Rattle.fz_pool.specs.Window.{slot_size, slot_sizes};
+ghost use Rattle.fz_pool.specs.Window.{HasSlotsFor, slot_size, slot_sizes};
 ghost use Rattle.fz_pool.specs.declared.slot.Slot.{Slot as SlotOf};
 ghost use Rattle.fz_fetch.specs.Fetched.{HasTile, HaveTiles, HoldsPixels};
-ghost use Rattle.fz_fetch.specs.Images.{HasSlotFor, HasSlotsFor};
+ghost use Rattle.fz_fetch.specs.Images.{HasSlotFor};
 ghost use Rattle.fz_fetch.specs.Scattered.{tile_written, tiles_written};
 
 use crate::bytes::{pixel_len, put_tile};

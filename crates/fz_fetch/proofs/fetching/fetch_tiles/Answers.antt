@@ -7,7 +7,7 @@ use Rattle.fz_head.specs.TileKinds.{kind_of_tile}
 use Rattle.fz_pool.specs.Calls.{HaveNumbers, IsLowestFault}
 use Rattle.fz_pool.specs.declared.slot.Slot.{Slot}
 use Rattle.fz_fetch.specs.Loaded.{StopsAt}
-use Rattle.fz_fetch.proofs.FetchedTiles.{fetched, fetched_in, first_behind, first_in_slots, ready, tells}
+use Rattle.fz_fetch.proofs.FetchedTiles.{fetched, fetched_in, first_behind, first_in_slots, names, ready, tells}
 use Rattle.fz_fetch.proofs.fetching.fetch_tiles.Goals as goal
 
 pub decode_window-requires-clause-filled : goal.decode_window-requires-clause-filled
@@ -69,7 +69,28 @@ returns-in-Some-clause-fault g c =
     let refused : c.in_ok-loaded.loaded.refused ≡ Some c.in-Some.fault = search rules in
     let stops : StopsAt held h.hdu image tiles count (Some c.in-Some.fault) = subst (StopsAt held h.hdu image tiles count) refused is.stops in
     let have : HaveNumbers count old new = search rules in
-    first_behind h image tiles held c.requires.said count old new stops.0 is.loaded have c.in-Some.fault stops.1
+    first_behind h image tiles held c.requires.said count old new stops.0 is.loaded have c.in-Some.fault stops.2
+
+-- ---- its row
+
+pub returns-in-Ok-Some-clause-row : goal.returns-in-Ok-Some-clause-row
+returns-in-Ok-Some-clause-row g c =
+    let is = c.in_ok-loaded.ensures.loaded in
+    let count : ℕ = c.in_ok-loaded.loaded.count in
+    let lowest : IsLowestFault count c.load_round.new.window.slots c.decode_window.new.window.slots c.in-Ok-Some.i c.in-Ok-Some.fault = search rules in
+    names ⊤ c.args.header.now.hdu c.args.tiles.now c.in-Ok-Some.i c.in-Ok-Some.fault c.faulty.result (omega (arith, lowest.near, is.few)) c.faulty.ensures
+
+pub returns-in-Some-clause-row : goal.returns-in-Some-clause-row
+returns-in-Some-clause-row g c =
+    let held : Option (List ℕ) = g.S.Source.held c.args.source.now in
+    let image = c.args.image.now in
+    let tiles : List ℕ = c.args.tiles.now in
+    let hdu : ℕ = c.args.header.now.hdu in
+    let is = c.in_ok-loaded.ensures.loaded in
+    let count : ℕ = c.in_ok-loaded.loaded.count in
+    let refused : c.in_ok-loaded.loaded.refused ≡ Some c.in-Some.fault = search rules in
+    let stops : StopsAt held hdu image tiles count (Some c.in-Some.fault) = subst (StopsAt held hdu image tiles count) refused is.stops in
+    (count, stops.0, stops.1)
 
 -- ---- what is read
 
