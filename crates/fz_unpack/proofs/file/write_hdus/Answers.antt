@@ -1,0 +1,169 @@
+-- One HDU after another.
+use Rattle.std.proofs.Common.{◌≡◌, ℕ, ◌+◌, ◌<◌, ◌≤◌, ◌^◌, Bool, List, length, Option, IfSome, Result, Ok, Err, refl, sym, ap, ◌∙◌, subst, inl, arith, rules}
+use Rattle.std.proofs.lemmas.List.{length-append, length-drop, length-take}
+use Rattle.fz_base.specs.Source.{HoldsLength}
+use Rattle.fz_base.specs.Stop.{IfRefused}
+use Rattle.fz_base.specs.declared.failure.Stop.{Stop}
+use Rattle.fz_block.specs.Header.{next_start_of}
+use Rattle.fz_unpack.specs.Again.{ReadsAsSeen, is_empty_primary}
+use Rattle.fz_unpack.specs.Behind.{HoldsHdu, IsHduFault, IsUnderway, RestoresSeen}
+use Rattle.fz_unpack.proofs.Underway.{ends_with_file, more_written, none_written, stops_reading, stops_searching, stops_writing}
+use Rattle.fz_unpack.proofs.file.write_hdus.Goals as goal
+
+pub returns-in_err-first-clause-written : goal.returns-in_err-first-clause-written
+returns-in_err-first-clause-written g c =
+    let s = c.args.survey.now in
+    let held : Option (List ℕ) = g.S.Source.held c.args.source.now in
+    let before : Option (List ℕ) = g.K.Sink.contents c.args.sink.now in
+    let stopped : c.from_residual.result ≡ Err c.in_err-first.field-0.0 = search rules in
+    subst (λ (r : Result (Unit {0}) Stop). IfSome held (λ f. RestoresSeen f s.header_len s.tile s.hdus before before r)) (sym stopped)
+    (stops_searching s.header_len s.tile s.hdus before c.requires.some (Unit {0}) held c.in_err-first.field-0.0 before c.in_err-first.ensures.first)
+
+pub loop-hdu-init : goal.loop-hdu-init
+loop-hdu-init g c =
+    let s = c.args.survey.now in
+    let held : Option (List ℕ) = g.S.Source.held c.args.source.now in
+    let before : Option (List ℕ) = g.K.Sink.contents c.args.sink.now in
+    record {
+      held = c.in_ok-first.ensures.source.held_is;
+      attached = c.in_ok-first.ensures.source.attached_is;
+      reads = c.in_ok-first.ensures.cause.ok;
+      writes = refl;
+      created = refl;
+      shut = λ shut. shut;
+      told_ranges = c.in_ok-first.ensures.told;
+      told_contents = λ told. told;
+      space = record {
+        header = omega (arith, c.in_ok-first.ensures.buf, length-take {A = ℕ}, length-append {A = ℕ}, length-drop {A = ℕ});
+        translated = refl;
+        copy = refl;
+      };
+      window = record { sizes = refl; workers = refl };
+      block = c.in_ok-first.ensures.block;
+      within = c.in_ok-first.ensures.within.place;
+      early = c.in_ok-first.ensures.within.near;
+      near = omega arith;
+      written = none_written s.header_len s.tile s.hdus before c.requires.some held c.in_ok-first.first c.in_ok-first.ensures.first;
+    }
+
+pub returns-in_err-again-clause-written : goal.returns-in_err-again-clause-written
+returns-in_err-again-clause-written g c =
+    let s = c.args.survey.now in
+    let k : ℕ = c.loop-hdu.hdu in
+    let start : ℕ = c.loop-hdu.start in
+    let flag : Bool = c.loop-hdu.after_empty in
+    let held : Option (List ℕ) = g.S.Source.held c.args.source.now in
+    let before : Option (List ℕ) = g.K.Sink.contents c.args.sink.now in
+    let old = c.loop-hdu.invariant in
+    let few : k < s.hdus = omega arith in
+    let now : Option (List ℕ) = g.K.Sink.contents c.loop-hdu.sink in
+    let stopped : c.from_residual-in_err-again.result ≡ Err c.in_err-again.field-0.0 = search rules in
+    let long : length c.as_mut_slice-buf.result.now ≡ s.header_len = ap length c.as_mut_slice-buf.ensures.value ∙ old.space.header ∙ c.requires.header in
+    let seen : IfSome held (λ f. ReadsAsSeen f k start flag s.header_len s.tile (Err c.in_err-again.field-0.0)) =
+    subst (λ n. IfSome held (λ f. ReadsAsSeen f k start flag n s.tile (Err c.in_err-again.field-0.0))) long
+    (subst (λ (h : Option (List ℕ)). IfSome h (λ f. ReadsAsSeen f k start flag (length c.as_mut_slice-buf.result.now) s.tile (Err c.in_err-again.field-0.0))) old.held c.in_err-again.ensures.as_seen) in
+    subst (λ (r : Result (Unit {0}) Stop). IfSome held (λ f. RestoresSeen f s.header_len s.tile s.hdus before now r)) (sym stopped)
+    (stops_reading s.header_len s.tile s.hdus before (Unit {0}) held c.in_err-again.field-0.0 k start c.loop-hdu.at flag now now few old.written seen)
+
+pub returns-in_err-at-clause-written : goal.returns-in_err-at-clause-written
+returns-in_err-at-clause-written g c =
+    let s = c.args.survey.now in
+    let k : ℕ = c.loop-hdu.hdu in
+    let start : ℕ = c.loop-hdu.start in
+    let flag : Bool = c.loop-hdu.after_empty in
+    let held : Option (List ℕ) = g.S.Source.held c.args.source.now in
+    let before : Option (List ℕ) = g.K.Sink.contents c.args.sink.now in
+    let old = c.loop-hdu.invariant in
+    let few : k < s.hdus = omega arith in
+    let a = c.in_ok-again.again in
+    let at : ℕ = c.loop-hdu.at in
+    let mid : Option (List ℕ) = g.K.Sink.contents c.loop-hdu.sink in
+    let now : Option (List ℕ) = g.K.Sink.contents c.write_hdu.new.sink in
+    let stopped : c.from_residual-in_err-at.result ≡ Err c.in_err-at.field-0.0 = search rules in
+    let long : length c.as_mut_slice-buf.result.now ≡ s.header_len = ap length c.as_mut_slice-buf.ensures.value ∙ old.space.header ∙ c.requires.header in
+    let seen : IfSome held (λ f. ReadsAsSeen f k start flag s.header_len s.tile (Ok a)) =
+    subst (λ n. IfSome held (λ f. ReadsAsSeen f k start flag n s.tile (Ok a))) long
+    (subst (λ (h : Option (List ℕ)). IfSome h (λ f. ReadsAsSeen f k start flag (length c.as_mut_slice-buf.result.now) s.tile (Ok a))) old.held c.in_ok-again.ensures.as_seen) in
+    let fault : IfRefused {X = ℕ} (Err c.in_err-at.field-0.0) (λ x. IfSome held (λ f. IsHduFault f a.header x)) =
+    subst (λ (h : Option (List ℕ)). IfRefused {X = ℕ} (Err c.in_err-at.field-0.0) (λ x. IfSome h (λ f. IsHduFault f a.header x))) (c.in_ok-again.ensures.source.held_is ∙ old.held) c.in_err-at.ensures.fault in
+    subst (λ (r : Result (Unit {0}) Stop). IfSome held (λ f. RestoresSeen f s.header_len s.tile s.hdus before now r)) (sym stopped)
+    (stops_writing s.header_len s.tile s.hdus before (Unit {0}) held c.in_err-at.field-0.0 k start at flag mid now a few old.written seen fault)
+
+pub returns-then-start-length-clause-written : goal.returns-then-start-length-clause-written
+returns-then-start-length-clause-written g c =
+    let s = c.args.survey.now in
+    let k : ℕ = c.loop-hdu.hdu in
+    let start : ℕ = c.loop-hdu.start in
+    let flag : Bool = c.loop-hdu.after_empty in
+    let held : Option (List ℕ) = g.S.Source.held c.args.source.now in
+    let before : Option (List ℕ) = g.K.Sink.contents c.args.sink.now in
+    let old = c.loop-hdu.invariant in
+    let few : k < s.hdus = omega arith in
+    let a = c.in_ok-again.again in
+    let at : ℕ = c.loop-hdu.at in
+    let end : ℕ = c.in_ok-at.at in
+    let mid : Option (List ℕ) = g.K.Sink.contents c.loop-hdu.sink in
+    let now : Option (List ℕ) = g.K.Sink.contents c.write_hdu.new.sink in
+    let long : length c.as_mut_slice-buf.result.now ≡ s.header_len = ap length c.as_mut_slice-buf.ensures.value ∙ old.space.header ∙ c.requires.header in
+    let seen : IfSome held (λ f. ReadsAsSeen f k start flag s.header_len s.tile (Ok a)) =
+    subst (λ n. IfSome held (λ f. ReadsAsSeen f k start flag n s.tile (Ok a))) long
+    (subst (λ (h : Option (List ℕ)). IfSome h (λ f. ReadsAsSeen f k start flag (length c.as_mut_slice-buf.result.now) s.tile (Ok a))) old.held c.in_ok-again.ensures.as_seen) in
+    let holds : IfSome held (λ f. HoldsHdu a.header f at end mid now) =
+    subst (λ (h : Option (List ℕ)). IfSome h (λ f. HoldsHdu a.header f at end mid now)) (c.in_ok-again.ensures.source.held_is ∙ old.held) c.in_ok-at.ensures.written in
+    let more : IfSome held (IsUnderway s.header_len s.tile s.hdus (k + 1) (next_start_of a.header) end (is_empty_primary a.header) before now) =
+    more_written s.header_len s.tile s.hdus before c.output_law.ensures.next held k start at end flag (is_empty_primary a.header) mid now a few old.written seen holds refl in
+    let told : HoldsLength held c.args.length = g.met.S.Source.agrees c.args.source.now c.args.length c.requires.attached in
+    let ends : next_start_of a.header ≡ c.args.length = omega (arith, c.next_start-start.ensures) in
+    ends_with_file s.header_len s.tile s.hdus before tt held c.args.length (k + 1) (next_start_of a.header) end (is_empty_primary a.header) now told ends more
+
+pub loop-hdu-preserved : goal.loop-hdu-preserved
+loop-hdu-preserved g c =
+    let s = c.args.survey.now in
+    let k : ℕ = c.loop-hdu.hdu in
+    let start : ℕ = c.loop-hdu.start in
+    let flag : Bool = c.loop-hdu.after_empty in
+    let held : Option (List ℕ) = g.S.Source.held c.args.source.now in
+    let before : Option (List ℕ) = g.K.Sink.contents c.args.sink.now in
+    let old = c.loop-hdu.invariant in
+    let few : k < s.hdus = omega arith in
+    let a = c.in_ok-again.again in
+    let at : ℕ = c.loop-hdu.at in
+    let end : ℕ = c.in_ok-at.at in
+    let mid : Option (List ℕ) = g.K.Sink.contents c.loop-hdu.sink in
+    let now : Option (List ℕ) = g.K.Sink.contents c.write_hdu.new.sink in
+    let long : length c.as_mut_slice-buf.result.now ≡ s.header_len = ap length c.as_mut_slice-buf.ensures.value ∙ old.space.header ∙ c.requires.header in
+    let seen : IfSome held (λ f. ReadsAsSeen f k start flag s.header_len s.tile (Ok a)) =
+    subst (λ n. IfSome held (λ f. ReadsAsSeen f k start flag n s.tile (Ok a))) long
+    (subst (λ (h : Option (List ℕ)). IfSome h (λ f. ReadsAsSeen f k start flag (length c.as_mut_slice-buf.result.now) s.tile (Ok a))) old.held c.in_ok-again.ensures.as_seen) in
+    let holds : IfSome held (λ f. HoldsHdu a.header f at end mid now) =
+    subst (λ (h : Option (List ℕ)). IfSome h (λ f. HoldsHdu a.header f at end mid now)) (c.in_ok-again.ensures.source.held_is ∙ old.held) c.in_ok-at.ensures.written in
+    let more : IfSome held (IsUnderway s.header_len s.tile s.hdus (k + 1) (next_start_of a.header) end (is_empty_primary a.header) before now) =
+    more_written s.header_len s.tile s.hdus before c.output_law.ensures.next held k start at end flag (is_empty_primary a.header) mid now a few old.written seen holds refl in
+    let place : a.header.start ≡ start = c.in_ok-again.ensures.place.1 in
+    let next : c.next_start-start.result ≡ next_start_of a.header = c.next_start-start.ensures in
+    let says : c.is_empty_primary-after_empty.result ≡ is_empty_primary a.header = c.is_empty_primary-after_empty.ensures in
+    let inside : next_start_of a.header ≤ c.args.length = c.in_ok-again.ensures.again.inside in
+    let early : next_start_of a.header ≤ 2 ^ 62 = c.in_ok-again.ensures.again.near in
+    let near : end + a.header.start ≤ at + 2 ^ 46 + next_start_of a.header = c.in_ok-at.ensures.end.near in
+    record {
+      held = search rules;
+      attached = search rules;
+      reads = search rules;
+      writes = search rules;
+      created = search rules;
+      shut = λ shut. c.in_ok-at.ensures.sink.shut (old.shut shut);
+      told_ranges = λ told. c.in_ok-at.ensures.told_ranges (c.in_ok-again.ensures.told (old.told_ranges told));
+      told_contents = λ told. c.in_ok-at.ensures.told_contents (old.told_contents told);
+      space = record {
+        header = omega (arith, c.in_ok-at.ensures.space.header, old.space.header, c.in_ok-again.ensures.buf, length-take {A = ℕ}, length-append {A = ℕ}, length-drop {A = ℕ});
+        translated = c.in_ok-at.ensures.space.translated ∙ old.space.translated;
+        copy = c.in_ok-at.ensures.space.copy ∙ old.space.copy;
+      };
+      window = record { sizes = c.in_ok-at.ensures.window.sizes ∙ old.window.sizes; workers = c.in_ok-at.ensures.window.workers ∙ old.window.workers };
+      block = c.in_ok-again.ensures.block;
+      within = inl (omega (arith, next, inside));
+      early = omega (arith, next, early);
+      near = omega (arith, next, near, place, old.near);
+      written = subst (λ b. IfSome held (IsUnderway s.header_len s.tile s.hdus (k + 1) c.next_start-start.result end b before now)) (sym says)
+          (subst (λ n. IfSome held (IsUnderway s.header_len s.tile s.hdus (k + 1) n end (is_empty_primary a.header) before now)) (sym next) more);
+    }

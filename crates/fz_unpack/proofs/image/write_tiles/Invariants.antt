@@ -1,0 +1,27 @@
+-- The tiles so far are written; the source, the buffers and the counts are as at the start.
+use Rattle.std.proofs.Common.{◌≡◌, ◌-◌, ◌≤◌, length, IfSome}
+use Rattle.std.specs.List.{range_with_len}
+use Rattle.fz_base.specs.FirstByte.{StaysShut}
+use Rattle.fz_base.specs.Told.{StaysTold}
+use Rattle.fz_job.specs.Keeps.{WindowStays}
+use Rattle.fz_unpack.specs.Images.{AreWrittenTiles}
+use Rattle.fz_unpack.proofs.image.write_tiles.Given as goal
+
+abbrev pub invariant-loop-first : goal.invariant-loop-first
+invariant-loop-first g l = record {
+  held : g.S.Source.held l.source ≡ g.S.Source.held l.fn.source;
+  attached : g.S.Source.attached l.source ≡ g.S.Source.attached l.fn.source;
+  reads : g.S.Source.tally l.source ≡ g.S.Source.tally l.fn.source;
+  writes : g.K.Sink.tally l.sink ≡ g.K.Sink.tally l.fn.sink;
+  created : g.K.Sink.created l.sink ≡ g.K.Sink.created l.fn.sink;
+  shut : StaysShut (g.K.Sink.contents l.fn.sink) (g.K.Sink.contents l.sink);
+  told_ranges : StaysTold (g.S.Source.ranges l.fn.source) (g.S.Source.ranges l.source);
+  told_contents : StaysTold (g.K.Sink.contents l.fn.sink) (g.K.Sink.contents l.sink);
+  window : WindowStays l.fn.window l.window;
+  rows : length l.rows ≡ length l.fn.rows;
+  within : l.first ≤ l.tiles;
+  written : IfSome (g.S.Source.held l.fn.source) (λ file. AreWrittenTiles file l.header l.image.plan l.data_at (range_with_len 0 l.first) (g.K.Sink.contents l.fn.sink) (g.K.Sink.contents l.sink));
+}
+
+abbrev pub decreases-loop-first : goal.decreases-loop-first
+decreases-loop-first g l = l.tiles - l.first

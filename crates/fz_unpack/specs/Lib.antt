@@ -1,0 +1,8 @@
+pub mod Again
+pub mod Behind
+pub mod First
+pub mod Images
+pub mod Laws
+pub mod Output
+pub mod Stages
+pub mod Written

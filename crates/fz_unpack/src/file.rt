@@ -1,0 +1,122 @@
+//! The restored file, HDU by HDU.
+
+ghost use Rattle.std.specs.Prelude.{◌≡◌, ◌+◌, ◌*◌, ◌≤◌, ◌<◌, true, [], IsTrue, Some, length as len, replicate, IfSome, OnOk};
+ghost use Rattle.fz_base.specs.Stop.{IfRefused};
+ghost use Rattle.fz_base.specs.Told.{StaysTold};
+ghost use Rattle.fz_files.specs.declared.job.Job.TheVariants.{Unpack};
+ghost use Rattle.fz_pool.specs.Window.{slot_sizes};
+ghost use Rattle.fz_unpack.specs.Behind.{RestoresSeen};
+ghost use Rattle.fz_job.specs.Clauses.{ComesLate};
+ghost use Rattle.fz_survey.specs.Workspace.{SpaceStays};
+ghost use Rattle.fz_job.specs.Keeps.{Rewrites, SinkStays, SourceStays, WindowStays};
+ghost use Rattle.fz_unpack.specs.Written.{AreShutOrWhole, FinishesSeen};
+
+use crate::again::read_again;
+use crate::first::first_standing;
+use crate::hdu::write_hdu;
+use crate::law::primary_law;
+use fz_base::{Gate, Sink, Source, Stop, output_law, seal};
+use fz_block::next_start;
+use fz_pool::Window;
+use fz_survey::{Survey, Workspace};
+use std::thread::Threads;
+
+/// Makes the sink, writes the restored file, its byte 0 last, and finishes.
+pub(crate) fn write_file<R: Threads + Sync, S: Source, K: Sink, G: Gate>(
+    rt: &R,
+    source: &mut S,
+    length: u64,
+    name: &str,
+    sink: &mut K,
+    window: &mut Window,
+    gate: &G,
+    survey: &Survey,
+    space: &mut Workspace,
+    block: &mut [u8],
+) -> Result<(), Stop>
+    requires attached { S.attached source.old ≡ Some length }
+    requires empty { IfSome (K.contents sink.old) (λ c. c ≡ []) }
+    requires some { 0 < survey.now.hdus }
+    requires few { survey.now.hdus ≤ 65536 }
+    requires window { slot_sizes window.old.slots ≡ replicate (2 * window.old.workers) (2 * survey.now.tile, 8 * survey.now.tile + 64) }
+    requires header { len space.old.header ≡ survey.now.header_len }
+    requires translated { len space.old.header + 2880 ≤ len space.old.translated }
+    requires copy { 4096 ≤ len space.old.copy }
+    requires block { len block.old ≡ 2880 }
+    ensures written { IfSome (S.held source.old) (λ g. FinishesSeen g survey.now (K.contents sink.new) result) }
+    ensures finished { OnOk result (K.finished sink.new ≡ true) }
+    ensures shut { AreShutOrWhole survey.now (S.held source.old) (K.contents sink.new) result }
+    ensures block { len block.new ≡ 2880 }
+    ensures space { SpaceStays space.old space.new }
+    ensures window { WindowStays window.old window.new }
+    ensures source { SourceStays (S.held source.old) (S.held source.new) (S.attached source.old) (S.attached source.new) }
+    ensures late { IfRefused result (ComesLate Unpack) }
+    ensures told_ranges { StaysTold (S.ranges source.old) (S.ranges source.new) }
+    ensures told_contents { StaysTold (K.contents sink.old) (K.contents sink.new) }
+    ensures cause { Rewrites (S.tally source.old) (S.tally source.new) (K.tally sink.old) (K.tally sink.new) result }
+{
+    output_law();
+    primary_law();
+    sink.create(name).map_err(Stop::writing)?;
+    write_hdus(rt, source, length, sink, window, gate, survey, space, block)?;
+    seal(sink)
+}
+
+// Writes what the HDUs stand for, without byte 0.
+fn write_hdus<R: Threads + Sync, S: Source, K: Sink, G: Gate>(
+    rt: &R,
+    source: &mut S,
+    length: u64,
+    sink: &mut K,
+    window: &mut Window,
+    gate: &G,
+    survey: &Survey,
+    space: &mut Workspace,
+    block: &mut [u8],
+) -> Result<(), Stop>
+    requires attached { S.attached source.old ≡ Some length }
+    requires created { IsTrue (K.created sink.old) }
+    requires some { 0 < survey.now.hdus }
+    requires few { survey.now.hdus ≤ 65536 }
+    requires window { slot_sizes window.old.slots ≡ replicate (2 * window.old.workers) (2 * survey.now.tile, 8 * survey.now.tile + 64) }
+    requires header { len space.old.header ≡ survey.now.header_len }
+    requires translated { len space.old.header + 2880 ≤ len space.old.translated }
+    requires copy { 4096 ≤ len space.old.copy }
+    requires block { len block.old ≡ 2880 }
+    ensures written { IfSome (S.held source.old) (λ g. RestoresSeen g survey.now.header_len survey.now.tile survey.now.hdus (K.contents sink.old) (K.contents sink.new) result) }
+    ensures block { len block.new ≡ 2880 }
+    ensures space { SpaceStays space.old space.new }
+    ensures window { WindowStays window.old window.new }
+    ensures source { SourceStays (S.held source.old) (S.held source.new) (S.attached source.old) (S.attached source.new) }
+    ensures sink { SinkStays (K.created sink.old) (K.created sink.new) (K.contents sink.old) (K.contents sink.new) }
+    ensures late { IfRefused result (ComesLate Unpack) }
+    ensures told_ranges { StaysTold (S.ranges source.old) (S.ranges source.new) }
+    ensures told_contents { StaysTold (K.contents sink.old) (K.contents sink.new) }
+    ensures cause { Rewrites (S.tally source.old) (S.tally source.new) (K.tally sink.old) (K.tally sink.new) result }
+{
+    output_law();
+    let first = first_standing(source, length, survey, space.header.as_mut_slice(), block)?;
+    let mut start = first.start;
+    let mut after_empty = first.after_empty;
+    let mut at = 0;
+    for hdu in first.hdu..survey.hdus {
+        let buf = space.header.as_mut_slice();
+        let again = read_again(
+            source,
+            length,
+            hdu,
+            start,
+            after_empty,
+            survey.tile,
+            block,
+            buf,
+        )?;
+        at = write_hdu(rt, source, sink, window, gate, &again, at, space)?;
+        start = next_start(&again.header);
+        if start == length {
+            return Ok(());
+        }
+        after_empty = again.is_empty_primary();
+    }
+    Ok(())
+}

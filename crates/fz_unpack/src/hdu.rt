@@ -1,0 +1,66 @@
+//! What one HDU stands for.
+
+ghost use Rattle.std.specs.Prelude.{ℕ, ◌≡◌, ◌+◌, ◌^◌, ◌≤◌, ◌<◌, IsTrue, Some, length as len, IfOk, IfSome};
+ghost use Rattle.fz_base.specs.Stop.{IfRefused};
+ghost use Rattle.fz_base.specs.Told.{StaysTold};
+ghost use Rattle.fz_files.specs.Restored.{pixels_of};
+ghost use Rattle.fz_pool.specs.Window.{HasSlotsFor};
+ghost use Rattle.fz_unpack.specs.Again.{IsAgain};
+ghost use Rattle.fz_unpack.specs.Behind.{EndsNear, HoldsHdu, IsHduFault};
+ghost use Rattle.fz_job.specs.Clauses.{IsOfSomeRow};
+ghost use Rattle.fz_survey.specs.Workspace.{SpaceStays};
+ghost use Rattle.fz_job.specs.Keeps.{Rewrites, SinkStays, SourceStays, WindowStays};
+
+use crate::again::Again;
+use crate::image::write_image;
+use fz_base::{Gate, Sink, Source, Stop};
+use fz_job::copy_hdu;
+use fz_pool::Window;
+use fz_survey::Workspace;
+use std::thread::Threads;
+
+/// Writes what an HDU stands for, whose header is in the workspace, from this byte of the sink on, but not byte 0 of
+/// the file, and answers the byte behind it.
+pub(crate) fn write_hdu<R: Threads + Sync, S: Source, K: Sink, G: Gate>(
+    rt: &R,
+    source: &mut S,
+    sink: &mut K,
+    window: &mut Window,
+    gate: &G,
+    again: &Again,
+    at: u64,
+    space: &mut Workspace,
+) -> Result<u64, Stop>
+    requires again { (n : ℕ) × (n < 2 ^ 64) × (S.attached source.old ≡ Some n) × IsAgain (S.held source.old) n space.old.header again.now }
+    requires near { at + 2 ^ 46 ≤ 2 ^ 63 }
+    requires created { IsTrue (K.created sink.old) }
+    requires window { IfSome again.now.image (λ i. HasSlotsFor (pixels_of i.plan 0) window.old) }
+    requires translated { len space.old.header + 2880 ≤ len space.old.translated }
+    requires copy { 4096 ≤ len space.old.copy }
+    ensures written { IfOk result (λ end. IfSome (S.held source.old) (λ g. HoldsHdu again.now.header g at end (K.contents sink.old) (K.contents sink.new))) }
+    ensures fault { IfRefused result (λ x. IfSome (S.held source.old) (λ g. IsHduFault g again.now.header x)) }
+    ensures end { IfOk result (EndsNear again.now.header at) }
+    ensures space { SpaceStays space.old space.new }
+    ensures window { WindowStays window.old window.new }
+    ensures source { SourceStays (S.held source.old) (S.held source.new) (S.attached source.old) (S.attached source.new) }
+    ensures sink { SinkStays (K.created sink.old) (K.created sink.new) (K.contents sink.old) (K.contents sink.new) }
+    ensures row { IfRefused result IsOfSomeRow }
+    ensures told_ranges { StaysTold (S.ranges source.old) (S.ranges source.new) }
+    ensures told_contents { StaysTold (K.contents sink.old) (K.contents sink.new) }
+    ensures cause { Rewrites (S.tally source.old) (S.tally source.new) (K.tally sink.old) (K.tally sink.new) result }
+{
+    match &again.image {
+        Some(image) => write_image(
+            rt,
+            source,
+            sink,
+            window,
+            gate,
+            &again.header,
+            image,
+            at,
+            space,
+        ),
+        None => copy_hdu(source, &again.header, sink, at, space.copy.as_mut_slice()),
+    }
+}

@@ -1,0 +1,217 @@
+//! The image that stands in a packed table, written whole.
+
+ghost use Rattle.std.specs.Prelude.{ℕ, ◌≡◌, ◌+◌, ◌-◌, ◌*◌, ◌/◌, ◌^◌, ◌≤◌, ◌<◌, IsTrue, Some, map, length as len, IfOk, IfSome, OnOk};
+ghost use Rattle.std.specs.List.{range_with_len};
+ghost use Rattle.fz_base.specs.Sink.{written};
+ghost use Rattle.fz_base.specs.Stop.{IfRefused, Writes};
+ghost use Rattle.fz_base.specs.Told.{StaysTold};
+ghost use Rattle.fz_block.specs.Facts.{IsHeaderOf};
+ghost use Rattle.fz_block.specs.Hdus.{cards_of, header_bytes};
+ghost use Rattle.fz_grid.specs.Arrays.{product};
+ghost use Rattle.fz_grid.specs.Region.{IsDivided, lengths_of};
+ghost use Rattle.fz_tile.specs.Pixels.{IsBitpix};
+ghost use Rattle.fz_head.specs.Conditions.{IsPackedPlan};
+ghost use Rattle.fz_head.specs.PlainHeader.{plain_header};
+ghost use Rattle.fz_files.specs.FirstFault.{IsFirstRowFault, image_row, rows_of};
+ghost use Rattle.fz_files.specs.Packed.{pixel_bits, tiles_in};
+ghost use Rattle.fz_files.specs.Restored.{pixels_of};
+ghost use Rattle.fz_pool.specs.Window.{HasSlotsFor};
+ghost use Rattle.fz_fetch.specs.Images.{HaveRoom, IsReadable, IsSaid};
+ghost use Rattle.fz_fetch.specs.Rows.{StandsWithin};
+ghost use Rattle.fz_unpack.specs.Again.{IsAgain};
+ghost use Rattle.fz_job.specs.Behind.{HoldsBytes, written_behind};
+ghost use Rattle.fz_unpack.specs.Behind.{HoldsImage, IsHduFault};
+ghost use Rattle.fz_job.specs.Clauses.{IsOfSomeRow};
+ghost use Rattle.fz_unpack.specs.Images.{AreWrittenTiles, HoldsPixels};
+ghost use Rattle.fz_survey.specs.Workspace.{SpaceStays};
+ghost use Rattle.fz_job.specs.Keeps.{Rewrites, SinkStays, SourceStays, WindowStays};
+
+use fz_base::{Gate, Sink, Source, Stop, output_law, write_behind};
+use fz_block::{BLOCK_LEN, Header};
+use fz_fetch::{MOST_TILES, fetch_tiles, number_tiles, scatter_tiles, scattered_law};
+use fz_grid::{Grid, shape_law, tiles_law, volume};
+use fz_head::{PackedImage, Plan, to_plain};
+use fz_job::{left_for_last, write_fill};
+use fz_pool::Window;
+use fz_survey::Workspace;
+use fz_tile::{plain_law, plain_len};
+use std::thread::Threads;
+
+/// Writes the image of a packed HDU, whose header is in the workspace, from this byte of the sink on, but not byte 0 of
+/// the file, and answers the byte behind it.
+pub(crate) fn write_image<R: Threads + Sync, S: Source, K: Sink, G: Gate>(
+    rt: &R,
+    source: &mut S,
+    sink: &mut K,
+    window: &mut Window,
+    gate: &G,
+    header: &Header,
+    image: &PackedImage,
+    at: u64,
+    space: &mut Workspace,
+) -> Result<u64, Stop>
+    requires again { (n : ℕ) × (n < 2 ^ 64) × (S.attached source.old ≡ Some n) × IsAgain (S.held source.old) n space.old.header (record { header = header.now; image = Some image.now }) }
+    requires near { at + 2 ^ 46 ≤ 2 ^ 63 }
+    requires created { IsTrue (K.created sink.old) }
+    requires window { HasSlotsFor (pixels_of image.now.plan 0) window.old }
+    requires translated { len space.old.header + 2880 ≤ len space.old.translated }
+    requires copy { 4096 ≤ len space.old.copy }
+    ensures image { IfOk result (λ end. IfSome (S.held source.old) (λ g. HoldsImage header.now g at end (K.contents sink.old) (K.contents sink.new))) }
+    ensures fault { IfRefused result (λ x. IfSome (S.held source.old) (λ g. IsHduFault g header.now x)) }
+    ensures end { IfOk result (λ end. (at < end) × (end ≤ at + 2 ^ 45)) }
+    ensures space { SpaceStays space.old space.new }
+    ensures window { WindowStays window.old window.new }
+    ensures source { SourceStays (S.held source.old) (S.held source.new) (S.attached source.old) (S.attached source.new) }
+    ensures sink { SinkStays (K.created sink.old) (K.created sink.new) (K.contents sink.old) (K.contents sink.new) }
+    ensures row { IfRefused result IsOfSomeRow }
+    ensures told_ranges { StaysTold (S.ranges source.old) (S.ranges source.new) }
+    ensures told_contents { StaysTold (K.contents sink.old) (K.contents sink.new) }
+    ensures cause { Rewrites (S.tally source.old) (S.tally source.new) (K.tally sink.old) (K.tally sink.new) result }
+{
+    output_law();
+    plain_law();
+    let buf = &space.header.as_slice()[..BLOCK_LEN * header.blocks as usize];
+    let made = space.translated.as_mut_slice();
+    let data_at = write_plain_header(sink, at, buf, header, &image.plan, made)?;
+    let copy = space.copy.as_mut_slice();
+    write_tiles(rt, source, sink, window, gate, header, image, data_at, copy)?;
+    write_fill(sink, data_at, data_len(image), copy)
+}
+
+// Writes the header of the image that a packed header stands for, without byte 0 of the file, and answers the byte
+// behind it.
+fn write_plain_header<K: Sink>(
+    sink: &mut K,
+    at: u64,
+    buf: &[u8],
+    header: &Header,
+    plan: &Plan,
+    made: &mut [u8],
+) -> Result<u64, Stop>
+    requires header { IsHeaderOf buf.now header.now }
+    requires plan { IsPackedPlan buf.now header.now plan.now }
+    requires room { len buf.now + 2880 ≤ len made.old }
+    requires near { at + 2 ^ 46 ≤ 2 ^ 63 }
+    requires created { IsTrue (K.created sink.old) }
+    ensures header { IfOk result (λ end. HoldsBytes (header_bytes (plain_header (cards_of buf.now))) at end (K.contents sink.old) (K.contents sink.new)) }
+    ensures end { IfOk result (λ end. (at < end) × (end ≤ at + 2 ^ 20)) }
+    ensures len { len made.new ≡ len made.old }
+    ensures sink { SinkStays (K.created sink.old) (K.created sink.new) (K.contents sink.old) (K.contents sink.new) }
+    ensures told { StaysTold (K.contents sink.old) (K.contents sink.new) }
+    ensures cause { Writes (K.tally sink.old) (K.tally sink.new) result }
+{
+    let len = to_plain(buf, header, plan, made);
+    write_header(sink, at, &made[..len])?;
+    Ok(at + len as u64)
+}
+
+// Writes a header, without byte 0 of the file.
+fn write_header<K: Sink>(sink: &mut K, at: u64, header: &[u8]) -> Result<(), Stop>
+    requires created { IsTrue (K.created sink.old) }
+    requires near { at + 1 < 2 ^ 64 }
+    requires some { 0 < len header.now }
+    ensures written { OnOk result (K.contents sink.new ≡ written_behind at header.now (K.contents sink.old)) }
+    ensures sink { SinkStays (K.created sink.old) (K.created sink.new) (K.contents sink.old) (K.contents sink.new) }
+    ensures told { StaysTold (K.contents sink.old) (K.contents sink.new) }
+    ensures cause { Writes (K.tally sink.old) (K.tally sink.new) result }
+{
+    let skipped = left_for_last(at);
+    write_behind(sink, at + skipped, &header[skipped as usize..])
+}
+
+// The bytes of the image.
+fn data_len(image: &PackedImage) -> u64
+    requires divided { IsDivided image.now.plan.shape image.now.plan.tile }
+    requires size { IsBitpix image.now.plan.bitpix }
+    ensures len { result ≡ pixel_bits image.now.plan / 8 * product (lengths_of image.now.plan.shape) }
+    ensures most { result ≤ 2 ^ 43 }
+{
+    plain_len(image.plan.bitpix, volume(&image.plan.shape))
+}
+
+// Writes the pixels of all tiles, round by round.
+fn write_tiles<R: Threads + Sync, S: Source, K: Sink, G: Gate>(
+    rt: &R,
+    source: &mut S,
+    sink: &mut K,
+    window: &mut Window,
+    gate: &G,
+    header: &Header,
+    image: &PackedImage,
+    data_at: u64,
+    rows: &mut [u8],
+) -> Result<(), Stop>
+    requires image { IsReadable image.now }
+    requires within { StandsWithin (S.attached source.old) image.now.table }
+    requires said { IfSome (S.held source.old) (λ g. IsSaid g header.now image.now) }
+    requires data { (0 < data_at) × (data_at + 2 ^ 43 ≤ 2 ^ 63) }
+    requires created { IsTrue (K.created sink.old) }
+    requires window { HaveRoom image.now window.old }
+    requires rows { 4096 ≤ len rows.old }
+    ensures pixels { OnOk result (IfSome (S.held source.old) (λ g. HoldsPixels g header.now data_at (K.contents sink.old) (K.contents sink.new))) }
+    ensures fault { IfRefused result (λ x. IfSome (S.held source.old) (λ g. IsFirstRowFault g (rows_of g header.now) (Some x))) }
+    ensures rows { len rows.new ≡ len rows.old }
+    ensures window { WindowStays window.old window.new }
+    ensures source { SourceStays (S.held source.old) (S.held source.new) (S.attached source.old) (S.attached source.new) }
+    ensures sink { SinkStays (K.created sink.old) (K.created sink.new) (K.contents sink.old) (K.contents sink.new) }
+    ensures row { IfRefused result IsOfSomeRow }
+    ensures told_ranges { StaysTold (S.ranges source.old) (S.ranges source.new) }
+    ensures told_contents { StaysTold (K.contents sink.old) (K.contents sink.new) }
+    ensures cause { Rewrites (S.tally source.old) (S.tally source.new) (K.tally sink.old) (K.tally sink.new) result }
+{
+    scattered_law();
+    shape_law();
+    tiles_law();
+    let tiles = Grid::new(image.plan.shape, image.plan.tile).tile_count();
+    let mut first = 0;
+    while first < tiles {
+        let count = (2 * window.workers()).min(tiles - first);
+        write_round(
+            rt, source, sink, window, gate, header, image, data_at, first, count, rows,
+        )?;
+        first += count;
+    }
+    Ok(())
+}
+
+// Writes the pixels of so many tiles, from the first on.
+fn write_round<R: Threads + Sync, S: Source, K: Sink, G: Gate>(
+    rt: &R,
+    source: &mut S,
+    sink: &mut K,
+    window: &mut Window,
+    gate: &G,
+    header: &Header,
+    image: &PackedImage,
+    data_at: u64,
+    first: u32,
+    count: u32,
+    rows: &mut [u8],
+) -> Result<(), Stop>
+    requires image { IsReadable image.now }
+    requires within { StandsWithin (S.attached source.old) image.now.table }
+    requires said { IfSome (S.held source.old) (λ g. IsSaid g header.now image.now) }
+    requires tiles { first + count ≤ tiles_in image.now.plan }
+    requires near { count ≤ 2 * window.old.workers }
+    requires few { count ≤ 128 }
+    requires data { (0 < data_at) × (data_at + 2 ^ 43 ≤ 2 ^ 63) }
+    requires created { IsTrue (K.created sink.old) }
+    requires window { HaveRoom image.now window.old }
+    requires rows { 4096 ≤ len rows.old }
+    ensures pixels { OnOk result (IfSome (S.held source.old) (λ g. AreWrittenTiles g header.now image.now.plan data_at (range_with_len first count) (K.contents sink.old) (K.contents sink.new))) }
+    ensures fault { IfRefused result (λ x. IfSome (S.held source.old) (λ g. IsFirstRowFault g (map (image_row header.now) (range_with_len first count)) (Some x))) }
+    ensures rows { len rows.new ≡ len rows.old }
+    ensures window { WindowStays window.old window.new }
+    ensures source { SourceStays (S.held source.old) (S.held source.new) (S.attached source.old) (S.attached source.new) }
+    ensures sink { SinkStays (K.created sink.old) (K.created sink.new) (K.contents sink.old) (K.contents sink.new) }
+    ensures row { IfRefused result IsOfSomeRow }
+    ensures told_ranges { StaysTold (S.ranges source.old) (S.ranges source.new) }
+    ensures told_contents { StaysTold (K.contents sink.old) (K.contents sink.new) }
+    ensures cause { Rewrites (S.tally source.old) (S.tally source.new) (K.tally sink.old) (K.tally sink.new) result }
+{
+    let mut numbers = [0; MOST_TILES];
+    let tiles = &mut numbers[..count as usize];
+    number_tiles(first, tiles);
+    fetch_tiles(rt, source, header, image, tiles, rows, window, gate)?;
+    scatter_tiles(sink, data_at, &image.plan, tiles, window)
+}

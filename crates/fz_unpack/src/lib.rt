@@ -1,0 +1,15 @@
+//! Unpacks a file: each table of a packed image becomes the image, and every other HDU is copied, but for an empty
+//! primary before a packed primary.
+//!
+//! Reading order: `unpack_file`, `law`, `file`, `first`, `again`, `hdu`, `image`.
+#![tactic(auto)]
+
+mod again;
+mod file;
+mod first;
+mod hdu;
+mod image;
+mod law;
+mod unpack_file;
+
+pub use unpack_file::unpack;

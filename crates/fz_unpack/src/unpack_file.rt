@@ -1,0 +1,171 @@
+//! The job: look at all headers, take all buffers, and then write.
+ghost use Rattle.std.specs.Prelude.{◌≡◌, ◌+◌, ◌<◌, ◌≤◌, max, true, Some, [], length as len, sum, OnOk, IfSome};
+ghost use Rattle.fz_base.specs.Stop.{IfRefused, TellsLimit};
+ghost use Rattle.fz_base.specs.Told.{StaysTold};
+ghost use Rattle.fz_base.specs.Takings.{TellsFirstPast, piled};
+ghost use Rattle.fz_pool.specs.Window.{IsEmpty};
+ghost use Rattle.fz_survey.specs.Workspace.{wanted_buffers};
+ghost use Rattle.fz_files.specs.Buffers.{job_bound};
+ghost use Rattle.fz_files.specs.declared.job.Job.TheVariants.{Unpack};
+ghost use Rattle.fz_unpack.specs.Output.{HoldsRestored};
+ghost use Rattle.fz_job.specs.Clauses.{Answers, ComesLate, HasJobCause, IfOverLimit, IsShutOrWhole, IsUnmade, KeepsBuffers, KeepsSource, TellsFirstFault, greatest_bound};
+ghost use Rattle.fz_job.specs.Keeps.{SourceStays};
+ghost use Rattle.fz_unpack.specs.Stages.{Works, later_takings, wants_for};
+ghost use Rattle.fz_unpack.specs.Written.{AreShutOrWhole, FinishesSeen};
+
+use crate::file::write_file;
+use crate::law::known_law;
+use fz_base::{Gate, Meter, Sink, Source, Stop};
+use fz_block::BLOCK_LEN;
+use fz_files::buffers_law;
+use fz_pool::{Window, sizes_law};
+use fz_survey::{Survey, Wants, Workspace, survey_to_unpack, workspace_law};
+use std::thread::Threads;
+
+/// Unpacks the file that is attached to the source into the sink, which it makes by this name: the sink then holds the
+/// file that the packed file stands for.
+///
+/// All checks of headers come first, then all buffers are taken, and only then the sink is made; its byte 0 is
+/// written last. Refused: as `survey_to_unpack` refuses the file; the lowest faulty row of the first packed image that
+/// has one, as `fetch_tiles` refuses it. Of a source that gives other bytes at the second reading also an HDU that is
+/// no longer the one that was looked at.
+pub fn unpack<R: Threads + Sync, S: Source, K: Sink, G: Gate>(
+    rt: &R,
+    source: &mut S,
+    length: u64,
+    name: &str,
+    sink: &mut K,
+    meter: &mut Meter,
+    window: &mut Window,
+    gate: &G,
+) -> Result<(), Stop>
+    requires attached { S.attached source.old ≡ Some length }
+    requires empty { IfSome (K.contents sink.old) (λ c. c ≡ []) }
+    requires nothing_live { meter.old.live ≡ 0 }
+    requires window { IsEmpty window.old }
+
+    ensures output { OnOk result (HoldsRestored (S.held source.old) (K.contents sink.new)) }
+    ensures finished { OnOk result (K.finished sink.new ≡ true) }
+    ensures first_fault { TellsFirstFault Unpack (S.held source.old) result }
+    // Where no count of faults rose and the limit is at least the bound, the first fault alone decides.
+    ensures answered { Answers Unpack (S.held source.old) (S.tally source.old) (S.tally source.new) (K.tally sink.old) (K.tally sink.new) meter.old.limit window.old.workers result }
+    ensures cause { HasJobCause Unpack (S.held source.old) (S.tally source.old) (S.tally source.new) (K.tally sink.old) (K.tally sink.new) meter.old.limit window.old.workers result }
+    // What was cut short does not begin with the S of a FITS file.
+    ensures first_byte { IsShutOrWhole (K.contents sink.new) (HoldsRestored (S.held source.old) (K.contents sink.new)) result }
+    ensures unmade { IsUnmade Unpack (S.held source.old) ((K.created sink.new ≡ K.created sink.old) × (K.contents sink.new ≡ K.contents sink.old)) result }
+    ensures buffers { KeepsBuffers Unpack (S.held source.old) meter.old meter.new window.old window.new }
+    ensures kept { KeepsSource (S.held source.old) (S.held source.new) (S.attached source.old) (S.attached source.new) (S.tally source.old) (S.tally source.new) (K.tally sink.old) (K.tally sink.new) }
+    ensures told_ranges { StaysTold (S.ranges source.old) (S.ranges source.new) }
+    ensures told_contents { StaysTold (K.contents sink.old) (K.contents sink.new) }
+{
+    // What the bound of the buffers is.
+    buffers_law();
+    let mut block = meter.bytes(BLOCK_LEN as u64)?;
+    let answer = with_block(
+        rt,
+        source,
+        length,
+        name,
+        sink,
+        meter,
+        window,
+        gate,
+        block.as_mut_slice(),
+    );
+    meter.give_bytes(block);
+    answer
+}
+
+// Looks at the headers, and then works.
+fn with_block<R: Threads + Sync, S: Source, K: Sink, G: Gate>(
+    rt: &R,
+    source: &mut S,
+    length: u64,
+    name: &str,
+    sink: &mut K,
+    meter: &mut Meter,
+    window: &mut Window,
+    gate: &G,
+    block: &mut [u8],
+) -> Result<(), Stop>
+    requires attached { S.attached source.old ≡ Some length }
+    requires empty { IfSome (K.contents sink.old) (λ c. c ≡ []) }
+    requires one_block { meter.old.live ≡ 2880 }
+    requires window { IsEmpty window.old }
+    requires block { len block.old ≡ 2880 }
+    ensures output { OnOk result (HoldsRestored (S.held source.old) (K.contents sink.new)) }
+    ensures finished { OnOk result (K.finished sink.new ≡ true) }
+    ensures first_fault { TellsFirstFault Unpack (S.held source.old) result }
+    ensures first_byte { IsShutOrWhole (K.contents sink.new) (HoldsRestored (S.held source.old) (K.contents sink.new)) result }
+    ensures unmade { IsUnmade Unpack (S.held source.old) ((K.created sink.new ≡ K.created sink.old) × (K.contents sink.new ≡ K.contents sink.old)) result }
+    ensures first_past { IfSome (S.held source.old) (λ g. TellsFirstPast meter.old.limit (later_takings g window.old.workers) result) }
+    ensures peak { IfSome (S.held source.old) (λ g. meter.new.peak ≤ max meter.old.peak (job_bound Unpack g window.old.workers)) }
+    ensures most { TellsLimit meter.old.limit (greatest_bound Unpack window.old.workers) result }
+    ensures peak_most { meter.new.peak ≤ max meter.old.peak (greatest_bound Unpack window.old.workers) }
+    ensures live { meter.new.live ≡ meter.old.live }
+    ensures limit { meter.new.limit ≡ meter.old.limit }
+    ensures emptied { window.new ≡ record { slots = []; workers = window.old.workers } }
+    ensures source { SourceStays (S.held source.old) (S.held source.new) (S.attached source.old) (S.attached source.new) }
+    ensures told_ranges { StaysTold (S.ranges source.old) (S.ranges source.new) }
+    ensures told_contents { StaysTold (K.contents sink.old) (K.contents sink.new) }
+    ensures cause { Works (S.tally source.old) (S.tally source.new) (K.tally sink.old) (K.tally sink.new) meter.old.limit result }
+{
+    // What the survey says of the file, and what the bound of the buffers is.
+    known_law();
+    buffers_law();
+    workspace_law();
+    let survey = survey_to_unpack(source, length, meter, block)?;
+    work(
+        rt, source, length, name, sink, meter, window, gate, &survey, block,
+    )
+}
+
+// Takes all buffers, writes the restored file, and hands the buffers back.
+fn work<R: Threads + Sync, S: Source, K: Sink, G: Gate>(
+    rt: &R,
+    source: &mut S,
+    length: u64,
+    name: &str,
+    sink: &mut K,
+    meter: &mut Meter,
+    window: &mut Window,
+    gate: &G,
+    survey: &Survey,
+    block: &mut [u8],
+) -> Result<(), Stop>
+    requires attached { S.attached source.old ≡ Some length }
+    requires empty { IfSome (K.contents sink.old) (λ c. c ≡ []) }
+    requires window { IsEmpty window.old }
+    requires some { 0 < survey.now.hdus }
+    requires few { survey.now.hdus ≤ 65536 }
+    requires block { len block.old ≡ 2880 }
+    ensures written { IfSome (S.held source.old) (λ g. FinishesSeen g survey.now (K.contents sink.new) result) }
+    ensures finished { OnOk result (K.finished sink.new ≡ true) }
+    ensures shut { AreShutOrWhole survey.now (S.held source.old) (K.contents sink.new) result }
+    ensures unmade { IfOverLimit result ((K.created sink.new ≡ K.created sink.old) × (K.contents sink.new ≡ K.contents sink.old)) }
+    ensures first_past { TellsFirstPast meter.old.limit (piled meter.old.live (wanted_buffers (wants_for survey.now) window.old.workers)) result }
+    ensures peak { meter.new.peak ≤ max meter.old.peak (meter.old.live + sum (wanted_buffers (wants_for survey.now) window.old.workers)) }
+    ensures live { meter.new.live ≡ meter.old.live }
+    ensures limit { meter.new.limit ≡ meter.old.limit }
+    ensures emptied { window.new ≡ record { slots = []; workers = window.old.workers } }
+    ensures source { SourceStays (S.held source.old) (S.held source.new) (S.attached source.old) (S.attached source.new) }
+    ensures late { IfRefused result (ComesLate Unpack) }
+    ensures told_ranges { StaysTold (S.ranges source.old) (S.ranges source.new) }
+    ensures told_contents { StaysTold (K.contents sink.old) (K.contents sink.new) }
+    ensures cause { Works (S.tally source.old) (S.tally source.new) (K.tally sink.old) (K.tally sink.new) meter.old.limit result }
+{
+    // What is held is what was taken, and how long the slots are that were filled.
+    workspace_law();
+    sizes_law();
+    let wants = Wants {
+        header_len: survey.header_len,
+        translates: true,
+        tile: Some(survey.tile),
+    };
+    let mut space = Workspace::take(meter, window, &wants)?;
+    let answer = write_file(
+        rt, source, length, name, sink, window, gate, survey, &mut space, block,
+    );
+    space.give_back(meter, window);
+    answer
+}
