@@ -6,7 +6,7 @@ use Rattle.fz_files.specs.FirstFault.{IsFirstFault}
 use Rattle.fz_files.specs.Laws.{HasOneFirstFault}
 use Rattle.fz_files.specs.declared.job.Job.{Job}
 use Rattle.fz_files.specs.declared.job.Job.TheVariants.{Pack, Unpack, Cut, Verify, List as ListHdus, Drill}
-use Rattle.fz_pack.specs.Clauses.{IsAnswer, TellsFirstFault}
+use Rattle.fz_job.specs.Clauses.{IsAnswer, TellsFirstFault}
 use Rattle.fz_app.specs.Answer.{IfAnswer}
 use Rattle.fz_app.specs.Promises.{IsAnswerTo, IsDone}
 use Rattle.fz_app.specs.declared.status.Status.{Status}

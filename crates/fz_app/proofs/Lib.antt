@@ -1,4 +1,6 @@
 mod Answered
 mod Complete
+mod JobAnswers
 mod PackAnswers
 mod RunPromises
+mod UnpackAnswers

@@ -8,7 +8,7 @@ use Rattle.fz_base.specs.declared.failure.Stop.TheVariants.{Refused as StopRefus
 use Rattle.fz_files.specs.Buffers.{job_bound}
 use Rattle.fz_files.specs.FirstFault.{IsFirstFault}
 use Rattle.fz_files.specs.Laws.{HasOneFirstFault}
-use Rattle.fz_pack.specs.Clauses.{IsAnswer, TellsFirstFault}
+use Rattle.fz_job.specs.Clauses.{IsAnswer, TellsFirstFault}
 use Rattle.fz_words.specs.Jobs.{Asked}
 use Rattle.fz_app.specs.Answer.{IfAnswer, IsPromisedTo}
 use Rattle.fz_app.specs.Asked.{asked_for, limit_of}

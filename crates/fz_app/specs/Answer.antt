@@ -32,8 +32,8 @@ IfAnswer (OverLimit live asked limit) P = P (Err (StopLimit live asked limit))
 IfAnswer NoMemory P = P (Err StopMemory)
 
 -- a fact of what the words ask for and of the answer to it
-abbrev pub IfAnswered : List (List ℕ) → Status → (Asked → Result ⊤ Stop → Type 0) → Type 0
-IfAnswered words status P = IfAsked words (λ asked. IfAnswer status (P asked))
+abbrev pub IfRan : List (List ℕ) → Status → (Asked → Result ⊤ Stop → Type 0) → Type 0
+IfRan words status P = IfAsked words (λ asked. IfAnswer status (P asked))
 
 -- A promise of the answer to what the words ask for. Where they ask for nothing the status is Usage, and else it is not.
 abbrev pub IsPromisedTo : Option Asked → Status → (Asked → Result ⊤ Stop → Type 0) → Type 0

@@ -7,7 +7,7 @@ use Rattle.fz_words.specs.Jobs.{Asked, job_of}
 -- the jobs that are built
 abbrev pub is_built : Job → Bool
 is_built (Pack options) = true
-is_built Unpack = false
+is_built Unpack = true
 is_built (Cut wanted sieve) = false
 is_built Verify = false
 is_built ListHdus = false

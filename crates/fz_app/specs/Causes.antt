@@ -5,8 +5,8 @@ use Rattle.fz_base.specs.Stop.{IsRefused, TellsLimit}
 use Rattle.fz_base.specs.Takings.{TellsFirstPast}
 use Rattle.fz_base.specs.declared.failure.Stop.TheVariants.{ReadFault as StopRead, WriteFault as StopWrite, OverLimit as StopLimit, NoMemory as StopMemory}
 use Rattle.fz_files.specs.Buffers.{job_takings}
-use Rattle.fz_pack.specs.Clauses.{IsUnmade, greatest_bound}
-use Rattle.fz_app.specs.Answer.{IfAnswered}
+use Rattle.fz_job.specs.Clauses.{IsUnmade, greatest_bound}
+use Rattle.fz_app.specs.Answer.{IfRan}
 use Rattle.fz_app.specs.Asked.{asked_for, limit_of}
 use Rattle.fz_app.specs.declared.status.Status.{Status}
 use Rattle.fz_app.specs.declared.status.Status.TheVariants.{Usage}
@@ -17,32 +17,32 @@ IsUsage words status = (status ≡ Usage) ↔ (asked_for words ≡ None)
 
 -- Done: comes only where no count of the source and of the sink rose, so no call of theirs failed.
 abbrev pub DoneHasCause : List (List ℕ) → Tally → Tally → Tally → Tally → Status → Type 0
-DoneHasCause words source source' sink sink' status = IfAnswered words status (λ asked answer. OnOk answer ((source' ≡ source) × (sink' ≡ sink)))
+DoneHasCause words source source' sink sink' status = IfRan words status (λ asked answer. OnOk answer ((source' ≡ source) × (sink' ≡ sink)))
 
 -- Refused: comes only where no count of the source and of the sink rose.
 abbrev pub RefusedHasCause : List (List ℕ) → Tally → Tally → Tally → Tally → Status → Type 0
 RefusedHasCause words source source' sink sink' status =
-    IfAnswered words status (λ asked answer. IsRefused answer → (source' ≡ source) × (sink' ≡ sink))
+    IfRan words status (λ asked answer. IsRefused answer → (source' ≡ source) × (sink' ≡ sink))
 
 -- Read fault: comes only where the source's count of faults rose.
 abbrev pub ReadFaultHasCause : List (List ℕ) → Tally → Tally → Status → Type 0
-ReadFaultHasCause words source source' status = IfAnswered words status (λ asked answer. IsErrOf answer StopRead → Rose source.faults source'.faults)
+ReadFaultHasCause words source source' status = IfRan words status (λ asked answer. IsErrOf answer StopRead → Rose source.faults source'.faults)
 
 -- Write fault: comes only where the sink's count of faults rose.
 abbrev pub WriteFaultHasCause : List (List ℕ) → Tally → Tally → Status → Type 0
-WriteFaultHasCause words sink sink' status = IfAnswered words status (λ asked answer. IsErrOf answer StopWrite → Rose sink.faults sink'.faults)
+WriteFaultHasCause words sink sink' status = IfRan words status (λ asked answer. IsErrOf answer StopWrite → Rose sink.faults sink'.faults)
 
 -- Over limit: comes exactly where a taking of the job passes the limit, and tells the first. A read fault or want of memory may come in
 -- its place. What passes it is never more than the greatest bound of the job, whatever the file. The first taking of all jobs is one block.
 pub record OverLimitHasCause (words : List (List ℕ)) (held : Option (List ℕ)) (limit : ℕ) (status : Status) : Type 0 where
-  pub told : IfAnswered words status (λ asked answer. TellsLimit (limit_of asked limit) (greatest_bound asked.job asked.workers) answer)
-  pub first_past : IfAnswered words status (λ asked answer. IfSome held (λ file. TellsFirstPast (limit_of asked limit) (job_takings asked.job file asked.workers) answer))
-  pub block : IfAnswered words status (λ asked answer. limit_of asked limit < 2880 → IsErrOf answer (StopLimit 0 2880 (limit_of asked limit)) ⊎ (IsErrOf answer StopRead ⊎ IsErrOf answer StopMemory))
+  pub told : IfRan words status (λ asked answer. TellsLimit (limit_of asked limit) (greatest_bound asked.job asked.workers) answer)
+  pub first_past : IfRan words status (λ asked answer. IfSome held (λ file. TellsFirstPast (limit_of asked limit) (job_takings asked.job file asked.workers) answer))
+  pub block : IfRan words status (λ asked answer. limit_of asked limit < 2880 → IsErrOf answer (StopLimit 0 2880 (limit_of asked limit)) ⊎ (IsErrOf answer StopRead ⊎ IsErrOf answer StopMemory))
 
 -- Unmade: the sink is as before where a header of the file is refused, whatever the answer, where a buffer passes the limit, and after
--- every refusal but that of an HDU which changed between two readings.
+-- every refusal but that of an HDU which changed between two readings and, of a job that reads rows, that of a row.
 abbrev pub IsUnmadeFor : List (List ℕ) → Option (List ℕ) → Type 0 → Status → Type 0
-IsUnmadeFor words held Same status = IfAnswered words status (λ asked answer. IsUnmade asked.job held Same answer)
+IsUnmadeFor words held Same status = IfRan words status (λ asked answer. IsUnmade asked.job held Same answer)
 
 -- no count falls
 pub record AreCountsKept (source source' sink sink' text text' : Tally) : Type 0 where

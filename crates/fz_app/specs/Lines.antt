@@ -4,7 +4,7 @@ use Rattle.fz_base.specs.Counts.{Rose, Tally}
 use Rattle.fz_base.specs.Sink.{appended, MayAppend}
 use Rattle.fz_base.specs.Kind.{kind_number}
 use Rattle.fz_base.specs.declared.kind.Kind.{Kind}
-use Rattle.fz_base.specs.declared.kind.Kind.TheVariants.{NotFits, Truncated, LongHeader, BadCard, Duplicate, HeaderFill, DataFill, TrailingBytes, Reserved, AlreadyPacked, Limit as PastLimit, Groups, UnknownCodec, Quantised, CompressedTable, BadTable, RowCount, DescriptorRange, TileMissing, GzipTile, CodeShort, CodeValue, LineList, PixelRange, TileSize, MisplacedPrimary, NotPacked, OutOfBox, PlioOffset, Unbuilt, Unpatchable, BadPatch}
+use Rattle.fz_base.specs.declared.kind.Kind.TheVariants.{NotFits, Truncated, LongHeader, BadCard, Duplicate, HeaderFill, DataFill, TrailingBytes, Reserved, AlreadyPacked, Limit as PastLimit, Groups, UnknownCodec, Quantised, CompressedTable, BadTable, RowCount, DescriptorRange, TileMissing, GzipTile, CodeShort, CodeValue, LineList, PixelRange, TileSize, MisplacedPrimary, NotPacked, OutOfBox, PlioOffset, Unpatchable, BadPatch}
 use Rattle.fz_base.specs.declared.fault.Fault.{Fault}
 use Rattle.fz_base.specs.declared.fault.Place.{Place}
 use Rattle.fz_base.specs.declared.fault.Place.TheVariants.{Byte, Card, Row}
@@ -42,7 +42,6 @@ kind_name_of MisplacedPrimary = codes "MisplacedPrimary"
 kind_name_of NotPacked = codes "NotPacked"
 kind_name_of OutOfBox = codes "OutOfBox"
 kind_name_of PlioOffset = codes "PlioOffset"
-kind_name_of Unbuilt = codes "Unbuilt"
 kind_name_of Unpatchable = codes "Unpatchable"
 kind_name_of BadPatch = codes "BadPatch"
 

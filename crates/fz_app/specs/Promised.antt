@@ -9,10 +9,10 @@ use Rattle.fz_base.specs.Takings.{TellsFirstPast}
 use Rattle.fz_base.specs.declared.failure.Stop.{Stop}
 use Rattle.fz_base.specs.declared.failure.Stop.TheVariants.{ReadFault as StopRead, WriteFault as StopWrite, OverLimit as StopLimit, NoMemory as StopMemory}
 use Rattle.fz_files.specs.Buffers.{job_bound, job_takings}
-use Rattle.fz_pack.specs.Clauses.{Answers, IsUnmade, TellsFirstFault, greatest_bound}
+use Rattle.fz_job.specs.Clauses.{Answers, IsUnmade, TellsFirstFault, greatest_bound}
 use Rattle.fz_words.specs.Jobs.{Asked}
 use Rattle.fz_app.specs.Asked.{limit_of}
-use Rattle.fz_app.specs.Outputs.{HoldsOutput, HoldsRestorable, IsFinished, IsWhole}
+use Rattle.fz_app.specs.Outputs.{HoldsJobOutput, JobRestores, IsFinished, IsWhole}
 
 -- what source, sink and meter tell
 pub record Ends : Type 0 where
@@ -31,8 +31,8 @@ IsSameSink old new = (new.created ≡ old.created) × (new.contents ≡ old.cont
 
 -- what a job promises of its answer to what the words ask for
 pub record IsPromised (asked : Asked) (old new : Ends) (answer : Result ⊤ Stop) : Type 0 where
-  pub restored : OnOk answer (HoldsRestorable asked.job old.held new.contents)
-  pub output : OnOk answer (HoldsOutput asked.job old.held new.contents × IsFinished asked.job new.finished)
+  pub restored : OnOk answer (JobRestores asked.job old.held new.contents)
+  pub output : OnOk answer (HoldsJobOutput asked.job old.held new.contents × IsFinished asked.job new.finished)
   pub first_fault : TellsFirstFault asked.job old.held answer
   pub answered : Answers asked.job old.held old.source new.source old.sink new.sink (limit_of asked old.meter.limit) asked.workers answer
   pub first_byte : OnErr answer (IsShut new.contents ⊎ (IsWhole asked.job old.held new.contents × (IsErrOf answer StopWrite ⊎ IsErrOf answer StopMemory)))

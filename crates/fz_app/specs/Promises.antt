@@ -9,29 +9,30 @@ use Rattle.fz_files.specs.Buffers.{job_bound}
 use Rattle.fz_files.specs.FirstFault.{IsFirstFault}
 use Rattle.fz_files.specs.declared.job.Job.{Job}
 use Rattle.fz_files.specs.declared.job.Job.TheVariants.{Pack, Unpack, Cut, Verify, List as ListHdus, Drill}
-use Rattle.fz_pack.specs.Clauses.{TellsFirstFault, greatest_bound}
-use Rattle.fz_app.specs.Answer.{IfAnswered}
+use Rattle.fz_job.specs.Clauses.{TellsFirstFault, greatest_bound}
+use Rattle.fz_app.specs.Answer.{IfRan}
 use Rattle.fz_app.specs.Asked.{IfAsked, limit_of}
-use Rattle.fz_app.specs.Outputs.{HoldsOutput, HoldsRestorable, IsFinished, IsWhole}
+use Rattle.fz_app.specs.Outputs.{HoldsJobOutput, JobRestores, IsFinished, IsWhole}
 use Rattle.fz_app.specs.declared.status.Status.{Status}
 use Rattle.fz_app.specs.declared.status.Status.TheVariants.{Done, Different, Refused, NoMemory}
 
 -- Output: after a job that was done the sink holds what the job writes for the bytes of the source, and was finished.
 abbrev pub HasOutput : List (List ℕ) → Option (List ℕ) → Option (List ℕ) → Bool → Status → Type 0
 HasOutput words held contents finished status =
-    IfAnswered words status (λ asked answer. OnOk answer (HoldsOutput asked.job held contents × IsFinished asked.job finished))
+    IfRan words status (λ asked answer. OnOk answer (HoldsJobOutput asked.job held contents × IsFinished asked.job finished))
 
--- Restored: after a file was packed, the sink holds one that stands for the bytes of the source: unpacking it gives them again.
+-- Restored: after a file was packed the sink holds one that stands for the bytes of the source, and after a packed file of a plain file was
+-- unpacked it holds the plain file.
 abbrev pub IsRestored : List (List ℕ) → Option (List ℕ) → Option (List ℕ) → Status → Type 0
-IsRestored words held contents status = IfAnswered words status (λ asked answer. OnOk answer (HoldsRestorable asked.job held contents))
+IsRestored words held contents status = IfRan words status (λ asked answer. OnOk answer (JobRestores asked.job held contents))
 
 -- First fault: after a job that was done the file has none, and one that is refused is refused for its first.
 abbrev pub HasFirstFault : List (List ℕ) → Option (List ℕ) → Status → Type 0
-HasFirstFault words held status = IfAnswered words status (λ asked answer. TellsFirstFault asked.job held answer)
+HasFirstFault words held status = IfRan words status (λ asked answer. TellsFirstFault asked.job held answer)
 
 -- Buffers: nothing is live, the limit is that of the meter or of the words, and the peak is at most that and at most the
 -- bound of the job.
-pub record AreBounded (words : List (List ℕ)) (held : Option (List ℕ)) (old new : Gauge) : Type 0 where
+pub record BuffersAreBounded (words : List (List ℕ)) (held : Option (List ℕ)) (old new : Gauge) : Type 0 where
   pub live : new.live ≡ 0
   pub within : new.peak ≤ new.limit
   pub limit : IfAsked words (λ asked. new.limit ≡ limit_of asked old.limit)
@@ -42,7 +43,7 @@ pub record AreBounded (words : List (List ℕ)) (held : Option (List ℕ)) (old 
 -- output of the job, and then the answer is WriteFault or NoMemory.
 abbrev pub HasFirstByteLast : List (List ℕ) → Option (List ℕ) → Option (List ℕ) → Status → Type 0
 HasFirstByteLast words held contents status =
-    IfAnswered words status (λ asked answer. OnErr answer (IsShut contents ⊎ (IsWhole asked.job held contents × (IsErrOf answer StopWrite ⊎ IsErrOf answer StopMemory))))
+    IfRan words status (λ asked answer. OnErr answer (IsShut contents ⊎ (IsWhole asked.job held contents × (IsErrOf answer StopWrite ⊎ IsErrOf answer StopMemory))))
 
 -- a job that is done ends so
 abbrev pub IsDone : Job → Status → Type 0

@@ -39,7 +39,6 @@ pub(crate) fn kind_name(kind: Kind) -> &'static str
         Kind::NotPacked => "NotPacked",
         Kind::OutOfBox => "OutOfBox",
         Kind::PlioOffset => "PlioOffset",
-        Kind::Unbuilt => "Unbuilt",
         Kind::Unpatchable => "Unpatchable",
         Kind::BadPatch => "BadPatch",
     }

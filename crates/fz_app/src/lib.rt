@@ -8,8 +8,6 @@ mod kind_name;
 mod line;
 mod run_job;
 mod status;
-#[cfg(test)]
-mod tests;
 
 pub use run_job::run;
 pub use status::Status;

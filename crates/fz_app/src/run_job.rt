@@ -1,28 +1,32 @@
 //! The top call: it does all that the program does.
-ghost use Rattle.std.specs.Prelude.{◌≡◌, ◌≢◌, ◌≤◌, [], Some, IfSome};
-ghost use Rattle.fz_files.specs.declared.job.Job.TheVariants.{Pack};
+ghost use Rattle.std.specs.Prelude.{◌≡◌, ◌≢◌, ◌≤◌, ◌^◌, [], Some, IfOk, IfSome};
+ghost use Rattle.fz_files.specs.declared.job.Job.TheVariants.{Pack, Unpack};
 ghost use Rattle.fz_head.specs.Planned.{AreOptions};
 ghost use Rattle.fz_words.specs.Lawful.{IsLawful};
 ghost use Rattle.fz_words.specs.Parts.{texts_of};
 ghost use Rattle.fz_words.specs.Seen.{asked_of};
 ghost use Rattle.fz_base.specs.Counts.{CountsKept};
+ghost use Rattle.fz_base.specs.Meter.{narrowed};
+ghost use Rattle.fz_base.specs.Source.{HoldsLength};
+ghost use Rattle.fz_base.specs.Stop.{Codes};
 ghost use Rattle.fz_base.specs.Told.{StaysTold};
 ghost use Rattle.fz_app.specs.Answer.{IsPromisedTo};
 ghost use Rattle.fz_app.specs.Asked.{asked_for, if_built};
 ghost use Rattle.fz_app.specs.Causes.{AreCountsKept, DoneHasCause, IsUnmadeFor, IsUsage, OverLimitHasCause, ReadFaultHasCause, RefusedHasCause, WriteFaultHasCause};
 ghost use Rattle.fz_app.specs.Lines.{status_line, GotLine};
 ghost use Rattle.fz_app.specs.Promised.{IsPromised};
-ghost use Rattle.fz_app.specs.Promises.{AreBounded, HasFirstByteLast, HasFirstFault, HasOutput, IsComplete, IsRestored};
+ghost use Rattle.fz_app.specs.Promises.{BuffersAreBounded, HasFirstByteLast, HasFirstFault, HasOutput, IsComplete, IsRestored};
 ghost use Rattle.fz_app.specs.declared.status.Status.TheVariants.{Different, Usage as IsUsageStatus};
 
 use crate::line::line_of;
 use crate::status::{Status, ended};
 use fz_base::{Gate, Meter, Sink, Source, Stop, Text};
-use fz_files::{Job, one_first_fault_law};
+use fz_files::{Job, one_file_law, one_first_fault_law};
 use fz_head::PackOptions;
 use fz_pack::pack;
 use fz_pool::Window;
 use fz_round_trip::round_trip_law;
+use fz_unpack::unpack;
 use fz_words::{Request, Usage, read_words};
 use std::alloc::Global;
 use std::thread::Threads;
@@ -48,7 +52,7 @@ pub fn run<R: Threads + Sync, S: Source, K: Sink, T: Text, G: Gate>(
     ensures output { HasOutput (texts_of words.now) (S.held source.old) (K.contents sink.new) (K.finished sink.new) result }
     ensures restored { IsRestored (texts_of words.now) (S.held source.old) (K.contents sink.new) result }
     ensures first_fault { HasFirstFault (texts_of words.now) (S.held source.old) result }
-    ensures buffers { AreBounded (texts_of words.now) (S.held source.old) meter.old meter.new }
+    ensures buffers { BuffersAreBounded (texts_of words.now) (S.held source.old) meter.old meter.new }
     ensures first_byte { HasFirstByteLast (texts_of words.now) (S.held source.old) (K.contents sink.new) result }
     ensures text { GotLine (status_line result) (T.contents text.old) (T.contents text.new) (T.tally text.old) (T.tally text.new) }
     ensures complete { IsComplete (texts_of words.now) (S.held source.old) (S.tally source.old) (S.tally source.new) (K.tally sink.old) (K.tally sink.new) meter.old.limit result }
@@ -118,9 +122,8 @@ fn run_request<R: Threads + Sync, S: Source, K: Sink, G: Gate>(
         Job::Pack(options) => ended(run_pack(
             rt, alloc, request, options, source, sink, gate, meter,
         )),
-        Job::Unpack | Job::Cut { .. } | Job::Verify | Job::List | Job::Drill { .. } => {
-            Status::Usage
-        }
+        Job::Unpack => ended(run_unpack(rt, alloc, request, source, sink, gate, meter)),
+        Job::Cut { .. } | Job::Verify | Job::List | Job::Drill { .. } => Status::Usage,
     }
 }
 
@@ -144,9 +147,7 @@ fn run_pack<R: Threads + Sync, S: Source, K: Sink, G: Gate>(
 {
     // What is packed comes back.
     round_trip_law();
-    meter.narrow(request.memory);
-    let length = source.attach(request.input).map_err(Stop::reading)?;
-    let mut window = Window::new(alloc, request.workers).map_err(|_| Stop::NoMemory)?;
+    let (length, mut window) = begin(alloc, request, source, meter)?;
     let output = request.output;
     pack(
         rt,
@@ -159,6 +160,53 @@ fn run_pack<R: Threads + Sync, S: Source, K: Sink, G: Gate>(
         gate,
         options,
     )
+}
+
+// Unpacks the file IN into OUT.
+fn run_unpack<R: Threads + Sync, S: Source, K: Sink, G: Gate>(
+    rt: &R,
+    alloc: Global,
+    request: &Request<'_>,
+    source: &mut S,
+    sink: &mut K,
+    gate: &G,
+    meter: &mut Meter,
+) -> Result<(), Stop>
+    requires job { request.now.job ≡ Unpack }
+    requires workers { (1 ≤ request.now.workers) × (request.now.workers ≤ 64) }
+    requires empty { IfSome (K.contents sink.old) (λ c. c ≡ []) }
+    requires unused { (meter.old.live ≡ 0) × (meter.old.peak ≡ 0) }
+    ensures promised { IsPromised (asked_of request.now) (record { held = S.held source.old; ranges = S.ranges source.old; source = S.tally source.old; contents = K.contents sink.old; created = K.created sink.old; finished = K.finished sink.old; sink = K.tally sink.old; meter = meter.old }) (record { held = S.held source.new; ranges = S.ranges source.new; source = S.tally source.new; contents = K.contents sink.new; created = K.created sink.new; finished = K.finished sink.new; sink = K.tally sink.new; meter = meter.new }) result }
+{
+    // What was packed comes back, and a packed file stands for one file.
+    round_trip_law();
+    one_file_law();
+    let (length, mut window) = begin(alloc, request, source, meter)?;
+    let output = request.output;
+    unpack(rt, source, length, output, sink, meter, &mut window, gate)
+}
+
+// What comes before each job: the meter is narrowed to the limit of the words, IN is attached, and there is an empty window for
+// the workers. Answers the length of IN and the window.
+fn begin<S: Source>(
+    alloc: Global,
+    request: &Request<'_>,
+    source: &mut S,
+    meter: &mut Meter,
+) -> Result<(u64, Window), Stop>
+    requires workers { (1 ≤ request.now.workers) × (request.now.workers ≤ 64) }
+    requires unused { (meter.old.live ≡ 0) × (meter.old.peak ≡ 0) }
+    ensures attached { IfOk result (λ begun. (S.attached source.new ≡ Some begun.0) × (begun.0 ≤ 2 ^ 62) × HoldsLength (S.held source.old) begun.0) }
+    ensures window { IfOk result (λ begun. begun.1 ≡ record { slots = []; workers = request.now.workers }) }
+    ensures narrowed { meter.new ≡ narrowed meter.old request.now.memory }
+    ensures held { S.held source.new ≡ S.held source.old }
+    ensures ranges { S.ranges source.new ≡ S.ranges source.old }
+    ensures cause { Codes (S.tally source.old) (S.tally source.new) result }
+{
+    meter.narrow(request.memory);
+    let length = source.attach(request.input).map_err(Stop::reading)?;
+    let window = Window::new(alloc, request.workers).map_err(|_| Stop::NoMemory)?;
+    Ok((length, window))
 }
 
 // Puts the line of the status, if it has one. If that fails, nothing else can be told.

@@ -8,13 +8,13 @@ use Rattle.fz_app.proofs.run_job.run_pack.Goals as goal
 
 pub returns : goal.returns
 returns g c =
-    let held : g.S.Source.held c.attach.new.self ≡ g.S.Source.held c.args.source.now = c.attach.ensures.held in
-    let ranges : g.S.Source.ranges c.attach.new.self ≡ g.S.Source.ranges c.args.source.now = c.attach.ensures.ranges in
-    let tally : g.S.Source.tally c.attach.new.self ≡ g.S.Source.tally c.args.source.now = search rules in
-    let meter : c.narrow.new.self ≡ narrowed c.args.meter.now c.args.request.now.memory = c.narrow.ensures in
-    let limit : c.narrow.new.self.limit ≡ min c.args.meter.now.limit c.args.request.now.memory = ap (λ (m : Gauge). m.limit) meter in
-    let none : c.narrow.new.self.peak ≡ 0 = search rules in
-    let workers : c.in_ok-window.window.workers ≡ c.args.request.now.workers = search rules in
+    let held : g.S.Source.held c.begin.new.source ≡ g.S.Source.held c.args.source.now = c.begin.ensures.held in
+    let ranges : g.S.Source.ranges c.begin.new.source ≡ g.S.Source.ranges c.args.source.now = c.begin.ensures.ranges in
+    let tally : g.S.Source.tally c.begin.new.source ≡ g.S.Source.tally c.args.source.now = c.in_ok-length.ensures.cause.ok in
+    let meter : c.begin.new.meter ≡ narrowed c.args.meter.now c.args.request.now.memory = c.begin.ensures.narrowed in
+    let limit : c.begin.new.meter.limit ≡ min c.args.meter.now.limit c.args.request.now.memory = ap (λ (m : Gauge). m.limit) meter in
+    let none : c.begin.new.meter.peak ≡ 0 = search rules in
+    let workers : c.in_ok-length.window.workers ≡ c.args.request.now.workers = search rules in
     let old : Ends = record { held = g.S.Source.held c.args.source.now; ranges = g.S.Source.ranges c.args.source.now; source = g.S.Source.tally c.args.source.now; contents = g.K.Sink.contents c.args.sink.now; created = g.K.Sink.created c.args.sink.now; finished = g.K.Sink.finished c.args.sink.now; sink = g.K.Sink.tally c.args.sink.now; meter = c.args.meter.now } in
     let new : Ends = record { held = g.S.Source.held c.pack.new.source; ranges = g.S.Source.ranges c.pack.new.source; source = g.S.Source.tally c.pack.new.source; contents = g.K.Sink.contents c.pack.new.sink; created = g.K.Sink.created c.pack.new.sink; finished = g.K.Sink.finished c.pack.new.sink; sink = g.K.Sink.tally c.pack.new.sink; meter = c.pack.new.meter } in
     record {

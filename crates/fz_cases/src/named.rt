@@ -6,14 +6,14 @@ use fz_base::{Failed, MemSink, MemSource, Sink, Source};
 
 /// A source in memory with a name. It tells no bytes to contracts, as a real file does.
 #[derive(Drop)]
-pub(crate) struct NamedSource {
+pub struct NamedSource {
     source: MemSource,
     name: &'static str,
     faults: u64,
 }
 
 impl NamedSource {
-    pub(crate) fn new(source: MemSource, name: &'static str) -> NamedSource {
+    pub fn new(source: MemSource, name: &'static str) -> NamedSource {
         NamedSource {
             source,
             name,
@@ -22,7 +22,7 @@ impl NamedSource {
     }
 
     /// How often a call failed.
-    pub(crate) fn faults(&self) -> u64 {
+    pub fn faults(&self) -> u64 {
         self.faults
     }
 }
@@ -63,14 +63,14 @@ impl Source for NamedSource {
 
 /// A sink in memory with a name.
 #[derive(Drop)]
-pub(crate) struct NamedSink {
+pub struct NamedSink {
     sink: MemSink,
     name: &'static str,
     faults: u64,
 }
 
 impl NamedSink {
-    pub(crate) fn new(sink: MemSink, name: &'static str) -> NamedSink
+    pub fn new(sink: MemSink, name: &'static str) -> NamedSink
         requires empty { ⟦<MemSink as Sink>⟧.contents sink ≡ Some [] }
         ensures empty { ⟦<NamedSink as Sink>⟧.contents result ≡ Some [] }
     {
@@ -82,12 +82,12 @@ impl NamedSink {
     }
 
     /// What was written.
-    pub(crate) fn contents(&self) -> &[u8] {
+    pub fn contents(&self) -> &[u8] {
         self.sink.contents()
     }
 
     /// How often a call failed.
-    pub(crate) fn faults(&self) -> u64 {
+    pub fn faults(&self) -> u64 {
         self.faults
     }
 }

@@ -1,10 +1,11 @@
 //! Images in tiles, and what they are packed into.
-use super::files::{Hdu, Row};
-use super::small::EMPTY_PRIMARY;
+use crate::files::{Case, Hdu};
+use crate::small::{EMPTY_PRIMARY, EMPTY_PRIMARY_HDU};
 
-pub(crate) const ROWS: [Row<'static>; 6] = [
+/// Images in tiles of several shapes.
+pub const CASES: [Case<'static>; 6] = [
     // tiles of 2 by 2, cut short at the upper ends
-    Row {
+    Case {
         options: &["--codec", "none", "--tile", "2,2"],
         plain: &[Hdu {
             cards: &GRID,
@@ -25,7 +26,7 @@ pub(crate) const ROWS: [Row<'static>; 6] = [
         ],
     },
     // lengths beyond the axes are ignored
-    Row {
+    Case {
         options: &["--codec", "none", "--tile", "2,2,7"],
         plain: &[Hdu {
             cards: &GRID,
@@ -46,7 +47,7 @@ pub(crate) const ROWS: [Row<'static>; 6] = [
         ],
     },
     // tiles of 2 by 2 with sums
-    Row {
+    Case {
         options: &["--codec", "none", "--tile", "2,2", "--sums"],
         plain: &[Hdu {
             cards: &GRID,
@@ -67,7 +68,7 @@ pub(crate) const ROWS: [Row<'static>; 6] = [
         ],
     },
     // a tile that is longer than the image is cut to it
-    Row {
+    Case {
         options: &["--codec", "none", "--tile", "9,2147483647"],
         plain: &[Hdu {
             cards: &GRID,
@@ -88,7 +89,7 @@ pub(crate) const ROWS: [Row<'static>; 6] = [
         ],
     },
     // an axis that is not named gets 1
-    Row {
+    Case {
         options: &["--codec", "none", "--tile", "3"],
         plain: &[Hdu {
             cards: &GRID,
@@ -111,7 +112,7 @@ pub(crate) const ROWS: [Row<'static>; 6] = [
         ],
     },
     // three axes
-    Row {
+    Case {
         options: &["--codec", "none", "--tile", "2,2"],
         plain: &[Hdu {
             cards: &CUBE,
@@ -134,7 +135,7 @@ pub(crate) const ROWS: [Row<'static>; 6] = [
 ];
 
 /// The grid file: 5 by 3 pixels of 8 bits.
-pub(crate) const GRID: [&str; 5] = [
+pub const GRID: [&str; 5] = [
     "SIMPLE  =                    T",
     "BITPIX  =                    8",
     "NAXIS   =                    2",
@@ -143,18 +144,18 @@ pub(crate) const GRID: [&str; 5] = [
 ];
 
 /// The pixels 1 to 15.
-pub(crate) const GRID_PIXELS: [u8; 15] = [1, 2, 3, 4, 5, 6, 7, 8, 9, 10, 11, 12, 13, 14, 15];
+pub const GRID_PIXELS: [u8; 15] = [1, 2, 3, 4, 5, 6, 7, 8, 9, 10, 11, 12, 13, 14, 15];
 
 /// The same in tiles of 2 by 2.
-pub(crate) const GRID_TILES: [u8; 15] = [1, 2, 6, 7, 3, 4, 8, 9, 5, 10, 11, 12, 13, 14, 15];
+pub const GRID_TILES: [u8; 15] = [1, 2, 6, 7, 3, 4, 8, 9, 5, 10, 11, 12, 13, 14, 15];
 
 /// The rows of its table: those of the tiles 2 by 2, 2 by 2, 1 by 2, 2 by 1, 2 by 1 and 1 by 1.
-pub(crate) const GRID_ROWS: [u32; 24] = [
+pub const GRID_ROWS: [u32; 24] = [
     0, 0, 4, 0, 0, 0, 4, 4, 0, 0, 2, 8, 0, 0, 2, 10, 0, 0, 2, 12, 0, 0, 1, 14,
 ];
 
 /// Its table in stored tiles of 2 by 2.
-pub(crate) const GRID_TABLE: [&str; 21] = [
+pub const GRID_TABLE: [&str; 21] = [
     "XTENSION= 'BINTABLE'",
     "BITPIX  =                    8",
     "NAXIS   =                    2",
@@ -179,7 +180,7 @@ pub(crate) const GRID_TABLE: [&str; 21] = [
 ];
 
 /// The same with sums, which other means computed.
-pub(crate) const GRID_SUMS: [&str; 23] = [
+pub const GRID_SUMS: [&str; 23] = [
     "XTENSION= 'BINTABLE'",
     "BITPIX  =                    8",
     "NAXIS   =                    2",
@@ -206,7 +207,7 @@ pub(crate) const GRID_SUMS: [&str; 23] = [
 ];
 
 /// The same in one tile.
-pub(crate) const GRID_WHOLE: [&str; 21] = [
+pub const GRID_WHOLE: [&str; 21] = [
     "XTENSION= 'BINTABLE'",
     "BITPIX  =                    8",
     "NAXIS   =                    2",
@@ -231,7 +232,7 @@ pub(crate) const GRID_WHOLE: [&str; 21] = [
 ];
 
 /// The same in tiles of 3 by 1.
-pub(crate) const GRID_THREES: [&str; 21] = [
+pub const GRID_THREES: [&str; 21] = [
     "XTENSION= 'BINTABLE'",
     "BITPIX  =                    8",
     "NAXIS   =                    2",
@@ -256,7 +257,7 @@ pub(crate) const GRID_THREES: [&str; 21] = [
 ];
 
 /// 2 by 3 by 2 pixels.
-pub(crate) const CUBE: [&str; 6] = [
+pub const CUBE: [&str; 6] = [
     "SIMPLE  =                    T",
     "BITPIX  =                    8",
     "NAXIS   =                    3",
@@ -266,7 +267,7 @@ pub(crate) const CUBE: [&str; 6] = [
 ];
 
 /// Its table in tiles of 2 by 2 by 1.
-pub(crate) const CUBE_TABLE: [&str; 23] = [
+pub const CUBE_TABLE: [&str; 23] = [
     "XTENSION= 'BINTABLE'",
     "BITPIX  =                    8",
     "NAXIS   =                    2",
@@ -290,4 +291,21 @@ pub(crate) const CUBE_TABLE: [&str; 23] = [
     "ZNAXIS1 =                    2",
     "ZNAXIS2 =                    3",
     "ZNAXIS3 =                    2",
+];
+
+/// The grid file.
+pub const GRID_FILE: Hdu<'static> = Hdu {
+    cards: &GRID,
+    numbers: &[],
+    bytes: &GRID_PIXELS,
+};
+
+/// The grid file, packed in stored tiles of 2 by 2.
+pub const GRID_PACKED: [Hdu<'static>; 2] = [
+    EMPTY_PRIMARY_HDU,
+    Hdu {
+        cards: &GRID_TABLE,
+        numbers: &GRID_ROWS,
+        bytes: &GRID_TILES,
+    },
 ];

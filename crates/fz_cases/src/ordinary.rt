@@ -1,11 +1,7 @@
 //! A file of ordinary size: 2,048 rows of 2,048 pixels.
-use super::files::{fill_block, put_header};
-use super::small::EMPTY_PRIMARY;
-use super::{FREE, outcome_of, to_pack};
-use crate::Status;
-use fz_base::FreeGate;
+use crate::files::{fill_block, put_header};
+use crate::small::EMPTY_PRIMARY;
 use std::alloc::{AllocError, Global};
-use std::test::Fail;
 
 /// The cards of the image: pixels without signs, and sums.
 const CARDS: [&str; 13] = [
@@ -62,7 +58,7 @@ const TABLE: [&str; 33] = [
 ];
 
 /// The image: each pixel is 100.
-fn plain_file(alloc: Global) -> Result<Vec<u8>, AllocError> {
+pub fn plain_file(alloc: Global) -> Result<Vec<u8>, AllocError> {
     let mut file = Vec::with_capacity(alloc, 8_392_320)?;
     put_header(&mut file, &CARDS)?;
     let mut row = Vec::new(alloc);
@@ -77,7 +73,7 @@ fn plain_file(alloc: Global) -> Result<Vec<u8>, AllocError> {
 }
 
 /// The packed file: the code of each row is its first pixel, and the ids of 64 blocks whose differences are all 0.
-fn packed_file(alloc: Global) -> Result<Vec<u8>, AllocError> {
+pub fn packed_file(alloc: Global) -> Result<Vec<u8>, AllocError> {
     let mut file = Vec::with_capacity(alloc, 109_440)?;
     put_header(&mut file, &EMPTY_PRIMARY)?;
     put_header(&mut file, &TABLE)?;
@@ -95,50 +91,4 @@ fn packed_file(alloc: Global) -> Result<Vec<u8>, AllocError> {
     }
     fill_block(&mut file, 0)?;
     Ok(file)
-}
-
-#[test]
-fn ordinary_file_is_packed_within_its_bound(rt: HostRuntime) -> Result<(), Fail> {
-    let plain = plain_file(rt.alloc())?;
-    assert_eq!(rt; plain.len(), 8_392_320);
-    let packed = packed_file(rt.alloc())?;
-    assert_eq!(rt; packed.len(), 109_440);
-    let words = to_pack(rt.alloc(), &["--memory=142720"], &[])?;
-    let outcome = outcome_of(&rt, &words, &plain, FREE, &FreeGate)?;
-    assert_eq!(rt; outcome.status, Status::Done);
-    assert!(rt; outcome.sink.contents() == packed.as_slice());
-    assert!(rt; outcome.peak <= 142_720);
-    assert_eq!(rt; outcome.live, 0);
-    Ok(())
-}
-
-#[test]
-fn ordinary_file_is_packed_by_four_workers(rt: HostRuntime) -> Result<(), Fail> {
-    let plain = plain_file(rt.alloc())?;
-    let packed = packed_file(rt.alloc())?;
-    let words = to_pack(rt.alloc(), &["--memory=339712", "--workers=4"], &[])?;
-    let outcome = outcome_of(&rt, &words, &plain, FREE, &FreeGate)?;
-    assert_eq!(rt; outcome.status, Status::Done);
-    assert!(rt; outcome.sink.contents() == packed.as_slice());
-    assert!(rt; outcome.peak <= 339_712);
-    Ok(())
-}
-
-#[test]
-fn ordinary_file_stops_below_its_bound(rt: HostRuntime) -> Result<(), Fail> {
-    let plain = plain_file(rt.alloc())?;
-    for (option, line) in [
-        (
-            "--memory=142719",
-            "over limit: live 77184 asked 65536 limit 142719\n",
-        ),
-        ("--memory=1", "over limit: live 0 asked 2880 limit 1\n"),
-        ("--codec=plio", "refused: 29 PlioOffset hdu 0 card 6\n"),
-    ] {
-        let words = to_pack(rt.alloc(), &[option], &[])?;
-        let outcome = outcome_of(&rt, &words, &plain, FREE, &FreeGate)?;
-        assert_eq!(rt; outcome.text.contents(), line.as_bytes());
-        assert_eq!(rt; outcome.sink.contents(), b"".as_slice());
-    }
-    Ok(())
 }

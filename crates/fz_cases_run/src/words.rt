@@ -1,9 +1,9 @@
 //! Words, statuses and lines.
-use super::files::file_of;
-use super::small::SMALL_FILE;
-use super::{Conditions, FREE, outcome_of};
-use crate::Status;
+use fz_app::Status;
 use fz_base::{Fault, FreeGate, Kind, Place};
+use fz_cases::files::file_of;
+use fz_cases::runs::{Conditions, FREE, outcome_of};
+use fz_cases::small::SMALL_FILE;
 use std::test::Fail;
 
 const USAGE: &str = "usage: fz pack, unpack, cut, verify, list or drill\n";
@@ -31,7 +31,7 @@ fn statuses_have_numbers(rt: HostRuntime) {
 }
 
 /// Words that are outside the grammar; and at the end those that ask for jobs that are not built.
-const OTHERS: [&[&str]; 27] = [
+const OTHERS: [&[&str]; 30] = [
     &[],
     &["pack"],
     &["pack", "IN"],
@@ -55,9 +55,12 @@ const OTHERS: [&[&str]; 27] = [
     &["--help"],
     &["help"],
     &["--version"],
-    &["unpack", "IN", "OUT"],
+    &["unpack", "IN"],
+    &["unpack", "--sums", "IN", "OUT"],
+    &["unpack", "--block", "32", "IN", "OUT"],
     &["cut", "--box", "1:2", "IN", "OUT"],
     &["verify", "IN"],
+    &["list", "IN"],
     &["drill", "1"],
 ];
 

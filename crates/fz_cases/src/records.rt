@@ -1,10 +1,11 @@
 //! Tiles and their records, and what they are packed into.
-use super::files::{Hdu, Row};
-use super::small::EMPTY_PRIMARY;
+use crate::files::{Case, Hdu};
+use crate::small::{EMPTY_PRIMARY, EMPTY_PRIMARY_HDU};
 
-pub(crate) const ROWS: [Row<'static>; 12] = [
+/// Images of one tile: with every codec, of every size of a pixel, as codes and stored.
+pub const CASES: [Case<'static>; 12] = [
     // Rice at 16 bits: 1000, 1000, 1003
-    Row {
+    Case {
         options: &[],
         plain: &[Hdu {
             cards: &LINE,
@@ -25,7 +26,7 @@ pub(crate) const ROWS: [Row<'static>; 12] = [
         ],
     },
     // Rice at 32 bits: four times 5
-    Row {
+    Case {
         options: &[],
         plain: &[Hdu {
             cards: &FIVES,
@@ -46,7 +47,7 @@ pub(crate) const ROWS: [Row<'static>; 12] = [
         ],
     },
     // Rice at 8 bits: differences wrap
-    Row {
+    Case {
         options: &[],
         plain: &[Hdu {
             cards: &OCTETS,
@@ -67,7 +68,7 @@ pub(crate) const ROWS: [Row<'static>; 12] = [
         ],
     },
     // a code that is not shorter than the pixels is not taken: 0, -32768
-    Row {
+    Case {
         options: &[],
         plain: &[Hdu {
             cards: &PAIR,
@@ -88,7 +89,7 @@ pub(crate) const ROWS: [Row<'static>; 12] = [
         ],
     },
     // Rice at 16 bits: -32768, 32767
-    Row {
+    Case {
         options: &[],
         plain: &[Hdu {
             cards: &PAIR,
@@ -109,7 +110,7 @@ pub(crate) const ROWS: [Row<'static>; 12] = [
         ],
     },
     // a code of the same length is not taken
-    Row {
+    Case {
         options: &[],
         plain: &[Hdu {
             cards: &ONE,
@@ -130,7 +131,7 @@ pub(crate) const ROWS: [Row<'static>; 12] = [
         ],
     },
     // a line list: counts are in words
-    Row {
+    Case {
         options: &["--codec", "plio"],
         plain: &[Hdu {
             cards: &HUNDRED,
@@ -151,7 +152,7 @@ pub(crate) const ROWS: [Row<'static>; 12] = [
         ],
     },
     // a line list that is not shorter is not taken
-    Row {
+    Case {
         options: &["--codec", "plio"],
         plain: &[Hdu {
             cards: &FEW,
@@ -172,7 +173,7 @@ pub(crate) const ROWS: [Row<'static>; 12] = [
         ],
     },
     // a negative number has no line list
-    Row {
+    Case {
         options: &["--codec", "plio"],
         plain: &[Hdu {
             cards: &HUNDRED,
@@ -193,7 +194,7 @@ pub(crate) const ROWS: [Row<'static>; 12] = [
         ],
     },
     // 64 bits are stored
-    Row {
+    Case {
         options: &["--codec", "rice"],
         plain: &[Hdu {
             cards: &LONGS,
@@ -218,7 +219,7 @@ pub(crate) const ROWS: [Row<'static>; 12] = [
         ],
     },
     // 64 bits are stored
-    Row {
+    Case {
         options: &["--codec", "plio"],
         plain: &[Hdu {
             cards: &LONGS,
@@ -243,7 +244,7 @@ pub(crate) const ROWS: [Row<'static>; 12] = [
         ],
     },
     // 64 bits are stored
-    Row {
+    Case {
         options: &["--codec", "none"],
         plain: &[Hdu {
             cards: &LONGS,
@@ -270,7 +271,7 @@ pub(crate) const ROWS: [Row<'static>; 12] = [
 ];
 
 /// Three pixels of 16 bits.
-pub(crate) const LINE: [&str; 4] = [
+pub const LINE: [&str; 4] = [
     "SIMPLE  =                    T",
     "BITPIX  =                   16",
     "NAXIS   =                    1",
@@ -278,7 +279,7 @@ pub(crate) const LINE: [&str; 4] = [
 ];
 
 /// Their table in a Rice code.
-pub(crate) const LINE_TABLE: [&str; 23] = [
+pub const LINE_TABLE: [&str; 23] = [
     "XTENSION= 'BINTABLE'",
     "BITPIX  =                    8",
     "NAXIS   =                    2",
@@ -305,7 +306,7 @@ pub(crate) const LINE_TABLE: [&str; 23] = [
 ];
 
 /// Four pixels of 32 bits.
-pub(crate) const FIVES: [&str; 4] = [
+pub const FIVES: [&str; 4] = [
     "SIMPLE  =                    T",
     "BITPIX  =                   32",
     "NAXIS   =                    1",
@@ -313,7 +314,7 @@ pub(crate) const FIVES: [&str; 4] = [
 ];
 
 /// Their table in a Rice code.
-pub(crate) const FIVES_TABLE: [&str; 23] = [
+pub const FIVES_TABLE: [&str; 23] = [
     "XTENSION= 'BINTABLE'",
     "BITPIX  =                    8",
     "NAXIS   =                    2",
@@ -340,7 +341,7 @@ pub(crate) const FIVES_TABLE: [&str; 23] = [
 ];
 
 /// Four pixels of 8 bits.
-pub(crate) const OCTETS: [&str; 4] = [
+pub const OCTETS: [&str; 4] = [
     "SIMPLE  =                    T",
     "BITPIX  =                    8",
     "NAXIS   =                    1",
@@ -348,7 +349,7 @@ pub(crate) const OCTETS: [&str; 4] = [
 ];
 
 /// Their table in a Rice code.
-pub(crate) const OCTETS_TABLE: [&str; 23] = [
+pub const OCTETS_TABLE: [&str; 23] = [
     "XTENSION= 'BINTABLE'",
     "BITPIX  =                    8",
     "NAXIS   =                    2",
@@ -375,7 +376,7 @@ pub(crate) const OCTETS_TABLE: [&str; 23] = [
 ];
 
 /// Two pixels of 16 bits.
-pub(crate) const PAIR: [&str; 4] = [
+pub const PAIR: [&str; 4] = [
     "SIMPLE  =                    T",
     "BITPIX  =                   16",
     "NAXIS   =                    1",
@@ -383,7 +384,7 @@ pub(crate) const PAIR: [&str; 4] = [
 ];
 
 /// Their table, whose tile is stored under RICE_1.
-pub(crate) const PAIR_TABLE: [&str; 23] = [
+pub const PAIR_TABLE: [&str; 23] = [
     "XTENSION= 'BINTABLE'",
     "BITPIX  =                    8",
     "NAXIS   =                    2",
@@ -410,7 +411,7 @@ pub(crate) const PAIR_TABLE: [&str; 23] = [
 ];
 
 /// Their table in a Rice code.
-pub(crate) const PAIR_CODED: [&str; 23] = [
+pub const PAIR_CODED: [&str; 23] = [
     "XTENSION= 'BINTABLE'",
     "BITPIX  =                    8",
     "NAXIS   =                    2",
@@ -437,7 +438,7 @@ pub(crate) const PAIR_CODED: [&str; 23] = [
 ];
 
 /// One pixel of 8 bits.
-pub(crate) const ONE: [&str; 4] = [
+pub const ONE: [&str; 4] = [
     "SIMPLE  =                    T",
     "BITPIX  =                    8",
     "NAXIS   =                    1",
@@ -445,7 +446,7 @@ pub(crate) const ONE: [&str; 4] = [
 ];
 
 /// Its table.
-pub(crate) const ONE_TABLE: [&str; 23] = [
+pub const ONE_TABLE: [&str; 23] = [
     "XTENSION= 'BINTABLE'",
     "BITPIX  =                    8",
     "NAXIS   =                    2",
@@ -472,7 +473,7 @@ pub(crate) const ONE_TABLE: [&str; 23] = [
 ];
 
 /// 100 pixels of 16 bits.
-pub(crate) const HUNDRED: [&str; 4] = [
+pub const HUNDRED: [&str; 4] = [
     "SIMPLE  =                    T",
     "BITPIX  =                   16",
     "NAXIS   =                    1",
@@ -480,7 +481,7 @@ pub(crate) const HUNDRED: [&str; 4] = [
 ];
 
 /// Their table in a line list.
-pub(crate) const HUNDRED_TABLE: [&str; 19] = [
+pub const HUNDRED_TABLE: [&str; 19] = [
     "XTENSION= 'BINTABLE'",
     "BITPIX  =                    8",
     "NAXIS   =                    2",
@@ -503,10 +504,10 @@ pub(crate) const HUNDRED_TABLE: [&str; 19] = [
 ];
 
 /// 100 times the pixel 5.
-pub(crate) const HUNDRED_FIVES: [u32; 50] = [0x0005_0005; 50];
+pub const HUNDRED_FIVES: [u32; 50] = [0x0005_0005; 50];
 
 /// Five pixels of 16 bits.
-pub(crate) const FEW: [&str; 4] = [
+pub const FEW: [&str; 4] = [
     "SIMPLE  =                    T",
     "BITPIX  =                   16",
     "NAXIS   =                    1",
@@ -514,7 +515,7 @@ pub(crate) const FEW: [&str; 4] = [
 ];
 
 /// Their table, whose tile is stored under PLIO_1.
-pub(crate) const FEW_TABLE: [&str; 19] = [
+pub const FEW_TABLE: [&str; 19] = [
     "XTENSION= 'BINTABLE'",
     "BITPIX  =                    8",
     "NAXIS   =                    2",
@@ -537,7 +538,7 @@ pub(crate) const FEW_TABLE: [&str; 19] = [
 ];
 
 /// The 100 pixels stored under PLIO_1.
-pub(crate) const HUNDRED_STORED: [&str; 19] = [
+pub const HUNDRED_STORED: [&str; 19] = [
     "XTENSION= 'BINTABLE'",
     "BITPIX  =                    8",
     "NAXIS   =                    2",
@@ -560,10 +561,10 @@ pub(crate) const HUNDRED_STORED: [&str; 19] = [
 ];
 
 /// 100 times the pixel -1.
-pub(crate) const HUNDRED_ONES: [u8; 200] = [255; 200];
+pub const HUNDRED_ONES: [u8; 200] = [255; 200];
 
 /// Two pixels of 64 bits.
-pub(crate) const LONGS: [&str; 4] = [
+pub const LONGS: [&str; 4] = [
     "SIMPLE  =                    T",
     "BITPIX  =                   64",
     "NAXIS   =                    1",
@@ -571,7 +572,7 @@ pub(crate) const LONGS: [&str; 4] = [
 ];
 
 /// Their table, which has stored tiles whatever the codec.
-pub(crate) const LONGS_TABLE: [&str; 19] = [
+pub const LONGS_TABLE: [&str; 19] = [
     "XTENSION= 'BINTABLE'",
     "BITPIX  =                    8",
     "NAXIS   =                    2",
@@ -591,4 +592,46 @@ pub(crate) const LONGS_TABLE: [&str; 19] = [
     "ZBITPIX =                   64",
     "ZNAXIS  =                    1",
     "ZNAXIS1 =                    2",
+];
+
+/// 1000, 1000 and 1003, packed in a Rice code.
+pub const LINE_PACKED: [Hdu<'static>; 2] = [
+    EMPTY_PRIMARY_HDU,
+    Hdu {
+        cards: &LINE_TABLE,
+        numbers: &[4, 0, 0, 0],
+        bytes: &[3, 232, 28, 8],
+    },
+];
+
+/// Four times 5, packed in a Rice code.
+pub const FIVES_PACKED: [Hdu<'static>; 2] = [
+    EMPTY_PRIMARY_HDU,
+    Hdu {
+        cards: &FIVES_TABLE,
+        numbers: &[5, 0, 0, 0],
+        bytes: &[0, 0, 0, 5, 0],
+    },
+];
+
+/// A hundred times 5, packed in a line list.
+pub const HUNDRED_PACKED: [Hdu<'static>; 2] = [
+    EMPTY_PRIMARY_HDU,
+    Hdu {
+        cards: &HUNDRED_TABLE,
+        numbers: &[9, 0, 0, 0],
+        bytes: &[0, 0, 0, 7, 255, 156, 0, 9, 0, 0, 0, 0, 0, 0, 32, 4, 64, 100],
+    },
+];
+
+/// Two pixels of 64 bits, packed.
+pub const LONGS_PACKED: [Hdu<'static>; 2] = [
+    EMPTY_PRIMARY_HDU,
+    Hdu {
+        cards: &LONGS_TABLE,
+        numbers: &[0, 0, 2, 0],
+        bytes: &[
+            0, 0, 1, 0, 0, 0, 0, 0, 255, 255, 255, 255, 255, 255, 255, 255,
+        ],
+    },
 ];

@@ -1,9 +1,10 @@
-//! The small file, and what they are packed into.
-use super::files::{Hdu, Row};
+//! The small file, and what it is packed into.
+use crate::files::{Case, Hdu};
 
-pub(crate) const ROWS: [Row<'static>; 5] = [
+/// The small file, packed with several options.
+pub const CASES: [Case<'static>; 5] = [
     // rows as tiles, in Rice codes
-    Row {
+    Case {
         options: &[],
         plain: &[Hdu {
             cards: &SMALL,
@@ -24,7 +25,7 @@ pub(crate) const ROWS: [Row<'static>; 5] = [
         ],
     },
     // the same, with each default given
-    Row {
+    Case {
         options: &["--codec=rice", "--tile", "4,1", "--block", "32"],
         plain: &[Hdu {
             cards: &SMALL,
@@ -45,7 +46,7 @@ pub(crate) const ROWS: [Row<'static>; 5] = [
         ],
     },
     // stored tiles
-    Row {
+    Case {
         options: &["--codec", "none"],
         plain: &[Hdu {
             cards: &SMALL,
@@ -66,7 +67,7 @@ pub(crate) const ROWS: [Row<'static>; 5] = [
         ],
     },
     // sums
-    Row {
+    Case {
         options: &["--sums"],
         plain: &[Hdu {
             cards: &SMALL,
@@ -87,7 +88,7 @@ pub(crate) const ROWS: [Row<'static>; 5] = [
         ],
     },
     // blocks of two: the ids of both have k = 0
-    Row {
+    Case {
         options: &["--block", "2"],
         plain: &[Hdu {
             cards: &SMALL,
@@ -110,7 +111,7 @@ pub(crate) const ROWS: [Row<'static>; 5] = [
 ];
 
 /// The primary that stands before the table of a primary image.
-pub(crate) const EMPTY_PRIMARY: [&str; 4] = [
+pub const EMPTY_PRIMARY: [&str; 4] = [
     "SIMPLE  =                    T",
     "BITPIX  =                    8",
     "NAXIS   =                    0",
@@ -118,7 +119,7 @@ pub(crate) const EMPTY_PRIMARY: [&str; 4] = [
 ];
 
 /// The small file: 4 by 2 pixels of 16 bits.
-pub(crate) const SMALL: [&str; 5] = [
+pub const SMALL: [&str; 5] = [
     "SIMPLE  =                    T",
     "BITPIX  =                   16",
     "NAXIS   =                    2",
@@ -127,7 +128,7 @@ pub(crate) const SMALL: [&str; 5] = [
 ];
 
 /// Its table in Rice codes.
-pub(crate) const SMALL_TABLE: [&str; 25] = [
+pub const SMALL_TABLE: [&str; 25] = [
     "XTENSION= 'BINTABLE'",
     "BITPIX  =                    8",
     "NAXIS   =                    2",
@@ -156,7 +157,7 @@ pub(crate) const SMALL_TABLE: [&str; 25] = [
 ];
 
 /// Its table in stored tiles.
-pub(crate) const SMALL_STORED: [&str; 21] = [
+pub const SMALL_STORED: [&str; 21] = [
     "XTENSION= 'BINTABLE'",
     "BITPIX  =                    8",
     "NAXIS   =                    2",
@@ -181,7 +182,7 @@ pub(crate) const SMALL_STORED: [&str; 21] = [
 ];
 
 /// Its table in Rice codes with sums, which other means computed.
-pub(crate) const SMALL_SUMS: [&str; 27] = [
+pub const SMALL_SUMS: [&str; 27] = [
     "XTENSION= 'BINTABLE'",
     "BITPIX  =                    8",
     "NAXIS   =                    2",
@@ -212,34 +213,37 @@ pub(crate) const SMALL_SUMS: [&str; 27] = [
 ];
 
 /// Two rows of the pixels 0, 1, 0, 1.
-pub(crate) const SMALL_PIXELS: [u8; 16] = [0, 0, 0, 1, 0, 0, 0, 1, 0, 0, 0, 1, 0, 0, 0, 1];
+pub const SMALL_PIXELS: [u8; 16] = [0, 0, 0, 1, 0, 0, 0, 1, 0, 0, 0, 1, 0, 0, 0, 1];
 
 /// The Rice code of each row: the start value, the id of a block with k = 0, and the mapped differences 0, 2, 1, 2.
-pub(crate) const SMALL_CODES: [u8; 8] = [0, 0, 0x19, 0x48, 0, 0, 0x19, 0x48];
+pub const SMALL_CODES: [u8; 8] = [0, 0, 0x19, 0x48, 0, 0, 0x19, 0x48];
 
 /// The numbers of both rows of its table in Rice codes.
-pub(crate) const SMALL_ROWS: [u32; 8] = [4, 0, 0, 0, 4, 4, 0, 0];
+pub const SMALL_ROWS: [u32; 8] = [4, 0, 0, 0, 4, 4, 0, 0];
 
-pub(crate) const SMALL_FILE: Hdu<'static> = Hdu {
+/// The small file.
+pub const SMALL_FILE: Hdu<'static> = Hdu {
     cards: &SMALL,
     numbers: &[],
     bytes: &SMALL_PIXELS,
 };
 
-pub(crate) const EMPTY_PRIMARY_HDU: Hdu<'static> = Hdu {
+/// The empty primary.
+pub const EMPTY_PRIMARY_HDU: Hdu<'static> = Hdu {
     cards: &EMPTY_PRIMARY,
     numbers: &[],
     bytes: &[],
 };
 
-pub(crate) const SMALL_PACKED: Hdu<'static> = Hdu {
+/// The table of the small file in Rice codes.
+pub const SMALL_PACKED: Hdu<'static> = Hdu {
     cards: &SMALL_TABLE,
     numbers: &SMALL_ROWS,
     bytes: &SMALL_CODES,
 };
 
 /// Its table in Rice codes of blocks of two numbers.
-pub(crate) const SMALL_TWOS: [&str; 25] = [
+pub const SMALL_TWOS: [&str; 25] = [
     "XTENSION= 'BINTABLE'",
     "BITPIX  =                    8",
     "NAXIS   =                    2",
@@ -266,3 +270,16 @@ pub(crate) const SMALL_TWOS: [&str; 25] = [
     "ZNAXIS1 =                    4",
     "ZNAXIS2 =                    2",
 ];
+
+/// The small file, packed in stored tiles.
+pub const SMALL_STORED_FILE: [Hdu<'static>; 2] = [EMPTY_PRIMARY_HDU, SMALL_STORED_HDU];
+
+/// Its table in stored tiles.
+pub const SMALL_STORED_HDU: Hdu<'static> = Hdu {
+    cards: &SMALL_STORED,
+    numbers: &[0, 0, 4, 0, 0, 0, 4, 8],
+    bytes: &SMALL_PIXELS,
+};
+
+/// The small file, packed in Rice codes.
+pub const SMALL_PACKED_FILE: [Hdu<'static>; 2] = [EMPTY_PRIMARY_HDU, SMALL_PACKED];

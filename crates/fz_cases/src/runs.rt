@@ -1,45 +1,27 @@
-//! Worked rows on `run`, over objects in memory that know their names. Expected bytes are written out by hand, from the
-//! rules of the formats.
-//!
-//! Reading order: `named`, `files`, `small`, `grids`, `records`, `headers`, `packs`, `refuses`, `stops`, `words`, `ordinary`, `gates`.
-mod files;
-mod gates;
-mod grids;
-mod headers;
-mod named;
-mod ordinary;
-mod packs;
-mod records;
-mod refuses;
-mod small;
-mod stops;
-mod words;
-
-use crate::{Status, run};
+//! Runs of the words over a file in memory.
+use crate::named::{NamedSink, NamedSource};
+use fz_app::{Status, run};
 use fz_base::{Gate, MemSink, MemSource, MemText, Meter};
-use named::{NamedSink, NamedSource};
 use std::alloc::{AllocError, Global};
-use std::process::Abort;
-use std::test::Fail;
 use std::thread::Threads;
 
 /// The number of a call that does not come.
-const NEVER: u32 = u32::MAX;
+pub const NEVER: u32 = u32::MAX;
 
 /// The names of the files, the numbers of the calls that fail, what a failing write keeps, and the meter's limit.
 #[derive(Clone, Copy)]
-struct Conditions {
-    input: &'static str,
-    output: &'static str,
-    source: u32,
-    sink: u32,
-    keep: u32,
-    text: u32,
-    limit: u64,
+pub struct Conditions {
+    pub input: &'static str,
+    pub output: &'static str,
+    pub source: u32,
+    pub sink: u32,
+    pub keep: u32,
+    pub text: u32,
+    pub limit: u64,
 }
 
 /// Nothing fails, and there is room.
-const FREE: Conditions = Conditions {
+pub const FREE: Conditions = Conditions {
     input: "IN",
     output: "OUT",
     source: NEVER,
@@ -51,27 +33,29 @@ const FREE: Conditions = Conditions {
 
 /// What a run answered and left behind.
 #[derive(Drop)]
-struct Outcome {
-    status: Status,
-    source: NamedSource,
-    sink: NamedSink,
-    text: MemText,
-    live: u64,
-    peak: u64,
+pub struct Outcome {
+    pub status: Status,
+    pub source: NamedSource,
+    pub sink: NamedSink,
+    pub text: MemText,
+    pub live: u64,
+    pub peak: u64,
 }
 
-/// Runs the words over a file.
-fn outcome_of<R: Threads + Sync + AllocGlobal + Abort, G: Gate>(
+/// Runs the words over a file of at most 2^32 bytes.
+pub fn outcome_of<R: Threads + Sync + AllocGlobal, G: Gate>(
     rt: &R,
     words: &[&str],
     file: &[u8],
     on: Conditions,
     gate: &G,
-) -> Result<Outcome, Fail> {
+) -> Result<Outcome, AllocError> {
     let alloc = rt.alloc();
     let words = owned(alloc, words)?;
     let bytes = file.to_vec(alloc)?;
-    assert!(rt; bytes.len() <= 1 << 32);
+    if bytes.len() > 1 << 32 {
+        return Err(AllocError);
+    }
     let source = MemSource::new(alloc, bytes, vec![in alloc; on.source]?);
     let sink = MemSink::new(alloc, vec![in alloc; on.sink]?, on.keep);
     let mut source = NamedSource::new(source, on.input);
@@ -100,7 +84,8 @@ fn outcome_of<R: Threads + Sync + AllocGlobal + Abort, G: Gate>(
     })
 }
 
-fn owned(alloc: Global, words: &[&str]) -> Result<Vec<String>, AllocError> {
+/// The words, as `run` takes them.
+pub fn owned(alloc: Global, words: &[&str]) -> Result<Vec<String>, AllocError> {
     let mut all = Vec::new(alloc);
     for word in words {
         all.push(String::from_str(alloc, word)?)?;
@@ -108,13 +93,14 @@ fn owned(alloc: Global, words: &[&str]) -> Result<Vec<String>, AllocError> {
     Ok(all)
 }
 
-/// The words that pack IN into OUT: the command, some options, and the names.
-fn to_pack<'a>(
+/// The words for a command from IN to OUT: the command, some options, and the names.
+pub fn words_for<'a>(
     alloc: Global,
+    command: &'a str,
     options: &[&'a str],
     more: &[&'a str],
 ) -> Result<Vec<&'a str>, AllocError> {
-    let mut words = vec![in alloc; "pack"]?;
+    let mut words = vec![in alloc; command]?;
     words.extend_from_slice(options)?;
     words.extend_from_slice(more)?;
     words.push("IN")?;

@@ -1,14 +1,14 @@
 //! Files that are packed.
-use super::files::{Row, file_of, fill_block, put_card};
-use super::{Conditions, FREE, grids, headers, outcome_of, records, small, to_pack};
-use crate::Status;
+use fz_app::Status;
 use fz_base::FreeGate;
-use std::alloc::{AllocError, Global};
+use fz_cases::files::{Case, commented, data_of, file_of};
+use fz_cases::runs::{Conditions, FREE, outcome_of, words_for};
+use fz_cases::{grids, headers, records, small};
 use std::process::Abort;
 use std::test::Fail;
 use std::thread::Threads;
 
-/// The numbers of workers that a row is packed with.
+/// The numbers of workers that a file is packed with.
 const WORKERS: [&[&str]; 4] = [
     &[],
     &["--workers", "1"],
@@ -24,7 +24,7 @@ fn assert_packs<R: Threads + Sync + AllocGlobal + Abort>(
     packed: &[u8],
 ) -> Result<(), Fail> {
     for workers in WORKERS {
-        let words = to_pack(rt.alloc(), options, workers)?;
+        let words = words_for(rt.alloc(), "pack", options, workers)?;
         let outcome = outcome_of(rt, &words, plain, FREE, &FreeGate)?;
         assert_eq!(rt; outcome.status, Status::Done, "{options:?} {workers:?}");
         assert_eq!(rt; outcome.sink.contents(), packed, "{options:?} {workers:?}");
@@ -36,36 +36,36 @@ fn assert_packs<R: Threads + Sync + AllocGlobal + Abort>(
     Ok(())
 }
 
-fn assert_rows_pack<R: Threads + Sync + AllocGlobal + Abort>(
+fn assert_cases_pack<R: Threads + Sync + AllocGlobal + Abort>(
     rt: &R,
-    rows: &[Row<'_>],
+    cases: &[Case<'_>],
 ) -> Result<(), Fail> {
-    for row in rows {
-        let plain = file_of(rt.alloc(), row.plain)?;
-        let packed = file_of(rt.alloc(), row.packed)?;
-        assert_packs(rt, row.options, &plain, &packed)?;
+    for case in cases {
+        let plain = file_of(rt.alloc(), case.plain)?;
+        let packed = file_of(rt.alloc(), case.packed)?;
+        assert_packs(rt, case.options, &plain, &packed)?;
     }
     Ok(())
 }
 
 #[test]
 fn packs_the_small_file(rt: HostRuntime) -> Result<(), Fail> {
-    assert_rows_pack(&rt, &small::ROWS)
+    assert_cases_pack(&rt, &small::CASES)
 }
 
 #[test]
 fn packs_in_tiles(rt: HostRuntime) -> Result<(), Fail> {
-    assert_rows_pack(&rt, &grids::ROWS)
+    assert_cases_pack(&rt, &grids::CASES)
 }
 
 #[test]
 fn packs_tiles_as_codes_or_stored(rt: HostRuntime) -> Result<(), Fail> {
-    assert_rows_pack(&rt, &records::ROWS)
+    assert_cases_pack(&rt, &records::CASES)
 }
 
 #[test]
 fn packs_headers_and_many_hdus(rt: HostRuntime) -> Result<(), Fail> {
-    assert_rows_pack(&rt, &headers::ROWS)
+    assert_cases_pack(&rt, &headers::CASES)
 }
 
 // With ample memory this says no more than a row above; `tools/fail_allocations` lets allocations of the run fail.
@@ -91,38 +91,12 @@ fn ample_memory_packs_the_small_file(rt: HostRuntime) -> Result<(), Fail> {
     Ok(())
 }
 
-/// Cards, so many times the card COMMENT, END, and blanks; and data.
-fn commented(
-    alloc: Global,
-    before: &[u8],
-    cards: &[&str],
-    comments: u32,
-    data: &[u8],
-) -> Result<Vec<u8>, AllocError> {
-    let mut file = before.to_vec(alloc)?;
-    for card in cards {
-        put_card(&mut file, card)?;
-    }
-    for _ in 0..comments {
-        put_card(&mut file, "COMMENT and so on")?;
-    }
-    put_card(&mut file, "END")?;
-    fill_block(&mut file, b' ')?;
-    file.extend_from_slice(data)?;
-    fill_block(&mut file, 0)?;
-    Ok(file)
-}
-
 // A header of 35 cards and END has one block, and one of 36 has two; packed, both have two.
 #[test]
 fn headers_have_whole_blocks(rt: HostRuntime) -> Result<(), Fail> {
     let alloc = rt.alloc();
     let primary = file_of(alloc, &[small::EMPTY_PRIMARY_HDU])?;
-    let mut data = vec![in alloc; 0u8; 0]?;
-    for number in small::SMALL_ROWS {
-        data.extend_from_slice(&number.to_be_bytes())?;
-    }
-    data.extend_from_slice(&small::SMALL_CODES)?;
+    let data = data_of(alloc, &small::SMALL_ROWS, &small::SMALL_CODES)?;
     for (comments, len) in [(30, 5760), (31, 8640)] {
         let plain = commented(alloc, &[], &small::SMALL, comments, &small::SMALL_PIXELS)?;
         assert_eq!(rt; plain.len(), len);

@@ -1,25 +1,15 @@
 //! Files that are refused.
-use super::files::{Hdu, file_of};
-use super::grids::{GRID_ROWS, GRID_TABLE, GRID_TILES};
-use super::headers::NO_IMAGE;
-use super::small::{EMPTY_PRIMARY_HDU, SMALL_FILE, SMALL_PIXELS};
-use super::{Conditions, FREE, outcome_of, to_pack};
 use fz_base::FreeGate;
-use std::alloc::AllocError;
+use fz_cases::changes::{Change, changed};
+use fz_cases::files::Hdu;
+use fz_cases::grids::{GRID_ROWS, GRID_TABLE, GRID_TILES};
+use fz_cases::headers::NO_IMAGE;
+use fz_cases::others::OTHER_PACKED;
+use fz_cases::runs::{Conditions, FREE, outcome_of, words_for};
+use fz_cases::small::{EMPTY_PRIMARY_HDU, SMALL_FILE, SMALL_PIXELS};
 use std::process::Abort;
 use std::test::Fail;
 use std::thread::Threads;
-
-/// What is done to a file.
-enum Change {
-    Nothing,
-    /// It is cut to so many bytes, or gets zeros up to them.
-    Length(usize),
-    /// A byte is put at a place.
-    Byte(usize, u8),
-    /// The header of the small file gets a further card.
-    Card(&'static str),
-}
 
 /// A file that is refused, what it is packed with, and its line.
 struct Refusal {
@@ -147,43 +137,6 @@ const TABLE: [Hdu<'static>; 2] = [
         ],
         numbers: &[1],
         bytes: &[],
-    },
-];
-
-/// A file of another packer.
-const OF_ANOTHER: [Hdu<'static>; 2] = [
-    Hdu {
-        cards: &[
-            SIMPLE,
-            "BITPIX  =                   16",
-            "NAXIS   =                    0",
-            "EXTEND  =                    T",
-            "COMMENT empty",
-        ],
-        numbers: &[],
-        bytes: &[],
-    },
-    Hdu {
-        cards: &[
-            "XTENSION= 'BINTABLE'           / binary table",
-            "BITPIX  =                    8",
-            "NAXIS   =                    2",
-            "NAXIS1  =                    8",
-            "NAXIS2  =                    1",
-            "PCOUNT  =                    6",
-            "GCOUNT  =                    1",
-            "TFIELDS =                    1",
-            "TTYPE1  = 'COMPRESSED_DATA'",
-            "TFORM1  = '1PB(6)  '",
-            "ZIMAGE  =                    T",
-            "ZCMPTYPE= 'RICE_1  '",
-            "ZBITPIX =                   16",
-            "ZNAXIS  =                    1",
-            "ZNAXIS1 =                    3",
-            "ZSIMPLE =                    T",
-        ],
-        numbers: &[6, 0],
-        bytes: &[0, 0, 3, 0xe8, 0x0e, 4],
     },
 ];
 
@@ -359,7 +312,7 @@ const REFUSED: [Refusal; 31] = [
         line: "refused: 10 AlreadyPacked hdu 1 card 9\n",
     },
     Refusal {
-        hdus: &OF_ANOTHER,
+        hdus: &OTHER_PACKED,
         change: Change::Nothing,
         options: &[],
         line: "refused: 10 AlreadyPacked hdu 1 card 10\n",
@@ -398,7 +351,7 @@ fn assert_refused<R: Threads + Sync + AllocGlobal + Abort>(
     options: &[&str],
     line: &str,
 ) -> Result<(), Fail> {
-    let words = to_pack(rt.alloc(), options, &["--workers=2"])?;
+    let words = words_for(rt.alloc(), "pack", options, &["--workers=2"])?;
     let on = Conditions { sink: 0, ..FREE };
     let outcome = outcome_of(rt, &words, file, on, &FreeGate)?;
     assert_eq!(rt; outcome.text.contents(), line.as_bytes(), "{line}");
@@ -409,31 +362,10 @@ fn assert_refused<R: Threads + Sync + AllocGlobal + Abort>(
     Ok(())
 }
 
-/// Puts a text at a place, where the file has that.
-fn put(file: &mut [u8], at: usize, text: &[u8]) {
-    if at <= file.len() && text.len() <= file.len() - at {
-        file[at..at + text.len()].copy_from_slice(text);
-    }
-}
-
-fn changed_bytes(file: &mut Vec<u8>, change: &Change) -> Result<(), AllocError> {
-    match change {
-        Change::Nothing => {}
-        Change::Length(len) => file.resize(*len, 0)?,
-        Change::Byte(at, byte) => put(file, *at, &[*byte]),
-        Change::Card(text) => {
-            put(file, 5 * 80, text.as_bytes());
-            put(file, 6 * 80, b"END");
-        }
-    }
-    Ok(())
-}
-
 #[test]
 fn refuses_for_the_first_fault(rt: HostRuntime) -> Result<(), Fail> {
     for refusal in &REFUSED {
-        let mut file = file_of(rt.alloc(), refusal.hdus)?;
-        changed_bytes(&mut file, &refusal.change)?;
+        let file = changed(rt.alloc(), refusal.hdus, &refusal.change)?;
         assert_refused(&rt, &file, refusal.options, refusal.line)?;
     }
     Ok(())

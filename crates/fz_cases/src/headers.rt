@@ -1,10 +1,14 @@
 //! Headers and files of many HDUs, and what they are packed into.
-use super::files::{Hdu, Row};
-use super::small::{EMPTY_PRIMARY, SMALL, SMALL_CODES, SMALL_PIXELS, SMALL_ROWS, SMALL_TABLE};
+use crate::files::{Case, Hdu};
+use crate::small::{
+    EMPTY_PRIMARY, SMALL, SMALL_CODES, SMALL_FILE, SMALL_PACKED_FILE, SMALL_PIXELS, SMALL_ROWS,
+    SMALL_TABLE,
+};
 
-pub(crate) const ROWS: [Row<'static>; 4] = [
+/// Files whose headers have cards of other names, and files of many HDUs.
+pub const CASES: [Case<'static>; 4] = [
     // the names of cards of the image
-    Row {
+    Case {
         options: &[],
         plain: &[Hdu {
             cards: &FULL,
@@ -25,7 +29,7 @@ pub(crate) const ROWS: [Row<'static>; 4] = [
         ],
     },
     // two images in extensions; the primary and the table are copied
-    Row {
+    Case {
         options: &[],
         plain: &[
             Hdu {
@@ -73,7 +77,7 @@ pub(crate) const ROWS: [Row<'static>; 4] = [
         ],
     },
     // a primary image, and behind it HDUs that are copied and one that is packed
-    Row {
+    Case {
         options: &[],
         plain: &[
             Hdu {
@@ -146,7 +150,7 @@ pub(crate) const ROWS: [Row<'static>; 4] = [
         ],
     },
     // a file without an image that can be packed is copied
-    Row {
+    Case {
         options: &["--sums", "--codec", "plio"],
         plain: &[
             Hdu {
@@ -176,7 +180,7 @@ pub(crate) const ROWS: [Row<'static>; 4] = [
 ];
 
 /// The small file with further cards; those of sums are of another time.
-pub(crate) const FULL: [&str; 15] = [
+pub const FULL: [&str; 15] = [
     "SIMPLE  =                    T",
     "BITPIX  =                   16",
     "NAXIS   =                    2",
@@ -195,7 +199,7 @@ pub(crate) const FULL: [&str; 15] = [
 ];
 
 /// Its table: nine names are others, and each card keeps all behind its name.
-pub(crate) const FULL_TABLE: [&str; 35] = [
+pub const FULL_TABLE: [&str; 35] = [
     "XTENSION= 'BINTABLE'",
     "BITPIX  =                    8",
     "NAXIS   =                    2",
@@ -234,7 +238,7 @@ pub(crate) const FULL_TABLE: [&str; 35] = [
 ];
 
 /// A primary without data.
-pub(crate) const NO_IMAGE: [&str; 5] = [
+pub const NO_IMAGE: [&str; 5] = [
     "SIMPLE  =                    T",
     "BITPIX  =                   16",
     "NAXIS   =                    0",
@@ -243,7 +247,7 @@ pub(crate) const NO_IMAGE: [&str; 5] = [
 ];
 
 /// An image extension.
-pub(crate) const FIRST: [&str; 9] = [
+pub const FIRST: [&str; 9] = [
     "XTENSION= 'IMAGE   '",
     "BITPIX  =                   16",
     "NAXIS   =                    2",
@@ -256,7 +260,7 @@ pub(crate) const FIRST: [&str; 9] = [
 ];
 
 /// Its table.
-pub(crate) const FIRST_TABLE: [&str; 29] = [
+pub const FIRST_TABLE: [&str; 29] = [
     "XTENSION= 'BINTABLE'",
     "BITPIX  =                    8",
     "NAXIS   =                    2",
@@ -289,7 +293,7 @@ pub(crate) const FIRST_TABLE: [&str; 29] = [
 ];
 
 /// Another one.
-pub(crate) const SECOND: [&str; 7] = [
+pub const SECOND: [&str; 7] = [
     "XTENSION= 'IMAGE   '",
     "BITPIX  =                    8",
     "NAXIS   =                    1",
@@ -300,7 +304,7 @@ pub(crate) const SECOND: [&str; 7] = [
 ];
 
 /// Its table.
-pub(crate) const SECOND_TABLE: [&str; 26] = [
+pub const SECOND_TABLE: [&str; 26] = [
     "XTENSION= 'BINTABLE'",
     "BITPIX  =                    8",
     "NAXIS   =                    2",
@@ -330,7 +334,7 @@ pub(crate) const SECOND_TABLE: [&str; 26] = [
 ];
 
 /// A table that holds no image.
-pub(crate) const PLAIN_TABLE: [&str; 10] = [
+pub const PLAIN_TABLE: [&str; 10] = [
     "XTENSION= 'BINTABLE'",
     "BITPIX  =                    8",
     "NAXIS   =                    2",
@@ -344,7 +348,7 @@ pub(crate) const PLAIN_TABLE: [&str; 10] = [
 ];
 
 /// An image of floats.
-pub(crate) const FLOATS: [&str; 6] = [
+pub const FLOATS: [&str; 6] = [
     "XTENSION= 'IMAGE   '",
     "BITPIX  =                  -32",
     "NAXIS   =                    1",
@@ -354,7 +358,7 @@ pub(crate) const FLOATS: [&str; 6] = [
 ];
 
 /// An image without pixels.
-pub(crate) const NOTHING: [&str; 7] = [
+pub const NOTHING: [&str; 7] = [
     "XTENSION= 'IMAGE   '",
     "BITPIX  =                   16",
     "NAXIS   =                    2",
@@ -365,7 +369,7 @@ pub(crate) const NOTHING: [&str; 7] = [
 ];
 
 /// An image extension with two bytes behind its pixels.
-pub(crate) const EXTRA: [&str; 6] = [
+pub const EXTRA: [&str; 6] = [
     "XTENSION= 'IMAGE   '",
     "BITPIX  =                    8",
     "NAXIS   =                    1",
@@ -375,7 +379,7 @@ pub(crate) const EXTRA: [&str; 6] = [
 ];
 
 /// An extension of another kind.
-pub(crate) const OTHER: [&str; 6] = [
+pub const OTHER: [&str; 6] = [
     "XTENSION= 'FOREIGN '",
     "BITPIX  =                    8",
     "NAXIS   =                    1",
@@ -385,9 +389,51 @@ pub(crate) const OTHER: [&str; 6] = [
 ];
 
 /// A primary of one float.
-pub(crate) const FLOAT_PRIMARY: [&str; 4] = [
+pub const FLOAT_PRIMARY: [&str; 4] = [
     "SIMPLE  =                    T",
     "BITPIX  =                  -64",
     "NAXIS   =                    1",
     "NAXIS1  =                    1",
 ];
+
+/// A primary image alone, and an image between HDUs that are copied.
+pub const ONE_AND_MANY: [Case<'static>; 2] = [
+    Case {
+        options: &[],
+        plain: &[SMALL_FILE],
+        packed: &SMALL_PACKED_FILE,
+    },
+    Case {
+        options: &[],
+        plain: &[
+            EMPTY_HDU,
+            Hdu {
+                cards: &FIRST,
+                numbers: &[],
+                bytes: &SMALL_PIXELS,
+            },
+            TABLE_HDU,
+        ],
+        packed: &[
+            EMPTY_HDU,
+            Hdu {
+                cards: &FIRST_TABLE,
+                numbers: &SMALL_ROWS,
+                bytes: &SMALL_CODES,
+            },
+            TABLE_HDU,
+        ],
+    },
+];
+
+const EMPTY_HDU: Hdu<'static> = Hdu {
+    cards: &NO_IMAGE,
+    numbers: &[],
+    bytes: &[],
+};
+
+const TABLE_HDU: Hdu<'static> = Hdu {
+    cards: &PLAIN_TABLE,
+    numbers: &[1, 2],
+    bytes: &[1, 2, 3],
+};

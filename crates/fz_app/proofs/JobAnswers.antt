@@ -1,0 +1,96 @@
+-- What a job that writes a file promises of its answer, and what is promised of the answer to the words, for every such job.
+use Rattle.std.proofs.Common.{◌≡◌, ℕ, ◌≤◌, ◌<◌, List, arith, inl, inr}
+use Rattle.std.specs.Prelude.{◌⊎◌, max, Option, Some, None, IfSome, Result, Ok, Err, IsErrOf, OnOk, OnErr}
+use Rattle.fz_base.specs.Counts.{CountsKept}
+use Rattle.fz_base.specs.FirstByte.{IsShut}
+use Rattle.fz_base.specs.Told.{StaysTold}
+use Rattle.fz_base.specs.declared.failure.Stop.{Stop}
+use Rattle.fz_base.specs.declared.failure.Stop.TheVariants.{ReadFault as StopRead, WriteFault as StopWrite, OverLimit as StopLimit, NoMemory as StopMemory}
+use Rattle.fz_files.specs.Buffers.{job_bound}
+use Rattle.fz_files.specs.FirstFault.{IsFirstFault}
+use Rattle.fz_files.specs.declared.job.Job.{Job}
+use Rattle.fz_job.specs.Clauses.{Answers, HasJobCause, IsShutOrWhole, IsUnmade, TellsFirstFault, greatest_bound}
+use Rattle.fz_words.specs.Jobs.{Asked}
+use Rattle.fz_app.specs.Asked.{limit_of}
+use Rattle.fz_app.specs.Outputs.{HoldsJobOutput, IsFinished, IsWhole, JobRestores}
+use Rattle.fz_app.specs.Promised.{Ends, IsPromised, IsSameSink}
+
+-- a fact of an error that follows from another, and two facts of a done job
+on_err : (answer : Result (Unit {0}) Stop) (P Q : Type 0) → (P → Q) → OnErr answer P → OnErr answer Q
+on_err (Ok done) P Q f p = tt
+on_err (Err stop) P Q f p = f p
+
+on_both : (answer : Result (Unit {0}) Stop) (P Q : Type 0) → OnOk answer P → OnOk answer Q → OnOk answer (P × Q)
+on_both (Ok done) P Q p q = (p, q)
+on_both (Err stop) P Q p q = tt
+
+-- what a job says of the sink and of the source, as they were before the source was attached and after the call
+pub record JobSays (asked : Asked) (old new : Ends) (answer : Result (Unit {0}) Stop) : Type 0 where
+  pub output : OnOk answer (HoldsJobOutput asked.job old.held new.contents)
+  pub finished : OnOk answer (IsFinished asked.job new.finished)
+  pub first_fault : TellsFirstFault asked.job old.held answer
+  pub answered : Answers asked.job old.held old.source new.source old.sink new.sink (limit_of asked old.meter.limit) asked.workers answer
+  pub cause : HasJobCause asked.job old.held old.source new.source old.sink new.sink (limit_of asked old.meter.limit) asked.workers answer
+  pub first_byte : IsShutOrWhole new.contents (HoldsJobOutput asked.job old.held new.contents) answer
+  pub unmade : IsUnmade asked.job old.held (IsSameSink old new) answer
+  pub live : new.meter.live ≡ 0
+  pub limit : new.meter.limit ≡ limit_of asked old.meter.limit
+  pub peak : IfSome old.held (λ file. new.meter.peak ≤ max 0 (job_bound asked.job file asked.workers))
+  pub most : new.meter.peak ≤ max 0 (greatest_bound asked.job asked.workers)
+  pub held_is : new.held ≡ old.held
+  pub told_ranges : StaysTold old.ranges new.ranges
+  pub told_contents : StaysTold old.contents new.contents
+  pub source_counts : CountsKept old.source new.source
+  pub sink_counts : CountsKept old.sink new.sink
+
+-- contents that hold the output are shut, or the file has no fault
+abbrev pub WholeIsSound : Job → Ends → Ends → Type 0
+WholeIsSound job old new = HoldsJobOutput job old.held new.contents → IsShut new.contents ⊎ IfSome old.held (λ file. IsFirstFault job file None)
+
+module _ (asked : Asked) (old new : Ends) where
+  abbrev pub Last : Result (Unit {0}) Stop → Type 0
+  Last answer = IsErrOf answer StopWrite ⊎ IsErrOf answer StopMemory
+
+  with_sound : (E : Type 0) → HoldsJobOutput asked.job old.held new.contents → IsShut new.contents ⊎ IfSome old.held (λ file. IsFirstFault asked.job file None) → E → IsShut new.contents ⊎ (IsWhole asked.job old.held new.contents × E)
+  with_sound E whole (inl shut) last = inl shut
+  with_sound E whole (inr sound) last = inr (record { output = whole; sound = sound }, last)
+
+  first_byte_of : (E : Type 0) → WholeIsSound asked.job old new → IsShut new.contents ⊎ (HoldsJobOutput asked.job old.held new.contents × E) → IsShut new.contents ⊎ (IsWhole asked.job old.held new.contents × E)
+  first_byte_of E sound (inl shut) = inl shut
+  first_byte_of E sound (inr sealed) = with_sound E sealed.0 (sound sealed.0) sealed.1
+
+  peak_of : (held : Option (List ℕ)) → IfSome held (λ file. new.meter.peak ≤ max 0 (job_bound asked.job file asked.workers)) → IfSome held (λ file. new.meter.peak ≤ job_bound asked.job file asked.workers)
+  peak_of None p = tt
+  peak_of (Some file) p = omega (arith, p)
+
+  -- the first taking of one block
+  block_of : (answer : Result (Unit {0}) Stop) → (limit_of asked old.meter.limit < 2880 → IsErrOf answer (StopLimit 0 2880 (limit_of asked old.meter.limit)) × (new.source ≡ old.source) × (new.sink ≡ old.sink)) →
+      limit_of asked old.meter.limit < 2880 → IsErrOf answer (StopLimit 0 2880 (limit_of asked old.meter.limit)) ⊎ (IsErrOf answer StopRead ⊎ IsErrOf answer StopMemory)
+  block_of answer says less = inl (says less).0
+
+  -- what the job says of its answer is promised of it, with what it restores
+  pub promised : (answer : Result (Unit {0}) Stop) → JobSays asked old new answer → WholeIsSound asked.job old new → OnOk answer (JobRestores asked.job old.held new.contents) → IsPromised asked old new answer
+  promised answer s sound restored = record {
+    restored = restored;
+    output = on_both answer (HoldsJobOutput asked.job old.held new.contents) (IsFinished asked.job new.finished) s.output s.finished;
+    first_fault = s.first_fault;
+    answered = s.answered;
+    first_byte = on_err answer (IsShut new.contents ⊎ (HoldsJobOutput asked.job old.held new.contents × Last answer)) (IsShut new.contents ⊎ (IsWhole asked.job old.held new.contents × Last answer)) (first_byte_of (Last answer) sound) s.first_byte;
+    live = s.live;
+    limit = s.limit;
+    peak = peak_of old.held s.peak;
+    done = s.cause.done;
+    refused = s.cause.refused;
+    read_fault = s.cause.read_fault;
+    write_fault = s.cause.write_fault;
+    most = omega (arith, s.most);
+    told_limit = s.cause.over_limit;
+    first_past = s.cause.first_past;
+    block = block_of answer s.cause.block;
+    unmade = s.unmade;
+    held_is = s.held_is;
+    told_ranges = s.told_ranges;
+    told_contents = s.told_contents;
+    source_counts = s.source_counts;
+    sink_counts = s.sink_counts;
+  }

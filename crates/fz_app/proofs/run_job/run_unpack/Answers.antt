@@ -1,0 +1,41 @@
+-- What unpack says of the source that was attached and of the meter that was narrowed, it says of both as they were before.
+use Rattle.std.proofs.Common.{◌≡◌, min, sym, ap, subst, rules}
+use Rattle.fz_base.specs.Meter.{Gauge, narrowed}
+use Rattle.fz_files.specs.declared.job.Job.{Job}
+use Rattle.fz_app.specs.Promised.{Ends, IsPromised}
+use Rattle.fz_app.proofs.UnpackAnswers.{unpacked}
+use Rattle.fz_app.proofs.run_job.run_unpack.Goals as goal
+
+pub returns : goal.returns
+returns g c =
+    let held : g.S.Source.held c.begin.new.source ≡ g.S.Source.held c.args.source.now = c.begin.ensures.held in
+    let ranges : g.S.Source.ranges c.begin.new.source ≡ g.S.Source.ranges c.args.source.now = c.begin.ensures.ranges in
+    let tally : g.S.Source.tally c.begin.new.source ≡ g.S.Source.tally c.args.source.now = c.in_ok-length.ensures.cause.ok in
+    let meter : c.begin.new.meter ≡ narrowed c.args.meter.now c.args.request.now.memory = c.begin.ensures.narrowed in
+    let limit : c.begin.new.meter.limit ≡ min c.args.meter.now.limit c.args.request.now.memory = ap (λ (m : Gauge). m.limit) meter in
+    let none : c.begin.new.meter.peak ≡ 0 = search rules in
+    let workers : c.in_ok-length.window.workers ≡ c.args.request.now.workers = search rules in
+    let old : Ends = record { held = g.S.Source.held c.args.source.now; ranges = g.S.Source.ranges c.args.source.now; source = g.S.Source.tally c.args.source.now; contents = g.K.Sink.contents c.args.sink.now; created = g.K.Sink.created c.args.sink.now; finished = g.K.Sink.finished c.args.sink.now; sink = g.K.Sink.tally c.args.sink.now; meter = c.args.meter.now } in
+    let new : Ends = record { held = g.S.Source.held c.unpack.new.source; ranges = g.S.Source.ranges c.unpack.new.source; source = g.S.Source.tally c.unpack.new.source; contents = g.K.Sink.contents c.unpack.new.sink; created = g.K.Sink.created c.unpack.new.sink; finished = g.K.Sink.finished c.unpack.new.sink; sink = g.K.Sink.tally c.unpack.new.sink; meter = c.unpack.new.meter } in
+    record {
+      promised = subst (λ (j : Job). IsPromised (record { job = j; workers = c.args.request.now.workers; memory = c.args.request.now.memory; input = c.args.request.now.input.now; output = c.args.request.now.output.now }) old new c.unpack.result) (sym c.requires.job)
+          (unpacked c.args.request.now.workers c.args.request.now.memory c.args.request.now.input.now c.args.request.now.output.now old new c.round_trip_law.ensures c.one_file_law.ensures c.in_ok-length.length c.in_ok-length.ensures.attached.1 c.in_ok-length.ensures.attached.2 c.unpack.result
+          (record {
+            output = rw held at c.unpack.ensures.output;
+            finished = c.unpack.ensures.finished;
+            first_fault = rw held at c.unpack.ensures.first_fault;
+            answered = rw (held, tally, limit, workers) at c.unpack.ensures.answered;
+            cause = rw (held, tally, limit, workers) at c.unpack.ensures.cause;
+            first_byte = rw held at c.unpack.ensures.first_byte;
+            unmade = rw held at c.unpack.ensures.unmade;
+            live = c.unpack.ensures.buffers.live;
+            limit = rw limit at c.unpack.ensures.buffers.limit;
+            peak = rw (held, none, workers) at c.unpack.ensures.buffers.peak;
+            most = rw (none, workers) at c.unpack.ensures.buffers.most;
+            held_is = rw held at c.unpack.ensures.kept.held_is;
+            told_ranges = rw ranges at c.unpack.ensures.told_ranges;
+            told_contents = c.unpack.ensures.told_contents;
+            source_counts = rw tally at c.unpack.ensures.kept.source_counts;
+            sink_counts = c.unpack.ensures.kept.sink_counts;
+          }));
+    }

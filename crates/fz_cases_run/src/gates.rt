@@ -1,0 +1,24 @@
+//! That tiles are coded and decoded through the window, by workers side by side.
+use fz_app::Status;
+use fz_cases::files::file_of;
+use fz_cases::grids::{GRID_FILE, GRID_PACKED};
+use fz_cases::holding::Holding;
+use fz_cases::runs::{FREE, outcome_of, words_for};
+use std::test::Fail;
+
+// It fails a body that codes its tiles on one thread, or without the window.
+#[test]
+fn workers_pass_a_tile_that_is_held(rt: HostRuntime) -> Result<(), Fail> {
+    let plain = file_of(rt.alloc(), &[GRID_FILE])?;
+    let packed = file_of(rt.alloc(), &GRID_PACKED)?;
+    let stored: &[&str] = &["--codec=none", "--tile=2,2"];
+    for (command, options, file) in [("pack", stored, &plain), ("unpack", &[], &packed)] {
+        let words = words_for(rt.alloc(), command, options, &["--workers=2"])?;
+        let gate = Holding::new();
+        let outcome = outcome_of(&rt, &words, file, FREE, &gate)?;
+        assert_eq!(rt; outcome.status, Status::Done, "{command}");
+        assert!(rt; gate.others_came(), "{command}");
+        assert_eq!(rt; gate.calls(), 6, "{command}");
+    }
+    Ok(())
+}

@@ -1,0 +1,18 @@
+//! Runs of the program as tests over objects in memory: words, calls that fail, limits on memory, names of files, a file of
+//! ordinary size and images that are too large to be held, and workers side by side.
+//!
+//! Reading order: `words`, `stops`, `limits`, `ordinary`, `large`, `gates`.
+#![tactic(auto)]
+
+#[cfg(test)]
+mod gates;
+#[cfg(test)]
+mod large;
+#[cfg(test)]
+mod limits;
+#[cfg(test)]
+mod ordinary;
+#[cfg(test)]
+mod stops;
+#[cfg(test)]
+mod words;

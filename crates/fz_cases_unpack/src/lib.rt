@@ -1,0 +1,12 @@
+//! Worked files for `unpack`, as tests on `run` over objects in memory. Expected bytes are written out by hand, from the rules
+//! of the formats.
+//!
+//! Reading order: `unpacks`, `refuses`, `hostile`.
+#![tactic(auto)]
+
+#[cfg(test)]
+mod hostile;
+#[cfg(test)]
+mod refuses;
+#[cfg(test)]
+mod unpacks;

@@ -1,0 +1,127 @@
+//! Files that are unpacked.
+use fz_app::Status;
+use fz_base::FreeGate;
+use fz_cases::changes::{Change, changed};
+use fz_cases::files::{Case, Hdu, commented, data_of, file_of};
+use fz_cases::runs::{FREE, outcome_of, words_for};
+use fz_cases::{grids, headers, others, records, small};
+use std::process::Abort;
+use std::test::Fail;
+use std::thread::Threads;
+
+/// The numbers of workers that a file is unpacked with.
+const WORKERS: [&[&str]; 4] = [
+    &[],
+    &["--workers", "1"],
+    &["--workers=2"],
+    &["--workers", "8"],
+];
+
+/// Asks that the file is unpacked so, by any number of workers.
+fn assert_unpacks<R: Threads + Sync + AllocGlobal + Abort>(
+    rt: &R,
+    packed: &[u8],
+    plain: &[u8],
+    note: &str,
+) -> Result<(), Fail> {
+    for workers in WORKERS {
+        let words = words_for(rt.alloc(), "unpack", workers, &[])?;
+        let outcome = outcome_of(rt, &words, packed, FREE, &FreeGate)?;
+        assert_eq!(rt; outcome.status, Status::Done, "{note} {workers:?}");
+        assert_eq!(rt; outcome.sink.contents(), plain, "{note} {workers:?}");
+        assert_eq!(rt; outcome.text.contents(), b"".as_slice());
+        assert_eq!(rt; outcome.live, 0);
+        assert_eq!(rt; outcome.source.faults(), 0);
+        assert_eq!(rt; outcome.sink.faults(), 0);
+    }
+    Ok(())
+}
+
+// What each list of files was packed with does not matter.
+#[test]
+fn unpacks_what_is_packed(rt: HostRuntime) -> Result<(), Fail> {
+    let lists: [(&str, &[Case<'static>]); 5] = [
+        ("small", &small::CASES),
+        ("grids", &grids::CASES),
+        ("records", &records::CASES),
+        ("headers", &headers::CASES),
+        ("others", &others::CASES),
+    ];
+    for (name, cases) in lists {
+        for case in cases {
+            let packed = file_of(rt.alloc(), case.packed)?;
+            let plain = file_of(rt.alloc(), case.plain)?;
+            assert_unpacks(&rt, &packed, &plain, name)?;
+        }
+    }
+    Ok(())
+}
+
+// A file that holds no packed image is copied.
+#[test]
+fn copies_what_is_not_packed(rt: HostRuntime) -> Result<(), Fail> {
+    let files: [&[Hdu<'static>]; 3] = [
+        &[small::SMALL_FILE],
+        &[small::EMPTY_PRIMARY_HDU],
+        headers::ONE_AND_MANY[1].plain,
+    ];
+    for hdus in files {
+        let file = file_of(rt.alloc(), hdus)?;
+        assert_unpacks(&rt, &file, &file, "copied")?;
+    }
+    Ok(())
+}
+
+// A header of 35 cards and END has one block, and one of 36 has two; packed, both have two.
+#[test]
+fn headers_have_whole_blocks(rt: HostRuntime) -> Result<(), Fail> {
+    let alloc = rt.alloc();
+    let primary = file_of(alloc, &[small::EMPTY_PRIMARY_HDU])?;
+    let data = data_of(alloc, &small::SMALL_ROWS, &small::SMALL_CODES)?;
+    for (comments, len) in [(30, 5760), (31, 8640)] {
+        let packed = commented(alloc, &primary, &small::SMALL_TABLE, comments, &data)?;
+        let plain = commented(alloc, &[], &small::SMALL, comments, &small::SMALL_PIXELS)?;
+        assert_eq!(rt; plain.len(), len);
+        assert_unpacks(&rt, &packed, &plain, "blocks")?;
+    }
+    Ok(())
+}
+
+// Only a sum can tell that a code was changed to another one.
+#[test]
+fn changed_code_is_other_pixels(rt: HostRuntime) -> Result<(), Fail> {
+    let change = Change::Table(&[], &[(32, &[0x7f])]);
+    let packed = changed(rt.alloc(), &small::SMALL_PACKED_FILE, &change)?;
+    let plain = file_of(
+        rt.alloc(),
+        &[Hdu {
+            cards: &small::SMALL,
+            numbers: &[],
+            bytes: &[127, 0, 127, 1, 127, 0, 127, 1, 0, 0, 0, 1, 0, 0, 0, 1],
+        }],
+    )?;
+    assert_unpacks(&rt, &packed, &plain, "changed")
+}
+
+// With ample memory this says no more than a file above; `tools/fail_allocations` lets allocations of the run fail.
+#[test]
+fn nothing_is_live_without_memory(rt: HostRuntime) -> Result<(), Fail> {
+    let alloc = rt.alloc();
+    let file = file_of(alloc, &small::SMALL_PACKED_FILE)?;
+    let outcome = outcome_of(&rt, &["unpack", "IN", "OUT"], &file, FREE, &FreeGate)?;
+    assert!(rt; matches!(outcome.status, Status::Done | Status::NoMemory));
+    assert_eq!(rt; outcome.live, 0);
+    Ok(())
+}
+
+// Also for `tools/fail_allocations`.
+#[test]
+fn ample_memory_unpacks_the_small_file(rt: HostRuntime) -> Result<(), Fail> {
+    let alloc = rt.alloc();
+    let file = file_of(alloc, &small::SMALL_PACKED_FILE)?;
+    let plain = file_of(alloc, &[small::SMALL_FILE])?;
+    let outcome = outcome_of(&rt, &["unpack", "IN", "OUT"], &file, FREE, &FreeGate)?;
+    assert_eq!(rt; outcome.status, Status::Done);
+    assert_eq!(rt; outcome.sink.contents(), plain.as_slice());
+    Ok(())
+}
