@@ -37,6 +37,21 @@ def star_field(columns, rows, stars, seed):
     return [min(32767, round(pixel)) for line in sky for pixel in line]
 
 
+def flag_lines(columns, rows, seed):
+    """Flags 0 to 3 in runs, most of them 0."""
+    rng = random.Random(seed)
+    flags = []
+    while len(flags) < columns * rows:
+        flags += [rng.choice((0, 0, 0, 1, 2, 3))] * rng.randint(1, 40)
+    return flags[: columns * rows]
+
+
+def depths(columns, rows, seed):
+    """A slope of 32-bit numbers with noise, from below 0 to above 2^24."""
+    rng = random.Random(seed)
+    return [round(20000 * (x + y * columns / 10) - 10**6 + rng.gauss(0, 300)) for y in range(rows) for x in range(columns)]
+
+
 def text_card(name, text):
     return f"{name:<8}= {chr(39) + text.ljust(8) + chr(39)}".ljust(80).encode("ascii")
 
@@ -55,6 +70,27 @@ def grid_file():
     """A primary image of 5 x 3 pixels of 8 bits, 1 to 15."""
     cards = [card("SIMPLE", "T"), card("BITPIX", "8"), card("NAXIS", "2"), card("NAXIS1", "5"), card("NAXIS2", "3")]
     return header(cards) + blocks([bytes(range(1, 16))], b"\0")
+
+
+def image_hdu(bitpix, letter, columns, rows, pixels, further=(), first=False):
+    """An image of any bits, as the primary or as an extension, with further cards."""
+    cards = [card("SIMPLE", "T") if first else text_card("XTENSION", "IMAGE"), card("BITPIX", str(bitpix)), card("NAXIS", "2")]
+    cards += [card("NAXIS1", str(columns)), card("NAXIS2", str(rows))]
+    cards += [] if first else [card("PCOUNT", "0"), card("GCOUNT", "1")]
+    return header(cards + list(further)) + blocks([struct.pack(f">{columns * rows}{letter}", *pixels)], b"\0")
+
+
+def several_file():
+    """An empty primary, images of 16, 8 and 32 bits with cards of their own, and a small binary table."""
+    primary = header([card("SIMPLE", "T"), card("BITPIX", "16"), card("NAXIS", "0"), card("EXTEND", "T"), text_card("ORIGIN", "fz")])
+    counts = image_hdu(16, "h", 64, 48, star_field(64, 48, 10, 8), [text_card("EXTNAME", "SCI"), card("BZERO", "32768"), card("BSCALE", "1")])
+    flags = image_hdu(8, "B", 64, 48, flag_lines(64, 48, 9), [text_card("EXTNAME", "DQ")])
+    depth = image_hdu(32, "i", 64, 48, depths(64, 48, 10), [text_card("EXTNAME", "ERR"), b"HISTORY made from a seed".ljust(80)])
+    table = header(
+        [text_card("XTENSION", "BINTABLE"), card("BITPIX", "8"), card("NAXIS", "2"), card("NAXIS1", "4"), card("NAXIS2", "3")]
+        + [card("PCOUNT", "0"), card("GCOUNT", "1"), card("TFIELDS", "1"), text_card("TTYPE1", "TIME"), text_card("TFORM1", "1J")]
+    )
+    return primary + counts + flags + depth + table + blocks([struct.pack(">3i", 1, 2, 3)], b"\0")
 
 
 EMPTY_PRIMARY = header([card("SIMPLE", "T"), card("BITPIX", "8"), card("NAXIS", "0"), card("EXTEND", "T")])
@@ -106,6 +142,9 @@ def main():
     (SAMPLES / "small.fits").write_bytes(image(4, 2, small))
     (SAMPLES / "grid.fits").write_bytes(grid_file())
     (SAMPLES / "star_field.fits").write_bytes(image(128, 96, star_field(128, 96, 40, 7)))
+    (SAMPLES / "flags.fits").write_bytes(image_hdu(8, "B", 128, 96, flag_lines(128, 96, 11), first=True))
+    (SAMPLES / "depths.fits").write_bytes(image_hdu(32, "i", 128, 96, depths(128, 96, 12), first=True))
+    (SAMPLES / "several.fits").write_bytes(several_file())
     (SAMPLES / "packed" / "small.rice.fits").write_bytes(small_by_rice())
     (SAMPLES / "packed" / "small.none.fits").write_bytes(small_stored())
     (SAMPLES / "packed" / "grid.2x2.fits").write_bytes(grid_stored())

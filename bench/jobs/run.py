@@ -1,5 +1,5 @@
 #!/usr/bin/env python3
-"""run.py FZ FOLDER: times the jobs of the program FZ on the images of FOLDER, beside fpack and cp.
+"""run.py FZ FOLDER [pack|unpack]: times the jobs of the program FZ on the images of FOLDER, beside fpack, funpack and cp.
 
 Each time is the least of five runs, which take turns. The most resident memory is that of one run more, by the command time.
 """
@@ -10,6 +10,7 @@ import sys
 import time
 
 PASSES = 5
+WORKERS = (1, 2, 4, 32)
 TIME = "/usr/bin/time"
 IMAGES = (("ccd.fits", ["--codec", "rice"], ["-r"]), ("sky.fits", ["--codec", "rice"], ["-r"]), ("mask.fits", ["--codec", "plio"], ["-p"]))
 
@@ -36,32 +37,63 @@ def remove(path):
         os.remove(path)
 
 
-def commands(fz, plain, out, ours, theirs):
+def with_workers(fz, job, options, files):
+    """The job with each number of workers."""
+    return [(f"fz {job}, {it} worker{'s' * (it > 1)}", [fz, job, *options, "--workers", str(it), *files]) for it in WORKERS]
+
+
+def packing(fz, plain, out, ours, theirs):
     """Names of what is timed, with its words; each command writes the file `out`."""
-    made = [(f"fz pack, {it} worker{'s' * (it > 1)}", [fz, "pack", *ours, "--workers", str(it), plain, out]) for it in (1, 2, 4, 32)]
+    made = with_workers(fz, "pack", ours, [plain, out])
     if shutil.which("fpack"):
         made.append(("fpack -C", ["fpack", "-C", *theirs, "-O", out, plain]))
     return made + [("cp", ["cp", plain, out])]
 
 
-def main():
-    fz, folder = os.path.abspath(sys.argv[1]), os.path.abspath(sys.argv[2])
-    for name, ours, theirs in IMAGES:
-        plain, out = f"{folder}/{name}", f"{folder}/out.fits"
-        size = os.path.getsize(plain)
-        rows = commands(fz, plain, out, ours, theirs)
-        least = {}
-        for _ in range(PASSES):
-            for title, words in rows:
-                remove(out)
-                seconds = run(words)
-                least[title] = min(seconds, least.get(title, seconds))
-        print(f"{name}, {size / 1e6:.1f} MB")
+def packed_by(words, packed):
+    """Packs once, so that there is something to unpack."""
+    remove(packed)
+    run(words)
+    return packed
+
+
+def unpacking(fz, plain, out, ours, theirs):
+    """The same for unpack: of what fz packed and, where it is installed, of what fpack packed, beside funpack on both."""
+    files = [("fz", packed_by([fz, "pack", *ours, plain, f"{plain}.fz"], f"{plain}.fz"))]
+    if shutil.which("fpack"):
+        files.append(("fpack", packed_by(["fpack", "-C", *theirs, "-O", f"{plain}.fpack", plain], f"{plain}.fpack")))
+    made = []
+    for packer, packed in files:
+        made += [(f"{title}, packed by {packer}", words) for title, words in with_workers(fz, "unpack", [], [packed, out])]
+        if shutil.which("funpack"):
+            made.append((f"funpack -C, packed by {packer}", ["funpack", "-C", "-O", out, packed]))
+    return made + [("cp", ["cp", plain, out])]
+
+
+def time_all(rows, size, out):
+    """Times each command and prints its row."""
+    least = {}
+    for _ in range(PASSES):
         for title, words in rows:
             remove(out)
-            memory = peak(words)
-            print(f"| {title} | {1000 * least[title]:.0f} ms | {size / 1e6 / least[title]:.0f} MB/s | {os.path.getsize(out) / 1e6:.2f} MB written | {memory} resident |")
+            seconds = run(words)
+            least[title] = min(seconds, least.get(title, seconds))
+    for title, words in rows:
         remove(out)
+        memory = peak(words)
+        print(f"| {title} | {1000 * least[title]:.0f} ms | {size / 1e6 / least[title]:.0f} MB/s | {os.path.getsize(out) / 1e6:.2f} MB written | {memory} resident |")
+    remove(out)
+
+
+def main():
+    fz, folder = os.path.abspath(sys.argv[1]), os.path.abspath(sys.argv[2])
+    jobs = {"pack": packing, "unpack": unpacking}
+    for job in sys.argv[3:] or jobs:
+        for name, ours, theirs in IMAGES:
+            plain, out = f"{folder}/{name}", f"{folder}/out.fits"
+            size = os.path.getsize(plain)
+            print(f"{job}, {name}, {size / 1e6:.1f} MB")
+            time_all(jobs[job](fz, plain, out, ours, theirs), size, out)
 
 
 if __name__ == "__main__":
