@@ -1,0 +1,187 @@
+-- What a job promises where the first look knows the file, by what the work behind it says.
+use Rattle.std.proofs.Common.{◌≡◌, inr, ℕ, ◌+◌, ◌≤◌, max, Bool, List, sum, sym, ap, ◌∙◌, subst, arith}
+use Rattle.std.specs.Prelude.{Option, Some, None, IfSome, IfOk, Result, Ok, Err, not}
+use Rattle.std.specs.List.{list_any}
+use Rattle.fz_base.specs.Sink.{MayAppend, appended}
+use Rattle.fz_base.specs.Stop.{IfRefused}
+use Rattle.fz_base.specs.Takings.{TellsFirstPast, first_past, highest, piled}
+use Rattle.fz_base.specs.declared.fault.Fault.{Fault}
+use Rattle.fz_base.specs.declared.failure.Stop.{Stop}
+use Rattle.fz_base.specs.declared.failure.Stop.TheVariants.{Refused, ReadFault, WriteFault, OverLimit, NoMemory}
+use Rattle.fz_block.specs.declared.header.Header.{Header}
+use Rattle.fz_files.specs.Buffers.{AreBounded, job_bound}
+use Rattle.fz_files.specs.FirstFault.{IsFaultBehind, IsFirstFault, IsFirstRowFault, all_rows}
+use Rattle.fz_files.specs.Lines.{before_fault, has_wrong_sum, lines_behind, report_lines}
+use Rattle.fz_files.specs.Walks.{header_fault}
+use Rattle.fz_files.specs.declared.job.Job.{Job}
+use Rattle.fz_files.specs.declared.job.Job.TheVariants.{Verify, List as ListHdus}
+use Rattle.fz_survey.specs.Surveys.{survey_takings, surveyed}
+use Rattle.fz_survey.specs.Workspace.{StaysInBound, wanted_buffers}
+use Rattle.fz_survey.specs.declared.checks.JobChecks.TheVariants.{Unpack as UnpackChecks}
+use Rattle.fz_survey.specs.declared.survey.Survey.{Survey}
+use Rattle.fz_survey.specs.declared.workspace.Wants.{Wants}
+use Rattle.fz_job.specs.Clauses.{ComesLate, IfOverLimit, IsUnmade, TellsFirstFault}
+use Rattle.fz_verify.specs.Clauses.{GotFront, IsRightAsSaid, PrintsLines}
+use Rattle.fz_verify.specs.Printed.{GotSome, GotVerified, ListsSeen, VerifiesSeen, list_lines, verify_lines}
+use Rattle.fz_verify.specs.Stages.{IsKnown, SurveysKnow, SurveysMeasure, later_takings, wants_to_list, wants_to_verify}
+use Rattle.fz_verify.proofs.Jobs.{IsReader}
+use Rattle.fz_verify.proofs.Outcomes.{refused_weaker}
+use Rattle.fz_verify.proofs.Takings.{Wanted, look_within, wanted_to_list, wanted_to_verify, work_tells}
+
+-- the first look knows this of the file
+abbrev pub Knows : Survey → List ℕ → Type 0
+Knows s g = surveyed UnpackChecks g ≡ Ok s
+
+-- ---- what both jobs promise
+
+module _ (job : Job) (know : SurveysKnow job) (s : Survey) where
+  pub work_silent : {X : Type 0} (held : Option (List ℕ)) (Same : Type 0) (r : Result X Stop) → IfSome held (Knows s) → IfOverLimit r Same → IfRefused r (ComesLate job) → IsUnmade job held Same r
+  work_silent held Same r exact over late = record { faulty = by_held held exact; over_limit = over; refused = refused_weaker r (λ x is. inr is) late }
+    where
+      by_held : (told : Option (List ℕ)) → IfSome told (Knows s) → IfSome told (λ file. ¬ (header_fault job file ≡ None) → Same)
+      by_held None is = tt
+      by_held (Some g) is = λ faulty. absurd (faulty (know g s is).no_fault)
+
+  module _ (reader : IsReader job) (wants : Wants) (wanted : (g : List ℕ) → Knows s g → Wanted job g wants) (live : ℕ) (one : live ≡ 2880) where
+    pub work_takes : {X : Type 0} (held : Option (List ℕ)) (limit : ℕ) (r : Result X Stop) → IfSome held (Knows s) → IfSome held (λ g. first_past limit (survey_takings UnpackChecks live g) ≡ None) →
+        TellsFirstPast limit (piled live (wanted_buffers wants 1)) r → IfSome held (λ g. TellsFirstPast limit (later_takings job g) r)
+    work_takes None limit r exact none tells = tt
+    work_takes (Some g) limit r exact none tells = work_tells job reader g live one limit wants r ((wanted g exact).takings live one) none tells
+
+    pub work_peak : AreBounded → StaysInBound → (held : Option (List ℕ)) (old mid new : ℕ) → IfSome held (Knows s) → IfSome held (λ g. mid ≤ max old (highest (survey_takings UnpackChecks live g))) →
+        new ≤ max mid (live + sum (wanted_buffers wants 1)) → IfSome held (λ g. new ≤ max old (job_bound job g 1))
+    work_peak bounded bound None old mid new exact low high = tt
+    work_peak bounded bound (Some g) old mid new exact low high =
+        let look = look_within job reader g live one bounded in
+        let work = (wanted g exact).within live one bound in
+        omega (arith, look, work, low, high)
+
+  -- the first fault of the file, by that of its rows
+  pub rows_fault : (g : List ℕ) (known : IsKnown job g s) (fault : Option Fault) → IsFaultBehind None job g fault → IsFirstFault job g fault
+  rows_fault g known fault is = subst (λ (f : Option Fault). IsFaultBehind f job g fault) (sym known.no_fault) is
+
+  pub rows_fault_back : (g : List ℕ) (known : IsKnown job g s) (fault : Option Fault) → IsFirstFault job g fault → IsFaultBehind None job g fault
+  rows_fault_back g known fault is = subst (λ (f : Option Fault). IsFaultBehind f job g fault) known.no_fault is
+
+  -- the lines of the job, where no header is refused
+  pub lines_known : (g : List ℕ) (known : IsKnown job g s) (fault : Option Fault) → report_lines job g fault ≡ lines_behind None job g fault
+  lines_known g known fault = ap (λ (f : Option Fault). lines_behind f job g fault) known.no_fault
+
+-- ---- `list`
+
+module _ (know : SurveysKnow ListHdus) (s : Survey) where
+  list_lines_are : (g : List ℕ) (known : IsKnown ListHdus g s) (fault : Option Fault) → report_lines ListHdus g fault ≡ list_lines g known.headers
+  list_lines_are g known fault = lines_known ListHdus know s g known fault ∙ ap (list_lines g) known.are
+
+  listed : {X : Type 0} (g : List ℕ) (known : IsKnown ListHdus g s) (old new : Option (List ℕ)) (r : Result X Stop) → ListsSeen g s old new r → PrintsLines ListHdus (Some g) old new r
+  listed g known old new (Ok x) seen = seen known.headers known.seen ∙ ap (λ l. appended l old) (sym (list_lines_are g known None))
+  listed g known old new (Err (Refused x)) seen = absurd (seen known.headers known.seen)
+  listed g known old new (Err ReadFault) seen = λ fault is. subst (λ l. MayAppend l old new) (sym (list_lines_are g known fault)) (seen known.headers known.seen)
+  listed g known old new (Err WriteFault) seen = λ fault is. subst (λ l. MayAppend l old new) (sym (list_lines_are g known fault)) (seen known.headers known.seen)
+  listed g known old new (Err (OverLimit live asked limit)) seen = λ fault is. subst (λ l. MayAppend l old new) (sym (list_lines_are g known fault)) (seen known.headers known.seen)
+  listed g known old new (Err NoMemory) seen = λ fault is. subst (λ l. MayAppend l old new) (sym (list_lines_are g known fault)) (seen known.headers known.seen)
+
+  none_told : {X : Type 0} (job : Job) (old new : Option (List ℕ)) (r : Result X Stop) → PrintsLines job None old new r
+  none_told job old new (Ok x) = tt
+  none_told job old new (Err (Refused x)) = tt
+  none_told job old new (Err ReadFault) = tt
+  none_told job old new (Err WriteFault) = tt
+  none_told job old new (Err (OverLimit live asked limit)) = tt
+  none_told job old new (Err NoMemory) = tt
+
+  pub list_prints : {X : Type 0} (held old new : Option (List ℕ)) (r : Result X Stop) → IfSome held (Knows s) → IfSome held (λ g. ListsSeen g s old new r) → PrintsLines ListHdus held old new r
+  list_prints None old new r exact seen = none_told ListHdus old new r
+  list_prints (Some g) old new r exact seen = listed g (know g s exact) old new r seen
+
+  list_faulty_by : {X : Type 0} (g : List ℕ) (known : IsKnown ListHdus g s) (old new : Option (List ℕ)) (r : Result X Stop) → ListsSeen g s old new r → TellsFirstFault ListHdus (Some g) r
+  list_faulty_by g known old new (Ok x) seen = rows_fault ListHdus know s g known None tt
+  list_faulty_by g known old new (Err (Refused x)) seen = absurd (seen known.headers known.seen)
+  list_faulty_by g known old new (Err ReadFault) seen = tt
+  list_faulty_by g known old new (Err WriteFault) seen = tt
+  list_faulty_by g known old new (Err (OverLimit live asked limit)) seen = tt
+  list_faulty_by g known old new (Err NoMemory) seen = tt
+
+  fault_untold : {X : Type 0} (job : Job) (r : Result X Stop) → TellsFirstFault job None r
+  fault_untold job (Ok x) = tt
+  fault_untold job (Err (Refused x)) = tt
+  fault_untold job (Err ReadFault) = tt
+  fault_untold job (Err WriteFault) = tt
+  fault_untold job (Err (OverLimit live asked limit)) = tt
+  fault_untold job (Err NoMemory) = tt
+
+  pub list_faulty : {X : Type 0} (held old new : Option (List ℕ)) (r : Result X Stop) → IfSome held (Knows s) → IfSome held (λ g. ListsSeen g s old new r) → TellsFirstFault ListHdus held r
+  list_faulty None old new r exact seen = fault_untold ListHdus r
+  list_faulty (Some g) old new r exact seen = list_faulty_by g (know g s exact) old new r seen
+
+  pub list_wants : (g : List ℕ) → Knows s g → Wanted ListHdus g (wants_to_list s)
+  list_wants g exact = wanted_to_list g s (know g s exact)
+
+-- ---- `verify`
+
+module _ (know : SurveysKnow Verify) (s : Survey) where
+  verify_lines_are : (g : List ℕ) (known : IsKnown Verify g s) (fault : Option Fault) → report_lines Verify g fault ≡ verify_lines g (before_fault fault known.headers)
+  verify_lines_are g known fault = lines_known Verify know s g known fault ∙ ap (λ (hs : List Header). verify_lines g (before_fault fault hs)) known.are
+
+  rows_are : (g : List ℕ) (known : IsKnown Verify g s) (fault : Option Fault) → IsFirstFault Verify g fault → IsFirstRowFault g (all_rows g known.headers) fault
+  rows_are g known fault is = subst (λ (hs : List Header). IsFirstRowFault g (all_rows g hs) fault) known.are (rows_fault_back Verify know s g known fault is)
+
+  rows_back : (g : List ℕ) (known : IsKnown Verify g s) (fault : Option Fault) → IsFirstRowFault g (all_rows g known.headers) fault → IsFirstFault Verify g fault
+  rows_back g known fault is = rows_fault Verify know s g known fault (subst (λ (hs : List Header). IsFirstRowFault g (all_rows g hs) fault) (sym known.are) is)
+
+  some_front : (g : List ℕ) (known : IsKnown Verify g s) (old new : Option (List ℕ)) → GotSome g known.headers old new → GotFront Verify g old new
+  some_front g known old new some = λ fault is. subst (λ l. MayAppend l old new) (sym (verify_lines_are g known fault)) (some fault (rows_are g known fault is))
+
+  verified : (g : List ℕ) (known : IsKnown Verify g s) (old new : Option (List ℕ)) (r : Result Bool Stop) → GotVerified g known.headers old new r → PrintsLines Verify (Some g) old new r
+  verified g known old new (Ok x) got = got.1 ∙ ap (λ l. appended l old) (sym (verify_lines_are g known None))
+  verified g known old new (Err (Refused x)) got = got.1 ∙ ap (λ l. appended l old) (sym (verify_lines_are g known (Some x)))
+  verified g known old new (Err ReadFault) got = some_front g known old new got
+  verified g known old new (Err WriteFault) got = some_front g known old new got
+  verified g known old new (Err (OverLimit live asked limit)) got = some_front g known old new got
+  verified g known old new (Err NoMemory) got = some_front g known old new got
+
+  verify_untold : (old new : Option (List ℕ)) (r : Result Bool Stop) → PrintsLines Verify None old new r
+  verify_untold old new (Ok x) = tt
+  verify_untold old new (Err (Refused x)) = tt
+  verify_untold old new (Err ReadFault) = tt
+  verify_untold old new (Err WriteFault) = tt
+  verify_untold old new (Err (OverLimit live asked limit)) = tt
+  verify_untold old new (Err NoMemory) = tt
+
+  pub verify_prints : (held old new : Option (List ℕ)) (r : Result Bool Stop) → IfSome held (Knows s) → IfSome held (λ g. VerifiesSeen g s old new r) → PrintsLines Verify held old new r
+  verify_prints None old new r exact seen = verify_untold old new r
+  verify_prints (Some g) old new r exact seen = let known = know g s exact in verified g known old new r (seen known.headers known.seen)
+
+  -- the answer says whether no sum is wrong
+  right_by : (g : List ℕ) (known : IsKnown Verify g s) (old new : Option (List ℕ)) (r : Result Bool Stop) → GotVerified g known.headers old new r → IfOk r (λ right. IsRightAsSaid right g)
+  right_by g known old new (Ok right) got = got.0.judged ∙ ap (λ (hs : List Header). not (list_any (has_wrong_sum g) hs)) (sym known.are)
+  right_by g known old new (Err stop) got = tt
+
+  pub verify_right : (held old new : Option (List ℕ)) (r : Result Bool Stop) → IfSome held (Knows s) → IfSome held (λ g. VerifiesSeen g s old new r) → IfOk r (λ right. IfSome held (IsRightAsSaid right))
+  verify_right None old new (Ok right) exact seen = tt
+  verify_right None old new (Err stop) exact seen = tt
+  verify_right (Some g) old new (Ok right) exact seen = let known = know g s exact in right_by g known old new (Ok right) (seen known.headers known.seen)
+  verify_right (Some g) old new (Err stop) exact seen = tt
+
+  -- the first faulty row is refused
+  verify_faulty_by : (g : List ℕ) (known : IsKnown Verify g s) (old new : Option (List ℕ)) (r : Result Bool Stop) → GotVerified g known.headers old new r → TellsFirstFault Verify (Some g) r
+  verify_faulty_by g known old new (Ok x) got = rows_back g known None got.0.sound
+  verify_faulty_by g known old new (Err (Refused x)) got = rows_back g known (Some x) got.0
+  verify_faulty_by g known old new (Err ReadFault) got = tt
+  verify_faulty_by g known old new (Err WriteFault) got = tt
+  verify_faulty_by g known old new (Err (OverLimit live asked limit)) got = tt
+  verify_faulty_by g known old new (Err NoMemory) got = tt
+
+  verify_fault_untold : (r : Result Bool Stop) → TellsFirstFault Verify None r
+  verify_fault_untold (Ok x) = tt
+  verify_fault_untold (Err (Refused x)) = tt
+  verify_fault_untold (Err ReadFault) = tt
+  verify_fault_untold (Err WriteFault) = tt
+  verify_fault_untold (Err (OverLimit live asked limit)) = tt
+  verify_fault_untold (Err NoMemory) = tt
+
+  pub verify_faulty : (held old new : Option (List ℕ)) (r : Result Bool Stop) → IfSome held (Knows s) → IfSome held (λ g. VerifiesSeen g s old new r) → TellsFirstFault Verify held r
+  verify_faulty None old new r exact seen = verify_fault_untold r
+  verify_faulty (Some g) old new r exact seen = let known = know g s exact in verify_faulty_by g known old new r (seen known.headers known.seen)
+
+  pub verify_wants : SurveysMeasure → (g : List ℕ) → Knows s g → Wanted Verify g (wants_to_verify s)
+  verify_wants measure g exact = wanted_to_verify g s (know g s exact) (measure g s exact)

@@ -1,0 +1,131 @@
+-- What the parts of a job make of its promises, where no line was printed.
+use Rattle.std.proofs.Common.{◌≡◌, ◌⊎◌, inl, ℕ, ◌≤◌, max, List, refl, sym, ap, ◌∙◌, subst, arith}
+use Rattle.std.specs.Prelude.{Option, Some, None, IfSome, Result, Ok, Err}
+use Rattle.fz_base.specs.Counts.{Tally}
+use Rattle.fz_base.specs.Sink.{appended}
+use Rattle.fz_base.specs.Stop.{IfRefused, IsDefined, StoppedTaking, stop_of_short}
+use Rattle.fz_base.specs.Takings.{TellsFirstPast, highest}
+use Rattle.fz_base.specs.declared.fault.Fault.{Fault}
+use Rattle.fz_base.specs.declared.failure.Short.{Short}
+use Rattle.fz_base.specs.declared.failure.Short.TheVariants.{NoMemory as NoRoom, OverLimit as PastLimit}
+use Rattle.fz_base.specs.declared.failure.Stop.{Stop}
+use Rattle.fz_base.specs.declared.failure.Stop.TheVariants.{Refused, ReadFault, WriteFault, OverLimit, NoMemory}
+use Rattle.fz_files.specs.Buffers.{AreBounded, job_bound}
+use Rattle.fz_files.specs.FirstFault.{IsFaultBehind}
+use Rattle.fz_block.specs.declared.header.Header.{Header}
+use Rattle.fz_files.specs.Lines.{before_fault, lines_behind, report_lines}
+use Rattle.fz_files.specs.Walks.{header_fault}
+use Rattle.fz_files.specs.declared.job.Job.{Job}
+use Rattle.fz_survey.specs.Surveys.{survey_takings, surveyed}
+use Rattle.fz_survey.specs.declared.checks.JobChecks.TheVariants.{Unpack as UnpackChecks}
+use Rattle.fz_survey.specs.declared.survey.Survey.{Survey}
+use Rattle.fz_job.specs.Clauses.{ComesLate, IfOverLimit, IsUnmade, TellsFirstFault}
+use Rattle.fz_verify.specs.Clauses.{GotFront, GotLines, PrintsLines}
+use Rattle.fz_verify.specs.Printed.{GotSome, IsList, VerifiesSeen, verify_lines}
+use Rattle.fz_verify.specs.Stages.{SurveysRefuse, later_takings}
+use Rattle.fz_verify.proofs.Jobs.{IsReader}
+use Rattle.fz_verify.proofs.Takings.{look_tells, look_within}
+use Rattle.fz_verify.proofs.Texts.{appended_none, front_none}
+
+-- ---- facts that hold whatever the answer
+
+pub always : (held : Option (List ℕ)) (P : List ℕ → Type 0) → ((g : List ℕ) → P g) → IfSome held P
+always None P is = tt
+always (Some g) P is = is g
+
+pub if_over : {X : Type 0} (r : Result X Stop) (P : Type 0) → P → IfOverLimit r P
+if_over (Ok x) P is = tt
+if_over (Err (Refused x)) P is = tt
+if_over (Err ReadFault) P is = tt
+if_over (Err WriteFault) P is = tt
+if_over (Err (OverLimit live asked limit)) P is = is
+if_over (Err NoMemory) P is = tt
+
+pub if_refused : {X : Type 0} (r : Result X Stop) (P : Fault → Type 0) → ((x : Fault) → P x) → IfRefused r P
+if_refused (Ok x) P is = tt
+if_refused (Err (Refused x)) P is = is x
+if_refused (Err ReadFault) P is = tt
+if_refused (Err WriteFault) P is = tt
+if_refused (Err (OverLimit live asked limit)) P is = tt
+if_refused (Err NoMemory) P is = tt
+
+pub refused_weaker : {X : Type 0} (r : Result X Stop) {P Q : Fault → Type 0} → ((x : Fault) → P x → Q x) → IfRefused r P → IfRefused r Q
+refused_weaker (Ok x) weaker is = tt
+refused_weaker (Err (Refused x)) weaker is = weaker x is
+refused_weaker (Err ReadFault) weaker is = tt
+refused_weaker (Err WriteFault) weaker is = tt
+refused_weaker (Err (OverLimit live asked limit)) weaker is = tt
+refused_weaker (Err NoMemory) weaker is = tt
+
+-- the text was not touched
+pub untouched_silent : {X : Type 0} (job : Job) (held : Option (List ℕ)) (Same : Type 0) (r : Result X Stop) → Same → IsUnmade job held Same r
+untouched_silent job held Same r is = record {
+  faulty = always held (λ file. ¬ (header_fault job file ≡ None) → Same) (λ g faulty. is);
+  over_limit = if_over r Same is;
+  refused = if_refused r (λ x. Same ⊎ ComesLate job x) (λ x. inl is);
+}
+
+-- ---- buffers that were not given
+
+front_always : (job : Job) (held old : Option (List ℕ)) → IfSome held (λ file. GotFront job file old old)
+front_always job held old = always held (λ file. GotFront job file old old) (λ g fault is. front_none (report_lines job g fault) old)
+
+pub short_unprinted : (X : Type 0) (job : Job) (held old : Option (List ℕ)) (short : Short) → PrintsLines {X = X} job held old old (Err (stop_of_short short))
+short_unprinted X job held old NoRoom = front_always job held old
+short_unprinted X job held old (PastLimit live asked limit) = front_always job held old
+
+pub short_untold : (X : Type 0) (job : Job) (held : Option (List ℕ)) (short : Short) → TellsFirstFault {X = X} job held (Err (stop_of_short short))
+short_untold X job held NoRoom = tt
+short_untold X job held (PastLimit live asked limit) = tt
+
+-- ---- the first look, by the bytes that the source tells
+
+module _ (job : Job) (held : Option (List ℕ)) where
+  -- it stopped
+  pub look_faulty : SurveysRefuse job → (X : Type 0) (stop : Stop) → IfSome held (λ g. IsDefined {X = Survey} (surveyed UnpackChecks g) (Err stop)) → TellsFirstFault {X = X} job held (Err stop)
+  look_faulty refuse X (Refused x) exact = by_held held exact
+    where
+      by_held : (told : Option (List ℕ)) → IfSome told (λ g. surveyed UnpackChecks g ≡ Err x) → IfSome told (λ g. IsFaultBehind (header_fault job g) job g (Some x))
+      by_held None is = tt
+      by_held (Some g) is = subst (λ (f : Option Fault). IsFaultBehind f job g (Some x)) (sym (refuse g x is)) refl
+  look_faulty refuse X ReadFault exact = tt
+  look_faulty refuse X WriteFault exact = tt
+  look_faulty refuse X (OverLimit live asked limit) exact = tt
+  look_faulty refuse X NoMemory exact = tt
+
+  -- and printed nothing
+  pub look_unprinted : SurveysRefuse job → (X : Type 0) (old : Option (List ℕ)) (stop : Stop) → IfSome held (λ g. IsDefined {X = Survey} (surveyed UnpackChecks g) (Err stop)) → PrintsLines {X = X} job held old old (Err stop)
+  look_unprinted refuse X old (Refused x) exact = by_held held exact
+    where
+      by_held : (told : Option (List ℕ)) → IfSome told (λ g. surveyed UnpackChecks g ≡ Err x) → IfSome told (λ g. GotLines job g (Some x) old old)
+      by_held None is = tt
+      by_held (Some g) is = appended_none old ∙ ap (λ (f : Option Fault). appended (lines_behind f job g (Some x)) old) (sym (refuse g x is))
+  look_unprinted refuse X old ReadFault exact = front_always job held old
+  look_unprinted refuse X old WriteFault exact = front_always job held old
+  look_unprinted refuse X old (OverLimit live asked limit) exact = front_always job held old
+  look_unprinted refuse X old NoMemory exact = front_always job held old
+
+  pub look_takes : IsReader job → SurveysRefuse job → (X : Type 0) (live limit : ℕ) (stop : Stop) (before now : Tally) → live ≡ 2880 → StoppedTaking before now limit stop → IfSome held (λ g. IsDefined {X = Survey} (surveyed UnpackChecks g) (Err stop)) →
+      IfSome held (λ g. TellsFirstPast {X = Survey} limit (survey_takings UnpackChecks live g) (Err stop)) → IfSome held (λ g. TellsFirstPast {X = X} limit (later_takings job g) (Err stop))
+  look_takes reader refuse X live limit stop before now one cause exact tells = by_held held exact tells
+    where
+      by_held : (told : Option (List ℕ)) → IfSome told (λ g. IsDefined {X = Survey} (surveyed UnpackChecks g) (Err stop)) → IfSome told (λ g. TellsFirstPast {X = Survey} limit (survey_takings UnpackChecks live g) (Err stop)) →
+          IfSome told (λ g. TellsFirstPast {X = X} limit (later_takings job g) (Err stop))
+      by_held None is past = tt
+      by_held (Some g) is past = look_tells job reader g live one refuse X limit stop before now cause is past
+
+  pub look_peak : IsReader job → AreBounded → (live old new : ℕ) → live ≡ 2880 → IfSome held (λ g. new ≤ max old (highest (survey_takings UnpackChecks live g))) → IfSome held (λ g. new ≤ max old (job_bound job g 1))
+  look_peak reader bounded live old new one peak = by_held held peak
+    where
+      by_held : (told : Option (List ℕ)) → IfSome told (λ g. new ≤ max old (highest (survey_takings UnpackChecks live g))) → IfSome told (λ g. new ≤ max old (job_bound job g 1))
+      by_held None low = tt
+      by_held (Some g) low = let within = look_within job reader g live one bounded in omega (arith, low, within)
+
+-- no HDU was verified
+some_always : (held : Option (List ℕ)) (s : Survey) (old : Option (List ℕ)) → IfSome held (λ g. (hs : List Header) → IsList g s hs → GotSome g hs old old)
+some_always held s old =
+    always held (λ g. (hs : List Header) → IsList g s hs → GotSome g hs old old) (λ g hs list fault is. front_none (verify_lines g (before_fault fault hs)) old)
+
+pub short_verified : (held : Option (List ℕ)) (s : Survey) (old : Option (List ℕ)) (short : Short) → IfSome held (λ g. VerifiesSeen g s old old (Err (stop_of_short short)))
+short_verified held s old NoRoom = some_always held s old
+short_verified held s old (PastLimit live asked limit) = some_always held s old

@@ -1,0 +1,146 @@
+-- One HDU after another.
+use Rattle.std.proofs.Common.{◌≡◌, ℕ, ◌+◌, ◌<◌, ◌≤◌, ◌^◌, ◌&&◌, Bool, List, length, Option, IfSome, Result, Ok, Err, refl, sym, ap, ◌∙◌, subst, inl, inr, arith, rules}
+use Rattle.std.proofs.lemmas.List.{length-append, length-drop, length-take}
+use Rattle.fz_base.specs.Source.{HoldsLength}
+use Rattle.fz_base.specs.declared.failure.Stop.{Stop}
+use Rattle.fz_block.specs.Header.{next_start_of}
+use Rattle.fz_verify.specs.Again.{ReadsAsSeen, is_empty_primary}
+use Rattle.fz_verify.specs.Printed.{ChecksHdu, IsChecking, VerifiesSeen}
+use Rattle.fz_verify.proofs.CheckedHdus.{ends_with_file, more_checked, none_checked, stops_checking, stops_reading}
+use Rattle.fz_verify.proofs.checking.verify_hdus.Goals as goal
+
+pub loop-hdu-init : goal.loop-hdu-init
+loop-hdu-init g c = record {
+  held = refl;
+  attached = refl;
+  reads = refl;
+  prints = refl;
+  told_ranges = λ told. told;
+  told_contents = λ told. told;
+  block = c.requires.block;
+  space = record { header = refl; translated = refl; copy = refl };
+  window = record { sizes = refl; workers = refl };
+  within = inr (refl, refl);
+  early = omega arith;
+  checked = none_checked c.none_refused_law.ensures c.args.survey.now (g.T.Text.contents c.args.text.now) (g.S.Source.held c.args.source.now);
+}
+
+pub returns-in_err-again-clause-verified : goal.returns-in_err-again-clause-verified
+returns-in_err-again-clause-verified g c =
+    let s = c.args.survey.now in
+    let k : ℕ = c.loop-hdu.hdu in
+    let start : ℕ = c.loop-hdu.start in
+    let flag : Bool = c.loop-hdu.after_empty in
+    let right : Bool = c.loop-hdu.right in
+    let held : Option (List ℕ) = g.S.Source.held c.args.source.now in
+    let before : Option (List ℕ) = g.T.Text.contents c.args.text.now in
+    let old = c.loop-hdu.invariant in
+    let few : k < s.hdus = omega arith in
+    let now : Option (List ℕ) = g.T.Text.contents c.loop-hdu.text in
+    let stopped : c.from_residual.result ≡ Err c.in_err-again.field-0.0 = search rules in
+    let long : length c.as_mut_slice-buf.result.now ≡ s.header_len = ap length c.as_mut_slice-buf.ensures.value ∙ old.space.header ∙ c.requires.header in
+    let seen : IfSome held (λ f. ReadsAsSeen f k start flag s.header_len s.tile (Err c.in_err-again.field-0.0)) =
+    subst (λ n. IfSome held (λ f. ReadsAsSeen f k start flag n s.tile (Err c.in_err-again.field-0.0))) long
+    (subst (λ (h : Option (List ℕ)). IfSome h (λ f. ReadsAsSeen f k start flag (length c.as_mut_slice-buf.result.now) s.tile (Err c.in_err-again.field-0.0))) old.held c.in_err-again.ensures.as_seen) in
+    subst (λ (r : Result Bool Stop). IfSome held (λ f. VerifiesSeen f s before now r)) (sym stopped)
+    (stops_reading c.none_refused_law.ensures s before held c.in_err-again.field-0.0 k start flag right now few old.checked seen)
+
+pub returns-in_err-sound-clause-verified : goal.returns-in_err-sound-clause-verified
+returns-in_err-sound-clause-verified g c =
+    let s = c.args.survey.now in
+    let k : ℕ = c.loop-hdu.hdu in
+    let start : ℕ = c.loop-hdu.start in
+    let flag : Bool = c.loop-hdu.after_empty in
+    let right : Bool = c.loop-hdu.right in
+    let held : Option (List ℕ) = g.S.Source.held c.args.source.now in
+    let before : Option (List ℕ) = g.T.Text.contents c.args.text.now in
+    let old = c.loop-hdu.invariant in
+    let few : k < s.hdus = omega arith in
+    let mid : Option (List ℕ) = g.T.Text.contents c.loop-hdu.text in
+    let now : Option (List ℕ) = g.T.Text.contents c.print_verified.new.text in
+    let a = c.in_ok-again.again in
+    let long : length c.as_mut_slice-buf.result.now ≡ s.header_len = ap length c.as_mut_slice-buf.ensures.value ∙ old.space.header ∙ c.requires.header in
+    let seen : IfSome held (λ f. ReadsAsSeen f k start flag s.header_len s.tile (Ok a)) =
+    subst (λ n. IfSome held (λ f. ReadsAsSeen f k start flag n s.tile (Ok a))) long
+    (subst (λ (h : Option (List ℕ)). IfSome h (λ f. ReadsAsSeen f k start flag (length c.as_mut_slice-buf.result.now) s.tile (Ok a))) old.held c.in_ok-again.ensures.as_seen) in
+    let stopped : c.from_residual-in_err-sound.result ≡ Err c.in_err-sound.field-0.0 = search rules in
+    let checked : IfSome held (λ f. ChecksHdu f a.header mid now (Err c.in_err-sound.field-0.0)) =
+    subst (λ (h : Option (List ℕ)). IfSome h (λ f. ChecksHdu f a.header mid now (Err c.in_err-sound.field-0.0))) (c.in_ok-again.ensures.source.held_is ∙ old.held) c.in_err-sound.ensures.checked in
+    subst (λ (r : Result Bool Stop). IfSome held (λ f. VerifiesSeen f s before now r)) (sym stopped)
+    (stops_checking c.none_refused_law.ensures s before held c.in_err-sound.field-0.0 k start flag right mid now a few old.checked seen checked)
+
+pub returns-then-start-length-clause-verified : goal.returns-then-start-length-clause-verified
+returns-then-start-length-clause-verified g c =
+    let s = c.args.survey.now in
+    let k : ℕ = c.loop-hdu.hdu in
+    let start : ℕ = c.loop-hdu.start in
+    let flag : Bool = c.loop-hdu.after_empty in
+    let right : Bool = c.loop-hdu.right in
+    let held : Option (List ℕ) = g.S.Source.held c.args.source.now in
+    let before : Option (List ℕ) = g.T.Text.contents c.args.text.now in
+    let old = c.loop-hdu.invariant in
+    let few : k < s.hdus = omega arith in
+    let mid : Option (List ℕ) = g.T.Text.contents c.loop-hdu.text in
+    let now : Option (List ℕ) = g.T.Text.contents c.print_verified.new.text in
+    let a = c.in_ok-again.again in
+    let long : length c.as_mut_slice-buf.result.now ≡ s.header_len = ap length c.as_mut_slice-buf.ensures.value ∙ old.space.header ∙ c.requires.header in
+    let seen : IfSome held (λ f. ReadsAsSeen f k start flag s.header_len s.tile (Ok a)) =
+    subst (λ n. IfSome held (λ f. ReadsAsSeen f k start flag n s.tile (Ok a))) long
+    (subst (λ (h : Option (List ℕ)). IfSome h (λ f. ReadsAsSeen f k start flag (length c.as_mut_slice-buf.result.now) s.tile (Ok a))) old.held c.in_ok-again.ensures.as_seen) in
+    let sound : Bool = c.in_ok-sound.sound in
+    let checked : IfSome held (λ f. ChecksHdu f a.header mid now (Ok sound)) =
+    subst (λ (h : Option (List ℕ)). IfSome h (λ f. ChecksHdu f a.header mid now (Ok sound))) (c.in_ok-again.ensures.source.held_is ∙ old.held) c.in_ok-sound.ensures.checked in
+    let more : IfSome held (IsChecking s (k + 1) (next_start_of a.header) (is_empty_primary a.header) (right && sound) before now) =
+    more_checked c.none_refused_law.ensures s before held k start flag (is_empty_primary a.header) right sound mid now a few old.checked seen checked refl in
+    let told : HoldsLength held c.args.length = g.met.S.Source.agrees c.args.source.now c.args.length c.requires.attached in
+    let ends : next_start_of a.header ≡ c.args.length = omega (arith, c.next_start-start.ensures) in
+    subst (λ (b : Bool). IfSome held (λ f. VerifiesSeen f s before now (Ok b))) (sym c.both-right.ensures)
+    (ends_with_file c.none_refused_law.ensures s before held c.args.length (k + 1) (next_start_of a.header) (is_empty_primary a.header) (right && sound) now told ends more)
+
+pub loop-hdu-preserved : goal.loop-hdu-preserved
+loop-hdu-preserved g c =
+    let s = c.args.survey.now in
+    let k : ℕ = c.loop-hdu.hdu in
+    let start : ℕ = c.loop-hdu.start in
+    let flag : Bool = c.loop-hdu.after_empty in
+    let right : Bool = c.loop-hdu.right in
+    let held : Option (List ℕ) = g.S.Source.held c.args.source.now in
+    let before : Option (List ℕ) = g.T.Text.contents c.args.text.now in
+    let old = c.loop-hdu.invariant in
+    let few : k < s.hdus = omega arith in
+    let mid : Option (List ℕ) = g.T.Text.contents c.loop-hdu.text in
+    let now : Option (List ℕ) = g.T.Text.contents c.print_verified.new.text in
+    let a = c.in_ok-again.again in
+    let long : length c.as_mut_slice-buf.result.now ≡ s.header_len = ap length c.as_mut_slice-buf.ensures.value ∙ old.space.header ∙ c.requires.header in
+    let seen : IfSome held (λ f. ReadsAsSeen f k start flag s.header_len s.tile (Ok a)) =
+    subst (λ n. IfSome held (λ f. ReadsAsSeen f k start flag n s.tile (Ok a))) long
+    (subst (λ (h : Option (List ℕ)). IfSome h (λ f. ReadsAsSeen f k start flag (length c.as_mut_slice-buf.result.now) s.tile (Ok a))) old.held c.in_ok-again.ensures.as_seen) in
+    let sound : Bool = c.in_ok-sound.sound in
+    let checked : IfSome held (λ f. ChecksHdu f a.header mid now (Ok sound)) =
+    subst (λ (h : Option (List ℕ)). IfSome h (λ f. ChecksHdu f a.header mid now (Ok sound))) (c.in_ok-again.ensures.source.held_is ∙ old.held) c.in_ok-sound.ensures.checked in
+    let more : IfSome held (IsChecking s (k + 1) (next_start_of a.header) (is_empty_primary a.header) (right && sound) before now) =
+    more_checked c.none_refused_law.ensures s before held k start flag (is_empty_primary a.header) right sound mid now a few old.checked seen checked refl in
+    let next : c.next_start-start.result ≡ next_start_of a.header = c.next_start-start.ensures in
+    let says : c.is_empty_primary-after_empty.result ≡ is_empty_primary a.header = c.is_empty_primary-after_empty.ensures in
+    let inside : next_start_of a.header ≤ c.args.length = c.in_ok-again.ensures.again.inside in
+    let early : next_start_of a.header ≤ 2 ^ 62 = c.in_ok-again.ensures.again.near in
+    record {
+      held = search rules;
+      attached = search rules;
+      reads = search rules;
+      prints = search rules;
+      told_ranges = λ told. c.in_ok-sound.ensures.told_ranges (c.in_ok-again.ensures.told (old.told_ranges told));
+      told_contents = λ told. c.in_ok-sound.ensures.told_contents (old.told_contents told);
+      block = c.in_ok-again.ensures.block;
+      space = record {
+        header = omega (arith, c.in_ok-sound.ensures.space.header, old.space.header, c.in_ok-again.ensures.buf, length-take {A = ℕ}, length-append {A = ℕ}, length-drop {A = ℕ});
+        translated = c.in_ok-sound.ensures.space.translated ∙ old.space.translated;
+        copy = c.in_ok-sound.ensures.space.copy ∙ old.space.copy;
+      };
+      window = record { sizes = c.in_ok-sound.ensures.window.sizes ∙ old.window.sizes; workers = c.in_ok-sound.ensures.window.workers ∙ old.window.workers };
+      within = inl (omega (arith, next, inside));
+      early = omega (arith, next, early);
+      checked = subst (λ r. IfSome held (IsChecking s (k + 1) c.next_start-start.result c.is_empty_primary-after_empty.result r before now)) (sym c.both-right.ensures)
+          (subst (λ b. IfSome held (IsChecking s (k + 1) c.next_start-start.result b (right && sound) before now)) (sym says)
+          (subst (λ n. IfSome held (IsChecking s (k + 1) n (is_empty_primary a.header) (right && sound) before now)) (sym next) more));
+    }

@@ -1,0 +1,23 @@
+-- The HDUs so far are verified; the source, the buffers and the counts are as at the start.
+use Rattle.std.proofs.Common.{◌≡◌, ◌^◌, ◌<◌, ◌≤◌, ◌⊎◌, length, IfSome}
+use Rattle.fz_base.specs.Told.{StaysTold}
+use Rattle.fz_survey.specs.Workspace.{SpaceStays}
+use Rattle.fz_job.specs.Keeps.{WindowStays}
+use Rattle.fz_verify.specs.Printed.{IsChecking}
+use Rattle.fz_verify.proofs.checking.verify_hdus.Given as goal
+
+abbrev pub invariant-loop-hdu : goal.invariant-loop-hdu
+invariant-loop-hdu g l = record {
+  held : g.S.Source.held l.source ≡ g.S.Source.held l.fn.source;
+  attached : g.S.Source.attached l.source ≡ g.S.Source.attached l.fn.source;
+  reads : g.S.Source.tally l.source ≡ g.S.Source.tally l.fn.source;
+  prints : g.T.Text.tally l.text ≡ g.T.Text.tally l.fn.text;
+  told_ranges : StaysTold (g.S.Source.ranges l.fn.source) (g.S.Source.ranges l.source);
+  told_contents : StaysTold (g.T.Text.contents l.fn.text) (g.T.Text.contents l.text);
+  block : length l.block ≡ 2880;
+  space : SpaceStays l.fn.space l.space;
+  window : WindowStays l.fn.window l.window;
+  within : (l.start < l.length) ⊎ ((l.hdu ≡ 0) × (l.start ≡ 0));
+  early : l.start ≤ 2 ^ 62;
+  checked : IfSome (g.S.Source.held l.fn.source) (IsChecking l.survey l.hdu l.start l.after_empty l.right (g.T.Text.contents l.fn.text) (g.T.Text.contents l.text));
+}

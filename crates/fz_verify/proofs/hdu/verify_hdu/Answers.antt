@@ -1,0 +1,18 @@
+-- The rows are sound, and then the sums are judged.
+use Rattle.std.proofs.Common.{ℕ, List, Option, IfSome, subst}
+use Rattle.std.proofs.lemmas.Result.{IfOk-weaker}
+use Rattle.fz_verify.specs.Rows.{IsHduSound}
+use Rattle.fz_verify.specs.Sums.{AreVerdictsOn}
+use Rattle.fz_verify.proofs.Checks.{both_told}
+use Rattle.fz_verify.proofs.hdu.verify_hdu.Goals as goal
+
+pub returns-clause-verdicts : goal.returns-clause-verdicts
+returns-clause-verdicts g c =
+    let held : Option (List ℕ) = g.S.Source.held c.args.source.now in
+    let h = c.args.again.now.header in
+    let mid : Option (List ℕ) = g.S.Source.held c.decode_hdu.new.source in
+    IfOk-weaker c.judge_sums.result
+    (λ v. IfSome mid (λ f. AreVerdictsOn f h v))
+    (λ v. IfSome held (λ f. AreVerdictsOn f h v × IsHduSound f h))
+    (λ v are. both_told held (λ f. AreVerdictsOn f h v) (λ f. IsHduSound f h) (subst (λ (l : Option (List ℕ)). IfSome l (λ f. AreVerdictsOn f h v)) c.in_ok-decode_hdu.ensures.source.held_is are) c.in_ok-decode_hdu.ensures.sound)
+    c.judge_sums.ensures.verdicts

@@ -1,0 +1,137 @@
+-- One HDU after another.
+use Rattle.std.proofs.Common.{◌≡◌, ℕ, ◌+◌, ◌<◌, ◌≤◌, ◌^◌, Bool, List, length, Option, IfSome, Result, Ok, Err, refl, sym, ◌∙◌, subst, inl, inr, arith, rules}
+use Rattle.fz_base.specs.Sink.{MayAppend, appended}
+use Rattle.fz_base.specs.Source.{HoldsLength}
+use Rattle.fz_base.specs.declared.failure.Stop.{Stop}
+use Rattle.fz_block.specs.Header.{next_start_of}
+use Rattle.fz_files.specs.Lines.{list_line}
+use Rattle.fz_verify.specs.Again.{ReadsAsSeen, is_empty_primary}
+use Rattle.fz_verify.specs.Printed.{IsListing, ListsSeen}
+use Rattle.fz_verify.proofs.ListedHdus.{ends_with_file, more_listed, none_listed, stops_printing, stops_reading}
+use Rattle.fz_verify.proofs.Said.{front_listed, got_listed}
+use Rattle.fz_verify.proofs.listing.list_hdus.Goals as goal
+
+pub loop-hdu-init : goal.loop-hdu-init
+loop-hdu-init g c = record {
+  held = refl;
+  attached = refl;
+  reads = refl;
+  prints = refl;
+  told_ranges = λ told. told;
+  told_contents = λ told. told;
+  block = c.requires.block;
+  buf = refl;
+  within = inr (refl, refl);
+  early = omega arith;
+  listed = none_listed c.args.survey.now (g.T.Text.contents c.args.text.now) (g.S.Source.held c.args.source.now);
+}
+
+pub returns-in_err-again-clause-listed : goal.returns-in_err-again-clause-listed
+returns-in_err-again-clause-listed g c =
+    let s = c.args.survey.now in
+    let k : ℕ = c.loop-hdu.hdu in
+    let start : ℕ = c.loop-hdu.start in
+    let flag : Bool = c.loop-hdu.after_empty in
+    let held : Option (List ℕ) = g.S.Source.held c.args.source.now in
+    let before : Option (List ℕ) = g.T.Text.contents c.args.text.now in
+    let now : Option (List ℕ) = g.T.Text.contents c.loop-hdu.text in
+    let old = c.loop-hdu.invariant in
+    let few : k < s.hdus = omega arith in
+    let stopped : c.from_residual.result ≡ Err c.in_err-again.field-0.0 = search rules in
+    let long : length c.loop-hdu.buf ≡ s.header_len = old.buf ∙ c.requires.buf in
+    let seen : IfSome held (λ f. ReadsAsSeen f k start flag s.header_len s.tile (Err c.in_err-again.field-0.0)) =
+    subst (λ n. IfSome held (λ f. ReadsAsSeen f k start flag n s.tile (Err c.in_err-again.field-0.0))) long
+    (subst (λ (h : Option (List ℕ)). IfSome h (λ f. ReadsAsSeen f k start flag (length c.loop-hdu.buf) s.tile (Err c.in_err-again.field-0.0))) old.held c.in_err-again.ensures.as_seen) in
+    subst (λ (r : Result (Unit {0}) Stop). IfSome held (λ f. ListsSeen f s before now r)) (sym stopped)
+    (stops_reading s before (Unit {0}) held c.in_err-again.field-0.0 k start flag now few old.listed seen)
+
+pub returns-in_err-print_listed-clause-listed : goal.returns-in_err-print_listed-clause-listed
+returns-in_err-print_listed-clause-listed g c =
+    let s = c.args.survey.now in
+    let k : ℕ = c.loop-hdu.hdu in
+    let start : ℕ = c.loop-hdu.start in
+    let flag : Bool = c.loop-hdu.after_empty in
+    let held : Option (List ℕ) = g.S.Source.held c.args.source.now in
+    let before : Option (List ℕ) = g.T.Text.contents c.args.text.now in
+    let mid : Option (List ℕ) = g.T.Text.contents c.loop-hdu.text in
+    let now : Option (List ℕ) = g.T.Text.contents c.print_listed.new.text in
+    let old = c.loop-hdu.invariant in
+    let few : k < s.hdus = omega arith in
+    let a = c.in_ok-again.again in
+    let stopped : c.from_residual-in_err-print_listed.result ≡ Err c.in_err-print_listed.field-0.0 = search rules in
+    let long : length c.loop-hdu.buf ≡ s.header_len = old.buf ∙ c.requires.buf in
+    let seen : IfSome held (λ f. ReadsAsSeen f k start flag s.header_len s.tile (Ok a)) =
+    subst (λ n. IfSome held (λ f. ReadsAsSeen f k start flag n s.tile (Ok a))) long
+    (subst (λ (h : Option (List ℕ)). IfSome h (λ f. ReadsAsSeen f k start flag (length c.loop-hdu.buf) s.tile (Ok a))) old.held c.in_ok-again.ensures.as_seen) in
+    let front : IfSome held (λ f. MayAppend (list_line f a.header) mid now) =
+    subst (λ (h : Option (List ℕ)). IfSome h (λ f. MayAppend (list_line f a.header) mid now)) old.held
+    (front_listed (g.S.Source.held c.loop-hdu.source) c.args.length c.read_again.new.buf a mid now c.in_ok-again.ensures.again c.in_err-print_listed.ensures.front) in
+    subst (λ (r : Result (Unit {0}) Stop). IfSome held (λ f. ListsSeen f s before now r)) (sym stopped)
+    (stops_printing s before (Unit {0}) held c.in_err-print_listed.field-0.0 (g.T.Text.tally c.loop-hdu.text) (g.T.Text.tally c.print_listed.new.text) k start flag mid now a few old.listed seen front c.in_err-print_listed.ensures.cause.stop)
+
+pub returns-then-start-length-clause-listed : goal.returns-then-start-length-clause-listed
+returns-then-start-length-clause-listed g c =
+    let s = c.args.survey.now in
+    let k : ℕ = c.loop-hdu.hdu in
+    let start : ℕ = c.loop-hdu.start in
+    let flag : Bool = c.loop-hdu.after_empty in
+    let held : Option (List ℕ) = g.S.Source.held c.args.source.now in
+    let before : Option (List ℕ) = g.T.Text.contents c.args.text.now in
+    let mid : Option (List ℕ) = g.T.Text.contents c.loop-hdu.text in
+    let now : Option (List ℕ) = g.T.Text.contents c.print_listed.new.text in
+    let old = c.loop-hdu.invariant in
+    let few : k < s.hdus = omega arith in
+    let a = c.in_ok-again.again in
+    let long : length c.loop-hdu.buf ≡ s.header_len = old.buf ∙ c.requires.buf in
+    let seen : IfSome held (λ f. ReadsAsSeen f k start flag s.header_len s.tile (Ok a)) =
+    subst (λ n. IfSome held (λ f. ReadsAsSeen f k start flag n s.tile (Ok a))) long
+    (subst (λ (h : Option (List ℕ)). IfSome h (λ f. ReadsAsSeen f k start flag (length c.loop-hdu.buf) s.tile (Ok a))) old.held c.in_ok-again.ensures.as_seen) in
+    let got : IfSome held (λ f. now ≡ appended (list_line f a.header) mid) =
+    subst (λ (h : Option (List ℕ)). IfSome h (λ f. now ≡ appended (list_line f a.header) mid)) old.held
+    (got_listed (g.S.Source.held c.loop-hdu.source) c.args.length c.read_again.new.buf a mid now c.in_ok-again.ensures.again c.in_ok-print_listed.ensures.all) in
+    let more : IfSome held (IsListing s (k + 1) (next_start_of a.header) (is_empty_primary a.header) before now) =
+    more_listed s before held k start flag (is_empty_primary a.header) mid now a few old.listed seen got refl in
+    let told : HoldsLength held c.args.length = g.met.S.Source.agrees c.args.source.now c.args.length c.requires.attached in
+    let ends : next_start_of a.header ≡ c.args.length = omega (arith, c.next_start-start.ensures) in
+    ends_with_file s before (Unit {0}) (tt {0}) held c.args.length (k + 1) (next_start_of a.header) (is_empty_primary a.header) now told ends more
+
+pub loop-hdu-preserved : goal.loop-hdu-preserved
+loop-hdu-preserved g c =
+    let s = c.args.survey.now in
+    let k : ℕ = c.loop-hdu.hdu in
+    let start : ℕ = c.loop-hdu.start in
+    let flag : Bool = c.loop-hdu.after_empty in
+    let held : Option (List ℕ) = g.S.Source.held c.args.source.now in
+    let before : Option (List ℕ) = g.T.Text.contents c.args.text.now in
+    let mid : Option (List ℕ) = g.T.Text.contents c.loop-hdu.text in
+    let now : Option (List ℕ) = g.T.Text.contents c.print_listed.new.text in
+    let old = c.loop-hdu.invariant in
+    let few : k < s.hdus = omega arith in
+    let a = c.in_ok-again.again in
+    let long : length c.loop-hdu.buf ≡ s.header_len = old.buf ∙ c.requires.buf in
+    let seen : IfSome held (λ f. ReadsAsSeen f k start flag s.header_len s.tile (Ok a)) =
+    subst (λ n. IfSome held (λ f. ReadsAsSeen f k start flag n s.tile (Ok a))) long
+    (subst (λ (h : Option (List ℕ)). IfSome h (λ f. ReadsAsSeen f k start flag (length c.loop-hdu.buf) s.tile (Ok a))) old.held c.in_ok-again.ensures.as_seen) in
+    let got : IfSome held (λ f. now ≡ appended (list_line f a.header) mid) =
+    subst (λ (h : Option (List ℕ)). IfSome h (λ f. now ≡ appended (list_line f a.header) mid)) old.held
+    (got_listed (g.S.Source.held c.loop-hdu.source) c.args.length c.read_again.new.buf a mid now c.in_ok-again.ensures.again c.in_ok-print_listed.ensures.all) in
+    let more : IfSome held (IsListing s (k + 1) (next_start_of a.header) (is_empty_primary a.header) before now) =
+    more_listed s before held k start flag (is_empty_primary a.header) mid now a few old.listed seen got refl in
+    let next : c.next_start-start.result ≡ next_start_of a.header = c.next_start-start.ensures in
+    let says : c.is_empty_primary-after_empty.result ≡ is_empty_primary a.header = c.is_empty_primary-after_empty.ensures in
+    let inside : next_start_of a.header ≤ c.args.length = c.in_ok-again.ensures.again.inside in
+    let early : next_start_of a.header ≤ 2 ^ 62 = c.in_ok-again.ensures.again.near in
+    record {
+      held = search rules;
+      attached = search rules;
+      reads = search rules;
+      prints = search rules;
+      told_ranges = λ told. c.in_ok-again.ensures.told (old.told_ranges told);
+      told_contents = λ told. c.in_ok-print_listed.ensures.told (old.told_contents told);
+      block = c.in_ok-again.ensures.block;
+      buf = c.in_ok-again.ensures.buf ∙ old.buf;
+      within = inl (omega (arith, next, inside));
+      early = omega (arith, next, early);
+      listed = subst (λ b. IfSome held (IsListing s (k + 1) c.next_start-start.result b before now)) (sym says)
+          (subst (λ n. IfSome held (IsListing s (k + 1) n (is_empty_primary a.header) before now)) (sym next) more);
+    }

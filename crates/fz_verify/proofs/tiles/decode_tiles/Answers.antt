@@ -1,0 +1,69 @@
+-- One round after another.
+use Rattle.std.proofs.Common.{◌≡◌, ℕ, ◌+◌, ◌≤◌, List, map, Option, Some, None, IfSome, Result, Err, refl, sym, ◌∙◌, subst, arith, rules}
+use Rattle.std.specs.List.{range_with_len}
+use Rattle.fz_base.specs.Stop.{IfRefused}
+use Rattle.fz_base.specs.declared.failure.Stop.{Stop}
+use Rattle.fz_files.specs.FirstFault.{IsFirstRowFault, image_row, rows_of}
+use Rattle.fz_files.specs.Packed.{tiles_in}
+use Rattle.fz_grid.specs.Grid.{tile_count}
+use Rattle.fz_grid.specs.Region.{lengths_of}
+use Rattle.fz_verify.proofs.Rounds.{all_sound, more_sound, none_sound, rounds_fault}
+use Rattle.fz_verify.proofs.tiles.decode_tiles.Goals as goal
+
+pub loop-first-init : goal.loop-first-init
+loop-first-init g c = record {
+  held = refl;
+  attached = refl;
+  reads = refl;
+  told = λ told. told;
+  window = record { sizes = refl; workers = refl };
+  rows = refl;
+  within = omega arith;
+  sound = none_sound (g.S.Source.held c.args.source.now) c.args.header.now;
+}
+
+pub loop-first-preserved : goal.loop-first-preserved
+loop-first-preserved g c =
+    let held : Option (List ℕ) = g.S.Source.held c.args.source.now in
+    let h = c.args.header.now in
+    let old = c.loop-first.invariant in
+    let first : ℕ = c.loop-first.first in
+    let count : ℕ = c.min-count.result in
+    let round : IfSome held (λ file. IsFirstRowFault file (map (image_row h) (range_with_len first count)) None) =
+    subst (λ (l : Option (List ℕ)). IfSome l (λ file. IsFirstRowFault file (map (image_row h) (range_with_len first count)) None)) old.held c.in_ok-decode_round.ensures.sound in
+    record {
+      held = search rules;
+      attached = search rules;
+      reads = search rules;
+      told = λ told. c.in_ok-decode_round.ensures.told (old.told told);
+      window = record { sizes = c.in_ok-decode_round.ensures.window.sizes ∙ old.window.sizes; workers = c.in_ok-decode_round.ensures.window.workers ∙ old.window.workers };
+      rows = c.in_ok-decode_round.ensures.rows ∙ old.rows;
+      within = omega (arith, c.min-count.ensures, old.within);
+      sound = more_sound held h first count old.sound round;
+    }
+
+pub returns-in_err-decode_round-clause-fault : goal.returns-in_err-decode_round-clause-fault
+returns-in_err-decode_round-clause-fault g c =
+    let held : Option (List ℕ) = g.S.Source.held c.args.source.now in
+    let h = c.args.header.now in
+    let image = c.args.image.now in
+    let old = c.loop-first.invariant in
+    let first : ℕ = c.loop-first.first in
+    let count : ℕ = c.min-count.result in
+    let stop : Stop = c.in_err-decode_round.field-0.0 in
+    let stopped : c.from_residual.result ≡ Err stop = search rules in
+    let many : c.tile_count-tiles.result ≡ tiles_in image.plan = c.tile_count-tiles.ensures.count ∙ (λ i. tile_count (lengths_of (c.new.ensures.shape i)) (lengths_of (c.new.ensures.tile i))) in
+    let few : first + count ≤ tiles_in image.plan = omega (arith, c.min-count.ensures, old.within, many) in
+    let fault : IfRefused {X = Unit {0}} (Err stop) (λ x. IfSome held (λ file. IsFirstRowFault file (map (image_row h) (range_with_len first count)) (Some x))) =
+    subst (λ (l : Option (List ℕ)). IfRefused {X = Unit {0}} (Err stop) (λ x. IfSome l (λ file. IsFirstRowFault file (map (image_row h) (range_with_len first count)) (Some x)))) old.held c.in_err-decode_round.ensures.fault in
+    subst (λ (r : Result (Unit {0}) Stop). IfRefused r (λ x. IfSome held (λ file. IsFirstRowFault file (rows_of file h) (Some x)))) (sym stopped)
+    (rounds_fault (Unit {0}) held h image first count stop c.requires.said few old.sound fault)
+
+pub returns-clause-sound : goal.returns-clause-sound
+returns-clause-sound g c =
+    let held : Option (List ℕ) = g.S.Source.held c.args.source.now in
+    let image = c.args.image.now in
+    let old = c.loop-first.invariant in
+    let many : c.tile_count-tiles.result ≡ tiles_in image.plan = c.tile_count-tiles.ensures.count ∙ (λ i. tile_count (lengths_of (c.new.ensures.shape i)) (lengths_of (c.new.ensures.tile i))) in
+    let all : c.loop-first.first ≡ tiles_in image.plan = omega (arith, old.within, many) in
+    all_sound held c.args.header.now image c.loop-first.first c.requires.said all old.sound

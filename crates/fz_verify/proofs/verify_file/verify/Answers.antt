@@ -1,0 +1,106 @@
+-- With the first block.
+use Rattle.std.proofs.Common.{◌≡◌, ℕ, ◌+◌, ◌-◌, ◌≤◌, max, Bool, List, Option, IfSome, Result, Err, length, refl, sym, ap, ◌∙◌, subst, arith, rules}
+use Rattle.std.proofs.lemmas.List.{length-replicate}
+use Rattle.fz_base.specs.Buffer.{refilled}
+use Rattle.fz_base.specs.Counts.{Tally}
+use Rattle.fz_base.specs.Meter.{Gauge}
+use Rattle.fz_base.specs.Stop.{TellsLimit, stop_of_short}
+use Rattle.fz_base.specs.Takings.{TellsFirstPast}
+use Rattle.fz_base.specs.declared.failure.Stop.{Stop}
+use Rattle.fz_files.specs.Buffers.{job_bound}
+use Rattle.fz_files.specs.declared.job.Job.TheVariants.{Verify}
+use Rattle.fz_job.specs.Clauses.{HasJobCause, TellsFirstFault, greatest_bound}
+use Rattle.fz_verify.specs.Clauses.{PrintsLines}
+use Rattle.fz_verify.specs.Stages.{Works, later_takings}
+use Rattle.fz_verify.proofs.Held.{refilled_len}
+use Rattle.fz_verify.proofs.Jobs.{verifies}
+use Rattle.fz_verify.proofs.Outcomes.{short_unprinted, short_untold, untouched_silent}
+use Rattle.fz_verify.proofs.Promised.{block_cause, block_peak, has_answer, most_peak, peak_stays, work_cause}
+use Rattle.fz_verify.proofs.Working.{kept_same}
+use Rattle.fz_verify.proofs.verify_file.verify.Goals as goal
+
+pub returns-in_err-block-clause-lines : goal.returns-in_err-block-clause-lines
+returns-in_err-block-clause-lines g c =
+    let held : Option (List ℕ) = g.S.Source.held c.args.source.now in
+    let old : Option (List ℕ) = g.T.Text.contents c.args.text.now in
+    let stopped : c.from_residual.result ≡ Err (stop_of_short c.in_err-block.field-0.0) = search rules in
+    subst (λ (r : Result Bool Stop). PrintsLines Verify held old old r) (sym stopped) (short_unprinted Bool Verify held old c.in_err-block.field-0.0)
+
+pub returns-in_err-block-clause-first_fault : goal.returns-in_err-block-clause-first_fault
+returns-in_err-block-clause-first_fault g c =
+    let held : Option (List ℕ) = g.S.Source.held c.args.source.now in
+    let stopped : c.from_residual.result ≡ Err (stop_of_short c.in_err-block.field-0.0) = search rules in
+    subst (λ (r : Result Bool Stop). TellsFirstFault Verify held r) (sym stopped) (short_untold Bool Verify held c.in_err-block.field-0.0)
+
+pub returns-in_err-block-clause-silent : goal.returns-in_err-block-clause-silent
+returns-in_err-block-clause-silent g c = untouched_silent Verify (g.S.Source.held c.args.source.now) _ c.from_residual.result (refl, refl)
+
+pub returns-in_err-block-clause-cause : goal.returns-in_err-block-clause-cause
+returns-in_err-block-clause-cause g c =
+    let held : Option (List ℕ) = g.S.Source.held c.args.source.now in
+    let source : Tally = g.S.Source.tally c.args.source.now in
+    let text : Tally = g.T.Text.tally c.args.text.now in
+    let stopped : c.from_residual.result ≡ Err (stop_of_short c.in_err-block.field-0.0) = search rules in
+    subst (λ (r : Result Bool Stop). HasJobCause Verify held source source text text c.args.meter.now.limit 1 r) (sym stopped)
+    (block_cause Verify verifies Bool held source text c.args.meter.now c.in_err-block.field-0.0 c.requires.nothing_live c.in_err-block.ensures.refused)
+
+pub returns-in_err-block-clause-answered : goal.returns-in_err-block-clause-answered
+returns-in_err-block-clause-answered g c =
+    let held : Option (List ℕ) = g.S.Source.held c.args.source.now in
+    let source : Tally = g.S.Source.tally c.args.source.now in
+    let text : Tally = g.T.Text.tally c.args.text.now in
+    has_answer Verify verifies c.buffers_law.ensures.bounded held source source text text c.args.meter.now.limit c.from_residual.result (returns-in_err-block-clause-cause g c)
+
+pub returns-in_err-block-clause-buffers : goal.returns-in_err-block-clause-buffers
+returns-in_err-block-clause-buffers g c =
+    let same : c.bytes.new.self.peak ≡ c.args.meter.now.peak = ap (λ (m : Gauge). m.peak) c.in_err-block.ensures.unchanged in
+    record {
+      live = ap (λ (m : Gauge). m.live) c.in_err-block.ensures.unchanged ∙ c.requires.nothing_live;
+      limit = ap (λ (m : Gauge). m.limit) c.in_err-block.ensures.unchanged;
+      peak = peak_stays Verify verifies (g.S.Source.held c.args.source.now) _ _ same;
+      most = omega (arith, same);
+      window_is = λ i. record { slots = c.requires.window i; workers = c.args.window.now.workers };
+    }
+
+pub returns-in_err-block-clause-kept : goal.returns-in_err-block-clause-kept
+returns-in_err-block-clause-kept g c = record { held_is = refl; attached_is = refl; source_counts = kept_same _; sink_counts = kept_same _ }
+
+pub returns-clause-cause : goal.returns-clause-cause
+returns-clause-cause g c =
+    let held : Option (List ℕ) = g.S.Source.held c.args.source.now in
+    let source : Tally = g.S.Source.tally c.args.source.now in
+    let text : Tally = g.T.Text.tally c.args.text.now in
+    let source' : Tally = g.S.Source.tally c.verify_with_block-answer.new.source in
+    let text' : Tally = g.T.Text.tally c.verify_with_block-answer.new.text in
+    let limit : ℕ = c.args.meter.now.limit in
+    let same : c.bytes.new.self.limit ≡ limit = ap (λ (m : Gauge). m.limit) c.in_ok-block.ensures.taken.1 in
+    let room : 2880 ≤ limit = omega (arith, c.in_ok-block.ensures.taken.0, c.requires.nothing_live) in
+    let works : Works source source' text text' limit c.verify_with_block-answer.result = rw same at c.verify_with_block-answer.ensures.cause in
+    let most : TellsLimit limit (greatest_bound Verify 1) c.verify_with_block-answer.result = rw same at c.verify_with_block-answer.ensures.most in
+    let tells : IfSome held (λ file. TellsFirstPast limit (later_takings Verify file) c.verify_with_block-answer.result) = rw same at c.verify_with_block-answer.ensures.first_past in
+    work_cause Verify verifies held source source' text text' limit c.verify_with_block-answer.result room works most tells
+
+pub returns-clause-answered : goal.returns-clause-answered
+returns-clause-answered g c =
+    let held : Option (List ℕ) = g.S.Source.held c.args.source.now in
+    has_answer Verify verifies c.buffers_law.ensures.bounded held _ _ _ _ c.args.meter.now.limit c.verify_with_block-answer.result (returns-clause-cause g c)
+
+pub returns-clause-buffers : goal.returns-clause-buffers
+returns-clause-buffers g c =
+    let held : Option (List ℕ) = g.S.Source.held c.args.source.now in
+    let begun : c.bytes.new.self.peak ≡ max c.args.meter.now.peak (c.args.meter.now.live + 2880) = ap (λ (m : Gauge). m.peak) c.in_ok-block.ensures.taken.1 in
+    let first : c.bytes.new.self.peak ≤ max c.args.meter.now.peak 2880 = omega (arith, begun, c.requires.nothing_live) in
+    let low : IfSome held (λ file. c.verify_with_block-answer.new.meter.peak ≤ max c.bytes.new.self.peak (job_bound Verify file 1)) = c.verify_with_block-answer.ensures.peak in
+    let block : List ℕ = c.in_ok-block.block in
+    let left : List ℕ = c.verify_with_block-answer.new.block in
+    let long : length block ≡ 2880 = ap length c.in_ok-block.ensures.bytes ∙ length-replicate {A = ℕ} 2880 0 in
+    let took : c.bytes.new.self.live ≡ c.args.meter.now.live + 2880 = ap (λ (m : Gauge). m.live) c.in_ok-block.ensures.taken.1 in
+    let gave : c.give_bytes.new.self.live ≡ c.verify_with_block-answer.new.meter.live - length (refilled block left) = ap (λ (m : Gauge). m.live) c.give_bytes.ensures in
+    let back : c.give_bytes.new.self.peak ≡ c.verify_with_block-answer.new.meter.peak = ap (λ (m : Gauge). m.peak) c.give_bytes.ensures in
+    record {
+      live = omega (arith, gave, refilled_len block left, long, took, c.verify_with_block-answer.ensures.live, c.requires.nothing_live);
+      limit = ap (λ (m : Gauge). m.limit) c.give_bytes.ensures ∙ c.verify_with_block-answer.ensures.limit ∙ ap (λ (m : Gauge). m.limit) c.in_ok-block.ensures.taken.1;
+      peak = rw back (block_peak Verify verifies held c.args.meter.now.peak c.bytes.new.self.peak c.verify_with_block-answer.new.meter.peak first low);
+      most = rw back (most_peak Verify verifies c.args.meter.now.peak c.bytes.new.self.peak c.verify_with_block-answer.new.meter.peak first c.verify_with_block-answer.ensures.peak_most);
+      window_is = c.verify_with_block-answer.ensures.emptied;
+    }

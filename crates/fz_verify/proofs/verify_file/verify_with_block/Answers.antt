@@ -1,0 +1,152 @@
+-- The first look stops, or knows the file, and then the work says the rest.
+use Rattle.std.proofs.Common.{◌≡◌, ℕ, ◌+◌, ◌≤◌, max, Bool, List, Option, None, IfSome, Result, Err, sum, refl, sym, subst, rules, arith}
+use Rattle.fz_base.specs.Stop.{TellsLimit}
+use Rattle.fz_base.specs.Takings.{TellsFirstPast, first_past, piled}
+use Rattle.fz_base.specs.declared.failure.Stop.{Stop}
+use Rattle.fz_files.specs.declared.job.Job.TheVariants.{Verify}
+use Rattle.fz_survey.specs.Surveys.{survey_takings}
+use Rattle.fz_survey.specs.Workspace.{wanted_buffers}
+use Rattle.fz_survey.specs.declared.checks.JobChecks.TheVariants.{Unpack as UnpackChecks}
+use Rattle.fz_survey.specs.declared.survey.Survey.{Survey}
+use Rattle.fz_job.specs.Clauses.{TellsFirstFault, greatest_bound}
+use Rattle.fz_verify.specs.Clauses.{PrintsLines}
+use Rattle.fz_verify.specs.Printed.{VerifiesSeen}
+use Rattle.fz_verify.specs.Stages.{Works, later_takings, wants_to_verify}
+use Rattle.fz_verify.proofs.Finished.{Knows, verify_faulty, verify_prints, verify_right, verify_wants, work_peak, work_silent, work_takes}
+use Rattle.fz_verify.proofs.Greatest.{header_within, tells_more, tells_within, work_within}
+use Rattle.fz_verify.proofs.Jobs.{verifies}
+use Rattle.fz_verify.proofs.Outcomes.{look_faulty, look_peak, look_takes, look_unprinted, untouched_silent}
+use Rattle.fz_verify.proofs.Working.{later_works, look_works}
+use Rattle.fz_verify.proofs.verify_file.verify_with_block.Goals as goal
+
+pub returns-in_err-survey-clause-lines : goal.returns-in_err-survey-clause-lines
+returns-in_err-survey-clause-lines g c =
+    let held : Option (List ℕ) = g.S.Source.held c.args.source.now in
+    let old : Option (List ℕ) = g.T.Text.contents c.args.text.now in
+    let stopped : c.from_residual.result ≡ Err c.in_err-survey.field-0.0 = search rules in
+    subst (λ (r : Result Bool Stop). PrintsLines Verify held old old r) (sym stopped)
+    (look_unprinted Verify held c.known_law.ensures.refuse_verify Bool old c.in_err-survey.field-0.0 c.in_err-survey.ensures.exact)
+
+pub returns-in_err-survey-clause-first_fault : goal.returns-in_err-survey-clause-first_fault
+returns-in_err-survey-clause-first_fault g c =
+    let held : Option (List ℕ) = g.S.Source.held c.args.source.now in
+    let stopped : c.from_residual.result ≡ Err c.in_err-survey.field-0.0 = search rules in
+    subst (λ (r : Result Bool Stop). TellsFirstFault Verify held r) (sym stopped)
+    (look_faulty Verify held c.known_law.ensures.refuse_verify Bool c.in_err-survey.field-0.0 c.in_err-survey.ensures.exact)
+
+pub returns-in_err-survey-clause-silent : goal.returns-in_err-survey-clause-silent
+returns-in_err-survey-clause-silent g c = untouched_silent Verify (g.S.Source.held c.args.source.now) _ c.from_residual.result (refl, refl)
+
+pub returns-in_err-survey-clause-first_past : goal.returns-in_err-survey-clause-first_past
+returns-in_err-survey-clause-first_past g c =
+    let held : Option (List ℕ) = g.S.Source.held c.args.source.now in
+    let meter = c.args.meter.now in
+    let stopped : c.from_residual.result ≡ Err c.in_err-survey.field-0.0 = search rules in
+    subst (λ (r : Result Bool Stop). IfSome held (λ file. TellsFirstPast meter.limit (later_takings Verify file) r)) (sym stopped)
+    (look_takes Verify held verifies c.known_law.ensures.refuse_verify Bool meter.live meter.limit c.in_err-survey.field-0.0 _ _ c.requires.one_block
+    c.in_err-survey.ensures.cause.stop c.in_err-survey.ensures.exact c.in_err-survey.ensures.first_past)
+
+pub returns-in_err-survey-clause-peak : goal.returns-in_err-survey-clause-peak
+returns-in_err-survey-clause-peak g c =
+    look_peak Verify (g.S.Source.held c.args.source.now) verifies c.buffers_law.ensures.bounded c.args.meter.now.live c.args.meter.now.peak c.survey_to_unpack.new.meter.peak c.requires.one_block c.in_err-survey.ensures.peak
+
+pub returns-in_err-survey-clause-most : goal.returns-in_err-survey-clause-most
+returns-in_err-survey-clause-most g c =
+    let stopped : c.from_residual.result ≡ Err c.in_err-survey.field-0.0 = search rules in
+    let within = header_within c.workspace_law.ensures.bound c.workspace_law.ensures.grows 1 in
+    subst (λ (r : Result Bool Stop). TellsLimit c.args.meter.now.limit (greatest_bound Verify 1) r) (sym stopped)
+    (tells_more Survey Bool c.args.meter.now.limit c.args.meter.now.limit (c.args.meter.now.live + 737280) (greatest_bound Verify 1) c.in_err-survey.field-0.0 refl (omega (arith, within, c.requires.one_block)) c.in_err-survey.ensures.most)
+
+pub returns-in_err-survey-clause-peak_most : goal.returns-in_err-survey-clause-peak_most
+returns-in_err-survey-clause-peak_most g c =
+    let within = header_within c.workspace_law.ensures.bound c.workspace_law.ensures.grows 1 in
+    omega (arith, within, c.requires.one_block, c.in_err-survey.ensures.peak_most)
+
+pub returns-in_err-survey-clause-cause : goal.returns-in_err-survey-clause-cause
+returns-in_err-survey-clause-cause g c =
+    let source = g.S.Source.tally c.args.source.now in
+    let source' = g.S.Source.tally c.survey_to_unpack.new.source in
+    let text = g.T.Text.tally c.args.text.now in
+    let stopped : c.from_residual.result ≡ Err c.in_err-survey.field-0.0 = search rules in
+    subst (λ (r : Result Bool Stop). Works source source' text text c.args.meter.now.limit r) (sym stopped)
+    (look_works Bool _ source source' text c.args.meter.now.limit c.in_err-survey.field-0.0 c.in_err-survey.ensures.cause)
+
+pub returns-in_err-survey-clause-emptied : goal.returns-in_err-survey-clause-emptied
+returns-in_err-survey-clause-emptied g c = λ i. record { slots = c.requires.window i; workers = c.args.window.now.workers }
+
+pub returns-clause-lines : goal.returns-clause-lines
+returns-clause-lines g c =
+    let held : Option (List ℕ) = g.S.Source.held c.args.source.now in
+    let same : g.S.Source.held c.survey_to_unpack.new.source ≡ held = search rules in
+    let old : Option (List ℕ) = g.T.Text.contents c.args.text.now in
+    let now : Option (List ℕ) = g.T.Text.contents c.verify_seen.new.text in
+    let exact : IfSome held (Knows c.in_ok-survey.survey) = c.in_ok-survey.ensures.exact in
+    let verified : IfSome held (λ file. VerifiesSeen file c.in_ok-survey.survey old now c.verify_seen.result) = rw same at c.verify_seen.ensures.verified in
+    verify_prints c.known_law.ensures.verify c.in_ok-survey.survey held old now c.verify_seen.result exact verified
+
+pub returns-clause-right : goal.returns-clause-right
+returns-clause-right g c =
+    let held : Option (List ℕ) = g.S.Source.held c.args.source.now in
+    let same : g.S.Source.held c.survey_to_unpack.new.source ≡ held = search rules in
+    let old : Option (List ℕ) = g.T.Text.contents c.args.text.now in
+    let now : Option (List ℕ) = g.T.Text.contents c.verify_seen.new.text in
+    let exact : IfSome held (Knows c.in_ok-survey.survey) = c.in_ok-survey.ensures.exact in
+    let verified : IfSome held (λ file. VerifiesSeen file c.in_ok-survey.survey old now c.verify_seen.result) = rw same at c.verify_seen.ensures.verified in
+    verify_right c.known_law.ensures.verify c.in_ok-survey.survey held old now c.verify_seen.result exact verified
+
+pub returns-clause-first_fault : goal.returns-clause-first_fault
+returns-clause-first_fault g c =
+    let held : Option (List ℕ) = g.S.Source.held c.args.source.now in
+    let same : g.S.Source.held c.survey_to_unpack.new.source ≡ held = search rules in
+    let old : Option (List ℕ) = g.T.Text.contents c.args.text.now in
+    let now : Option (List ℕ) = g.T.Text.contents c.verify_seen.new.text in
+    let exact : IfSome held (Knows c.in_ok-survey.survey) = c.in_ok-survey.ensures.exact in
+    let verified : IfSome held (λ file. VerifiesSeen file c.in_ok-survey.survey old now c.verify_seen.result) = rw same at c.verify_seen.ensures.verified in
+    verify_faulty c.known_law.ensures.verify c.in_ok-survey.survey held old now c.verify_seen.result exact verified
+
+pub returns-clause-silent : goal.returns-clause-silent
+returns-clause-silent g c =
+    let held : Option (List ℕ) = g.S.Source.held c.args.source.now in
+    let exact : IfSome held (Knows c.in_ok-survey.survey) = c.in_ok-survey.ensures.exact in
+    work_silent Verify c.known_law.ensures.verify c.in_ok-survey.survey held _ c.verify_seen.result exact c.verify_seen.ensures.silent c.verify_seen.ensures.late
+
+pub returns-clause-first_past : goal.returns-clause-first_past
+returns-clause-first_past g c =
+    let held : Option (List ℕ) = g.S.Source.held c.args.source.now in
+    let meter = c.args.meter.now in
+    let s = c.in_ok-survey.survey in
+    let exact : IfSome held (Knows s) = c.in_ok-survey.ensures.exact in
+    let none : IfSome held (λ file. first_past meter.limit (survey_takings UnpackChecks meter.live file) ≡ None) = c.in_ok-survey.ensures.first_past in
+    let tells : TellsFirstPast meter.limit (piled meter.live (wanted_buffers (wants_to_verify s) 1)) c.verify_seen.result =
+    rw (c.in_ok-survey.ensures.live, c.in_ok-survey.ensures.limit, c.requires.one_worker) at c.verify_seen.ensures.first_past in
+    work_takes Verify c.known_law.ensures.verify s verifies (wants_to_verify s) (verify_wants c.known_law.ensures.verify s c.known_law.ensures.tile) meter.live c.requires.one_block held meter.limit c.verify_seen.result exact none tells
+
+pub returns-clause-peak : goal.returns-clause-peak
+returns-clause-peak g c =
+    let held : Option (List ℕ) = g.S.Source.held c.args.source.now in
+    let meter = c.args.meter.now in
+    let s = c.in_ok-survey.survey in
+    let exact : IfSome held (Knows s) = c.in_ok-survey.ensures.exact in
+    let high : c.verify_seen.new.meter.peak ≤ max c.survey_to_unpack.new.meter.peak (meter.live + sum (wanted_buffers (wants_to_verify s) 1)) = rw (c.in_ok-survey.ensures.live, c.requires.one_worker) at c.verify_seen.ensures.peak in
+    work_peak Verify c.known_law.ensures.verify s verifies (wants_to_verify s) (verify_wants c.known_law.ensures.verify s c.known_law.ensures.tile) meter.live c.requires.one_block c.buffers_law.ensures.bounded c.workspace_law.ensures.bound
+    held meter.peak c.survey_to_unpack.new.meter.peak c.verify_seen.new.meter.peak exact c.in_ok-survey.ensures.peak high
+
+pub returns-clause-most : goal.returns-clause-most
+returns-clause-most g c =
+    let meter = c.survey_to_unpack.new.meter in
+    let s = c.in_ok-survey.survey in
+    let within = work_within c.workspace_law.ensures.bound c.workspace_law.ensures.grows 1 (wants_to_verify s) c.in_ok-survey.ensures.survey.header.1 c.in_ok-survey.ensures.survey.tile in
+    let tells : TellsFirstPast meter.limit (piled meter.live (wanted_buffers (wants_to_verify s) 1)) c.verify_seen.result = rw c.requires.one_worker at c.verify_seen.ensures.first_past in
+    tells_within c.workspace_law.ensures.past _ _ _ _ meter.limit c.args.meter.now.limit meter.live (greatest_bound Verify 1) (wanted_buffers (wants_to_verify s) 1) c.verify_seen.result
+    c.in_ok-survey.ensures.limit (omega (arith, within, c.requires.one_block, c.in_ok-survey.ensures.live)) c.verify_seen.ensures.cause.stop tells
+
+pub returns-clause-peak_most : goal.returns-clause-peak_most
+returns-clause-peak_most g c =
+    let s = c.in_ok-survey.survey in
+    let look = header_within c.workspace_law.ensures.bound c.workspace_law.ensures.grows 1 in
+    let work = work_within c.workspace_law.ensures.bound c.workspace_law.ensures.grows 1 (wants_to_verify s) c.in_ok-survey.ensures.survey.header.1 c.in_ok-survey.ensures.survey.tile in
+    let high : c.verify_seen.new.meter.peak ≤ max c.survey_to_unpack.new.meter.peak (c.survey_to_unpack.new.meter.live + sum (wanted_buffers (wants_to_verify s) 1)) = rw c.requires.one_worker at c.verify_seen.ensures.peak in
+    omega (arith, look, work, c.requires.one_block, c.in_ok-survey.ensures.live, c.in_ok-survey.ensures.peak_most, high)
+
+pub returns-clause-cause : goal.returns-clause-cause
+returns-clause-cause g c = later_works _ _ _ _ _ _ _ c.verify_seen.result c.in_ok-survey.ensures.cause.ok c.in_ok-survey.ensures.limit c.verify_seen.ensures.cause

@@ -1,0 +1,7 @@
+pub mod Again
+pub mod Clauses
+pub mod Lines
+pub mod Printed
+pub mod Rows
+pub mod Stages
+pub mod Sums

@@ -1,0 +1,115 @@
+//! The HDUs of a file, verified one after another.
+ghost use Rattle.std.specs.Prelude.{ℕ, ◌≡◌, ◌+◌, ◌*◌, ◌≤◌, ◌<◌, ◌^◌, ◌&&◌, Some, length as len, replicate, IfSome};
+ghost use Rattle.fz_base.specs.Stop.{IfRefused};
+ghost use Rattle.fz_base.specs.Told.{StaysTold};
+ghost use Rattle.fz_files.specs.Restored.{pixels_of};
+ghost use Rattle.fz_files.specs.declared.job.Job.TheVariants.{Verify};
+ghost use Rattle.fz_pool.specs.Window.{HasSlotsFor, slot_sizes};
+ghost use Rattle.fz_survey.specs.Workspace.{SpaceStays};
+ghost use Rattle.fz_job.specs.Clauses.{ComesLate, IsOfSomeRow};
+ghost use Rattle.fz_job.specs.Keeps.{Rewrites, SourceStays, WindowStays};
+ghost use Rattle.fz_verify.specs.Again.{IsAgain};
+ghost use Rattle.fz_verify.specs.Printed.{ChecksHdu, VerifiesSeen};
+
+use crate::again::{Again, read_again};
+use crate::hdu::verify_hdu;
+use crate::law::none_refused_law;
+use crate::lines::{print, verify_line};
+use fz_base::{Gate, Source, Stop, Text};
+use fz_block::next_start;
+use fz_pool::Window;
+use fz_survey::{Survey, Workspace};
+use std::thread::Threads;
+
+/// Verifies each HDU and prints its line. Answers whether no sum is wrong.
+pub(crate) fn verify_hdus<R: Threads + Sync, S: Source, T: Text, G: Gate>(
+    rt: &R,
+    source: &mut S,
+    length: u64,
+    text: &mut T,
+    window: &mut Window,
+    gate: &G,
+    survey: &Survey,
+    space: &mut Workspace,
+    block: &mut [u8],
+) -> Result<bool, Stop>
+    requires attached { S.attached source.old ≡ Some length }
+    requires some { 0 < survey.now.hdus }
+    requires few { survey.now.hdus ≤ 65536 }
+    requires window { slot_sizes window.old.slots ≡ replicate (2 * window.old.workers) (2 * survey.now.tile, 8 * survey.now.tile + 64) }
+    requires header { len space.old.header ≡ survey.now.header_len }
+    requires copy { 4096 ≤ len space.old.copy }
+    requires block { len block.old ≡ 2880 }
+    ensures verified { IfSome (S.held source.old) (λ g. VerifiesSeen g survey.now (T.contents text.old) (T.contents text.new) result) }
+    ensures late { IfRefused result (ComesLate Verify) }
+    ensures block { len block.new ≡ 2880 }
+    ensures space { SpaceStays space.old space.new }
+    ensures window { WindowStays window.old window.new }
+    ensures source { SourceStays (S.held source.old) (S.held source.new) (S.attached source.old) (S.attached source.new) }
+    ensures told_ranges { StaysTold (S.ranges source.old) (S.ranges source.new) }
+    ensures told_contents { StaysTold (T.contents text.old) (T.contents text.new) }
+    ensures cause { Rewrites (S.tally source.old) (S.tally source.new) (T.tally text.old) (T.tally text.new) result }
+{
+    none_refused_law();
+    let mut start = 0;
+    let mut after_empty = false;
+    let mut right = true;
+    for hdu in 0..survey.hdus {
+        let buf = space.header.as_mut_slice();
+        let again = read_again(
+            source,
+            length,
+            hdu,
+            start,
+            after_empty,
+            survey.tile,
+            block,
+            buf,
+        )?;
+        let sound = print_verified(rt, source, text, window, gate, &again, space)?;
+        right = both(right, sound);
+        start = next_start(&again.header);
+        if start == length {
+            return Ok(right);
+        }
+        after_empty = again.is_empty_primary();
+    }
+    Ok(right)
+}
+
+// Whether both are so.
+fn both(first: bool, second: bool) -> bool
+    ensures { result ≡ (first && second) }
+{
+    first && second
+}
+
+// Verifies an HDU, whose header is in the workspace, and prints its line. Answers whether no sum is wrong.
+fn print_verified<R: Threads + Sync, S: Source, T: Text, G: Gate>(
+    rt: &R,
+    source: &mut S,
+    text: &mut T,
+    window: &mut Window,
+    gate: &G,
+    again: &Again,
+    space: &mut Workspace,
+) -> Result<bool, Stop>
+    requires again { (n : ℕ) × (n < 2 ^ 64) × (S.attached source.old ≡ Some n) × IsAgain (S.held source.old) n space.old.header again.now }
+    requires window { IfSome again.now.image (λ i. HasSlotsFor (pixels_of i.plan 0) window.old) }
+    requires copy { 4096 ≤ len space.old.copy }
+    ensures checked { IfSome (S.held source.old) (λ g. ChecksHdu g again.now.header (T.contents text.old) (T.contents text.new) result) }
+    ensures row { IfRefused result IsOfSomeRow }
+    ensures space { SpaceStays space.old space.new }
+    ensures window { WindowStays window.old window.new }
+    ensures source { SourceStays (S.held source.old) (S.held source.new) (S.attached source.old) (S.attached source.new) }
+    ensures told_ranges { StaysTold (S.ranges source.old) (S.ranges source.new) }
+    ensures told_contents { StaysTold (T.contents text.old) (T.contents text.new) }
+    ensures cause { Rewrites (S.tally source.old) (S.tally source.new) (T.tally text.old) (T.tally text.new) result }
+{
+    let verdicts = verify_hdu(rt, source, window, gate, again, space)?;
+    print(
+        text,
+        &verify_line(again.header.hdu, &again.image, &verdicts),
+    )?;
+    Ok(verdicts.are_right())
+}

@@ -1,0 +1,75 @@
+//! One HDU, verified.
+ghost use Rattle.std.specs.Prelude.{ℕ, ◌≡◌, ◌<◌, ◌≤◌, ◌^◌, Some, length as len, List, IfOk, IfSome, OnOk};
+ghost use Rattle.fz_base.specs.Stop.{IfRefused};
+ghost use Rattle.fz_base.specs.Told.{StaysTold};
+ghost use Rattle.fz_files.specs.Restored.{pixels_of};
+ghost use Rattle.fz_fetch.specs.Stops.{Fetches};
+ghost use Rattle.fz_pool.specs.Window.{HasSlotsFor};
+ghost use Rattle.fz_survey.specs.Workspace.{SpaceStays};
+ghost use Rattle.fz_job.specs.Clauses.{IsOfSomeRow};
+ghost use Rattle.fz_job.specs.Keeps.{SourceStays, WindowStays};
+ghost use Rattle.fz_verify.specs.Again.{IsAgain};
+ghost use Rattle.fz_verify.specs.Rows.{IsHduFault, IsHduSound};
+ghost use Rattle.fz_verify.specs.Sums.{AreVerdictsOn};
+
+use crate::again::Again;
+use crate::sums::{Verdicts, judge_sums};
+use crate::tiles::decode_tiles;
+use fz_base::{Gate, Source, Stop};
+use fz_block::BLOCK_LEN;
+use fz_pool::Window;
+use fz_survey::Workspace;
+use std::thread::Threads;
+
+/// Decodes the tiles of an HDU, whose header is in the workspace, if it is packed, and judges its sums.
+pub(crate) fn verify_hdu<R: Threads + Sync, S: Source, G: Gate>(
+    rt: &R,
+    source: &mut S,
+    window: &mut Window,
+    gate: &G,
+    again: &Again,
+    space: &mut Workspace,
+) -> Result<Verdicts, Stop>
+    requires again { (n : ℕ) × (n < 2 ^ 64) × (S.attached source.old ≡ Some n) × IsAgain (S.held source.old) n space.old.header again.now }
+    requires window { IfSome again.now.image (λ i. HasSlotsFor (pixels_of i.plan 0) window.old) }
+    requires copy { 4096 ≤ len space.old.copy }
+    ensures verdicts { IfOk result (λ v. IfSome (S.held source.old) (λ g. AreVerdictsOn g again.now.header v × IsHduSound g again.now.header)) }
+    ensures fault { IfRefused result (λ x. IfSome (S.held source.old) (λ g. IsHduFault g again.now.header x)) }
+    ensures row { IfRefused result IsOfSomeRow }
+    ensures space { SpaceStays space.old space.new }
+    ensures window { WindowStays window.old window.new }
+    ensures source { SourceStays (S.held source.old) (S.held source.new) (S.attached source.old) (S.attached source.new) }
+    ensures told { StaysTold (S.ranges source.old) (S.ranges source.new) }
+    ensures cause { Fetches (S.tally source.old) (S.tally source.new) result }
+{
+    decode_hdu(rt, source, window, gate, again, space.copy.as_mut_slice())?;
+    let buf = &space.header.as_slice()[..BLOCK_LEN * again.header.blocks as usize];
+    judge_sums(source, &again.header, buf, space.copy.as_mut_slice())
+}
+
+// Decodes the tiles of an HDU, if it is packed.
+fn decode_hdu<R: Threads + Sync, S: Source, G: Gate>(
+    rt: &R,
+    source: &mut S,
+    window: &mut Window,
+    gate: &G,
+    again: &Again,
+    rows: &mut [u8],
+) -> Result<(), Stop>
+    requires again { (n : ℕ) × (n < 2 ^ 64) × (S.attached source.old ≡ Some n) × ((buf : List ℕ) × IsAgain (S.held source.old) n buf again.now) }
+    requires window { IfSome again.now.image (λ i. HasSlotsFor (pixels_of i.plan 0) window.old) }
+    requires rows { 4096 ≤ len rows.old }
+    ensures sound { OnOk result (IfSome (S.held source.old) (λ g. IsHduSound g again.now.header)) }
+    ensures fault { IfRefused result (λ x. IfSome (S.held source.old) (λ g. IsHduFault g again.now.header x)) }
+    ensures row { IfRefused result IsOfSomeRow }
+    ensures rows { len rows.new ≡ len rows.old }
+    ensures window { WindowStays window.old window.new }
+    ensures source { SourceStays (S.held source.old) (S.held source.new) (S.attached source.old) (S.attached source.new) }
+    ensures told { StaysTold (S.ranges source.old) (S.ranges source.new) }
+    ensures cause { Fetches (S.tally source.old) (S.tally source.new) result }
+{
+    match &again.image {
+        Some(image) => decode_tiles(rt, source, window, gate, &again.header, image, rows),
+        None => Ok(()),
+    }
+}

@@ -1,0 +1,118 @@
+//! The job `list`: look at all headers, take a buffer for the longest, and print.
+ghost use Rattle.std.specs.Prelude.{◌≡◌, ◌+◌, ◌<◌, ◌≤◌, max, Some, length as len, sum, IfSome};
+ghost use Rattle.fz_base.specs.Stop.{IfRefused, TellsLimit};
+ghost use Rattle.fz_base.specs.Takings.{TellsFirstPast, piled};
+ghost use Rattle.fz_base.specs.Told.{StaysTold};
+ghost use Rattle.fz_files.specs.Buffers.{job_bound};
+ghost use Rattle.fz_files.specs.declared.job.Job.TheVariants.{List as ListHdus};
+ghost use Rattle.fz_survey.specs.Workspace.{wanted_buffers};
+ghost use Rattle.fz_job.specs.Clauses.{Answers, HasJobCause, IfOverLimit, IsChanged, IsUnmade, KeepsSource, TellsFirstFault, greatest_bound};
+ghost use Rattle.fz_job.specs.Keeps.{SourceStays};
+ghost use Rattle.fz_verify.specs.Clauses.{KeepsMeter, PrintsLines};
+ghost use Rattle.fz_verify.specs.Printed.{ListsSeen};
+ghost use Rattle.fz_verify.specs.Stages.{Works, later_takings, wants_to_list};
+
+use crate::law::known_law;
+use crate::listing::list_hdus;
+use fz_base::{Meter, Source, Stop, Text};
+use fz_block::BLOCK_LEN;
+use fz_files::buffers_law;
+use fz_survey::{Survey, survey_to_unpack, workspace_law};
+
+/// Prints what each HDU of the file is that is attached to the source, a line for each.
+///
+/// All checks of headers come first. Refused: as `survey_to_unpack` refuses the file, and then nothing is printed. Of a
+/// source that gives other bytes at the second reading also an HDU that is no longer the one that was looked at.
+pub fn list<S: Source, T: Text>(
+    source: &mut S,
+    length: u64,
+    text: &mut T,
+    meter: &mut Meter,
+) -> Result<(), Stop>
+    requires attached { S.attached source.old ≡ Some length }
+    requires nothing_live { meter.old.live ≡ 0 }
+
+    ensures lines { PrintsLines ListHdus (S.held source.old) (T.contents text.old) (T.contents text.new) result }
+    ensures first_fault { TellsFirstFault ListHdus (S.held source.old) result }
+    // Where no count of faults rose and the limit is at least the bound, the first fault alone decides.
+    ensures answered { Answers ListHdus (S.held source.old) (S.tally source.old) (S.tally source.new) (T.tally text.old) (T.tally text.new) meter.old.limit 1 result }
+    ensures cause { HasJobCause ListHdus (S.held source.old) (S.tally source.old) (S.tally source.new) (T.tally text.old) (T.tally text.new) meter.old.limit 1 result }
+    // Nothing is printed where a header is refused.
+    ensures silent { IsUnmade ListHdus (S.held source.old) ((T.contents text.new ≡ T.contents text.old) × (T.tally text.new ≡ T.tally text.old)) result }
+    ensures buffers { KeepsMeter ListHdus (S.held source.old) meter.old meter.new }
+    ensures kept { KeepsSource (S.held source.old) (S.held source.new) (S.attached source.old) (S.attached source.new) (S.tally source.old) (S.tally source.new) (T.tally text.old) (T.tally text.new) }
+    ensures told_ranges { StaysTold (S.ranges source.old) (S.ranges source.new) }
+    ensures told_contents { StaysTold (T.contents text.old) (T.contents text.new) }
+{
+    // What the bound of the buffers is.
+    buffers_law();
+    workspace_law();
+    let mut block = meter.bytes(BLOCK_LEN as u64)?;
+    let answer = list_with_block(source, length, text, meter, block.as_mut_slice());
+    meter.give_bytes(block);
+    answer
+}
+
+// Looks at the headers, and then prints.
+fn list_with_block<S: Source, T: Text>(
+    source: &mut S,
+    length: u64,
+    text: &mut T,
+    meter: &mut Meter,
+    block: &mut [u8],
+) -> Result<(), Stop>
+    requires attached { S.attached source.old ≡ Some length }
+    requires one_block { meter.old.live ≡ 2880 }
+    requires block { len block.old ≡ 2880 }
+    ensures lines { PrintsLines ListHdus (S.held source.old) (T.contents text.old) (T.contents text.new) result }
+    ensures first_fault { TellsFirstFault ListHdus (S.held source.old) result }
+    ensures silent { IsUnmade ListHdus (S.held source.old) ((T.contents text.new ≡ T.contents text.old) × (T.tally text.new ≡ T.tally text.old)) result }
+    ensures first_past { IfSome (S.held source.old) (λ g. TellsFirstPast meter.old.limit (later_takings ListHdus g) result) }
+    ensures peak { IfSome (S.held source.old) (λ g. meter.new.peak ≤ max meter.old.peak (job_bound ListHdus g 1)) }
+    ensures most { TellsLimit meter.old.limit (greatest_bound ListHdus 1) result }
+    ensures peak_most { meter.new.peak ≤ max meter.old.peak (greatest_bound ListHdus 1) }
+    ensures live { meter.new.live ≡ meter.old.live }
+    ensures limit { meter.new.limit ≡ meter.old.limit }
+    ensures source { SourceStays (S.held source.old) (S.held source.new) (S.attached source.old) (S.attached source.new) }
+    ensures told_ranges { StaysTold (S.ranges source.old) (S.ranges source.new) }
+    ensures told_contents { StaysTold (T.contents text.old) (T.contents text.new) }
+    ensures cause { Works (S.tally source.old) (S.tally source.new) (T.tally text.old) (T.tally text.new) meter.old.limit result }
+{
+    // What the survey says of the file, and what the bound of the buffers is.
+    known_law();
+    buffers_law();
+    workspace_law();
+    let survey = survey_to_unpack(source, length, meter, block)?;
+    list_seen(source, length, text, meter, &survey, block)
+}
+
+// Takes a buffer for the longest header, prints, and hands the buffer back.
+fn list_seen<S: Source, T: Text>(
+    source: &mut S,
+    length: u64,
+    text: &mut T,
+    meter: &mut Meter,
+    survey: &Survey,
+    block: &mut [u8],
+) -> Result<(), Stop>
+    requires attached { S.attached source.old ≡ Some length }
+    requires some { 0 < survey.now.hdus }
+    requires few { survey.now.hdus ≤ 65536 }
+    requires block { len block.old ≡ 2880 }
+    ensures listed { IfSome (S.held source.old) (λ g. ListsSeen g survey.now (T.contents text.old) (T.contents text.new) result) }
+    ensures silent { IfOverLimit result ((T.contents text.new ≡ T.contents text.old) × (T.tally text.new ≡ T.tally text.old)) }
+    ensures first_past { TellsFirstPast meter.old.limit (piled meter.old.live (wanted_buffers (wants_to_list survey.now) 1)) result }
+    ensures peak { meter.new.peak ≤ max meter.old.peak (meter.old.live + sum (wanted_buffers (wants_to_list survey.now) 1)) }
+    ensures live { meter.new.live ≡ meter.old.live }
+    ensures limit { meter.new.limit ≡ meter.old.limit }
+    ensures changed { IfRefused result IsChanged }
+    ensures source { SourceStays (S.held source.old) (S.held source.new) (S.attached source.old) (S.attached source.new) }
+    ensures told_ranges { StaysTold (S.ranges source.old) (S.ranges source.new) }
+    ensures told_contents { StaysTold (T.contents text.old) (T.contents text.new) }
+    ensures cause { Works (S.tally source.old) (S.tally source.new) (T.tally text.old) (T.tally text.new) meter.old.limit result }
+{
+    let mut header = meter.bytes(u64::from(survey.header_len))?;
+    let answer = list_hdus(source, length, text, survey, block, header.as_mut_slice());
+    meter.give_bytes(header);
+    answer
+}

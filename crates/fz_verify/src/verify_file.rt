@@ -1,0 +1,163 @@
+//! The job `verify`: look at all headers, take all buffers, and then decode, judge and print.
+ghost use Rattle.std.specs.Prelude.{◌≡◌, ◌+◌, ◌<◌, ◌≤◌, max, [], Some, length as len, sum, IfOk, IfSome};
+ghost use Rattle.fz_base.specs.Stop.{IfRefused, TellsLimit};
+ghost use Rattle.fz_base.specs.Takings.{TellsFirstPast, piled};
+ghost use Rattle.fz_base.specs.Told.{StaysTold};
+ghost use Rattle.fz_files.specs.Buffers.{job_bound};
+ghost use Rattle.fz_files.specs.declared.job.Job.TheVariants.{Verify};
+ghost use Rattle.fz_pool.specs.Window.{IsEmpty};
+ghost use Rattle.fz_survey.specs.Workspace.{wanted_buffers};
+ghost use Rattle.fz_job.specs.Clauses.{Answers, ComesLate, HasJobCause, IfOverLimit, IsUnmade, KeepsBuffers, KeepsSource, TellsFirstFault, greatest_bound};
+ghost use Rattle.fz_job.specs.Keeps.{SourceStays};
+ghost use Rattle.fz_verify.specs.Clauses.{IsRightAsSaid, PrintsLines};
+ghost use Rattle.fz_verify.specs.Printed.{VerifiesSeen};
+ghost use Rattle.fz_verify.specs.Stages.{Works, later_takings, wants_to_verify};
+
+use crate::checking::verify_hdus;
+use crate::law::known_law;
+use fz_base::{Gate, Meter, Source, Stop, Text};
+use fz_block::BLOCK_LEN;
+use fz_files::buffers_law;
+use fz_pool::{Window, sizes_law};
+use fz_survey::{Survey, Wants, Workspace, survey_to_unpack, workspace_law};
+use std::thread::Threads;
+
+/// Verifies the file that is attached to the source: decodes every tile of its packed images, and prints for each HDU a
+/// line with the verdicts on its sums. Answers whether no sum is wrong.
+///
+/// All checks of headers come first, then all buffers are taken. Refused: as `survey_to_unpack` refuses the file, and
+/// then nothing is printed; the lowest faulty row of the first packed image that has one, as `fetch_tiles` refuses it,
+/// behind the lines of the HDUs before. Of a source that gives other bytes at the second reading also an HDU that is no
+/// longer the one that was looked at.
+pub fn verify<R: Threads + Sync, S: Source, T: Text, G: Gate>(
+    rt: &R,
+    source: &mut S,
+    length: u64,
+    text: &mut T,
+    meter: &mut Meter,
+    window: &mut Window,
+    gate: &G,
+) -> Result<bool, Stop>
+    requires attached { S.attached source.old ≡ Some length }
+    requires nothing_live { meter.old.live ≡ 0 }
+    requires window { IsEmpty window.old }
+    requires one_worker { window.old.workers ≡ 1 }
+
+    ensures lines { PrintsLines Verify (S.held source.old) (T.contents text.old) (T.contents text.new) result }
+    ensures right { IfOk result (λ right. IfSome (S.held source.old) (IsRightAsSaid right)) }
+    ensures first_fault { TellsFirstFault Verify (S.held source.old) result }
+    // Where no count of faults rose and the limit is at least the bound, the first fault alone decides.
+    ensures answered { Answers Verify (S.held source.old) (S.tally source.old) (S.tally source.new) (T.tally text.old) (T.tally text.new) meter.old.limit 1 result }
+    ensures cause { HasJobCause Verify (S.held source.old) (S.tally source.old) (S.tally source.new) (T.tally text.old) (T.tally text.new) meter.old.limit 1 result }
+    // Nothing is printed where a header is refused.
+    ensures silent { IsUnmade Verify (S.held source.old) ((T.contents text.new ≡ T.contents text.old) × (T.tally text.new ≡ T.tally text.old)) result }
+    ensures buffers { KeepsBuffers Verify (S.held source.old) meter.old meter.new window.old window.new }
+    ensures kept { KeepsSource (S.held source.old) (S.held source.new) (S.attached source.old) (S.attached source.new) (S.tally source.old) (S.tally source.new) (T.tally text.old) (T.tally text.new) }
+    ensures told_ranges { StaysTold (S.ranges source.old) (S.ranges source.new) }
+    ensures told_contents { StaysTold (T.contents text.old) (T.contents text.new) }
+{
+    // What the bound of the buffers is.
+    buffers_law();
+    workspace_law();
+    let mut block = meter.bytes(BLOCK_LEN as u64)?;
+    let answer = verify_with_block(
+        rt,
+        source,
+        length,
+        text,
+        meter,
+        window,
+        gate,
+        block.as_mut_slice(),
+    );
+    meter.give_bytes(block);
+    answer
+}
+
+// Looks at the headers, and then works.
+fn verify_with_block<R: Threads + Sync, S: Source, T: Text, G: Gate>(
+    rt: &R,
+    source: &mut S,
+    length: u64,
+    text: &mut T,
+    meter: &mut Meter,
+    window: &mut Window,
+    gate: &G,
+    block: &mut [u8],
+) -> Result<bool, Stop>
+    requires attached { S.attached source.old ≡ Some length }
+    requires one_block { meter.old.live ≡ 2880 }
+    requires window { IsEmpty window.old }
+    requires one_worker { window.old.workers ≡ 1 }
+    requires block { len block.old ≡ 2880 }
+    ensures lines { PrintsLines Verify (S.held source.old) (T.contents text.old) (T.contents text.new) result }
+    ensures right { IfOk result (λ right. IfSome (S.held source.old) (IsRightAsSaid right)) }
+    ensures first_fault { TellsFirstFault Verify (S.held source.old) result }
+    ensures silent { IsUnmade Verify (S.held source.old) ((T.contents text.new ≡ T.contents text.old) × (T.tally text.new ≡ T.tally text.old)) result }
+    ensures first_past { IfSome (S.held source.old) (λ g. TellsFirstPast meter.old.limit (later_takings Verify g) result) }
+    ensures peak { IfSome (S.held source.old) (λ g. meter.new.peak ≤ max meter.old.peak (job_bound Verify g 1)) }
+    ensures most { TellsLimit meter.old.limit (greatest_bound Verify 1) result }
+    ensures peak_most { meter.new.peak ≤ max meter.old.peak (greatest_bound Verify 1) }
+    ensures live { meter.new.live ≡ meter.old.live }
+    ensures limit { meter.new.limit ≡ meter.old.limit }
+    ensures emptied { window.new ≡ record { slots = []; workers = window.old.workers } }
+    ensures source { SourceStays (S.held source.old) (S.held source.new) (S.attached source.old) (S.attached source.new) }
+    ensures told_ranges { StaysTold (S.ranges source.old) (S.ranges source.new) }
+    ensures told_contents { StaysTold (T.contents text.old) (T.contents text.new) }
+    ensures cause { Works (S.tally source.old) (S.tally source.new) (T.tally text.old) (T.tally text.new) meter.old.limit result }
+{
+    // What the survey says of the file, and what the bound of the buffers is.
+    known_law();
+    buffers_law();
+    workspace_law();
+    let survey = survey_to_unpack(source, length, meter, block)?;
+    verify_seen(
+        rt, source, length, text, meter, window, gate, &survey, block,
+    )
+}
+
+// Takes all buffers, verifies the HDUs, and hands the buffers back.
+fn verify_seen<R: Threads + Sync, S: Source, T: Text, G: Gate>(
+    rt: &R,
+    source: &mut S,
+    length: u64,
+    text: &mut T,
+    meter: &mut Meter,
+    window: &mut Window,
+    gate: &G,
+    survey: &Survey,
+    block: &mut [u8],
+) -> Result<bool, Stop>
+    requires attached { S.attached source.old ≡ Some length }
+    requires window { IsEmpty window.old }
+    requires some { 0 < survey.now.hdus }
+    requires few { survey.now.hdus ≤ 65536 }
+    requires block { len block.old ≡ 2880 }
+    ensures verified { IfSome (S.held source.old) (λ g. VerifiesSeen g survey.now (T.contents text.old) (T.contents text.new) result) }
+    ensures silent { IfOverLimit result ((T.contents text.new ≡ T.contents text.old) × (T.tally text.new ≡ T.tally text.old)) }
+    ensures first_past { TellsFirstPast meter.old.limit (piled meter.old.live (wanted_buffers (wants_to_verify survey.now) window.old.workers)) result }
+    ensures peak { meter.new.peak ≤ max meter.old.peak (meter.old.live + sum (wanted_buffers (wants_to_verify survey.now) window.old.workers)) }
+    ensures live { meter.new.live ≡ meter.old.live }
+    ensures limit { meter.new.limit ≡ meter.old.limit }
+    ensures emptied { window.new ≡ record { slots = []; workers = window.old.workers } }
+    ensures late { IfRefused result (ComesLate Verify) }
+    ensures source { SourceStays (S.held source.old) (S.held source.new) (S.attached source.old) (S.attached source.new) }
+    ensures told_ranges { StaysTold (S.ranges source.old) (S.ranges source.new) }
+    ensures told_contents { StaysTold (T.contents text.old) (T.contents text.new) }
+    ensures cause { Works (S.tally source.old) (S.tally source.new) (T.tally text.old) (T.tally text.new) meter.old.limit result }
+{
+    // What is held is what was taken, and how long the slots are that were filled.
+    workspace_law();
+    sizes_law();
+    let wants = Wants {
+        header_len: survey.header_len,
+        translates: false,
+        tile: Some(survey.tile),
+    };
+    let mut space = Workspace::take(meter, window, &wants)?;
+    let answer = verify_hdus(
+        rt, source, length, text, window, gate, survey, &mut space, block,
+    );
+    space.give_back(meter, window);
+    answer
+}
