@@ -5,32 +5,22 @@ use Rattle.fz_base.specs.declared.fault.Fault.{Fault}
 use Rattle.fz_files.specs.FirstFault.{IsFirstFault}
 use Rattle.fz_files.specs.Laws.{HasOneFirstFault}
 use Rattle.fz_files.specs.declared.job.Job.{Job}
-use Rattle.fz_files.specs.declared.job.Job.TheVariants.{Pack, Unpack, Cut, Verify, List as ListHdus, Drill}
 use Rattle.fz_job.specs.Clauses.{IsAnswer, TellsFirstFault}
 use Rattle.fz_app.specs.Answer.{IfAnswer}
-use Rattle.fz_app.specs.Promises.{IsAnswerTo, IsDone}
+use Rattle.fz_app.specs.Promises.{IsAnswerTo, IsEnd}
 use Rattle.fz_app.specs.declared.status.Status.{Status}
 use Rattle.fz_app.specs.declared.status.Status.TheVariants.{Done, Different, Usage, Refused, ReadFault, WriteFault, OverLimit, NoMemory}
 
 -- the answer to a fault that is the first is that to any other first fault, since there is one
-same_answer : (job : Job) (found other : Option Fault) (status : Status) → found ≡ other → IsAnswerTo job found status → IsAnswerTo job other status
-same_answer job found other status e = subst (λ (x : Option Fault). IsAnswerTo job x status) e
-
--- each job may end done
-is_done : (job : Job) → IsDone job Done
-is_done (Pack options) = refl
-is_done Unpack = refl
-is_done (Cut wanted sieve) = refl
-is_done Verify = inl refl
-is_done ListHdus = refl
-is_done (Drill rows) = refl
+same_answer : (job : Job) (file : List ℕ) (found other : Option Fault) (status : Status) → found ≡ other → IsAnswerTo job file found status → IsAnswerTo job file other status
+same_answer job file found other status e = subst (λ (x : Option Fault). IsAnswerTo job file x status) e
 
 module _ (one : HasOneFirstFault) (job : Job) (file : List ℕ) where
-  pub decides : (status : Status) → IfAnswer status (λ r. IsAnswer r × TellsFirstFault job (Some file) r) → status ≢ Usage → status ≢ Different → (fault : Option Fault) → IsFirstFault job file fault → IsAnswerTo job fault status
-  decides Done p u d fault is = same_answer job None fault Done (one job file None fault p.1 is) (inl (is_done job))
-  decides Different p u d fault is = absurd (d refl)
+  pub decides : (status : Status) → IfAnswer status (λ r. IsAnswer r × TellsFirstFault job (Some file) r) → status ≢ Usage → IsEnd job (Some file) status → (fault : Option Fault) → IsFirstFault job file fault → IsAnswerTo job file fault status
+  decides Done p u d fault is = same_answer job file None fault Done (one job file None fault p.1 is) (inl d.done)
+  decides Different p u d fault is = same_answer job file None fault Different (one job file None fault p.1 is) (inl d.done)
   decides Usage p u d fault is = absurd (u refl)
-  decides (Refused x) p u d fault is = same_answer job (Some x) fault (Refused x) (one job file (Some x) fault p.1 is) (inl refl)
+  decides (Refused x) p u d fault is = same_answer job file (Some x) fault (Refused x) (one job file (Some x) fault p.1 is) (inl refl)
   decides ReadFault p u d fault is = absurd p.0
   decides WriteFault p u d fault is = absurd p.0
   decides (OverLimit live asked limit) p u d fault is = absurd p.0

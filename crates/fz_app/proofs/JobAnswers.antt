@@ -1,4 +1,4 @@
--- What a job that writes a file promises of its answer, and what is promised of the answer to the words, for every such job.
+-- What a job promises of its answer, and what is promised of the answer to the words, for every job.
 use Rattle.std.proofs.Common.{◌≡◌, ℕ, ◌≤◌, ◌<◌, List, arith, inl, inr}
 use Rattle.std.specs.Prelude.{◌⊎◌, max, Option, Some, None, IfSome, Result, Ok, Err, IsErrOf, OnOk, OnErr}
 use Rattle.fz_base.specs.Counts.{CountsKept}
@@ -12,13 +12,19 @@ use Rattle.fz_files.specs.declared.job.Job.{Job}
 use Rattle.fz_job.specs.Clauses.{Answers, HasJobCause, IsShutOrWhole, IsUnmade, TellsFirstFault, greatest_bound}
 use Rattle.fz_words.specs.Jobs.{Asked}
 use Rattle.fz_app.specs.Asked.{limit_of}
+use Rattle.fz_app.specs.Ends.{Ends, IsSameSink, counts_written}
 use Rattle.fz_app.specs.Outputs.{HoldsJobOutput, IsFinished, IsWhole, JobRestores}
-use Rattle.fz_app.specs.Promised.{Ends, IsPromised, IsSameSink}
+use Rattle.fz_app.specs.Printed.{JobPrinted}
+use Rattle.fz_app.specs.Promised.{IsPromised}
 
 -- a fact of an error that follows from another, and two facts of a done job
 on_err : (answer : Result (Unit {0}) Stop) (P Q : Type 0) → (P → Q) → OnErr answer P → OnErr answer Q
 on_err (Ok done) P Q f p = tt
 on_err (Err stop) P Q f p = f p
+
+on_ok : (answer : Result (Unit {0}) Stop) (P Q : Type 0) → (P → Q) → OnOk answer P → OnOk answer Q
+on_ok (Ok done) P Q f p = f p
+on_ok (Err stop) P Q f p = tt
 
 on_both : (answer : Result (Unit {0}) Stop) (P Q : Type 0) → OnOk answer P → OnOk answer Q → OnOk answer (P × Q)
 on_both (Ok done) P Q p q = (p, q)
@@ -26,36 +32,39 @@ on_both (Err stop) P Q p q = tt
 
 -- what a job says of the sink and of the source, as they were before the source was attached and after the call
 pub record JobSays (asked : Asked) (old new : Ends) (answer : Result (Unit {0}) Stop) : Type 0 where
-  pub output : OnOk answer (HoldsJobOutput asked.job old.held new.contents)
-  pub finished : OnOk answer (IsFinished asked.job new.finished)
+  pub output : OnOk answer (HoldsJobOutput asked.job old.held new.sink.contents)
+  pub finished : OnOk answer (IsFinished asked.job new.sink.finished)
   pub first_fault : TellsFirstFault asked.job old.held answer
-  pub answered : Answers asked.job old.held old.source new.source old.sink new.sink (limit_of asked old.meter.limit) asked.workers answer
-  pub cause : HasJobCause asked.job old.held old.source new.source old.sink new.sink (limit_of asked old.meter.limit) asked.workers answer
-  pub first_byte : IsShutOrWhole new.contents (HoldsJobOutput asked.job old.held new.contents) answer
-  pub unmade : IsUnmade asked.job old.held (IsSameSink old new) answer
+  pub answered : Answers asked.job old.held old.source new.source (counts_written asked.job old) (counts_written asked.job new) (limit_of asked old.meter.limit) asked.workers answer
+  pub cause : HasJobCause asked.job old.held old.source new.source (counts_written asked.job old) (counts_written asked.job new) (limit_of asked old.meter.limit) asked.workers answer
+  pub first_byte : IsShutOrWhole new.sink.contents (HoldsJobOutput asked.job old.held new.sink.contents) answer
+  pub unmade : IsUnmade asked.job old.held (IsSameSink old.sink new.sink) answer
   pub live : new.meter.live ≡ 0
   pub limit : new.meter.limit ≡ limit_of asked old.meter.limit
   pub peak : IfSome old.held (λ file. new.meter.peak ≤ max 0 (job_bound asked.job file asked.workers))
   pub most : new.meter.peak ≤ max 0 (greatest_bound asked.job asked.workers)
   pub held_is : new.held ≡ old.held
   pub told_ranges : StaysTold old.ranges new.ranges
-  pub told_contents : StaysTold old.contents new.contents
+  pub told_contents : StaysTold old.sink.contents new.sink.contents
   pub source_counts : CountsKept old.source new.source
-  pub sink_counts : CountsKept old.sink new.sink
+  pub sink_counts : CountsKept old.sink.tally new.sink.tally
+  pub text_counts : CountsKept old.text.tally new.text.tally
+  pub printed : JobPrinted asked.job old.held old.text new.text answer
+  pub one_written : counts_written asked.job new ≡ counts_written asked.job old → (new.sink.tally ≡ old.sink.tally) × (new.text.tally ≡ old.text.tally)
 
 -- contents that hold the output are shut, or the file has no fault
 abbrev pub WholeIsSound : Job → Ends → Ends → Type 0
-WholeIsSound job old new = HoldsJobOutput job old.held new.contents → IsShut new.contents ⊎ IfSome old.held (λ file. IsFirstFault job file None)
+WholeIsSound job old new = HoldsJobOutput job old.held new.sink.contents → IsShut new.sink.contents ⊎ IfSome old.held (λ file. IsFirstFault job file None)
 
 module _ (asked : Asked) (old new : Ends) where
   abbrev pub Last : Result (Unit {0}) Stop → Type 0
   Last answer = IsErrOf answer StopWrite ⊎ IsErrOf answer StopMemory
 
-  with_sound : (E : Type 0) → HoldsJobOutput asked.job old.held new.contents → IsShut new.contents ⊎ IfSome old.held (λ file. IsFirstFault asked.job file None) → E → IsShut new.contents ⊎ (IsWhole asked.job old.held new.contents × E)
+  with_sound : (E : Type 0) → HoldsJobOutput asked.job old.held new.sink.contents → IsShut new.sink.contents ⊎ IfSome old.held (λ file. IsFirstFault asked.job file None) → E → IsShut new.sink.contents ⊎ (IsWhole asked.job old.held new.sink.contents × E)
   with_sound E whole (inl shut) last = inl shut
   with_sound E whole (inr sound) last = inr (record { output = whole; sound = sound }, last)
 
-  first_byte_of : (E : Type 0) → WholeIsSound asked.job old new → IsShut new.contents ⊎ (HoldsJobOutput asked.job old.held new.contents × E) → IsShut new.contents ⊎ (IsWhole asked.job old.held new.contents × E)
+  first_byte_of : (E : Type 0) → WholeIsSound asked.job old new → IsShut new.sink.contents ⊎ (HoldsJobOutput asked.job old.held new.sink.contents × E) → IsShut new.sink.contents ⊎ (IsWhole asked.job old.held new.sink.contents × E)
   first_byte_of E sound (inl shut) = inl shut
   first_byte_of E sound (inr sealed) = with_sound E sealed.0 (sound sealed.0) sealed.1
 
@@ -63,24 +72,29 @@ module _ (asked : Asked) (old new : Ends) where
   peak_of None p = tt
   peak_of (Some file) p = omega (arith, p)
 
+  -- where the counts of the source and of what is written stay, all stay
+  all_counts : (counts_written asked.job new ≡ counts_written asked.job old → (new.sink.tally ≡ old.sink.tally) × (new.text.tally ≡ old.text.tally)) →
+      (new.source ≡ old.source) × (counts_written asked.job new ≡ counts_written asked.job old) → (new.source ≡ old.source) × (new.sink.tally ≡ old.sink.tally) × (new.text.tally ≡ old.text.tally)
+  all_counts one same = (same.0, (one same.1).0, (one same.1).1)
+
   -- the first taking of one block
-  block_of : (answer : Result (Unit {0}) Stop) → (limit_of asked old.meter.limit < 2880 → IsErrOf answer (StopLimit 0 2880 (limit_of asked old.meter.limit)) × (new.source ≡ old.source) × (new.sink ≡ old.sink)) →
+  block_of : (answer : Result (Unit {0}) Stop) → (limit_of asked old.meter.limit < 2880 → IsErrOf answer (StopLimit 0 2880 (limit_of asked old.meter.limit)) × (new.source ≡ old.source) × (counts_written asked.job new ≡ counts_written asked.job old)) →
       limit_of asked old.meter.limit < 2880 → IsErrOf answer (StopLimit 0 2880 (limit_of asked old.meter.limit)) ⊎ (IsErrOf answer StopRead ⊎ IsErrOf answer StopMemory)
   block_of answer says less = inl (says less).0
 
   -- what the job says of its answer is promised of it, with what it restores
-  pub promised : (answer : Result (Unit {0}) Stop) → JobSays asked old new answer → WholeIsSound asked.job old new → OnOk answer (JobRestores asked.job old.held new.contents) → IsPromised asked old new answer
+  pub promised : (answer : Result (Unit {0}) Stop) → JobSays asked old new answer → WholeIsSound asked.job old new → OnOk answer (JobRestores asked.job old.held new.sink.contents) → IsPromised asked old new answer
   promised answer s sound restored = record {
     restored = restored;
-    output = on_both answer (HoldsJobOutput asked.job old.held new.contents) (IsFinished asked.job new.finished) s.output s.finished;
+    output = on_both answer (HoldsJobOutput asked.job old.held new.sink.contents) (IsFinished asked.job new.sink.finished) s.output s.finished;
     first_fault = s.first_fault;
     answered = s.answered;
-    first_byte = on_err answer (IsShut new.contents ⊎ (HoldsJobOutput asked.job old.held new.contents × Last answer)) (IsShut new.contents ⊎ (IsWhole asked.job old.held new.contents × Last answer)) (first_byte_of (Last answer) sound) s.first_byte;
+    first_byte = on_err answer (IsShut new.sink.contents ⊎ (HoldsJobOutput asked.job old.held new.sink.contents × Last answer)) (IsShut new.sink.contents ⊎ (IsWhole asked.job old.held new.sink.contents × Last answer)) (first_byte_of (Last answer) sound) s.first_byte;
     live = s.live;
     limit = s.limit;
     peak = peak_of old.held s.peak;
-    done = s.cause.done;
-    refused = s.cause.refused;
+    done = on_ok answer ((new.source ≡ old.source) × (counts_written asked.job new ≡ counts_written asked.job old)) ((new.source ≡ old.source) × (new.sink.tally ≡ old.sink.tally) × (new.text.tally ≡ old.text.tally)) (all_counts s.one_written) s.cause.done;
+    refused = λ is. all_counts s.one_written (s.cause.refused is);
     read_fault = s.cause.read_fault;
     write_fault = s.cause.write_fault;
     most = omega (arith, s.most);
@@ -93,4 +107,6 @@ module _ (asked : Asked) (old new : Ends) where
     told_contents = s.told_contents;
     source_counts = s.source_counts;
     sink_counts = s.sink_counts;
+    text_counts = s.text_counts;
+    printed = s.printed;
   }

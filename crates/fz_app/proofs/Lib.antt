@@ -2,5 +2,8 @@ mod Answered
 mod Complete
 mod JobAnswers
 mod PackAnswers
+mod RequestAnswers
 mod RunPromises
+mod Tallies
+mod TextAnswers
 mod UnpackAnswers

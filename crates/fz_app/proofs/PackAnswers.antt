@@ -13,26 +13,27 @@ use Rattle.fz_head.specs.declared.options.PackOptions.{PackOptions}
 use Rattle.fz_round_trip.specs.RoundTrip.{ComesBack}
 use Rattle.fz_job.specs.Clauses.{TellsFirstFault}
 use Rattle.fz_words.specs.Jobs.{Asked}
+use Rattle.fz_app.specs.Ends.{Ends, IsSameSink}
 use Rattle.fz_app.specs.Outputs.{HoldsJobOutput, JobRestores}
-use Rattle.fz_app.specs.Promised.{Ends, IsPromised, IsSameSink}
+use Rattle.fz_app.specs.Promised.{IsPromised}
 use Rattle.fz_app.proofs.JobAnswers.{JobSays, promised}
 
 -- contents that are empty, where they are told
-empty_is_shut : (contents : Option (List ℕ)) → IfSome contents (λ c. c ≡ []) → IsShut contents
+pub empty_is_shut : (contents : Option (List ℕ)) → IfSome contents (λ c. c ≡ []) → IsShut contents
 empty_is_shut None e = tt
 empty_is_shut (Some []) e = tt
 empty_is_shut (Some (b ∷ bytes)) e = absurd cc
 
-module _ (o : PackOptions) (W memory : ℕ) (input output : List ℕ) (old new : Ends) (empty : IfSome old.contents (λ c. c ≡ [])) where
+module _ (o : PackOptions) (W memory : ℕ) (input output : List ℕ) (old new : Ends) (empty : IfSome old.sink.contents (λ c. c ≡ [])) where
   abbrev pub asked : Asked
   asked = record { job = Pack o; workers = W; memory = memory; input = input; output = output }
 
   -- a file in which a header is refused leaves the sink as it was
-  by_fault : (file : List ℕ) (found : Option Fault) → header_fault (Pack o) file ≡ found → (¬ (header_fault (Pack o) file ≡ None) → IsSameSink old new) → IsShut new.contents ⊎ IsFirstFault (Pack o) file None
+  by_fault : (file : List ℕ) (found : Option Fault) → header_fault (Pack o) file ≡ found → (¬ (header_fault (Pack o) file ≡ None) → IsSameSink old.sink new.sink) → IsShut new.sink.contents ⊎ IsFirstFault (Pack o) file None
   by_fault file None e same = inr (subst (λ (x : Option Fault). IsFaultBehind x (Pack o) file None) (sym e) tt)
-  by_fault file (Some x) e same = inl (subst IsShut (sym (same (λ n. absurd cc)).1) (empty_is_shut old.contents empty))
+  by_fault file (Some x) e same = inl (subst IsShut (sym (same (λ n. absurd cc)).1) (empty_is_shut old.sink.contents empty))
 
-  by_held : (held : Option (List ℕ)) → IfSome held (λ file. ¬ (header_fault (Pack o) file ≡ None) → IsSameSink old new) → IsShut new.contents ⊎ IfSome held (λ file. IsFirstFault (Pack o) file None)
+  by_held : (held : Option (List ℕ)) → IfSome held (λ file. ¬ (header_fault (Pack o) file ≡ None) → IsSameSink old.sink new.sink) → IsShut new.sink.contents ⊎ IfSome held (λ file. IsFirstFault (Pack o) file None)
   by_held None same = inr tt
   by_held (Some file) same = by_fault file (header_fault (Pack o) file) refl same
 
@@ -42,8 +43,8 @@ module _ (o : PackOptions) (W memory : ℕ) (input output : List ℕ) (old new :
   comes_back law options (Some file) None packed sound = tt
   comes_back law options (Some file) (Some bytes) packed sound = λ are_bytes short. law o file bytes (record { bytes = are_bytes; options = options; sound = sound }) packed short
 
-  restored_of : ComesBack → AreOptions o → (answer : Result (Unit {0}) Stop) → OnOk answer (HoldsJobOutput (Pack o) old.held new.contents) → TellsFirstFault (Pack o) old.held answer → OnOk answer (JobRestores (Pack o) old.held new.contents)
-  restored_of law options (Ok done) packed sound = comes_back law options old.held new.contents packed sound
+  restored_of : ComesBack → AreOptions o → (answer : Result (Unit {0}) Stop) → OnOk answer (HoldsJobOutput (Pack o) old.held new.sink.contents) → TellsFirstFault (Pack o) old.held answer → OnOk answer (JobRestores (Pack o) old.held new.sink.contents)
+  restored_of law options (Ok done) packed sound = comes_back law options old.held new.sink.contents packed sound
   restored_of law options (Err stop) packed sound = tt
 
   pub packed : ComesBack → AreOptions o → (answer : Result (Unit {0}) Stop) → JobSays asked old new answer → IsPromised asked old new answer

@@ -10,8 +10,9 @@ use Rattle.fz_files.specs.Laws.{StandsForOneFile}
 use Rattle.fz_files.specs.declared.job.Job.TheVariants.{Unpack}
 use Rattle.fz_round_trip.specs.RoundTrip.{ComesBack}
 use Rattle.fz_words.specs.Jobs.{Asked}
+use Rattle.fz_app.specs.Ends.{Ends}
 use Rattle.fz_app.specs.Outputs.{HoldsJobOutput, JobRestores}
-use Rattle.fz_app.specs.Promised.{Ends, IsPromised}
+use Rattle.fz_app.specs.Promised.{IsPromised}
 use Rattle.fz_app.proofs.JobAnswers.{JobSays, promised}
 
 -- a file that stands for another has no fault
@@ -31,9 +32,9 @@ module _ (W memory : ℕ) (input output : List ℕ) (old new : Ends) where
   abbrev pub asked : Asked
   asked = record { job = Unpack; workers = W; memory = memory; input = input; output = output }
 
-  restored_of : ComesBack → StandsForOneFile → (n : ℕ) → n ≤ 2 ^ 62 → HoldsLength old.held n → (answer : Result (Unit {0}) Stop) → OnOk answer (HoldsJobOutput Unpack old.held new.contents) → OnOk answer (JobRestores Unpack old.held new.contents)
-  restored_of law one n short long (Ok done) stands = comes_back law one n short old.held new.contents long stands
+  restored_of : ComesBack → StandsForOneFile → (n : ℕ) → n ≤ 2 ^ 62 → HoldsLength old.held n → (answer : Result (Unit {0}) Stop) → OnOk answer (HoldsJobOutput Unpack old.held new.sink.contents) → OnOk answer (JobRestores Unpack old.held new.sink.contents)
+  restored_of law one n short long (Ok done) stands = comes_back law one n short old.held new.sink.contents long stands
   restored_of law one n short long (Err stop) stands = tt
 
   pub unpacked : ComesBack → StandsForOneFile → (n : ℕ) → n ≤ 2 ^ 62 → HoldsLength old.held n → (answer : Result (Unit {0}) Stop) → JobSays asked old new answer → IsPromised asked old new answer
-  unpacked law one n short long answer s = promised asked old new answer s (is_sound old.held new.contents) (restored_of law one n short long answer s.output)
+  unpacked law one n short long answer s = promised asked old new answer s (is_sound old.held new.sink.contents) (restored_of law one n short long answer s.output)

@@ -1,5 +1,5 @@
 -- The status of a run is made from its job's answer, and tells it: so what is said of the answers of jobs is said of statuses.
-use Rattle.std.specs.Prelude.{ℕ, ◌≡◌, ◌≢◌, List, Option, Some, None, Result, Ok, Err, ⊤}
+use Rattle.std.specs.Prelude.{ℕ, ◌≡◌, ◌≢◌, Bool, true, false, List, Option, Some, None, Result, Ok, Err, ⊤}
 use Rattle.fz_base.specs.declared.failure.Stop.{Stop}
 use Rattle.fz_base.specs.declared.failure.Stop.TheVariants.{Refused as StopRefused, ReadFault as StopRead, WriteFault as StopWrite, OverLimit as StopLimit, NoMemory as StopMemory}
 use Rattle.fz_words.specs.Jobs.{Asked}
@@ -35,7 +35,18 @@ IfAnswer NoMemory P = P (Err StopMemory)
 abbrev pub IfRan : List (List ℕ) → Status → (Asked → Result ⊤ Stop → Type 0) → Type 0
 IfRan words status P = IfAsked words (λ asked. IfAnswer status (P asked))
 
+-- how a run ends whose verifying answered that no sum is wrong, or that one is
+abbrev pub status_of_verify : Result Bool Stop → Status
+status_of_verify (Ok true) = Done
+status_of_verify (Ok false) = Different
+status_of_verify (Err stop) = status_of_stop stop
+
+-- an answer without its value: done, or why the job stopped
+abbrev pub done_of : {X : Type 0} → Result X Stop → Result ⊤ Stop
+done_of (Ok x) = Ok tt
+done_of (Err stop) = Err stop
+
 -- A promise of the answer to what the words ask for. Where they ask for nothing the status is Usage, and else it is not.
 abbrev pub IsPromisedTo : Option Asked → Status → (Asked → Result ⊤ Stop → Type 0) → Type 0
 IsPromisedTo None status P = status ≡ Usage
-IsPromisedTo (Some asked) status P = IfAnswer status (P asked) × (status ≢ Usage) × (status ≢ Different)
+IsPromisedTo (Some asked) status P = IfAnswer status (P asked) × (status ≢ Usage)

@@ -9,8 +9,8 @@ abbrev pub is_built : Job → Bool
 is_built (Pack options) = true
 is_built Unpack = true
 is_built (Cut wanted sieve) = false
-is_built Verify = false
-is_built ListHdus = false
+is_built Verify = true
+is_built ListHdus = true
 is_built (Drill rows) = false
 
 abbrev pub if_built : Option Asked → Option Asked

@@ -7,7 +7,9 @@ use Rattle.fz_base.specs.declared.failure.Stop.TheVariants.{ReadFault as StopRea
 use Rattle.fz_files.specs.Buffers.{job_takings}
 use Rattle.fz_job.specs.Clauses.{IsUnmade, greatest_bound}
 use Rattle.fz_app.specs.Answer.{IfRan}
-use Rattle.fz_app.specs.Asked.{asked_for, limit_of}
+use Rattle.fz_app.specs.Asked.{IfAsked, asked_for, limit_of}
+use Rattle.fz_app.specs.Ends.{written_counts}
+use Rattle.fz_app.specs.Outputs.{LeavesSink}
 use Rattle.fz_app.specs.declared.status.Status.{Status}
 use Rattle.fz_app.specs.declared.status.Status.TheVariants.{Usage}
 
@@ -15,9 +17,10 @@ use Rattle.fz_app.specs.declared.status.Status.TheVariants.{Usage}
 abbrev pub IsUsage : List (List ℕ) → Status → Type 0
 IsUsage words status = (status ≡ Usage) ↔ (asked_for words ≡ None)
 
--- Done: comes only where no count of the source and of the sink rose, so no call of theirs failed.
-abbrev pub DoneHasCause : List (List ℕ) → Tally → Tally → Tally → Tally → Status → Type 0
-DoneHasCause words source source' sink sink' status = IfRan words status (λ asked answer. OnOk answer ((source' ≡ source) × (sink' ≡ sink)))
+-- Done and Different: come only where no count of the source, of the sink and of the text rose, so no call of theirs failed.
+abbrev pub DoneHasCause : List (List ℕ) → Tally → Tally → Tally → Tally → Tally → Tally → Status → Type 0
+DoneHasCause words source source' sink sink' text text' status =
+    IfRan words status (λ asked answer. OnOk answer ((source' ≡ source) × (sink' ≡ sink) × (text' ≡ text)))
 
 -- Refused: comes only where no count of the source and of the sink rose.
 abbrev pub RefusedHasCause : List (List ℕ) → Tally → Tally → Tally → Tally → Status → Type 0
@@ -28,9 +31,10 @@ RefusedHasCause words source source' sink sink' status =
 abbrev pub ReadFaultHasCause : List (List ℕ) → Tally → Tally → Status → Type 0
 ReadFaultHasCause words source source' status = IfRan words status (λ asked answer. IsErrOf answer StopRead → Rose source.faults source'.faults)
 
--- Write fault: comes only where the sink's count of faults rose.
-abbrev pub WriteFaultHasCause : List (List ℕ) → Tally → Tally → Status → Type 0
-WriteFaultHasCause words sink sink' status = IfRan words status (λ asked answer. IsErrOf answer StopWrite → Rose sink.faults sink'.faults)
+-- Write fault: comes only where the count of faults rose of what the job writes to, the sink or the text.
+abbrev pub WriteFaultHasCause : List (List ℕ) → Tally → Tally → Tally → Tally → Status → Type 0
+WriteFaultHasCause words sink sink' text text' status =
+    IfRan words status (λ asked answer. IsErrOf answer StopWrite → Rose (written_counts asked.job sink text).faults (written_counts asked.job sink' text').faults)
 
 -- Over limit: comes exactly where a taking of the job passes the limit, and tells the first. A read fault or want of memory may come in
 -- its place. What passes it is never more than the greatest bound of the job, whatever the file. The first taking of all jobs is one block.
@@ -43,6 +47,10 @@ pub record OverLimitHasCause (words : List (List ℕ)) (held : Option (List ℕ)
 -- every refusal but that of an HDU which changed between two readings and, of a job that reads rows, that of a row.
 abbrev pub IsUnmadeFor : List (List ℕ) → Option (List ℕ) → Type 0 → Status → Type 0
 IsUnmadeFor words held Same status = IfRan words status (λ asked answer. IsUnmade asked.job held Same answer)
+
+-- Left: a job that writes no file leaves the sink as it was, whatever the answer.
+abbrev pub IsLeft : List (List ℕ) → Type 0 → Type 0
+IsLeft words Same = IfAsked words (λ asked. LeavesSink asked.job Same)
 
 -- no count falls
 pub record AreCountsKept (source source' sink sink' text text' : Tally) : Type 0 where

@@ -1,8 +1,10 @@
 pub mod Answer
 pub mod Asked
 pub mod Causes
+pub mod Ends
 pub mod Lines
 pub mod Outputs
+pub mod Printed
 pub mod Promised
 pub mod Promises
 pub mod Status

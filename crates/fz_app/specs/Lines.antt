@@ -68,7 +68,7 @@ status_line (OverLimit live asked limit) =
     codes "over limit: live " ++ decimal live ++ codes " asked " ++ decimal asked ++ codes " limit " ++ decimal limit ++ codes "\n"
 status_line NoMemory = codes "no memory\n"
 
--- What a text got: nothing where there is no line; else the line, and its counts stayed; or, where a count of its
+-- What a text got of a line: nothing where there is no line; else the line, and its counts stayed; or, where a count of its
 -- faults or wants rose, a prefix of the line, possibly empty.
 abbrev pub GotLine : List ℕ → Option (List ℕ) → Option (List ℕ) → Tally → Tally → Type 0
 GotLine [] old new before now = (new ≡ old) × (now ≡ before)

@@ -28,13 +28,32 @@ Restores Verify file bytes = ⊤
 Restores ListHdus file bytes = ⊤
 Restores (Drill rows) file bytes = ⊤
 
--- the same of the bytes of the source and the contents of the sink, where both are told
+-- the packed file of a plain file, whatever this was packed with, has no fault of unpack
+abbrev pub PackedIsSound : Job → List ℕ → Type 0
+PackedIsSound (Pack options) file = ⊤
+PackedIsSound Unpack file =
+    (options : PackOptions) (plain : List ℕ) → IsProfileFile options plain → IsPackedFile options plain file → length file ≤ 2 ^ 62 → IsFirstFault Unpack file None
+PackedIsSound (Cut wanted sieve) file = ⊤
+PackedIsSound Verify file = ⊤
+PackedIsSound ListHdus file = ⊤
+PackedIsSound (Drill rows) file = ⊤
+
+-- what comes back, of the bytes of the source and the contents of the sink, where both are told
 abbrev pub JobRestores : Job → Option (List ℕ) → Option (List ℕ) → Type 0
 JobRestores job held contents = IfSome held (λ file. IfSome contents (Restores job file))
 
 -- contents are what a job writes for the bytes of the source, where both are told
 abbrev pub HoldsJobOutput : Job → Option (List ℕ) → Option (List ℕ) → Type 0
 HoldsJobOutput job held contents = IfSome held (λ file. IfSome contents (IsOutput job file))
+
+-- a job that writes no file leaves the sink as it was
+abbrev pub LeavesSink : Job → Type 0 → Type 0
+LeavesSink (Pack options) Same = ⊤
+LeavesSink Unpack Same = ⊤
+LeavesSink (Cut wanted sieve) Same = ⊤
+LeavesSink Verify Same = Same
+LeavesSink ListHdus Same = Same
+LeavesSink (Drill rows) Same = Same
 
 -- the sink was finished by a job that writes one
 abbrev pub IsFinished : Job → Bool → Type 0

@@ -1,8 +1,7 @@
 -- What the function of a job promises of its answer, from which each promise of a run is read.
-use Rattle.std.specs.Prelude.{ℕ, ◌≡◌, ◌⊎◌, ◌<◌, ◌≤◌, Bool, List, Option, IfSome, Result, OnOk, OnErr, IsErrOf, ⊤}
-use Rattle.fz_base.specs.Counts.{Rose, Tally, CountsKept}
+use Rattle.std.specs.Prelude.{◌≡◌, ◌⊎◌, ◌<◌, ◌≤◌, IfSome, Result, OnOk, OnErr, IsErrOf, ⊤}
+use Rattle.fz_base.specs.Counts.{Rose, CountsKept}
 use Rattle.fz_base.specs.FirstByte.{IsShut}
-use Rattle.fz_base.specs.Meter.{Gauge}
 use Rattle.fz_base.specs.Stop.{IsRefused, TellsLimit}
 use Rattle.fz_base.specs.Told.{StaysTold}
 use Rattle.fz_base.specs.Takings.{TellsFirstPast}
@@ -12,44 +11,33 @@ use Rattle.fz_files.specs.Buffers.{job_bound, job_takings}
 use Rattle.fz_job.specs.Clauses.{Answers, IsUnmade, TellsFirstFault, greatest_bound}
 use Rattle.fz_words.specs.Jobs.{Asked}
 use Rattle.fz_app.specs.Asked.{limit_of}
+use Rattle.fz_app.specs.Ends.{Ends, IsSameSink, counts_written}
 use Rattle.fz_app.specs.Outputs.{HoldsJobOutput, JobRestores, IsFinished, IsWhole}
-
--- what source, sink and meter tell
-pub record Ends : Type 0 where
-  pub held : Option (List ℕ)
-  pub ranges : Option (List (ℕ × ℕ))
-  pub source : Tally
-  pub contents : Option (List ℕ)
-  pub created : Bool
-  pub finished : Bool
-  pub sink : Tally
-  pub meter : Gauge
-
--- the sink is as before
-abbrev pub IsSameSink : Ends → Ends → Type 0
-IsSameSink old new = (new.created ≡ old.created) × (new.contents ≡ old.contents)
+use Rattle.fz_app.specs.Printed.{JobPrinted}
 
 -- what a job promises of its answer to what the words ask for
 pub record IsPromised (asked : Asked) (old new : Ends) (answer : Result ⊤ Stop) : Type 0 where
-  pub restored : OnOk answer (JobRestores asked.job old.held new.contents)
-  pub output : OnOk answer (HoldsJobOutput asked.job old.held new.contents × IsFinished asked.job new.finished)
+  pub restored : OnOk answer (JobRestores asked.job old.held new.sink.contents)
+  pub output : OnOk answer (HoldsJobOutput asked.job old.held new.sink.contents × IsFinished asked.job new.sink.finished)
   pub first_fault : TellsFirstFault asked.job old.held answer
-  pub answered : Answers asked.job old.held old.source new.source old.sink new.sink (limit_of asked old.meter.limit) asked.workers answer
-  pub first_byte : OnErr answer (IsShut new.contents ⊎ (IsWhole asked.job old.held new.contents × (IsErrOf answer StopWrite ⊎ IsErrOf answer StopMemory)))
+  pub answered : Answers asked.job old.held old.source new.source (counts_written asked.job old) (counts_written asked.job new) (limit_of asked old.meter.limit) asked.workers answer
+  pub first_byte : OnErr answer (IsShut new.sink.contents ⊎ (IsWhole asked.job old.held new.sink.contents × (IsErrOf answer StopWrite ⊎ IsErrOf answer StopMemory)))
   pub live : new.meter.live ≡ 0
   pub limit : new.meter.limit ≡ limit_of asked old.meter.limit
   pub peak : IfSome old.held (λ file. new.meter.peak ≤ job_bound asked.job file asked.workers)
-  pub done : OnOk answer ((new.source ≡ old.source) × (new.sink ≡ old.sink))
-  pub refused : IsRefused answer → (new.source ≡ old.source) × (new.sink ≡ old.sink)
+  pub done : OnOk answer ((new.source ≡ old.source) × (new.sink.tally ≡ old.sink.tally) × (new.text.tally ≡ old.text.tally))
+  pub refused : IsRefused answer → (new.source ≡ old.source) × (new.sink.tally ≡ old.sink.tally) × (new.text.tally ≡ old.text.tally)
   pub read_fault : IsErrOf answer StopRead → Rose old.source.faults new.source.faults
-  pub write_fault : IsErrOf answer StopWrite → Rose old.sink.faults new.sink.faults
+  pub write_fault : IsErrOf answer StopWrite → Rose (counts_written asked.job old).faults (counts_written asked.job new).faults
   pub most : new.meter.peak ≤ greatest_bound asked.job asked.workers
   pub told_limit : TellsLimit (limit_of asked old.meter.limit) (greatest_bound asked.job asked.workers) answer
   pub first_past : IfSome old.held (λ file. TellsFirstPast (limit_of asked old.meter.limit) (job_takings asked.job file asked.workers) answer)
   pub block : limit_of asked old.meter.limit < 2880 → IsErrOf answer (StopLimit 0 2880 (limit_of asked old.meter.limit)) ⊎ (IsErrOf answer StopRead ⊎ IsErrOf answer StopMemory)
-  pub unmade : IsUnmade asked.job old.held (IsSameSink old new) answer
+  pub unmade : IsUnmade asked.job old.held (IsSameSink old.sink new.sink) answer
   pub held_is : new.held ≡ old.held
   pub told_ranges : StaysTold old.ranges new.ranges
-  pub told_contents : StaysTold old.contents new.contents
+  pub told_contents : StaysTold old.sink.contents new.sink.contents
   pub source_counts : CountsKept old.source new.source
-  pub sink_counts : CountsKept old.sink new.sink
+  pub sink_counts : CountsKept old.sink.tally new.sink.tally
+  pub text_counts : CountsKept old.text.tally new.text.tally
+  pub printed : JobPrinted asked.job old.held old.text new.text answer

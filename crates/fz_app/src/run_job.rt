@@ -1,6 +1,6 @@
 //! The top call: it does all that the program does.
-ghost use Rattle.std.specs.Prelude.{◌≡◌, ◌≢◌, ◌≤◌, ◌^◌, [], Some, IfOk, IfSome};
-ghost use Rattle.fz_files.specs.declared.job.Job.TheVariants.{Pack, Unpack};
+ghost use Rattle.std.specs.Prelude.{◌≡◌, ◌≤◌, ◌^◌, [], Some, IfOk, IfSome};
+ghost use Rattle.fz_files.specs.declared.job.Job.TheVariants.{List as ListHdus, Pack, Unpack, Verify};
 ghost use Rattle.fz_head.specs.Planned.{AreOptions};
 ghost use Rattle.fz_words.specs.Lawful.{IsLawful};
 ghost use Rattle.fz_words.specs.Parts.{texts_of};
@@ -10,16 +10,20 @@ ghost use Rattle.fz_base.specs.Meter.{narrowed};
 ghost use Rattle.fz_base.specs.Source.{HoldsLength};
 ghost use Rattle.fz_base.specs.Stop.{Codes};
 ghost use Rattle.fz_base.specs.Told.{StaysTold};
-ghost use Rattle.fz_app.specs.Answer.{IsPromisedTo};
+ghost use Rattle.fz_verify.specs.Clauses.{IsRightAsSaid};
+ghost use Rattle.fz_app.specs.Answer.{IsPromisedTo, done_of};
 ghost use Rattle.fz_app.specs.Asked.{asked_for, if_built};
-ghost use Rattle.fz_app.specs.Causes.{AreCountsKept, DoneHasCause, IsUnmadeFor, IsUsage, OverLimitHasCause, ReadFaultHasCause, RefusedHasCause, WriteFaultHasCause};
+ghost use Rattle.fz_app.specs.Causes.{AreCountsKept, DoneHasCause, IsLeft, IsUnmadeFor, IsUsage, OverLimitHasCause, ReadFaultHasCause, RefusedHasCause, WriteFaultHasCause};
+ghost use Rattle.fz_app.specs.Ends.{SinkIs, TextIs};
 ghost use Rattle.fz_app.specs.Lines.{status_line, GotLine};
+ghost use Rattle.fz_app.specs.Outputs.{LeavesSink};
+ghost use Rattle.fz_app.specs.Printed.{GotText};
 ghost use Rattle.fz_app.specs.Promised.{IsPromised};
-ghost use Rattle.fz_app.specs.Promises.{BuffersAreBounded, HasFirstByteLast, HasFirstFault, HasOutput, IsComplete, IsRestored};
-ghost use Rattle.fz_app.specs.declared.status.Status.TheVariants.{Different, Usage as IsUsageStatus};
+ghost use Rattle.fz_app.specs.Promises.{BuffersAreBounded, HasFirstByteLast, HasFirstFault, HasOutput, IsComplete, IsDifferent, IsEnd, IsRestored};
+ghost use Rattle.fz_app.specs.declared.status.Status.TheVariants.{Usage as IsUsageStatus};
 
 use crate::line::line_of;
-use crate::status::{Status, ended};
+use crate::status::{Status, ended, verified};
 use fz_base::{Gate, Meter, Sink, Source, Stop, Text};
 use fz_files::{Job, one_file_law, one_first_fault_law};
 use fz_head::PackOptions;
@@ -27,6 +31,7 @@ use fz_pack::pack;
 use fz_pool::Window;
 use fz_round_trip::round_trip_law;
 use fz_unpack::unpack;
+use fz_verify::{list, verify};
 use fz_words::{Request, Usage, read_words};
 use std::alloc::Global;
 use std::thread::Threads;
@@ -34,8 +39,9 @@ use std::thread::Threads;
 /// Does what the words ask for, reads the source, writes the sink and prints to the text, and answers
 /// how that ended. The words are those after the program's name.
 ///
-/// Words of the grammar that ask for a job which is not built yet are Usage too. For each status but Done
-/// and Different one line is put to the text at the end; if that fails, the status stays.
+/// `verify` and `list` print their lines and leave the sink as it is. Words of the grammar that ask for a job
+/// which is not built yet are Usage too. For each status but Done and Different one line is put to the text
+/// at the end; if that fails, the status stays.
 pub fn run<R: Threads + Sync, S: Source, K: Sink, T: Text, G: Gate>(
     rt: &R,
     alloc: Global,
@@ -54,19 +60,20 @@ pub fn run<R: Threads + Sync, S: Source, K: Sink, T: Text, G: Gate>(
     ensures first_fault { HasFirstFault (texts_of words.now) (S.held source.old) result }
     ensures buffers { BuffersAreBounded (texts_of words.now) (S.held source.old) meter.old meter.new }
     ensures first_byte { HasFirstByteLast (texts_of words.now) (S.held source.old) (K.contents sink.new) result }
-    ensures text { GotLine (status_line result) (T.contents text.old) (T.contents text.new) (T.tally text.old) (T.tally text.new) }
-    ensures complete { IsComplete (texts_of words.now) (S.held source.old) (S.tally source.old) (S.tally source.new) (K.tally sink.old) (K.tally sink.new) meter.old.limit result }
+    ensures text { GotText (texts_of words.now) (S.held source.old) (record { contents = T.contents text.old; tally = T.tally text.old }) (record { contents = T.contents text.new; tally = T.tally text.new }) result }
+    ensures complete { IsComplete (texts_of words.now) (S.held source.old) (S.tally source.old) (S.tally source.new) (K.tally sink.old) (K.tally sink.new) (T.tally text.old) (T.tally text.new) meter.old.limit result }
 
-    ensures different { result ≢ Different }
+    ensures different { IsDifferent (texts_of words.now) (S.held source.old) result }
     ensures usage { IsUsage (texts_of words.now) result }
     // Words that ask for nothing read, make and take nothing.
     ensures untouched { result ≡ IsUsageStatus → (source.new ≡ source.old) × (sink.new ≡ sink.old) × (meter.new ≡ meter.old) }
-    ensures done { DoneHasCause (texts_of words.now) (S.tally source.old) (S.tally source.new) (K.tally sink.old) (K.tally sink.new) result }
+    ensures done { DoneHasCause (texts_of words.now) (S.tally source.old) (S.tally source.new) (K.tally sink.old) (K.tally sink.new) (T.tally text.old) (T.tally text.new) result }
     ensures refused { RefusedHasCause (texts_of words.now) (S.tally source.old) (S.tally source.new) (K.tally sink.old) (K.tally sink.new) result }
     ensures read_fault { ReadFaultHasCause (texts_of words.now) (S.tally source.old) (S.tally source.new) result }
-    ensures write_fault { WriteFaultHasCause (texts_of words.now) (K.tally sink.old) (K.tally sink.new) result }
+    ensures write_fault { WriteFaultHasCause (texts_of words.now) (K.tally sink.old) (K.tally sink.new) (T.tally text.old) (T.tally text.new) result }
     ensures over_limit { OverLimitHasCause (texts_of words.now) (S.held source.old) meter.old.limit result }
     ensures unmade { IsUnmadeFor (texts_of words.now) (S.held source.old) ((K.created sink.new ≡ K.created sink.old) × (K.contents sink.new ≡ K.contents sink.old)) result }
+    ensures left { IsLeft (texts_of words.now) (sink.new ≡ sink.old) }
 
     ensures held { S.held source.new ≡ S.held source.old }
     ensures told_ranges { StaysTold (S.ranges source.old) (S.ranges source.new) }
@@ -74,7 +81,9 @@ pub fn run<R: Threads + Sync, S: Source, K: Sink, T: Text, G: Gate>(
     ensures counts { AreCountsKept (S.tally source.old) (S.tally source.new) (K.tally sink.old) (K.tally sink.new) (T.tally text.old) (T.tally text.new) }
 {
     one_first_fault_law();
-    let status = answer_to(rt, alloc, words, source, sink, gate, meter);
+    // A packed file has no fault.
+    round_trip_law();
+    let status = answer_to(rt, alloc, words, source, sink, text, gate, meter);
     // This call tells that the peak is within the limit.
     let _peak = meter.peak();
     report(text, &status);
@@ -82,48 +91,56 @@ pub fn run<R: Threads + Sync, S: Source, K: Sink, T: Text, G: Gate>(
 }
 
 // Does what the words ask for.
-fn answer_to<R: Threads + Sync, S: Source, K: Sink, G: Gate>(
+fn answer_to<R: Threads + Sync, S: Source, K: Sink, T: Text, G: Gate>(
     rt: &R,
     alloc: Global,
     words: &[String],
     source: &mut S,
     sink: &mut K,
+    text: &mut T,
     gate: &G,
     meter: &mut Meter,
 ) -> Status
     requires empty { IfSome (K.contents sink.old) (λ c. c ≡ []) }
     requires unused { (meter.old.live ≡ 0) × (meter.old.peak ≡ 0) }
-    ensures promised { IsPromisedTo (asked_for (texts_of words.now)) result (λ asked. IsPromised asked (record { held = S.held source.old; ranges = S.ranges source.old; source = S.tally source.old; contents = K.contents sink.old; created = K.created sink.old; finished = K.finished sink.old; sink = K.tally sink.old; meter = meter.old }) (record { held = S.held source.new; ranges = S.ranges source.new; source = S.tally source.new; contents = K.contents sink.new; created = K.created sink.new; finished = K.finished sink.new; sink = K.tally sink.new; meter = meter.new })) }
-    ensures untouched { result ≡ IsUsageStatus → (source.new ≡ source.old) × (sink.new ≡ sink.old) × (meter.new ≡ meter.old) }
+    ensures promised { IsPromisedTo (asked_for (texts_of words.now)) result (λ asked. IsPromised asked (record { held = S.held source.old; ranges = S.ranges source.old; source = S.tally source.old; sink = record { contents = K.contents sink.old; created = K.created sink.old; finished = K.finished sink.old; tally = K.tally sink.old }; text = record { contents = T.contents text.old; tally = T.tally text.old }; meter = meter.old }) (record { held = S.held source.new; ranges = S.ranges source.new; source = S.tally source.new; sink = record { contents = K.contents sink.new; created = K.created sink.new; finished = K.finished sink.new; tally = K.tally sink.new }; text = record { contents = T.contents text.new; tally = T.tally text.new }; meter = meter.new })) }
+    ensures untouched { result ≡ IsUsageStatus → (source.new ≡ source.old) × (sink.new ≡ sink.old) × (text.new ≡ text.old) × (meter.new ≡ meter.old) }
+    ensures ended { IfSome (asked_for (texts_of words.now)) (λ asked. IsEnd asked.job (S.held source.old) result) }
+    ensures left { IfSome (asked_for (texts_of words.now)) (λ asked. LeavesSink asked.job (sink.new ≡ sink.old)) }
 {
     match read_words(words) {
-        Ok(request) => run_request(rt, alloc, &request, source, sink, gate, meter),
+        Ok(request) => run_request(rt, alloc, &request, source, sink, text, gate, meter),
         Err(Usage) => Status::Usage,
     }
 }
 
 // Does what is asked for. A job that is not built yet is none of the program's: its words are Usage.
-fn run_request<R: Threads + Sync, S: Source, K: Sink, G: Gate>(
+fn run_request<R: Threads + Sync, S: Source, K: Sink, T: Text, G: Gate>(
     rt: &R,
     alloc: Global,
     request: &Request<'_>,
     source: &mut S,
     sink: &mut K,
+    text: &mut T,
     gate: &G,
     meter: &mut Meter,
 ) -> Status
     requires lawful { IsLawful request.now }
     requires empty { IfSome (K.contents sink.old) (λ c. c ≡ []) }
     requires unused { (meter.old.live ≡ 0) × (meter.old.peak ≡ 0) }
-    ensures promised { IsPromisedTo (if_built (Some (asked_of request.now))) result (λ asked. IsPromised asked (record { held = S.held source.old; ranges = S.ranges source.old; source = S.tally source.old; contents = K.contents sink.old; created = K.created sink.old; finished = K.finished sink.old; sink = K.tally sink.old; meter = meter.old }) (record { held = S.held source.new; ranges = S.ranges source.new; source = S.tally source.new; contents = K.contents sink.new; created = K.created sink.new; finished = K.finished sink.new; sink = K.tally sink.new; meter = meter.new })) }
-    ensures untouched { result ≡ IsUsageStatus → (source.new ≡ source.old) × (sink.new ≡ sink.old) × (meter.new ≡ meter.old) }
+    ensures promised { IsPromisedTo (if_built (Some (asked_of request.now))) result (λ asked. IsPromised asked (record { held = S.held source.old; ranges = S.ranges source.old; source = S.tally source.old; sink = record { contents = K.contents sink.old; created = K.created sink.old; finished = K.finished sink.old; tally = K.tally sink.old }; text = record { contents = T.contents text.old; tally = T.tally text.old }; meter = meter.old }) (record { held = S.held source.new; ranges = S.ranges source.new; source = S.tally source.new; sink = record { contents = K.contents sink.new; created = K.created sink.new; finished = K.finished sink.new; tally = K.tally sink.new }; text = record { contents = T.contents text.new; tally = T.tally text.new }; meter = meter.new })) }
+    ensures untouched { result ≡ IsUsageStatus → (source.new ≡ source.old) × (sink.new ≡ sink.old) × (text.new ≡ text.old) × (meter.new ≡ meter.old) }
+    ensures ended { IfSome (if_built (Some (asked_of request.now))) (λ asked. IsEnd asked.job (S.held source.old) result) }
+    ensures left { IfSome (if_built (Some (asked_of request.now))) (λ asked. LeavesSink asked.job (sink.new ≡ sink.old)) }
 {
     match &request.job {
         Job::Pack(options) => ended(run_pack(
             rt, alloc, request, options, source, sink, gate, meter,
         )),
         Job::Unpack => ended(run_unpack(rt, alloc, request, source, sink, gate, meter)),
-        Job::Cut { .. } | Job::Verify | Job::List | Job::Drill { .. } => Status::Usage,
+        Job::Verify => verified(run_verify(rt, alloc, request, source, text, gate, meter)),
+        Job::List => ended(run_list(request, source, text, meter)),
+        Job::Cut { .. } | Job::Drill { .. } => Status::Usage,
     }
 }
 
@@ -143,11 +160,11 @@ fn run_pack<R: Threads + Sync, S: Source, K: Sink, G: Gate>(
     requires workers { (1 ≤ request.now.workers) × (request.now.workers ≤ 64) × (options.now.workers ≡ request.now.workers) }
     requires empty { IfSome (K.contents sink.old) (λ c. c ≡ []) }
     requires unused { (meter.old.live ≡ 0) × (meter.old.peak ≡ 0) }
-    ensures promised { IsPromised (asked_of request.now) (record { held = S.held source.old; ranges = S.ranges source.old; source = S.tally source.old; contents = K.contents sink.old; created = K.created sink.old; finished = K.finished sink.old; sink = K.tally sink.old; meter = meter.old }) (record { held = S.held source.new; ranges = S.ranges source.new; source = S.tally source.new; contents = K.contents sink.new; created = K.created sink.new; finished = K.finished sink.new; sink = K.tally sink.new; meter = meter.new }) result }
+    ensures promised { (text : TextIs) → IsPromised (asked_of request.now) (record { held = S.held source.old; ranges = S.ranges source.old; source = S.tally source.old; sink = record { contents = K.contents sink.old; created = K.created sink.old; finished = K.finished sink.old; tally = K.tally sink.old }; text = text; meter = meter.old }) (record { held = S.held source.new; ranges = S.ranges source.new; source = S.tally source.new; sink = record { contents = K.contents sink.new; created = K.created sink.new; finished = K.finished sink.new; tally = K.tally sink.new }; text = text; meter = meter.new }) result }
 {
     // What is packed comes back.
     round_trip_law();
-    let (length, mut window) = begin(alloc, request, source, meter)?;
+    let (length, mut window) = begin(alloc, request, request.workers, source, meter)?;
     let output = request.output;
     pack(
         rt,
@@ -176,37 +193,84 @@ fn run_unpack<R: Threads + Sync, S: Source, K: Sink, G: Gate>(
     requires workers { (1 ≤ request.now.workers) × (request.now.workers ≤ 64) }
     requires empty { IfSome (K.contents sink.old) (λ c. c ≡ []) }
     requires unused { (meter.old.live ≡ 0) × (meter.old.peak ≡ 0) }
-    ensures promised { IsPromised (asked_of request.now) (record { held = S.held source.old; ranges = S.ranges source.old; source = S.tally source.old; contents = K.contents sink.old; created = K.created sink.old; finished = K.finished sink.old; sink = K.tally sink.old; meter = meter.old }) (record { held = S.held source.new; ranges = S.ranges source.new; source = S.tally source.new; contents = K.contents sink.new; created = K.created sink.new; finished = K.finished sink.new; sink = K.tally sink.new; meter = meter.new }) result }
+    ensures promised { (text : TextIs) → IsPromised (asked_of request.now) (record { held = S.held source.old; ranges = S.ranges source.old; source = S.tally source.old; sink = record { contents = K.contents sink.old; created = K.created sink.old; finished = K.finished sink.old; tally = K.tally sink.old }; text = text; meter = meter.old }) (record { held = S.held source.new; ranges = S.ranges source.new; source = S.tally source.new; sink = record { contents = K.contents sink.new; created = K.created sink.new; finished = K.finished sink.new; tally = K.tally sink.new }; text = text; meter = meter.new }) result }
 {
     // What was packed comes back, and a packed file stands for one file.
     round_trip_law();
     one_file_law();
-    let (length, mut window) = begin(alloc, request, source, meter)?;
+    let (length, mut window) = begin(alloc, request, request.workers, source, meter)?;
     let output = request.output;
     unpack(rt, source, length, output, sink, meter, &mut window, gate)
 }
 
-// What comes before each job: the meter is narrowed to the limit of the words, IN is attached, and there is an empty window for
-// the workers. Answers the length of IN and the window.
-fn begin<S: Source>(
+// Verifies the file IN, with one worker. Answers whether no sum is wrong.
+fn run_verify<R: Threads + Sync, S: Source, T: Text, G: Gate>(
+    rt: &R,
     alloc: Global,
     request: &Request<'_>,
     source: &mut S,
+    text: &mut T,
+    gate: &G,
+    meter: &mut Meter,
+) -> Result<bool, Stop>
+    requires job { request.now.job ≡ Verify }
+    requires unused { (meter.old.live ≡ 0) × (meter.old.peak ≡ 0) }
+    ensures promised { (sink : SinkIs) → IfSome sink.contents (λ c. c ≡ []) → IsPromised (asked_of request.now) (record { held = S.held source.old; ranges = S.ranges source.old; source = S.tally source.old; sink = sink; text = record { contents = T.contents text.old; tally = T.tally text.old }; meter = meter.old }) (record { held = S.held source.new; ranges = S.ranges source.new; source = S.tally source.new; sink = sink; text = record { contents = T.contents text.new; tally = T.tally text.new }; meter = meter.new }) (done_of result) }
+    ensures right { IfOk result (λ right. IfSome (S.held source.old) (IsRightAsSaid right)) }
+{
+    let (length, mut window) = begin(alloc, request, 1, source, meter)?;
+    verify(rt, source, length, text, meter, &mut window, gate)
+}
+
+// Lists the HDUs of the file IN.
+fn run_list<S: Source, T: Text>(
+    request: &Request<'_>,
+    source: &mut S,
+    text: &mut T,
+    meter: &mut Meter,
+) -> Result<(), Stop>
+    requires job { request.now.job ≡ ListHdus }
+    requires unused { (meter.old.live ≡ 0) × (meter.old.peak ≡ 0) }
+    ensures promised { (sink : SinkIs) → IfSome sink.contents (λ c. c ≡ []) → IsPromised (asked_of request.now) (record { held = S.held source.old; ranges = S.ranges source.old; source = S.tally source.old; sink = sink; text = record { contents = T.contents text.old; tally = T.tally text.old }; meter = meter.old }) (record { held = S.held source.new; ranges = S.ranges source.new; source = S.tally source.new; sink = sink; text = record { contents = T.contents text.new; tally = T.tally text.new }; meter = meter.new }) result }
+{
+    let length = attach(request, source, meter)?;
+    list(source, length, text, meter)
+}
+
+// What comes before each job that works on tiles: IN is attached, and there is an empty window for so many workers. Answers the
+// length of IN and the window.
+fn begin<S: Source>(
+    alloc: Global,
+    request: &Request<'_>,
+    workers: u32,
+    source: &mut S,
     meter: &mut Meter,
 ) -> Result<(u64, Window), Stop>
-    requires workers { (1 ≤ request.now.workers) × (request.now.workers ≤ 64) }
+    requires workers { (1 ≤ workers) × (workers ≤ 64) }
     requires unused { (meter.old.live ≡ 0) × (meter.old.peak ≡ 0) }
     ensures attached { IfOk result (λ begun. (S.attached source.new ≡ Some begun.0) × (begun.0 ≤ 2 ^ 62) × HoldsLength (S.held source.old) begun.0) }
-    ensures window { IfOk result (λ begun. begun.1 ≡ record { slots = []; workers = request.now.workers }) }
+    ensures window { IfOk result (λ begun. begun.1 ≡ record { slots = []; workers = workers }) }
+    ensures narrowed { meter.new ≡ narrowed meter.old request.now.memory }
+    ensures held { S.held source.new ≡ S.held source.old }
+    ensures ranges { S.ranges source.new ≡ S.ranges source.old }
+    ensures cause { Codes (S.tally source.old) (S.tally source.new) result }
+{
+    let length = attach(request, source, meter)?;
+    let window = Window::new(alloc, workers).map_err(|_| Stop::NoMemory)?;
+    Ok((length, window))
+}
+
+// What comes before every job: the meter is narrowed to the limit of the words, and IN is attached. Answers the length of IN.
+fn attach<S: Source>(request: &Request<'_>, source: &mut S, meter: &mut Meter) -> Result<u64, Stop>
+    requires unused { (meter.old.live ≡ 0) × (meter.old.peak ≡ 0) }
+    ensures attached { IfOk result (λ length. (S.attached source.new ≡ Some length) × (length ≤ 2 ^ 62) × HoldsLength (S.held source.old) length) }
     ensures narrowed { meter.new ≡ narrowed meter.old request.now.memory }
     ensures held { S.held source.new ≡ S.held source.old }
     ensures ranges { S.ranges source.new ≡ S.ranges source.old }
     ensures cause { Codes (S.tally source.old) (S.tally source.new) result }
 {
     meter.narrow(request.memory);
-    let length = source.attach(request.input).map_err(Stop::reading)?;
-    let window = Window::new(alloc, request.workers).map_err(|_| Stop::NoMemory)?;
-    Ok((length, window))
+    source.attach(request.input).map_err(Stop::reading)
 }
 
 // Puts the line of the status, if it has one. If that fails, nothing else can be told.

@@ -1,6 +1,6 @@
 //! How a run ends.
 ghost use Rattle.std.specs.Prelude.{◌≡◌};
-ghost use Rattle.fz_app.specs.Answer.{status_of};
+ghost use Rattle.fz_app.specs.Answer.{status_of, status_of_verify};
 ghost use Rattle.fz_app.specs.Status.{status_number};
 
 use fz_base::{Fault, Stop};
@@ -55,5 +55,16 @@ pub(crate) fn ended(answer: Result<(), Stop>) -> Status
         Err(Stop::WriteFault) => Status::WriteFault,
         Err(Stop::OverLimit { live, asked, limit }) => Status::OverLimit { live, asked, limit },
         Err(Stop::NoMemory) => Status::NoMemory,
+    }
+}
+
+/// How a run ends whose verifying answered whether no sum is wrong.
+pub(crate) fn verified(answer: Result<bool, Stop>) -> Status
+    ensures { result ≡ status_of_verify answer }
+{
+    match answer {
+        Ok(true) => Status::Done,
+        Ok(false) => Status::Different,
+        Err(stop) => ended(Err(stop)),
     }
 }

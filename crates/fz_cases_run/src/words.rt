@@ -58,9 +58,9 @@ const OTHERS: [&[&str]; 30] = [
     &["unpack", "IN"],
     &["unpack", "--sums", "IN", "OUT"],
     &["unpack", "--block", "32", "IN", "OUT"],
+    &["verify", "IN", "OUT"],
+    &["list", "IN", "OUT"],
     &["cut", "--box", "1:2", "IN", "OUT"],
-    &["verify", "IN"],
-    &["list", "IN"],
     &["drill", "1"],
 ];
 

@@ -2,15 +2,36 @@
 use Rattle.std.proofs.Common.{ap}
 use Rattle.fz_words.specs.Parts.{texts_of}
 use Rattle.fz_app.specs.Asked.{asked_for}
-use Rattle.fz_app.proofs.RunPromises.{complete, counts, kept_by}
+use Rattle.fz_app.proofs.RunPromises.{complete, counts, done, lines, refused, restored, write_fault}
+use Rattle.fz_app.proofs.Tallies.{kept_by}
 use Rattle.fz_app.proofs.run_job.run.Goals as goal
 
+pub returns-clause-restored : goal.returns-clause-restored
+returns-clause-restored g c = restored c.round_trip_law.ensures (texts_of c.args.words.now) _ _ c.answer_to-status.result c.answer_to-status.ensures.promised
+
+pub returns-clause-text : goal.returns-clause-text
+returns-clause-text g c = record {
+  between = record { contents = g.T.Text.contents c.answer_to-status.new.text; tally = g.T.Text.tally c.answer_to-status.new.text };
+  lines = lines c.one_first_fault_law.ensures _ _ (asked_for (texts_of c.args.words.now)) c.answer_to-status.result c.answer_to-status.ensures.promised (λ e. ap (λ x. record { contents = g.T.Text.contents x; tally = g.T.Text.tally x }) (c.answer_to-status.ensures.untouched e).2);
+  line = c.report.ensures.line;
+}
+
 pub returns-clause-complete : goal.returns-clause-complete
-returns-clause-complete g c = complete c.one_first_fault_law.ensures _ _ (texts_of c.args.words.now) c.answer_to-status.result c.answer_to-status.ensures.promised
+returns-clause-complete g c = complete c.one_first_fault_law.ensures _ _ (texts_of c.args.words.now) c.answer_to-status.result (g.T.Text.tally c.report.new.text) c.report.ensures.counts c.answer_to-status.ensures.promised c.answer_to-status.ensures.ended
+
+pub returns-clause-done : goal.returns-clause-done
+returns-clause-done g c = done c.one_first_fault_law.ensures _ _ (asked_for (texts_of c.args.words.now)) c.answer_to-status.result _ _ (g.T.Text.tally c.report.new.text) c.report.ensures.line c.answer_to-status.ensures.promised
+
+pub returns-clause-refused : goal.returns-clause-refused
+returns-clause-refused g c = refused c.one_first_fault_law.ensures _ _ (asked_for (texts_of c.args.words.now)) c.answer_to-status.result c.answer_to-status.ensures.promised
+
+pub returns-clause-write_fault : goal.returns-clause-write_fault
+returns-clause-write_fault g c = write_fault c.one_first_fault_law.ensures _ _ (asked_for (texts_of c.args.words.now)) c.answer_to-status.result (g.T.Text.tally c.report.new.text) c.report.ensures.counts c.answer_to-status.ensures.promised
 
 pub returns-clause-counts : goal.returns-clause-counts
 returns-clause-counts g c =
     counts (asked_for (texts_of c.args.words.now)) _ _ c.answer_to-status.result c.answer_to-status.ensures.promised
     (λ e. kept_by _ _ (ap g.S.Source.tally (c.answer_to-status.ensures.untouched e).0))
     (λ e. kept_by _ _ (ap g.K.Sink.tally (c.answer_to-status.ensures.untouched e).1))
-    (g.T.Text.tally c.args.text.now) (g.T.Text.tally c.report.new.text) c.report.ensures.counts
+    (λ e. kept_by _ _ (ap g.T.Text.tally (c.answer_to-status.ensures.untouched e).2))
+    (g.T.Text.tally c.report.new.text) c.report.ensures.counts

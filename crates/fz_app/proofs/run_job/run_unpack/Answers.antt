@@ -1,8 +1,10 @@
 -- What unpack says of the source that was attached and of the meter that was narrowed, it says of both as they were before.
-use Rattle.std.proofs.Common.{◌≡◌, min, sym, ap, subst, rules}
+use Rattle.std.proofs.Common.{◌≡◌, min, refl, sym, ap, subst, rules}
 use Rattle.fz_base.specs.Meter.{Gauge, narrowed}
 use Rattle.fz_files.specs.declared.job.Job.{Job}
-use Rattle.fz_app.specs.Promised.{Ends, IsPromised}
+use Rattle.fz_app.specs.Ends.{Ends, TextIs}
+use Rattle.fz_app.specs.Promised.{IsPromised}
+use Rattle.fz_app.proofs.Tallies.{kept_by}
 use Rattle.fz_app.proofs.UnpackAnswers.{unpacked}
 use Rattle.fz_app.proofs.run_job.run_unpack.Goals as goal
 
@@ -15,11 +17,11 @@ returns g c =
     let limit : c.begin.new.meter.limit ≡ min c.args.meter.now.limit c.args.request.now.memory = ap (λ (m : Gauge). m.limit) meter in
     let none : c.begin.new.meter.peak ≡ 0 = search rules in
     let workers : c.in_ok-length.window.workers ≡ c.args.request.now.workers = search rules in
-    let old : Ends = record { held = g.S.Source.held c.args.source.now; ranges = g.S.Source.ranges c.args.source.now; source = g.S.Source.tally c.args.source.now; contents = g.K.Sink.contents c.args.sink.now; created = g.K.Sink.created c.args.sink.now; finished = g.K.Sink.finished c.args.sink.now; sink = g.K.Sink.tally c.args.sink.now; meter = c.args.meter.now } in
-    let new : Ends = record { held = g.S.Source.held c.unpack.new.source; ranges = g.S.Source.ranges c.unpack.new.source; source = g.S.Source.tally c.unpack.new.source; contents = g.K.Sink.contents c.unpack.new.sink; created = g.K.Sink.created c.unpack.new.sink; finished = g.K.Sink.finished c.unpack.new.sink; sink = g.K.Sink.tally c.unpack.new.sink; meter = c.unpack.new.meter } in
+    let old : TextIs → Ends = λ text. record { held = g.S.Source.held c.args.source.now; ranges = g.S.Source.ranges c.args.source.now; source = g.S.Source.tally c.args.source.now; sink = record { contents = g.K.Sink.contents c.args.sink.now; created = g.K.Sink.created c.args.sink.now; finished = g.K.Sink.finished c.args.sink.now; tally = g.K.Sink.tally c.args.sink.now }; text = text; meter = c.args.meter.now } in
+    let new : TextIs → Ends = λ text. record { held = g.S.Source.held c.unpack.new.source; ranges = g.S.Source.ranges c.unpack.new.source; source = g.S.Source.tally c.unpack.new.source; sink = record { contents = g.K.Sink.contents c.unpack.new.sink; created = g.K.Sink.created c.unpack.new.sink; finished = g.K.Sink.finished c.unpack.new.sink; tally = g.K.Sink.tally c.unpack.new.sink }; text = text; meter = c.unpack.new.meter } in
     record {
-      promised = subst (λ (j : Job). IsPromised (record { job = j; workers = c.args.request.now.workers; memory = c.args.request.now.memory; input = c.args.request.now.input.now; output = c.args.request.now.output.now }) old new c.unpack.result) (sym c.requires.job)
-          (unpacked c.args.request.now.workers c.args.request.now.memory c.args.request.now.input.now c.args.request.now.output.now old new c.round_trip_law.ensures c.one_file_law.ensures c.in_ok-length.length c.in_ok-length.ensures.attached.1 c.in_ok-length.ensures.attached.2 c.unpack.result
+      promised = λ text. subst (λ (j : Job). IsPromised (record { job = j; workers = c.args.request.now.workers; memory = c.args.request.now.memory; input = c.args.request.now.input.now; output = c.args.request.now.output.now }) (old text) (new text) c.unpack.result) (sym c.requires.job)
+          (unpacked c.args.request.now.workers c.args.request.now.memory c.args.request.now.input.now c.args.request.now.output.now (old text) (new text) c.round_trip_law.ensures c.one_file_law.ensures c.in_ok-length.length c.in_ok-length.ensures.attached.1 c.in_ok-length.ensures.attached.2 c.unpack.result
           (record {
             output = rw held at c.unpack.ensures.output;
             finished = c.unpack.ensures.finished;
@@ -37,5 +39,8 @@ returns g c =
             told_contents = c.unpack.ensures.told_contents;
             source_counts = rw tally at c.unpack.ensures.kept.source_counts;
             sink_counts = c.unpack.ensures.kept.sink_counts;
+            text_counts = kept_by text.tally text.tally refl;
+            printed = refl;
+            one_written = λ e. (e, refl);
           }));
     }

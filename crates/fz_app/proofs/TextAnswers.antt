@@ -1,0 +1,281 @@
+-- What is promised of the answer of a job that prints lines, beside what its contract says: the sink is as it was.
+use Rattle.std.proofs.Common.{◌≡◌, ℕ, ◌≤◌, List, [], refl, sym, ap, subst, inl}
+use Rattle.std.specs.Prelude.{◌⊎◌, max, Option, Some, None, IfSome, IsSome, Result, Ok, Err, IsErrOf, OnOk, OnErr, ⊤}
+use Rattle.fz_base.specs.Counts.{CountsKept}
+use Rattle.fz_base.specs.Stop.{IfRefused, IsRefused, TellsLimit}
+use Rattle.fz_base.specs.Takings.{TellsFirstPast}
+use Rattle.fz_base.specs.Told.{StaysTold}
+use Rattle.fz_base.specs.declared.fault.Fault.{Fault}
+use Rattle.fz_base.specs.declared.failure.Stop.{Stop}
+use Rattle.fz_base.specs.declared.failure.Stop.TheVariants.{Refused as StopRefused, ReadFault as StopRead, WriteFault as StopWrite, OverLimit as StopLimit, NoMemory as StopMemory}
+use Rattle.fz_files.specs.Buffers.{job_bound, job_takings}
+use Rattle.fz_files.specs.Walks.{header_fault}
+use Rattle.fz_files.specs.declared.job.Job.{Job}
+use Rattle.fz_files.specs.declared.job.Job.TheVariants.{Verify, List as ListHdus}
+use Rattle.fz_job.specs.Clauses.{Answers, ComesLate, HasJobCause, IfOverLimit, IsAnswer, IsUnmade, TellsFirstFault, greatest_bound}
+use Rattle.fz_verify.specs.Clauses.{PrintsLines}
+use Rattle.fz_words.specs.Jobs.{Asked}
+use Rattle.fz_app.specs.Answer.{done_of}
+use Rattle.fz_app.specs.Asked.{limit_of}
+use Rattle.fz_app.specs.Ends.{Ends, IsSameSink, SinkIs}
+use Rattle.fz_app.specs.Printed.{HasPrinted}
+use Rattle.fz_app.specs.Promised.{IsPromised}
+use Rattle.fz_app.proofs.JobAnswers.{promised}
+use Rattle.fz_app.proofs.PackAnswers.{empty_is_shut}
+use Rattle.fz_app.proofs.Tallies.{kept_by}
+
+-- facts of an answer are facts of the answer without its value
+module _ {X : Type 0} where
+  pub ok_done : (r : Result X Stop) (P : Type 0) → OnOk r P → OnOk (done_of r) P
+  ok_done (Ok x) P p = p
+  ok_done (Err stop) P p = tt
+
+  pub refused_done : (r : Result X Stop) → IsRefused (done_of r) → IsRefused r
+  refused_done (Ok x) is = absurd cc
+  refused_done (Err (StopRefused x)) is = (x, refl)
+  refused_done (Err StopRead) is = absurd cc
+  refused_done (Err StopWrite) is = absurd cc
+  refused_done (Err (StopLimit live asked limit)) is = absurd cc
+  refused_done (Err StopMemory) is = absurd cc
+
+  pub error_done : (r : Result X Stop) (stop : Stop) → IsErrOf (done_of r) stop → IsErrOf r stop
+  error_done (Ok x) stop is = absurd cc
+  error_done (Err other) stop is = cc
+
+  pub error_of : (r : Result X Stop) (stop : Stop) → IsErrOf r stop → IsErrOf (done_of r) stop
+  error_of (Ok x) stop is = absurd cc
+  error_of (Err other) stop is = cc
+
+  limit_done : (r : Result X Stop) (limit most : ℕ) → TellsLimit limit most r → TellsLimit limit most (done_of r)
+  limit_done (Ok x) limit most p = tt
+  limit_done (Err (StopRefused x)) limit most p = tt
+  limit_done (Err StopRead) limit most p = tt
+  limit_done (Err StopWrite) limit most p = tt
+  limit_done (Err (StopLimit live asked told)) limit most p = p
+  limit_done (Err StopMemory) limit most p = tt
+
+  past_done : (r : Result X Stop) (limit : ℕ) (takings : List (ℕ × ℕ)) → TellsFirstPast limit takings r → TellsFirstPast limit takings (done_of r)
+  past_done (Ok x) limit takings p = p
+  past_done (Err (StopRefused x)) limit takings p = p
+  past_done (Err StopRead) limit takings p = tt
+  past_done (Err StopWrite) limit takings p = p
+  past_done (Err (StopLimit live asked told)) limit takings p = p
+  past_done (Err StopMemory) limit takings p = tt
+
+  fault_done : (r : Result X Stop) (job : Job) (held : Option (List ℕ)) → TellsFirstFault job held r → TellsFirstFault job held (done_of r)
+  fault_done (Ok x) job held p = p
+  fault_done (Err (StopRefused x)) job held p = p
+  fault_done (Err StopRead) job held p = tt
+  fault_done (Err StopWrite) job held p = tt
+  fault_done (Err (StopLimit live asked limit)) job held p = tt
+  fault_done (Err StopMemory) job held p = tt
+
+  lines_done : (r : Result X Stop) (job : Job) (held old new : Option (List ℕ)) → PrintsLines job held old new r → PrintsLines job held old new (done_of r)
+  lines_done (Ok x) job held old new p = p
+  lines_done (Err (StopRefused x)) job held old new p = p
+  lines_done (Err StopRead) job held old new p = p
+  lines_done (Err StopWrite) job held old new p = p
+  lines_done (Err (StopLimit live asked limit)) job held old new p = p
+  lines_done (Err StopMemory) job held old new p = p
+
+  answer_done : (r : Result X Stop) → IsAnswer r → IsAnswer (done_of r)
+  answer_done (Ok x) p = tt
+  answer_done (Err (StopRefused x)) p = tt
+  answer_done (Err StopRead) p = absurd p
+  answer_done (Err StopWrite) p = absurd p
+  answer_done (Err (StopLimit live asked limit)) p = absurd p
+  answer_done (Err StopMemory) p = tt
+
+  over_done : (r : Result X Stop) (P : Type 0) → IfOverLimit r P → IfOverLimit (done_of r) P
+  over_done (Ok x) P p = tt
+  over_done (Err (StopRefused x)) P p = tt
+  over_done (Err StopRead) P p = tt
+  over_done (Err StopWrite) P p = tt
+  over_done (Err (StopLimit live asked limit)) P p = p
+  over_done (Err StopMemory) P p = tt
+
+  if_refused_done : (r : Result X Stop) (P : Fault → Type 0) → IfRefused r P → IfRefused (done_of r) P
+  if_refused_done (Ok x) P p = tt
+  if_refused_done (Err (StopRefused x)) P p = p
+  if_refused_done (Err StopRead) P p = tt
+  if_refused_done (Err StopWrite) P p = tt
+  if_refused_done (Err (StopLimit live asked limit)) P p = tt
+  if_refused_done (Err StopMemory) P p = tt
+
+  answers_done : (r : Result X Stop) (held : Option (List ℕ)) (B : List ℕ → Type 0) → IfSome held (λ file. B file → IsAnswer r) → IfSome held (λ file. B file → IsAnswer (done_of r))
+  answers_done r None B p = tt
+  answers_done r (Some file) B p = λ b. answer_done r (p b)
+
+  past_held : (r : Result X Stop) (held : Option (List ℕ)) (limit : ℕ) (takings : List ℕ → List (ℕ × ℕ)) → IfSome held (λ file. TellsFirstPast limit (takings file) r) → IfSome held (λ file. TellsFirstPast limit (takings file) (done_of r))
+  past_held r None limit takings p = tt
+  past_held r (Some file) limit takings p = past_done r limit (takings file) p
+
+-- the second of two facts of an answer Ok
+on_second : {X : Type 0} → (r : Result X Stop) (P Q : Type 0) → OnOk r (P × Q) → OnOk r Q
+on_second (Ok x) P Q p = p.1
+on_second (Err stop) P Q p = tt
+
+-- what a job that prints says of the source, of the text and of the meter, as they were before the source was attached and after the call
+pub record TextSays {X : Type 0} (job : Job) (held : Option (List ℕ)) (limit : ℕ) (old new : Ends) (answer : Result X Stop) : Type 0 where
+  pub lines : PrintsLines job held old.text.contents new.text.contents answer
+  pub first_fault : TellsFirstFault job held answer
+  pub answered : Answers job held old.source new.source old.text.tally new.text.tally limit 1 answer
+  pub cause : HasJobCause job held old.source new.source old.text.tally new.text.tally limit 1 answer
+  pub silent : IsUnmade job held ((new.text.contents ≡ old.text.contents) × (new.text.tally ≡ old.text.tally)) answer
+  pub live : new.meter.live ≡ 0
+  pub limit_is : new.meter.limit ≡ limit
+  pub peak : IfSome held (λ file. new.meter.peak ≤ max 0 (job_bound job file 1))
+  pub most : new.meter.peak ≤ max 0 (greatest_bound job 1)
+  pub held_is : new.held ≡ held
+  pub told_ranges : StaysTold old.ranges new.ranges
+  pub told : StaysTold old.text.contents new.text.contents
+  pub source_counts : CountsKept old.source new.source
+  pub text_counts : CountsKept old.text.tally new.text.tally
+
+-- what was printed, of the answer without its value
+printed : {X : Type 0} → (job : Job) (held : Option (List ℕ)) (limit : ℕ) (old new : Ends) (answer : Result X Stop) → TextSays job held limit old new answer → HasPrinted job held old.text new.text (done_of answer)
+printed job held limit old new answer s = record {
+  lines = lines_done answer job held old.text.contents new.text.contents s.lines;
+  silent = record { faulty = s.silent.faulty; over_limit = over_done answer _ s.silent.over_limit; refused = if_refused_done answer _ s.silent.refused };
+  done = ok_done answer (new.text.tally ≡ old.text.tally) (on_second answer _ _ s.cause.done);
+  refused = λ is. (s.cause.refused (refused_done answer is)).1;
+  write_fault = λ is. s.cause.write_fault (error_done answer StopWrite is);
+  told = s.told;
+  counts = s.text_counts;
+}
+
+-- contents that are empty are what a job writes for which that is nothing
+empty_output : (held contents : Option (List ℕ)) → IfSome contents (λ c. c ≡ []) → IfSome held (λ file. IfSome contents (λ c. c ≡ []))
+empty_output None contents empty = tt
+empty_output (Some file) contents empty = empty
+
+nothing_restored : (held contents : Option (List ℕ)) → IfSome held (λ file. IfSome contents (λ c. ⊤))
+nothing_restored None contents = tt
+nothing_restored (Some file) None = tt
+nothing_restored (Some file) (Some bytes) = tt
+
+always_ok : (answer : Result (Unit {0}) Stop) (P : Type 0) → P → OnOk answer P
+always_ok (Ok x) P p = p
+always_ok (Err stop) P p = tt
+
+always_err : (answer : Result (Unit {0}) Stop) (P : Type 0) → P → OnErr answer P
+always_err (Ok x) P p = tt
+always_err (Err stop) P p = p
+
+over_limit_same : (answer : Result (Unit {0}) Stop) (P : Type 0) → P → IfOverLimit answer P
+over_limit_same (Ok x) P p = tt
+over_limit_same (Err (StopRefused x)) P p = tt
+over_limit_same (Err StopRead) P p = tt
+over_limit_same (Err StopWrite) P p = tt
+over_limit_same (Err (StopLimit live asked limit)) P p = p
+over_limit_same (Err StopMemory) P p = tt
+
+refused_same : (answer : Result (Unit {0}) Stop) (P : Fault → Type 0) → ((x : Fault) → P x) → IfRefused answer P
+refused_same (Ok x) P p = tt
+refused_same (Err (StopRefused x)) P p = p x
+refused_same (Err StopRead) P p = tt
+refused_same (Err StopWrite) P p = tt
+refused_same (Err (StopLimit live asked limit)) P p = tt
+refused_same (Err StopMemory) P p = tt
+
+same_held : (held : Option (List ℕ)) (P : List ℕ → Type 0) → ((file : List ℕ) → P file) → IfSome held P
+same_held None P p = tt
+same_held (Some file) P p = p file
+
+-- a sink that is as it was is so by every answer
+same_sink : (job : Job) (held : Option (List ℕ)) (Same : Type 0) (answer : Result (Unit {0}) Stop) → Same → IsUnmade job held Same answer
+same_sink job held Same answer same = record {
+  faulty = same_held held (λ file. ¬ (header_fault job file ≡ None) → Same) (λ file n. same);
+  over_limit = over_limit_same answer Same same;
+  refused = refused_same answer (λ x. Same ⊎ ComesLate job x) (λ x. inl same);
+}
+
+-- The promises of `verify`.
+abbrev pub verify_asked : ℕ → ℕ → List ℕ → List ℕ → Asked
+verify_asked W memory input output = record { job = Verify; workers = W; memory = memory; input = input; output = output }
+
+module _ {X : Type 0} (W memory : ℕ) (input output : List ℕ) (old new : Ends) (same : new.sink ≡ old.sink) (empty : IfSome new.sink.contents (λ c. c ≡ [])) where
+  verify_cause : (answer : Result X Stop) → TextSays Verify old.held (limit_of (verify_asked W memory input output) old.meter.limit) old new answer → HasJobCause Verify old.held old.source new.source old.text.tally new.text.tally (limit_of (verify_asked W memory input output) old.meter.limit) W (done_of answer)
+  verify_cause answer s = record {
+    done = ok_done answer _ s.cause.done;
+    refused = λ is. s.cause.refused (refused_done answer is);
+    read_fault = λ is. s.cause.read_fault (error_done answer StopRead is);
+    write_fault = λ is. s.cause.write_fault (error_done answer StopWrite is);
+    over_limit = limit_done answer (limit_of (verify_asked W memory input output) old.meter.limit) (greatest_bound Verify 1) s.cause.over_limit;
+    first_past = past_held answer old.held (limit_of (verify_asked W memory input output) old.meter.limit) (λ file. job_takings Verify file 1) s.cause.first_past;
+    block = λ less. (error_of answer _ (s.cause.block less).0, (s.cause.block less).1, (s.cause.block less).2);
+  }
+
+  pub verify_promised : (answer : Result X Stop) → TextSays Verify old.held (limit_of (verify_asked W memory input output) old.meter.limit) old new answer → IsPromised (verify_asked W memory input output) old new (done_of answer)
+  verify_promised answer s = promised (verify_asked W memory input output) old new (done_of answer)
+      (record {
+        output = always_ok (done_of answer) _ (empty_output old.held new.sink.contents empty);
+        finished = always_ok (done_of answer) ⊤ tt;
+        first_fault = fault_done answer Verify old.held s.first_fault;
+        answered = λ a b. answers_done answer old.held (λ file. job_bound Verify file 1 ≤ limit_of (verify_asked W memory input output) old.meter.limit) (s.answered a b);
+        cause = verify_cause answer s;
+        first_byte = always_err (done_of answer) _ (inl (empty_is_shut new.sink.contents empty));
+        unmade = same_sink Verify old.held (IsSameSink old.sink new.sink) (done_of answer) (ap (λ (k : SinkIs). k.created) same, ap (λ (k : SinkIs). k.contents) same);
+        live = s.live;
+        limit = s.limit_is;
+        peak = s.peak;
+        most = s.most;
+        held_is = s.held_is;
+        told_ranges = s.told_ranges;
+        told_contents = λ told. subst (λ (k : SinkIs). IsSome k.contents) (sym same) told;
+        source_counts = s.source_counts;
+        sink_counts = kept_by old.sink.tally new.sink.tally (ap (λ (k : SinkIs). k.tally) same);
+        text_counts = s.text_counts;
+        printed = printed Verify old.held (limit_of (verify_asked W memory input output) old.meter.limit) old new answer s;
+        one_written = λ e. (ap (λ (k : SinkIs). k.tally) same, e);
+      })
+      (λ whole. inl (empty_is_shut new.sink.contents empty)) (always_ok (done_of answer) _ (nothing_restored old.held new.sink.contents))
+
+-- The promises of `list`.
+abbrev pub list_asked : ℕ → ℕ → List ℕ → List ℕ → Asked
+list_asked W memory input output = record { job = ListHdus; workers = W; memory = memory; input = input; output = output }
+
+module _ {X : Type 0} (W memory : ℕ) (input output : List ℕ) (old new : Ends) (same : new.sink ≡ old.sink) (empty : IfSome new.sink.contents (λ c. c ≡ [])) where
+  list_cause : (answer : Result X Stop) → TextSays ListHdus old.held (limit_of (list_asked W memory input output) old.meter.limit) old new answer → HasJobCause ListHdus old.held old.source new.source old.text.tally new.text.tally (limit_of (list_asked W memory input output) old.meter.limit) W (done_of answer)
+  list_cause answer s = record {
+    done = ok_done answer _ s.cause.done;
+    refused = λ is. s.cause.refused (refused_done answer is);
+    read_fault = λ is. s.cause.read_fault (error_done answer StopRead is);
+    write_fault = λ is. s.cause.write_fault (error_done answer StopWrite is);
+    over_limit = limit_done answer (limit_of (list_asked W memory input output) old.meter.limit) (greatest_bound ListHdus 1) s.cause.over_limit;
+    first_past = past_held answer old.held (limit_of (list_asked W memory input output) old.meter.limit) (λ file. job_takings ListHdus file 1) s.cause.first_past;
+    block = λ less. (error_of answer _ (s.cause.block less).0, (s.cause.block less).1, (s.cause.block less).2);
+  }
+
+  pub list_promised : (answer : Result X Stop) → TextSays ListHdus old.held (limit_of (list_asked W memory input output) old.meter.limit) old new answer → IsPromised (list_asked W memory input output) old new (done_of answer)
+  list_promised answer s = promised (list_asked W memory input output) old new (done_of answer)
+      (record {
+        output = always_ok (done_of answer) _ (empty_output old.held new.sink.contents empty);
+        finished = always_ok (done_of answer) ⊤ tt;
+        first_fault = fault_done answer ListHdus old.held s.first_fault;
+        answered = λ a b. answers_done answer old.held (λ file. job_bound ListHdus file 1 ≤ limit_of (list_asked W memory input output) old.meter.limit) (s.answered a b);
+        cause = list_cause answer s;
+        first_byte = always_err (done_of answer) _ (inl (empty_is_shut new.sink.contents empty));
+        unmade = same_sink ListHdus old.held (IsSameSink old.sink new.sink) (done_of answer) (ap (λ (k : SinkIs). k.created) same, ap (λ (k : SinkIs). k.contents) same);
+        live = s.live;
+        limit = s.limit_is;
+        peak = s.peak;
+        most = s.most;
+        held_is = s.held_is;
+        told_ranges = s.told_ranges;
+        told_contents = λ told. subst (λ (k : SinkIs). IsSome k.contents) (sym same) told;
+        source_counts = s.source_counts;
+        sink_counts = kept_by old.sink.tally new.sink.tally (ap (λ (k : SinkIs). k.tally) same);
+        text_counts = s.text_counts;
+        printed = printed ListHdus old.held (limit_of (list_asked W memory input output) old.meter.limit) old new answer s;
+        one_written = λ e. (ap (λ (k : SinkIs). k.tally) same, e);
+      })
+      (λ whole. inl (empty_is_shut new.sink.contents empty)) (always_ok (done_of answer) _ (nothing_restored old.held new.sink.contents))
+
+done_is : (r : Result (Unit {0}) Stop) → done_of r ≡ r
+done_is (Ok tt) = refl
+done_is (Err stop) = refl
+
+-- the answer of `list` has no value
+pub listed : (asked : Asked) (old new : Ends) (answer : Result (Unit {0}) Stop) → IsPromised asked old new (done_of answer) → IsPromised asked old new answer
+listed asked old new answer = subst (IsPromised asked old new) (done_is answer)

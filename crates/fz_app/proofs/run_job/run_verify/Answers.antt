@@ -1,0 +1,38 @@
+-- What verify says of the source that was attached and of the meter that was narrowed, it says of both as they were before.
+use Rattle.std.proofs.Common.{◌≡◌, min, refl, sym, ap, subst, rules}
+use Rattle.fz_base.specs.Meter.{Gauge, narrowed}
+use Rattle.fz_files.specs.declared.job.Job.{Job}
+use Rattle.fz_app.specs.Answer.{done_of}
+use Rattle.fz_app.specs.Ends.{Ends}
+use Rattle.fz_app.specs.Promised.{IsPromised}
+use Rattle.fz_app.proofs.TextAnswers.{verify_promised}
+use Rattle.fz_app.proofs.run_job.run_verify.Goals as goal
+
+pub returns-clause-promised : goal.returns-clause-promised
+returns-clause-promised g c = λ sink empty.
+    let held : g.S.Source.held c.begin.new.source ≡ g.S.Source.held c.args.source.now = c.begin.ensures.held in
+    let ranges : g.S.Source.ranges c.begin.new.source ≡ g.S.Source.ranges c.args.source.now = c.begin.ensures.ranges in
+    let tally : g.S.Source.tally c.begin.new.source ≡ g.S.Source.tally c.args.source.now = c.in_ok-length.ensures.cause.ok in
+    let meter : c.begin.new.meter ≡ narrowed c.args.meter.now c.args.request.now.memory = c.begin.ensures.narrowed in
+    let limit : c.begin.new.meter.limit ≡ min c.args.meter.now.limit c.args.request.now.memory = ap (λ (m : Gauge). m.limit) meter in
+    let none : c.begin.new.meter.peak ≡ 0 = search rules in
+    let old : Ends = record { held = g.S.Source.held c.args.source.now; ranges = g.S.Source.ranges c.args.source.now; source = g.S.Source.tally c.args.source.now; sink = sink; text = record { contents = g.T.Text.contents c.args.text.now; tally = g.T.Text.tally c.args.text.now }; meter = c.args.meter.now } in
+    let new : Ends = record { held = g.S.Source.held c.verify.new.source; ranges = g.S.Source.ranges c.verify.new.source; source = g.S.Source.tally c.verify.new.source; sink = sink; text = record { contents = g.T.Text.contents c.verify.new.text; tally = g.T.Text.tally c.verify.new.text }; meter = c.verify.new.meter } in
+    subst (λ (j : Job). IsPromised (record { job = j; workers = c.args.request.now.workers; memory = c.args.request.now.memory; input = c.args.request.now.input.now; output = c.args.request.now.output.now }) old new (done_of c.verify.result)) (sym c.requires.job)
+    (verify_promised c.args.request.now.workers c.args.request.now.memory c.args.request.now.input.now c.args.request.now.output.now old new refl empty c.verify.result
+    (record {
+      lines = rw held at c.verify.ensures.lines;
+      first_fault = rw held at c.verify.ensures.first_fault;
+      answered = rw (held, tally, limit) at c.verify.ensures.answered;
+      cause = rw (held, tally, limit) at c.verify.ensures.cause;
+      silent = rw held at c.verify.ensures.silent;
+      live = c.verify.ensures.buffers.live;
+      limit_is = rw limit at c.verify.ensures.buffers.limit;
+      peak = rw (held, none) at c.verify.ensures.buffers.peak;
+      most = rw none at c.verify.ensures.buffers.most;
+      held_is = rw held at c.verify.ensures.kept.held_is;
+      told_ranges = rw ranges at c.verify.ensures.told_ranges;
+      told = c.verify.ensures.told_contents;
+      source_counts = rw tally at c.verify.ensures.kept.source_counts;
+      text_counts = c.verify.ensures.kept.sink_counts;
+    }))

@@ -1,0 +1,14 @@
+//! Worked files for `verify` and `list`, as tests on `run` over objects in memory. Expected lines are written out by hand, from the
+//! rules of the formats.
+//!
+//! Reading order: `printed`, `prints`, `refuses`, `fails`.
+#![tactic(auto)]
+
+#[cfg(test)]
+mod fails;
+#[cfg(test)]
+mod printed;
+#[cfg(test)]
+mod prints;
+#[cfg(test)]
+mod refuses;
