@@ -7,7 +7,7 @@ BIN = $(DESTDIR)$(PREFIX)/bin
 MAN = $(DESTDIR)$(PREFIX)/share/man/man1
 
 help:
-	@echo 'make demo       prove and build fz, pack samples/star_field.fits, show what came out, and unpack it'
+	@echo 'make demo       prove and build fz, pack samples/star_field.fits, show what came out, verify it, and unpack it'
 	@echo 'make test       what the gate runs: every proof, must-fail edit, test and program'
 	@echo 'make samples    write samples/ again'
 	@echo 'make install    put the program that was built and its manual page under PREFIX (/usr/local)'

@@ -1,7 +1,8 @@
 #!/usr/bin/env python3
 """Writes the files of samples/: seeded, so that no byte of them is unexplained.
 
-The packed files are written out card by card and number by number, as docs/FORMAT.md says them, and not by fz.
+The packed files are written out card by card and number by number, as docs/FORMAT.md says them, and not by fz. So are the
+sums.
 """
 import math
 import random
@@ -80,17 +81,20 @@ def image_hdu(bitpix, letter, columns, rows, pixels, further=(), first=False):
     return header(cards + list(further)) + blocks([struct.pack(f">{columns * rows}{letter}", *pixels)], b"\0")
 
 
+def small_table(sums=()):
+    """A binary table of three rows with a number each."""
+    cards = [text_card("XTENSION", "BINTABLE"), card("BITPIX", "8"), card("NAXIS", "2"), card("NAXIS1", "4"), card("NAXIS2", "3")]
+    cards += [card("PCOUNT", "0"), card("GCOUNT", "1"), card("TFIELDS", "1"), text_card("TTYPE1", "TIME"), text_card("TFORM1", "1J")]
+    return header(cards + list(sums)) + blocks([struct.pack(">3i", 1, 2, 3)], b"\0")
+
+
 def several_file():
     """An empty primary, images of 16, 8 and 32 bits with cards of their own, and a small binary table."""
     primary = header([card("SIMPLE", "T"), card("BITPIX", "16"), card("NAXIS", "0"), card("EXTEND", "T"), text_card("ORIGIN", "fz")])
     counts = image_hdu(16, "h", 64, 48, star_field(64, 48, 10, 8), [text_card("EXTNAME", "SCI"), card("BZERO", "32768"), card("BSCALE", "1")])
     flags = image_hdu(8, "B", 64, 48, flag_lines(64, 48, 9), [text_card("EXTNAME", "DQ")])
     depth = image_hdu(32, "i", 64, 48, depths(64, 48, 10), [text_card("EXTNAME", "ERR"), b"HISTORY made from a seed".ljust(80)])
-    table = header(
-        [text_card("XTENSION", "BINTABLE"), card("BITPIX", "8"), card("NAXIS", "2"), card("NAXIS1", "4"), card("NAXIS2", "3")]
-        + [card("PCOUNT", "0"), card("GCOUNT", "1"), card("TFIELDS", "1"), text_card("TTYPE1", "TIME"), text_card("TFORM1", "1J")]
-    )
-    return primary + counts + flags + depth + table + blocks([struct.pack(">3i", 1, 2, 3)], b"\0")
+    return primary + counts + flags + depth + small_table()
 
 
 EMPTY_PRIMARY = header([card("SIMPLE", "T"), card("BITPIX", "8"), card("NAXIS", "0"), card("EXTEND", "T")])
@@ -128,12 +132,59 @@ def small_stored():
     return EMPTY_PRIMARY + packed_table(heap, rows, ("1PB(0)", "1PI(4)"), own, image_cards(16, 4, 2))
 
 
-def grid_stored():
+def grid_stored(sums=()):
     """The grid in tiles of 2 x 2, which are cut short at the right and above."""
     own = [text_card("ZCMPTYPE", "NOCOMPRESS"), card("ZTILE1", "2"), card("ZTILE2", "2")]
     places = [(4, 0), (4, 4), (2, 8), (2, 10), (2, 12), (1, 14)]
     heap = bytes.fromhex("01020607 03040809 050A 0B0C 0D0E 0F")
-    return EMPTY_PRIMARY + packed_table(heap, [((0, 0), it) for it in places], ("1PB(0)", "1PB(4)"), own, image_cards(8, 5, 3))
+    cards = image_cards(8, 5, 3) + list(sums)
+    return EMPTY_PRIMARY + packed_table(heap, [((0, 0), it) for it in places], ("1PB(0)", "1PB(4)"), own, cards)
+
+
+def sum_of(data):
+    """The sum of words of 32 bits, each carry added again."""
+    total = sum(struct.unpack(f">{len(data) // 4}I", data))
+    while total >> 32:
+        total = (total & 0xFFFFFFFF) + (total >> 32)
+    return total
+
+
+def characters(total):
+    """The sixteen characters that make the sum of an HDU all ones, which has this sum with sixteen zeros in their place."""
+    text = [0] * 16
+    for place, byte in enumerate(struct.pack(">I", 0xFFFFFFFF - total)):
+        four = [byte // 4 + 48] * 4
+        four[0] += byte % 4
+        for first in (0, 2):
+            while any(58 <= it <= 64 or 91 <= it <= 96 for it in four[first : first + 2]):
+                four[first] += 1
+                four[first + 1] -= 1
+        text[place::4] = four
+    return bytes(text[-1:] + text[:-1]).decode("ascii")
+
+
+def summed(hdu, data):
+    """An HDU that begins with its header and ends with these data, with right sums in its cards of sums."""
+    hdu = hdu.replace(text_card("DATASUM", "0"), text_card("DATASUM", str(sum_of(data))))
+    return hdu.replace(BLANK_CHECKSUM, text_card("CHECKSUM", characters(sum_of(hdu))))
+
+
+BLANK_CHECKSUM = text_card("CHECKSUM", "0" * 16)
+BLANK_SUMS = (text_card("DATASUM", "0"), BLANK_CHECKSUM)
+
+
+def grid_summed():
+    """The grid in its tiles, with sums."""
+    table = grid_stored(BLANK_SUMS)[len(EMPTY_PRIMARY) :]
+    return EMPTY_PRIMARY + summed(table, table[2880:])
+
+
+def sums_file():
+    """An empty primary without sums, an image with right ones, and a table whose CHECKSUM was right before BLAME came in."""
+    image = image_hdu(8, "B", 5, 3, range(1, 16), BLANK_SUMS)
+    table = small_table(BLANK_SUMS)
+    table = summed(table, table[2880:]).replace(b"END".ljust(160), text_card("BLAME", "nobody") + b"END".ljust(80))
+    return EMPTY_PRIMARY + summed(image, image[2880:]) + table
 
 
 def main():
@@ -148,6 +199,10 @@ def main():
     (SAMPLES / "packed" / "small.rice.fits").write_bytes(small_by_rice())
     (SAMPLES / "packed" / "small.none.fits").write_bytes(small_stored())
     (SAMPLES / "packed" / "grid.2x2.fits").write_bytes(grid_stored())
+    (SAMPLES / "packed" / "grid.sums.fits").write_bytes(grid_summed())
+    # The first pixel, 1, becomes 0.
+    (SAMPLES / "packed" / "grid.wrong.fits").write_bytes(grid_summed().replace(b"\x01\x02\x06\x07", b"\0\x02\x06\x07"))
+    (SAMPLES / "sums.fits").write_bytes(sums_file())
 
 
 if __name__ == "__main__":

@@ -2,7 +2,8 @@
 """make_images.py FOLDER: writes the images of the bench, seeded, where they are not there yet.
 
 ccd.fits has 16-bit counts of a CCD: noise with a standard deviation of 12 over a slope; sky.fits the same in 32 bits over
-a wider slope; mask.fits 8-bit flags in runs. Each has 4096 x 4096 pixels.
+a wider slope; mask.fits 8-bit flags in runs. Each has 4096 x 4096 pixels. holes.fits is a file of 10 GB whose data are holes:
+a primary without data and a hundred images of 10,000 x 5,000 pixels of 16 bits. It takes no room on most disks.
 """
 import random
 import struct
@@ -54,12 +55,34 @@ def write(path, bitpix, rows):
     unfinished.rename(path)
 
 
+def extension(columns, rows):
+    cards = [b"XTENSION= 'IMAGE   '".ljust(80), card("BITPIX", "16"), card("NAXIS", "2"), card("NAXIS1", str(columns))]
+    cards += [card("NAXIS2", str(rows)), card("PCOUNT", "0"), card("GCOUNT", "1"), b"END".ljust(80)]
+    return b"".join(cards).ljust(2880, b" ")
+
+
+def write_holes(path, hdus, columns, rows):
+    """A file of headers alone: nothing is written where the data stand."""
+    if path.exists():
+        return
+    size = 2 * columns * rows
+    unfinished = path.with_suffix(".part")
+    with open(unfinished, "wb") as out:
+        out.write((card("SIMPLE", "T") + card("BITPIX", "16") + card("NAXIS", "0") + b"END".ljust(80)).ljust(2880, b" "))
+        for _ in range(hdus):
+            out.write(extension(columns, rows))
+            out.truncate(out.tell() + size + -size % 2880)
+            out.seek(0, 2)
+    unfinished.rename(path)
+
+
 def main():
     folder = Path(sys.argv[1])
     folder.mkdir(parents=True, exist_ok=True)
     write(folder / "ccd.fits", 16, noisy("h", 0.5, 1))
     write(folder / "sky.fits", 32, noisy("i", 20.0, 2))
     write(folder / "mask.fits", 8, flags(3))
+    write_holes(folder / "holes.fits", 100, 10_000, 5_000)
 
 
 if __name__ == "__main__":

@@ -1,5 +1,5 @@
 #!/usr/bin/env python3
-"""run.py FZ FOLDER [pack|unpack]: times the jobs of the program FZ on the images of FOLDER, beside fpack, funpack and cp.
+"""run.py FZ FOLDER [pack|unpack|verify|list]: times the jobs of the program FZ on the images of FOLDER, beside fpack, funpack and cp.
 
 Each time is the least of five runs, which take turns. The most resident memory is that of one run more, by the command time.
 """
@@ -70,6 +70,21 @@ def unpacking(fz, plain, out, ours, theirs):
     return made + [("cp", ["cp", plain, out])]
 
 
+def verifying(fz, plain, out, ours, theirs):
+    """verify of what fz packed with sums and, where it is installed, of what fpack packed, which has sums too; beside it the
+    unpacking of the same files by fz with one worker and by funpack, without sums."""
+    files = [("fz", packed_by([fz, "pack", "--sums", *ours, plain, f"{plain}.fz"], f"{plain}.fz"))]
+    if shutil.which("fpack"):
+        files.append(("fpack", packed_by(["fpack", *theirs, "-O", f"{plain}.fpack", plain], f"{plain}.fpack")))
+    made = []
+    for packer, packed in files:
+        made.append((f"fz verify, packed by {packer}", [fz, "verify", packed]))
+        made.append((f"fz unpack, 1 worker, packed by {packer}", [fz, "unpack", packed, out]))
+        if shutil.which("funpack"):
+            made.append((f"funpack -C, packed by {packer}", ["funpack", "-C", "-O", out, packed]))
+    return made
+
+
 def time_all(rows, size, out):
     """Times each command and prints its row."""
     least = {}
@@ -81,16 +96,25 @@ def time_all(rows, size, out):
     for title, words in rows:
         remove(out)
         memory = peak(words)
-        print(f"| {title} | {1000 * least[title]:.0f} ms | {size / 1e6 / least[title]:.0f} MB/s | {os.path.getsize(out) / 1e6:.2f} MB written | {memory} resident |")
+        written = f"{os.path.getsize(out) / 1e6:.2f} MB written" if os.path.exists(out) else "no file"
+        print(f"| {title} | {1000 * least[title]:.1f} ms | {size / 1e6 / least[title]:.0f} MB/s | {written} | {memory} resident |")
     remove(out)
 
 
 def main():
     fz, folder = os.path.abspath(sys.argv[1]), os.path.abspath(sys.argv[2])
-    jobs = {"pack": packing, "unpack": unpacking}
-    for job in sys.argv[3:] or jobs:
+    jobs = {"pack": packing, "unpack": unpacking, "verify": verifying}
+    for job in sys.argv[3:] or (*jobs, "list"):
+        if job == "list":
+            path = f"{folder}/holes.fits"
+            size = os.path.getsize(path)
+            print(f"list, holes.fits, {size / 1e6:.1f} MB")
+            time_all([("fz list", [fz, "list", path])], size, f"{folder}/out.fits")
+            continue
+        # What is unpacked beside verify goes to memory, where there is a folder for that: verify writes nothing.
+        out = "/dev/shm/fz_jobs_out.fits" if job == "verify" and os.access("/dev/shm", os.W_OK) else f"{folder}/out.fits"
         for name, ours, theirs in IMAGES:
-            plain, out = f"{folder}/{name}", f"{folder}/out.fits"
+            plain = f"{folder}/{name}"
             size = os.path.getsize(plain)
             print(f"{job}, {name}, {size / 1e6:.1f} MB")
             time_all(jobs[job](fz, plain, out, ours, theirs), size, out)

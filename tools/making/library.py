@@ -33,7 +33,7 @@ class Astropy:
         with self.open(path) as file:
             images = [it for it in file if it.is_image and it.data is not None]
             packed = [self.fits.CompImageHDU(it.data, it.header, compression_type=codec) for it in images]
-            self.fits.HDUList([self.fits.PrimaryHDU(), *packed]).writeto(out)
+            self.fits.HDUList([self.fits.PrimaryHDU(), *packed]).writeto(out, checksum=True)
 
 
 class Fitsio:
