@@ -14,3 +14,4 @@ pub mod WritesLemmas
 pub mod FilledLemmas
 pub mod WritableLemmas
 pub mod LawLemmas
+pub mod RunParts

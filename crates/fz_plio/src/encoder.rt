@@ -1,6 +1,6 @@
 //! Line lists written.
 
-ghost use Rattle.std.specs.Prelude.{◌≡◌, ℕ, ◌+◌, ◌*◌, ◌^◌, ◌<◌, ◌≤◌, ◌↔◌, ◌++◌, length, drop, All, IfOk, OnOk, IsErr, Ok, Err, MatchOption};
+ghost use Rattle.std.specs.Prelude.{◌≡◌, ℕ, ◌+◌, ◌*◌, ◌^◌, ◌<◌, ◌≤◌, ◌↔◌, ◌++◌, length, drop, true, All, IfOk, OnOk, IsErr, Ok, Err, MatchOption};
 ghost use Rattle.fz_plio.specs.Laws.{TestsRange, MeansItsNumbers};
 ghost use Rattle.fz_plio.specs.Producer.{InRange, IsFirstOutside, header, body_words, line_list};
 ghost use Rattle.fz_plio.specs.Writing.{Puts, magnitudes};
@@ -54,12 +54,34 @@ fn first_outside(numbers: &[i32]) -> Option<u32>
     requires { length numbers.now ≤ 2 ^ 26 }
     ensures { MatchOption result (All InRange numbers.now) (IsFirstOutside numbers.now) }
 {
+    if all_inside(numbers) {
+        return None;
+    }
     for (index, &number) in numbers.iter().enumerate() {
         if number < 0 || number >= HIGH_END as i32 {
             return Some(index as u32);
         }
     }
     None
+}
+
+// Whether a list can hold all of them. No early answer: so several are compared at once.
+fn all_inside(numbers: &[i32]) -> bool
+    ensures { result ≡ true → All InRange numbers.now }
+{
+    let mut fine = true;
+    for i in 0..numbers.len() {
+        fine = fine & is_inside(numbers[i]);
+    }
+    fine
+}
+
+// Whether a list can hold it.
+#[inline]
+fn is_inside(number: i32) -> bool
+    ensures { result ≡ true → InRange number }
+{
+    0 <= number && number < HIGH_END as i32
 }
 
 /// Writes the list of a line whose numbers are in range.

@@ -1,6 +1,6 @@
 //! Runs of equal numbers in a line.
 
-ghost use Rattle.std.specs.Prelude.{◌≡◌, ◌≢◌, ◌+◌, ◌^◌, ◌<◌, ◌≤◌, [], ◌∷◌, length, take, replicate, slice_index_or, All, IfNone, IfSome};
+ghost use Rattle.std.specs.Prelude.{◌≡◌, ◌≢◌, ◌+◌, ◌^◌, ◌<◌, ◌≤◌, [], ◌∷◌, length, take, replicate, slice_index_or, true, All, IfNone, IfSome};
 ghost use Rattle.fz_plio.specs.Producer.{InRange, runs};
 ghost use Rattle.fz_plio.specs.Writing.{magnitudes, run_of};
 
@@ -58,16 +58,42 @@ pub fn next_run(numbers: &[i32]) -> Option<(Run, &[i32])>
     ))
 }
 
+// So many numbers are looked at together.
+const STRETCH: usize = 16;
+
 /// How many numbers at the front are this one.
 pub fn front_len(numbers: &[i32], number: i32) -> usize
     ensures within { result ≤ length numbers.now }
     ensures front { take result numbers.now ≡ replicate result number }
     ensures end { result < length numbers.now → slice_index_or numbers.now result number ≢ number }
 {
-    for (index, &next) in numbers.iter().enumerate() {
-        if next != number {
-            return index;
-        }
+    let mut at = whole_len(numbers, number);
+    while at < numbers.len() && numbers[at] == number {
+        at += 1;
     }
-    numbers.len()
+    at
+}
+
+// How many are in the stretches at the front that have this number alone.
+fn whole_len(numbers: &[i32], number: i32) -> usize
+    ensures within { result ≤ length numbers.now }
+    ensures front { take result numbers.now ≡ replicate result number }
+{
+    let mut at = 0;
+    while numbers.len() - at >= STRETCH && all_are(&numbers[at..at + STRETCH], number) {
+        at += STRETCH;
+    }
+    at
+}
+
+// Whether all of them are this one. No early answer: so they are compared several at once.
+#[inline]
+fn all_are(numbers: &[i32], number: i32) -> bool
+    ensures { result ≡ true → numbers.now ≡ replicate (length numbers.now) number }
+{
+    let mut same = true;
+    for i in 0..numbers.len() {
+        same = same & (numbers[i] == number);
+    }
+    same
 }
