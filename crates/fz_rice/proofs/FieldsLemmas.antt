@@ -8,7 +8,6 @@ use Rattle.std.proofs.Math.Seq.{take-add}
 use Rattle.fz_bits.specs.Bits.{number_bits}
 use Rattle.fz_bits.specs.declared.writer.BitWriter.{BitWriter}
 use Rattle.fz_bits.specs.declared.writer.Full.{Full}
-use Rattle.fz_rice.specs.Code.{split_bits}
 use Rattle.fz_rice.specs.Writing.{Writes, IsField}
 use Rattle.fz_rice.proofs.WritesLemmas.{flat_map-append, writes_seq, writes_stop, low_bits, one_field}
 

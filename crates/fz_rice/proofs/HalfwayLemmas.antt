@@ -90,7 +90,7 @@ halfway_blocks_end w start block fuel whole rest numbers last half = record {
 }
 
 -- zeros repeat the number of the residue
-next-zero : (w last : ℕ) → last < 2 ^ w → next_residue w last 0 ≡ last
+pub next-zero : (w last : ℕ) → last < 2 ^ w → next_residue w last 0 ≡ last
 next-zero w last h = ap (λ k. k % 2 ^ w) (add-zero last) ∙ mod-eq_of_lt h
 
 pub numbers_from-zeros : (w last n : ℕ) → last < 2 ^ w → numbers_from w last (replicate n 0) ≡ replicate n (number w last)

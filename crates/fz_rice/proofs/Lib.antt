@@ -16,3 +16,4 @@ pub mod BlocksLemmas
 pub mod EncodeLemmas
 pub mod LawLemmas
 pub mod ReadingLemmas
+pub mod OnesLemmas

@@ -1,17 +1,17 @@
 -- Values at the top of a word, and four or two of them.
 use Rattle.std.proofs.Common.{◌≡◌, ℕ, suc, ◌+◌, ◌-◌, ◌*◌, ◌/◌, ◌%◌, ◌^◌, ◌<◌, ◌≤◌, min, bit_and, bit_or, Bool, true, false, ℤ, List, [], ◌∷◌, ◌++◌, length, take, drop, set, replicate, Ok, inl, inr, refl, sym, subst, ap, ◌∙◌, arith, append_assoc, length-drop}
 use Rattle.std.specs.Int.{w64, rotate_left}
-use Rattle.std.specs.Int.Bits.{and_zero_r}
 use Rattle.std.specs.Int.Count.{count_leading_zeros, leading_of_zero}
 use Rattle.std.proofs.lemmas.Bool.{cases_lt}
-use Rattle.std.proofs.lemmas.Nat.{leading_top, and_mask, and_block, or_shifted, mod-pow-add, mod_low, mod_below, shr_high, shl_below, pow_pos, pow-add, le-div, div_below}
-use Rattle.std.proofs.lemmas.List.{take-append-drop, take-append-le, take-take, drop-take, drop-drop}
+use Rattle.std.proofs.lemmas.Nat.{leading_top, and_mask, or_shifted, mod-pow-add, mod_low, mod_below, shr_high, pow_pos, pow-add, le-div, div_below}
+use Rattle.std.proofs.lemmas.List.{take-append-drop, take-take, drop-take, drop-drop}
+use Rattle.std.proofs.Math.Seq.{drop-append_seam}
 use Rattle.std.proofs.Math.Nat.{mul_assoc, mod-eq_of_lt, pow-le-pow_right}
 use Rattle.fz_bits.specs.Bits.{number_bits}
-use Rattle.fz_bits.proofs.BitsLemmas.{length-number_bits, number_bits-front, number_bits-lead, number_bits-shifted}
+use Rattle.fz_bits.proofs.BitsLemmas.{length-number_bits, number_bits-append, number_bits-mod, number_bits-front, number_bits-lead}
 use Rattle.fz_rice.specs.Numbers.{IsWidth}
 use Rattle.fz_rice.specs.Reading.{Reading, many_at, split_at, most_zeros, number, next_residue, numbers_from, last_of, IsPiece, ReadsFour, ReadsTwo}
-use Rattle.fz_rice.proofs.MachineLemmas.{width_le, mod_turns, one_turn}
+use Rattle.fz_rice.proofs.MachineLemmas.{width_le, mod_turns}
 use Rattle.fz_rice.proofs.LeafLemmas.{zeros_read, number_read, split_read}
 use Rattle.fz_rice.proofs.ValueReaders.{value_lt}
 use Rattle.fz_rice.proofs.HalfwayLemmas.{Halfway, halfway_value}
@@ -33,34 +33,20 @@ turned_is word width n whole some more fits =
     let low : word / 2 ^ n < 2 ^ width = div_below word (2 ^ n) (2 ^ width) (pow_pos n) (subst (λ (k : ℕ). word < k) size fits) in
     ap (λ k. bit_or ((word * 2 ^ k) % 2 ^ 64) (word / 2 ^ ((64 - k) % 64))) by ∙ ap (λ k. bit_or ((word * 2 ^ width) % 2 ^ 64) (word / 2 ^ k)) rest ∙ ap (λ k. bit_or ((word * 2 ^ width) % 2 ^ k) (word / 2 ^ n)) e ∙ ap (λ k. bit_or k (word / 2 ^ n)) (shifted_low word n width) ∙ or_shifted (word % 2 ^ n) width (word / 2 ^ n) low
 
--- a mask of ones in front of zeros
-high_mask : (a tail : ℕ) → a + tail ≡ 64 → (18446744073709551615 * 2 ^ tail) % 2 ^ 64 ≡ (2 ^ a - 1) * 2 ^ tail
-high_mask a tail whole =
-    let e : 64 ≡ a + tail = sym whole in
-    let size : 18446744073709551616 ≡ 2 ^ tail * 2 ^ a = ap (λ k. 2 ^ k) (let f : 64 ≡ tail + a = omega arith in f) ∙ pow-add 2 tail a in
-    let turn : 2 ^ tail * 2 ^ a ≡ (2 ^ tail - 1) * 2 ^ a + 2 ^ a = one_turn (2 ^ tail) (2 ^ a) (pow_pos tail) in
-    let some : 0 < 2 ^ a = pow_pos a in
-    let ones : 18446744073709551615 ≡ (2 ^ tail - 1) * 2 ^ a + (2 ^ a - 1) = omega (arith, size, turn, some) in
-    let last : 18446744073709551615 % 2 ^ a ≡ 2 ^ a - 1 = ap (λ k. k % 2 ^ a) ones ∙ mod_low (2 ^ tail - 1) a (2 ^ a - 1) (omega (arith, some)) in
-    ap (λ k. (18446744073709551615 * 2 ^ tail) % 2 ^ k) e ∙ shifted_low 18446744073709551615 a tail ∙ ap (λ k. k * 2 ^ tail) last
-
 regrouped : (t z tail : ℕ) → t * 2 ^ (z + tail) ≡ t * 2 ^ z * 2 ^ tail
 regrouped t z tail = ap (λ k. t * k) (pow-add 2 z tail) ∙ sym (mul_assoc t (2 ^ z) (2 ^ tail))
-
--- the bits of a turned word in front of the last ones
-high_part : (t q z tail n : ℕ) → z + tail + n ≡ 64 → t < 2 ^ n → q < 2 ^ tail → bit_and (t * 2 ^ (z + tail) + q) (18446744073709551615 * 2 ^ tail % 2 ^ 64) ≡ t * 2 ^ (z + tail)
-high_part t q z tail n whole small low =
-    let a = n + z in
-    let below : t * 2 ^ z < 2 ^ a = shl_below t n z small in
-    let mask : (18446744073709551615 * 2 ^ tail) % 2 ^ 64 ≡ (2 ^ a - 1) * 2 ^ tail + 0 = high_mask a tail (omega arith) ∙ omega arith in
-    let back : t * 2 ^ z * 2 ^ tail + 0 ≡ t * 2 ^ (z + tail) = omega (arith, regrouped t z tail) in
-    ap (λ k. bit_and (k + q) (18446744073709551615 * 2 ^ tail % 2 ^ 64)) (regrouped t z tail) ∙ ap (bit_and (t * 2 ^ z * 2 ^ tail + q)) mask ∙ and_block tail (t * 2 ^ z) (2 ^ a - 1) q 0 low (pow_pos tail) ∙ ap (λ k. k * 2 ^ tail + bit_and q 0) (and_mask (t * 2 ^ z) a ∙ mod-eq_of_lt below) ∙ ap (λ k. t * 2 ^ z * 2 ^ tail + k) (and_zero_r q) ∙ back
 
 -- the last bits of a turned word
 low_part : (t q z k : ℕ) → bit_and (t * 2 ^ (z + (k + 1)) + q) (2 ^ k - 1) ≡ q % 2 ^ k
 low_part t q z k =
     let e : z + (k + 1) ≡ z + 1 + k = omega arith in
     and_mask (t * 2 ^ (z + (k + 1)) + q) k ∙ ap (λ x. (x + q) % 2 ^ k) (ap (λ j. t * 2 ^ j) e ∙ regrouped t (z + 1) k) ∙ mod_turns k (t * 2 ^ (z + 1)) q
+
+-- the last bits of a number
+bits_behind : (m n v : ℕ) → drop m (number_bits (m + n) v) ≡ number_bits n v
+bits_behind m n v =
+    let high = number_bits m (v / 2 ^ n) in
+    ap (drop m) (number_bits-append m n v) ∙ ap (λ k. drop k (high ++ number_bits n v)) (sym (length-number_bits m (v / 2 ^ n))) ∙ drop-append_seam high (number_bits n v)
 
 some_ones : (v : ℕ) → count_leading_zeros 64 v < 64 → 0 < v
 some_ones v near =
@@ -72,7 +58,7 @@ some_ones v near =
 mod_small : (a n : ℕ) → a < n → a % n ≡ a
 mod_small a n h = mod-eq_of_lt h
 
-pub piece_is : (k tail word one turned mask : ℕ) → tail ≡ k + 1 → one ≡ 2 ^ k → word < 2 ^ 64 → turned ≡ rotate_left w64 word ((count_leading_zeros 64 word + tail) % 64) → mask ≡ one - 1 → count_leading_zeros 64 word + tail < 64 → IsPiece k word ((count_leading_zeros 64 word * one % 4294967296 + bit_and turned mask) % 4294967296) (count_leading_zeros 64 word + tail) (bit_and turned (18446744073709551615 * 2 ^ tail % 18446744073709551616))
+pub piece_is : (k tail word one turned mask : ℕ) → tail ≡ k + 1 → one ≡ 2 ^ k → word < 2 ^ 64 → turned ≡ rotate_left w64 word ((count_leading_zeros 64 word + tail) % 64) → mask ≡ one - 1 → count_leading_zeros 64 word + tail < 64 → IsPiece k word ((count_leading_zeros 64 word * one % 4294967296 + bit_and turned mask) % 4294967296) (count_leading_zeros 64 word + tail) turned
 piece_is k tail word one turned mask tail_is one_is fits turned_by mask_is near =
     let z = count_leading_zeros 64 word in
     let width = z + tail in
@@ -89,9 +75,11 @@ piece_is k tail word one turned mask tail_is one_is fits turned_by mask_is near 
     let small : t < 2 ^ n = mod_below word (2 ^ n) (pow_pos n) in
     let turned_to : turned ≡ t * 2 ^ width + q = turned_by ∙ turned_is word width n (omega arith) (omega arith) (omega arith) fits in
     let low : bit_and turned mask ≡ q % 2 ^ k = ap (λ x. bit_and x mask) turned_to ∙ ap (bit_and (t * 2 ^ width + q)) (mask_is ∙ ap (λ x. x - 1) one_is) ∙ ap (λ x. bit_and (t * 2 ^ (z + x) + q) (2 ^ k - 1)) tail_is ∙ low_part t q z k in
-    let rest : bit_and turned (18446744073709551615 * 2 ^ tail % 18446744073709551616) ≡ t * 2 ^ width = ap (λ x. bit_and x (18446744073709551615 * 2 ^ tail % 18446744073709551616)) turned_to ∙ high_part t q z tail n (omega arith) small below in
     let whole : width + n ≡ 64 = omega arith in
-    let shifted : t * 2 ^ width ≡ word * 2 ^ width % 2 ^ (width + n) = sym (ap (λ i. word * 2 ^ width % 2 ^ i) (let e : width + n ≡ n + width = omega arith in e) ∙ shifted_low word n width) in
+    let narrow : q < 2 ^ width = omega (arith, most, pow-le-pow_right (let p : 0 < 2 = omega arith in p) (let e : suc k ≤ width = omega (arith, tail_is) in e)) in
+    let flipped : n + width ≡ 64 = omega arith in
+    let front_word : take n (number_bits 64 turned) ≡ number_bits n t = ap (λ x. take n (number_bits 64 x)) turned_to ∙ ap (λ i. take n (number_bits i (t * 2 ^ width + q))) (sym flipped) ∙ sym (number_bits-front n width (t * 2 ^ width + q)) ∙ ap (number_bits n) (shr_high t width q narrow) in
+    let behind_word : drop width (number_bits 64 word) ≡ number_bits n t = ap (λ i. drop width (number_bits i word)) (sym whole) ∙ bits_behind width n word ∙ sym (number_bits-mod n word) in
     let size : width ≡ z + suc k = omega arith in
     let one_same : z * one ≡ z * 2 ^ k = ap (λ x. z * x) one_is in
     record {
@@ -100,7 +88,7 @@ piece_is k tail word one turned mask tail_is one_is fits turned_by mask_is near 
       size = ap (λ x. z + x) tail_is;
       fits = mod_below q (2 ^ k) (pow_pos k);
       front = sym (number_bits-front width n word ∙ ap (λ i. take width (number_bits i word)) whole) ∙ ap (λ i. number_bits i q) size ∙ number_bits-lead z k q least most;
-      behind = ap (number_bits 64) (rest ∙ shifted) ∙ ap (λ i. number_bits i (word * 2 ^ width % 2 ^ (width + n))) (sym whole) ∙ number_bits-shifted n width word ∙ ap (λ i. drop width (number_bits i word) ++ replicate width false) whole;
+      behind = front_word ∙ sym behind_word;
       exact = λ h. ap (λ x. (x % 4294967296 + bit_and turned mask) % 4294967296) one_same ∙ ap (λ x. (x + bit_and turned mask) % 4294967296) (mod_small (z * 2 ^ k) 4294967296 (omega (arith, h))) ∙ ap (λ x. (z * 2 ^ k + x) % 4294967296) low ∙ mod_small (z * 2 ^ k + q % 2 ^ k) 4294967296 h;
     }
 
@@ -118,7 +106,7 @@ piece_reads w k is less n word value width rest bits few within same le lawful p
     let whole : bits ≡ replicate z false ++ true ∷ (number_bits k low ++ drop width bits) = sym (take-append-drop width bits) ∙ ap (λ l. l ++ drop width bits) front ∙ append_assoc (replicate z false) (true ∷ number_bits k low) (drop width bits) in
     let read : split_at w k bits ≡ Ok (z * 2 ^ k + low, drop width bits) = split_read w k z low bits (number_bits k low ++ drop width bits) (drop width bits) (zeros_read (most_zeros w k) z bits (number_bits k low ++ drop width bits) whole most) (number_read k low (number_bits k low ++ drop width bits) (drop width bits) refl p.fits) in
     let e : width + (n - width) ≡ n = omega arith in
-    let behind : take (n - width) (number_bits 64 rest) ≡ take (n - width) (drop width bits) = ap (take (n - width)) p.behind ∙ take-append-le (n - width) (drop width all) (replicate width false) (omega (arith, length-drop width all, length-number_bits 64 word)) ∙ sym (drop-take width (n - width) all) ∙ ap (λ i. drop width (take i all)) e ∙ ap (drop width) same ∙ ap (λ i. drop width (take i bits)) (sym e) ∙ drop-take width (n - width) bits in
+    let behind : take (n - width) (number_bits 64 rest) ≡ take (n - width) (drop width bits) = sym (take-take (n - width) (64 - width) (number_bits 64 rest) (omega arith)) ∙ ap (take (n - width)) p.behind ∙ sym (drop-take width (n - width) all) ∙ ap (λ i. drop width (take i all)) e ∙ ap (drop width) same ∙ ap (λ i. drop width (take i bits)) (sym e) ∙ drop-take width (n - width) bits in
     (read ∙ ap (λ v. Ok (v, drop width bits)) (sym exact), subst (λ (v : ℕ). v < 2 ^ w) (sym exact) small, behind)
 
 -- four values that stand in one word

@@ -113,14 +113,14 @@ ReadsAll w start read numbers result rest = MatchResult result (λ _. (last : �
 abbrev pub bit_count : BitReader → ℕ
 bit_count r = place r + length (left r)
 
--- at the top of a word of 64 bits stand zeros, a one and k bits, and `rest` is the word without them
+-- at the top of a word of 64 bits stand zeros, a one and k bits, and the bits behind them are the first ones of `rest`
 pub record IsPiece (k word value width rest : ℕ) : Type 0 where
   pub zeros : ℕ
   pub low : ℕ
   pub size : width ≡ zeros + (k + 1)
   pub fits : low < 2 ^ k
   pub front : take width (number_bits 64 word) ≡ replicate zeros false ++ true ∷ number_bits k low
-  pub behind : number_bits 64 rest ≡ drop width (number_bits 64 word) ++ replicate width false
+  pub behind : take (64 - width) (number_bits 64 rest) ≡ drop width (number_bits 64 word)
   pub exact : zeros * 2 ^ k + low < 2 ^ 32 → value ≡ zeros * 2 ^ k + low
 
 -- four values that were read one after another

@@ -9,7 +9,7 @@ ghost use Rattle.fz_rice.specs.Reading.{number_at, zeros_at, split_at, many_at, 
 
 use crate::coder::CodeFault;
 use crate::numbers::{greatest, id_len, next_residue, number, raw_id};
-use crate::several::{Shape, put_four, put_two, take_four, take_two};
+use crate::several::{Shape, put_four, put_two, take_four, take_ones, take_two};
 use fz_bits::{BitReader, ZeroStop};
 
 /// Reads the numbers in blocks, the first difference from the residue `start`.
@@ -110,11 +110,54 @@ fn read_split<const W: u32>(
     ensures count { OnOk result (bit_count reader.new ≡ bit_count reader.old) }
 {
     // Four longer values seldom stand in one word.
-    if k < 11 {
+    if k == 0 {
+        read_unary::<W>(reader, start, numbers)
+    } else if k < 11 {
         read_fours::<W>(reader, start, k, numbers)
     } else {
         read_twos::<W>(reader, start, k, numbers)
     }
+}
+
+/// `read_split` of values in unary alone: many that are 0, or four values, at once, where they stand in one word.
+fn read_unary<const W: u32>(
+    reader: &mut BitReader,
+    start: u32,
+    numbers: &mut [i32],
+) -> Result<u32, CodeFault>
+    requires width { IsWidth W }
+    requires start { start < 2 ^ W }
+    ensures numbers { ReadsNumbers W start
+        (many_at (split_at W 0) (length numbers.old) (left reader.old))
+        numbers.new result (left reader.new) }
+    ensures count { OnOk result (bit_count reader.new ≡ bit_count reader.old) }
+{
+    let shape = Shape::of::<W>(0, 4);
+    let mut ahead = *reader;
+    let mut last = start;
+    let mut i = 0;
+    while i < numbers.len() {
+        let same = take_ones(&mut ahead, numbers.len() - i);
+        if same > 0 {
+            repeat::<W>(last, &mut numbers[i..i + same]);
+            i += same;
+            continue;
+        }
+        if let Some(four) = take_four::<W>(&mut ahead, 0, shape, numbers.len() - i) {
+            last = put_four::<W>(last, four, &mut numbers[i..i + 4]);
+            i += 4;
+            continue;
+        }
+        // The copy keeps the fields of `ahead` in registers: its address is handed out.
+        let mut exact = ahead;
+        let value = read_value::<W>(&mut exact, 0)?;
+        ahead = exact;
+        last = next_residue::<W>(last, value);
+        numbers[i] = number::<W>(last);
+        i += 1;
+    }
+    *reader = ahead;
+    Ok(last)
 }
 
 /// `read_split` with four values at once, where they stand in one word.

@@ -1,7 +1,7 @@
 //! Writing a block of 32 numbers, the length that the usual tools write.
 #![tactic(auto)]
 
-ghost use Rattle.std.specs.Prelude.{◌≡◌, ℕ, ◌+◌, ◌-◌, ◌*◌, ◌/◌, ◌%◌, ◌^◌, ◌<◌, ◌≤◌, List, length, sum, slice_index};
+ghost use Rattle.std.specs.Prelude.{◌≡◌, ℕ, ◌+◌, ◌-◌, ◌*◌, ◌/◌, ◌%◌, ◌^◌, ◌<◌, ◌≤◌, List, length, sum, slice_index, replicate, IsTrue};
 ghost use Rattle.std.specs.List.{flat_map};
 ghost use Rattle.fz_bits.specs.Bits.{number_bits};
 ghost use Rattle.fz_rice.specs.Numbers.{IsWidth};
@@ -11,11 +11,28 @@ ghost use Rattle.fz_rice.specs.Writing.{Writes, IsField};
 
 use crate::encode::{chosen_id, write_raw, write_value};
 use crate::fields::Field;
-use crate::numbers::{id_len, mapped, raw_id, residue};
+use crate::numbers::{id_len, mapped, number, raw_id, residue};
 use fz_bits::{BitWriter, Full};
 
 /// Writes a block of 32 numbers.
 pub fn write_full_block<const W: u32>(
+    writer: &mut BitWriter,
+    last: u32,
+    numbers: &[i32],
+) -> Result<(), Full>
+    requires width { IsWidth W }
+    requires last { last < 2 ^ W }
+    requires len { length numbers.now ≡ 32 }
+    ensures { Writes result (chosen_block W (differences W last numbers.now)) writer.old writer.new }
+{
+    if repeats::<W>(last, numbers) {
+        return writer.put(0, id_len::<W>());
+    }
+    write_values_of::<W>(writer, last, numbers)
+}
+
+/// Writes a block of 32 numbers behind the id that their differences ask for.
+fn write_values_of<const W: u32>(
     writer: &mut BitWriter,
     last: u32,
     numbers: &[i32],
@@ -35,6 +52,30 @@ pub fn write_full_block<const W: u32>(
     } else {
         write_split_values(writer, id - 1, &values)
     }
+}
+
+/// All numbers are that of the residue `last`. The last one, which is looked at first, mostly tells that they are not.
+#[inline]
+fn repeats<const W: u32>(last: u32, numbers: &[i32]) -> bool
+    requires width { IsWidth W }
+    requires last { last < 2 ^ W }
+    requires len { length numbers.now ≡ 32 }
+    ensures { IsTrue result → differences W last numbers.now ≡ replicate 32 0 }
+{
+    let same = number::<W>(last);
+    numbers[31] == same && all_are(numbers, same)
+}
+
+/// All numbers are this one. The loop has no early end, so that it is compiled to vector instructions.
+#[inline]
+fn all_are(numbers: &[i32], number: i32) -> bool
+    ensures { IsTrue result → numbers.now ≡ replicate (length numbers.now) number }
+{
+    let mut same = true;
+    for i in 0..numbers.len() {
+        same = same & (numbers[i] == number);
+    }
+    same
 }
 
 /// The mapped differences.

@@ -1,7 +1,8 @@
 //! Reading several values from one word.
 #![tactic(auto)]
 
-ghost use Rattle.std.specs.Prelude.{◌≡◌, ℕ, ◌+◌, ◌-◌, ◌*◌, ◌/◌, ◌%◌, ◌^◌, ◌<◌, ◌≤◌, min, ℤ, List, [], ◌∷◌, length, IsNone, IfSome};
+ghost use Rattle.std.specs.Prelude.{◌≡◌, ℕ, ◌+◌, ◌-◌, ◌*◌, ◌/◌, ◌%◌, ◌^◌, ◌<◌, ◌≤◌, min, ℤ, List, [], ◌∷◌, ◌++◌, true, length, take, replicate, IsNone, IfSome};
+ghost use Rattle.fz_bits.specs.Bits.{number_bits};
 ghost use Rattle.fz_bits.specs.Reader.{left};
 ghost use Rattle.fz_rice.specs.Numbers.{IsWidth};
 ghost use Rattle.fz_rice.specs.Reading.{split_at, most_zeros, last_of, numbers_from, bit_count, IsPiece, ReadsFour, ReadsTwo};
@@ -76,7 +77,7 @@ fn next_piece(word: u64, shape: Shape) -> Piece
     Piece {
         value: zeros.wrapping_mul(shape.one).wrapping_add(low),
         width,
-        rest: turned & (u64::MAX << shape.tail),
+        rest: turned,
     }
 }
 
@@ -130,6 +131,35 @@ pub fn take_four<const W: u32>(
         c: c.value,
         d: d.value,
     })
+}
+
+/// How many ones stand at the top of a word.
+#[inline]
+fn ones_of(word: u64) -> u32
+    ensures few { result ≤ 64 }
+    ensures ones { take result (number_bits 64 word) ≡ replicate result true }
+{
+    (u64::MAX - word).leading_zeros()
+}
+
+/// Reads ones: as many as are wanted, or those that stand next in one word of the code. Answers how many;
+/// none where they are few, since four values at once are then faster.
+#[inline]
+pub fn take_ones(reader: &mut BitReader, wanted: usize) -> usize
+    ensures ones { left reader.old ≡ replicate result true ++ left reader.new }
+    ensures few { result ≤ wanted }
+    ensures count { bit_count reader.new ≡ bit_count reader.old }
+{
+    if !reader.load_word() {
+        return 0;
+    }
+    let ones = ones_of(reader.word()).min(reader.ready());
+    let taken = wanted.min(ones as usize);
+    if taken < wanted.min(8) {
+        return 0;
+    }
+    reader.skip(taken as u32);
+    taken
 }
 
 /// Writes the numbers of four mapped differences, and answers the residue of the last one.
