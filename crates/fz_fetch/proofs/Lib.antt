@@ -1,6 +1,7 @@
 pub mod Covering
 pub mod Faults
 pub mod FetchedTiles
+pub mod Gathering
 pub mod LineWrites
 pub mod LoadedTiles
 pub mod PartWrites
@@ -11,4 +12,3 @@ pub mod Records
 pub mod Rounds
 pub mod Running
 pub mod Wholes
-pub mod Writes

@@ -23,7 +23,7 @@ use Rattle.fz_head.specs.declared.plan.Plan.{Plan}
 use Rattle.fz_files.specs.FirstFault.{picked_tiles_of}
 use Rattle.fz_files.specs.Packed.{pixel_bits, tiles_in}
 use Rattle.fz_fetch.specs.Scattered.{part_written, parts_written, tile_written, tiles_written}
-use Rattle.fz_fetch.proofs.Covering.{AllFit, Fits, FitsAt, all_written, covered, fit_all, fit_map, piece}
+use Rattle.fz_fetch.proofs.Covering.{AllFit, Fits, FitsAt, WriteLaws, all_written, covered, fit_all, fit_map, piece}
 use Rattle.fz_fetch.proofs.Places.{AllBelow, PlaceLaws, picks_below, picks_cover, tile_below, tiles_cover}
 
 -- ---- the bytes of pixels
@@ -89,7 +89,7 @@ pub joined_lengths : (array tile : List ℕ) (tiles : List (List ℤ)) → (join
 unfolding joined
 joined_lengths array tile tiles = refl
 
-module _ (laws : PlaceLaws) (placed : TilesAreAtTheirPlaces) (is_array : JoinedIsArray) (has : JoinedHasTheTiles) (len : HasPlainLen) (slices : SlicesBytes)
+module _ (laws : PlaceLaws) (writes : WriteLaws) (placed : TilesAreAtTheirPlaces) (is_array : JoinedIsArray) (has : JoinedHasTheTiles) (len : HasPlainLen) (slices : SlicesBytes)
     (p : Plan) (pixels : List (List ℤ)) (lengths : AreTileLengths (lengths_of p.shape) (lengths_of p.tile)) (size : IsBitpix p.bitpix) (tiles : AreTiles (lengths_of p.shape) (lengths_of p.tile) pixels) where
   abbrev array : List ℕ
   array = lengths_of p.shape
@@ -137,7 +137,7 @@ module _ (laws : PlaceLaws) (placed : TilesAreAtTheirPlaces) (is_array : JoinedI
       let fit : AllFit (pixel_bits p / 8) whole (tile_places array tile_is) (λ t xs. plain_bytes (pixel_bits p) xs) ts pixels =
       fit_all (pixel_bits p / 8) whole (tile_places array tile_is) (λ t xs. plain_bytes (pixel_bits p) xs) ts pixels same each in
       tiles_are p at ts pixels c
-      ∙ covered at (pixel_bits p / 8) (product array) whole (tile_places array tile_is) (λ t xs. plain_bytes (pixel_bits p) xs) ts pixels c (some_bytes p.bitpix size) of_whole fit
+      ∙ covered writes at (pixel_bits p / 8) (product array) whole (tile_places array tile_is) (λ t xs. plain_bytes (pixel_bits p) xs) ts pixels c (some_bytes p.bitpix size) of_whole fit
       (tiles_cover one array tile_is lengths)
 
 -- ---- the picks of all tiles that hold one
@@ -149,7 +149,7 @@ parts_are p sieve at [] pixels c = refl
 parts_are p sieve at (t ∷ later) [] c = refl
 parts_are p sieve at (t ∷ later) (xs ∷ pixels) c = parts_are p sieve at later pixels (part_written p sieve at t xs c)
 
-module _ (laws : PlaceLaws) (count : CutoutsAreWhole) (gives : TilesGiveTheirPicks) (len : HasPlainLen) (slices : SlicesBytes)
+module _ (laws : PlaceLaws) (writes : WriteLaws) (count : CutoutsAreWhole) (gives : TilesGiveTheirPicks) (len : HasPlainLen) (slices : SlicesBytes)
     (p : Plan) (sieve : Sieve) (a : NumberArray) (lengths : AreTileLengths (lengths_of p.shape) (lengths_of p.tile)) (size : IsBitpix p.bitpix) (sifts : Sifts (lengths_of p.shape) sieve)
     (same : a.lengths ≡ lengths_of p.shape) where
   abbrev array_is : List ℕ
@@ -194,5 +194,5 @@ module _ (laws : PlaceLaws) (count : CutoutsAreWhole) (gives : TilesGiveTheirPic
       let fit : AllFit (pixel_bits p / 8) cut_bytes (picks_in_cutout array_is tile_of sieve) bytes_of picked (map (tile a tile_of) picked) =
       fit_map (pixel_bits p / 8) cut_bytes (picks_in_cutout array_is tile_of sieve) bytes_of (tile a tile_of) picked fits_cut in
       parts_are p sieve at picked (map (tile a tile_of) picked) c
-      ∙ covered at (pixel_bits p / 8) (product (sieve_lengths sieve)) cut_bytes (picks_in_cutout array_is tile_of sieve) bytes_of picked (map (tile a tile_of) picked) c (some_bytes p.bitpix size) of_cut fit
+      ∙ covered writes at (pixel_bits p / 8) (product (sieve_lengths sieve)) cut_bytes (picks_in_cutout array_is tile_of sieve) bytes_of picked (map (tile a tile_of) picked) c (some_bytes p.bitpix size) of_cut fit
       (picks_cover laws once array_is tile_of sieve lengths sifts)

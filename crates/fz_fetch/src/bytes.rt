@@ -7,6 +7,7 @@ ghost use Rattle.fz_parts.specs.Walk.{lines_left};
 ghost use Rattle.fz_tile.specs.Pixels.{HoldPixels, IsBitpix, place_count as place_count_of};
 ghost use Rattle.fz_tile.specs.Plain.{plain_bytes};
 
+use crate::gather::gather;
 use fz_parts::{Line, Lines};
 use fz_tile::{plain_law, plain_len, slice_law, write_plain};
 
@@ -115,10 +116,20 @@ fn put_line(bitpix: i32, numbers: &[i32], line: &Line, code: &mut [u8], at: u64)
         );
         return;
     }
-    put_apart(bitpix, numbers, line, code, at);
+    if bitpix == 64 {
+        put_apart(bitpix, numbers, line, code, at);
+        return;
+    }
+    let size = plain_len(bitpix, u64::from(line.count));
+    gather(
+        bitpix,
+        numbers,
+        line,
+        &mut code[at as usize..(at + size) as usize],
+    );
 }
 
-// The same where the picks do not stand together in the tile: one at a time.
+// The same where the picks do not stand together in the tile, and a pixel has two places: one at a time.
 fn put_apart(bitpix: i32, numbers: &[i32], line: &Line, code: &mut [u8], at: u64)
     requires size { IsBitpix bitpix }
     requires pixels { (xs : List ℤ) × HoldPixels (unsigned_abs bitpix) numbers.now xs × (len xs ≤ 2 ^ 26) × ((cutout : ℕ) × IsLineWithin (len xs) cutout line.now) }

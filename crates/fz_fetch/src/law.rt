@@ -1,6 +1,7 @@
 //! What the definitions of scattered tiles promise: no code runs.
 ghost use Rattle.fz_fetch.specs.Laws.{JoinsRounds, JoinsRoundsOfParts, PartsMakeTheBytes, TilesMakeTheBytes};
 
+use fz_base::places_law;
 use fz_grid::{one_tile_law, place_law, shape_law, tiles_law};
 use fz_parts::cutout_law;
 use fz_tile::{plain_law, slice_law};
@@ -13,6 +14,7 @@ pub fn scattered_law()
     ensures image { TilesMakeTheBytes }
     ensures cutout { PartsMakeTheBytes }
 {
+    places_law();
     place_law();
     one_tile_law();
     tiles_law();

@@ -1,11 +1,12 @@
 //! From the rows of a packed image to its pixels: tiles are read and decoded in the window, round by round, and their
 //! pixels go to their places in what is written.
 //!
-//! Reading order: `tiles`, `rows`, `loading`, `fetching`; `runs`, `bytes`, `scattering`, `picking`, `law`.
+//! Reading order: `tiles`, `rows`, `loading`, `fetching`; `runs`, `gather`, `bytes`, `scattering`, `picking`, `law`.
 #![tactic(auto)]
 
 mod bytes;
 mod fetching;
+mod gather;
 mod law;
 mod loading;
 mod picking;

@@ -1,5 +1,5 @@
 //! Pixels that are written to their places in an image.
-ghost use Rattle.std.specs.Prelude.{ℕ, ◌≡◌, ◌+◌, ◌*◌, ◌<◌, ◌^◌, IsTrue, length as len, OnOk};
+ghost use Rattle.std.specs.Prelude.{ℕ, ◌≡◌, ◌+◌, ◌*◌, ◌<◌, ◌≤◌, ◌^◌, IsTrue, length as len, OnOk};
 ghost use Rattle.std.specs.List.{AllByRecursion};
 ghost use Rattle.fz_base.specs.FirstByte.{StaysShut};
 ghost use Rattle.fz_base.specs.Stop.{Writes};
@@ -50,7 +50,7 @@ pub(crate) fn write_region<K: Sink>(
 }
 
 /// Writes the bytes of the picks of these lines to their places in what is cut out of an image, whose data begin at this
-/// byte of the sink behind byte 0: each line at once.
+/// byte of the sink behind byte 0: lines that stand together there at once.
 pub(crate) fn write_lines<K: Sink>(
     sink: &mut K,
     data_at: u64,
@@ -60,6 +60,7 @@ pub(crate) fn write_lines<K: Sink>(
 ) -> Result<(), Stop>
     requires created { IsTrue (K.created sink.old) }
     requires behind { 0 < data_at }
+    requires some { 1 ≤ pixel_len }
     requires within { (tile : ℕ) × ((cutout : ℕ) × AllByRecursion (IsLineWithin tile cutout) (lines_left lines) × (data_at + pixel_len * cutout < 2 ^ 64)) }
     requires bytes { len bytes.now ≡ pixel_len * len (lines_in_cutout (lines_left lines)) }
     ensures written { OnOk result (K.contents sink.new ≡ pieces_written pixel_len data_at (lines_in_cutout (lines_left lines)) bytes.now (K.contents sink.old)) }
@@ -69,12 +70,24 @@ pub(crate) fn write_lines<K: Sink>(
     ensures cause { Writes (K.tally sink.old) (K.tally sink.new) result }
 {
     output_law();
+    let len = u64::from(pixel_len);
+    // The first pick of a run of neighbours, how many there are, and where their bytes begin.
+    let mut first = 0u64;
+    let mut count = 0u64;
     let mut done = 0u64;
     for line in lines {
-        let len = u64::from(pixel_len) * u64::from(line.count);
-        let run = &bytes[done as usize..(done + len) as usize];
-        write_behind(sink, data_at + u64::from(pixel_len) * line.in_cutout, run)?;
-        done += len;
+        let more = u64::from(line.count);
+        if line.in_cutout == first + count {
+            count += more;
+            continue;
+        }
+        let end = done + len * count;
+        let run = &bytes[done as usize..end as usize];
+        write_behind(sink, data_at + len * first, run)?;
+        first = line.in_cutout;
+        count = more;
+        done = end;
     }
+    write_behind(sink, data_at + len * first, &bytes[done as usize..])?;
     Ok(())
 }

@@ -475,6 +475,27 @@ fn picks_with_a_step_are_written(rt: HostRuntime) -> Result<(), Fail> {
     Ok(())
 }
 
+#[test]
+fn picks_of_two_bytes_are_gathered(rt: HostRuntime) -> Result<(), Fail> {
+    let alloc = rt.alloc();
+    let image = rice_image();
+    let mut source = source_of(alloc, &RICE, &[])?;
+    let mut window = filled(alloc, 1)?;
+    let second = Sieve {
+        n: 2,
+        lo: [1, 0, 0, 0, 0, 0, 0, 0, 0],
+        hi: [3, 1, 0, 0, 0, 0, 0, 0, 0],
+        step: [2, 1, 1, 1, 1, 1, 1, 1, 1],
+    };
+    let tiles = [0, 1];
+    fetch(&rt, &mut source, &image, &tiles, &mut window)?;
+    let mut sink = made(alloc)?;
+    cut(&mut sink, &image, &second, &tiles, &mut window)?;
+    let wanted = [0, 0, 0, 0, 1, 0, 1, 0, 1, 0, 1];
+    assert_eq!(rt; sink.contents(), wanted.as_slice());
+    Ok(())
+}
+
 /// What a fetch of the tiles answers, where some bytes of the table are others.
 fn fetch_of<R: Threads + Sync>(
     rt: &R,

@@ -1,11 +1,13 @@
--- What is left to be written makes the contents that are wanted; the lines that are left lie within the cutout and take the rest of the bytes.
-use Rattle.std.proofs.Common.{◌≡◌, ℕ, ◌+◌, ◌*◌, drop, length}
+-- What is left to be written makes the contents that are wanted: the run that was found last, and the lines behind it, which lie within the
+-- cutout and take the rest of the bytes.
+use Rattle.std.proofs.Common.{◌≡◌, ℕ, ◌+◌, ◌*◌, ◌≤◌, drop, length}
 use Rattle.std.specs.List.{AllByRecursion}
 use Rattle.fz_base.specs.FirstByte.{StaysShut}
 use Rattle.fz_base.specs.Told.{StaysTold}
 use Rattle.fz_parts.specs.Line.{IsLineWithin, lines_in_cutout}
 use Rattle.fz_parts.specs.Walk.{lines_left}
 use Rattle.fz_fetch.specs.Pieces.{pieces_written}
+use Rattle.fz_fetch.proofs.LineWrites.{run_and}
 use Rattle.fz_fetch.proofs.runs.write_lines.Given as goal
 
 abbrev pub invariant-loop-line : goal.invariant-loop-line
@@ -15,7 +17,8 @@ invariant-loop-line g l = record {
   shut : StaysShut (g.K.Sink.contents l.fn.sink) (g.K.Sink.contents l.sink);
   told : StaysTold (g.K.Sink.contents l.fn.sink) (g.K.Sink.contents l.sink);
   within : (tile cutout : ℕ) → AllByRecursion (IsLineWithin tile cutout) (lines_left l.fn.lines) → AllByRecursion (IsLineWithin tile cutout) (lines_left l.line-iterator);
-  left : l.done + l.pixel_len * length (lines_in_cutout (lines_left l.line-iterator)) ≡ length l.bytes;
-  rest : pieces_written l.pixel_len l.data_at (lines_in_cutout (lines_left l.line-iterator)) (drop l.done l.bytes) (g.K.Sink.contents l.sink)
+  near : (tile cutout : ℕ) → AllByRecursion (IsLineWithin tile cutout) (lines_left l.fn.lines) → l.first + l.count ≤ cutout;
+  left : l.done + l.pixel_len * (l.count + length (lines_in_cutout (lines_left l.line-iterator))) ≡ length l.bytes;
+  rest : pieces_written l.pixel_len l.data_at (run_and l.first l.count (lines_left l.line-iterator)) (drop l.done l.bytes) (g.K.Sink.contents l.sink)
       ≡ pieces_written l.pixel_len l.data_at (lines_in_cutout (lines_left l.fn.lines)) l.bytes (g.K.Sink.contents l.fn.sink);
 }
