@@ -1,0 +1,116 @@
+-- What the job takes of its meter, one taking after another.
+use Rattle.std.proofs.Common.{◌≡◌, ℕ, ◌+◌, ◌≤◌, true, false, nat_lt, Bool, List, [], ◌∷◌, ◌++◌, sum, refl, sym, ap, ◌∙◌, subst, arith}
+use Rattle.std.specs.Prelude.{Option, Some, None, Result, Ok, Err, if◌then◌else◌}
+use Rattle.std.proofs.lemmas.Bool.Decides.{nat_tests}
+use Rattle.fz_base.specs.Counts.{Tally}
+use Rattle.fz_base.specs.JobBuffers.{buffer_bound}
+use Rattle.fz_base.specs.Stop.{IsDefined, StoppedTaking, stop_of_short}
+use Rattle.fz_base.specs.Takings.{TellsFirstPast, TellsShort, first_past, highest, piled}
+use Rattle.fz_base.specs.declared.failure.Short.{Short}
+use Rattle.fz_base.specs.declared.failure.Short.TheVariants.{NoMemory as NoRoom, OverLimit as PastLimit}
+use Rattle.fz_base.specs.declared.failure.Stop.{Stop}
+use Rattle.fz_base.specs.declared.failure.Stop.TheVariants.{Refused, ReadFault, WriteFault, OverLimit, NoMemory}
+use Rattle.fz_base.specs.declared.fault.Fault.{Fault}
+use Rattle.fz_block.specs.Checks.{Judge}
+use Rattle.fz_block.specs.Takings.{walk_takings}
+use Rattle.fz_grid.specs.declared.sieve.Sieve.{Sieve}
+use Rattle.fz_files.specs.Buffers.{AreBounded, header_takings, job_bound, job_takings, job_buffers, work_takings}
+use Rattle.fz_files.specs.Walks.{box_of, header_fault}
+use Rattle.fz_files.specs.declared.job.Job.TheVariants.{Cut}
+use Rattle.fz_survey.proofs.Outcomes.{highest_both, past_none, past_some}
+use Rattle.fz_survey.specs.Surveys.{survey_takings, cut_surveyed}
+use Rattle.fz_survey.specs.Workspace.{StaysInBound, wanted_buffers}
+use Rattle.fz_survey.specs.declared.checks.JobChecks.TheVariants.{Cut as CutChecks}
+use Rattle.fz_survey.specs.declared.survey.Survey.{Survey}
+use Rattle.fz_cut.specs.Stages.{IsKnown, SurveysRefuse, later_takings, wants_for}
+use Rattle.fz_cut.proofs.Known.{same_judge}
+use Rattle.fz_head.specs.Judges.{cut_judge}
+
+-- ---- lists of takings
+
+on_bool : (b : Bool) (taking : ℕ × ℕ) (later : Option (ℕ × ℕ)) → (if b then Some taking else later) ≡ None → (b ≡ false) × (later ≡ None)
+on_bool true taking later e = absurd cc
+on_bool false taking later e = (refl, e)
+
+pub highest_within : (b : ℕ) (ts : List (ℕ × ℕ)) → first_past b ts ≡ None → highest ts ≤ b
+highest_within b [] none = omega arith
+highest_within b ((live, asked) ∷ ts) none =
+    let parts : (nat_lt b (live + asked) ≡ false) × (first_past b ts ≡ None) = on_bool (nat_lt b (live + asked)) (live, asked) (first_past b ts) none in
+    let rest : highest ts ≤ b = highest_within b ts parts.1 in
+    let here : live + asked ≤ b = grind (arith, nat_tests, parts.0) in
+    omega (arith, rest, here)
+
+pub past_wider : (b limit : ℕ) (ts : List (ℕ × ℕ)) → b ≤ limit → first_past b ts ≡ None → first_past limit ts ≡ None
+past_wider b limit [] wider none = refl
+past_wider b limit ((live, asked) ∷ ts) wider none =
+    let parts : (nat_lt b (live + asked) ≡ false) × (first_past b ts ≡ None) = on_bool (nat_lt b (live + asked)) (live, asked) (first_past b ts) none in
+    let test : nat_lt limit (live + asked) ≡ false = grind (arith, nat_tests, parts.0, wider) in
+    ap (λ c. if c then Some (live, asked) else first_past limit ts) test ∙ past_wider b limit ts wider parts.1
+
+-- those before pass no limit
+pub tells_after : {X : Type 0} (limit : ℕ) (xs ys : List (ℕ × ℕ)) (r : Result X Stop) → first_past limit xs ≡ None → TellsFirstPast limit ys r → TellsFirstPast limit (xs ++ ys) r
+tells_after limit xs ys (Ok x) none tells = past_none limit xs ys none ∙ tells
+tells_after limit xs ys (Err (Refused x)) none tells = past_none limit xs ys none ∙ tells
+tells_after limit xs ys (Err ReadFault) none tells = tt
+tells_after limit xs ys (Err WriteFault) none tells = past_none limit xs ys none ∙ tells
+tells_after limit xs ys (Err (OverLimit live asked told)) none tells = past_none limit xs ys none ∙ tells
+tells_after limit xs ys (Err NoMemory) none tells = tt
+
+-- buffers that were not given
+pub tells_short : (X Y : Type 0) (limit : ℕ) (ts : List (ℕ × ℕ)) (short : Short) → TellsShort {X = Y} limit ts (Err short) → TellsFirstPast {X = X} limit ts (Err (stop_of_short short))
+tells_short X Y limit ts NoRoom tells = tt
+tells_short X Y limit ts (PastLimit live asked told) tells = tells
+
+-- ---- those of the first look
+
+same_takings : (want : Option ℕ) (sieve : Sieve) (file : List ℕ) (live : ℕ) → live ≡ 2880 → survey_takings (CutChecks want (box_of sieve)) live file ≡ header_takings (Cut want sieve) file
+same_takings want sieve file live is =
+    ap (λ (j : Judge). walk_takings j live 65536 0 0 file) (same_judge want (box_of sieve) file) ∙ ap (λ n. walk_takings (cut_judge want (box_of sieve) file) n 65536 0 0 file) is
+
+module _ (want : Option ℕ) (sieve : Sieve) (file : List ℕ) (W live : ℕ) (one : live ≡ 2880) where
+  -- they are within the bound
+  pub look_within : AreBounded → highest (survey_takings (CutChecks want (box_of sieve)) live file) ≤ job_bound (Cut want sieve) file W
+  look_within bounded =
+      let all : highest (job_takings (Cut want sieve) file W) ≤ job_bound (Cut want sieve) file W = highest_within (job_bound (Cut want sieve) file W) (job_takings (Cut want sieve) file W) (bounded (Cut want sieve) file W tt) in
+      let parts = highest_both (header_takings (Cut want sieve) file) (work_takings (header_fault (Cut want sieve) file) (Cut want sieve) file W) in
+      let same : highest (survey_takings (CutChecks want (box_of sieve)) live file) ≡ highest (header_takings (Cut want sieve) file) = ap highest (same_takings want sieve file live one) in
+      omega (arith, all, parts, same)
+
+  -- no more is taken where a header is refused
+  none_later : (x : Fault) → header_fault (Cut want sieve) file ≡ Some x → work_takings (header_fault (Cut want sieve) file) (Cut want sieve) file W ≡ []
+  none_later x is = ap (λ (f : Option Fault). work_takings f (Cut want sieve) file W) is
+
+  look_refuses : (limit : ℕ) (x : Fault) → header_fault (Cut want sieve) file ≡ Some x → first_past limit (survey_takings (CutChecks want (box_of sieve)) live file) ≡ None → first_past limit (later_takings want sieve file W) ≡ None
+  look_refuses limit x is none =
+      let first : first_past limit (header_takings (Cut want sieve) file) ≡ None = ap (first_past limit) (sym (same_takings want sieve file live one)) ∙ none in
+      past_none limit (header_takings (Cut want sieve) file) (work_takings (header_fault (Cut want sieve) file) (Cut want sieve) file W) first
+      ∙ ap (first_past limit) (none_later x is)
+
+  pub look_tells : SurveysRefuse → (X : Type 0) (limit : ℕ) (stop : Stop) (before now : Tally) → StoppedTaking before now limit stop → IsDefined {X = Survey} (cut_surveyed want (box_of sieve) file) (Err stop) →
+      TellsFirstPast {X = Survey} limit (survey_takings (CutChecks want (box_of sieve)) live file) (Err stop) → TellsFirstPast {X = X} limit (later_takings want sieve file W) (Err stop)
+  look_tells refuse X limit (Refused x) before now cause exact tells = look_refuses limit x (refuse want sieve file x exact) tells
+  look_tells refuse X limit ReadFault before now cause exact tells = tt
+  look_tells refuse X limit WriteFault before now cause exact tells = absurd cause
+  look_tells refuse X limit (OverLimit l asked told) before now cause exact tells =
+      past_some limit (l, asked) (header_takings (Cut want sieve) file) (work_takings (header_fault (Cut want sieve) file) (Cut want sieve) file W) (ap (first_past limit) (sym (same_takings want sieve file live one)) ∙ tells)
+  look_tells refuse X limit NoMemory before now cause exact tells = tt
+
+  -- ---- those of the work
+
+  work_is : (s : Survey) → IsKnown want sieve file s → work_takings (header_fault (Cut want sieve) file) (Cut want sieve) file W ≡ piled live (wanted_buffers (wants_for s) W)
+  work_is s known =
+      ap (λ (f : Option Fault). work_takings f (Cut want sieve) file W) known.no_fault
+      ∙ (λ i. piled (sym one i) (job_buffers (Cut want sieve) (known.longest i) (known.largest i) W))
+
+  pub work_tells : {X : Type 0} (limit : ℕ) (s : Survey) (r : Result X Stop) → IsKnown want sieve file s → first_past limit (survey_takings (CutChecks want (box_of sieve)) live file) ≡ None →
+      TellsFirstPast limit (piled live (wanted_buffers (wants_for s) W)) r → TellsFirstPast limit (later_takings want sieve file W) r
+  work_tells limit s r known none tells =
+      let first : first_past limit (header_takings (Cut want sieve) file) ≡ None = ap (first_past limit) (sym (same_takings want sieve file live one)) ∙ none in
+      tells_after limit (header_takings (Cut want sieve) file) (work_takings (header_fault (Cut want sieve) file) (Cut want sieve) file W) r first
+      (subst (λ (ts : List (ℕ × ℕ)). TellsFirstPast limit ts r) (sym (work_is s known)) tells)
+
+  pub work_within : StaysInBound → (s : Survey) → IsKnown want sieve file s → live + sum (wanted_buffers (wants_for s) W) ≤ job_bound (Cut want sieve) file W
+  work_within bound s known =
+      let all = bound (wants_for s) W in
+      let same : job_bound (Cut want sieve) file W ≡ buffer_bound s.header_len s.tile W = λ i. buffer_bound (known.longest i) (known.largest i) W in
+      omega (arith, all, same, one)

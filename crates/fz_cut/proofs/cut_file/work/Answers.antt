@@ -1,0 +1,139 @@
+-- What is held is what was taken; and the work stops by its buffers, or by what is written behind that.
+use Rattle.std.proofs.Common.{◌≡◌, ℕ, ◌+◌, ◌≤◌, List, [], Option, IfSome, Result, Err, sum, refl, sym, ap, ◌∙◌, subst, arith, rules}
+use Rattle.fz_base.specs.Stop.{stop_of_short}
+use Rattle.fz_base.specs.Takings.{TellsFirstPast, piled}
+use Rattle.fz_base.specs.declared.failure.Stop.{Stop}
+use Rattle.fz_pool.specs.Window.{HasSlotsFor, Pool}
+use Rattle.fz_survey.specs.Workspace.{held_bytes, wanted_buffers}
+use Rattle.fz_survey.specs.declared.workspace.Wants.{Wants}
+use Rattle.fz_survey.specs.declared.workspace.Workspace.{Workspace}
+use Rattle.fz_cut.specs.Stages.{Works, wants_for}
+use Rattle.fz_base.specs.Ranges.{LogsIn}
+use Rattle.fz_files.specs.Walks.{box_of}
+use Rattle.fz_cut.specs.Again.{WasSeen}
+use Rattle.fz_cut.specs.Written.{FinishesSeen, IsShutOrPart, work_ranges}
+use Rattle.fz_cut.proofs.Logs.{unread}
+use Rattle.fz_cut.proofs.Held.{filled_sizes, limit_back, live_back, peak_back, still_held, sum_one}
+use Rattle.fz_cut.proofs.Outcomes.{if_over, short_shut, short_unwritten}
+use Rattle.fz_cut.proofs.Takings.{tells_short}
+use Rattle.fz_cut.proofs.Working.{rewrite_over, rewrite_takes, rewrite_works, short_works}
+use Rattle.fz_cut.proofs.cut_file.work.Goals as goal
+
+pub returns-in_err-space-clause-written : goal.returns-in_err-space-clause-written
+returns-in_err-space-clause-written g c =
+    let held : Option (List ℕ) = g.S.Source.held c.args.source.now in
+    let stopped : c.from_residual.result ≡ Err (stop_of_short c.in_err-space.field-0.0) = search rules in
+    subst (λ (r : Result (Unit {0}) Stop). IfSome held (λ file. FinishesSeen file c.args.sieve.now c.args.survey.now.header_len c.args.survey.now.tile c.args.from.now (g.K.Sink.contents c.args.sink.now) r)) (sym stopped)
+    (short_unwritten (Unit {0}) c.args.sieve.now held c.args.survey.now.header_len c.args.survey.now.tile c.args.from.now (g.K.Sink.contents c.args.sink.now) c.in_err-space.field-0.0)
+
+pub returns-in_err-space-clause-shut : goal.returns-in_err-space-clause-shut
+returns-in_err-space-clause-shut g c =
+    short_shut c.args.sieve.now (g.S.Source.held c.args.source.now) c.args.survey.now.header_len c.args.survey.now.tile c.args.from.now (g.K.Sink.contents c.args.sink.now) c.from_residual.result c.requires.empty
+
+pub returns-in_err-space-clause-touched : goal.returns-in_err-space-clause-touched
+returns-in_err-space-clause-touched g c =
+    unread (g.S.Source.held c.args.source.now) (λ file. WasSeen file (box_of c.args.sieve.now) c.args.survey.now.header_len c.args.survey.now.tile c.args.from.now)
+    (λ file. work_ranges file c.args.sieve.now c.args.from.now) (g.S.Source.ranges c.args.source.now)
+
+pub returns-in_err-space-clause-unmade : goal.returns-in_err-space-clause-unmade
+returns-in_err-space-clause-unmade g c = if_over c.from_residual.result _ (refl, refl)
+
+pub returns-in_err-space-clause-first_past : goal.returns-in_err-space-clause-first_past
+returns-in_err-space-clause-first_past g c =
+    let meter = c.args.meter.now in
+    let ts : List (ℕ × ℕ) = piled meter.live (wanted_buffers (wants_for c.args.survey.now) c.args.window.now.workers) in
+    let stopped : c.from_residual.result ≡ Err (stop_of_short c.in_err-space.field-0.0) = search rules in
+    subst (λ (r : Result (Unit {0}) Stop). TellsFirstPast meter.limit ts r) (sym stopped) (tells_short (Unit {0}) Workspace meter.limit ts c.in_err-space.field-0.0 c.in_err-space.ensures.takings.first_past)
+
+pub returns-in_err-space-clause-cause : goal.returns-in_err-space-clause-cause
+returns-in_err-space-clause-cause g c =
+    let source = g.S.Source.tally c.args.source.now in
+    let sink = g.K.Sink.tally c.args.sink.now in
+    let stopped : c.from_residual.result ≡ Err (stop_of_short c.in_err-space.field-0.0) = search rules in
+    subst (λ (r : Result (Unit {0}) Stop). Works source source sink sink c.args.meter.now.limit r) (sym stopped) (short_works (Unit {0}) source sink c.args.meter.now.limit c.in_err-space.field-0.0 c.in_err-space.ensures.takings.told)
+
+pub returns-in_err-space-clause-emptied : goal.returns-in_err-space-clause-emptied
+returns-in_err-space-clause-emptied g c =
+    c.in_err-space.ensures.unfilled ∙ (λ i. record { slots = c.requires.window i; workers = c.args.window.now.workers })
+
+pub write_file-answer-requires-clause-window : goal.write_file-answer-requires-clause-window
+write_file-answer-requires-clause-window g c κs within =
+    let tile : ℕ = c.args.survey.now.tile in
+    let same : tile ≤ tile = omega arith in
+    let room : HasSlotsFor tile c.take.new.window = (tile, filled_sizes c.sizes_law.ensures.fresh c.args.window.now.workers tile c.take.new.window c.in_ok-space.ensures.filled, same) in
+    room
+
+pub write_file-answer-requires-clause-translated : goal.write_file-answer-requires-clause-translated
+write_file-answer-requires-clause-translated g c =
+    let one = sum_one (c.args.survey.now.header_len + 2880) in
+    let made = c.in_ok-space.ensures.lengths.translated in
+    let read = c.in_ok-space.ensures.lengths.header in
+    omega (arith, one, made, read)
+
+pub give_back-requires : goal.give_back-requires
+give_back-requires g c =
+    let wants : Wants = wants_for c.args.survey.now in
+    let held = still_held c.workspace_law.ensures.held wants c.in_ok-space.space c.write_file-answer.new.space c.args.window.now.workers c.take.new.window c.write_file-answer.new.window
+    c.in_ok-space.ensures.lengths c.write_file-answer.ensures.space c.in_ok-space.ensures.filled c.write_file-answer.ensures.window in
+    let live = ap (λ m. m.live) c.in_ok-space.ensures.takings.all.1 in
+    omega (arith, held, live)
+
+pub returns-clause-written : goal.returns-clause-written
+returns-clause-written g c =
+    let s = c.args.survey.now in
+    let held : Option (List ℕ) = g.S.Source.held c.args.source.now in
+    subst (λ n. IfSome held (λ file. FinishesSeen file c.args.sieve.now n s.tile c.args.from.now (g.K.Sink.contents c.write_file-answer.new.sink) c.write_file-answer.result)) c.in_ok-space.ensures.lengths.header c.write_file-answer.ensures.written
+
+pub returns-clause-shut : goal.returns-clause-shut
+returns-clause-shut g c =
+    let s = c.args.survey.now in
+    let held : Option (List ℕ) = g.S.Source.held c.args.source.now in
+    subst (λ n. IsShutOrPart held c.args.sieve.now n s.tile c.args.from.now (g.K.Sink.contents c.write_file-answer.new.sink) c.write_file-answer.result) c.in_ok-space.ensures.lengths.header c.write_file-answer.ensures.shut
+
+pub returns-clause-touched : goal.returns-clause-touched
+returns-clause-touched g c =
+    let s = c.args.survey.now in
+    let held : Option (List ℕ) = g.S.Source.held c.args.source.now in
+    subst (λ n. IfSome held (λ file. WasSeen file (box_of c.args.sieve.now) n s.tile c.args.from.now → LogsIn (work_ranges file c.args.sieve.now c.args.from.now) (g.S.Source.ranges c.args.source.now) (g.S.Source.ranges c.write_file-answer.new.source)))
+    c.in_ok-space.ensures.lengths.header c.write_file-answer.ensures.touched
+
+pub returns-clause-unmade : goal.returns-clause-unmade
+returns-clause-unmade g c =
+    rewrite_over _ _ _ _ c.write_file-answer.result _ c.write_file-answer.ensures.cause.stop
+
+pub returns-clause-first_past : goal.returns-clause-first_past
+returns-clause-first_past g c =
+    rewrite_takes _ _ _ _ c.args.meter.now.limit (piled c.args.meter.now.live (wanted_buffers (wants_for c.args.survey.now) c.args.window.now.workers)) c.write_file-answer.result
+    c.write_file-answer.ensures.cause.stop c.in_ok-space.ensures.takings.first_past
+
+pub returns-clause-peak : goal.returns-clause-peak
+returns-clause-peak g c =
+    let wants : Wants = wants_for c.args.survey.now in
+    let held = still_held c.workspace_law.ensures.held wants c.in_ok-space.space c.write_file-answer.new.space c.args.window.now.workers c.take.new.window c.write_file-answer.new.window
+    c.in_ok-space.ensures.lengths c.write_file-answer.ensures.space c.in_ok-space.ensures.filled c.write_file-answer.ensures.window in
+    peak_back c.args.meter.now c.take.new.meter c.give_back.new.meter (sum (wanted_buffers wants c.args.window.now.workers)) (held_bytes c.write_file-answer.new.space c.write_file-answer.new.window)
+    c.in_ok-space.ensures.takings.all.1 held c.give_back.ensures.given
+
+pub returns-clause-live : goal.returns-clause-live
+returns-clause-live g c =
+    let wants : Wants = wants_for c.args.survey.now in
+    let held = still_held c.workspace_law.ensures.held wants c.in_ok-space.space c.write_file-answer.new.space c.args.window.now.workers c.take.new.window c.write_file-answer.new.window
+    c.in_ok-space.ensures.lengths c.write_file-answer.ensures.space c.in_ok-space.ensures.filled c.write_file-answer.ensures.window in
+    live_back c.args.meter.now c.take.new.meter c.give_back.new.meter (sum (wanted_buffers wants c.args.window.now.workers)) (held_bytes c.write_file-answer.new.space c.write_file-answer.new.window)
+    c.in_ok-space.ensures.takings.all.1 held c.give_back.ensures.given
+
+pub returns-clause-limit : goal.returns-clause-limit
+returns-clause-limit g c =
+    let wants : Wants = wants_for c.args.survey.now in
+    let held = still_held c.workspace_law.ensures.held wants c.in_ok-space.space c.write_file-answer.new.space c.args.window.now.workers c.take.new.window c.write_file-answer.new.window
+    c.in_ok-space.ensures.lengths c.write_file-answer.ensures.space c.in_ok-space.ensures.filled c.write_file-answer.ensures.window in
+    limit_back c.args.meter.now c.take.new.meter c.give_back.new.meter (sum (wanted_buffers wants c.args.window.now.workers)) (held_bytes c.write_file-answer.new.space c.write_file-answer.new.window)
+    c.in_ok-space.ensures.takings.all.1 held c.give_back.ensures.given
+
+pub returns-clause-emptied : goal.returns-clause-emptied
+returns-clause-emptied g c =
+    let filled : c.take.new.window.workers ≡ c.args.window.now.workers = ap (λ (p : Pool). p.workers) c.in_ok-space.ensures.filled in
+    c.give_back.ensures.emptied ∙ (λ i. record { slots = []; workers = (c.write_file-answer.ensures.window.workers ∙ filled) i })
+
+pub returns-clause-cause : goal.returns-clause-cause
+returns-clause-cause g c = rewrite_works _ _ _ _ c.args.meter.now.limit c.write_file-answer.result c.write_file-answer.ensures.cause

@@ -1,0 +1,209 @@
+//! The job: look at the headers up to the HDU that is cut from, take all buffers, and then write.
+ghost use Rattle.std.specs.Prelude.{◌≡◌, ◌+◌, ◌<◌, ◌≤◌, max, true, None, Some, [], length as len, sum, OnOk, IfSome};
+ghost use Rattle.fz_base.specs.Ranges.{LogsIn};
+ghost use Rattle.fz_base.specs.Stop.{IfRefused, TellsLimit};
+ghost use Rattle.fz_base.specs.Takings.{TellsFirstPast, piled};
+ghost use Rattle.fz_base.specs.Told.{StaysTold};
+ghost use Rattle.fz_pool.specs.Window.{IsEmpty};
+ghost use Rattle.fz_survey.specs.Workspace.{wanted_buffers};
+ghost use Rattle.fz_files.specs.Buffers.{job_bound};
+ghost use Rattle.fz_files.specs.Cutout.{touched};
+ghost use Rattle.fz_files.specs.Walks.{box_of};
+ghost use Rattle.fz_files.specs.declared.job.Job.TheVariants.{Cut};
+ghost use Rattle.fz_job.specs.Clauses.{Answers, ComesLate, HasJobCause, IfOverLimit, IsShutOrWhole, IsUnmade, KeepsBuffers, KeepsSource, TellsFirstFault, greatest_bound};
+ghost use Rattle.fz_job.specs.Keeps.{SourceStays};
+ghost use Rattle.fz_cut.specs.Again.{WasSeen};
+ghost use Rattle.fz_cut.specs.Output.{HasPicks, HoldsCutout};
+ghost use Rattle.fz_cut.specs.Stages.{Works, later_takings, wants_for};
+ghost use Rattle.fz_cut.specs.Written.{FinishesSeen, IsShutOrPart, work_ranges};
+
+use crate::boxes::box_of;
+use crate::file::write_file;
+use crate::law::{known_law, touched_law};
+use fz_base::{Gate, Meter, Sink, Source, Stop, ranges_law};
+use fz_block::{BLOCK_LEN, Header};
+use fz_files::buffers_law;
+use fz_grid::Sieve;
+use fz_pool::{Window, sizes_law};
+use fz_survey::{Survey, Wants, Workspace, survey_to_cut, workspace_law};
+use std::thread::Threads;
+
+/// Cuts the picks of a sieve out of a packed image of the file that is attached to the source: of the HDU of this
+/// number, or of the first packed one. They become the primary image of the sink, which it makes by this name.
+///
+/// No HDU behind that one is looked at. All checks of headers come first, then all buffers are taken, and only then the
+/// sink is made; its byte 0 is written last. Refused: as `survey_to_cut` refuses the file; the lowest faulty row of
+/// a tile that holds a pick, as `fetch_tiles` refuses it. Of a source that gives other bytes at the second reading also
+/// the HDU, where it is no longer the one that was looked at.
+pub fn cut<R: Threads + Sync, S: Source, K: Sink, G: Gate>(
+    rt: &R,
+    source: &mut S,
+    length: u64,
+    name: &str,
+    sink: &mut K,
+    meter: &mut Meter,
+    window: &mut Window,
+    gate: &G,
+    hdu: Option<u32>,
+    sieve: &Sieve,
+) -> Result<(), Stop>
+    requires attached { S.attached source.old ≡ Some length }
+    requires empty { IfSome (K.contents sink.old) (λ c. c ≡ []) }
+    requires nothing_live { meter.old.live ≡ 0 }
+    requires window { IsEmpty window.old }
+    requires sieve { HasPicks sieve.now }
+
+    ensures output { OnOk result (HoldsCutout hdu sieve.now (S.held source.old) (K.contents sink.new)) }
+    ensures finished { OnOk result (K.finished sink.new ≡ true) }
+    ensures first_fault { TellsFirstFault (Cut hdu sieve.now) (S.held source.old) result }
+    // Every byte of the ranges that it read, whatever its answer, lies in a header that it comes to, or in the row or the
+    // record of a tile that holds a pick.
+    ensures touched { IfSome (S.held source.old) (λ g. LogsIn (touched hdu sieve.now g) (S.ranges source.old) (S.ranges source.new)) }
+    // Where no count of faults rose and the limit is at least the bound, the first fault alone decides.
+    ensures answered { Answers (Cut hdu sieve.now) (S.held source.old) (S.tally source.old) (S.tally source.new) (K.tally sink.old) (K.tally sink.new) meter.old.limit window.old.workers result }
+    ensures cause { HasJobCause (Cut hdu sieve.now) (S.held source.old) (S.tally source.old) (S.tally source.new) (K.tally sink.old) (K.tally sink.new) meter.old.limit window.old.workers result }
+    // What was cut short does not begin with the S of a FITS file.
+    ensures first_byte { IsShutOrWhole (K.contents sink.new) (HoldsCutout hdu sieve.now (S.held source.old) (K.contents sink.new)) result }
+    ensures unmade { IsUnmade (Cut hdu sieve.now) (S.held source.old) ((K.created sink.new ≡ K.created sink.old) × (K.contents sink.new ≡ K.contents sink.old)) result }
+    ensures buffers { KeepsBuffers (Cut hdu sieve.now) (S.held source.old) meter.old meter.new window.old window.new }
+    ensures kept { KeepsSource (S.held source.old) (S.held source.new) (S.attached source.old) (S.attached source.new) (S.tally source.old) (S.tally source.new) (K.tally sink.old) (K.tally sink.new) }
+    ensures told_ranges { StaysTold (S.ranges source.old) (S.ranges source.new) }
+    ensures told_contents { StaysTold (K.contents sink.old) (K.contents sink.new) }
+{
+    // What the bound of the buffers is.
+    buffers_law();
+    let mut block = meter.bytes(BLOCK_LEN as u64)?;
+    let answer = with_block(
+        rt,
+        source,
+        length,
+        name,
+        sink,
+        meter,
+        window,
+        gate,
+        hdu,
+        sieve,
+        block.as_mut_slice(),
+    );
+    meter.give_bytes(block);
+    answer
+}
+
+// Looks at the headers, and then works.
+fn with_block<R: Threads + Sync, S: Source, K: Sink, G: Gate>(
+    rt: &R,
+    source: &mut S,
+    length: u64,
+    name: &str,
+    sink: &mut K,
+    meter: &mut Meter,
+    window: &mut Window,
+    gate: &G,
+    hdu: Option<u32>,
+    sieve: &Sieve,
+    block: &mut [u8],
+) -> Result<(), Stop>
+    requires attached { S.attached source.old ≡ Some length }
+    requires empty { IfSome (K.contents sink.old) (λ c. c ≡ []) }
+    requires one_block { meter.old.live ≡ 2880 }
+    requires window { IsEmpty window.old }
+    requires sieve { HasPicks sieve.now }
+    requires block { len block.old ≡ 2880 }
+    ensures output { OnOk result (HoldsCutout hdu sieve.now (S.held source.old) (K.contents sink.new)) }
+    ensures finished { OnOk result (K.finished sink.new ≡ true) }
+    ensures first_fault { TellsFirstFault (Cut hdu sieve.now) (S.held source.old) result }
+    ensures touched { IfSome (S.held source.old) (λ g. LogsIn (touched hdu sieve.now g) (S.ranges source.old) (S.ranges source.new)) }
+    ensures first_byte { IsShutOrWhole (K.contents sink.new) (HoldsCutout hdu sieve.now (S.held source.old) (K.contents sink.new)) result }
+    ensures unmade { IsUnmade (Cut hdu sieve.now) (S.held source.old) ((K.created sink.new ≡ K.created sink.old) × (K.contents sink.new ≡ K.contents sink.old)) result }
+    ensures first_past { IfSome (S.held source.old) (λ g. TellsFirstPast meter.old.limit (later_takings hdu sieve.now g window.old.workers) result) }
+    ensures peak { IfSome (S.held source.old) (λ g. meter.new.peak ≤ max meter.old.peak (job_bound (Cut hdu sieve.now) g window.old.workers)) }
+    ensures most { TellsLimit meter.old.limit (greatest_bound (Cut hdu sieve.now) window.old.workers) result }
+    ensures peak_most { meter.new.peak ≤ max meter.old.peak (greatest_bound (Cut hdu sieve.now) window.old.workers) }
+    ensures live { meter.new.live ≡ meter.old.live }
+    ensures limit { meter.new.limit ≡ meter.old.limit }
+    ensures emptied { window.new ≡ record { slots = []; workers = window.old.workers } }
+    ensures source { SourceStays (S.held source.old) (S.held source.new) (S.attached source.old) (S.attached source.new) }
+    ensures told_ranges { StaysTold (S.ranges source.old) (S.ranges source.new) }
+    ensures told_contents { StaysTold (K.contents sink.old) (K.contents sink.new) }
+    ensures cause { Works (S.tally source.old) (S.tally source.new) (K.tally sink.old) (K.tally sink.new) meter.old.limit result }
+{
+    // What the survey says of the file, what is read of it, and what the bound of the buffers is.
+    known_law();
+    touched_law();
+    ranges_law();
+    buffers_law();
+    workspace_law();
+    let region = box_of(sieve);
+    let survey = survey_to_cut(source, length, meter, block, hdu, &region)?;
+    let Some(from) = &survey.stopped else {
+        unreachable!()
+    };
+    work(
+        rt, source, length, name, sink, meter, window, gate, &survey, from, sieve, block,
+    )
+}
+
+// Takes all buffers, writes the cutout, and hands the buffers back.
+fn work<R: Threads + Sync, S: Source, K: Sink, G: Gate>(
+    rt: &R,
+    source: &mut S,
+    length: u64,
+    name: &str,
+    sink: &mut K,
+    meter: &mut Meter,
+    window: &mut Window,
+    gate: &G,
+    survey: &Survey,
+    from: &Header,
+    sieve: &Sieve,
+    block: &mut [u8],
+) -> Result<(), Stop>
+    requires attached { S.attached source.old ≡ Some length }
+    requires empty { IfSome (K.contents sink.old) (λ c. c ≡ []) }
+    requires window { IsEmpty window.old }
+    requires sieve { HasPicks sieve.now }
+    requires block { len block.old ≡ 2880 }
+    ensures written { IfSome (S.held source.old) (λ g. FinishesSeen g sieve.now survey.now.header_len survey.now.tile from.now (K.contents sink.new) result) }
+    ensures finished { OnOk result (K.finished sink.new ≡ true) }
+    ensures shut { IsShutOrPart (S.held source.old) sieve.now survey.now.header_len survey.now.tile from.now (K.contents sink.new) result }
+    ensures touched { IfSome (S.held source.old) (λ g. WasSeen g (box_of sieve.now) survey.now.header_len survey.now.tile from.now
+        → LogsIn (work_ranges g sieve.now from.now) (S.ranges source.old) (S.ranges source.new)) }
+    ensures unmade { IfOverLimit result ((K.created sink.new ≡ K.created sink.old) × (K.contents sink.new ≡ K.contents sink.old)) }
+    ensures first_past { TellsFirstPast meter.old.limit (piled meter.old.live (wanted_buffers (wants_for survey.now) window.old.workers)) result }
+    ensures peak { meter.new.peak ≤ max meter.old.peak (meter.old.live + sum (wanted_buffers (wants_for survey.now) window.old.workers)) }
+    ensures live { meter.new.live ≡ meter.old.live }
+    ensures limit { meter.new.limit ≡ meter.old.limit }
+    ensures emptied { window.new ≡ record { slots = []; workers = window.old.workers } }
+    ensures source { SourceStays (S.held source.old) (S.held source.new) (S.attached source.old) (S.attached source.new) }
+    ensures late { IfRefused result (ComesLate (Cut None sieve.now)) }
+    ensures told_ranges { StaysTold (S.ranges source.old) (S.ranges source.new) }
+    ensures told_contents { StaysTold (K.contents sink.old) (K.contents sink.new) }
+    ensures cause { Works (S.tally source.old) (S.tally source.new) (K.tally sink.old) (K.tally sink.new) meter.old.limit result }
+{
+    // What is held is what was taken, and how long the slots are that were filled.
+    workspace_law();
+    sizes_law();
+    let wants = Wants {
+        header_len: survey.header_len,
+        translates: true,
+        tile: Some(survey.tile),
+    };
+    let mut space = Workspace::take(meter, window, &wants)?;
+    let answer = write_file(
+        rt,
+        source,
+        length,
+        name,
+        sink,
+        window,
+        gate,
+        from,
+        survey.tile,
+        sieve,
+        &mut space,
+        block,
+    );
+    space.give_back(meter, window);
+    answer
+}
