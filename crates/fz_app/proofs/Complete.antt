@@ -6,8 +6,8 @@ use Rattle.fz_files.specs.FirstFault.{IsFirstFault}
 use Rattle.fz_files.specs.Laws.{HasOneFirstFault}
 use Rattle.fz_files.specs.declared.job.Job.{Job}
 use Rattle.fz_job.specs.Clauses.{IsAnswer, TellsFirstFault}
-use Rattle.fz_app.specs.Answer.{IfAnswer}
-use Rattle.fz_app.specs.Promises.{IsAnswerTo, IsEnd}
+use Rattle.fz_app.specs.Answer.{IfAnswer, IsEnd}
+use Rattle.fz_app.specs.Promises.{IsAnswerTo}
 use Rattle.fz_app.specs.declared.status.Status.{Status}
 use Rattle.fz_app.specs.declared.status.Status.TheVariants.{Done, Different, Usage, Refused, ReadFault, WriteFault, OverLimit, NoMemory}
 

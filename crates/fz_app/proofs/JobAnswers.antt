@@ -13,7 +13,7 @@ use Rattle.fz_job.specs.Clauses.{Answers, HasJobCause, IsShutOrWhole, IsUnmade, 
 use Rattle.fz_words.specs.Jobs.{Asked}
 use Rattle.fz_app.specs.Asked.{limit_of}
 use Rattle.fz_app.specs.Ends.{Ends, IsSameSink, counts_written}
-use Rattle.fz_app.specs.Outputs.{HoldsJobOutput, IsFinished, IsWhole, JobRestores}
+use Rattle.fz_app.specs.Outputs.{HoldsJobOutput, HoldsJobSlice, IsFinished, IsWhole, JobRestores, ReadsTouched}
 use Rattle.fz_app.specs.Printed.{JobPrinted}
 use Rattle.fz_app.specs.Promised.{IsPromised}
 
@@ -22,9 +22,13 @@ on_err : (answer : Result (Unit {0}) Stop) (P Q : Type 0) → (P → Q) → OnEr
 on_err (Ok done) P Q f p = tt
 on_err (Err stop) P Q f p = f p
 
-on_ok : (answer : Result (Unit {0}) Stop) (P Q : Type 0) → (P → Q) → OnOk answer P → OnOk answer Q
+pub on_ok : (answer : Result (Unit {0}) Stop) (P Q : Type 0) → (P → Q) → OnOk answer P → OnOk answer Q
 on_ok (Ok done) P Q f p = f p
 on_ok (Err stop) P Q f p = tt
+
+pub always_ok : (answer : Result (Unit {0}) Stop) (P : Type 0) → P → OnOk answer P
+always_ok (Ok done) P p = p
+always_ok (Err stop) P p = tt
 
 on_both : (answer : Result (Unit {0}) Stop) (P Q : Type 0) → OnOk answer P → OnOk answer Q → OnOk answer (P × Q)
 on_both (Ok done) P Q p q = (p, q)
@@ -44,6 +48,7 @@ pub record JobSays (asked : Asked) (old new : Ends) (answer : Result (Unit {0}) 
   pub peak : IfSome old.held (λ file. new.meter.peak ≤ max 0 (job_bound asked.job file asked.workers))
   pub most : new.meter.peak ≤ max 0 (greatest_bound asked.job asked.workers)
   pub held_is : new.held ≡ old.held
+  pub touched : ReadsTouched asked.job old.held old.ranges new.ranges
   pub told_ranges : StaysTold old.ranges new.ranges
   pub told_contents : StaysTold old.sink.contents new.sink.contents
   pub source_counts : CountsKept old.source new.source
@@ -82,11 +87,12 @@ module _ (asked : Asked) (old new : Ends) where
       limit_of asked old.meter.limit < 2880 → IsErrOf answer (StopLimit 0 2880 (limit_of asked old.meter.limit)) ⊎ (IsErrOf answer StopRead ⊎ IsErrOf answer StopMemory)
   block_of answer says less = inl (says less).0
 
-  -- what the job says of its answer is promised of it, with what it restores
-  pub promised : (answer : Result (Unit {0}) Stop) → JobSays asked old new answer → WholeIsSound asked.job old new → OnOk answer (JobRestores asked.job old.held new.sink.contents) → IsPromised asked old new answer
-  promised answer s sound restored = record {
+  -- what the job says of its answer is promised of it, with what it restores and what it is a slice of
+  pub promised : (answer : Result (Unit {0}) Stop) → JobSays asked old new answer → WholeIsSound asked.job old new → OnOk answer (JobRestores asked.job old.held new.sink.contents) → OnOk answer (HoldsJobSlice asked.job old.held new.sink.contents) → IsPromised asked old new answer
+  promised answer s sound restored slice = record {
     restored = restored;
     output = on_both answer (HoldsJobOutput asked.job old.held new.sink.contents) (IsFinished asked.job new.sink.finished) s.output s.finished;
+    slice = slice;
     first_fault = s.first_fault;
     answered = s.answered;
     first_byte = on_err answer (IsShut new.sink.contents ⊎ (HoldsJobOutput asked.job old.held new.sink.contents × Last answer)) (IsShut new.sink.contents ⊎ (IsWhole asked.job old.held new.sink.contents × Last answer)) (first_byte_of (Last answer) sound) s.first_byte;
@@ -103,6 +109,7 @@ module _ (asked : Asked) (old new : Ends) where
     block = block_of answer s.cause.block;
     unmade = s.unmade;
     held_is = s.held_is;
+    touched = s.touched;
     told_ranges = s.told_ranges;
     told_contents = s.told_contents;
     source_counts = s.source_counts;

@@ -1,6 +1,9 @@
 mod Answered
 mod Complete
+mod CutAnswers
+mod FirstBytes
 mod JobAnswers
+mod Limits
 mod PackAnswers
 mod RequestAnswers
 mod RunPromises

@@ -1,7 +1,7 @@
 -- What is promised of the answer of pack beside what its contract says: what was packed comes back, and a whole output is of a file without
 -- a fault.
 use Rattle.std.proofs.Common.{◌≡◌, ℕ, List, [], ◌∷◌, refl, sym, subst, inl, inr}
-use Rattle.std.specs.Prelude.{◌⊎◌, Option, Some, None, IfSome, Result, Ok, Err, OnOk}
+use Rattle.std.specs.Prelude.{◌⊎◌, Option, Some, None, IfSome, Result, Ok, Err, OnOk, ⊤}
 use Rattle.fz_base.specs.FirstByte.{IsShut}
 use Rattle.fz_base.specs.declared.fault.Fault.{Fault}
 use Rattle.fz_base.specs.declared.failure.Stop.{Stop}
@@ -16,7 +16,7 @@ use Rattle.fz_words.specs.Jobs.{Asked}
 use Rattle.fz_app.specs.Ends.{Ends, IsSameSink}
 use Rattle.fz_app.specs.Outputs.{HoldsJobOutput, JobRestores}
 use Rattle.fz_app.specs.Promised.{IsPromised}
-use Rattle.fz_app.proofs.JobAnswers.{JobSays, promised}
+use Rattle.fz_app.proofs.JobAnswers.{JobSays, always_ok, promised}
 
 -- contents that are empty, where they are told
 pub empty_is_shut : (contents : Option (List ℕ)) → IfSome contents (λ c. c ≡ []) → IsShut contents
@@ -48,4 +48,4 @@ module _ (o : PackOptions) (W memory : ℕ) (input output : List ℕ) (old new :
   restored_of law options (Err stop) packed sound = tt
 
   pub packed : ComesBack → AreOptions o → (answer : Result (Unit {0}) Stop) → JobSays asked old new answer → IsPromised asked old new answer
-  packed law options answer s = promised asked old new answer s (λ whole. by_held old.held s.unmade.faulty) (restored_of law options answer s.output s.first_fault)
+  packed law options answer s = promised asked old new answer s (λ whole. by_held old.held s.unmade.faulty) (restored_of law options answer s.output s.first_fault) (always_ok answer ⊤ tt)

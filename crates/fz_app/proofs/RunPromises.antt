@@ -15,15 +15,15 @@ use Rattle.fz_files.specs.declared.job.Job.TheVariants.{Pack, Unpack, Cut, Verif
 use Rattle.fz_round_trip.specs.RoundTrip.{ComesBack}
 use Rattle.fz_job.specs.Clauses.{IsAnswer, TellsFirstFault}
 use Rattle.fz_words.specs.Jobs.{Asked}
-use Rattle.fz_app.specs.Answer.{IfAnswer, IsPromisedTo}
+use Rattle.fz_app.specs.Answer.{IfAnswer, IsEnd, IsPromisedTo}
 use Rattle.fz_app.specs.Asked.{asked_for, limit_of}
 use Rattle.fz_app.specs.Causes.{AreCountsKept}
-use Rattle.fz_app.specs.Ends.{Ends, counts_written, written_counts}
+use Rattle.fz_app.specs.Ends.{Ends, TextIs, counts_written, written_counts}
 use Rattle.fz_app.specs.Lines.{status_line, GotLine}
 use Rattle.fz_app.specs.Outputs.{JobRestores, PackedIsSound}
 use Rattle.fz_app.specs.Printed.{IsPrinted, JobPrinted}
 use Rattle.fz_app.specs.Promised.{IsPromised}
-use Rattle.fz_app.specs.Promises.{IsAnswerTo, IsComplete, IsEnd, IsRestored}
+use Rattle.fz_app.specs.Promises.{IsAnswerTo, IsComplete, IsRestored}
 use Rattle.fz_app.specs.declared.status.Status.{Status}
 use Rattle.fz_app.specs.declared.status.Status.TheVariants.{Usage}
 use Rattle.fz_app.specs.declared.status.Status.TheVariants as stat
@@ -161,3 +161,7 @@ restored law words old new status promise = record {
   contents_are = of_promise (asked_for words) status (λ (a : Asked). IsPromised a old new) (λ a r. OnOk r (JobRestores a.job old.held new.sink.contents)) (λ a r p. p.restored) promise;
   sound = sound_asked law (asked_for words) old.held;
 }
+
+-- words that ask for nothing: what stands in the text is the line of that
+pub usage_line : (status : Status) (old then now : TextIs) → then ≡ old → status ≡ Usage → GotLine (status_line status) then.contents now.contents then.tally now.tally → GotLine (status_line Usage) old.contents now.contents old.tally now.tally
+usage_line status old then now same is line = subst (λ (s : Status). GotLine (status_line s) old.contents now.contents old.tally now.tally) is (subst (λ (t : TextIs). GotLine (status_line status) t.contents now.contents t.tally now.tally) same line)

@@ -1,7 +1,7 @@
 -- What is promised of the answer of a job that prints lines, beside what its contract says: the sink is as it was.
-use Rattle.std.proofs.Common.{◌≡◌, ℕ, ◌≤◌, List, [], refl, sym, ap, subst, inl}
-use Rattle.std.specs.Prelude.{◌⊎◌, max, Option, Some, None, IfSome, IsSome, Result, Ok, Err, IsErrOf, OnOk, OnErr, ⊤}
-use Rattle.fz_base.specs.Counts.{CountsKept}
+use Rattle.std.proofs.Common.{◌≡◌, ℕ, ◌≤◌, List, [], refl, sym, ap, subst, ◌∙◌, inl}
+use Rattle.std.specs.Prelude.{◌⊎◌, max, Bool, Option, Some, None, IfSome, IsSome, Result, Ok, Err, IsErrOf, OnOk, OnErr, ⊤}
+use Rattle.fz_base.specs.Counts.{CountsKept, Tally}
 use Rattle.fz_base.specs.Stop.{IfRefused, IsRefused, TellsLimit}
 use Rattle.fz_base.specs.Takings.{TellsFirstPast}
 use Rattle.fz_base.specs.Told.{StaysTold}
@@ -10,6 +10,7 @@ use Rattle.fz_base.specs.declared.failure.Stop.{Stop}
 use Rattle.fz_base.specs.declared.failure.Stop.TheVariants.{Refused as StopRefused, ReadFault as StopRead, WriteFault as StopWrite, OverLimit as StopLimit, NoMemory as StopMemory}
 use Rattle.fz_files.specs.Buffers.{job_bound, job_takings}
 use Rattle.fz_files.specs.Walks.{header_fault}
+use Rattle.fz_grid.specs.declared.sieve.Sieve.{Sieve}
 use Rattle.fz_files.specs.declared.job.Job.{Job}
 use Rattle.fz_files.specs.declared.job.Job.TheVariants.{Verify, List as ListHdus}
 use Rattle.fz_job.specs.Clauses.{Answers, ComesLate, HasJobCause, IfOverLimit, IsAnswer, IsUnmade, TellsFirstFault, greatest_bound}
@@ -17,10 +18,11 @@ use Rattle.fz_verify.specs.Clauses.{PrintsLines}
 use Rattle.fz_words.specs.Jobs.{Asked}
 use Rattle.fz_app.specs.Answer.{done_of}
 use Rattle.fz_app.specs.Asked.{limit_of}
-use Rattle.fz_app.specs.Ends.{Ends, IsSameSink, SinkIs}
-use Rattle.fz_app.specs.Printed.{HasPrinted}
+use Rattle.fz_app.specs.Ends.{Ends, IsSameSink, SinkIs, TextIs, counts_written, written_counts}
+use Rattle.fz_app.specs.Outputs.{HoldsJobOutput, IfCut, IsFinished, IsOutput, JobRestores, Restores}
+use Rattle.fz_app.specs.Printed.{HasPrinted, JobPrinted}
 use Rattle.fz_app.specs.Promised.{IsPromised}
-use Rattle.fz_app.proofs.JobAnswers.{promised}
+use Rattle.fz_app.proofs.JobAnswers.{always_ok, promised}
 use Rattle.fz_app.proofs.PackAnswers.{empty_is_shut}
 use Rattle.fz_app.proofs.Tallies.{kept_by}
 
@@ -106,9 +108,9 @@ module _ {X : Type 0} where
   answers_done r None B p = tt
   answers_done r (Some file) B p = λ b. answer_done r (p b)
 
-  past_held : (r : Result X Stop) (held : Option (List ℕ)) (limit : ℕ) (takings : List ℕ → List (ℕ × ℕ)) → IfSome held (λ file. TellsFirstPast limit (takings file) r) → IfSome held (λ file. TellsFirstPast limit (takings file) (done_of r))
-  past_held r None limit takings p = tt
-  past_held r (Some file) limit takings p = past_done r limit (takings file) p
+  past_held : (r : Result X Stop) (held : Option (List ℕ)) (limit : ℕ) (takings others : List ℕ → List (ℕ × ℕ)) → ((file : List ℕ) → others file ≡ takings file) → IfSome held (λ file. TellsFirstPast limit (takings file) r) → IfSome held (λ file. TellsFirstPast limit (others file) (done_of r))
+  past_held r None limit takings others same p = tt
+  past_held r (Some file) limit takings others same p = subst (λ (ts : List (ℕ × ℕ)). TellsFirstPast limit ts (done_of r)) (sym (same file)) (past_done r limit (takings file) p)
 
 -- the second of two facts of an answer Ok
 on_second : {X : Type 0} → (r : Result X Stop) (P Q : Type 0) → OnOk r (P × Q) → OnOk r Q
@@ -116,16 +118,16 @@ on_second (Ok x) P Q p = p.1
 on_second (Err stop) P Q p = tt
 
 -- what a job that prints says of the source, of the text and of the meter, as they were before the source was attached and after the call
-pub record TextSays {X : Type 0} (job : Job) (held : Option (List ℕ)) (limit : ℕ) (old new : Ends) (answer : Result X Stop) : Type 0 where
+pub record TextSays {X : Type 0} (job : Job) (held : Option (List ℕ)) (limit W : ℕ) (old new : Ends) (answer : Result X Stop) : Type 0 where
   pub lines : PrintsLines job held old.text.contents new.text.contents answer
   pub first_fault : TellsFirstFault job held answer
-  pub answered : Answers job held old.source new.source old.text.tally new.text.tally limit 1 answer
+  pub answered : Answers job held old.source new.source old.text.tally new.text.tally limit W answer
   pub cause : HasJobCause job held old.source new.source old.text.tally new.text.tally limit 1 answer
   pub silent : IsUnmade job held ((new.text.contents ≡ old.text.contents) × (new.text.tally ≡ old.text.tally)) answer
   pub live : new.meter.live ≡ 0
   pub limit_is : new.meter.limit ≡ limit
-  pub peak : IfSome held (λ file. new.meter.peak ≤ max 0 (job_bound job file 1))
-  pub most : new.meter.peak ≤ max 0 (greatest_bound job 1)
+  pub peak : IfSome held (λ file. new.meter.peak ≤ max 0 (job_bound job file W))
+  pub most : new.meter.peak ≤ max 0 (greatest_bound job W)
   pub held_is : new.held ≡ held
   pub told_ranges : StaysTold old.ranges new.ranges
   pub told : StaysTold old.text.contents new.text.contents
@@ -133,8 +135,8 @@ pub record TextSays {X : Type 0} (job : Job) (held : Option (List ℕ)) (limit :
   pub text_counts : CountsKept old.text.tally new.text.tally
 
 -- what was printed, of the answer without its value
-printed : {X : Type 0} → (job : Job) (held : Option (List ℕ)) (limit : ℕ) (old new : Ends) (answer : Result X Stop) → TextSays job held limit old new answer → HasPrinted job held old.text new.text (done_of answer)
-printed job held limit old new answer s = record {
+printed : {X : Type 0} → (job : Job) (held : Option (List ℕ)) (limit W : ℕ) (old new : Ends) (answer : Result X Stop) → TextSays job held limit W old new answer → HasPrinted job held old.text new.text (done_of answer)
+printed job held limit W old new answer s = record {
   lines = lines_done answer job held old.text.contents new.text.contents s.lines;
   silent = record { faulty = s.silent.faulty; over_limit = over_done answer _ s.silent.over_limit; refused = if_refused_done answer _ s.silent.refused };
   done = ok_done answer (new.text.tally ≡ old.text.tally) (on_second answer _ _ s.cause.done);
@@ -144,19 +146,10 @@ printed job held limit old new answer s = record {
   counts = s.text_counts;
 }
 
--- contents that are empty are what a job writes for which that is nothing
-empty_output : (held contents : Option (List ℕ)) → IfSome contents (λ c. c ≡ []) → IfSome held (λ file. IfSome contents (λ c. c ≡ []))
-empty_output None contents empty = tt
-empty_output (Some file) contents empty = empty
-
-nothing_restored : (held contents : Option (List ℕ)) → IfSome held (λ file. IfSome contents (λ c. ⊤))
+pub nothing_restored : (held contents : Option (List ℕ)) → IfSome held (λ file. IfSome contents (λ c. ⊤))
 nothing_restored None contents = tt
 nothing_restored (Some file) None = tt
 nothing_restored (Some file) (Some bytes) = tt
-
-always_ok : (answer : Result (Unit {0}) Stop) (P : Type 0) → P → OnOk answer P
-always_ok (Ok x) P p = p
-always_ok (Err stop) P p = tt
 
 always_err : (answer : Result (Unit {0}) Stop) (P : Type 0) → P → OnErr answer P
 always_err (Ok x) P p = tt
@@ -190,87 +183,83 @@ same_sink job held Same answer same = record {
   refused = refused_same answer (λ x. Same ⊎ ComesLate job x) (λ x. inl same);
 }
 
--- The promises of `verify`.
-abbrev pub verify_asked : ℕ → ℕ → List ℕ → List ℕ → Asked
-verify_asked W memory input output = record { job = Verify; workers = W; memory = memory; input = input; output = output }
+-- What is of a job that prints: it writes no file, nothing comes back, its counts are those of the text, and its workers are its own,
+-- whatever was asked.
+pub record IsPrinter (job : Job) : Type 1 where
+  pub output : (file : List ℕ) → IsOutput job file []
+  pub finished : (is : Bool) → IsFinished job is
+  pub restores : (file bytes : List ℕ) → Restores job file bytes
+  pub no_cut : (P : Option ℕ → Sieve → Type 0) → IfCut job P
+  pub counts : (sink text : Tally) → written_counts job sink text ≡ text
+  pub most : (W : ℕ) → greatest_bound job W ≡ greatest_bound job 1
+  pub takings : (W : ℕ) (file : List ℕ) → job_takings job file W ≡ job_takings job file 1
+  pub printed : (held : Option (List ℕ)) (old new : TextIs) (answer : Result (Unit {0}) Stop) → HasPrinted job held old new answer → JobPrinted job held old new answer
 
-module _ {X : Type 0} (W memory : ℕ) (input output : List ℕ) (old new : Ends) (same : new.sink ≡ old.sink) (empty : IfSome new.sink.contents (λ c. c ≡ [])) where
-  verify_cause : (answer : Result X Stop) → TextSays Verify old.held (limit_of (verify_asked W memory input output) old.meter.limit) old new answer → HasJobCause Verify old.held old.source new.source old.text.tally new.text.tally (limit_of (verify_asked W memory input output) old.meter.limit) W (done_of answer)
-  verify_cause answer s = record {
+pub verifies : IsPrinter Verify
+verifies = record { output = λ file. refl; finished = λ is. tt; restores = λ file bytes. tt; no_cut = λ P. tt; counts = λ sink text. refl; most = λ W. refl; takings = λ W file. refl; printed = λ held old new answer p. p }
+
+pub lists : IsPrinter ListHdus
+lists = record { output = λ file. refl; finished = λ is. tt; restores = λ file bytes. tt; no_cut = λ P. tt; counts = λ sink text. refl; most = λ W. refl; takings = λ W file. refl; printed = λ held old new answer p. p }
+
+module _ (job : Job) (is : IsPrinter job) where
+  empty_output : (held contents : Option (List ℕ)) → IfSome contents (λ c. c ≡ []) → HoldsJobOutput job held contents
+  empty_output None contents empty = tt
+  empty_output (Some file) None empty = tt
+  empty_output (Some file) (Some bytes) empty = subst (IsOutput job file) (sym empty) (is.output file)
+
+  none_restored : (held contents : Option (List ℕ)) → JobRestores job held contents
+  none_restored None contents = tt
+  none_restored (Some file) None = tt
+  none_restored (Some file) (Some bytes) = is.restores file bytes
+
+module _ (job : Job) (is : IsPrinter job) (W memory : ℕ) (input output : List ℕ) (old new : Ends) (same : new.sink ≡ old.sink) (empty : IfSome new.sink.contents (λ c. c ≡ [])) where
+  abbrev pub asked : Asked
+  asked = record { job = job; workers = W; memory = memory; input = input; output = output }
+
+  abbrev pub limit : ℕ
+  limit = limit_of asked old.meter.limit
+
+  -- what is said of the counts of the text
+  of_text : (P : Tally → Tally → Type 0) → P old.text.tally new.text.tally → P (counts_written job old) (counts_written job new)
+  of_text P p = subst (λ (t : Tally). P t (counts_written job new)) (sym (is.counts old.sink.tally old.text.tally)) (subst (P old.text.tally) (sym (is.counts new.sink.tally new.text.tally)) p)
+
+  text_cause : {X : Type 0} (answer : Result X Stop) → TextSays job old.held limit W old new answer → HasJobCause job old.held old.source new.source old.text.tally new.text.tally limit W (done_of answer)
+  text_cause answer s = record {
     done = ok_done answer _ s.cause.done;
     refused = λ is. s.cause.refused (refused_done answer is);
     read_fault = λ is. s.cause.read_fault (error_done answer StopRead is);
     write_fault = λ is. s.cause.write_fault (error_done answer StopWrite is);
-    over_limit = limit_done answer (limit_of (verify_asked W memory input output) old.meter.limit) (greatest_bound Verify 1) s.cause.over_limit;
-    first_past = past_held answer old.held (limit_of (verify_asked W memory input output) old.meter.limit) (λ file. job_takings Verify file 1) s.cause.first_past;
+    over_limit = subst (λ (m : ℕ). TellsLimit limit m (done_of answer)) (sym (is.most W)) (limit_done answer limit (greatest_bound job 1) s.cause.over_limit);
+    first_past = past_held answer old.held limit (λ file. job_takings job file 1) (λ file. job_takings job file W) (is.takings W) s.cause.first_past;
     block = λ less. (error_of answer _ (s.cause.block less).0, (s.cause.block less).1, (s.cause.block less).2);
   }
 
-  pub verify_promised : (answer : Result X Stop) → TextSays Verify old.held (limit_of (verify_asked W memory input output) old.meter.limit) old new answer → IsPromised (verify_asked W memory input output) old new (done_of answer)
-  verify_promised answer s = promised (verify_asked W memory input output) old new (done_of answer)
+  -- the promises of a job that prints
+  pub text_promised : {X : Type 0} (answer : Result X Stop) → TextSays job old.held limit W old new answer → IsPromised asked old new (done_of answer)
+  text_promised answer s = promised asked old new (done_of answer)
       (record {
-        output = always_ok (done_of answer) _ (empty_output old.held new.sink.contents empty);
-        finished = always_ok (done_of answer) ⊤ tt;
-        first_fault = fault_done answer Verify old.held s.first_fault;
-        answered = λ a b. answers_done answer old.held (λ file. job_bound Verify file 1 ≤ limit_of (verify_asked W memory input output) old.meter.limit) (s.answered a b);
-        cause = verify_cause answer s;
+        output = always_ok (done_of answer) _ (empty_output job is old.held new.sink.contents empty);
+        finished = always_ok (done_of answer) _ (is.finished new.sink.finished);
+        first_fault = fault_done answer job old.held s.first_fault;
+        answered = of_text (λ t t'. Answers job old.held old.source new.source t t' limit W (done_of answer)) (λ a b. answers_done answer old.held (λ file. job_bound job file W ≤ limit) (s.answered a b));
+        cause = of_text (λ t t'. HasJobCause job old.held old.source new.source t t' limit W (done_of answer)) (text_cause answer s);
         first_byte = always_err (done_of answer) _ (inl (empty_is_shut new.sink.contents empty));
-        unmade = same_sink Verify old.held (IsSameSink old.sink new.sink) (done_of answer) (ap (λ (k : SinkIs). k.created) same, ap (λ (k : SinkIs). k.contents) same);
+        unmade = same_sink job old.held (IsSameSink old.sink new.sink) (done_of answer) (ap (λ (k : SinkIs). k.created) same, ap (λ (k : SinkIs). k.contents) same);
         live = s.live;
         limit = s.limit_is;
         peak = s.peak;
         most = s.most;
         held_is = s.held_is;
+        touched = is.no_cut _;
         told_ranges = s.told_ranges;
         told_contents = λ told. subst (λ (k : SinkIs). IsSome k.contents) (sym same) told;
         source_counts = s.source_counts;
         sink_counts = kept_by old.sink.tally new.sink.tally (ap (λ (k : SinkIs). k.tally) same);
         text_counts = s.text_counts;
-        printed = printed Verify old.held (limit_of (verify_asked W memory input output) old.meter.limit) old new answer s;
-        one_written = λ e. (ap (λ (k : SinkIs). k.tally) same, e);
+        printed = is.printed old.held old.text new.text (done_of answer) (printed job old.held limit W old new answer s);
+        one_written = λ e. (ap (λ (k : SinkIs). k.tally) same, sym (is.counts new.sink.tally new.text.tally) ∙ e ∙ is.counts old.sink.tally old.text.tally);
       })
-      (λ whole. inl (empty_is_shut new.sink.contents empty)) (always_ok (done_of answer) _ (nothing_restored old.held new.sink.contents))
-
--- The promises of `list`.
-abbrev pub list_asked : ℕ → ℕ → List ℕ → List ℕ → Asked
-list_asked W memory input output = record { job = ListHdus; workers = W; memory = memory; input = input; output = output }
-
-module _ {X : Type 0} (W memory : ℕ) (input output : List ℕ) (old new : Ends) (same : new.sink ≡ old.sink) (empty : IfSome new.sink.contents (λ c. c ≡ [])) where
-  list_cause : (answer : Result X Stop) → TextSays ListHdus old.held (limit_of (list_asked W memory input output) old.meter.limit) old new answer → HasJobCause ListHdus old.held old.source new.source old.text.tally new.text.tally (limit_of (list_asked W memory input output) old.meter.limit) W (done_of answer)
-  list_cause answer s = record {
-    done = ok_done answer _ s.cause.done;
-    refused = λ is. s.cause.refused (refused_done answer is);
-    read_fault = λ is. s.cause.read_fault (error_done answer StopRead is);
-    write_fault = λ is. s.cause.write_fault (error_done answer StopWrite is);
-    over_limit = limit_done answer (limit_of (list_asked W memory input output) old.meter.limit) (greatest_bound ListHdus 1) s.cause.over_limit;
-    first_past = past_held answer old.held (limit_of (list_asked W memory input output) old.meter.limit) (λ file. job_takings ListHdus file 1) s.cause.first_past;
-    block = λ less. (error_of answer _ (s.cause.block less).0, (s.cause.block less).1, (s.cause.block less).2);
-  }
-
-  pub list_promised : (answer : Result X Stop) → TextSays ListHdus old.held (limit_of (list_asked W memory input output) old.meter.limit) old new answer → IsPromised (list_asked W memory input output) old new (done_of answer)
-  list_promised answer s = promised (list_asked W memory input output) old new (done_of answer)
-      (record {
-        output = always_ok (done_of answer) _ (empty_output old.held new.sink.contents empty);
-        finished = always_ok (done_of answer) ⊤ tt;
-        first_fault = fault_done answer ListHdus old.held s.first_fault;
-        answered = λ a b. answers_done answer old.held (λ file. job_bound ListHdus file 1 ≤ limit_of (list_asked W memory input output) old.meter.limit) (s.answered a b);
-        cause = list_cause answer s;
-        first_byte = always_err (done_of answer) _ (inl (empty_is_shut new.sink.contents empty));
-        unmade = same_sink ListHdus old.held (IsSameSink old.sink new.sink) (done_of answer) (ap (λ (k : SinkIs). k.created) same, ap (λ (k : SinkIs). k.contents) same);
-        live = s.live;
-        limit = s.limit_is;
-        peak = s.peak;
-        most = s.most;
-        held_is = s.held_is;
-        told_ranges = s.told_ranges;
-        told_contents = λ told. subst (λ (k : SinkIs). IsSome k.contents) (sym same) told;
-        source_counts = s.source_counts;
-        sink_counts = kept_by old.sink.tally new.sink.tally (ap (λ (k : SinkIs). k.tally) same);
-        text_counts = s.text_counts;
-        printed = printed ListHdus old.held (limit_of (list_asked W memory input output) old.meter.limit) old new answer s;
-        one_written = λ e. (ap (λ (k : SinkIs). k.tally) same, e);
-      })
-      (λ whole. inl (empty_is_shut new.sink.contents empty)) (always_ok (done_of answer) _ (nothing_restored old.held new.sink.contents))
+      (λ whole. inl (empty_is_shut new.sink.contents empty)) (always_ok (done_of answer) _ (none_restored job is old.held new.sink.contents)) (always_ok (done_of answer) _ (is.no_cut _))
 
 done_is : (r : Result (Unit {0}) Stop) → done_of r ≡ r
 done_is (Ok tt) = refl

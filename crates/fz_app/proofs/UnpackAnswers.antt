@@ -1,7 +1,7 @@
 -- What is promised of the answer of unpack beside what its contract says: the packed file of a plain file gives this again, and a whole
 -- output is of a file without a fault.
 use Rattle.std.proofs.Common.{ℕ, ◌≤◌, ◌^◌, List, arith, inl, inr}
-use Rattle.std.specs.Prelude.{◌⊎◌, Option, Some, None, IfSome, Result, Ok, Err, OnOk}
+use Rattle.std.specs.Prelude.{◌⊎◌, Option, Some, None, IfSome, Result, Ok, Err, OnOk, ⊤}
 use Rattle.fz_base.specs.FirstByte.{IsShut}
 use Rattle.fz_base.specs.Source.{HoldsLength}
 use Rattle.fz_base.specs.declared.failure.Stop.{Stop}
@@ -13,7 +13,7 @@ use Rattle.fz_words.specs.Jobs.{Asked}
 use Rattle.fz_app.specs.Ends.{Ends}
 use Rattle.fz_app.specs.Outputs.{HoldsJobOutput, JobRestores}
 use Rattle.fz_app.specs.Promised.{IsPromised}
-use Rattle.fz_app.proofs.JobAnswers.{JobSays, promised}
+use Rattle.fz_app.proofs.JobAnswers.{JobSays, always_ok, promised}
 
 -- a file that stands for another has no fault
 is_sound : (held contents : Option (List ℕ)) → HoldsJobOutput Unpack held contents → IsShut contents ⊎ IfSome held (λ file. IsFirstFault Unpack file None)
@@ -37,4 +37,4 @@ module _ (W memory : ℕ) (input output : List ℕ) (old new : Ends) where
   restored_of law one n short long (Err stop) stands = tt
 
   pub unpacked : ComesBack → StandsForOneFile → (n : ℕ) → n ≤ 2 ^ 62 → HoldsLength old.held n → (answer : Result (Unit {0}) Stop) → JobSays asked old new answer → IsPromised asked old new answer
-  unpacked law one n short long answer s = promised asked old new answer s (is_sound old.held new.sink.contents) (restored_of law one n short long answer s.output)
+  unpacked law one n short long answer s = promised asked old new answer s (is_sound old.held new.sink.contents) (restored_of law one n short long answer s.output) (always_ok answer ⊤ tt)

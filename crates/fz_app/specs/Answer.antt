@@ -1,7 +1,10 @@
 -- The status of a run is made from its job's answer, and tells it: so what is said of the answers of jobs is said of statuses.
-use Rattle.std.specs.Prelude.{ℕ, ◌≡◌, ◌≢◌, Bool, true, false, List, Option, Some, None, Result, Ok, Err, ⊤}
+use Rattle.std.specs.Prelude.{ℕ, ◌≡◌, ◌≢◌, Bool, true, false, List, Option, Some, None, IfSome, Result, Ok, Err, OnOk, ⊤, if◌then◌else◌}
 use Rattle.fz_base.specs.declared.failure.Stop.{Stop}
 use Rattle.fz_base.specs.declared.failure.Stop.TheVariants.{Refused as StopRefused, ReadFault as StopRead, WriteFault as StopWrite, OverLimit as StopLimit, NoMemory as StopMemory}
+use Rattle.fz_files.specs.Lines.{has_wrong_sums}
+use Rattle.fz_files.specs.declared.job.Job.{Job}
+use Rattle.fz_files.specs.declared.job.Job.TheVariants.{Pack, Unpack, Cut, Verify, List as ListHdus, Drill}
 use Rattle.fz_words.specs.Jobs.{Asked}
 use Rattle.fz_app.specs.Asked.{IfAsked}
 use Rattle.fz_app.specs.declared.status.Status.{Status}
@@ -50,3 +53,17 @@ done_of (Err stop) = Err stop
 abbrev pub IsPromisedTo : Option Asked → Status → (Asked → Result ⊤ Stop → Type 0) → Type 0
 IsPromisedTo None status P = status ≡ Usage
 IsPromisedTo (Some asked) status P = IfAnswer status (P asked) × (status ≢ Usage)
+
+-- how a job ends that is done: `verify` by the sums of the file, and every other job in one way
+abbrev pub end_of : Job → List ℕ → Status
+end_of (Pack options) file = Done
+end_of Unpack file = Done
+end_of (Cut wanted sieve) file = Done
+end_of Verify file = if has_wrong_sums file then Different else Done
+end_of ListHdus file = Done
+end_of (Drill rows) file = Done
+
+-- how a job ends: Different comes of `verify` alone, and a job that was done ends as it does by the file
+pub record IsEnd (job : Job) (held : Option (List ℕ)) (status : Status) : Type 0 where
+  pub of_verify : status ≡ Different → job ≡ Verify
+  pub done : IfAnswer status (λ answer. OnOk answer (IfSome held (λ file. status ≡ end_of job file)))

@@ -8,7 +8,7 @@ use Rattle.fz_words.specs.Jobs.{Asked, job_of}
 abbrev pub is_built : Job → Bool
 is_built (Pack options) = true
 is_built Unpack = true
-is_built (Cut wanted sieve) = false
+is_built (Cut wanted sieve) = true
 is_built Verify = true
 is_built ListHdus = true
 is_built (Drill rows) = false

@@ -1,13 +1,17 @@
 -- What a job writes (FITS 4.0, sections 4.4.1 and 10.1).
 use Rattle.std.specs.Prelude.{ℕ, ◌≡◌, ◌≤◌, ◌^◌, true, Bool, List, [], length, Option, None, IfSome, ⊤}
+use Rattle.fz_base.specs.Ranges.{LogsIn}
 use Rattle.fz_tile.specs.Plain.{AreBytes}
 use Rattle.fz_head.specs.declared.options.PackOptions.{PackOptions}
+use Rattle.fz_files.specs.Cutout.{touched}
 use Rattle.fz_files.specs.CutoutBytes.{IsCutout}
 use Rattle.fz_files.specs.FirstFault.{IsFirstFault}
 use Rattle.fz_files.specs.Packed.{IsPackedFile}
 use Rattle.fz_files.specs.StandsFor.{IsProfileFile, StandsFor}
 use Rattle.fz_files.specs.declared.job.Job.{Job}
 use Rattle.fz_files.specs.declared.job.Job.TheVariants.{Pack, Unpack, Cut, Verify, List as ListHdus, Drill}
+use Rattle.fz_grid.specs.declared.sieve.Sieve.{Sieve}
+use Rattle.fz_cut.specs.Slices.{HoldsSlice}
 
 -- the bytes are what a job writes for a file; some jobs write nothing
 abbrev pub IsOutput : Job → List ℕ → List ℕ → Type 0
@@ -68,3 +72,21 @@ IsFinished (Drill rows) finished = ⊤
 pub record IsWhole (job : Job) (held contents : Option (List ℕ)) : Type 0 where
   pub output : HoldsJobOutput job held contents
   pub sound : IfSome held (λ file. IsFirstFault job file None)
+
+-- a fact of the HDU that a job `cut` wants and of its sieve; nothing of any other job
+abbrev pub IfCut : Job → (Option ℕ → Sieve → Type 0) → Type 0
+IfCut (Pack options) P = ⊤
+IfCut Unpack P = ⊤
+IfCut (Cut wanted sieve) P = P wanted sieve
+IfCut Verify P = ⊤
+IfCut ListHdus P = ⊤
+IfCut (Drill rows) P = ⊤
+
+-- what a cut wrote is a slice of every file that its source stands for
+abbrev pub HoldsJobSlice : Job → Option (List ℕ) → Option (List ℕ) → Type 0
+HoldsJobSlice job held contents = IfCut job (λ wanted sieve. HoldsSlice wanted sieve held contents)
+
+-- every byte of the ranges that `cut` reads lies in the header of an HDU that its checks come to, or, where no header is refused, in the
+-- row or the record of a tile that holds a pick
+abbrev pub ReadsTouched : Job → Option (List ℕ) → Option (List (ℕ × ℕ)) → Option (List (ℕ × ℕ)) → Type 0
+ReadsTouched job held old new = IfCut job (λ wanted sieve. IfSome held (λ file. LogsIn (touched wanted sieve file) old new))

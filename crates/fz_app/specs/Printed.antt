@@ -1,4 +1,4 @@
--- What a text got: the lines of the job, and behind them the line of the status.
+-- What a job did to the text: it got the lines of the job.
 use Rattle.std.specs.Prelude.{ℕ, ◌≡◌, List, Option, Some, None, Result, OnOk, IsErrOf, ⊤}
 use Rattle.fz_base.specs.Counts.{Rose, CountsKept}
 use Rattle.fz_base.specs.Stop.{IsRefused}
@@ -11,9 +11,7 @@ use Rattle.fz_job.specs.Clauses.{IsUnmade}
 use Rattle.fz_verify.specs.Clauses.{PrintsLines}
 use Rattle.fz_words.specs.Jobs.{Asked}
 use Rattle.fz_app.specs.Answer.{IfAnswer}
-use Rattle.fz_app.specs.Asked.{asked_for}
 use Rattle.fz_app.specs.Ends.{TextIs}
-use Rattle.fz_app.specs.Lines.{status_line, GotLine}
 use Rattle.fz_app.specs.declared.status.Status.{Status}
 
 -- What a job that prints did to the text. The text has got the lines of the job and nothing else, after the refusal of a row those of the
@@ -42,9 +40,3 @@ JobPrinted (Drill rows) held old new answer = HasPrinted (Drill rows) held old n
 abbrev pub IsPrinted : Option Asked → Option (List ℕ) → TextIs → TextIs → Status → Type 0
 IsPrinted None held old new status = new ≡ old
 IsPrinted (Some asked) held old new status = IfAnswer status (JobPrinted asked.job held old new)
-
--- Text: it got the lines of the job, and behind them the line of the status. Between them it stood as the job left it.
-pub record GotText (words : List (List ℕ)) (held : Option (List ℕ)) (old new : TextIs) (status : Status) : Type 0 where
-  pub between : TextIs
-  pub lines : IsPrinted (asked_for words) held old between status
-  pub line : GotLine (status_line status) between.contents new.contents between.tally new.tally

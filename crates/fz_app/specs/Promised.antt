@@ -12,13 +12,14 @@ use Rattle.fz_job.specs.Clauses.{Answers, IsUnmade, TellsFirstFault, greatest_bo
 use Rattle.fz_words.specs.Jobs.{Asked}
 use Rattle.fz_app.specs.Asked.{limit_of}
 use Rattle.fz_app.specs.Ends.{Ends, IsSameSink, counts_written}
-use Rattle.fz_app.specs.Outputs.{HoldsJobOutput, JobRestores, IsFinished, IsWhole}
+use Rattle.fz_app.specs.Outputs.{HoldsJobOutput, HoldsJobSlice, JobRestores, IsFinished, IsWhole, ReadsTouched}
 use Rattle.fz_app.specs.Printed.{JobPrinted}
 
 -- what a job promises of its answer to what the words ask for
 pub record IsPromised (asked : Asked) (old new : Ends) (answer : Result ⊤ Stop) : Type 0 where
   pub restored : OnOk answer (JobRestores asked.job old.held new.sink.contents)
   pub output : OnOk answer (HoldsJobOutput asked.job old.held new.sink.contents × IsFinished asked.job new.sink.finished)
+  pub slice : OnOk answer (HoldsJobSlice asked.job old.held new.sink.contents)
   pub first_fault : TellsFirstFault asked.job old.held answer
   pub answered : Answers asked.job old.held old.source new.source (counts_written asked.job old) (counts_written asked.job new) (limit_of asked old.meter.limit) asked.workers answer
   pub first_byte : OnErr answer (IsShut new.sink.contents ⊎ (IsWhole asked.job old.held new.sink.contents × (IsErrOf answer StopWrite ⊎ IsErrOf answer StopMemory)))
@@ -35,6 +36,7 @@ pub record IsPromised (asked : Asked) (old new : Ends) (answer : Result ⊤ Stop
   pub block : limit_of asked old.meter.limit < 2880 → IsErrOf answer (StopLimit 0 2880 (limit_of asked old.meter.limit)) ⊎ (IsErrOf answer StopRead ⊎ IsErrOf answer StopMemory)
   pub unmade : IsUnmade asked.job old.held (IsSameSink old.sink new.sink) answer
   pub held_is : new.held ≡ old.held
+  pub touched : ReadsTouched asked.job old.held old.ranges new.ranges
   pub told_ranges : StaysTold old.ranges new.ranges
   pub told_contents : StaysTold old.sink.contents new.sink.contents
   pub source_counts : CountsKept old.source new.source

@@ -1,22 +1,21 @@
--- What a run promises, whatever the words, the source, the sink and the meter.
-use Rattle.std.specs.Prelude.{ℕ, ◌≡◌, ◌⊎◌, ◌≤◌, Bool, List, Option, Some, None, IfSome, OnOk, OnErr, IsErrOf, if◌then◌else◌}
+-- What a run promises, whatever the words, the source, the sink, the text and the meter.
+use Rattle.std.specs.Prelude.{ℕ, ◌≡◌, ◌≢◌, ◌⊎◌, ◌≤◌, Bool, List, Option, Some, None, IfSome, OnOk}
 use Rattle.fz_base.specs.Counts.{Rose, Tally}
 use Rattle.fz_base.specs.FirstByte.{IsShut}
 use Rattle.fz_base.specs.Meter.{Gauge}
-use Rattle.fz_base.specs.declared.failure.Stop.TheVariants.{WriteFault as StopWrite, NoMemory as StopMemory}
 use Rattle.fz_base.specs.declared.fault.Fault.{Fault}
 use Rattle.fz_files.specs.Buffers.{job_bound}
 use Rattle.fz_files.specs.FirstFault.{IsFirstFault}
-use Rattle.fz_files.specs.Lines.{has_wrong_sums}
 use Rattle.fz_files.specs.declared.job.Job.{Job}
-use Rattle.fz_files.specs.declared.job.Job.TheVariants.{Pack, Unpack, Cut, Verify, List as ListHdus, Drill}
 use Rattle.fz_job.specs.Clauses.{TellsFirstFault, greatest_bound}
-use Rattle.fz_app.specs.Answer.{IfAnswer, IfRan}
-use Rattle.fz_app.specs.Asked.{IfAsked, limit_of}
-use Rattle.fz_app.specs.Ends.{written_counts}
-use Rattle.fz_app.specs.Outputs.{HoldsJobOutput, JobRestores, IsFinished, IsWhole, PackedIsSound}
+use Rattle.fz_app.specs.Answer.{IfRan, end_of}
+use Rattle.fz_app.specs.Asked.{IfAsked, asked_for, limit_of}
+use Rattle.fz_app.specs.Ends.{TextIs, written_counts}
+use Rattle.fz_app.specs.Lines.{status_line, GotLine}
+use Rattle.fz_app.specs.Outputs.{HoldsJobOutput, HoldsJobSlice, JobRestores, IsFinished, IsWhole, PackedIsSound, ReadsTouched}
+use Rattle.fz_app.specs.Printed.{IsPrinted}
 use Rattle.fz_app.specs.declared.status.Status.{Status}
-use Rattle.fz_app.specs.declared.status.Status.TheVariants.{Done, Different, Refused, NoMemory}
+use Rattle.fz_app.specs.declared.status.Status.TheVariants.{Done, Refused, WriteFault, NoMemory}
 
 -- Output: after a job that was done the sink holds what the job writes for the bytes of the source, and was finished.
 abbrev pub HasOutput : List (List ℕ) → Option (List ℕ) → Option (List ℕ) → Bool → Status → Type 0
@@ -33,6 +32,15 @@ pub record IsRestored (words : List (List ℕ)) (held contents : Option (List �
 abbrev pub HasFirstFault : List (List ℕ) → Option (List ℕ) → Status → Type 0
 HasFirstFault words held status = IfRan words status (λ asked answer. TellsFirstFault asked.job held answer)
 
+-- Slice: after `cut` was done the sink holds a slice of every file that the source stands for: the numbers of its image at the picks, axis 1
+-- fastest.
+abbrev pub HasSlice : List (List ℕ) → Option (List ℕ) → Option (List ℕ) → Status → Type 0
+HasSlice words held contents status = IfRan words status (λ asked answer. OnOk answer (HoldsJobSlice asked.job held contents))
+
+-- Touched: whatever the answer, every byte that `cut` read lies in the ranges that it may read.
+abbrev pub ReadsWithin : List (List ℕ) → Option (List ℕ) → Option (List (ℕ × ℕ)) → Option (List (ℕ × ℕ)) → Type 0
+ReadsWithin words held old new = IfAsked words (λ asked. ReadsTouched asked.job held old new)
+
 -- Buffers: nothing is live, the limit is that of the meter or of the words, and the peak is at most that and at most the
 -- bound of the job.
 pub record BuffersAreBounded (words : List (List ℕ)) (held : Option (List ℕ)) (old new : Gauge) : Type 0 where
@@ -42,29 +50,17 @@ pub record BuffersAreBounded (words : List (List ℕ)) (held : Option (List ℕ)
   pub peak : IfAsked words (λ asked. IfSome held (λ file. new.peak ≤ job_bound asked.job file asked.workers))
   pub most : IfAsked words (λ asked. new.peak ≤ greatest_bound asked.job asked.workers)
 
--- First byte: after another end than done the contents are empty or begin with another byte than S, or they are the whole
--- output of the job, and then the answer is WriteFault or NoMemory.
+-- First byte: after another status than Done the contents are empty or begin with another byte than S, or they are the whole
+-- output of the job on a file without a fault, and then the status is WriteFault or NoMemory.
 abbrev pub HasFirstByteLast : List (List ℕ) → Option (List ℕ) → Option (List ℕ) → Status → Type 0
 HasFirstByteLast words held contents status =
-    IfRan words status (λ asked answer. OnErr answer (IsShut contents ⊎ (IsWhole asked.job held contents × (IsErrOf answer StopWrite ⊎ IsErrOf answer StopMemory))))
+    status ≢ Done → IsShut contents ⊎ (IfAsked words (λ asked. IsWhole asked.job held contents) × ((status ≡ WriteFault) ⊎ (status ≡ NoMemory)))
 
--- how a job ends that is done: `verify` by the sums of the file, and every other job in one way
-abbrev pub end_of : Job → List ℕ → Status
-end_of (Pack options) file = Done
-end_of Unpack file = Done
-end_of (Cut wanted sieve) file = Done
-end_of Verify file = if has_wrong_sums file then Different else Done
-end_of ListHdus file = Done
-end_of (Drill rows) file = Done
-
--- how a job ends: Different comes of `verify` alone, and a job that was done ends as it does by the file
-pub record IsEnd (job : Job) (held : Option (List ℕ)) (status : Status) : Type 0 where
-  pub of_verify : status ≡ Different → job ≡ Verify
-  pub done : IfAnswer status (λ answer. OnOk answer (IfSome held (λ file. status ≡ end_of job file)))
-
--- Different: comes exactly where the job is `verify`, it was done, and a sum of the file is wrong.
-abbrev pub IsDifferent : List (List ℕ) → Option (List ℕ) → Status → Type 0
-IsDifferent words held status = IfAsked words (λ asked. IsEnd asked.job held status)
+-- Text: it got the lines of the job, and behind them the line of the status. Between them it stood as the job left it.
+pub record GotText (words : List (List ℕ)) (held : Option (List ℕ)) (old new : TextIs) (status : Status) : Type 0 where
+  pub between : TextIs
+  pub lines : IsPrinted (asked_for words) held old between status
+  pub line : GotLine (status_line status) between.contents new.contents between.tally new.tally
 
 -- The answers to a file with this first fault, or none: it is refused for it, or the job is done. Want of memory may stop that.
 abbrev pub IsAnswerTo : Job → List ℕ → Option Fault → Status → Type 0

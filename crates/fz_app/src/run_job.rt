@@ -1,8 +1,8 @@
 //! The top call: it does all that the program does.
 ghost use Rattle.std.specs.Prelude.{◌≡◌, ◌≤◌, ◌^◌, [], Some, IfOk, IfSome};
-ghost use Rattle.fz_files.specs.declared.job.Job.TheVariants.{List as ListHdus, Pack, Unpack, Verify};
+ghost use Rattle.fz_files.specs.declared.job.Job.TheVariants.{Cut, List as ListHdus, Pack, Unpack, Verify};
 ghost use Rattle.fz_head.specs.Planned.{AreOptions};
-ghost use Rattle.fz_words.specs.Lawful.{IsLawful};
+ghost use Rattle.fz_words.specs.Lawful.{IsBox, IsLawful};
 ghost use Rattle.fz_words.specs.Parts.{texts_of};
 ghost use Rattle.fz_words.specs.Seen.{asked_of};
 ghost use Rattle.fz_base.specs.Counts.{CountsKept};
@@ -11,21 +11,22 @@ ghost use Rattle.fz_base.specs.Source.{HoldsLength};
 ghost use Rattle.fz_base.specs.Stop.{Codes};
 ghost use Rattle.fz_base.specs.Told.{StaysTold};
 ghost use Rattle.fz_verify.specs.Clauses.{IsRightAsSaid};
-ghost use Rattle.fz_app.specs.Answer.{IsPromisedTo, done_of};
+ghost use Rattle.fz_app.specs.Answer.{IsEnd, IsPromisedTo, done_of};
 ghost use Rattle.fz_app.specs.Asked.{asked_for, if_built};
-ghost use Rattle.fz_app.specs.Causes.{AreCountsKept, DoneHasCause, IsLeft, IsUnmadeFor, IsUsage, OverLimitHasCause, ReadFaultHasCause, RefusedHasCause, WriteFaultHasCause};
+ghost use Rattle.fz_app.specs.Causes.{AreCountsKept, DoneHasCause, IsDifferent, IsUnmadeFor, IsUntouched, IsUsage, OverLimitHasCause, ReadFaultHasCause, RefusedHasCause, WriteFaultHasCause};
 ghost use Rattle.fz_app.specs.Ends.{SinkIs, TextIs};
 ghost use Rattle.fz_app.specs.Lines.{status_line, GotLine};
 ghost use Rattle.fz_app.specs.Outputs.{LeavesSink};
-ghost use Rattle.fz_app.specs.Printed.{GotText};
 ghost use Rattle.fz_app.specs.Promised.{IsPromised};
-ghost use Rattle.fz_app.specs.Promises.{BuffersAreBounded, HasFirstByteLast, HasFirstFault, HasOutput, IsComplete, IsDifferent, IsEnd, IsRestored};
+ghost use Rattle.fz_app.specs.Promises.{BuffersAreBounded, GotText, HasFirstByteLast, HasFirstFault, HasOutput, HasSlice, IsComplete, IsRestored, ReadsWithin};
 ghost use Rattle.fz_app.specs.declared.status.Status.TheVariants.{Usage as IsUsageStatus};
 
 use crate::line::line_of;
 use crate::status::{Status, ended, verified};
 use fz_base::{Gate, Meter, Sink, Source, Stop, Text};
-use fz_files::{Job, one_file_law, one_first_fault_law};
+use fz_cut::{cut, slice_law};
+use fz_files::{Job, buffers_law, one_file_law, one_first_fault_law};
+use fz_grid::Sieve;
 use fz_head::PackOptions;
 use fz_pack::pack;
 use fz_pool::Window;
@@ -39,9 +40,10 @@ use std::thread::Threads;
 /// Does what the words ask for, reads the source, writes the sink and prints to the text, and answers
 /// how that ended. The words are those after the program's name.
 ///
-/// `verify` and `list` print their lines and leave the sink as it is. Words of the grammar that ask for a job
-/// which is not built yet are Usage too. For each status but Done and Different one line is put to the text
-/// at the end; if that fails, the status stays.
+/// `pack`, `unpack` and `cut` write the sink, the last from the headers and the tiles with a pick alone; `verify` and
+/// `list` print their lines and leave the sink as it is. Words of the grammar that ask for a job which is not built
+/// yet are Usage too. For each status but Done and Different one line is put to the text at the end; if that
+/// fails, the status stays.
 pub fn run<R: Threads + Sync, S: Source, K: Sink, T: Text, G: Gate>(
     rt: &R,
     alloc: Global,
@@ -58,6 +60,8 @@ pub fn run<R: Threads + Sync, S: Source, K: Sink, T: Text, G: Gate>(
     ensures output { HasOutput (texts_of words.now) (S.held source.old) (K.contents sink.new) (K.finished sink.new) result }
     ensures restored { IsRestored (texts_of words.now) (S.held source.old) (K.contents sink.new) result }
     ensures first_fault { HasFirstFault (texts_of words.now) (S.held source.old) result }
+    ensures slice { HasSlice (texts_of words.now) (S.held source.old) (K.contents sink.new) result }
+    ensures touched { ReadsWithin (texts_of words.now) (S.held source.old) (S.ranges source.old) (S.ranges source.new) }
     ensures buffers { BuffersAreBounded (texts_of words.now) (S.held source.old) meter.old meter.new }
     ensures first_byte { HasFirstByteLast (texts_of words.now) (S.held source.old) (K.contents sink.new) result }
     ensures text { GotText (texts_of words.now) (S.held source.old) (record { contents = T.contents text.old; tally = T.tally text.old }) (record { contents = T.contents text.new; tally = T.tally text.new }) result }
@@ -65,15 +69,13 @@ pub fn run<R: Threads + Sync, S: Source, K: Sink, T: Text, G: Gate>(
 
     ensures different { IsDifferent (texts_of words.now) (S.held source.old) result }
     ensures usage { IsUsage (texts_of words.now) result }
-    // Words that ask for nothing read, make and take nothing.
-    ensures untouched { result ≡ IsUsageStatus → (source.new ≡ source.old) × (sink.new ≡ sink.old) × (meter.new ≡ meter.old) }
+    ensures untouched { IsUntouched (texts_of words.now) (source.new ≡ source.old) (sink.new ≡ sink.old) (meter.new ≡ meter.old) (record { contents = T.contents text.old; tally = T.tally text.old }) (record { contents = T.contents text.new; tally = T.tally text.new }) result }
     ensures done { DoneHasCause (texts_of words.now) (S.tally source.old) (S.tally source.new) (K.tally sink.old) (K.tally sink.new) (T.tally text.old) (T.tally text.new) result }
     ensures refused { RefusedHasCause (texts_of words.now) (S.tally source.old) (S.tally source.new) (K.tally sink.old) (K.tally sink.new) result }
     ensures read_fault { ReadFaultHasCause (texts_of words.now) (S.tally source.old) (S.tally source.new) result }
     ensures write_fault { WriteFaultHasCause (texts_of words.now) (K.tally sink.old) (K.tally sink.new) (T.tally text.old) (T.tally text.new) result }
     ensures over_limit { OverLimitHasCause (texts_of words.now) (S.held source.old) meter.old.limit result }
     ensures unmade { IsUnmadeFor (texts_of words.now) (S.held source.old) ((K.created sink.new ≡ K.created sink.old) × (K.contents sink.new ≡ K.contents sink.old)) result }
-    ensures left { IsLeft (texts_of words.now) (sink.new ≡ sink.old) }
 
     ensures held { S.held source.new ≡ S.held source.old }
     ensures told_ranges { StaysTold (S.ranges source.old) (S.ranges source.new) }
@@ -83,6 +85,8 @@ pub fn run<R: Threads + Sync, S: Source, K: Sink, T: Text, G: Gate>(
     one_first_fault_law();
     // A packed file has no fault.
     round_trip_law();
+    // No taking passes the bound.
+    buffers_law();
     let status = answer_to(rt, alloc, words, source, sink, text, gate, meter);
     // This call tells that the peak is within the limit.
     let _peak = meter.peak();
@@ -140,7 +144,10 @@ fn run_request<R: Threads + Sync, S: Source, K: Sink, T: Text, G: Gate>(
         Job::Unpack => ended(run_unpack(rt, alloc, request, source, sink, gate, meter)),
         Job::Verify => verified(run_verify(rt, alloc, request, source, text, gate, meter)),
         Job::List => ended(run_list(request, source, text, meter)),
-        Job::Cut { .. } | Job::Drill { .. } => Status::Usage,
+        Job::Cut { hdu, sieve } => ended(run_cut(
+            rt, alloc, request, *hdu, sieve, source, sink, gate, meter,
+        )),
+        Job::Drill { .. } => Status::Usage,
     }
 }
 
@@ -201,6 +208,44 @@ fn run_unpack<R: Threads + Sync, S: Source, K: Sink, G: Gate>(
     let (length, mut window) = begin(alloc, request, request.workers, source, meter)?;
     let output = request.output;
     unpack(rt, source, length, output, sink, meter, &mut window, gate)
+}
+
+// Cuts the picks of a sieve out of the file IN into OUT.
+#[tactic(auto, using(crate::proofs::CutAnswers::nothing_read))]
+fn run_cut<R: Threads + Sync, S: Source, K: Sink, G: Gate>(
+    rt: &R,
+    alloc: Global,
+    request: &Request<'_>,
+    hdu: Option<u32>,
+    sieve: &Sieve,
+    source: &mut S,
+    sink: &mut K,
+    gate: &G,
+    meter: &mut Meter,
+) -> Result<(), Stop>
+    requires job { request.now.job ≡ Cut hdu sieve.now }
+    requires sieve { IsBox sieve.now }
+    requires workers { (1 ≤ request.now.workers) × (request.now.workers ≤ 64) }
+    requires empty { IfSome (K.contents sink.old) (λ c. c ≡ []) }
+    requires unused { (meter.old.live ≡ 0) × (meter.old.peak ≡ 0) }
+    ensures promised { (text : TextIs) → IsPromised (asked_of request.now) (record { held = S.held source.old; ranges = S.ranges source.old; source = S.tally source.old; sink = record { contents = K.contents sink.old; created = K.created sink.old; finished = K.finished sink.old; tally = K.tally sink.old }; text = text; meter = meter.old }) (record { held = S.held source.new; ranges = S.ranges source.new; source = S.tally source.new; sink = record { contents = K.contents sink.new; created = K.created sink.new; finished = K.finished sink.new; tally = K.tally sink.new }; text = text; meter = meter.new }) result }
+{
+    // A cutout is a slice of what the packed file stands for.
+    slice_law(sieve);
+    let (length, mut window) = begin(alloc, request, request.workers, source, meter)?;
+    let output = request.output;
+    cut(
+        rt,
+        source,
+        length,
+        output,
+        sink,
+        meter,
+        &mut window,
+        gate,
+        hdu,
+        sieve,
+    )
 }
 
 // Verifies the file IN, with one worker. Answers whether no sum is wrong.

@@ -1,8 +1,10 @@
 -- The promises are those of the answer to what the words ask for.
-use Rattle.std.proofs.Common.{ap}
+use Rattle.std.proofs.Common.{◌≡◌, ap}
 use Rattle.fz_words.specs.Parts.{texts_of}
 use Rattle.fz_app.specs.Asked.{asked_for}
-use Rattle.fz_app.proofs.RunPromises.{complete, counts, done, lines, refused, restored, write_fault}
+use Rattle.fz_app.proofs.FirstBytes.{first_byte}
+use Rattle.fz_app.proofs.Limits.{over_limit}
+use Rattle.fz_app.proofs.RunPromises.{complete, counts, done, lines, refused, restored, usage_line, write_fault}
 use Rattle.fz_app.proofs.Tallies.{kept_by}
 use Rattle.fz_app.proofs.run_job.run.Goals as goal
 
@@ -35,3 +37,19 @@ returns-clause-counts g c =
     (λ e. kept_by _ _ (ap g.K.Sink.tally (c.answer_to-status.ensures.untouched e).1))
     (λ e. kept_by _ _ (ap g.T.Text.tally (c.answer_to-status.ensures.untouched e).2))
     (g.T.Text.tally c.report.new.text) c.report.ensures.counts
+
+pub returns-clause-over_limit : goal.returns-clause-over_limit
+returns-clause-over_limit g c = over_limit c.buffers_law.ensures.bounded (texts_of c.args.words.now) _ _ c.answer_to-status.result c.answer_to-status.ensures.promised
+
+pub returns-clause-first_byte : goal.returns-clause-first_byte
+returns-clause-first_byte g c =
+    first_byte _ _ (c.answer_to-status.new.sink ≡ c.args.sink.now) (ap g.K.Sink.contents) c.requires.empty (asked_for (texts_of c.args.words.now)) c.answer_to-status.result
+    c.answer_to-status.ensures.promised c.answer_to-status.ensures.ended c.answer_to-status.ensures.left (λ e. (c.answer_to-status.ensures.untouched e).1)
+
+pub returns-clause-untouched : goal.returns-clause-untouched
+returns-clause-untouched g c = record {
+  by_usage = λ e.
+      let same = c.answer_to-status.ensures.untouched e in
+      (same.0, same.1, same.3, usage_line c.answer_to-status.result _ _ _ (ap (λ x. record { contents = g.T.Text.contents x; tally = g.T.Text.tally x }) same.2) e c.report.ensures.line);
+  sink = c.answer_to-status.ensures.left;
+}

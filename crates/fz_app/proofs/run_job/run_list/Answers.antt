@@ -2,9 +2,10 @@
 use Rattle.std.proofs.Common.{◌≡◌, min, refl, sym, ap, subst, rules}
 use Rattle.fz_base.specs.Meter.{Gauge, narrowed}
 use Rattle.fz_files.specs.declared.job.Job.{Job}
+use Rattle.fz_files.specs.declared.job.Job.TheVariants.{List as ListHdus}
 use Rattle.fz_app.specs.Ends.{Ends}
 use Rattle.fz_app.specs.Promised.{IsPromised}
-use Rattle.fz_app.proofs.TextAnswers.{list_promised, listed}
+use Rattle.fz_app.proofs.TextAnswers.{listed, lists, text_promised}
 use Rattle.fz_app.proofs.run_job.run_list.Goals as goal
 
 pub returns : goal.returns
@@ -19,7 +20,7 @@ returns g c = record {
       let old : Ends = record { held = g.S.Source.held c.args.source.now; ranges = g.S.Source.ranges c.args.source.now; source = g.S.Source.tally c.args.source.now; sink = sink; text = record { contents = g.T.Text.contents c.args.text.now; tally = g.T.Text.tally c.args.text.now }; meter = c.args.meter.now } in
       let new : Ends = record { held = g.S.Source.held c.list.new.source; ranges = g.S.Source.ranges c.list.new.source; source = g.S.Source.tally c.list.new.source; sink = sink; text = record { contents = g.T.Text.contents c.list.new.text; tally = g.T.Text.tally c.list.new.text }; meter = c.list.new.meter } in
       subst (λ (j : Job). IsPromised (record { job = j; workers = c.args.request.now.workers; memory = c.args.request.now.memory; input = c.args.request.now.input.now; output = c.args.request.now.output.now }) old new c.list.result) (sym c.requires.job)
-      (listed _ old new c.list.result (list_promised c.args.request.now.workers c.args.request.now.memory c.args.request.now.input.now c.args.request.now.output.now old new refl empty c.list.result
+      (listed _ old new c.list.result (text_promised ListHdus lists c.args.request.now.workers c.args.request.now.memory c.args.request.now.input.now c.args.request.now.output.now old new refl empty c.list.result
       (record {
         lines = rw held at c.list.ensures.lines;
         first_fault = rw held at c.list.ensures.first_fault;

@@ -35,6 +35,7 @@ returns g c =
             peak = rw (held, none, workers) at c.pack.ensures.buffers.peak;
             most = rw (none, workers) at c.pack.ensures.buffers.most;
             held_is = rw held at c.pack.ensures.kept.held_is;
+            touched = tt;
             told_ranges = rw ranges at c.pack.ensures.told_ranges;
             told_contents = c.pack.ensures.told_contents;
             source_counts = rw tally at c.pack.ensures.kept.source_counts;

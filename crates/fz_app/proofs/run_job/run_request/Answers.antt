@@ -11,6 +11,9 @@ returns-in-Pack-clause-promised g c = ran (asked_of c.args.request.now) _ _ c.en
 pub returns-in-Unpack-clause-promised : goal.returns-in-Unpack-clause-promised
 returns-in-Unpack-clause-promised g c = ran (asked_of c.args.request.now) _ _ c.ended-in-Unpack.result c.run_unpack.result c.ended-in-Unpack.ensures (ap is_built c.in-Unpack.is) (c.run_unpack.ensures.promised (record { contents = g.T.Text.contents c.args.text.now; tally = g.T.Text.tally c.args.text.now }))
 
+pub returns-in-Cut-clause-promised : goal.returns-in-Cut-clause-promised
+returns-in-Cut-clause-promised g c = ran (asked_of c.args.request.now) _ _ c.ended-in-Cut.result c.run_cut.result c.ended-in-Cut.ensures (ap is_built c.in-Cut.is) (c.run_cut.ensures.promised (record { contents = g.T.Text.contents c.args.text.now; tally = g.T.Text.tally c.args.text.now }))
+
 pub returns-in-Verify-clause-promised : goal.returns-in-Verify-clause-promised
 returns-in-Verify-clause-promised g c = verified (asked_of c.args.request.now) _ _ c.verified.result c.run_verify.result c.verified.ensures (ap is_built c.in-Verify.is) (c.run_verify.ensures.promised (record { contents = g.K.Sink.contents c.args.sink.now; created = g.K.Sink.created c.args.sink.now; finished = g.K.Sink.finished c.args.sink.now; tally = g.K.Sink.tally c.args.sink.now }) c.requires.empty)
 

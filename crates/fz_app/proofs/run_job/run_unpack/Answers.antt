@@ -35,6 +35,7 @@ returns g c =
             peak = rw (held, none, workers) at c.unpack.ensures.buffers.peak;
             most = rw (none, workers) at c.unpack.ensures.buffers.most;
             held_is = rw held at c.unpack.ensures.kept.held_is;
+            touched = tt;
             told_ranges = rw ranges at c.unpack.ensures.told_ranges;
             told_contents = c.unpack.ensures.told_contents;
             source_counts = rw tally at c.unpack.ensures.kept.source_counts;

@@ -2,10 +2,11 @@
 use Rattle.std.proofs.Common.{◌≡◌, min, refl, sym, ap, subst, rules}
 use Rattle.fz_base.specs.Meter.{Gauge, narrowed}
 use Rattle.fz_files.specs.declared.job.Job.{Job}
+use Rattle.fz_files.specs.declared.job.Job.TheVariants.{Verify}
 use Rattle.fz_app.specs.Answer.{done_of}
 use Rattle.fz_app.specs.Ends.{Ends}
 use Rattle.fz_app.specs.Promised.{IsPromised}
-use Rattle.fz_app.proofs.TextAnswers.{verify_promised}
+use Rattle.fz_app.proofs.TextAnswers.{text_promised, verifies}
 use Rattle.fz_app.proofs.run_job.run_verify.Goals as goal
 
 pub returns-clause-promised : goal.returns-clause-promised
@@ -19,7 +20,7 @@ returns-clause-promised g c = λ sink empty.
     let old : Ends = record { held = g.S.Source.held c.args.source.now; ranges = g.S.Source.ranges c.args.source.now; source = g.S.Source.tally c.args.source.now; sink = sink; text = record { contents = g.T.Text.contents c.args.text.now; tally = g.T.Text.tally c.args.text.now }; meter = c.args.meter.now } in
     let new : Ends = record { held = g.S.Source.held c.verify.new.source; ranges = g.S.Source.ranges c.verify.new.source; source = g.S.Source.tally c.verify.new.source; sink = sink; text = record { contents = g.T.Text.contents c.verify.new.text; tally = g.T.Text.tally c.verify.new.text }; meter = c.verify.new.meter } in
     subst (λ (j : Job). IsPromised (record { job = j; workers = c.args.request.now.workers; memory = c.args.request.now.memory; input = c.args.request.now.input.now; output = c.args.request.now.output.now }) old new (done_of c.verify.result)) (sym c.requires.job)
-    (verify_promised c.args.request.now.workers c.args.request.now.memory c.args.request.now.input.now c.args.request.now.output.now old new refl empty c.verify.result
+    (text_promised Verify verifies c.args.request.now.workers c.args.request.now.memory c.args.request.now.input.now c.args.request.now.output.now old new refl empty c.verify.result
     (record {
       lines = rw held at c.verify.ensures.lines;
       first_fault = rw held at c.verify.ensures.first_fault;

@@ -1,0 +1,60 @@
+-- What passes the limit: the first taking that does, which is within the bound of a job on a file.
+use Rattle.std.proofs.Common.{◌≡◌, ℕ, ◌+◌, ◌<◌, ◌≤◌, nat_lt, Bool, true, false, List, [], ◌∷◌, refl, subst, arith}
+use Rattle.std.proofs.lemmas.Bool.Decides.{nat_tests}
+use Rattle.std.specs.Prelude.{◌⊎◌, Option, Some, None, IfSome, Result, Ok, Err, IsErrOf, if◌then◌else◌}
+use Rattle.fz_base.specs.Stop.{TellsLimit}
+use Rattle.fz_base.specs.Takings.{TellsFirstPast, first_past}
+use Rattle.fz_base.specs.declared.failure.Stop.{Stop}
+use Rattle.fz_base.specs.declared.failure.Stop.TheVariants.{Refused as StopRefused, ReadFault as StopRead, WriteFault as StopWrite, OverLimit as StopLimit, NoMemory as StopMemory}
+use Rattle.fz_files.specs.Buffers.{AreBounded, IsOfFile, job_bound, job_takings}
+use Rattle.fz_job.specs.Clauses.{greatest_bound}
+use Rattle.fz_words.specs.Jobs.{Asked}
+use Rattle.fz_app.specs.Answer.{IsPromisedTo}
+use Rattle.fz_app.specs.Asked.{asked_for, limit_of}
+use Rattle.fz_app.specs.Causes.{OverLimitHasCause}
+use Rattle.fz_app.specs.Ends.{Ends}
+use Rattle.fz_app.specs.Promised.{IsPromised}
+use Rattle.fz_app.specs.declared.status.Status.{Status}
+use Rattle.fz_app.proofs.Answered.{of_promise}
+
+some_is : (a b : ℕ × ℕ) → ◌≡◌ {A = Option (ℕ × ℕ)} (Some a) (Some b) → a ≡ b
+some_is a b e = cc
+
+on_bool : (b : Bool) (one : ℕ × ℕ) (later : Option (ℕ × ℕ)) → (if b then Some one else later) ≡ None → (b ≡ false) × (later ≡ None)
+on_bool true one later none = absurd cc
+on_bool false one later none = (refl, none)
+
+by_test : (bound : ℕ) (b : Bool) (one found : ℕ × ℕ) (later : Option (ℕ × ℕ)) → one.0 + one.1 ≤ bound → (later ≡ Some found → found.0 + found.1 ≤ bound) → (if b then Some one else later) ≡ Some found → found.0 + found.1 ≤ bound
+by_test bound true one found later here rest is = subst (λ (p : ℕ × ℕ). p.0 + p.1 ≤ bound) (some_is one found is) here
+by_test bound false one found later here rest is = rest is
+
+-- where no taking passes the bound, none is told that does
+told_within : (limit bound : ℕ) (ts : List (ℕ × ℕ)) (found : ℕ × ℕ) → first_past bound ts ≡ None → first_past limit ts ≡ Some found → found.0 + found.1 ≤ bound
+told_within limit bound [] found none is = absurd cc
+told_within limit bound ((live, asked) ∷ ts) found none is =
+    let parts : (nat_lt bound (live + asked) ≡ false) × (first_past bound ts ≡ None) = on_bool (nat_lt bound (live + asked)) (live, asked) (first_past bound ts) none in
+    let here : live + asked ≤ bound = grind (arith, nat_tests, parts.0) in
+    by_test bound (nat_lt limit (live + asked)) (live, asked) found (first_past limit ts) here (told_within limit bound ts found parts.1) is
+
+within_answer : (limit most bound : ℕ) (ts : List (ℕ × ℕ)) (r : Result (Unit {0}) Stop) → first_past bound ts ≡ None → TellsLimit limit most r → TellsFirstPast limit ts r → TellsLimit limit bound r
+within_answer limit most bound ts (Ok x) none tells past = tt
+within_answer limit most bound ts (Err (StopRefused x)) none tells past = tt
+within_answer limit most bound ts (Err StopRead) none tells past = tt
+within_answer limit most bound ts (Err StopWrite) none tells past = tt
+within_answer limit most bound ts (Err (StopLimit live asked told)) none tells past = (tells.0, tells.1, told_within limit bound ts (live, asked) none past)
+within_answer limit most bound ts (Err StopMemory) none tells past = tt
+
+within_held : AreBounded → (a : Asked) (held : Option (List ℕ)) (limit most : ℕ) (r : Result (Unit {0}) Stop) → IsOfFile a.job → TellsLimit limit most r → IfSome held (λ file. TellsFirstPast limit (job_takings a.job file a.workers) r) →
+    IfSome held (λ file. TellsLimit limit (job_bound a.job file a.workers) r)
+within_held bounded a None limit most r of_file tells past = tt
+within_held bounded a (Some file) limit most r of_file tells past = within_answer limit most (job_bound a.job file a.workers) (job_takings a.job file a.workers) r (bounded a.job file a.workers of_file) tells past
+
+-- which taking passed the limit
+pub over_limit : AreBounded → (words : List (List ℕ)) (old new : Ends) (status : Status) → IsPromisedTo (asked_for words) status (λ (a : Asked). IsPromised a old new) → OverLimitHasCause words old.held old.meter.limit status
+over_limit bounded words old new status promise = record {
+  told = of_promise (asked_for words) status (λ (a : Asked). IsPromised a old new) (λ a r. TellsLimit (limit_of a old.meter.limit) (greatest_bound a.job a.workers) r) (λ a r p. p.told_limit) promise;
+  first_past = of_promise (asked_for words) status (λ (a : Asked). IsPromised a old new) (λ a r. IfSome old.held (λ file. TellsFirstPast (limit_of a old.meter.limit) (job_takings a.job file a.workers) r)) (λ a r p. p.first_past) promise;
+  within = of_promise (asked_for words) status (λ (a : Asked). IsPromised a old new) (λ a r. IsOfFile a.job → IfSome old.held (λ file. TellsLimit (limit_of a old.meter.limit) (job_bound a.job file a.workers) r))
+      (λ a r p of_file. within_held bounded a old.held (limit_of a old.meter.limit) (greatest_bound a.job a.workers) r of_file p.told_limit p.first_past) promise;
+  block = of_promise (asked_for words) status (λ (a : Asked). IsPromised a old new) (λ a r. limit_of a old.meter.limit < 2880 → IsErrOf r (StopLimit 0 2880 (limit_of a old.meter.limit)) ⊎ (IsErrOf r StopRead ⊎ IsErrOf r StopMemory)) (λ a r p. p.block) promise;
+}
