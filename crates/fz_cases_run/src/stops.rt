@@ -178,6 +178,32 @@ fn names_go_to_the_source_and_to_the_sink(rt: HostRuntime) -> Result<(), Fail> {
     Ok(())
 }
 
+// What writes no file does not call the sink: its first call would fail.
+#[test]
+fn names_go_to_the_source_that_is_looked_at(rt: HostRuntime) -> Result<(), Fail> {
+    let file = file_of(rt.alloc(), &SMALL_PACKED_FILE)?;
+    let rows: [(&'static str, &[&str], u32); 7] = [
+        ("IN", &["verify", "IN"], 0),
+        ("other", &["verify", "IN"], 4),
+        ("-", &["verify", "--memory=1000000", "-"], 0),
+        ("--memory=1", &["verify", "--", "--memory=1"], 0),
+        ("IN", &["list", "IN"], 0),
+        ("OUT", &["list", "IN"], 4),
+        ("--", &["list", "--", "--"], 0),
+    ];
+    for (input, words, number) in rows {
+        let on = Conditions {
+            input,
+            sink: 0,
+            ..FREE
+        };
+        let outcome = outcome_of(&rt, words, &file, on, &FreeGate)?;
+        assert_eq!(rt; outcome.status.number(), number, "{words:?}");
+        assert_eq!(rt; outcome.sink.faults(), 0, "{words:?}");
+    }
+    Ok(())
+}
+
 #[test]
 fn status_stays_where_the_text_fails(rt: HostRuntime) -> Result<(), Fail> {
     let file = file_of(rt.alloc(), &[SMALL_FILE])?;

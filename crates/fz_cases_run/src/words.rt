@@ -31,7 +31,7 @@ fn statuses_have_numbers(rt: HostRuntime) {
 }
 
 /// Words that are outside the grammar; and at the end those that ask for jobs that are not built.
-const OTHERS: [&[&str]; 30] = [
+const OTHERS: [&[&str]; 29] = [
     &[],
     &["pack"],
     &["pack", "IN"],
@@ -60,7 +60,6 @@ const OTHERS: [&[&str]; 30] = [
     &["unpack", "--block", "32", "IN", "OUT"],
     &["verify", "IN", "OUT"],
     &["list", "IN", "OUT"],
-    &["cut", "--box", "1:2", "IN", "OUT"],
     &["drill", "1"],
 ];
 

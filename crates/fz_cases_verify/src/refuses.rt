@@ -2,7 +2,7 @@
 use fz_base::FreeGate;
 use fz_cases::changes::{Change, changed};
 use fz_cases::files::Hdu;
-use fz_cases::grids::GRID_PACKED;
+use fz_cases::grids::{GRID_PACKED, GRID_ROWS, GRID_TABLE, GRID_TILES};
 use fz_cases::runs::{Conditions, FREE, outcome_of};
 use fz_cases::small::{SMALL_FILE, SMALL_PACKED_FILE};
 use std::test::Fail;
@@ -15,14 +15,41 @@ struct Refusal {
     lines: &'static str,
 }
 
+/// The packed grid behind a primary whose sum is wrong.
+const WRONG_BEFORE: [Hdu<'static>; 2] = [
+    Hdu {
+        cards: &[
+            "SIMPLE  =                    T",
+            "BITPIX  =                    8",
+            "NAXIS   =                    0",
+            "EXTEND  =                    T",
+            "DATASUM = '1       '",
+        ],
+        numbers: &[],
+        bytes: &[],
+    },
+    Hdu {
+        cards: &GRID_TABLE,
+        numbers: &GRID_ROWS,
+        bytes: &GRID_TILES,
+    },
+];
+
 /// Faults of headers, and of rows, where the lines of the HDUs before stand.
-const REFUSALS: [Refusal; 9] = [
+const REFUSALS: [Refusal; 10] = [
     // of two faulty rows the lower is told
     Refusal {
         command: "verify",
         hdus: &GRID_PACKED,
         change: Change::Table(&[], &[(56, &[0, 0, 0, 16]), (88, &[0, 0, 0, 16])]),
         lines: "HDU 0 datasum none checksum none tiles -\nrefused: 18 DescriptorRange hdu 1 row 3\n",
+    },
+    // a faulty row is told, and not that a sum before it is wrong
+    Refusal {
+        command: "verify",
+        hdus: &WRONG_BEFORE,
+        change: Change::Table(&[], &[(56, &[0, 0, 0, 16])]),
+        lines: "HDU 0 datasum wrong checksum none tiles -\nrefused: 18 DescriptorRange hdu 1 row 3\n",
     },
     Refusal {
         command: "verify",
