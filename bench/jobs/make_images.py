@@ -2,8 +2,9 @@
 """make_images.py FOLDER: writes the images of the bench, seeded, where they are not there yet.
 
 ccd.fits has 16-bit counts of a CCD: noise with a standard deviation of 12 over a slope; sky.fits the same in 32 bits over
-a wider slope; mask.fits 8-bit flags in runs. Each has 4096 x 4096 pixels. holes.fits is a file of 10 GB whose data are holes:
-a primary without data and a hundred images of 10,000 x 5,000 pixels of 16 bits. It takes no room on most disks.
+a wider slope; mask.fits 8-bit flags in runs. Each has 4096 x 4096 pixels. large.fits has 10,000 x 10,000 pixels of noise in 16
+bits. holes.fits is a file of 10 GB whose data are holes: a primary without data and a hundred images of 10,000 x 5,000 pixels of
+16 bits. It takes no room on most disks.
 """
 import random
 import struct
@@ -12,15 +13,16 @@ from array import array
 from pathlib import Path
 
 SIDE = 4096
+LARGE = 10_000
 
 
 def card(name, value):
     return f"{name:<8}= {value:>20}".ljust(80).encode("ascii")
 
 
-def header(bitpix):
+def header(bitpix, side):
     cards = [card("SIMPLE", "T"), card("BITPIX", str(bitpix)), card("NAXIS", "2")]
-    cards += [card("NAXIS1", str(SIDE)), card("NAXIS2", str(SIDE)), b"END".ljust(80)]
+    cards += [card("NAXIS1", str(side)), card("NAXIS2", str(side)), b"END".ljust(80)]
     return b"".join(cards).ljust(2880, b" ")
 
 
@@ -43,15 +45,25 @@ def flags(seed):
         yield bytes(row[:SIDE])
 
 
-def write(path, bitpix, rows):
+def shifted_noise(seed):
+    """Rows of noise, each a piece of the same million numbers."""
+    rng = random.Random(seed)
+    pool = array("h", [round(1000 + rng.gauss(0, 12)) for _ in range(1_000_000)])
+    pool.byteswap()
+    for _ in range(LARGE):
+        at = rng.randrange(len(pool) - LARGE)
+        yield pool[at : at + LARGE].tobytes()
+
+
+def write(path, bitpix, rows, side=SIDE):
     if path.exists():
         return
     unfinished = path.with_suffix(".part")
     with open(unfinished, "wb") as out:
-        out.write(header(bitpix))
+        out.write(header(bitpix, side))
         for row in rows:
             out.write(row)
-        out.write(bytes(-(SIDE * SIDE * bitpix // 8) % 2880))
+        out.write(bytes(-(side * side * bitpix // 8) % 2880))
     unfinished.rename(path)
 
 
@@ -82,6 +94,7 @@ def main():
     write(folder / "ccd.fits", 16, noisy("h", 0.5, 1))
     write(folder / "sky.fits", 32, noisy("i", 20.0, 2))
     write(folder / "mask.fits", 8, flags(3))
+    write(folder / "large.fits", 16, shifted_noise(4), LARGE)
     write_holes(folder / "holes.fits", 100, 10_000, 5_000)
 
 

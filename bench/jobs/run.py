@@ -1,5 +1,6 @@
 #!/usr/bin/env python3
-"""run.py FZ FOLDER [pack|unpack|verify|list]: times the jobs of the program FZ on the images of FOLDER, beside fpack, funpack and cp.
+"""run.py FZ FOLDER [pack|unpack|cut|verify|list]: times the jobs of the program FZ on the images of FOLDER, beside fpack, funpack,
+imcopy and cp.
 
 Each time is the least of five runs, which take turns. The most resident memory is that of one run more, by the command time.
 """
@@ -10,6 +11,9 @@ import sys
 import time
 
 PASSES = 5
+# What is cut from an image of 10,000 x 10,000 pixels: a corner in its middle, and every tenth pixel of the whole.
+BOXES = ("4951:5050,4951:5050", "1:10000:10,1:10000:10")
+CUT_TILES = ("10000,1", "100,100")
 WORKERS = (1, 2, 4, 32)
 TIME = "/usr/bin/time"
 IMAGES = (("ccd.fits", ["--codec", "rice"], ["-r"]), ("sky.fits", ["--codec", "rice"], ["-r"]), ("mask.fits", ["--codec", "plio"], ["-p"]))
@@ -85,6 +89,26 @@ def verifying(fz, plain, out, ours, theirs):
     return made
 
 
+def cutting(fz, packed, box, out):
+    """A cutout of what fz packed, with 1 and 4 workers, beside imcopy."""
+    made = [(f"fz cut, {it} worker{'s' * (it > 1)}", [fz, "cut", "--box", box, "--workers", str(it), packed, out]) for it in (1, 4)]
+    if shutil.which("imcopy"):
+        made.append(("imcopy", ["imcopy", f"{packed}[{box}]", out]))
+    return made
+
+
+def cut_all(fz, folder, out):
+    """The cutouts of the large image, in row tiles and in square ones; MB/s are those of what is cut out."""
+    for tile in CUT_TILES:
+        packed = packed_by([fz, "pack", "--tile", tile, f"{folder}/large.fits", f"{folder}/large.{tile}.fz"], f"{folder}/large.{tile}.fz")
+        for box in BOXES:
+            remove(out)
+            run([fz, "cut", "--box", box, packed, out])
+            size = os.path.getsize(out)
+            print(f"cut {box}, large.fits in tiles of {tile}, {size / 1e6:.2f} MB")
+            time_all(cutting(fz, packed, box, out), size, out)
+
+
 def time_all(rows, size, out):
     """Times each command and prints its row."""
     least = {}
@@ -104,12 +128,15 @@ def time_all(rows, size, out):
 def main():
     fz, folder = os.path.abspath(sys.argv[1]), os.path.abspath(sys.argv[2])
     jobs = {"pack": packing, "unpack": unpacking, "verify": verifying}
-    for job in sys.argv[3:] or (*jobs, "list"):
+    for job in sys.argv[3:] or (*jobs, "cut", "list"):
         if job == "list":
             path = f"{folder}/holes.fits"
             size = os.path.getsize(path)
             print(f"list, holes.fits, {size / 1e6:.1f} MB")
             time_all([("fz list", [fz, "list", path])], size, f"{folder}/out.fits")
+            continue
+        if job == "cut":
+            cut_all(fz, folder, f"{folder}/out.fits")
             continue
         # What is unpacked beside verify goes to memory, where there is a folder for that: verify writes nothing.
         out = "/dev/shm/fz_jobs_out.fits" if job == "verify" and os.access("/dev/shm", os.W_OK) else f"{folder}/out.fits"
