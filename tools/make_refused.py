@@ -85,6 +85,8 @@ FILES = {
     "24.PixelRange": put(packed(21, card("ZBITPIX", 8)), HEAP, b"\x7f"),
     "25.TileSize": put(grid_stored(), ROWS + 4 * 16 + 8, number32(1)),
     "26.MisplacedPrimary": misplaced_primary(),
+    "27.NotPacked": SMALL,
+    "28.OutOfBox": grid_stored(),
     "29.PlioOffset": behind_the_last(SMALL, 5, card("BZERO", 32768)),
 }
 
