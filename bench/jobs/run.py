@@ -14,9 +14,16 @@ PASSES = 5
 # What is cut from an image of 10,000 x 10,000 pixels: a corner in its middle, and every tenth pixel of the whole.
 BOXES = ("4951:5050,4951:5050", "1:10000:10,1:10000:10")
 CUT_TILES = ("10000,1", "100,100")
-WORKERS = (1, 2, 4, 32)
+WORKERS = (1, 2, 4, 16, 32, 64)
 TIME = "/usr/bin/time"
-IMAGES = (("ccd.fits", ["--codec", "rice"], ["-r"]), ("sky.fits", ["--codec", "rice"], ["-r"]), ("mask.fits", ["--codec", "plio"], ["-p"]))
+# An image, the codec, and what asks fpack for the same, which stores no tiles.
+IMAGES = (
+    ("ccd.fits", "rice", ["-r"]),
+    ("sky.fits", "rice", ["-r"]),
+    ("mask.fits", "plio", ["-p"]),
+    ("mask.fits", "rice", ["-r"]),
+    ("ccd.fits", "none", None),
+)
 
 
 def run(words):
@@ -49,7 +56,7 @@ def with_workers(fz, job, options, files):
 def packing(fz, plain, out, ours, theirs):
     """Names of what is timed, with its words; each command writes the file `out`."""
     made = with_workers(fz, "pack", ours, [plain, out])
-    if shutil.which("fpack"):
+    if theirs and shutil.which("fpack"):
         made.append(("fpack -C", ["fpack", "-C", *theirs, "-O", out, plain]))
     return made + [("cp", ["cp", plain, out])]
 
@@ -64,7 +71,7 @@ def packed_by(words, packed):
 def unpacking(fz, plain, out, ours, theirs):
     """The same for unpack: of what fz packed and, where it is installed, of what fpack packed, beside funpack on both."""
     files = [("fz", packed_by([fz, "pack", *ours, plain, f"{plain}.fz"], f"{plain}.fz"))]
-    if shutil.which("fpack"):
+    if theirs and shutil.which("fpack"):
         files.append(("fpack", packed_by(["fpack", "-C", *theirs, "-O", f"{plain}.fpack", plain], f"{plain}.fpack")))
     made = []
     for packer, packed in files:
@@ -78,7 +85,7 @@ def verifying(fz, plain, out, ours, theirs):
     """verify of what fz packed with sums and, where it is installed, of what fpack packed, which has sums too; beside it the
     unpacking of the same files by fz with one worker and by funpack, without sums."""
     files = [("fz", packed_by([fz, "pack", "--sums", *ours, plain, f"{plain}.fz"], f"{plain}.fz"))]
-    if shutil.which("fpack"):
+    if theirs and shutil.which("fpack"):
         files.append(("fpack", packed_by(["fpack", *theirs, "-O", f"{plain}.fpack", plain], f"{plain}.fpack")))
     made = []
     for packer, packed in files:
@@ -140,11 +147,11 @@ def main():
             continue
         # What is unpacked beside verify goes to memory, where there is a folder for that: verify writes nothing.
         out = "/dev/shm/fz_jobs_out.fits" if job == "verify" and os.access("/dev/shm", os.W_OK) else f"{folder}/out.fits"
-        for name, ours, theirs in IMAGES:
+        for name, codec, theirs in IMAGES:
             plain = f"{folder}/{name}"
             size = os.path.getsize(plain)
-            print(f"{job}, {name}, {size / 1e6:.1f} MB")
-            time_all(jobs[job](fz, plain, out, ours, theirs), size, out)
+            print(f"{job}, {name}, {codec}, {size / 1e6:.1f} MB")
+            time_all(jobs[job](fz, plain, out, ["--codec", codec], theirs), size, out)
 
 
 if __name__ == "__main__":

@@ -6,7 +6,7 @@ root=$(cd "$(dirname "$0")/../.." && pwd)
 scratch=${1:-$(mktemp -d)}
 mkdir -p "$scratch/crates/plio_bench/src"
 cp -r "$root/crates/fz_plio" "$scratch/crates/"
-printf 'fz_plio:\nplio_bench: fz_plio\n' > "$scratch/crates.txt"
+printf 'fz_plio: byteorder\nplio_bench: fz_plio\n' > "$scratch/crates.txt"
 cp "$root/bench/plio/main.rt.txt" "$scratch/crates/plio_bench/src/main.rt"
 cat > "$scratch/plio.c" <<'C'
 #include <stdint.h>
