@@ -7,6 +7,7 @@ use Rattle.fz_base.specs.declared.failure.Stop.TheVariants.{Refused as StopRefus
 use Rattle.fz_files.specs.declared.job.Job.{Job}
 use Rattle.fz_words.specs.Jobs.{Asked}
 use Rattle.fz_app.specs.Answer.{IfAnswer, IsEnd, IsPromisedTo, status_of_stop}
+use Rattle.fz_app.specs.Asked.{given}
 use Rattle.fz_app.specs.Ends.{Ends}
 use Rattle.fz_app.specs.Outputs.{IsWhole, LeavesSink}
 use Rattle.fz_app.specs.Promised.{IsPromised}
@@ -48,7 +49,7 @@ module _ (old new : Ends) (Same : Type 0) (same : Same → new.sink.contents ≡
   shut : Same → IsShut new.sink.contents
   shut is = subst IsShut (sym (same is)) (empty_is_shut old.sink.contents empty)
 
-  pub first_byte : (asked : Option Asked) (status : Status) → IsPromisedTo asked status (λ (a : Asked). IsPromised a old new) → IfSome asked (λ a. IsEnd a.job old.held status) → IfSome asked (λ a. LeavesSink a.job Same) → (status ≡ stat.Usage → Same) →
+  pub first_byte : (asked : Option Asked) (status : Status) → IsPromisedTo asked status (λ (a : Asked). IsPromised a old new) → IfSome asked (λ a. IsEnd a.job (given a.job old.held) status) → IfSome asked (λ a. LeavesSink a.job Same) → (status ≡ stat.Usage → Same) →
       status ≢ stat.Done → IsShut new.sink.contents ⊎ (IfSome asked (λ a. IsWhole a.job old.held new.sink.contents) × IsLast status)
   first_byte None status p end left usage other = inl (shut (usage p))
   first_byte (Some a) status p end left usage other =

@@ -1,17 +1,19 @@
 -- What a job promises of its answer, and what is promised of the answer to the words, for every job.
-use Rattle.std.proofs.Common.{◌≡◌, ℕ, ◌≤◌, ◌<◌, List, arith, inl, inr}
+use Rattle.std.proofs.Common.{◌≡◌, ℕ, ◌≤◌, ◌<◌, List, refl, subst, arith, inl, inr}
 use Rattle.std.specs.Prelude.{◌⊎◌, max, Option, Some, None, IfSome, Result, Ok, Err, IsErrOf, OnOk, OnErr}
 use Rattle.fz_base.specs.Counts.{CountsKept}
 use Rattle.fz_base.specs.FirstByte.{IsShut}
+use Rattle.fz_base.specs.Stop.{TellsLimit}
 use Rattle.fz_base.specs.Told.{StaysTold}
 use Rattle.fz_base.specs.declared.failure.Stop.{Stop}
 use Rattle.fz_base.specs.declared.failure.Stop.TheVariants.{ReadFault as StopRead, WriteFault as StopWrite, OverLimit as StopLimit, NoMemory as StopMemory}
-use Rattle.fz_files.specs.Buffers.{job_bound}
+use Rattle.fz_files.specs.Buffers.{IsOfFile, job_bound}
 use Rattle.fz_files.specs.FirstFault.{IsFirstFault}
 use Rattle.fz_files.specs.declared.job.Job.{Job}
+use Rattle.fz_files.specs.declared.job.Job.TheVariants.{Pack, Unpack, Cut, Verify, List as ListHdus, Drill}
 use Rattle.fz_job.specs.Clauses.{Answers, HasJobCause, IsShutOrWhole, IsUnmade, TellsFirstFault, greatest_bound}
 use Rattle.fz_words.specs.Jobs.{Asked}
-use Rattle.fz_app.specs.Asked.{limit_of}
+use Rattle.fz_app.specs.Asked.{given, limit_of, most_bound}
 use Rattle.fz_app.specs.Ends.{Ends, IsSameSink, counts_written}
 use Rattle.fz_app.specs.Outputs.{HoldsJobOutput, HoldsJobSlice, IsFinished, IsWhole, JobRestores, ReadsTouched}
 use Rattle.fz_app.specs.Printed.{JobPrinted}
@@ -36,16 +38,17 @@ on_both (Err stop) P Q p q = tt
 
 -- what a job says of the sink and of the source, as they were before the source was attached and after the call
 pub record JobSays (asked : Asked) (old new : Ends) (answer : Result (Unit {0}) Stop) : Type 0 where
+  pub of_file : IsOfFile asked.job
   pub output : OnOk answer (HoldsJobOutput asked.job old.held new.sink.contents)
   pub finished : OnOk answer (IsFinished asked.job new.sink.finished)
-  pub first_fault : TellsFirstFault asked.job old.held answer
-  pub answered : Answers asked.job old.held old.source new.source (counts_written asked.job old) (counts_written asked.job new) (limit_of asked old.meter.limit) asked.workers answer
-  pub cause : HasJobCause asked.job old.held old.source new.source (counts_written asked.job old) (counts_written asked.job new) (limit_of asked old.meter.limit) asked.workers answer
+  pub first_fault : TellsFirstFault asked.job (given asked.job old.held) answer
+  pub answered : Answers asked.job (given asked.job old.held) old.source new.source (counts_written asked.job old) (counts_written asked.job new) (limit_of asked old.meter.limit) asked.workers answer
+  pub cause : HasJobCause asked.job (given asked.job old.held) old.source new.source (counts_written asked.job old) (counts_written asked.job new) (limit_of asked old.meter.limit) asked.workers answer
   pub first_byte : IsShutOrWhole new.sink.contents (HoldsJobOutput asked.job old.held new.sink.contents) answer
   pub unmade : IsUnmade asked.job old.held (IsSameSink old.sink new.sink) answer
   pub live : new.meter.live ≡ 0
   pub limit : new.meter.limit ≡ limit_of asked old.meter.limit
-  pub peak : IfSome old.held (λ file. new.meter.peak ≤ max 0 (job_bound asked.job file asked.workers))
+  pub peak : IfSome (given asked.job old.held) (λ file. new.meter.peak ≤ max 0 (job_bound asked.job file asked.workers))
   pub most : new.meter.peak ≤ max 0 (greatest_bound asked.job asked.workers)
   pub held_is : new.held ≡ old.held
   pub touched : ReadsTouched asked.job old.held old.ranges new.ranges
@@ -54,8 +57,17 @@ pub record JobSays (asked : Asked) (old new : Ends) (answer : Result (Unit {0}) 
   pub source_counts : CountsKept old.source new.source
   pub sink_counts : CountsKept old.sink.tally new.sink.tally
   pub text_counts : CountsKept old.text.tally new.text.tally
-  pub printed : JobPrinted asked.job old.held old.text new.text answer
+  pub printed : JobPrinted asked.job (given asked.job old.held) old.text new.text answer
   pub one_written : counts_written asked.job new ≡ counts_written asked.job old → (new.sink.tally ≡ old.sink.tally) × (new.text.tally ≡ old.text.tally)
+
+-- the bound of a job on a file, whatever the file
+most_is : (job : Job) (W : ℕ) → IsOfFile job → greatest_bound job W ≡ most_bound job W
+most_is (Pack options) W of_file = refl
+most_is Unpack W of_file = refl
+most_is (Cut wanted sieve) W of_file = refl
+most_is Verify W of_file = refl
+most_is ListHdus W of_file = refl
+most_is (Drill rows) W of_file = absurd of_file
 
 -- contents that hold the output are shut, or the file has no fault
 abbrev pub WholeIsSound : Job → Ends → Ends → Type 0
@@ -94,17 +106,17 @@ module _ (asked : Asked) (old new : Ends) where
     output = on_both answer (HoldsJobOutput asked.job old.held new.sink.contents) (IsFinished asked.job new.sink.finished) s.output s.finished;
     slice = slice;
     first_fault = s.first_fault;
-    answered = s.answered;
+    answered = λ unread. s.answered (unread s.of_file);
     first_byte = on_err answer (IsShut new.sink.contents ⊎ (HoldsJobOutput asked.job old.held new.sink.contents × Last answer)) (IsShut new.sink.contents ⊎ (IsWhole asked.job old.held new.sink.contents × Last answer)) (first_byte_of (Last answer) sound) s.first_byte;
     live = s.live;
     limit = s.limit;
-    peak = peak_of old.held s.peak;
+    peak = peak_of (given asked.job old.held) s.peak;
     done = on_ok answer ((new.source ≡ old.source) × (counts_written asked.job new ≡ counts_written asked.job old)) ((new.source ≡ old.source) × (new.sink.tally ≡ old.sink.tally) × (new.text.tally ≡ old.text.tally)) (all_counts s.one_written) s.cause.done;
-    refused = λ is. all_counts s.one_written (s.cause.refused is);
-    read_fault = s.cause.read_fault;
+    refused = λ is. (s.of_file, all_counts s.one_written (s.cause.refused is));
+    read_fault = λ is. (s.of_file, s.cause.read_fault is);
     write_fault = s.cause.write_fault;
-    most = omega (arith, s.most);
-    told_limit = s.cause.over_limit;
+    most = subst (λ (m : ℕ). new.meter.peak ≤ m) (most_is asked.job asked.workers s.of_file) (omega (arith, s.most));
+    told_limit = subst (λ (m : ℕ). TellsLimit (limit_of asked old.meter.limit) m answer) (most_is asked.job asked.workers s.of_file) s.cause.over_limit;
     first_past = s.cause.first_past;
     block = block_of answer s.cause.block;
     unmade = s.unmade;

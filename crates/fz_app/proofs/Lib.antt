@@ -1,6 +1,7 @@
 mod Answered
 mod Complete
 mod CutAnswers
+mod DrillAnswers
 mod FirstBytes
 mod JobAnswers
 mod Limits

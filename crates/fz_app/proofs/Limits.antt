@@ -1,4 +1,4 @@
--- What passes the limit: the first taking that does, which is within the bound of a job on a file.
+-- What passes the limit: the first taking that does, which is within the bound of the job.
 use Rattle.std.proofs.Common.{◌≡◌, ℕ, ◌+◌, ◌<◌, ◌≤◌, nat_lt, Bool, true, false, List, [], ◌∷◌, refl, subst, arith}
 use Rattle.std.proofs.lemmas.Bool.Decides.{nat_tests}
 use Rattle.std.specs.Prelude.{◌⊎◌, Option, Some, None, IfSome, Result, Ok, Err, IsErrOf, if◌then◌else◌}
@@ -7,10 +7,11 @@ use Rattle.fz_base.specs.Takings.{TellsFirstPast, first_past}
 use Rattle.fz_base.specs.declared.failure.Stop.{Stop}
 use Rattle.fz_base.specs.declared.failure.Stop.TheVariants.{Refused as StopRefused, ReadFault as StopRead, WriteFault as StopWrite, OverLimit as StopLimit, NoMemory as StopMemory}
 use Rattle.fz_files.specs.Buffers.{AreBounded, IsOfFile, job_bound, job_takings}
-use Rattle.fz_job.specs.Clauses.{greatest_bound}
-use Rattle.fz_words.specs.Jobs.{Asked}
+use Rattle.fz_files.specs.declared.job.Job.{Job}
+use Rattle.fz_files.specs.declared.job.Job.TheVariants.{Pack, Unpack, Cut, Verify, List as ListHdus, Drill}
+use Rattle.fz_words.specs.Jobs.{Asked, job_of}
 use Rattle.fz_app.specs.Answer.{IsPromisedTo}
-use Rattle.fz_app.specs.Asked.{asked_for, limit_of}
+use Rattle.fz_app.specs.Asked.{given, limit_of, most_bound}
 use Rattle.fz_app.specs.Causes.{OverLimitHasCause}
 use Rattle.fz_app.specs.Ends.{Ends}
 use Rattle.fz_app.specs.Promised.{IsPromised}
@@ -44,17 +45,27 @@ within_answer limit most bound ts (Err StopWrite) none tells past = tt
 within_answer limit most bound ts (Err (StopLimit live asked told)) none tells past = (tells.0, tells.1, told_within limit bound ts (live, asked) none past)
 within_answer limit most bound ts (Err StopMemory) none tells past = tt
 
-within_held : AreBounded → (a : Asked) (held : Option (List ℕ)) (limit most : ℕ) (r : Result (Unit {0}) Stop) → IsOfFile a.job → TellsLimit limit most r → IfSome held (λ file. TellsFirstPast limit (job_takings a.job file a.workers) r) →
-    IfSome held (λ file. TellsLimit limit (job_bound a.job file a.workers) r)
-within_held bounded a None limit most r of_file tells past = tt
-within_held bounded a (Some file) limit most r of_file tells past = within_answer limit most (job_bound a.job file a.workers) (job_takings a.job file a.workers) r (bounded a.job file a.workers of_file) tells past
+on_file : AreBounded → (job : Job) (W : ℕ) (held : Option (List ℕ)) (limit most : ℕ) (r : Result (Unit {0}) Stop) → IsOfFile job → TellsLimit limit most r → IfSome held (λ file. TellsFirstPast limit (job_takings job file W) r) →
+    IfSome held (λ file. TellsLimit limit (job_bound job file W) r)
+on_file bounded job W None limit most r of_file tells past = tt
+on_file bounded job W (Some file) limit most r of_file tells past = within_answer limit most (job_bound job file W) (job_takings job file W) r (bounded job file W of_file) tells past
+
+-- `drill` has one bound, and tells it itself
+within_held : AreBounded → (job : Job) (W : ℕ) (held : Option (List ℕ)) (limit : ℕ) (r : Result (Unit {0}) Stop) → TellsLimit limit (most_bound job W) r → IfSome (given job held) (λ file. TellsFirstPast limit (job_takings job file W) r) →
+    IfSome (given job held) (λ file. TellsLimit limit (job_bound job file W) r)
+within_held bounded (Pack o) W held limit r tells past = on_file bounded (Pack o) W held limit _ r tt tells past
+within_held bounded Unpack W held limit r tells past = on_file bounded Unpack W held limit _ r tt tells past
+within_held bounded (Cut wanted sieve) W held limit r tells past = on_file bounded (Cut wanted sieve) W held limit _ r tt tells past
+within_held bounded Verify W held limit r tells past = on_file bounded Verify W held limit _ r tt tells past
+within_held bounded ListHdus W held limit r tells past = on_file bounded ListHdus W held limit _ r tt tells past
+within_held bounded (Drill rows) W held limit r tells past = tells
 
 -- which taking passed the limit
-pub over_limit : AreBounded → (words : List (List ℕ)) (old new : Ends) (status : Status) → IsPromisedTo (asked_for words) status (λ (a : Asked). IsPromised a old new) → OverLimitHasCause words old.held old.meter.limit status
+pub over_limit : AreBounded → (words : List (List ℕ)) (old new : Ends) (status : Status) → IsPromisedTo (job_of words) status (λ (a : Asked). IsPromised a old new) → OverLimitHasCause words old.held old.meter.limit status
 over_limit bounded words old new status promise = record {
-  told = of_promise (asked_for words) status (λ (a : Asked). IsPromised a old new) (λ a r. TellsLimit (limit_of a old.meter.limit) (greatest_bound a.job a.workers) r) (λ a r p. p.told_limit) promise;
-  first_past = of_promise (asked_for words) status (λ (a : Asked). IsPromised a old new) (λ a r. IfSome old.held (λ file. TellsFirstPast (limit_of a old.meter.limit) (job_takings a.job file a.workers) r)) (λ a r p. p.first_past) promise;
-  within = of_promise (asked_for words) status (λ (a : Asked). IsPromised a old new) (λ a r. IsOfFile a.job → IfSome old.held (λ file. TellsLimit (limit_of a old.meter.limit) (job_bound a.job file a.workers) r))
-      (λ a r p of_file. within_held bounded a old.held (limit_of a old.meter.limit) (greatest_bound a.job a.workers) r of_file p.told_limit p.first_past) promise;
-  block = of_promise (asked_for words) status (λ (a : Asked). IsPromised a old new) (λ a r. limit_of a old.meter.limit < 2880 → IsErrOf r (StopLimit 0 2880 (limit_of a old.meter.limit)) ⊎ (IsErrOf r StopRead ⊎ IsErrOf r StopMemory)) (λ a r p. p.block) promise;
+  told = of_promise (job_of words) status (λ (a : Asked). IsPromised a old new) (λ a r. TellsLimit (limit_of a old.meter.limit) (most_bound a.job a.workers) r) (λ a r p. p.told_limit) promise;
+  first_past = of_promise (job_of words) status (λ (a : Asked). IsPromised a old new) (λ a r. IfSome (given a.job old.held) (λ file. TellsFirstPast (limit_of a old.meter.limit) (job_takings a.job file a.workers) r)) (λ a r p. p.first_past) promise;
+  within = of_promise (job_of words) status (λ (a : Asked). IsPromised a old new) (λ a r. IfSome (given a.job old.held) (λ file. TellsLimit (limit_of a old.meter.limit) (job_bound a.job file a.workers) r))
+      (λ a r p. within_held bounded a.job a.workers old.held (limit_of a old.meter.limit) r p.told_limit p.first_past) promise;
+  block = of_promise (job_of words) status (λ (a : Asked). IsPromised a old new) (λ a r. limit_of a old.meter.limit < 2880 → IsErrOf r (StopLimit 0 2880 (limit_of a old.meter.limit)) ⊎ (IsErrOf r StopRead ⊎ IsErrOf r StopMemory)) (λ a r p. p.block) promise;
 }

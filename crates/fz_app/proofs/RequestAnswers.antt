@@ -1,11 +1,10 @@
--- What is promised of the answer of a job is promised of the status that tells it, to words that ask for a job which is built.
+-- What is promised of the answer of a job is promised of the status that tells it.
 use Rattle.std.proofs.Common.{◌≡◌, sym, subst}
-use Rattle.std.specs.Prelude.{◌≢◌, Bool, true, false, Some, None, Result, Ok, Err, if◌then◌else◌}
+use Rattle.std.specs.Prelude.{◌≢◌, Bool, true, false, Some, Result, Ok, Err}
 use Rattle.fz_base.specs.declared.failure.Stop.{Stop}
 use Rattle.fz_base.specs.declared.failure.Stop.TheVariants.{Refused as StopRefused, ReadFault as StopRead, WriteFault as StopWrite, OverLimit as StopLimit, NoMemory as StopMemory}
 use Rattle.fz_words.specs.Jobs.{Asked}
 use Rattle.fz_app.specs.Answer.{IfAnswer, IsPromisedTo, done_of, status_of, status_of_verify}
-use Rattle.fz_app.specs.Asked.{if_built, is_built}
 use Rattle.fz_app.specs.Ends.{Ends}
 use Rattle.fz_app.specs.Promised.{IsPromised}
 use Rattle.fz_app.specs.declared.status.Status.{Status}
@@ -32,11 +31,8 @@ of_verify (Err (StopLimit live asked limit)) P p = (p, λ e. absurd cc)
 of_verify (Err StopMemory) P p = (p, λ e. absurd cc)
 
 module _ (asked : Asked) (old new : Ends) (status : Status) where
-  built : is_built asked.job ≡ true → IfAnswer status (IsPromised asked old new) × (status ≢ Usage) → IsPromisedTo (if_built (Some asked)) status (λ (a : Asked). IsPromised a old new)
-  built is p = subst (λ (b : Bool). IsPromisedTo (if b then Some asked else None) status (λ (a : Asked). IsPromised a old new)) (sym is) p
+  pub ran : (r : Result (Unit {0}) Stop) → status ≡ status_of r → IsPromised asked old new r → IsPromisedTo (Some asked) status (λ (a : Asked). IsPromised a old new)
+  ran r e p = subst (λ (s : Status). IfAnswer s (IsPromised asked old new) × (s ≢ Usage)) (sym e) (of_status r (IsPromised asked old new) p, not_usage r)
 
-  pub ran : (r : Result (Unit {0}) Stop) → status ≡ status_of r → is_built asked.job ≡ true → IsPromised asked old new r → IsPromisedTo (if_built (Some asked)) status (λ (a : Asked). IsPromised a old new)
-  ran r e is p = built is (subst (λ (s : Status). IfAnswer s (IsPromised asked old new) × (s ≢ Usage)) (sym e) (of_status r (IsPromised asked old new) p, not_usage r))
-
-  pub verified : (r : Result Bool Stop) → status ≡ status_of_verify r → is_built asked.job ≡ true → IsPromised asked old new (done_of r) → IsPromisedTo (if_built (Some asked)) status (λ (a : Asked). IsPromised a old new)
-  verified r e is p = built is (subst (λ (s : Status). IfAnswer s (IsPromised asked old new) × (s ≢ Usage)) (sym e) (of_verify r (IsPromised asked old new) p))
+  pub verified : (r : Result Bool Stop) → status ≡ status_of_verify r → IsPromised asked old new (done_of r) → IsPromisedTo (Some asked) status (λ (a : Asked). IsPromised a old new)
+  verified r e p = subst (λ (s : Status). IfAnswer s (IsPromised asked old new) × (s ≢ Usage)) (sym e) (of_verify r (IsPromised asked old new) p)

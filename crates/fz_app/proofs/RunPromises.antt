@@ -7,16 +7,16 @@ use Rattle.fz_base.specs.Stop.{IsRefused}
 use Rattle.fz_base.specs.declared.fault.Fault.{Fault}
 use Rattle.fz_base.specs.declared.failure.Stop.{Stop}
 use Rattle.fz_base.specs.declared.failure.Stop.TheVariants.{Refused as StopRefused, ReadFault as StopRead, WriteFault as StopWrite, OverLimit as StopLimit, NoMemory as StopMemory}
-use Rattle.fz_files.specs.Buffers.{job_bound}
+use Rattle.fz_files.specs.Buffers.{IsOfFile, job_bound}
 use Rattle.fz_files.specs.FirstFault.{IsFirstFault}
 use Rattle.fz_files.specs.Laws.{HasOneFirstFault}
 use Rattle.fz_files.specs.declared.job.Job.{Job}
 use Rattle.fz_files.specs.declared.job.Job.TheVariants.{Pack, Unpack, Cut, Verify, List as ListHdus, Drill}
 use Rattle.fz_round_trip.specs.RoundTrip.{ComesBack}
 use Rattle.fz_job.specs.Clauses.{IsAnswer, TellsFirstFault}
-use Rattle.fz_words.specs.Jobs.{Asked}
+use Rattle.fz_words.specs.Jobs.{Asked, job_of}
 use Rattle.fz_app.specs.Answer.{IfAnswer, IsEnd, IsPromisedTo}
-use Rattle.fz_app.specs.Asked.{asked_for, limit_of}
+use Rattle.fz_app.specs.Asked.{given, limit_of}
 use Rattle.fz_app.specs.Causes.{AreCountsKept}
 use Rattle.fz_app.specs.Ends.{Ends, TextIs, counts_written, written_counts}
 use Rattle.fz_app.specs.Lines.{status_line, GotLine}
@@ -77,23 +77,23 @@ with_file None status B F p = tt
 with_file (Some file) status B F p = λ b. of_answer status (λ r. B file → F file r) (F file) (λ r f. f b) p
 
 module _ (one : HasOneFirstFault) (old new : Ends) where
-  decided : (a : Asked) (status : Status) → IfAnswer status (IsPromised a old new) × (status ≢ Usage) → IsEnd a.job old.held status → ¬ Rose old.source.faults new.source.faults → ¬ Rose (counts_written a.job old).faults (counts_written a.job new).faults →
-      IfSome old.held (λ file. job_bound a.job file a.workers ≤ limit_of a old.meter.limit → (fault : Option Fault) → IsFirstFault a.job file fault → IsAnswerTo a.job file fault status)
+  decided : (a : Asked) (status : Status) → IfAnswer status (IsPromised a old new) × (status ≢ Usage) → IsEnd a.job (given a.job old.held) status → (IsOfFile a.job → ¬ Rose old.source.faults new.source.faults) → ¬ Rose (counts_written a.job old).faults (counts_written a.job new).faults →
+      IfSome (given a.job old.held) (λ file. job_bound a.job file a.workers ≤ limit_of a old.meter.limit → (fault : Option Fault) → IsFirstFault a.job file fault → IsAnswerTo a.job file fault status)
   decided a status p end s k =
-      if_end old.held a.job status (λ file. job_bound a.job file a.workers ≤ limit_of a old.meter.limit → IfAnswer status (λ r. IsAnswer r × TellsFirstFault a.job (Some file) r)) (λ file. job_bound a.job file a.workers ≤ limit_of a old.meter.limit → (fault : Option Fault) → IsFirstFault a.job file fault → IsAnswerTo a.job file fault status)
+      if_end (given a.job old.held) a.job status (λ file. job_bound a.job file a.workers ≤ limit_of a old.meter.limit → IfAnswer status (λ r. IsAnswer r × TellsFirstFault a.job (Some file) r)) (λ file. job_bound a.job file a.workers ≤ limit_of a old.meter.limit → (fault : Option Fault) → IsFirstFault a.job file fault → IsAnswerTo a.job file fault status)
       (λ file e f b fault is. decides one a.job file status (f b) p.1 e fault is) end
-      (with_file old.held status (λ file. job_bound a.job file a.workers ≤ limit_of a old.meter.limit) (λ file r. IsAnswer r × TellsFirstFault a.job (Some file) r)
-      (of_answer status (IsPromised a old new) (λ r. IfSome old.held (λ file. job_bound a.job file a.workers ≤ limit_of a old.meter.limit → IsAnswer r × TellsFirstFault a.job (Some file) r))
-      (λ r q. answers_to a old.held (limit_of a old.meter.limit) r (q.answered s k) q.first_fault) p.0))
+      (with_file (given a.job old.held) status (λ file. job_bound a.job file a.workers ≤ limit_of a old.meter.limit) (λ file r. IsAnswer r × TellsFirstFault a.job (Some file) r)
+      (of_answer status (IsPromised a old new) (λ r. IfSome (given a.job old.held) (λ file. job_bound a.job file a.workers ≤ limit_of a old.meter.limit → IsAnswer r × TellsFirstFault a.job (Some file) r))
+      (λ r q. answers_to a (given a.job old.held) (limit_of a old.meter.limit) r (q.answered s k) q.first_fault) p.0))
 
-  asked_decided : (asked : Option Asked) (status : Status) (now : Tally) → CountsKept new.text.tally now → IsPromisedTo asked status (λ (a : Asked). IsPromised a old new) → IfSome asked (λ a. IsEnd a.job old.held status) → ¬ Rose old.source.faults new.source.faults →
-      IfSome asked (λ a. ¬ Rose (written_counts a.job old.sink.tally old.text.tally).faults (written_counts a.job new.sink.tally now).faults → IfSome old.held (λ file. job_bound a.job file a.workers ≤ limit_of a old.meter.limit → (fault : Option Fault) → IsFirstFault a.job file fault → IsAnswerTo a.job file fault status))
-  asked_decided None status now kept p e s = tt
-  asked_decided (Some a) status now kept p e s = λ k. decided a status p e s (λ r. k (risen a.job old.sink.tally new.sink.tally old.text.tally new.text.tally now kept r))
+  asked_decided : (asked : Option Asked) (status : Status) (now : Tally) → CountsKept new.text.tally now → IsPromisedTo asked status (λ (a : Asked). IsPromised a old new) → IfSome asked (λ a. IsEnd a.job (given a.job old.held) status) →
+      IfSome asked (λ a. (IsOfFile a.job → ¬ Rose old.source.faults new.source.faults) → ¬ Rose (written_counts a.job old.sink.tally old.text.tally).faults (written_counts a.job new.sink.tally now).faults → IfSome (given a.job old.held) (λ file. job_bound a.job file a.workers ≤ limit_of a old.meter.limit → (fault : Option Fault) → IsFirstFault a.job file fault → IsAnswerTo a.job file fault status))
+  asked_decided None status now kept p e = tt
+  asked_decided (Some a) status now kept p e = λ s k. decided a status p e s (λ r. k (risen a.job old.sink.tally new.sink.tally old.text.tally new.text.tally now kept r))
 
-  pub complete : (words : List (List ℕ)) (status : Status) (now : Tally) → CountsKept new.text.tally now → IsPromisedTo (asked_for words) status (λ (a : Asked). IsPromised a old new) → IfSome (asked_for words) (λ a. IsEnd a.job old.held status) →
+  pub complete : (words : List (List ℕ)) (status : Status) (now : Tally) → CountsKept new.text.tally now → IsPromisedTo (job_of words) status (λ (a : Asked). IsPromised a old new) → IfSome (job_of words) (λ a. IsEnd a.job (given a.job old.held) status) →
       IsComplete words old.held old.source new.source old.sink.tally new.sink.tally old.text.tally now old.meter.limit status
-  complete words status now kept p e s = asked_decided (asked_for words) status now kept p e s
+  complete words status now kept p e = asked_decided (job_of words) status now kept p e
 
   -- WriteFault tells that a count rose, also behind the line of the status
   pub write_fault : (asked : Option Asked) (status : Status) (now : Tally) → CountsKept new.text.tally now → IsPromisedTo asked status (λ (a : Asked). IsPromised a old new) →
@@ -122,14 +122,14 @@ module _ (one : HasOneFirstFault) (old new : Ends) where
   done asked status then now tally line promise = all_stay_asked asked status (new.source ≡ old.source) (new.sink.tally ≡ old.sink.tally) then now tally line
       (of_promise asked status (λ (a : Asked). IsPromised a old new) (λ a r. OnOk r ((new.source ≡ old.source) × (new.sink.tally ≡ old.sink.tally) × (new.text.tally ≡ old.text.tally))) (λ a r p. p.done) promise)
 
-  -- a refusal leaves the counts of source and sink
-  pub refused : (asked : Option Asked) (status : Status) → IsPromisedTo asked status (λ (a : Asked). IsPromised a old new) → IfSome asked (λ a. IfAnswer status (λ r. IsRefused r → (new.source ≡ old.source) × (new.sink.tally ≡ old.sink.tally)))
-  refused asked status = of_promise asked status (λ (a : Asked). IsPromised a old new) (λ a r. IsRefused r → (new.source ≡ old.source) × (new.sink.tally ≡ old.sink.tally)) (λ a r p is. ((p.refused is).0, (p.refused is).1))
+  -- a refusal is of a file, and leaves the counts of source and sink
+  pub refused : (asked : Option Asked) (status : Status) → IsPromisedTo asked status (λ (a : Asked). IsPromised a old new) → IfSome asked (λ a. IfAnswer status (λ r. IsRefused r → IsOfFile a.job × (new.source ≡ old.source) × (new.sink.tally ≡ old.sink.tally)))
+  refused asked status = of_promise asked status (λ (a : Asked). IsPromised a old new) (λ a r. IsRefused r → IsOfFile a.job × (new.source ≡ old.source) × (new.sink.tally ≡ old.sink.tally)) (λ a r p is. ((p.refused is).0, (p.refused is).1.0, (p.refused is).1.1))
 
   -- what the job printed
   pub lines : (asked : Option Asked) (status : Status) → IsPromisedTo asked status (λ (a : Asked). IsPromised a old new) → (status ≡ Usage → new.text ≡ old.text) → IsPrinted asked old.held old.text new.text status
   lines None status p same = same p
-  lines (Some a) status p same = of_answer status (IsPromised a old new) (JobPrinted a.job old.held old.text new.text) (λ r q. q.printed) p.0
+  lines (Some a) status p same = of_answer status (IsPromised a old new) (JobPrinted a.job (given a.job old.held) old.text new.text) (λ r q. q.printed) p.0
 
 pub counts : (asked : Option Asked) (old new : Ends) (status : Status) → IsPromisedTo asked status (λ (a : Asked). IsPromised a old new) → (status ≡ Usage → CountsKept old.source new.source) → (status ≡ Usage → CountsKept old.sink.tally new.sink.tally) → (status ≡ Usage → CountsKept old.text.tally new.text.tally) →
     (now : Tally) → CountsKept new.text.tally now → AreCountsKept old.source new.source old.sink.tally new.sink.tally old.text.tally now
@@ -156,10 +156,10 @@ sound_asked : ComesBack → (asked : Option Asked) (held : Option (List ℕ)) �
 sound_asked law None held = tt
 sound_asked law (Some a) held = sound_held law a.job held
 
-pub restored : ComesBack → (words : List (List ℕ)) (old new : Ends) (status : Status) → IsPromisedTo (asked_for words) status (λ (a : Asked). IsPromised a old new) → IsRestored words old.held new.sink.contents status
+pub restored : ComesBack → (words : List (List ℕ)) (old new : Ends) (status : Status) → IsPromisedTo (job_of words) status (λ (a : Asked). IsPromised a old new) → IsRestored words old.held new.sink.contents status
 restored law words old new status promise = record {
-  contents_are = of_promise (asked_for words) status (λ (a : Asked). IsPromised a old new) (λ a r. OnOk r (JobRestores a.job old.held new.sink.contents)) (λ a r p. p.restored) promise;
-  sound = sound_asked law (asked_for words) old.held;
+  contents_are = of_promise (job_of words) status (λ (a : Asked). IsPromised a old new) (λ a r. OnOk r (JobRestores a.job old.held new.sink.contents)) (λ a r p. p.restored) promise;
+  sound = sound_asked law (job_of words) old.held;
 }
 
 -- words that ask for nothing: what stands in the text is the line of that

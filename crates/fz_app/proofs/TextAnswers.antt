@@ -8,16 +8,16 @@ use Rattle.fz_base.specs.Told.{StaysTold}
 use Rattle.fz_base.specs.declared.fault.Fault.{Fault}
 use Rattle.fz_base.specs.declared.failure.Stop.{Stop}
 use Rattle.fz_base.specs.declared.failure.Stop.TheVariants.{Refused as StopRefused, ReadFault as StopRead, WriteFault as StopWrite, OverLimit as StopLimit, NoMemory as StopMemory}
-use Rattle.fz_files.specs.Buffers.{job_bound, job_takings}
+use Rattle.fz_files.specs.Buffers.{IsOfFile, job_bound, job_takings}
 use Rattle.fz_files.specs.Walks.{header_fault}
 use Rattle.fz_grid.specs.declared.sieve.Sieve.{Sieve}
 use Rattle.fz_files.specs.declared.job.Job.{Job}
-use Rattle.fz_files.specs.declared.job.Job.TheVariants.{Verify, List as ListHdus}
+use Rattle.fz_files.specs.declared.job.Job.TheVariants.{Verify, List as ListHdus, Drill}
 use Rattle.fz_job.specs.Clauses.{Answers, ComesLate, HasJobCause, IfOverLimit, IsAnswer, IsUnmade, TellsFirstFault, greatest_bound}
 use Rattle.fz_verify.specs.Clauses.{PrintsLines}
 use Rattle.fz_words.specs.Jobs.{Asked}
 use Rattle.fz_app.specs.Answer.{done_of}
-use Rattle.fz_app.specs.Asked.{limit_of}
+use Rattle.fz_app.specs.Asked.{given, limit_of}
 use Rattle.fz_app.specs.Ends.{Ends, IsSameSink, SinkIs, TextIs, counts_written, written_counts}
 use Rattle.fz_app.specs.Outputs.{HoldsJobOutput, IfCut, IsFinished, IsOutput, JobRestores, Restores}
 use Rattle.fz_app.specs.Printed.{HasPrinted, JobPrinted}
@@ -119,6 +119,7 @@ on_second (Err stop) P Q p = tt
 
 -- what a job that prints says of the source, of the text and of the meter, as they were before the source was attached and after the call
 pub record TextSays {X : Type 0} (job : Job) (held : Option (List ℕ)) (limit W : ℕ) (old new : Ends) (answer : Result X Stop) : Type 0 where
+  pub of_file : IsOfFile job
   pub lines : PrintsLines job held old.text.contents new.text.contents answer
   pub first_fault : TellsFirstFault job held answer
   pub answered : Answers job held old.source new.source old.text.tally new.text.tally limit W answer
@@ -128,7 +129,7 @@ pub record TextSays {X : Type 0} (job : Job) (held : Option (List ℕ)) (limit W
   pub limit_is : new.meter.limit ≡ limit
   pub peak : IfSome held (λ file. new.meter.peak ≤ max 0 (job_bound job file W))
   pub most : new.meter.peak ≤ max 0 (greatest_bound job W)
-  pub held_is : new.held ≡ held
+  pub held_is : new.held ≡ old.held
   pub told_ranges : StaysTold old.ranges new.ranges
   pub told : StaysTold old.text.contents new.text.contents
   pub source_counts : CountsKept old.source new.source
@@ -151,7 +152,7 @@ nothing_restored None contents = tt
 nothing_restored (Some file) None = tt
 nothing_restored (Some file) (Some bytes) = tt
 
-always_err : (answer : Result (Unit {0}) Stop) (P : Type 0) → P → OnErr answer P
+pub always_err : (answer : Result (Unit {0}) Stop) (P : Type 0) → P → OnErr answer P
 always_err (Ok x) P p = tt
 always_err (Err stop) P p = p
 
@@ -176,7 +177,7 @@ same_held None P p = tt
 same_held (Some file) P p = p file
 
 -- a sink that is as it was is so by every answer
-same_sink : (job : Job) (held : Option (List ℕ)) (Same : Type 0) (answer : Result (Unit {0}) Stop) → Same → IsUnmade job held Same answer
+pub same_sink : (job : Job) (held : Option (List ℕ)) (Same : Type 0) (answer : Result (Unit {0}) Stop) → Same → IsUnmade job held Same answer
 same_sink job held Same answer same = record {
   faulty = same_held held (λ file. ¬ (header_fault job file ≡ None) → Same) (λ file n. same);
   over_limit = over_limit_same answer Same same;
@@ -201,13 +202,16 @@ verifies = record { output = λ file. refl; finished = λ is. tt; restores = λ 
 pub lists : IsPrinter ListHdus
 lists = record { output = λ file. refl; finished = λ is. tt; restores = λ file bytes. tt; no_cut = λ P. tt; counts = λ sink text. refl; most = λ W. refl; takings = λ W file. refl; printed = λ held old new answer p. p }
 
+pub drills : (rows : ℕ) → IsPrinter (Drill rows)
+drills rows = record { output = λ file. refl; finished = λ is. tt; restores = λ file bytes. tt; no_cut = λ P. tt; counts = λ sink text. refl; most = λ W. refl; takings = λ W file. refl; printed = λ held old new answer p. p }
+
 module _ (job : Job) (is : IsPrinter job) where
-  empty_output : (held contents : Option (List ℕ)) → IfSome contents (λ c. c ≡ []) → HoldsJobOutput job held contents
+  pub empty_output : (held contents : Option (List ℕ)) → IfSome contents (λ c. c ≡ []) → HoldsJobOutput job held contents
   empty_output None contents empty = tt
   empty_output (Some file) None empty = tt
   empty_output (Some file) (Some bytes) empty = subst (IsOutput job file) (sym empty) (is.output file)
 
-  none_restored : (held contents : Option (List ℕ)) → JobRestores job held contents
+  pub none_restored : (held contents : Option (List ℕ)) → JobRestores job held contents
   none_restored None contents = tt
   none_restored (Some file) None = tt
   none_restored (Some file) (Some bytes) = is.restores file bytes
@@ -223,26 +227,27 @@ module _ (job : Job) (is : IsPrinter job) (W memory : ℕ) (input output : List 
   of_text : (P : Tally → Tally → Type 0) → P old.text.tally new.text.tally → P (counts_written job old) (counts_written job new)
   of_text P p = subst (λ (t : Tally). P t (counts_written job new)) (sym (is.counts old.sink.tally old.text.tally)) (subst (P old.text.tally) (sym (is.counts new.sink.tally new.text.tally)) p)
 
-  text_cause : {X : Type 0} (answer : Result X Stop) → TextSays job old.held limit W old new answer → HasJobCause job old.held old.source new.source old.text.tally new.text.tally limit W (done_of answer)
+  text_cause : {X : Type 0} (answer : Result X Stop) → TextSays job (given job old.held) limit W old new answer → HasJobCause job (given job old.held) old.source new.source old.text.tally new.text.tally limit W (done_of answer)
   text_cause answer s = record {
     done = ok_done answer _ s.cause.done;
     refused = λ is. s.cause.refused (refused_done answer is);
     read_fault = λ is. s.cause.read_fault (error_done answer StopRead is);
     write_fault = λ is. s.cause.write_fault (error_done answer StopWrite is);
     over_limit = subst (λ (m : ℕ). TellsLimit limit m (done_of answer)) (sym (is.most W)) (limit_done answer limit (greatest_bound job 1) s.cause.over_limit);
-    first_past = past_held answer old.held limit (λ file. job_takings job file 1) (λ file. job_takings job file W) (is.takings W) s.cause.first_past;
+    first_past = past_held answer (given job old.held) limit (λ file. job_takings job file 1) (λ file. job_takings job file W) (is.takings W) s.cause.first_past;
     block = λ less. (error_of answer _ (s.cause.block less).0, (s.cause.block less).1, (s.cause.block less).2);
   }
 
   -- the promises of a job that prints
-  pub text_promised : {X : Type 0} (answer : Result X Stop) → TextSays job old.held limit W old new answer → IsPromised asked old new (done_of answer)
+  pub text_promised : {X : Type 0} (answer : Result X Stop) → TextSays job (given job old.held) limit W old new answer → IsPromised asked old new (done_of answer)
   text_promised answer s = promised asked old new (done_of answer)
       (record {
+        of_file = s.of_file;
         output = always_ok (done_of answer) _ (empty_output job is old.held new.sink.contents empty);
         finished = always_ok (done_of answer) _ (is.finished new.sink.finished);
-        first_fault = fault_done answer job old.held s.first_fault;
-        answered = of_text (λ t t'. Answers job old.held old.source new.source t t' limit W (done_of answer)) (λ a b. answers_done answer old.held (λ file. job_bound job file W ≤ limit) (s.answered a b));
-        cause = of_text (λ t t'. HasJobCause job old.held old.source new.source t t' limit W (done_of answer)) (text_cause answer s);
+        first_fault = fault_done answer job (given job old.held) s.first_fault;
+        answered = of_text (λ t t'. Answers job (given job old.held) old.source new.source t t' limit W (done_of answer)) (λ a b. answers_done answer (given job old.held) (λ file. job_bound job file W ≤ limit) (s.answered a b));
+        cause = of_text (λ t t'. HasJobCause job (given job old.held) old.source new.source t t' limit W (done_of answer)) (text_cause answer s);
         first_byte = always_err (done_of answer) _ (inl (empty_is_shut new.sink.contents empty));
         unmade = same_sink job old.held (IsSameSink old.sink new.sink) (done_of answer) (ap (λ (k : SinkIs). k.created) same, ap (λ (k : SinkIs). k.contents) same);
         live = s.live;
@@ -256,7 +261,7 @@ module _ (job : Job) (is : IsPrinter job) (W memory : ℕ) (input output : List 
         source_counts = s.source_counts;
         sink_counts = kept_by old.sink.tally new.sink.tally (ap (λ (k : SinkIs). k.tally) same);
         text_counts = s.text_counts;
-        printed = is.printed old.held old.text new.text (done_of answer) (printed job old.held limit W old new answer s);
+        printed = is.printed (given job old.held) old.text new.text (done_of answer) (printed job (given job old.held) limit W old new answer s);
         one_written = λ e. (ap (λ (k : SinkIs). k.tally) same, sym (is.counts new.sink.tally new.text.tally) ∙ e ∙ is.counts old.sink.tally old.text.tally);
       })
       (λ whole. inl (empty_is_shut new.sink.contents empty)) (always_ok (done_of answer) _ (none_restored job is old.held new.sink.contents)) (always_ok (done_of answer) _ (is.no_cut _))

@@ -5,42 +5,44 @@ use Rattle.fz_base.specs.Stop.{IsRefused, TellsLimit}
 use Rattle.fz_base.specs.Takings.{TellsFirstPast}
 use Rattle.fz_base.specs.declared.failure.Stop.TheVariants.{ReadFault as StopRead, WriteFault as StopWrite, OverLimit as StopLimit, NoMemory as StopMemory}
 use Rattle.fz_files.specs.Buffers.{IsOfFile, job_bound, job_takings}
-use Rattle.fz_job.specs.Clauses.{IsUnmade, greatest_bound}
+use Rattle.fz_job.specs.Clauses.{IsUnmade}
+use Rattle.fz_words.specs.Jobs.{job_of}
 use Rattle.fz_app.specs.Answer.{IfRan, IsEnd}
-use Rattle.fz_app.specs.Asked.{IfAsked, asked_for, limit_of}
+use Rattle.fz_app.specs.Asked.{IfAsked, given, limit_of, most_bound}
 use Rattle.fz_app.specs.Ends.{TextIs, written_counts}
 use Rattle.fz_app.specs.Lines.{status_line, GotLine}
-use Rattle.fz_app.specs.Outputs.{LeavesSink}
+use Rattle.fz_app.specs.Outputs.{LeavesSink, LeavesSource}
 use Rattle.fz_app.specs.declared.status.Status.{Status}
 use Rattle.fz_app.specs.declared.status.Status.TheVariants.{Usage}
 
 -- Different: comes exactly where the job is `verify`, it was done, and a sum of the file is wrong.
 abbrev pub IsDifferent : List (List ℕ) → Option (List ℕ) → Status → Type 0
-IsDifferent words held status = IfAsked words (λ asked. IsEnd asked.job held status)
+IsDifferent words held status = IfAsked words (λ asked. IsEnd asked.job (given asked.job held) status)
 
 -- Usage: comes exactly where the words ask for nothing.
 abbrev pub IsUsage : List (List ℕ) → Status → Type 0
-IsUsage words status = (status ≡ Usage) ↔ (asked_for words ≡ None)
+IsUsage words status = (status ≡ Usage) ↔ (job_of words ≡ None)
 
 -- Untouched: where the words ask for nothing, source, sink and meter are as they were, and the text got the line of the usage alone. A job
--- that writes no file leaves the sink as it was, whatever the answer.
+-- that writes no file leaves the sink as it was, whatever the answer, and `drill` the source.
 pub record IsUntouched (words : List (List ℕ)) (SameSource SameSink SameMeter : Type 0) (old new : TextIs) (status : Status) : Type 0 where
   pub by_usage : status ≡ Usage → SameSource × SameSink × SameMeter × GotLine (status_line Usage) old.contents new.contents old.tally new.tally
   pub sink : IfAsked words (λ asked. LeavesSink asked.job SameSink)
+  pub source : IfAsked words (λ asked. LeavesSource asked.job SameSource)
 
 -- Done and Different: come only where no count of the source, of the sink and of the text rose, so no call of theirs failed.
 abbrev pub DoneHasCause : List (List ℕ) → Tally → Tally → Tally → Tally → Tally → Tally → Status → Type 0
 DoneHasCause words source source' sink sink' text text' status =
     IfRan words status (λ asked answer. OnOk answer ((source' ≡ source) × (sink' ≡ sink) × (text' ≡ text)))
 
--- Refused: comes only where no count of the source and of the sink rose.
+-- Refused: comes only of a job that is given a file, where no count of the source and of the sink rose.
 abbrev pub RefusedHasCause : List (List ℕ) → Tally → Tally → Tally → Tally → Status → Type 0
 RefusedHasCause words source source' sink sink' status =
-    IfRan words status (λ asked answer. IsRefused answer → (source' ≡ source) × (sink' ≡ sink))
+    IfRan words status (λ asked answer. IsRefused answer → IsOfFile asked.job × (source' ≡ source) × (sink' ≡ sink))
 
--- Read fault: comes only where the source's count of faults rose.
+-- Read fault: comes only of a job that is given a file, where the source's count of faults rose.
 abbrev pub ReadFaultHasCause : List (List ℕ) → Tally → Tally → Status → Type 0
-ReadFaultHasCause words source source' status = IfRan words status (λ asked answer. IsErrOf answer StopRead → Rose source.faults source'.faults)
+ReadFaultHasCause words source source' status = IfRan words status (λ asked answer. IsErrOf answer StopRead → IsOfFile asked.job × Rose source.faults source'.faults)
 
 -- Write fault: comes only where the count of faults rose of what the job writes to, the sink or the text.
 abbrev pub WriteFaultHasCause : List (List ℕ) → Tally → Tally → Tally → Tally → Status → Type 0
@@ -48,12 +50,13 @@ WriteFaultHasCause words sink sink' text text' status =
     IfRan words status (λ asked answer. IsErrOf answer StopWrite → Rose (written_counts asked.job sink text).faults (written_counts asked.job sink' text').faults)
 
 -- Over limit: comes exactly where a taking of the job passes the limit, and tells the first. A read fault or want of memory may come in
--- its place. What passes it is never more than the bound of a job on a file, and whatever the file than the greatest bound: so a limit of at
--- least the bound is never passed. The first taking of all jobs is one block.
+-- its place. What passes it, with what is live, is never more than the bound of the job on the file that it is given, of `drill` than the one
+-- bound that it has, and whatever the file than the greatest bound: so a limit of at least the bound is never passed. The first taking of all
+-- jobs is one block.
 pub record OverLimitHasCause (words : List (List ℕ)) (held : Option (List ℕ)) (limit : ℕ) (status : Status) : Type 0 where
-  pub told : IfRan words status (λ asked answer. TellsLimit (limit_of asked limit) (greatest_bound asked.job asked.workers) answer)
-  pub first_past : IfRan words status (λ asked answer. IfSome held (λ file. TellsFirstPast (limit_of asked limit) (job_takings asked.job file asked.workers) answer))
-  pub within : IfRan words status (λ asked answer. IsOfFile asked.job → IfSome held (λ file. TellsLimit (limit_of asked limit) (job_bound asked.job file asked.workers) answer))
+  pub told : IfRan words status (λ asked answer. TellsLimit (limit_of asked limit) (most_bound asked.job asked.workers) answer)
+  pub first_past : IfRan words status (λ asked answer. IfSome (given asked.job held) (λ file. TellsFirstPast (limit_of asked limit) (job_takings asked.job file asked.workers) answer))
+  pub within : IfRan words status (λ asked answer. IfSome (given asked.job held) (λ file. TellsLimit (limit_of asked limit) (job_bound asked.job file asked.workers) answer))
   pub block : IfRan words status (λ asked answer. limit_of asked limit < 2880 → IsErrOf answer (StopLimit 0 2880 (limit_of asked limit)) ⊎ (IsErrOf answer StopRead ⊎ IsErrOf answer StopMemory))
 
 -- Unmade: the sink is as before where a header of the file is refused, whatever the answer, where a buffer passes the limit, and after

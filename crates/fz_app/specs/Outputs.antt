@@ -59,6 +59,15 @@ LeavesSink Verify Same = Same
 LeavesSink ListHdus Same = Same
 LeavesSink (Drill rows) Same = Same
 
+-- a job that is given no file leaves the source as it was
+abbrev pub LeavesSource : Job → Type 0 → Type 0
+LeavesSource (Pack options) Same = ⊤
+LeavesSource Unpack Same = ⊤
+LeavesSource (Cut wanted sieve) Same = ⊤
+LeavesSource Verify Same = ⊤
+LeavesSource ListHdus Same = ⊤
+LeavesSource (Drill rows) Same = Same
+
 -- the sink was finished by a job that writes one
 abbrev pub IsFinished : Job → Bool → Type 0
 IsFinished (Pack options) finished = finished ≡ true

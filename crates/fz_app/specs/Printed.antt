@@ -11,6 +11,7 @@ use Rattle.fz_job.specs.Clauses.{IsUnmade}
 use Rattle.fz_verify.specs.Clauses.{PrintsLines}
 use Rattle.fz_words.specs.Jobs.{Asked}
 use Rattle.fz_app.specs.Answer.{IfAnswer}
+use Rattle.fz_app.specs.Asked.{given}
 use Rattle.fz_app.specs.Ends.{TextIs}
 use Rattle.fz_app.specs.declared.status.Status.{Status}
 
@@ -39,4 +40,4 @@ JobPrinted (Drill rows) held old new answer = HasPrinted (Drill rows) held old n
 -- the same of what the words ask for; the text is as it was where they ask for nothing
 abbrev pub IsPrinted : Option Asked → Option (List ℕ) → TextIs → TextIs → Status → Type 0
 IsPrinted None held old new status = new ≡ old
-IsPrinted (Some asked) held old new status = IfAnswer status (JobPrinted asked.job held old new)
+IsPrinted (Some asked) held old new status = IfAnswer status (JobPrinted asked.job (given asked.job held) old new)

@@ -7,10 +7,10 @@ use Rattle.fz_base.specs.Told.{StaysTold}
 use Rattle.fz_base.specs.Takings.{TellsFirstPast}
 use Rattle.fz_base.specs.declared.failure.Stop.{Stop}
 use Rattle.fz_base.specs.declared.failure.Stop.TheVariants.{ReadFault as StopRead, WriteFault as StopWrite, OverLimit as StopLimit, NoMemory as StopMemory}
-use Rattle.fz_files.specs.Buffers.{job_bound, job_takings}
-use Rattle.fz_job.specs.Clauses.{Answers, IsUnmade, TellsFirstFault, greatest_bound}
+use Rattle.fz_files.specs.Buffers.{IsOfFile, job_bound, job_takings}
+use Rattle.fz_job.specs.Clauses.{IsAnswer, IsUnmade, TellsFirstFault}
 use Rattle.fz_words.specs.Jobs.{Asked}
-use Rattle.fz_app.specs.Asked.{limit_of}
+use Rattle.fz_app.specs.Asked.{given, limit_of, most_bound}
 use Rattle.fz_app.specs.Ends.{Ends, IsSameSink, counts_written}
 use Rattle.fz_app.specs.Outputs.{HoldsJobOutput, HoldsJobSlice, JobRestores, IsFinished, IsWhole, ReadsTouched}
 use Rattle.fz_app.specs.Printed.{JobPrinted}
@@ -20,19 +20,20 @@ pub record IsPromised (asked : Asked) (old new : Ends) (answer : Result ⊤ Stop
   pub restored : OnOk answer (JobRestores asked.job old.held new.sink.contents)
   pub output : OnOk answer (HoldsJobOutput asked.job old.held new.sink.contents × IsFinished asked.job new.sink.finished)
   pub slice : OnOk answer (HoldsJobSlice asked.job old.held new.sink.contents)
-  pub first_fault : TellsFirstFault asked.job old.held answer
-  pub answered : Answers asked.job old.held old.source new.source (counts_written asked.job old) (counts_written asked.job new) (limit_of asked old.meter.limit) asked.workers answer
+  pub first_fault : TellsFirstFault asked.job (given asked.job old.held) answer
+  pub answered : (IsOfFile asked.job → ¬ Rose old.source.faults new.source.faults) → ¬ Rose (counts_written asked.job old).faults (counts_written asked.job new).faults
+      → IfSome (given asked.job old.held) (λ file. job_bound asked.job file asked.workers ≤ limit_of asked old.meter.limit → IsAnswer answer)
   pub first_byte : OnErr answer (IsShut new.sink.contents ⊎ (IsWhole asked.job old.held new.sink.contents × (IsErrOf answer StopWrite ⊎ IsErrOf answer StopMemory)))
   pub live : new.meter.live ≡ 0
   pub limit : new.meter.limit ≡ limit_of asked old.meter.limit
-  pub peak : IfSome old.held (λ file. new.meter.peak ≤ job_bound asked.job file asked.workers)
+  pub peak : IfSome (given asked.job old.held) (λ file. new.meter.peak ≤ job_bound asked.job file asked.workers)
   pub done : OnOk answer ((new.source ≡ old.source) × (new.sink.tally ≡ old.sink.tally) × (new.text.tally ≡ old.text.tally))
-  pub refused : IsRefused answer → (new.source ≡ old.source) × (new.sink.tally ≡ old.sink.tally) × (new.text.tally ≡ old.text.tally)
-  pub read_fault : IsErrOf answer StopRead → Rose old.source.faults new.source.faults
+  pub refused : IsRefused answer → IsOfFile asked.job × ((new.source ≡ old.source) × (new.sink.tally ≡ old.sink.tally) × (new.text.tally ≡ old.text.tally))
+  pub read_fault : IsErrOf answer StopRead → IsOfFile asked.job × Rose old.source.faults new.source.faults
   pub write_fault : IsErrOf answer StopWrite → Rose (counts_written asked.job old).faults (counts_written asked.job new).faults
-  pub most : new.meter.peak ≤ greatest_bound asked.job asked.workers
-  pub told_limit : TellsLimit (limit_of asked old.meter.limit) (greatest_bound asked.job asked.workers) answer
-  pub first_past : IfSome old.held (λ file. TellsFirstPast (limit_of asked old.meter.limit) (job_takings asked.job file asked.workers) answer)
+  pub most : new.meter.peak ≤ most_bound asked.job asked.workers
+  pub told_limit : TellsLimit (limit_of asked old.meter.limit) (most_bound asked.job asked.workers) answer
+  pub first_past : IfSome (given asked.job old.held) (λ file. TellsFirstPast (limit_of asked old.meter.limit) (job_takings asked.job file asked.workers) answer)
   pub block : limit_of asked old.meter.limit < 2880 → IsErrOf answer (StopLimit 0 2880 (limit_of asked old.meter.limit)) ⊎ (IsErrOf answer StopRead ⊎ IsErrOf answer StopMemory)
   pub unmade : IsUnmade asked.job old.held (IsSameSink old.sink new.sink) answer
   pub held_is : new.held ≡ old.held
@@ -42,4 +43,4 @@ pub record IsPromised (asked : Asked) (old new : Ends) (answer : Result ⊤ Stop
   pub source_counts : CountsKept old.source new.source
   pub sink_counts : CountsKept old.sink.tally new.sink.tally
   pub text_counts : CountsKept old.text.tally new.text.tally
-  pub printed : JobPrinted asked.job old.held old.text new.text answer
+  pub printed : JobPrinted asked.job (given asked.job old.held) old.text new.text answer

@@ -4,12 +4,13 @@ use Rattle.fz_base.specs.Counts.{Rose, Tally}
 use Rattle.fz_base.specs.FirstByte.{IsShut}
 use Rattle.fz_base.specs.Meter.{Gauge}
 use Rattle.fz_base.specs.declared.fault.Fault.{Fault}
-use Rattle.fz_files.specs.Buffers.{job_bound}
+use Rattle.fz_files.specs.Buffers.{IsOfFile, job_bound}
 use Rattle.fz_files.specs.FirstFault.{IsFirstFault}
 use Rattle.fz_files.specs.declared.job.Job.{Job}
-use Rattle.fz_job.specs.Clauses.{TellsFirstFault, greatest_bound}
+use Rattle.fz_job.specs.Clauses.{TellsFirstFault}
+use Rattle.fz_words.specs.Jobs.{job_of}
 use Rattle.fz_app.specs.Answer.{IfRan, end_of}
-use Rattle.fz_app.specs.Asked.{IfAsked, asked_for, limit_of}
+use Rattle.fz_app.specs.Asked.{IfAsked, given, limit_of, most_bound}
 use Rattle.fz_app.specs.Ends.{TextIs, written_counts}
 use Rattle.fz_app.specs.Lines.{status_line, GotLine}
 use Rattle.fz_app.specs.Outputs.{HoldsJobOutput, HoldsJobSlice, JobRestores, IsFinished, IsWhole, PackedIsSound, ReadsTouched}
@@ -30,7 +31,7 @@ pub record IsRestored (words : List (List ℕ)) (held contents : Option (List �
 
 -- First fault: after a job that was done the file has none, and one that is refused is refused for its first.
 abbrev pub HasFirstFault : List (List ℕ) → Option (List ℕ) → Status → Type 0
-HasFirstFault words held status = IfRan words status (λ asked answer. TellsFirstFault asked.job held answer)
+HasFirstFault words held status = IfRan words status (λ asked answer. TellsFirstFault asked.job (given asked.job held) answer)
 
 -- Slice: after `cut` was done the sink holds a slice of every file that the source stands for: the numbers of its image at the picks, axis 1
 -- fastest.
@@ -47,8 +48,8 @@ pub record BuffersAreBounded (words : List (List ℕ)) (held : Option (List ℕ)
   pub live : new.live ≡ 0
   pub within : new.peak ≤ new.limit
   pub limit : IfAsked words (λ asked. new.limit ≡ limit_of asked old.limit)
-  pub peak : IfAsked words (λ asked. IfSome held (λ file. new.peak ≤ job_bound asked.job file asked.workers))
-  pub most : IfAsked words (λ asked. new.peak ≤ greatest_bound asked.job asked.workers)
+  pub peak : IfAsked words (λ asked. IfSome (given asked.job held) (λ file. new.peak ≤ job_bound asked.job file asked.workers))
+  pub most : IfAsked words (λ asked. new.peak ≤ most_bound asked.job asked.workers)
 
 -- First byte: after another status than Done the contents are empty or begin with another byte than S, or they are the whole
 -- output of the job on a file without a fault, and then the status is WriteFault or NoMemory.
@@ -59,7 +60,7 @@ HasFirstByteLast words held contents status =
 -- Text: it got the lines of the job, and behind them the line of the status. Between them it stood as the job left it.
 pub record GotText (words : List (List ℕ)) (held : Option (List ℕ)) (old new : TextIs) (status : Status) : Type 0 where
   pub between : TextIs
-  pub lines : IsPrinted (asked_for words) held old between status
+  pub lines : IsPrinted (job_of words) held old between status
   pub line : GotLine (status_line status) between.contents new.contents between.tally new.tally
 
 -- The answers to a file with this first fault, or none: it is refused for it, or the job is done. Want of memory may stop that.
@@ -67,11 +68,11 @@ abbrev pub IsAnswerTo : Job → List ℕ → Option Fault → Status → Type 0
 IsAnswerTo job file None status = (status ≡ end_of job file) ⊎ (status ≡ NoMemory)
 IsAnswerTo job file (Some x) status = (status ≡ Refused x) ⊎ (status ≡ NoMemory)
 
--- Completeness: where no count of faults rose, of the source and of what the job writes to, and the limit is at least the bound of the job, the
--- first fault of the file alone decides.
+-- Completeness: where no count of faults rose, of the source of a job that is given a file, and of what the job writes to, and the limit is at
+-- least the bound of the job, the first fault of the file alone decides.
 abbrev pub IsComplete : List (List ℕ) → Option (List ℕ) → Tally → Tally → Tally → Tally → Tally → Tally → ℕ → Status → Type 0
 IsComplete words held source source' sink sink' text text' limit status =
-    ¬ Rose source.faults source'.faults
-    → IfAsked words (λ asked. ¬ Rose (written_counts asked.job sink text).faults (written_counts asked.job sink' text').faults
-    → IfSome held (λ file. job_bound asked.job file asked.workers ≤ limit_of asked limit
+    IfAsked words (λ asked. (IsOfFile asked.job → ¬ Rose source.faults source'.faults)
+    → ¬ Rose (written_counts asked.job sink text).faults (written_counts asked.job sink' text').faults
+    → IfSome (given asked.job held) (λ file. job_bound asked.job file asked.workers ≤ limit_of asked limit
     → (fault : Option Fault) → IsFirstFault asked.job file fault → IsAnswerTo asked.job file fault status))

@@ -1,22 +1,23 @@
 //! The top call: it does all that the program does.
-ghost use Rattle.std.specs.Prelude.{◌≡◌, ◌≤◌, ◌^◌, [], Some, IfOk, IfSome};
-ghost use Rattle.fz_files.specs.declared.job.Job.TheVariants.{Cut, List as ListHdus, Pack, Unpack, Verify};
+ghost use Rattle.std.specs.Prelude.{◌≡◌, ◌≤◌, ◌^◌, ℕ, List, [], Option, Some, IfOk, IfSome};
+ghost use Rattle.fz_files.specs.declared.job.Job.TheVariants.{Cut, Drill, List as ListHdus, Pack, Unpack, Verify};
 ghost use Rattle.fz_head.specs.Planned.{AreOptions};
+ghost use Rattle.fz_words.specs.Jobs.{job_of};
 ghost use Rattle.fz_words.specs.Lawful.{IsBox, IsLawful};
 ghost use Rattle.fz_words.specs.Parts.{texts_of};
 ghost use Rattle.fz_words.specs.Seen.{asked_of};
-ghost use Rattle.fz_base.specs.Counts.{CountsKept};
+ghost use Rattle.fz_base.specs.Counts.{CountsKept, Tally};
 ghost use Rattle.fz_base.specs.Meter.{narrowed};
 ghost use Rattle.fz_base.specs.Source.{HoldsLength};
 ghost use Rattle.fz_base.specs.Stop.{Codes};
 ghost use Rattle.fz_base.specs.Told.{StaysTold};
 ghost use Rattle.fz_verify.specs.Clauses.{IsRightAsSaid};
 ghost use Rattle.fz_app.specs.Answer.{IsEnd, IsPromisedTo, done_of};
-ghost use Rattle.fz_app.specs.Asked.{asked_for, if_built};
+ghost use Rattle.fz_app.specs.Asked.{given};
 ghost use Rattle.fz_app.specs.Causes.{AreCountsKept, DoneHasCause, IsDifferent, IsUnmadeFor, IsUntouched, IsUsage, OverLimitHasCause, ReadFaultHasCause, RefusedHasCause, WriteFaultHasCause};
 ghost use Rattle.fz_app.specs.Ends.{SinkIs, TextIs};
 ghost use Rattle.fz_app.specs.Lines.{status_line, GotLine};
-ghost use Rattle.fz_app.specs.Outputs.{LeavesSink};
+ghost use Rattle.fz_app.specs.Outputs.{LeavesSink, LeavesSource};
 ghost use Rattle.fz_app.specs.Promised.{IsPromised};
 ghost use Rattle.fz_app.specs.Promises.{BuffersAreBounded, GotText, HasFirstByteLast, HasFirstFault, HasOutput, HasSlice, IsComplete, IsRestored, ReadsWithin};
 ghost use Rattle.fz_app.specs.declared.status.Status.TheVariants.{Usage as IsUsageStatus};
@@ -25,6 +26,7 @@ use crate::line::line_of;
 use crate::status::{Status, ended, verified};
 use fz_base::{Gate, Meter, Sink, Source, Stop, Text};
 use fz_cut::{cut, slice_law};
+use fz_drill::drill;
 use fz_files::{Job, buffers_law, one_file_law, one_first_fault_law};
 use fz_grid::Sieve;
 use fz_head::PackOptions;
@@ -41,9 +43,9 @@ use std::thread::Threads;
 /// how that ended. The words are those after the program's name.
 ///
 /// `pack`, `unpack` and `cut` write the sink, the last from the headers and the tiles with a pick alone; `verify` and
-/// `list` print their lines and leave the sink as it is. Words of the grammar that ask for a job which is not built
-/// yet are Usage too. For each status but Done and Different one line is put to the text at the end; if that
-/// fails, the status stays.
+/// `list` print their lines and leave the sink as it is; `drill` works on a file of its own, in memory, prints its lines,
+/// and leaves the source as it is too. For each status but Done and Different one line is put to the text at the
+/// end; if that fails, the status stays.
 pub fn run<R: Threads + Sync, S: Source, K: Sink, T: Text, G: Gate>(
     rt: &R,
     alloc: Global,
@@ -107,10 +109,11 @@ fn answer_to<R: Threads + Sync, S: Source, K: Sink, T: Text, G: Gate>(
 ) -> Status
     requires empty { IfSome (K.contents sink.old) (λ c. c ≡ []) }
     requires unused { (meter.old.live ≡ 0) × (meter.old.peak ≡ 0) }
-    ensures promised { IsPromisedTo (asked_for (texts_of words.now)) result (λ asked. IsPromised asked (record { held = S.held source.old; ranges = S.ranges source.old; source = S.tally source.old; sink = record { contents = K.contents sink.old; created = K.created sink.old; finished = K.finished sink.old; tally = K.tally sink.old }; text = record { contents = T.contents text.old; tally = T.tally text.old }; meter = meter.old }) (record { held = S.held source.new; ranges = S.ranges source.new; source = S.tally source.new; sink = record { contents = K.contents sink.new; created = K.created sink.new; finished = K.finished sink.new; tally = K.tally sink.new }; text = record { contents = T.contents text.new; tally = T.tally text.new }; meter = meter.new })) }
+    ensures promised { IsPromisedTo (job_of (texts_of words.now)) result (λ asked. IsPromised asked (record { held = S.held source.old; ranges = S.ranges source.old; source = S.tally source.old; sink = record { contents = K.contents sink.old; created = K.created sink.old; finished = K.finished sink.old; tally = K.tally sink.old }; text = record { contents = T.contents text.old; tally = T.tally text.old }; meter = meter.old }) (record { held = S.held source.new; ranges = S.ranges source.new; source = S.tally source.new; sink = record { contents = K.contents sink.new; created = K.created sink.new; finished = K.finished sink.new; tally = K.tally sink.new }; text = record { contents = T.contents text.new; tally = T.tally text.new }; meter = meter.new })) }
     ensures untouched { result ≡ IsUsageStatus → (source.new ≡ source.old) × (sink.new ≡ sink.old) × (text.new ≡ text.old) × (meter.new ≡ meter.old) }
-    ensures ended { IfSome (asked_for (texts_of words.now)) (λ asked. IsEnd asked.job (S.held source.old) result) }
-    ensures left { IfSome (asked_for (texts_of words.now)) (λ asked. LeavesSink asked.job (sink.new ≡ sink.old)) }
+    ensures ended { IfSome (job_of (texts_of words.now)) (λ asked. IsEnd asked.job (given asked.job (S.held source.old)) result) }
+    ensures left { IfSome (job_of (texts_of words.now)) (λ asked. LeavesSink asked.job (sink.new ≡ sink.old)) }
+    ensures unread { IfSome (job_of (texts_of words.now)) (λ asked. LeavesSource asked.job (source.new ≡ source.old)) }
 {
     match read_words(words) {
         Ok(request) => run_request(rt, alloc, &request, source, sink, text, gate, meter),
@@ -118,7 +121,7 @@ fn answer_to<R: Threads + Sync, S: Source, K: Sink, T: Text, G: Gate>(
     }
 }
 
-// Does what is asked for. A job that is not built yet is none of the program's: its words are Usage.
+// Does what is asked for.
 fn run_request<R: Threads + Sync, S: Source, K: Sink, T: Text, G: Gate>(
     rt: &R,
     alloc: Global,
@@ -132,10 +135,11 @@ fn run_request<R: Threads + Sync, S: Source, K: Sink, T: Text, G: Gate>(
     requires lawful { IsLawful request.now }
     requires empty { IfSome (K.contents sink.old) (λ c. c ≡ []) }
     requires unused { (meter.old.live ≡ 0) × (meter.old.peak ≡ 0) }
-    ensures promised { IsPromisedTo (if_built (Some (asked_of request.now))) result (λ asked. IsPromised asked (record { held = S.held source.old; ranges = S.ranges source.old; source = S.tally source.old; sink = record { contents = K.contents sink.old; created = K.created sink.old; finished = K.finished sink.old; tally = K.tally sink.old }; text = record { contents = T.contents text.old; tally = T.tally text.old }; meter = meter.old }) (record { held = S.held source.new; ranges = S.ranges source.new; source = S.tally source.new; sink = record { contents = K.contents sink.new; created = K.created sink.new; finished = K.finished sink.new; tally = K.tally sink.new }; text = record { contents = T.contents text.new; tally = T.tally text.new }; meter = meter.new })) }
+    ensures promised { IsPromisedTo (Some (asked_of request.now)) result (λ asked. IsPromised asked (record { held = S.held source.old; ranges = S.ranges source.old; source = S.tally source.old; sink = record { contents = K.contents sink.old; created = K.created sink.old; finished = K.finished sink.old; tally = K.tally sink.old }; text = record { contents = T.contents text.old; tally = T.tally text.old }; meter = meter.old }) (record { held = S.held source.new; ranges = S.ranges source.new; source = S.tally source.new; sink = record { contents = K.contents sink.new; created = K.created sink.new; finished = K.finished sink.new; tally = K.tally sink.new }; text = record { contents = T.contents text.new; tally = T.tally text.new }; meter = meter.new })) }
     ensures untouched { result ≡ IsUsageStatus → (source.new ≡ source.old) × (sink.new ≡ sink.old) × (text.new ≡ text.old) × (meter.new ≡ meter.old) }
-    ensures ended { IfSome (if_built (Some (asked_of request.now))) (λ asked. IsEnd asked.job (S.held source.old) result) }
-    ensures left { IfSome (if_built (Some (asked_of request.now))) (λ asked. LeavesSink asked.job (sink.new ≡ sink.old)) }
+    ensures ended { IfSome (Some (asked_of request.now)) (λ asked. IsEnd asked.job (given asked.job (S.held source.old)) result) }
+    ensures left { IfSome (Some (asked_of request.now)) (λ asked. LeavesSink asked.job (sink.new ≡ sink.old)) }
+    ensures unread { IfSome (Some (asked_of request.now)) (λ asked. LeavesSource asked.job (source.new ≡ source.old)) }
 {
     match &request.job {
         Job::Pack(options) => ended(run_pack(
@@ -147,7 +151,7 @@ fn run_request<R: Threads + Sync, S: Source, K: Sink, T: Text, G: Gate>(
         Job::Cut { hdu, sieve } => ended(run_cut(
             rt, alloc, request, *hdu, sieve, source, sink, gate, meter,
         )),
-        Job::Drill { .. } => Status::Usage,
+        Job::Drill { rows } => ended(run_drill(rt, alloc, request, *rows, text, gate, meter)),
     }
 }
 
@@ -282,6 +286,26 @@ fn run_list<S: Source, T: Text>(
     list(source, length, text, meter)
 }
 
+// Drills a file of so many rows, in memory: nothing is attached.
+fn run_drill<R: Threads + Sync, T: Text, G: Gate>(
+    rt: &R,
+    alloc: Global,
+    request: &Request<'_>,
+    rows: u32,
+    text: &mut T,
+    gate: &G,
+    meter: &mut Meter,
+) -> Result<(), Stop>
+    requires job { request.now.job ≡ Drill rows }
+    requires rows { (1 ≤ rows) × (rows ≤ 16384) }
+    requires unused { (meter.old.live ≡ 0) × (meter.old.peak ≡ 0) }
+    ensures promised { (held : Option (List ℕ)) (ranges : Option (List (ℕ × ℕ))) (source : Tally) (sink : SinkIs) → IfSome sink.contents (λ c. c ≡ []) → IsPromised (asked_of request.now) (record { held = held; ranges = ranges; source = source; sink = sink; text = record { contents = T.contents text.old; tally = T.tally text.old }; meter = meter.old }) (record { held = held; ranges = ranges; source = source; sink = sink; text = record { contents = T.contents text.new; tally = T.tally text.new }; meter = meter.new }) result }
+{
+    let memory = request.memory;
+    meter.narrow(memory);
+    drill(rt, alloc, rows, text, meter, gate)
+}
+
 // What comes before each job that works on tiles: IN is attached, and there is an empty window for so many workers. Answers the
 // length of IN and the window.
 fn begin<S: Source>(
@@ -305,7 +329,7 @@ fn begin<S: Source>(
     Ok((length, window))
 }
 
-// What comes before every job: the meter is narrowed to the limit of the words, and IN is attached. Answers the length of IN.
+// What comes before every job on a file: the meter is narrowed to the limit of the words, and IN is attached. Answers the length of IN.
 fn attach<S: Source>(request: &Request<'_>, source: &mut S, meter: &mut Meter) -> Result<u64, Stop>
     requires unused { (meter.old.live ≡ 0) × (meter.old.peak ≡ 0) }
     ensures attached { IfOk result (λ length. (S.attached source.new ≡ Some length) × (length ≤ 2 ^ 62) × HoldsLength (S.held source.old) length) }

@@ -12,7 +12,7 @@ pub enum Status {
     Done,
     /// `verify` printed all its lines, and one says `wrong`.
     Different,
-    /// The words are outside the grammar, or ask for a job that is not built.
+    /// The words are outside the grammar.
     Usage,
     /// The file is refused.
     Refused(Fault),

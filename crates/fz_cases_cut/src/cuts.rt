@@ -1,6 +1,6 @@
 //! Files that are cut from.
 use crate::cutting::{Cutting, assert_all_cut};
-use crate::files::{MIDDLE_PIXELS, THREE_BY_TWO};
+use crate::files::{MIDDLE, MIDDLE_PIXELS, THREE_BY_TWO};
 use fz_app::Status;
 use fz_base::FreeGate;
 use fz_cases::changes::Change;
@@ -10,7 +10,9 @@ use fz_cases::others::WIDE_PACKED;
 use fz_cases::records::{HUNDRED_PACKED, LONGS_PACKED};
 use fz_cases::runs::{FREE, outcome_of};
 use fz_cases::small::{EMPTY_PRIMARY_HDU, SMALL_PACKED_FILE};
+use std::process::Abort;
 use std::test::Fail;
+use std::thread::Threads;
 
 const SIMPLE: &str = "SIMPLE  =                    T";
 
@@ -357,25 +359,30 @@ const SECOND_ROW: Hdu<'static> = Hdu {
     bytes: &[0, 0, 0, 1, 0, 0, 0, 1],
 };
 
-// With ample memory this says no more than a file above; `tools/fail_allocations` lets allocations of the run fail.
-#[test]
-fn nothing_is_live_without_memory(rt: HostRuntime) -> Result<(), Fail> {
-    let file = file_of(rt.alloc(), &SMALL_PACKED_FILE)?;
-    let words = ["cut", "--box", "1:4,2:2", "IN", "OUT"];
-    let outcome = outcome_of(&rt, &words, &file, FREE, &FreeGate)?;
-    assert!(rt; matches!(outcome.status, Status::Done | Status::NoMemory));
+/// Asks that this is cut out of the file; where an allocation of the run fails, its status alone is another.
+fn assert_cuts_in_memory<R: Threads + Sync + AllocGlobal + Abort>(
+    rt: &R,
+    packed: &[Hdu<'_>],
+    part: &str,
+    cutout: Hdu<'_>,
+) -> Result<(), Fail> {
+    let file = file_of(rt.alloc(), packed)?;
+    let cutout = file_of(rt.alloc(), &[cutout])?;
+    let words = ["cut", part, "IN", "OUT"];
+    let outcome = outcome_of(rt, &words, &file, FREE, &FreeGate)?;
     assert_eq!(rt; outcome.live, 0);
-    Ok(())
-}
-
-// Also for `tools/fail_allocations`.
-#[test]
-fn ample_memory_cuts_the_small_file(rt: HostRuntime) -> Result<(), Fail> {
-    let file = file_of(rt.alloc(), &SMALL_PACKED_FILE)?;
-    let cutout = file_of(rt.alloc(), &[SECOND_ROW])?;
-    let words = ["cut", "--box", "1:4,2:2", "IN", "OUT"];
-    let outcome = outcome_of(&rt, &words, &file, FREE, &FreeGate)?;
     assert_eq!(rt; outcome.status, Status::Done);
     assert_eq!(rt; outcome.sink.contents(), cutout.as_slice());
     Ok(())
+}
+
+// With ample memory these say no more than the files above; `tools/fail_allocations` lets each allocation of the runs fail.
+#[test]
+fn ample_memory_cuts_the_small_file(rt: HostRuntime) -> Result<(), Fail> {
+    assert_cuts_in_memory(&rt, &SMALL_PACKED_FILE, "--box=1:4,2:2", SECOND_ROW)
+}
+
+#[test]
+fn ample_memory_cuts_the_grid_file(rt: HostRuntime) -> Result<(), Fail> {
+    assert_cuts_in_memory(&rt, &GRID_PACKED, "--box=2:4,2:3", MIDDLE)
 }

@@ -2,22 +2,25 @@
 use fz_app::Status;
 use fz_base::Gate;
 use fz_cases::files::file_of;
-use fz_cases::grids::GRID_PACKED;
+use fz_cases::grids::{GRID_FILE, GRID_PACKED};
 use fz_cases::holding::Holding;
 use fz_cases::runs::{FREE, outcome_of};
 use std::sync::atomic::{AtomicU64, Ordering};
 use std::test::Fail;
 
-// It fails a body that decodes its tiles on one thread, or without the window.
+// It fails a body that decodes its tiles on one thread, or without the window, and one that writes tiles in the order in which
+// they were done: tile 0 is not the first.
 #[test]
 fn workers_pass_a_tile_that_is_held(rt: HostRuntime) -> Result<(), Fail> {
     let file = file_of(rt.alloc(), &GRID_PACKED)?;
+    let whole = file_of(rt.alloc(), &[GRID_FILE])?;
     let words = ["cut", "--box=1:5,1:3", "--workers=2", "IN", "OUT"];
     let gate = Holding::new();
     let outcome = outcome_of(&rt, &words, &file, FREE, &gate)?;
     assert_eq!(rt; outcome.status, Status::Done);
     assert!(rt; gate.others_came());
     assert_eq!(rt; gate.calls(), 6);
+    assert_eq!(rt; outcome.sink.contents(), whole.as_slice());
     Ok(())
 }
 

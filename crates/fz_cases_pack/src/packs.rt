@@ -68,27 +68,35 @@ fn packs_headers_and_many_hdus(rt: HostRuntime) -> Result<(), Fail> {
     assert_cases_pack(&rt, &headers::CASES)
 }
 
-// With ample memory this says no more than a row above; `tools/fail_allocations` lets allocations of the run fail.
-#[test]
-fn nothing_is_live_without_memory(rt: HostRuntime) -> Result<(), Fail> {
-    let alloc = rt.alloc();
-    let file = file_of(alloc, &[small::SMALL_FILE])?;
-    let outcome = outcome_of(&rt, &["pack", "IN", "OUT"], &file, FREE, &FreeGate)?;
-    assert!(rt; matches!(outcome.status, Status::Done | Status::NoMemory));
+/// Asks that the file is packed so; where an allocation of the run fails, its status alone is another.
+fn assert_packs_in_memory<R: Threads + Sync + AllocGlobal + Abort>(
+    rt: &R,
+    case: &Case<'_>,
+) -> Result<(), Fail> {
+    let plain = file_of(rt.alloc(), case.plain)?;
+    let packed = file_of(rt.alloc(), case.packed)?;
+    let words = words_for(rt.alloc(), "pack", case.options, &[])?;
+    let outcome = outcome_of(rt, &words, &plain, FREE, &FreeGate)?;
     assert_eq!(rt; outcome.live, 0);
-    Ok(())
-}
-
-// Also for `tools/fail_allocations`.
-#[test]
-fn ample_memory_packs_the_small_file(rt: HostRuntime) -> Result<(), Fail> {
-    let alloc = rt.alloc();
-    let file = file_of(alloc, &[small::SMALL_FILE])?;
-    let packed = file_of(alloc, &[small::EMPTY_PRIMARY_HDU, small::SMALL_PACKED])?;
-    let outcome = outcome_of(&rt, &["pack", "IN", "OUT"], &file, FREE, &FreeGate)?;
     assert_eq!(rt; outcome.status, Status::Done);
     assert_eq!(rt; outcome.sink.contents(), packed.as_slice());
     Ok(())
+}
+
+// With ample memory these say no more than the files above; `tools/fail_allocations` lets each allocation of the runs fail.
+#[test]
+fn ample_memory_packs_the_small_file(rt: HostRuntime) -> Result<(), Fail> {
+    assert_packs_in_memory(&rt, &small::CASES[0])
+}
+
+#[test]
+fn ample_memory_packs_the_grid_file(rt: HostRuntime) -> Result<(), Fail> {
+    assert_packs_in_memory(&rt, &grids::CASES[0])
+}
+
+#[test]
+fn ample_memory_packs_with_sums(rt: HostRuntime) -> Result<(), Fail> {
+    assert_packs_in_memory(&rt, &grids::CASES[2])
 }
 
 // A header of 35 cards and END has one block, and one of 36 has two; packed, both have two.

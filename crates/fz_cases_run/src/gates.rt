@@ -6,19 +6,24 @@ use fz_cases::holding::Holding;
 use fz_cases::runs::{FREE, outcome_of, words_for};
 use std::test::Fail;
 
-// It fails a body that codes its tiles on one thread, or without the window.
+// It fails a body that codes its tiles on one thread, or without the window, and one that writes tiles in the order in which
+// they were done: tile 0 is not the first.
 #[test]
 fn workers_pass_a_tile_that_is_held(rt: HostRuntime) -> Result<(), Fail> {
     let plain = file_of(rt.alloc(), &[GRID_FILE])?;
     let packed = file_of(rt.alloc(), &GRID_PACKED)?;
     let stored: &[&str] = &["--codec=none", "--tile=2,2"];
-    for (command, options, file) in [("pack", stored, &plain), ("unpack", &[], &packed)] {
+    for (command, options, file, output) in [
+        ("pack", stored, &plain, &packed),
+        ("unpack", &[], &packed, &plain),
+    ] {
         let words = words_for(rt.alloc(), command, options, &["--workers=2"])?;
         let gate = Holding::new();
         let outcome = outcome_of(&rt, &words, file, FREE, &gate)?;
         assert_eq!(rt; outcome.status, Status::Done, "{command}");
         assert!(rt; gate.others_came(), "{command}");
         assert_eq!(rt; gate.calls(), 6, "{command}");
+        assert_eq!(rt; outcome.sink.contents(), output.as_slice(), "{command}");
     }
     Ok(())
 }

@@ -104,6 +104,27 @@ fn failing_writes<R: Threads + Sync + AllocGlobal + Abort>(
     Ok(CALLS)
 }
 
+/// Asks that the output is whole where this call of the sink fails, the last one.
+fn assert_whole<R: Threads + Sync + AllocGlobal + Abort>(
+    rt: &R,
+    turn: &Turn<'_>,
+    last: u32,
+    keep: u32,
+) -> Result<(), Fail> {
+    let input = file_of(rt.alloc(), turn.input)?;
+    let output = file_of(rt.alloc(), turn.output)?;
+    let words = words_for(rt.alloc(), turn.command, &[], &[])?;
+    let on = Conditions {
+        sink: last,
+        keep,
+        ..FREE
+    };
+    let outcome = outcome_of(rt, &words, &input, on, &FreeGate)?;
+    assert_eq!(rt; outcome.status, Status::WriteFault, "keep {keep}");
+    assert_eq!(rt; outcome.sink.contents(), output.as_slice(), "keep {keep}");
+    Ok(())
+}
+
 /// The words for one worker and for two.
 const WORKERS: [[&str; 2]; 2] = [["--workers", "1"], ["--workers", "2"]];
 
@@ -129,6 +150,7 @@ fn calls_of_the_sink_fail_in_turn(rt: HostRuntime) -> Result<(), Fail> {
                 let stopped = failing_writes(&rt, &turn, keep)?;
                 // `create`, headers, data and fill, byte 0, and `finish`.
                 assert!(rt; stopped > 4 && stopped < CALLS);
+                assert_whole(&rt, &turn, stopped.saturating_sub(1), keep)?;
             }
         }
     }

@@ -30,8 +30,8 @@ fn statuses_have_numbers(rt: HostRuntime) {
     }
 }
 
-/// Words that are outside the grammar; and at the end those that ask for jobs that are not built.
-const OTHERS: [&[&str]; 29] = [
+/// Words that are outside the grammar.
+const OTHERS: [&[&str]; 31] = [
     &[],
     &["pack"],
     &["pack", "IN"],
@@ -60,7 +60,9 @@ const OTHERS: [&[&str]; 29] = [
     &["unpack", "--block", "32", "IN", "OUT"],
     &["verify", "IN", "OUT"],
     &["list", "IN", "OUT"],
-    &["drill", "1"],
+    &["drill"],
+    &["drill", "0"],
+    &["drill", "--memory=110336", "1"],
 ];
 
 // Neither the source nor the sink is called: their first calls would fail.

@@ -103,24 +103,14 @@ fn changed_code_is_other_pixels(rt: HostRuntime) -> Result<(), Fail> {
     assert_unpacks(&rt, &packed, &plain, "changed")
 }
 
-// With ample memory this says no more than a file above; `tools/fail_allocations` lets allocations of the run fail.
-#[test]
-fn nothing_is_live_without_memory(rt: HostRuntime) -> Result<(), Fail> {
-    let alloc = rt.alloc();
-    let file = file_of(alloc, &small::SMALL_PACKED_FILE)?;
-    let outcome = outcome_of(&rt, &["unpack", "IN", "OUT"], &file, FREE, &FreeGate)?;
-    assert!(rt; matches!(outcome.status, Status::Done | Status::NoMemory));
-    assert_eq!(rt; outcome.live, 0);
-    Ok(())
-}
-
-// Also for `tools/fail_allocations`.
+// With ample memory this says no more than a file above; `tools/fail_allocations` lets each allocation of the run fail.
 #[test]
 fn ample_memory_unpacks_the_small_file(rt: HostRuntime) -> Result<(), Fail> {
     let alloc = rt.alloc();
     let file = file_of(alloc, &small::SMALL_PACKED_FILE)?;
     let plain = file_of(alloc, &[small::SMALL_FILE])?;
     let outcome = outcome_of(&rt, &["unpack", "IN", "OUT"], &file, FREE, &FreeGate)?;
+    assert_eq!(rt; outcome.live, 0);
     assert_eq!(rt; outcome.status, Status::Done);
     assert_eq!(rt; outcome.sink.contents(), plain.as_slice());
     Ok(())

@@ -1,8 +1,9 @@
 //! Files that are verified and listed.
 use crate::printed::assert_printed;
+use fz_app::Status;
 use fz_base::FreeGate;
 use fz_cases::changes::{Change, changed};
-use fz_cases::files::Hdu;
+use fz_cases::files::{Hdu, file_of};
 use fz_cases::grids::{GRID_FILE, GRID_PACKED, GRID_ROWS, GRID_SUMS, GRID_TILES};
 use fz_cases::headers::{FIRST_TABLE, NO_IMAGE, PLAIN_TABLE};
 use fz_cases::others::OTHER_PACKED;
@@ -48,8 +49,21 @@ const MANY: [Hdu<'static>; 3] = [
     },
 ];
 
+/// One pixel of 0, and the sum of its data where byte 4 of these is 1.
+const ONE_PIXEL: Hdu<'static> = Hdu {
+    cards: &[
+        "SIMPLE  =                    T",
+        "BITPIX  =                    8",
+        "NAXIS   =                    1",
+        "NAXIS1  =                    1",
+        "DATASUM = '16777216'",
+    ],
+    numbers: &[],
+    bytes: &[0],
+};
+
 /// Files that are sound, and what is said of them.
-const PRINTINGS: [Printing; 14] = [
+const PRINTINGS: [Printing; 16] = [
     Printing {
         command: "verify",
         hdus: &SUMMED,
@@ -111,6 +125,21 @@ const PRINTINGS: [Printing; 14] = [
             &[],
         ),
         lines: "HDU 0 datasum none checksum none tiles -\nHDU 1 datasum wrong checksum none tiles 6\n",
+        number: 1,
+    },
+    // the fill behind the data belongs to them
+    Printing {
+        command: "verify",
+        hdus: &[ONE_PIXEL],
+        change: Change::Byte(2884, 1),
+        lines: "HDU 0 datasum ok checksum none tiles -\n",
+        number: 0,
+    },
+    Printing {
+        command: "verify",
+        hdus: &[ONE_PIXEL],
+        change: Change::Nothing,
+        lines: "HDU 0 datasum wrong checksum none tiles -\n",
         number: 1,
     },
     Printing {
@@ -175,5 +204,17 @@ fn prints_a_line_for_each_hdu(rt: HostRuntime) -> Result<(), Fail> {
         assert_printed(&rt, &outcome, printing.lines, printing.number)?;
         assert_eq!(rt; outcome.sink.faults(), 0);
     }
+    Ok(())
+}
+
+// With ample memory this says no more than a file above; `tools/fail_allocations` lets each allocation of the run fail.
+#[test]
+fn ample_memory_verifies_the_grid_file(rt: HostRuntime) -> Result<(), Fail> {
+    let file = file_of(rt.alloc(), &SUMMED)?;
+    let outcome = outcome_of(&rt, &["verify", "IN"], &file, FREE, &FreeGate)?;
+    assert_eq!(rt; outcome.live, 0);
+    assert_eq!(rt; outcome.status, Status::Done);
+    let lines = "HDU 0 datasum none checksum none tiles -\nHDU 1 datasum ok checksum ok tiles 6\n";
+    assert_eq!(rt; outcome.text.contents(), lines.as_bytes());
     Ok(())
 }

@@ -1,7 +1,7 @@
 -- The promises are those of the answer to what the words ask for.
 use Rattle.std.proofs.Common.{◌≡◌, ap}
+use Rattle.fz_words.specs.Jobs.{job_of}
 use Rattle.fz_words.specs.Parts.{texts_of}
-use Rattle.fz_app.specs.Asked.{asked_for}
 use Rattle.fz_app.proofs.FirstBytes.{first_byte}
 use Rattle.fz_app.proofs.Limits.{over_limit}
 use Rattle.fz_app.proofs.RunPromises.{complete, counts, done, lines, refused, restored, usage_line, write_fault}
@@ -14,7 +14,7 @@ returns-clause-restored g c = restored c.round_trip_law.ensures (texts_of c.args
 pub returns-clause-text : goal.returns-clause-text
 returns-clause-text g c = record {
   between = record { contents = g.T.Text.contents c.answer_to-status.new.text; tally = g.T.Text.tally c.answer_to-status.new.text };
-  lines = lines c.one_first_fault_law.ensures _ _ (asked_for (texts_of c.args.words.now)) c.answer_to-status.result c.answer_to-status.ensures.promised (λ e. ap (λ x. record { contents = g.T.Text.contents x; tally = g.T.Text.tally x }) (c.answer_to-status.ensures.untouched e).2);
+  lines = lines c.one_first_fault_law.ensures _ _ (job_of (texts_of c.args.words.now)) c.answer_to-status.result c.answer_to-status.ensures.promised (λ e. ap (λ x. record { contents = g.T.Text.contents x; tally = g.T.Text.tally x }) (c.answer_to-status.ensures.untouched e).2);
   line = c.report.ensures.line;
 }
 
@@ -22,17 +22,17 @@ pub returns-clause-complete : goal.returns-clause-complete
 returns-clause-complete g c = complete c.one_first_fault_law.ensures _ _ (texts_of c.args.words.now) c.answer_to-status.result (g.T.Text.tally c.report.new.text) c.report.ensures.counts c.answer_to-status.ensures.promised c.answer_to-status.ensures.ended
 
 pub returns-clause-done : goal.returns-clause-done
-returns-clause-done g c = done c.one_first_fault_law.ensures _ _ (asked_for (texts_of c.args.words.now)) c.answer_to-status.result _ _ (g.T.Text.tally c.report.new.text) c.report.ensures.line c.answer_to-status.ensures.promised
+returns-clause-done g c = done c.one_first_fault_law.ensures _ _ (job_of (texts_of c.args.words.now)) c.answer_to-status.result _ _ (g.T.Text.tally c.report.new.text) c.report.ensures.line c.answer_to-status.ensures.promised
 
 pub returns-clause-refused : goal.returns-clause-refused
-returns-clause-refused g c = refused c.one_first_fault_law.ensures _ _ (asked_for (texts_of c.args.words.now)) c.answer_to-status.result c.answer_to-status.ensures.promised
+returns-clause-refused g c = refused c.one_first_fault_law.ensures _ _ (job_of (texts_of c.args.words.now)) c.answer_to-status.result c.answer_to-status.ensures.promised
 
 pub returns-clause-write_fault : goal.returns-clause-write_fault
-returns-clause-write_fault g c = write_fault c.one_first_fault_law.ensures _ _ (asked_for (texts_of c.args.words.now)) c.answer_to-status.result (g.T.Text.tally c.report.new.text) c.report.ensures.counts c.answer_to-status.ensures.promised
+returns-clause-write_fault g c = write_fault c.one_first_fault_law.ensures _ _ (job_of (texts_of c.args.words.now)) c.answer_to-status.result (g.T.Text.tally c.report.new.text) c.report.ensures.counts c.answer_to-status.ensures.promised
 
 pub returns-clause-counts : goal.returns-clause-counts
 returns-clause-counts g c =
-    counts (asked_for (texts_of c.args.words.now)) _ _ c.answer_to-status.result c.answer_to-status.ensures.promised
+    counts (job_of (texts_of c.args.words.now)) _ _ c.answer_to-status.result c.answer_to-status.ensures.promised
     (λ e. kept_by _ _ (ap g.S.Source.tally (c.answer_to-status.ensures.untouched e).0))
     (λ e. kept_by _ _ (ap g.K.Sink.tally (c.answer_to-status.ensures.untouched e).1))
     (λ e. kept_by _ _ (ap g.T.Text.tally (c.answer_to-status.ensures.untouched e).2))
@@ -43,7 +43,7 @@ returns-clause-over_limit g c = over_limit c.buffers_law.ensures.bounded (texts_
 
 pub returns-clause-first_byte : goal.returns-clause-first_byte
 returns-clause-first_byte g c =
-    first_byte _ _ (c.answer_to-status.new.sink ≡ c.args.sink.now) (ap g.K.Sink.contents) c.requires.empty (asked_for (texts_of c.args.words.now)) c.answer_to-status.result
+    first_byte _ _ (c.answer_to-status.new.sink ≡ c.args.sink.now) (ap g.K.Sink.contents) c.requires.empty (job_of (texts_of c.args.words.now)) c.answer_to-status.result
     c.answer_to-status.ensures.promised c.answer_to-status.ensures.ended c.answer_to-status.ensures.left (λ e. (c.answer_to-status.ensures.untouched e).1)
 
 pub returns-clause-untouched : goal.returns-clause-untouched
@@ -52,4 +52,5 @@ returns-clause-untouched g c = record {
       let same = c.answer_to-status.ensures.untouched e in
       (same.0, same.1, same.3, usage_line c.answer_to-status.result _ _ _ (ap (λ x. record { contents = g.T.Text.contents x; tally = g.T.Text.tally x }) same.2) e c.report.ensures.line);
   sink = c.answer_to-status.ensures.left;
+  source = c.answer_to-status.ensures.unread;
 }

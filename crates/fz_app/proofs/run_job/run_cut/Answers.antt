@@ -23,6 +23,7 @@ returns g c =
       promised = λ text. subst (λ (j : Job). IsPromised (record { job = j; workers = c.args.request.now.workers; memory = c.args.request.now.memory; input = c.args.request.now.input.now; output = c.args.request.now.output.now }) (old text) (new text) c.cut.result) (sym c.requires.job)
           (cut_out c.args.hdu c.args.sieve.now c.args.request.now.workers c.args.request.now.memory c.args.request.now.input.now c.args.request.now.output.now (old text) (new text) c.slice_law.ensures.sink c.cut.result
           (record {
+            of_file = tt;
             output = rw held at c.cut.ensures.output;
             finished = c.cut.ensures.finished;
             first_fault = rw held at c.cut.ensures.first_fault;

@@ -22,6 +22,7 @@ returns g c = record {
       subst (λ (j : Job). IsPromised (record { job = j; workers = c.args.request.now.workers; memory = c.args.request.now.memory; input = c.args.request.now.input.now; output = c.args.request.now.output.now }) old new c.list.result) (sym c.requires.job)
       (listed _ old new c.list.result (text_promised ListHdus lists c.args.request.now.workers c.args.request.now.memory c.args.request.now.input.now c.args.request.now.output.now old new refl empty c.list.result
       (record {
+        of_file = tt;
         lines = rw held at c.list.ensures.lines;
         first_fault = rw held at c.list.ensures.first_fault;
         answered = rw (held, tally, limit) at c.list.ensures.answered;

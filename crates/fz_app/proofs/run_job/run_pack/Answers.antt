@@ -23,6 +23,7 @@ returns g c =
       promised = λ text. subst (λ (j : Job). IsPromised (record { job = j; workers = c.args.request.now.workers; memory = c.args.request.now.memory; input = c.args.request.now.input.now; output = c.args.request.now.output.now }) (old text) (new text) c.pack.result) (sym c.requires.job)
           (packed c.args.options.now c.args.request.now.workers c.args.request.now.memory c.args.request.now.input.now c.args.request.now.output.now (old text) (new text) c.requires.empty c.round_trip_law.ensures c.requires.options c.pack.result
           (record {
+            of_file = tt;
             output = rw held at c.pack.ensures.output;
             finished = c.pack.ensures.finished;
             first_fault = rw held at c.pack.ensures.first_fault;

@@ -1,21 +1,22 @@
--- A job that writes a file leaves the text, and one that prints leaves the sink.
-use Rattle.std.proofs.Common.{ap}
+-- A job that writes a file leaves the text, one that prints leaves the sink, and `drill` the source too.
 use Rattle.fz_words.specs.Seen.{asked_of}
-use Rattle.fz_app.specs.Asked.{is_built}
 use Rattle.fz_app.proofs.RequestAnswers.{ran, verified}
 use Rattle.fz_app.proofs.run_job.run_request.Goals as goal
 
 pub returns-in-Pack-clause-promised : goal.returns-in-Pack-clause-promised
-returns-in-Pack-clause-promised g c = ran (asked_of c.args.request.now) _ _ c.ended.result c.run_pack.result c.ended.ensures (ap is_built c.in-Pack.is) (c.run_pack.ensures.promised (record { contents = g.T.Text.contents c.args.text.now; tally = g.T.Text.tally c.args.text.now }))
+returns-in-Pack-clause-promised g c = ran (asked_of c.args.request.now) _ _ c.ended.result c.run_pack.result c.ended.ensures (c.run_pack.ensures.promised (record { contents = g.T.Text.contents c.args.text.now; tally = g.T.Text.tally c.args.text.now }))
 
 pub returns-in-Unpack-clause-promised : goal.returns-in-Unpack-clause-promised
-returns-in-Unpack-clause-promised g c = ran (asked_of c.args.request.now) _ _ c.ended-in-Unpack.result c.run_unpack.result c.ended-in-Unpack.ensures (ap is_built c.in-Unpack.is) (c.run_unpack.ensures.promised (record { contents = g.T.Text.contents c.args.text.now; tally = g.T.Text.tally c.args.text.now }))
+returns-in-Unpack-clause-promised g c = ran (asked_of c.args.request.now) _ _ c.ended-in-Unpack.result c.run_unpack.result c.ended-in-Unpack.ensures (c.run_unpack.ensures.promised (record { contents = g.T.Text.contents c.args.text.now; tally = g.T.Text.tally c.args.text.now }))
 
 pub returns-in-Cut-clause-promised : goal.returns-in-Cut-clause-promised
-returns-in-Cut-clause-promised g c = ran (asked_of c.args.request.now) _ _ c.ended-in-Cut.result c.run_cut.result c.ended-in-Cut.ensures (ap is_built c.in-Cut.is) (c.run_cut.ensures.promised (record { contents = g.T.Text.contents c.args.text.now; tally = g.T.Text.tally c.args.text.now }))
+returns-in-Cut-clause-promised g c = ran (asked_of c.args.request.now) _ _ c.ended-in-Cut.result c.run_cut.result c.ended-in-Cut.ensures (c.run_cut.ensures.promised (record { contents = g.T.Text.contents c.args.text.now; tally = g.T.Text.tally c.args.text.now }))
 
 pub returns-in-Verify-clause-promised : goal.returns-in-Verify-clause-promised
-returns-in-Verify-clause-promised g c = verified (asked_of c.args.request.now) _ _ c.verified.result c.run_verify.result c.verified.ensures (ap is_built c.in-Verify.is) (c.run_verify.ensures.promised (record { contents = g.K.Sink.contents c.args.sink.now; created = g.K.Sink.created c.args.sink.now; finished = g.K.Sink.finished c.args.sink.now; tally = g.K.Sink.tally c.args.sink.now }) c.requires.empty)
+returns-in-Verify-clause-promised g c = verified (asked_of c.args.request.now) _ _ c.verified.result c.run_verify.result c.verified.ensures (c.run_verify.ensures.promised (record { contents = g.K.Sink.contents c.args.sink.now; created = g.K.Sink.created c.args.sink.now; finished = g.K.Sink.finished c.args.sink.now; tally = g.K.Sink.tally c.args.sink.now }) c.requires.empty)
 
 pub returns-in-List-clause-promised : goal.returns-in-List-clause-promised
-returns-in-List-clause-promised g c = ran (asked_of c.args.request.now) _ _ c.ended-in-List.result c.run_list.result c.ended-in-List.ensures (ap is_built c.in-List.is) (c.run_list.ensures.promised (record { contents = g.K.Sink.contents c.args.sink.now; created = g.K.Sink.created c.args.sink.now; finished = g.K.Sink.finished c.args.sink.now; tally = g.K.Sink.tally c.args.sink.now }) c.requires.empty)
+returns-in-List-clause-promised g c = ran (asked_of c.args.request.now) _ _ c.ended-in-List.result c.run_list.result c.ended-in-List.ensures (c.run_list.ensures.promised (record { contents = g.K.Sink.contents c.args.sink.now; created = g.K.Sink.created c.args.sink.now; finished = g.K.Sink.finished c.args.sink.now; tally = g.K.Sink.tally c.args.sink.now }) c.requires.empty)
+
+pub returns-in-Drill-clause-promised : goal.returns-in-Drill-clause-promised
+returns-in-Drill-clause-promised g c = ran (asked_of c.args.request.now) _ _ c.ended-in-Drill.result c.run_drill.result c.ended-in-Drill.ensures (c.run_drill.ensures.promised (g.S.Source.held c.args.source.now) (g.S.Source.ranges c.args.source.now) (g.S.Source.tally c.args.source.now) (record { contents = g.K.Sink.contents c.args.sink.now; created = g.K.Sink.created c.args.sink.now; finished = g.K.Sink.finished c.args.sink.now; tally = g.K.Sink.tally c.args.sink.now }) c.requires.empty)

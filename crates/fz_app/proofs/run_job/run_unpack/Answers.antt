@@ -23,6 +23,7 @@ returns g c =
       promised = λ text. subst (λ (j : Job). IsPromised (record { job = j; workers = c.args.request.now.workers; memory = c.args.request.now.memory; input = c.args.request.now.input.now; output = c.args.request.now.output.now }) (old text) (new text) c.unpack.result) (sym c.requires.job)
           (unpacked c.args.request.now.workers c.args.request.now.memory c.args.request.now.input.now c.args.request.now.output.now (old text) (new text) c.round_trip_law.ensures c.one_file_law.ensures c.in_ok-length.length c.in_ok-length.ensures.attached.1 c.in_ok-length.ensures.attached.2 c.unpack.result
           (record {
+            of_file = tt;
             output = rw held at c.unpack.ensures.output;
             finished = c.unpack.ensures.finished;
             first_fault = rw held at c.unpack.ensures.first_fault;

@@ -22,6 +22,7 @@ returns-clause-promised g c = λ sink empty.
     subst (λ (j : Job). IsPromised (record { job = j; workers = c.args.request.now.workers; memory = c.args.request.now.memory; input = c.args.request.now.input.now; output = c.args.request.now.output.now }) old new (done_of c.verify.result)) (sym c.requires.job)
     (text_promised Verify verifies c.args.request.now.workers c.args.request.now.memory c.args.request.now.input.now c.args.request.now.output.now old new refl empty c.verify.result
     (record {
+      of_file = tt;
       lines = rw held at c.verify.ensures.lines;
       first_fault = rw held at c.verify.ensures.first_fault;
       answered = rw (held, tally, limit) at c.verify.ensures.answered;

@@ -1,0 +1,13 @@
+//! Runs of `drill` as tests: the lines of worked files, the calls of the gate, texts that fail, and limits.
+//!
+//! Reading order: `counting`, `lines`, `gates`, `stops`.
+#![tactic(auto)]
+
+#[cfg(test)]
+mod counting;
+#[cfg(test)]
+mod gates;
+#[cfg(test)]
+mod lines;
+#[cfg(test)]
+mod stops;

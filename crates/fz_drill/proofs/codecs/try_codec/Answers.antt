@@ -1,0 +1,65 @@
+-- One job after another.
+use Rattle.std.proofs.Common.{◌≡◌, ℕ, List, ◌++◌, sym, ◌∙◌, subst, rules}
+use Rattle.std.specs.Prelude.{None, Err}
+use Rattle.fz_base.specs.declared.failure.Stop.{Stop}
+use Rattle.fz_files.specs.Buffers.{drill_takings, file_takings}
+use Rattle.fz_files.specs.Drill.{drill_file, drill_options, drill_packed, drill_sieve}
+use Rattle.fz_files.specs.declared.job.Job.TheVariants.{Cut, Pack, Unpack}
+use Rattle.fz_drill.specs.Outcomes.{Stops}
+use Rattle.fz_drill.proofs.Takings.{at_limit, of_file, stops_first, stops_later, stops_none}
+use Rattle.fz_drill.proofs.codecs.try_codec.Goals as goal
+
+pub returns-in_err-packed-clause-stops : goal.returns-in_err-packed-clause-stops
+returns-in_err-packed-clause-stops g c =
+    let rows : ℕ = c.args.files.now.rows in
+    let packed : List ℕ = drill_packed rows c.args.codec in
+    let limit : ℕ = c.args.meter.now.limit in
+    let stop : Stop = c.in_err-packed.field-0.0 in
+    let is : c.from_residual.result ≡ Err stop = search rules in
+    subst (λ r. Stops rows (drill_takings rows c.args.codec) limit r) (sym is)
+    (stops_first rows limit (file_takings (Pack (drill_options c.args.codec)) (drill_file rows) 4) (file_takings Unpack packed 4 ++ file_takings (Cut None (drill_sieve rows)) packed 4) _ _ stop c.in_err-packed.ensures.stops)
+
+pub returns-in_err-unpacked-clause-stops : goal.returns-in_err-unpacked-clause-stops
+returns-in_err-unpacked-clause-stops g c =
+    let rows : ℕ = c.args.files.now.rows in
+    let packed : List ℕ = drill_packed rows c.args.codec in
+    let limit : ℕ = c.args.meter.now.limit in
+    let stop : Stop = c.in_err-unpacked.field-0.0 in
+    let is : c.from_residual-in_err-unpacked.result ≡ Err stop = search rules in
+    let same : c.pack_it.new.meter.limit ≡ limit = c.in_ok-packed.ensures.kept.limit in
+    let file : c.deref.result.now ≡ packed = search rules in
+    subst (λ r. Stops rows (drill_takings rows c.args.codec) limit r) (sym is)
+    (stops_later rows limit (file_takings (Pack (drill_options c.args.codec)) (drill_file rows) 4) (file_takings Unpack packed 4 ++ file_takings (Cut None (drill_sieve rows)) packed 4) _ (Unit {0}) _ _ stop c.in_ok-packed.ensures.stops
+    (stops_first rows limit (file_takings Unpack packed 4) (file_takings (Cut None (drill_sieve rows)) packed 4) _ (Unit {0}) stop
+    (at_limit rows (file_takings Unpack packed 4) same (of_file rows (λ f. file_takings Unpack f 4) file c.in_err-unpacked.ensures.stops))))
+
+pub returns-in_err-cut-clause-stops : goal.returns-in_err-cut-clause-stops
+returns-in_err-cut-clause-stops g c =
+    let rows : ℕ = c.args.files.now.rows in
+    let packed : List ℕ = drill_packed rows c.args.codec in
+    let limit : ℕ = c.args.meter.now.limit in
+    let stop : Stop = c.in_err-cut.field-0.0 in
+    let is : c.from_residual-in_err-cut.result ≡ Err stop = search rules in
+    let same : c.pack_it.new.meter.limit ≡ limit = c.in_ok-packed.ensures.kept.limit in
+    let also : c.unpacks.new.meter.limit ≡ limit = c.in_ok-unpacked.ensures.kept.limit ∙ same in
+    let file : c.deref.result.now ≡ packed = search rules in
+    let again : c.deref-2.result.now ≡ packed = search rules in
+    subst (λ r. Stops rows (drill_takings rows c.args.codec) limit r) (sym is)
+    (stops_later rows limit (file_takings (Pack (drill_options c.args.codec)) (drill_file rows) 4) (file_takings Unpack packed 4 ++ file_takings (Cut None (drill_sieve rows)) packed 4) _ (Unit {0}) _ _ stop c.in_ok-packed.ensures.stops
+    (stops_later rows limit (file_takings Unpack packed 4) (file_takings (Cut None (drill_sieve rows)) packed 4) _ _ (Unit {0}) _ stop
+    (at_limit rows (file_takings Unpack packed 4) same (of_file rows (λ f. file_takings Unpack f 4) file c.in_ok-unpacked.ensures.stops))
+    (at_limit rows (file_takings (Cut None (drill_sieve rows)) packed 4) also (of_file rows (λ f. file_takings (Cut None (drill_sieve rows)) f 4) again c.in_err-cut.ensures.stops))))
+
+pub returns-clause-stops : goal.returns-clause-stops
+returns-clause-stops g c =
+    let rows : ℕ = c.args.files.now.rows in
+    let packed : List ℕ = drill_packed rows c.args.codec in
+    let limit : ℕ = c.args.meter.now.limit in
+    let same : c.pack_it.new.meter.limit ≡ limit = c.in_ok-packed.ensures.kept.limit in
+    let also : c.unpacks.new.meter.limit ≡ limit = c.in_ok-unpacked.ensures.kept.limit ∙ same in
+    let file : c.deref.result.now ≡ packed = search rules in
+    let again : c.deref-2.result.now ≡ packed = search rules in
+    stops_none rows limit (file_takings (Pack (drill_options c.args.codec)) (drill_file rows) 4) (file_takings Unpack packed 4 ++ file_takings (Cut None (drill_sieve rows)) packed 4) _ _ _ _ _ _ c.in_ok-packed.ensures.stops
+    (stops_none rows limit (file_takings Unpack packed 4) (file_takings (Cut None (drill_sieve rows)) packed 4) _ _ (Unit {0}) _ _ tt
+    (at_limit rows (file_takings Unpack packed 4) same (of_file rows (λ f. file_takings Unpack f 4) file c.in_ok-unpacked.ensures.stops))
+    (at_limit rows (file_takings (Cut None (drill_sieve rows)) packed 4) also (of_file rows (λ f. file_takings (Cut None (drill_sieve rows)) f 4) again c.in_ok-cut.ensures.stops)))

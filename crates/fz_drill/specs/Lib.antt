@@ -1,0 +1,6 @@
+pub mod Bound
+pub mod Clauses
+pub mod Files
+pub mod Jobs
+pub mod Outcomes
+pub mod Said
