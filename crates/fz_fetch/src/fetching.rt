@@ -17,7 +17,7 @@ use crate::loading::load_round;
 use fz_base::{Fault, Gate, Place, Source, Stop};
 use fz_block::Header;
 use fz_head::{PackedImage, tile_kind};
-use fz_pool::{Window, decode_window, round_law, sizes_law};
+use fz_pool::{Window, decode_beside, decode_window, round_law, sizes_law};
 use fz_tile::TileFault;
 use std::thread::Threads;
 
@@ -70,6 +70,61 @@ pub fn fetch_tiles<R: Threads + Sync, S: Source, G: Gate>(
             None => Ok(()),
         },
         Err(_) => Err(Stop::NoMemory),
+    }
+}
+
+/// Fetches as `fetch_tiles` does, but decodes by so many workers, and does the job beside that on this thread, which
+/// then helps. The job is done once, whatever the answer is.
+pub fn fetch_beside<R: Threads + Sync, S: Source, G: Gate, J: FnMut() -> B, B>(
+    rt: &R,
+    source: &mut S,
+    header: &Header,
+    image: &PackedImage,
+    tiles: &[u32],
+    rows: &mut [u8],
+    window: &mut Window,
+    workers: u32,
+    gate: &G,
+    job: &mut J,
+) -> (Result<(), Stop>, B)
+    requires image { IsReadable image.now }
+    requires within { StandsWithin (S.attached source.old) image.now.table }
+    requires said { IfSome (S.held source.old) (λ g. IsSaid g header.now image.now) }
+    requires tiles { AreTilesOf image.now tiles.now }
+    requires few { len tiles.now ≤ 2 * window.old.workers }
+    requires rows { 4096 ≤ len rows.old }
+    requires window { HaveRoom image.now window.old }
+    requires workers { (1 ≤ workers) × (workers ≤ 64) }
+    requires job { J.pre job.old }
+    ensures fetched { OnOk result.0 (AreFetched (S.held source.old) header.now image.now.plan tiles.now window.new.slots) }
+    ensures row { IfRefused result.0 (IsOfRowAmong header.now.hdu tiles.now) }
+    ensures fault { TellsRowFault (S.held source.old) header.now tiles.now result.0 }
+    ensures read { IfSome (S.held source.old) (λ g. LogsIn (fetched_ranges g header.now tiles.now) (S.ranges source.old) (S.ranges source.new)) }
+    ensures told_ranges { StaysTold (S.ranges source.old) (S.ranges source.new) }
+    ensures rows { len rows.new ≡ len rows.old }
+    ensures sizes { slot_sizes window.new.slots ≡ slot_sizes window.old.slots }
+    ensures workers { window.new.workers ≡ window.old.workers }
+    ensures held { S.held source.new ≡ S.held source.old }
+    ensures attached { S.attached source.new ≡ S.attached source.old }
+    ensures cause { Fetches (S.tally source.old) (S.tally source.new) result.0 }
+    ensures job { J.step job.old result.1 job.new }
+{
+    round_law();
+    sizes_law();
+    // This call tells that there are at most 64 workers.
+    let _workers = window.workers();
+    let loaded = match load_round(source, header.hdu, image, tiles, rows, window) {
+        Ok(loaded) => loaded,
+        Err(stop) => return (Err(stop), job()),
+    };
+    let (decoded, done) = decode_beside(rt, window, loaded.count, workers, gate, job);
+    match decoded {
+        Ok(Some((i, fault))) => (Err(faulty(header.hdu, tiles[i as usize], fault)), done),
+        Ok(None) => match loaded.refused {
+            Some(fault) => (Err(Stop::Refused(fault)), done),
+            None => (Ok(()), done),
+        },
+        Err(_) => (Err(Stop::NoMemory), done),
     }
 }
 

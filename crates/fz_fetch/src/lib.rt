@@ -17,7 +17,7 @@ mod scattering;
 mod tests;
 mod tiles;
 
-pub use fetching::fetch_tiles;
+pub use fetching::{fetch_beside, fetch_tiles};
 pub use law::scattered_law;
 pub use picking::scatter_picks;
 pub use scattering::scatter_tiles;

@@ -6,6 +6,7 @@ pub mod Gathering
 pub mod Headers
 pub mod LoadedTiles
 pub mod TileTotals
+pub mod Turning
 pub mod EncodedTiles
 pub mod TableSums
 pub mod WholeTables

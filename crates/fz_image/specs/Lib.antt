@@ -3,3 +3,4 @@ pub mod Image
 pub mod Layout
 pub mod Progress
 pub mod Tiles
+pub mod Turns

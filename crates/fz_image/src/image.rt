@@ -28,11 +28,12 @@ use crate::held::write_held;
 use crate::layout::Layout;
 use crate::progress::Progress;
 use crate::round::write_round;
+use crate::turns::write_by_turns;
 use fz_base::{Gate, Sink, Source, Stop, output_law, write_behind};
 use fz_block::{Header, cards_law};
 use fz_head::{Plan, Totals, pack_plan_law, sizes_law, sum_cards_law, to_packed, whole_cards_law};
 use fz_job::write_fill;
-use fz_pool::Window;
+use fz_pool::{BY_TURNS, Window};
 use fz_tile::slice_law;
 use std::thread::Threads;
 
@@ -183,6 +184,44 @@ fn write_tiles<R: Threads + Sync, S: Source, K: Sink, G: Gate>(
 
 // The same, but the last bytes of the heap are held back.
 fn write_rounds<R: Threads + Sync, S: Source, K: Sink, G: Gate>(
+    rt: &R,
+    source: &mut S,
+    sink: &mut K,
+    layout: &Layout,
+    window: &mut Window,
+    gate: &G,
+    rows: &mut [u8],
+    held: &mut [u8],
+    count: &mut usize,
+) -> Result<Progress, Stop>
+    requires layout { IsLayout layout.now }
+    requires pixels { HasPixels (S.attached source.old) layout.now }
+    requires created { IsTrue (K.created sink.old) }
+    requires window { HaveRoom layout.now window.old }
+    requires rows { 4096 ≤ len rows.old }
+    requires none { count.old ≡ 0 }
+    ensures written { IfOk result (λ w. IsWritten layout.now (S.held source.old) (K.contents sink.old) (heap_caught_up layout.now w count.new held.new (K.contents sink.new)) w × (w.tiles ≡ layout.now.tiles)) }
+    ensures last { IfOk result (λ w. AreLast count.new held.new w) }
+    ensures shut { StaysShut (K.contents sink.old) (K.contents sink.new) }
+    ensures told_contents { StaysTold (K.contents sink.old) (K.contents sink.new) }
+    ensures rows { len rows.new ≡ len rows.old }
+    ensures room { len held.new ≡ len held.old }
+    ensures sizes { slot_sizes window.new.slots ≡ slot_sizes window.old.slots }
+    ensures workers { window.new.workers ≡ window.old.workers }
+    ensures source { S.held source.new ≡ S.held source.old }
+    ensures told_ranges { StaysTold (S.ranges source.old) (S.ranges source.new) }
+    ensures attached { S.attached source.new ≡ S.attached source.old }
+    ensures created { K.created sink.new ≡ K.created sink.old }
+    ensures cause { CodesAndWrites (S.tally source.old) (S.tally source.new) (K.tally sink.old) (K.tally sink.new) result }
+{
+    if window.workers() < BY_TURNS || layout.tiles <= 2 * window.workers() {
+        return write_whole_rounds(rt, source, sink, layout, window, gate, rows, held, count);
+    }
+    write_by_turns(rt, source, sink, layout, window, gate, rows, held, count)
+}
+
+// The same with one part of the work behind the other, and all slots in each round.
+fn write_whole_rounds<R: Threads + Sync, S: Source, K: Sink, G: Gate>(
     rt: &R,
     source: &mut S,
     sink: &mut K,

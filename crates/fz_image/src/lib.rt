@@ -1,7 +1,8 @@
 //! Writes the table of a packed image: its header, its rows, its heap and the fill.
 //!
 //! Reading order: `layout`, `progress`, `held`; `gather`, `loading` (the tiles of a round into the window), `descriptors`,
-//! `round` (a round of tiles), `header`, `image`.
+//! `round` (a round of tiles), `turns` (the same, in two halves), `header`,
+//! `image`.
 #![tactic(auto)]
 
 mod descriptors;
@@ -13,5 +14,6 @@ mod layout;
 mod loading;
 mod progress;
 mod round;
+mod turns;
 
 pub use image::write_image;

@@ -98,8 +98,8 @@ fn encode_tiles<R: Threads + Sync, S: Source, G: Gate>(
     encode_window(rt, window, count, gate).map_err(|_| Stop::NoMemory)
 }
 
-// Writes the tiles in the first slots, which were encoded.
-fn write_tiles<K: Sink>(
+/// Writes the tiles in the first slots, which were encoded.
+pub(crate) fn write_tiles<K: Sink>(
     sink: &mut K,
     layout: &Layout,
     progress: &mut Progress,

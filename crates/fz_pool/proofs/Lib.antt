@@ -11,5 +11,6 @@ pub mod MovingLemmas
 pub mod RoundLemmas
 pub mod SlotLemmas
 pub mod SizeLemmas
+pub mod HalfLemmas
 pub mod LawLemmas
 pub mod TestLemmas

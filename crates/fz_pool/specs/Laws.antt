@@ -1,11 +1,11 @@
 -- What the laws of this crate say, over the definitions alone.
-use Rattle.std.specs.Prelude.{◌≡◌, ℕ, ◌+◌, ◌*◌, ◌<◌, ◌≤◌, Bool, ℤ, List, length, map, replicate, slice_get, slice_index_or, Some}
+use Rattle.std.specs.Prelude.{◌≡◌, ℕ, ◌+◌, ◌*◌, ◌<◌, ◌≤◌, ◌++◌, Bool, ℤ, List, length, map, replicate, slice_get, slice_index_or, Some}
 use Rattle.fz_tile.specs.declared.codec.Codec.{Codec}
 use Rattle.fz_tile.specs.declared.fault.TileFault.{TileFault}
 use Rattle.fz_tile.specs.TileCode.{tile_code, AreElements}
 use Rattle.fz_pool.specs.declared.slot.Slot.{Slot}
 use Rattle.fz_pool.specs.Slots.{bits_of_pixel, record_of, IsForEncoding, IsEncoded, IsReady, HasFault}
-use Rattle.fz_pool.specs.Window.{Pool, fresh_slot, fresh_bytes, slot_size, slot_sizes, asked_for, with_slot, IsPut}
+use Rattle.fz_pool.specs.Window.{AreHalves, Pool, fresh_slot, fresh_bytes, slot_size, slot_sizes, asked_for, with_slot, IsPut}
 use Rattle.fz_pool.specs.Calls.{AreReady, AreForDecoding, AreEncoded, HaveNumbers, IsLowestFault}
 use Rattle.fz_pool.specs.Round.{HoldTiles, coded_tile, coded_tiles, AreTilesOf}
 
@@ -30,6 +30,16 @@ AsksForFresh = (m n : ℕ) → asked_for (replicate m (fresh_slot n)) ≡ m * fr
 -- as much is asked for slots of the same lengths
 abbrev pub AsksAlike : Type 0
 AsksAlike = (old new : List Slot) → slot_sizes new ≡ slot_sizes old → asked_for new ≡ asked_for old
+
+-- where the slots of a window are alike, those of its halves are
+abbrev pub HalvesAlike : Type 0
+HalvesAlike = (whole first second : Pool) (size : ℕ × ℕ) → AreHalves whole first second → slot_sizes whole.slots ≡ replicate (2 * whole.workers) size
+    → (slot_sizes first.slots ≡ replicate (2 * first.workers) size) × (slot_sizes second.slots ≡ replicate (2 * second.workers) size)
+
+-- where those of two windows are alike, all are
+abbrev pub BothAlike : Type 0
+BothAlike = (first second : Pool) (size : ℕ × ℕ) → slot_sizes first.slots ≡ replicate (2 * first.workers) size → slot_sizes second.slots ≡ replicate (2 * second.workers) size
+    → slot_sizes (first.slots ++ second.slots) ≡ replicate (2 * (first.workers + second.workers)) size
 
 -- ---- filling slots
 

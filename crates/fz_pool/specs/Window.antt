@@ -1,5 +1,5 @@
 -- The window as callers see it, and what is asked of a meter for its slots.
-use Rattle.std.specs.Prelude.{◌≡◌, ◌≢◌, ℕ, ◌+◌, ◌*◌, ◌<◌, ◌≤◌, ◌⊎◌, max, pos, List, [], map, length, replicate, sum, slice_set, slice_index_or, None}
+use Rattle.std.specs.Prelude.{◌≡◌, ◌≢◌, ℕ, ◌+◌, ◌*◌, ◌<◌, ◌≤◌, ◌⊎◌, max, pos, List, [], map, length, replicate, sum, ◌++◌, ◌/◌, slice_set, slice_index_or, None}
 use Rattle.fz_base.specs.Meter.{Gauge, taken, RefusedFor}
 use Rattle.fz_base.specs.declared.failure.Short.{Short}
 use Rattle.fz_tile.specs.declared.codec.Codec.TheVariants.{Plain}
@@ -82,3 +82,12 @@ pub record IsPut (old : Pool) (i : ℕ) (x : Slot) (new : Pool) : Type 0 where
   pub others : (k : ℕ) (d : Slot) → k ≢ i → slice_index_or new.slots k d ≡ slice_index_or old.slots k d
   pub sizes : slot_sizes new.slots ≡ slot_sizes old.slots
   pub workers : new.workers ≡ old.workers
+
+-- Two windows have the slots of one between them, in order, and half of its workers each; of an odd number the second has one
+-- more
+pub record AreHalves (whole first second : Pool) : Type 0 where
+  pub slots : first.slots ++ second.slots ≡ whole.slots
+  pub half : first.workers ≡ whole.workers / 2
+  pub workers : first.workers + second.workers ≡ whole.workers
+  pub filled : IsFilled first
+  pub others : IsFilled second

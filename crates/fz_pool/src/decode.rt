@@ -10,6 +10,9 @@ use fz_base::{Gate, NoMemory};
 use fz_tile::TileFault;
 use std::thread::Threads;
 
+// The slots are not encoded, but decoded.
+const ENCODE: bool = false;
+
 // The lowest of the first slots that has a fault.
 fn lowest_fault(slots: &[Slot], count: u32) -> Option<(u32, TileFault)>
     requires { count ≤ length slots.now }
@@ -48,17 +51,60 @@ pub fn decode_window<R: Threads + Sync, G: Gate>(
     ensures none { count ≡ 0 → result ≡ Ok None }
 {
     let workers = window.workers();
-    let answer = code_slots(
+    let (answer, ()) = code_slots(
         rt,
         window.alloc,
         &mut window.slots,
         count,
         workers,
         gate,
+        ENCODE,
         false,
+        &mut || {},
     );
     match answer {
         Ok(()) => Ok(lowest_fault(&window.slots, count)),
         Err(stop) => Err(stop),
+    }
+}
+
+/// Decodes as `decode_window` does, but by so many workers, and does the job beside it on this thread, which then
+/// helps. The job is done once, whatever the answer is.
+pub fn decode_beside<R: Threads + Sync, G: Gate, J: FnMut() -> B, B>(
+    rt: &R,
+    window: &mut Window,
+    count: u32,
+    workers: u32,
+    gate: &G,
+    job: &mut J,
+) -> (Result<Option<(u32, TileFault)>, NoMemory>, B)
+    requires filled { IsFilled window.old }
+    requires count { count ≤ 2 * window.old.workers }
+    requires workers { (1 ≤ workers) × (workers ≤ 64) }
+    requires ready { AreForDecoding count window.old.slots }
+    requires job { J.pre job.old }
+    ensures numbers { IfOk result.0 (λ o. IfNone o (HaveNumbers count window.old.slots window.new.slots)) }
+    ensures fault { IfOk result.0 (λ o. IfSome o (λ p. IsLowestFault count window.old.slots window.new.slots p.0 p.1)) }
+    ensures decoded { OnOk result.0 (AreDecoded count window.old.slots window.new.slots) }
+    ensures kept { KeepsWindow result.0 count window.old window.new }
+    ensures none { count ≡ 0 → result.0 ≡ Ok None }
+    ensures job { J.step job.old result.1 job.new }
+{
+    // This call tells that there are no more than 128 slots.
+    let _half = window.workers();
+    let (answer, done) = code_slots(
+        rt,
+        window.alloc,
+        &mut window.slots,
+        count,
+        workers,
+        gate,
+        ENCODE,
+        true,
+        job,
+    );
+    match answer {
+        Ok(()) => (Ok(lowest_fault(&window.slots, count)), done),
+        Err(stop) => (Err(stop), done),
     }
 }

@@ -36,5 +36,43 @@ pub fn encode_window<R: Threads + Sync, G: Gate>(
         workers,
         gate,
         true,
+        false,
+        &mut || {},
+    )
+    .0
+}
+
+/// Encodes as `encode_window` does, but by so many workers, and does the job beside it on this thread, which then
+/// helps. The job is done once, whatever the answer is.
+pub fn encode_beside<R: Threads + Sync, G: Gate, J: FnMut() -> B, B>(
+    rt: &R,
+    window: &mut Window,
+    count: u32,
+    workers: u32,
+    gate: &G,
+    job: &mut J,
+) -> (Result<(), NoMemory>, B)
+    requires filled { IsFilled window.old }
+    requires count { count ≤ 2 * window.old.workers }
+    requires workers { (1 ≤ workers) × (workers ≤ 64) }
+    requires ready { AreForEncoding count window.old.slots }
+    requires job { J.pre job.old }
+    ensures encoded { OnOk result.0 (AreEncoded count window.old.slots window.new.slots) }
+    ensures kept { KeepsWindow result.0 count window.old window.new }
+    ensures none { count ≡ 0 → result.0 ≡ Ok tt }
+    ensures job { J.step job.old result.1 job.new }
+{
+    // This call tells that there are no more than 128 slots.
+    let _half = window.workers();
+    code_slots(
+        rt,
+        window.alloc,
+        &mut window.slots,
+        count,
+        workers,
+        gate,
+        true,
+        true,
+        job,
     )
 }

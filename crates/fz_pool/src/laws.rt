@@ -1,5 +1,5 @@
 //! Laws for those who fill a window, have it coded and read it: no code runs.
-ghost use Rattle.fz_pool.specs.Laws.{AreFresh, AreAsMany, IsAlike, AsksForFresh, AsksAlike, PutsSlot, ReadiesNext, EncodesTiles, TellsLength, DecodesTiles, HasNoFault, IsOneLowest};
+ghost use Rattle.fz_pool.specs.Laws.{AreFresh, AreAsMany, IsAlike, AsksForFresh, AsksAlike, PutsSlot, ReadiesNext, EncodesTiles, TellsLength, DecodesTiles, HasNoFault, IsOneLowest, HalvesAlike, BothAlike};
 
 use fz_tile::{column_law, one_fault_law};
 
@@ -11,6 +11,12 @@ pub fn sizes_law()
     ensures alike { IsAlike }
     ensures asked { AsksForFresh }
     ensures same { AsksAlike }
+{}
+
+/// The lengths of the buffers in the halves of a window, and in a window that was joined again.
+pub fn halves_law()
+    ensures halves { HalvesAlike }
+    ensures both { BothAlike }
 {}
 
 /// What is left in a slot that `slot_mut` lent is put into the window. Slots that are put one behind the

@@ -1,6 +1,6 @@
 //! The window of tiles, and the workers that draw them by ticket.
 //!
-//! Reading order: `slot`, `window`, `filling`; `law`; `board`, `step_facts`, `code`, `steps`; `workers`, `moving`,
+//! Reading order: `slot`, `window`, `filling`, `halves`; `law`; `board`, `step_facts`, `code`, `steps`; `workers`, `moving`,
 //! `round`, `encode`, `decode`; `laws`; `tests`.
 #![tactic(auto)]
 
@@ -9,6 +9,7 @@ mod code;
 mod decode;
 mod encode;
 mod filling;
+mod halves;
 mod law;
 mod laws;
 mod moving;
@@ -22,10 +23,10 @@ mod window;
 mod workers;
 
 pub use board::{Board, Hand, Running, TableKey, Turn, View};
-pub use decode::decode_window;
-pub use encode::encode_window;
+pub use decode::{decode_beside, decode_window};
+pub use encode::{encode_beside, encode_window};
 pub use law::window_law;
-pub use laws::{length_law, lowest_fault_law, put_law, round_law, sizes_law};
+pub use laws::{halves_law, length_law, lowest_fault_law, put_law, round_law, sizes_law};
 pub use slot::{Job, Slot};
 pub use steps::{draw, home, work};
-pub use window::Window;
+pub use window::{BY_TURNS, Window};

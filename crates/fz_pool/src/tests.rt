@@ -5,7 +5,7 @@ ghost use Rattle.fz_pool.specs.Slots.{IsForEncoding, IsForDecoding};
 ghost use Rattle.fz_pool.specs.Window.{IsFilled, IsPut, Pool, slot_size, slot_sizes};
 ghost use Rattle.fz_pool.specs.Calls.{AreForEncoding, AreForDecoding};
 
-use crate::{Job, Slot, Window, decode_window, encode_window};
+use crate::{Job, Slot, Window, decode_beside, decode_window, encode_beside, encode_window};
 use fz_base::{FreeGate, Gate, Meter, NoMemory, Short};
 use fz_tile::{Codec, Place2, TileFault};
 use std::alloc::{AllocError, Global};
@@ -276,6 +276,47 @@ impl Gate for Meeting {
     }
 }
 
+/// Holds each call until a job has begun.
+#[derive(Drop)]
+struct Beside {
+    begun: AtomicU64,
+    came: AtomicU64,
+    met: AtomicU64,
+}
+
+impl Beside {
+    fn new() -> Beside {
+        Beside {
+            begun: AtomicU64::new(0),
+            came: AtomicU64::new(0),
+            met: AtomicU64::new(0),
+        }
+    }
+
+    // The job: it is done once a call came, and answers whether one did.
+    fn wait(&self) -> bool {
+        self.begun.store(1, Ordering::SeqCst);
+        for _ in 0..1_000_000_000u64 {
+            if self.came.load(Ordering::SeqCst) > 0 {
+                return true;
+            }
+        }
+        false
+    }
+}
+
+impl Gate for Beside {
+    fn pass(&self, _worker: u32, _tile: u32) {
+        self.came.fetch_add(1, Ordering::SeqCst);
+        for _ in 0..1_000_000_000u64 {
+            if self.begun.load(Ordering::SeqCst) == 1 {
+                self.met.fetch_add(1, Ordering::SeqCst);
+                return;
+            }
+        }
+    }
+}
+
 // Three calls were held at once, one of each of the workers 0, 1 and 2.
 fn expect_met(rt: &impl Abort, gate: &Meeting) {
     assert_eq!(rt; gate.met.load(Ordering::SeqCst), 3);
@@ -317,6 +358,27 @@ fn gate_holds_the_first_large_tile(rt: HostRuntime) -> Result<(), Fail> {
     let gate = Holding::new();
     assert_eq!(rt; decode_window(&rt, &mut window, 4, &gate), Ok(None));
     expect_came(&rt, &gate);
+    Ok(())
+}
+
+// It fails a body that does the job before the tiles, and one that does it behind them.
+#[test]
+fn job_is_done_beside_the_tiles(rt: HostRuntime) -> Result<(), Fail> {
+    let mut window = filled(rt.alloc(), 2)?;
+    put_tiles(&mut window, 4);
+    let gate = Beside::new();
+    let (answer, done) = encode_beside(&rt, &mut window, 4, 2, &gate, &mut || gate.wait());
+    assert_eq!(rt; answer, Ok(()));
+    assert!(rt; done);
+    assert_eq!(rt; gate.met.load(Ordering::SeqCst), 4);
+    expect_bytes(&rt, &window, 4);
+    put_records(&mut window, 4, [9, 9]);
+    let gate = Beside::new();
+    let (answer, done) = decode_beside(&rt, &mut window, 4, 2, &gate, &mut || gate.wait());
+    assert_eq!(rt; answer, Ok(None));
+    assert!(rt; done);
+    assert_eq!(rt; gate.met.load(Ordering::SeqCst), 4);
+    expect_numbers(&rt, &window, 4);
     Ok(())
 }
 

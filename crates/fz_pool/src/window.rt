@@ -1,14 +1,20 @@
 //! The window: two slots for each worker, whose buffers a meter gives.
-ghost use Rattle.std.specs.Prelude.{◌≡◌, ◌+◌, ◌*◌, ◌<◌, ◌≤◌, [], length, replicate, IfOk, IfErr, OnOk, OnErr, slice_get};
+ghost use Rattle.std.specs.Prelude.{◌≡◌, ◌+◌, ◌*◌, ◌<◌, ◌≤◌, ◌++◌, [], length, replicate, IfOk, IfErr, OnOk, OnErr, slice_get};
 ghost use Rattle.std.specs.Borrow.{sem};
 ghost use Rattle.fz_base.specs.Meter.{taken, handed_back};
-ghost use Rattle.fz_pool.specs.Window.{IsEmpty, IsFilled, fresh_slot, fresh_bytes, asked_for, FillRefused, tried};
+ghost use Rattle.fz_pool.specs.Window.{AreHalves, IsEmpty, IsFilled, fresh_slot, fresh_bytes, asked_for, FillRefused, tried};
 
 use crate::Slot;
 use crate::filling::{fill_slots, give_slots};
+use crate::halves::{move_all, move_last};
 use fz_base::{Meter, NoMemory, Short};
 use std::alloc::Global;
 use std::marker::Model;
+
+/// With so many workers or more, and more tiles than slots, a job lets the halves of its window take turns: the tiles of
+/// one are coded while those of the other are read and written. With 16 a half has 16 slots or more, and rows of some
+/// thousand pixels in them take longer to code than threads take to start.
+pub const BY_TURNS: u32 = 16;
 
 /// The slots in which tiles are encoded and decoded. It is empty, or filled with two slots for each of
 /// its 1 to 64 workers; its list has room for them from the first.
@@ -101,5 +107,33 @@ impl Window {
         ensures value { slice_get self.old.slots i ≡ Some result.now }
     {
         &mut self.slots[i as usize]
+    }
+
+    /// Two windows, the first with the first slots and the second with the others, each for half of the workers;
+    /// this one is empty then. After `NoMemory` it is as before.
+    pub fn halve(&mut self) -> Result<(Window, Window), NoMemory>
+        requires filled { IsFilled self.old }
+        requires several { 2 ≤ self.old.workers }
+        ensures halves { IfOk result (λ p. AreHalves self.old p.0 p.1) }
+        ensures empty { OnOk result (self.new ≡ record { slots = []; workers = self.old.workers }) }
+        ensures no_memory { OnErr result (self.new ≡ self.old) }
+    {
+        let workers = self.workers / 2;
+        let mut first = Window::new(self.alloc, workers)?;
+        let mut second = Window::new(self.alloc, self.workers - workers)?;
+        let count = 2 * (self.workers - workers) as usize;
+        move_last(&mut self.slots, &mut second.slots, count);
+        move_all(&mut self.slots, &mut first.slots);
+        Ok((first, second))
+    }
+
+    /// Takes the slots of two windows into this empty one: those of the first, and then those of the second.
+    pub fn rejoin(&mut self, mut first: Window, mut second: Window)
+        requires empty { IsEmpty self.old }
+        requires room { length first.slots + length second.slots ≤ 2 * self.old.workers }
+        ensures { self.new ≡ record { slots = first.slots ++ second.slots; workers = self.old.workers } }
+    {
+        move_all(&mut first.slots, &mut self.slots);
+        move_all(&mut second.slots, &mut self.slots);
     }
 }

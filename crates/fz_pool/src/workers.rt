@@ -14,6 +14,9 @@ use fz_base::Gate;
 use std::thread;
 use std::thread::{Threads, available_parallelism, join_mut};
 
+// So many pixels, some 80 microseconds of Rice codes, pay the start of a thread beside a job.
+const BESIDE: u64 = 32_768;
+
 // The tile's number in its image.
 fn tile_number(board: &Board, hand: &mut Hand, i: u32) -> u32
     requires seat { hand.old.table_id ≡ board.now.shared.table_id }
@@ -171,9 +174,141 @@ fn processors(rt: &impl Threads) -> usize
     }
 }
 
-/// Has all tiles drawn and worked on by so many workers. For large tiles the threads start at once, else
-/// one behind the other.
-pub(crate) fn run<R: Threads + Sync, G: Gate>(
+// As many threads beside this one as the pixels of so many tiles pay, but one or more, and no more than there are
+// processors or tiles. The processors are asked for only where they matter.
+fn threads_beside(rt: &impl Threads, pixels: u64, tiles: usize) -> usize
+    ensures { 1 ≤ result }
+{
+    let paid = (pixels / BESIDE).min(tiles as u64) as usize;
+    if paid < 2 {
+        return 1;
+    }
+    paid.min(processors(rt) - 1)
+}
+
+// Starts a thread for each of the first hands, so many, does the job, and then has the other hands work, on demand:
+// tiles that are held hold up no other then.
+#[cycle(beside)]
+fn work_with<R: Threads + Sync, G: Gate, J: FnMut() -> B, B>(
+    rt: &R,
+    board: &Board,
+    gate: &G,
+    encode: bool,
+    worker: usize,
+    threads: usize,
+    job: &mut J,
+    hands: &mut [Hand],
+) -> B
+    requires table { board.now.shared.table_id.words ≡ 1 }
+    requires workers { worker + length hands.old ≤ 64 }
+    requires seated { All (IsSeated board.now.shared.table_id board.now.shared.key encode) hands.old }
+    requires job { J.pre job.old }
+    ensures hands { All (IsBack board.now.shared.table_id) hands.new }
+    ensures job { J.step job.old result job.new }
+{
+    if threads == 0 || hands.len() < 2 {
+        let answer = job();
+        work_on_demand(rt, board, gate, encode, worker, hands);
+        return answer;
+    }
+    let (own, others) = hands.split_at_mut(1);
+    hand_over(rt, board, gate, encode, worker, threads, job, own, others)
+}
+
+// Starts a thread for its own hand, and then does the same with the others.
+#[cycle(beside)]
+fn hand_over<R: Threads + Sync, G: Gate, J: FnMut() -> B, B>(
+    rt: &R,
+    board: &Board,
+    gate: &G,
+    encode: bool,
+    worker: usize,
+    threads: usize,
+    job: &mut J,
+    own: &mut [Hand],
+    others: &mut [Hand],
+) -> B
+    requires table { board.now.shared.table_id.words ≡ 1 }
+    requires one { length own.old ≡ 1 }
+    requires workers { worker + 1 + length others.old ≤ 64 }
+    requires threads { 0 < threads }
+    requires own { All (IsSeated board.now.shared.table_id board.now.shared.key encode) own.old }
+    requires others { All (IsSeated board.now.shared.table_id board.now.shared.key encode) others.old }
+    requires job { J.pre job.old }
+    ensures own { All (IsBack board.now.shared.table_id) own.new }
+    ensures others { All (IsBack board.now.shared.table_id) others.new }
+    ensures job { J.step job.old result job.new }
+{
+    let mut there = ||
+        requires { IsSync R.row × IsSync G.row × (board.now.shared.table_id.words ≡ 1) × (worker + length own.now ≤ 64) × All (IsSeated board.now.shared.table_id board.now.shared.key encode) own.now }
+        ensures { All (IsBack board.entry.now.shared.table_id) own.exit.now }
+    { work_at_once(rt, board, gate, encode, worker, 1, own) };
+    let mut here = || -> B
+        requires { IsSync R.row × IsSync G.row × (board.now.shared.table_id.words ≡ 1) × (worker + 1 + length others.now ≤ 64) × (0 < threads) × J.pre job.now × All (IsSeated board.now.shared.table_id board.now.shared.key encode) others.now }
+        ensures { J.step job.entry.now result job.exit.now × All (IsBack board.entry.now.shared.table_id) others.exit.now }
+    {
+        work_with(
+            rt,
+            board,
+            gate,
+            encode,
+            worker + 1,
+            threads - 1,
+            job,
+            others,
+        )
+    };
+    let ((), answer) = join_mut(rt, &mut there, &mut here);
+    answer
+}
+
+/// How the workers of a call begin.
+#[derive(Clone, Copy)]
+pub(crate) enum Start {
+    /// All at once, as many as there are processors: for large tiles.
+    AtOnce,
+    /// One behind the other, while that pays.
+    OnDemand,
+    /// Beside a job, for so many pixels.
+    Beside(u64),
+}
+
+// Has all hands work, and does the job beside them or behind them.
+fn work_all_hands<R: Threads + Sync, G: Gate, J: FnMut() -> B, B>(
+    rt: &R,
+    board: &Board,
+    gate: &G,
+    encode: bool,
+    start: Start,
+    job: &mut J,
+    hands: &mut [Hand],
+) -> B
+    requires table { board.now.shared.table_id.words ≡ 1 }
+    requires workers { length hands.old ≤ 64 }
+    requires seated { All (IsSeated board.now.shared.table_id board.now.shared.key encode) hands.old }
+    requires job { J.pre job.old }
+    ensures hands { All (IsBack board.now.shared.table_id) hands.new }
+    ensures job { J.step job.old result job.new }
+{
+    match start {
+        Start::AtOnce => {
+            let threads = processors(rt).min(board.slot_count()).max(1);
+            work_at_once(rt, board, gate, encode, 0, threads, hands);
+            job()
+        }
+        Start::OnDemand => {
+            work_on_demand(rt, board, gate, encode, 0, hands);
+            job()
+        }
+        Start::Beside(pixels) => {
+            let threads = threads_beside(rt, pixels, board.slot_count());
+            work_with(rt, board, gate, encode, 0, threads, job, hands)
+        }
+    }
+}
+
+/// Has all tiles drawn and worked on by so many workers, and the job done.
+pub(crate) fn run<R: Threads + Sync, G: Gate, J: FnMut() -> B, B>(
     rt: &R,
     board: &Board,
     first: &mut Hand,
@@ -181,21 +316,20 @@ pub(crate) fn run<R: Threads + Sync, G: Gate>(
     workers: usize,
     gate: &G,
     encode: bool,
-    large: bool,
-)
+    start: Start,
+    job: &mut J,
+) -> B
     requires table { board.now.shared.table_id.words ≡ 1 }
     requires workers { (0 < workers) × (workers ≤ 64) }
     requires lead { Leads board.now.shared.table_id board.now.shared.key encode workers 0 false first.old }
     requires empty { hands.items ≡ [] }
     requires room { workers ≤ vec_capacity hands }
-    ensures { Leads board.now.shared.table_id board.now.shared.key encode 0 0 true first.new }
+    requires job { J.pre job.old }
+    ensures lead { Leads board.now.shared.table_id board.now.shared.key encode 0 0 true first.new }
+    ensures job { J.step job.old result job.new }
 {
     split_hands(board, first, &mut hands, workers, encode);
-    if large {
-        let threads = processors(rt).min(board.slot_count()).max(1);
-        work_at_once(rt, board, gate, encode, 0, threads, hands.as_mut_slice());
-    } else {
-        work_on_demand(rt, board, gate, encode, 0, hands.as_mut_slice());
-    }
+    let answer = work_all_hands(rt, board, gate, encode, start, job, hands.as_mut_slice());
     join_hands(board, first, hands, encode);
+    answer
 }

@@ -17,6 +17,7 @@ pub mod Seen
 pub mod Standing
 pub mod Takings
 pub mod Tiles
+pub mod Turning
 pub mod Underway
 pub mod Usable
 pub mod Walked

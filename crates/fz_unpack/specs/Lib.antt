@@ -5,4 +5,5 @@ pub mod Images
 pub mod Laws
 pub mod Output
 pub mod Stages
+pub mod Turns
 pub mod Written

@@ -26,13 +26,14 @@ ghost use Rattle.fz_unpack.specs.Images.{AreWrittenTiles, HoldsPixels};
 ghost use Rattle.fz_survey.specs.Workspace.{SpaceStays};
 ghost use Rattle.fz_job.specs.Keeps.{Rewrites, SinkStays, SourceStays, WindowStays};
 
+use crate::turns::write_by_turns;
 use fz_base::{Gate, Sink, Source, Stop, output_law, write_behind};
 use fz_block::{BLOCK_LEN, Header};
 use fz_fetch::{MOST_TILES, fetch_tiles, number_tiles, scatter_tiles, scattered_law};
 use fz_grid::{Grid, shape_law, tiles_law, volume};
 use fz_head::{PackedImage, Plan, to_plain};
 use fz_job::{left_for_last, write_fill};
-use fz_pool::Window;
+use fz_pool::{BY_TURNS, Window};
 use fz_survey::Workspace;
 use fz_tile::{plain_law, plain_len};
 use std::thread::Threads;
@@ -163,6 +164,11 @@ fn write_tiles<R: Threads + Sync, S: Source, K: Sink, G: Gate>(
     shape_law();
     tiles_law();
     let tiles = Grid::new(image.plan.shape, image.plan.tile).tile_count();
+    if window.workers() >= BY_TURNS && tiles > 2 * window.workers() {
+        return write_by_turns(
+            rt, source, sink, window, gate, header, image, data_at, tiles, rows,
+        );
+    }
     let mut first = 0;
     while first < tiles {
         let count = (2 * window.workers()).min(tiles - first);

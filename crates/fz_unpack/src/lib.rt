@@ -1,7 +1,8 @@
 //! Unpacks a file: each table of a packed image becomes the image, and every other HDU is copied, but for an empty
 //! primary before a packed primary.
 //!
-//! Reading order: `unpack_file`, `law`, `file`, `first`, `again`, `hdu`, `image`.
+//! Reading order: `unpack_file`, `law`, `file`, `first`, `again`, `hdu`, `image`,
+//! `turns`.
 #![tactic(auto)]
 
 mod again;
@@ -10,6 +11,7 @@ mod first;
 mod hdu;
 mod image;
 mod law;
+mod turns;
 mod unpack_file;
 
 pub use unpack_file::unpack;

@@ -16,18 +16,18 @@ new-requires g c = let d = c.args.key.now in let l : List Slot = d.slots.value.i
     (subst (λ (xs : List Slot). (k : ℕ) (x : Slot) → get_elem? (take d.count xs) k ≡ some x → IsReady d.encode x) (sym was) (ready_all d.encode d.count c.args.slots.now c.requires.ready))
 
 pub gather-requires-clause-values : goal.gather-requires-clause-values
-gather-requires-clause-values g c = let d = c.args.key.now in let near = c.requires.near.0 in let items = slots_items c.work_all-closed.result.slots in
+gather-requires-clause-values g c = let d = c.args.key.now in let near = c.requires.near.0 in let items = slots_items c.work_all-closed.result.0.slots in
     values_all d.encode d.count c.args.slots.now c.args.slots.now items near
     (have_all d c.in-Ok-new.board.shared.key c.args.slots.now items near c.in-Ok-new.ensures.ok.5 c.requires.was c.work_all-closed.ensures.results)
 
 pub returns-in-Ok-new-clause-results : goal.returns-in-Ok-new-clause-results
-returns-in-Ok-new-clause-results g c = let d = c.args.key.now in let near = c.requires.near.0 in let items = slots_items c.work_all-closed.result.slots in
+returns-in-Ok-new-clause-results g c = let d = c.args.key.now in let near = c.requires.near.0 in let items = slots_items c.work_all-closed.result.0.slots in
     results_all d.encode d.count c.args.slots.now c.gather.new.slots items near
     (have_all d c.in-Ok-new.board.shared.key c.args.slots.now items near c.in-Ok-new.ensures.ok.5 c.requires.was c.work_all-closed.ensures.results)
     c.gather.ensures.values
 
 pub returns-in-Ok-new-clause-sizes : goal.returns-in-Ok-new-clause-sizes
-returns-in-Ok-new-clause-sizes g c = let d = c.args.key.now in let near = c.requires.near.0 in let items = slots_items c.work_all-closed.result.slots in
+returns-in-Ok-new-clause-sizes g c = let d = c.args.key.now in let near = c.requires.near.0 in let items = slots_items c.work_all-closed.result.0.slots in
     sizes_all d.encode d.count c.args.slots.now c.gather.new.slots (c.gather.auto.slots ∙ c.move_out.auto.slots)
     (results_all d.encode d.count c.args.slots.now c.gather.new.slots items near
     (have_all d c.in-Ok-new.board.shared.key c.args.slots.now items near c.in-Ok-new.ensures.ok.5 c.requires.was c.work_all-closed.ensures.results)

@@ -6,5 +6,5 @@ use Rattle.fz_pool.proofs.round.work_all.Goals as goal
 
 pub returns-clause-results : goal.returns-clause-results
 returns-clause-results g c = λ k x at. let key = c.args.board.shared.key in
-    let r = closes (starts_of key) key.workers key.encode _ _ _ _ _ c.run.ensures.turn c.close_with.ensures.values.2 k x at in
+    let r = closes (starts_of key) key.workers key.encode _ _ _ _ _ c.run-answer.ensures.lead.turn c.close_with.ensures.values.2 k x at in
     (r.0, r.1, subst (λ (b : Bool). IsResult b x r.0) c.requires.encode r.2)

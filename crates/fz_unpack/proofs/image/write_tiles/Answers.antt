@@ -1,5 +1,6 @@
 -- One round after another.
 use Rattle.std.proofs.Common.{◌≡◌, ℕ, ◌+◌, ◌≤◌, List, map, Option, Some, IfSome, Result, Err, refl, sym, ◌∙◌, subst, arith, rules}
+use Rattle.std.proofs.lemmas.Result.{on_ok_weaker}
 use Rattle.std.specs.List.{range_with_len}
 use Rattle.fz_base.specs.Stop.{IfRefused}
 use Rattle.fz_base.specs.declared.failure.Stop.{Stop}
@@ -86,3 +87,15 @@ returns-clause-pixels g c =
     all_written c.tiles_law.ensures.whole c.tiles_law.ensures.joined c.scattered_law.ensures.image held c.args.header.now image c.args.data_at c.loop-first.first
     (g.K.Sink.contents c.args.sink.now) (g.K.Sink.contents c.loop-first.sink) c.requires.said all c.requires.image.divided c.requires.image.codec.size
     (c.shape_law.ensures.tiles image.plan.shape image.plan.tile c.requires.image.divided) old.written
+
+-- by turns all are written too
+pub returns-then-tiles-workers-clause-pixels : goal.returns-then-tiles-workers-clause-pixels
+returns-then-tiles-workers-clause-pixels g c =
+    let held : Option (List ℕ) = g.S.Source.held c.args.source.now in
+    let image = c.args.image.now in
+    let many : c.tile_count-tiles.result ≡ tiles_in image.plan = c.tile_count-tiles.ensures.count ∙ (λ i. tile_count (lengths_of (c.new.ensures.shape i)) (lengths_of (c.new.ensures.tile i))) in
+    on_ok_weaker c.write_by_turns.result
+    (λ written. all_written c.tiles_law.ensures.whole c.tiles_law.ensures.joined c.scattered_law.ensures.image held c.args.header.now image c.args.data_at c.tile_count-tiles.result
+    (g.K.Sink.contents c.args.sink.now) (g.K.Sink.contents c.write_by_turns.new.sink) c.requires.said many c.requires.image.divided c.requires.image.codec.size
+    (c.shape_law.ensures.tiles image.plan.shape image.plan.tile c.requires.image.divided) written)
+    c.write_by_turns.ensures.pixels

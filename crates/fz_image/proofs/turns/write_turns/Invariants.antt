@@ -1,11 +1,11 @@
--- The tiles so far are written, once what is held back is; the ends are as at the start.
-use Rattle.std.proofs.Common.{◌≡◌, ◌-◌, ◌≤◌, length}
+-- The tiles so far are written, once what is held back is, and the next ones stand in the halves; the ends are as at the start.
+use Rattle.std.proofs.Common.{◌≡◌, ℕ, ◌+◌, ◌*◌, ◌-◌, length}
 use Rattle.fz_base.specs.FirstByte.{StaysShut}
 use Rattle.fz_base.specs.Told.{StaysTold}
-use Rattle.fz_pool.specs.Window.{slot_sizes}
 use Rattle.fz_image.specs.Held.{AreLast, heap_caught_up}
 use Rattle.fz_image.specs.Progress.{IsWritten}
-use Rattle.fz_image.proofs.image.write_rounds.Given as goal
+use Rattle.fz_image.specs.Turns.{AreAlike, HaveRooms, StandReady}
+use Rattle.fz_image.proofs.turns.write_turns.Given as goal
 
 abbrev pub invariant-loop-progress : goal.invariant-loop-progress
 invariant-loop-progress g l = record {
@@ -17,14 +17,15 @@ invariant-loop-progress g l = record {
   shut : StaysShut (g.K.Sink.contents l.fn.sink) (g.K.Sink.contents l.sink);
   told_ranges : StaysTold (g.S.Source.ranges l.fn.source) (g.S.Source.ranges l.source);
   told_contents : StaysTold (g.K.Sink.contents l.fn.sink) (g.K.Sink.contents l.sink);
-  sizes : slot_sizes l.window.slots ≡ slot_sizes l.fn.window.slots;
-  workers : l.window.workers ≡ l.fn.window.workers;
+  rooms : HaveRooms l.layout l.first l.second;
+  windows : (size : ℕ × ℕ) → AreAlike size l.fn.first → AreAlike size l.fn.second → AreAlike size l.first × AreAlike size l.second;
+  workers : l.first.workers + l.second.workers ≡ l.fn.first.workers + l.fn.second.workers;
   rows : length l.rows ≡ length l.fn.rows;
   room : length l.held ≡ length l.fn.held;
   last : AreLast l.count l.held l.progress;
-  within : l.progress.tiles ≤ l.layout.tiles;
+  ready : StandReady l.layout (g.S.Source.held l.fn.source) l.progress l.turn.coded l.turn.loaded l.first l.second;
   written : IsWritten l.layout (g.S.Source.held l.fn.source) (g.K.Sink.contents l.fn.sink) (heap_caught_up l.layout l.progress l.count l.held (g.K.Sink.contents l.sink)) l.progress;
 }
 
 abbrev pub decreases-loop-progress : goal.decreases-loop-progress
-decreases-loop-progress g l = l.layout.tiles - l.progress.tiles
+decreases-loop-progress g l = 3 * l.layout.tiles - (3 * l.progress.tiles + 2 * l.turn.coded + l.turn.loaded)

@@ -1,11 +1,13 @@
--- One round after another; nothing is held back at first.
+-- One turn after another; at first nothing is held back, and no tile stands in the halves.
 use Rattle.std.proofs.Common.{ℕ, ◌≡◌, ◌+◌, ◌≤◌, List, length, Option, refl, ◌∙◌, subst, sym, arith, rules}
 use Rattle.fz_image.specs.Held.{heap_caught_up}
 use Rattle.fz_image.specs.Layout.{heap_at_of}
 use Rattle.fz_image.specs.Progress.{IsWritten}
+use Rattle.fz_image.specs.Turns.{StandReady}
 use Rattle.fz_image.proofs.Holding.{none_held}
 use Rattle.fz_image.proofs.Progresses.{written_few, written_none}
-use Rattle.fz_image.proofs.image.write_rounds.Goals as goal
+use Rattle.fz_image.proofs.Turning.{none_ready, still_rooms}
+use Rattle.fz_image.proofs.turns.write_turns.Goals as goal
 
 pub loop-progress-init : goal.loop-progress-init
 loop-progress-init g c =
@@ -26,21 +28,27 @@ loop-progress-init g c =
       shut = λ shut. shut;
       told_ranges = λ told. told;
       told_contents = λ told. told;
-      sizes = refl;
+      rooms = c.requires.rooms;
+      windows = λ size one other. (one, other);
       workers = refl;
       rows = refl;
       room = refl;
       last = (short, few);
-      within = written_few l held before before w none;
+      ready = none_ready l held w c.args.first.now c.args.second.now c.requires.rooms c.sizes_law.ensures.many (written_few l held before before w none);
       written = subst (λ (k : Option (List ℕ)). IsWritten l held before k w) (sym same) none;
     }
 
-pub write_round-requires-clause-so_far : goal.write_round-requires-clause-so_far
-write_round-requires-clause-so_far g c κs within =
+pub take_turn-requires-clause-so_far : goal.take_turn-requires-clause-so_far
+take_turn-requires-clause-so_far g c κs within =
     let l = c.args.layout.now in
     let before : Option (List ℕ) = g.K.Sink.contents c.args.sink.now in
     let so_far : Option (List ℕ) = heap_caught_up l c.loop-progress.progress c.loop-progress.count c.loop-progress.held (g.K.Sink.contents c.loop-progress.sink) in
     (before, subst (λ (h : Option (List ℕ)). IsWritten l h before so_far c.loop-progress.progress) (sym c.loop-progress.invariant.held) c.loop-progress.invariant.written)
+
+pub take_turn-requires-clause-ready : goal.take_turn-requires-clause-ready
+take_turn-requires-clause-ready g c κs within =
+    let p = c.loop-progress in
+    subst (λ (h : Option (List ℕ)). StandReady c.args.layout.now h p.progress p.turn.coded p.turn.loaded p.first p.second) (sym p.invariant.held) p.invariant.ready
 
 pub loop-progress-preserved : goal.loop-progress-preserved
 loop-progress-preserved g c =
@@ -48,27 +56,30 @@ loop-progress-preserved g c =
     let held : Option (List ℕ) = g.S.Source.held c.args.source.now in
     let before : Option (List ℕ) = g.K.Sink.contents c.args.sink.now in
     let old = c.loop-progress.invariant in
+    let new = c.take_turn.new in
+    let done = c.in_ok-take_turn.ensures in
     let so_far : Option (List ℕ) = heap_caught_up l c.loop-progress.progress c.loop-progress.count c.loop-progress.held (g.K.Sink.contents c.loop-progress.sink) in
-    let next : Option (List ℕ) = heap_caught_up l c.write_round.new.progress c.write_round.new.count c.write_round.new.held (g.K.Sink.contents c.write_round.new.sink) in
+    let next : Option (List ℕ) = heap_caught_up l new.progress new.count new.held (g.K.Sink.contents new.sink) in
     let was : IsWritten l (g.S.Source.held c.loop-progress.source) before so_far c.loop-progress.progress =
     subst (λ (h : Option (List ℕ)). IsWritten l h before so_far c.loop-progress.progress) (sym old.held) old.written in
-    let more = c.in_ok-write_round.ensures.more before was in
-    let now : IsWritten l held before next c.write_round.new.progress =
-    subst (λ (h : Option (List ℕ)). IsWritten l h before next c.write_round.new.progress) old.held more in
+    let more = done.more before was in
+    let now : IsWritten l held before next new.progress =
+    subst (λ (h : Option (List ℕ)). IsWritten l h before next new.progress) old.held more in
     record {
       held = search rules;
       attached = search rules;
       reads = search rules;
       created = search rules;
       writes = search rules;
-      shut = λ shut. c.in_ok-write_round.ensures.shut (old.shut shut);
-      told_ranges = λ told. c.in_ok-write_round.ensures.told_ranges (old.told_ranges told);
-      told_contents = λ told. c.in_ok-write_round.ensures.told_contents (old.told_contents told);
-      sizes = c.in_ok-write_round.ensures.sizes ∙ old.sizes;
-      workers = c.in_ok-write_round.ensures.workers ∙ old.workers;
-      rows = c.in_ok-write_round.ensures.rows ∙ old.rows;
-      room = c.in_ok-write_round.ensures.room ∙ old.room;
-      last = c.in_ok-write_round.ensures.held;
-      within = written_few l held before next c.write_round.new.progress now;
+      shut = λ shut. done.shut (old.shut shut);
+      told_ranges = λ told. done.told_ranges (old.told_ranges told);
+      told_contents = λ told. done.told_contents (old.told_contents told);
+      rooms = still_rooms l c.loop-progress.first c.loop-progress.second new.first new.second old.rooms done.windows;
+      windows = λ size one other. let both = old.windows size one other in done.windows size both.0 both.1;
+      workers = done.workers ∙ old.workers;
+      rows = done.rows ∙ old.rows;
+      room = done.room ∙ old.room;
+      last = done.held;
+      ready = subst (λ (h : Option (List ℕ)). StandReady l h new.progress new.turn.coded new.turn.loaded new.first new.second) old.held done.ready;
       written = now;
     }

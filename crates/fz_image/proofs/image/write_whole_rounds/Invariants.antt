@@ -1,0 +1,30 @@
+-- The tiles so far are written, once what is held back is; the ends are as at the start.
+use Rattle.std.proofs.Common.{◌≡◌, ◌-◌, ◌≤◌, length}
+use Rattle.fz_base.specs.FirstByte.{StaysShut}
+use Rattle.fz_base.specs.Told.{StaysTold}
+use Rattle.fz_pool.specs.Window.{slot_sizes}
+use Rattle.fz_image.specs.Held.{AreLast, heap_caught_up}
+use Rattle.fz_image.specs.Progress.{IsWritten}
+use Rattle.fz_image.proofs.image.write_whole_rounds.Given as goal
+
+abbrev pub invariant-loop-progress : goal.invariant-loop-progress
+invariant-loop-progress g l = record {
+  held : g.S.Source.held l.source ≡ g.S.Source.held l.fn.source;
+  attached : g.S.Source.attached l.source ≡ g.S.Source.attached l.fn.source;
+  reads : g.S.Source.tally l.source ≡ g.S.Source.tally l.fn.source;
+  created : g.K.Sink.created l.sink ≡ g.K.Sink.created l.fn.sink;
+  writes : g.K.Sink.tally l.sink ≡ g.K.Sink.tally l.fn.sink;
+  shut : StaysShut (g.K.Sink.contents l.fn.sink) (g.K.Sink.contents l.sink);
+  told_ranges : StaysTold (g.S.Source.ranges l.fn.source) (g.S.Source.ranges l.source);
+  told_contents : StaysTold (g.K.Sink.contents l.fn.sink) (g.K.Sink.contents l.sink);
+  sizes : slot_sizes l.window.slots ≡ slot_sizes l.fn.window.slots;
+  workers : l.window.workers ≡ l.fn.window.workers;
+  rows : length l.rows ≡ length l.fn.rows;
+  room : length l.held ≡ length l.fn.held;
+  last : AreLast l.count l.held l.progress;
+  within : l.progress.tiles ≤ l.layout.tiles;
+  written : IsWritten l.layout (g.S.Source.held l.fn.source) (g.K.Sink.contents l.fn.sink) (heap_caught_up l.layout l.progress l.count l.held (g.K.Sink.contents l.sink)) l.progress;
+}
+
+abbrev pub decreases-loop-progress : goal.decreases-loop-progress
+decreases-loop-progress g l = l.layout.tiles - l.progress.tiles

@@ -1,0 +1,70 @@
+-- The halves of the window between two turns.
+use Rattle.std.proofs.Common.{◌≡◌, ℕ, ◌+◌, ◌*◌, ◌<◌, ◌≤◌, List, [], ◌++◌, length, map, replicate, Option, Some, None, IfSome, refl, sym, ap, ◌∙◌, subst, arith}
+use Rattle.std.specs.List.{range_with_len}
+use Rattle.std.proofs.lemmas.List.{map-append}
+use Rattle.fz_base.specs.declared.fault.Fault.{Fault}
+use Rattle.fz_block.specs.declared.header.Header.{Header}
+use Rattle.fz_head.specs.declared.job_checks.PackedImage.{PackedImage}
+use Rattle.fz_head.specs.declared.plan.Plan.{Plan}
+use Rattle.fz_files.specs.FirstFault.{IsFirstRowFault, image_row, rows_of}
+use Rattle.fz_files.specs.Packed.{tiles_in}
+use Rattle.fz_pool.specs.Laws.{AreAsMany, BothAlike, HalvesAlike}
+use Rattle.fz_pool.specs.Window.{AreHalves, Pool, slot_sizes}
+use Rattle.fz_fetch.specs.Fetched.{AreFetched, RowsGive}
+use Rattle.fz_fetch.specs.Images.{HaveRoom, IsSaid}
+use Rattle.fz_unpack.specs.Images.{AreWrittenTiles}
+use Rattle.fz_unpack.specs.Turns.{AreAlike, HaveRooms, StandFetched}
+use Rattle.fz_unpack.proofs.Rows.{fault_behind}
+use Rattle.fz_unpack.proofs.Tiles.{given_sound, range_more, refused_in_round}
+
+-- no tile stands fetched at first
+pub none_fetched : (held : Option (List ℕ)) (h : Header) (p : Plan) (tiles : ℕ) (w : Pool) → StandFetched held h p 0 0 tiles w
+none_fetched held h p tiles w = record {
+  within = omega arith;
+  few = omega arith;
+  fetched = record {
+    pixels = [];
+    have = record { count = refl; each = λ i d e low. absurd (omega (arith, low)) };
+    told = none held;
+  };
+}
+  where
+    none : (l : Option (List ℕ)) → IfSome l (λ file. RowsGive file h (range_with_len 0 0) [])
+    none None = tt
+    none (Some file) = λ i e low. absurd (omega (arith, low))
+
+-- where the slots are still alike, they have room as before
+pub still_rooms : (image : PackedImage) (first second first' second' : Pool) → HaveRooms image first second → ((size : ℕ × ℕ) → AreAlike size first → AreAlike size second → AreAlike size first' × AreAlike size second') → HaveRooms image first' second'
+still_rooms image first second first' second' rooms alike =
+    let n : ℕ = rooms.0 in
+    let both = alike (2 * n, 8 * n + 64) rooms.1 rooms.2 in
+    (n, both.0, both.1, rooms.3)
+
+-- the first fault of some rows behind those that are written is that of the image
+pub refused_in_turn : (held : Option (List ℕ)) (h : Header) (image : PackedImage) (at first tiles : ℕ) (before mid : Option (List ℕ)) (x : Fault) → IfSome held (λ file. IsSaid file h image) → tiles ≡ tiles_in image.plan →
+    IfSome held (λ file. AreWrittenTiles file h image.plan at (range_with_len 0 first) before mid) →
+    IfSome held (λ file. (more : ℕ) × (first + more ≤ tiles) × IsFirstRowFault file (map (image_row h) (range_with_len first more)) (Some x)) → IfSome held (λ file. IsFirstRowFault file (rows_of file h) (Some x))
+refused_in_turn None h image at first tiles before mid x said all done fault = tt
+refused_in_turn (Some file) h image at first tiles before mid x said all done fault =
+    refused_in_round (Some file) h image at first fault.0 before mid x said (omega (arith, fault.1, all)) done fault.2
+
+-- the first fault of the rows of a turn is behind those that stand fetched
+pub fault_in_turn : (held : Option (List ℕ)) (h : Header) (p : Plan) (written decoded count tiles : ℕ) (w : Pool) (x : Fault) → StandFetched held h p written decoded tiles w → written + decoded + count ≤ tiles →
+    IfSome held (λ file. IsFirstRowFault file (map (image_row h) (range_with_len (written + decoded) count)) (Some x)) →
+    IfSome held (λ file. (more : ℕ) × (written + more ≤ tiles) × IsFirstRowFault file (map (image_row h) (range_with_len written more)) (Some x))
+fault_in_turn None h p written decoded count tiles w x stand few fault = tt
+fault_in_turn (Some file) h p written decoded count tiles w x stand few fault =
+    let sound : IsFirstRowFault file (map (image_row h) (range_with_len written decoded)) None = given_sound file h (range_with_len written decoded) stand.fetched.pixels stand.fetched.told in
+    let parts : map (image_row h) (range_with_len written (decoded + count)) ≡ map (image_row h) (range_with_len written decoded) ++ map (image_row h) (range_with_len (written + decoded) count) =
+    ap (map (image_row h)) (range_more written decoded count) ∙ map-append (image_row h) (range_with_len written decoded) (range_with_len (written + decoded) count) in (
+      decoded + count,
+      omega (arith, few),
+      subst (λ l. IsFirstRowFault file l (Some x)) (sym parts)
+          (fault_behind file (map (image_row h) (range_with_len written decoded)) (map (image_row h) (range_with_len (written + decoded) count)) x sound fault),
+    )
+
+-- the halves of a window have room for the tiles that it has room for
+pub half_rooms : (image : PackedImage) (whole first second : Pool) → HalvesAlike → AreHalves whole first second → HaveRoom image whole → HaveRooms image first second
+half_rooms image whole first second law are room =
+    let both = law whole first second (2 * room.0, 8 * room.0 + 64) are room.1 in
+    (room.0, both.0, both.1, room.2)
