@@ -1,28 +1,39 @@
-//! A gate that holds a tile back.
+//! A gate that holds tiles back.
 use fz_base::Gate;
 use std::sync::atomic::{AtomicU64, Ordering};
 
-/// Holds the call for tile 0 until three others have come.
+/// Holds the calls for some tiles until so many of those behind them have come.
 #[derive(Drop)]
 pub struct Holding {
+    first: u32,
+    held: u32,
+    wanted: u64,
     others: AtomicU64,
     came: AtomicU64,
     calls: AtomicU64,
 }
 
 impl Holding {
-    /// A gate that no tile has passed.
+    /// A gate that holds tile 0 until three others have come.
     pub fn new() -> Holding {
+        Holding::of(0, 1, 3)
+    }
+
+    /// A gate that holds so many tiles from the first on until so many behind them have come.
+    pub fn of(first: u32, held: u32, wanted: u64) -> Holding {
         Holding {
+            first,
+            held,
+            wanted,
             others: AtomicU64::new(0),
             came: AtomicU64::new(0),
             calls: AtomicU64::new(0),
         }
     }
 
-    /// Whether three others came while tile 0 was held.
+    /// Whether the others came while each of the tiles was held.
     pub fn others_came(&self) -> bool {
-        self.came.load(Ordering::SeqCst) == 1
+        self.came.load(Ordering::SeqCst) == u64::from(self.held)
     }
 
     /// How many calls came.
@@ -34,13 +45,16 @@ impl Holding {
 impl Gate for Holding {
     fn pass(&self, _worker: u32, tile: u32) {
         self.calls.fetch_add(1, Ordering::SeqCst);
-        if tile != 0 {
+        if tile < self.first {
+            return;
+        }
+        if tile - self.first >= self.held {
             self.others.fetch_add(1, Ordering::SeqCst);
             return;
         }
         for _ in 0..1_000_000_000u64 {
-            if self.others.load(Ordering::SeqCst) >= 3 {
-                self.came.store(1, Ordering::SeqCst);
+            if self.others.load(Ordering::SeqCst) >= self.wanted {
+                self.came.fetch_add(1, Ordering::SeqCst);
                 return;
             }
         }

@@ -2,7 +2,7 @@
 //! know their names.
 //!
 //! Reading order: `named`, `holding`, `runs`, `files`, `changes`, and then the files: `small`, `grids`, `records`, `headers`,
-//! `others`, `ordinary`.
+//! `others`, `rows`, `ordinary`.
 #![tactic(auto)]
 
 pub mod changes;
@@ -14,5 +14,6 @@ pub mod named;
 pub mod ordinary;
 pub mod others;
 pub mod records;
+pub mod rows;
 pub mod runs;
 pub mod small;

@@ -1,0 +1,18 @@
+//! Runs of `pack` and `unpack` that take the halves of the window in turn: by 16 workers or more, of images with more tiles than
+//! the window has slots. With 16 workers a half has 16 slots; with 17 the first has 16 and the second 18.
+//!
+//! Reading order: `gates`, `beside`, `same`, `refuses`, `stops`, `limits`.
+#![tactic(auto)]
+
+#[cfg(test)]
+mod beside;
+#[cfg(test)]
+mod gates;
+#[cfg(test)]
+mod limits;
+#[cfg(test)]
+mod refuses;
+#[cfg(test)]
+mod same;
+#[cfg(test)]
+mod stops;
