@@ -23,8 +23,6 @@ mod output;
 mod sink;
 mod source;
 mod std_text;
-#[cfg(test)]
-mod tests;
 mod text;
 
 pub use buffer::{Bytes, Numbers};

@@ -6,8 +6,6 @@
 mod fields;
 mod laws;
 mod reader;
-#[cfg(test)]
-mod tests;
 mod writer;
 
 pub use laws::bytes_law;

@@ -13,8 +13,6 @@ mod mandatory;
 mod next;
 mod read;
 mod refused;
-#[cfg(test)]
-mod tests;
 
 pub use again::header_again;
 pub use axes::Axes;

@@ -28,8 +28,3 @@ pub use tables::{is_dropped, is_reserved, names_law, renamed, restored};
 pub use text::{blanks_law, value_text_law, without_first_blanks};
 pub use value::{int_law, integer, integer_text_law, logical_law};
 pub use zero::zero_law;
-
-#[cfg(test)]
-mod table_tests;
-#[cfg(test)]
-mod tests;

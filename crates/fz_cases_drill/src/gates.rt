@@ -5,7 +5,7 @@ use fz_cases::runs::{FREE, outcome_of};
 use std::test::Fail;
 
 /// 9 calls for each of 8 tiles.
-const NINE_EACH: u64 = 0x0909_0909_0909_0909;
+pub(crate) const NINE_EACH: u64 = 0x0909_0909_0909_0909;
 
 // Three jobs for each of three codecs, and a tile is a row.
 #[test]

@@ -21,7 +21,7 @@ fn text_that_fails_is_a_write_fault(rt: HostRuntime) -> Result<(), Fail> {
 }
 
 /// The bound of the buffers: 2 x 2880 + 5760 + 8 x (16 x 256 + 64) + 65536.
-const BOUND: u64 = 110_336;
+pub(crate) const BOUND: u64 = 110_336;
 
 #[test]
 fn drills_within_its_bound(rt: HostRuntime) -> Result<(), Fail> {

@@ -85,14 +85,18 @@ const HIGH: [&str; 7] = [
     "GCOUNT  =                    1",
 ];
 
-/// So many numbers of 16 bits: of each 500 the first 400 are small, and have short codes, and the others have none that is
-/// shorter.
+/// So many numbers of 16 bits: of each 500 the first 400 are small and come in runs, so that both codecs have short codes for
+/// them, and the others have none that is shorter.
 fn pixels(alloc: Global, count: u32) -> Result<Vec<u8>, AllocError> {
     let mut bytes = Vec::new(alloc);
     let mut wild = 1u32;
     for at in 0..count {
         wild = wild.wrapping_mul(75).wrapping_add(74) % 65_537;
-        let pixel = if at % 500 < 400 { at % 3 } else { wild / 2 };
+        let pixel = if at % 500 < 400 {
+            at / 40 % 3
+        } else {
+            wild / 2
+        };
         bytes.extend_from_slice(&pixel.to_be_bytes()[2..])?;
     }
     Ok(bytes)

@@ -1,5 +1,9 @@
-//! Lines of the grammar of the command line, beside their nearest neighbours that are outside it.
+//! Lines of the grammar of the command line, beside their nearest neighbours that are outside it, and what some of them ask for.
+//!
+//! Reading order: `lines`, `grammar`.
 #![tactic(auto)]
 
+#[cfg(test)]
+mod grammar;
 #[cfg(test)]
 mod lines;

@@ -6,7 +6,7 @@ use std::process::Abort;
 use std::test::Fail;
 
 /// The words of a line, which one blank parts; two blanks have the empty word between them.
-fn words_of(alloc: Global, line: &str) -> Result<Vec<String>, AllocError> {
+pub(crate) fn words_of(alloc: Global, line: &str) -> Result<Vec<String>, AllocError> {
     let mut words = Vec::new(alloc);
     for word in line.split(' ') {
         words.push(String::from_str(alloc, word)?)?;
@@ -15,7 +15,10 @@ fn words_of(alloc: Global, line: &str) -> Result<Vec<String>, AllocError> {
 }
 
 /// Whether each first line is refused and each second is taken.
-fn expect_lines(rt: &(impl Abort + AllocGlobal), lines: &[(&str, &str)]) -> Result<(), AllocError> {
+pub(crate) fn expect_lines(
+    rt: &(impl Abort + AllocGlobal),
+    lines: &[(&str, &str)],
+) -> Result<(), AllocError> {
     for (refused, taken) in lines {
         let words = words_of(rt.alloc(), refused)?;
         assert!(rt; read_words(&words).is_err(), "{refused}");

@@ -1,7 +1,7 @@
 //! The job `drill`: makes a file of so many rows in memory, packs it with each codec, unpacks and cuts what came out, and prints
 //! whether the same bytes came back.
 //!
-//! Reading order: `drilling`, `codecs`, `outcome`, `files`, `parts`, `law`, `making`, `lines`; `tests`.
+//! Reading order: `drilling`, `codecs`, `outcome`, `files`, `parts`, `law`, `making`, `lines`.
 #![tactic(auto)]
 
 mod codecs;
@@ -12,7 +12,5 @@ mod lines;
 mod making;
 mod outcome;
 mod parts;
-#[cfg(test)]
-mod tests;
 
 pub use drilling::drill;

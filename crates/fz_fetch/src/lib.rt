@@ -13,8 +13,6 @@ mod picking;
 mod rows;
 mod runs;
 mod scattering;
-#[cfg(test)]
-mod tests;
 mod tiles;
 
 pub use fetching::{fetch_beside, fetch_tiles};

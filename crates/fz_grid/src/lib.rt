@@ -19,8 +19,6 @@ mod run;
 mod sieve;
 mod sieving;
 mod sizes;
-#[cfg(test)]
-mod tests;
 
 pub use grid::{Grid, tile_counts};
 pub use joined::runs;

@@ -50,6 +50,3 @@ pub use table_cards::table_check;
 pub use tile_kinds::tile_kind;
 pub use totals::Totals;
 pub use unpacking::plan_of;
-
-#[cfg(test)]
-mod tests;

@@ -6,8 +6,6 @@
 mod law;
 mod line;
 mod place;
-#[cfg(test)]
-mod tests;
 mod tile;
 mod walk;
 mod walking;

@@ -14,6 +14,3 @@ mod word;
 
 pub use decoder::{LineFault, decode};
 pub use encoder::{PlioStop, can_hold_law, encode, line_list_law};
-
-#[cfg(test)]
-mod tests;

@@ -1,7 +1,7 @@
 //! The window of tiles, and the workers that draw them by ticket.
 //!
 //! Reading order: `slot`, `window`, `filling`, `halves`; `law`; `board`, `step_facts`, `code`, `steps`; `workers`, `moving`,
-//! `round`, `encode`, `decode`; `laws`; `tests`.
+//! `round`, `encode`, `decode`; `laws`.
 #![tactic(auto)]
 
 mod board;
@@ -17,8 +17,6 @@ mod round;
 mod slot;
 mod step_facts;
 mod steps;
-#[cfg(test)]
-mod tests;
 mod window;
 mod workers;
 

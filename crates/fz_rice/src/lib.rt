@@ -11,8 +11,6 @@ mod full_block;
 mod laws;
 mod numbers;
 mod several;
-#[cfg(test)]
-mod tests;
 
 pub use coder::{CodeFault, Coder};
 pub use laws::{one_code_law, producer_law, reading_law, round_trip_law};

@@ -21,6 +21,3 @@ pub use laws::{all_ones_law, characters_law, datasum_law, sum_law, with_card_law
 pub use sum::Sum;
 pub use text::{sum_of_card, sum_of_text};
 pub use verdicts::Verdict;
-
-#[cfg(test)]
-mod tests;

@@ -9,8 +9,6 @@ mod laws;
 mod look;
 mod survey;
 mod surveys;
-#[cfg(test)]
-mod tests;
 mod workspace;
 
 pub use checks::JobChecks;

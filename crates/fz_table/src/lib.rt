@@ -16,8 +16,6 @@ mod record;
 mod row;
 mod rows;
 mod table;
-#[cfg(test)]
-mod tests;
 
 pub use array::Descriptor;
 pub use cards::first_named;

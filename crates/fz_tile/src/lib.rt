@@ -13,8 +13,6 @@ mod laws;
 mod pixels;
 mod plain;
 mod range;
-#[cfg(test)]
-mod tests;
 
 pub use codec::Codec;
 pub use coded::{Coded, Place2};

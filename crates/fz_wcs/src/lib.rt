@@ -9,6 +9,3 @@ mod writing;
 
 pub use decimal::Decimal;
 pub use shifting::{decimal_law, shift};
-
-#[cfg(test)]
-mod tests;

@@ -11,7 +11,5 @@ mod part;
 mod request;
 mod settings;
 mod table;
-#[cfg(test)]
-mod tests;
 
 pub use request::{Request, Usage, read_words};

@@ -1,0 +1,79 @@
+//! The checks of a job of one HDU.
+use crate::files::{PACKED, SMALL, fault_at, file_of, one_block, options_for};
+use fz_base::{Fault, Kind, Place};
+use fz_block::BLOCK_LEN;
+use fz_grid::Region;
+use fz_head::{
+    CodecWord, codec_name, fill_check, image_to_cut, image_to_unpack, missing_hdu, plan_to_pack,
+    tile_kind, to_empty_primary,
+};
+use fz_tile::{Codec, TileFault};
+use std::test::Fail;
+
+#[test]
+fn checks_of_an_image(rt: HostRuntime) -> Result<(), Fail> {
+    let alloc = rt.alloc();
+    let options = options_for(CodecWord::Rice, false);
+    let mut buf = [0; 2880];
+    let header = one_block(alloc, &file_of(&SMALL, &[]), 0, &mut buf)?;
+    let plan = plan_to_pack(&buf, &header, &options);
+    assert!(rt; matches!(plan, Ok(Some(_))));
+    assert_eq!(rt; image_to_unpack(&buf, &header, false), Ok(None));
+    // Its data are the 16 bytes from 2880 on.
+    let mut fill = [0; 8];
+    assert_eq!(rt; fill_check(&header, &fill), Ok(()));
+    fill[5] = 1;
+    let fault = Fault {
+        hdu: 0,
+        at: Place::Byte(2901),
+        kind: Kind::DataFill,
+    };
+    assert_eq!(rt; fill_check(&header, &fill), Err(fault));
+    Ok(())
+}
+
+#[test]
+fn checks_of_a_packed_image(rt: HostRuntime) -> Result<(), Fail> {
+    let alloc = rt.alloc();
+    let options = options_for(CodecWord::Rice, false);
+    let mut buf = [0; 2880];
+    let header = one_block(alloc, &file_of(&PACKED, &[]), 1, &mut buf)?;
+    let answer = plan_to_pack(&buf, &header, &options);
+    assert_eq!(rt; answer, Err(fault_at(12, Kind::AlreadyPacked)));
+    let image = image_to_unpack(&buf, &header, true);
+    assert!(rt; matches!(image, Ok(Some(_))));
+    let inside = Region {
+        n: 2,
+        lo: [1, 1, 0, 0, 0, 0, 0, 0, 0],
+        len: [3, 1, 0, 0, 0, 0, 0, 0, 0],
+    };
+    let image = image_to_cut(&buf, &header, true, &inside);
+    assert!(rt; image.is_ok());
+    let past = Region {
+        len: [3, 2, 0, 0, 0, 0, 0, 0, 0],
+        ..inside
+    };
+    let answer = image_to_cut(&buf, &header, true, &past);
+    assert_eq!(rt; answer, Err(fault_at(24, Kind::OutOfBox)));
+    let other = Region { n: 1, ..inside };
+    let answer = image_to_cut(&buf, &header, true, &other);
+    assert_eq!(rt; answer, Err(fault_at(22, Kind::OutOfBox)));
+    Ok(())
+}
+
+#[test]
+fn small_calls(rt: HostRuntime) -> Result<(), Fail> {
+    let fault = Fault {
+        hdu: 7,
+        at: Place::Byte(8640),
+        kind: Kind::NotPacked,
+    };
+    assert_eq!(rt; missing_hdu(Some(7), 3, 8640), fault);
+    assert_eq!(rt; missing_hdu(None, 3, 8640), Fault { hdu: 3, ..fault });
+    assert_eq!(rt; tile_kind(TileFault::LineList), Kind::LineList);
+    assert_eq!(rt; codec_name(Codec::Plain), "NOCOMPRESS");
+    let mut out = [0; 2880];
+    assert_eq!(rt; to_empty_primary(&mut out), BLOCK_LEN);
+    assert_eq!(rt; &out[320..323], b"END".as_slice());
+    Ok(())
+}

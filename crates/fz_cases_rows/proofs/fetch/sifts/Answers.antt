@@ -1,0 +1,13 @@
+-- Each axis was looked at.
+use Rattle.std.proofs.Common.{arith}
+use Rattle.fz_cases_rows.proofs.fetch.sifts.Goals as goal
+
+pub returns : goal.returns
+returns c =
+    λ _.
+    record {
+      same_axes = omega arith;
+      ordered = λ i h. (c.loop-i.invariant i (omega arith)).0;
+      inside = λ i h. (c.loop-i.invariant i (omega arith)).1;
+      positive = λ i h. (c.loop-i.invariant i (omega arith)).2;
+    }

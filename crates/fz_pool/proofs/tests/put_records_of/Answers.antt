@@ -1,7 +1,0 @@
-use Rattle.std.proofs.Common.{false, ◌∙◌}
-use Rattle.fz_pool.proofs.LawLemmas.{next_ready}
-use Rattle.fz_pool.proofs.tests.put_records_of.Goals as goal
-
-pub loop-i-preserved : goal.loop-i-preserved
-loop-i-preserved c = let before = c.loop-i.invariant in let now = c.put_record.ensures in let put = now.1 in
-    (put.workers ∙ before.0, put.sizes ∙ before.1, next_ready false c.loop-i.i c.loop-i.window c.put_record.new.window now.0 before.2 put now.2)

@@ -1,5 +1,0 @@
-use Rattle.std.proofs.Common.{length}
-use Rattle.fz_sum.proofs.tests.+add_in_pieces.Given as goal
-
-abbrev pub decreases-add_in_pieces : goal.decreases-add_in_pieces
-decreases-add_in_pieces l = length l.bytes.now
