@@ -17,6 +17,7 @@ pub record TextIs : Type 0 where
   pub contents : Option (List ℕ)
   pub tally : Tally
 
+-- what all of them tell at one moment
 pub record Ends : Type 0 where
   pub held : Option (List ℕ)
   pub ranges : Option (List (ℕ × ℕ))
@@ -24,6 +25,16 @@ pub record Ends : Type 0 where
   pub sink : SinkIs
   pub text : TextIs
   pub meter : Gauge
+
+-- a sink, a text, and all of them together, that tell this
+abbrev pub sink_is : Option (List ℕ) → Bool → Bool → Tally → SinkIs
+sink_is contents created finished tally = record { contents = contents; created = created; finished = finished; tally = tally }
+
+abbrev pub text_is : Option (List ℕ) → Tally → TextIs
+text_is contents tally = record { contents = contents; tally = tally }
+
+abbrev pub ends : Option (List ℕ) → Option (List (ℕ × ℕ)) → Tally → SinkIs → TextIs → Gauge → Ends
+ends held ranges source sink text meter = record { held = held; ranges = ranges; source = source; sink = sink; text = text; meter = meter }
 
 -- the sink is as before
 abbrev pub IsSameSink : SinkIs → SinkIs → Type 0

@@ -15,7 +15,7 @@ ghost use Rattle.fz_verify.specs.Clauses.{IsRightAsSaid};
 ghost use Rattle.fz_app.specs.Answer.{IsEnd, IsPromisedTo, done_of};
 ghost use Rattle.fz_app.specs.Asked.{given};
 ghost use Rattle.fz_app.specs.Causes.{AreCountsKept, DoneHasCause, IsDifferent, IsUnmadeFor, IsUntouched, IsUsage, OverLimitHasCause, ReadFaultHasCause, RefusedHasCause, WriteFaultHasCause};
-ghost use Rattle.fz_app.specs.Ends.{SinkIs, TextIs};
+ghost use Rattle.fz_app.specs.Ends.{SinkIs, TextIs, ends, sink_is, text_is};
 ghost use Rattle.fz_app.specs.Lines.{status_line, GotLine};
 ghost use Rattle.fz_app.specs.Outputs.{LeavesSink, LeavesSource};
 ghost use Rattle.fz_app.specs.Promised.{IsPromised};
@@ -66,12 +66,12 @@ pub fn run<R: Threads + Sync, S: Source, K: Sink, T: Text, G: Gate>(
     ensures touched { ReadsWithin (texts_of words.now) (S.held source.old) (S.ranges source.old) (S.ranges source.new) }
     ensures buffers { BuffersAreBounded (texts_of words.now) (S.held source.old) meter.old meter.new }
     ensures first_byte { HasFirstByteLast (texts_of words.now) (S.held source.old) (K.contents sink.new) result }
-    ensures text { GotText (texts_of words.now) (S.held source.old) (record { contents = T.contents text.old; tally = T.tally text.old }) (record { contents = T.contents text.new; tally = T.tally text.new }) result }
+    ensures text { GotText (texts_of words.now) (S.held source.old) (text_is (T.contents text.old) (T.tally text.old)) (text_is (T.contents text.new) (T.tally text.new)) result }
     ensures complete { IsComplete (texts_of words.now) (S.held source.old) (S.tally source.old) (S.tally source.new) (K.tally sink.old) (K.tally sink.new) (T.tally text.old) (T.tally text.new) meter.old.limit result }
 
     ensures different { IsDifferent (texts_of words.now) (S.held source.old) result }
     ensures usage { IsUsage (texts_of words.now) result }
-    ensures untouched { IsUntouched (texts_of words.now) (source.new ≡ source.old) (sink.new ≡ sink.old) (meter.new ≡ meter.old) (record { contents = T.contents text.old; tally = T.tally text.old }) (record { contents = T.contents text.new; tally = T.tally text.new }) result }
+    ensures untouched { IsUntouched (texts_of words.now) (source.new ≡ source.old) (sink.new ≡ sink.old) (meter.new ≡ meter.old) (text_is (T.contents text.old) (T.tally text.old)) (text_is (T.contents text.new) (T.tally text.new)) result }
     ensures done { DoneHasCause (texts_of words.now) (S.tally source.old) (S.tally source.new) (K.tally sink.old) (K.tally sink.new) (T.tally text.old) (T.tally text.new) result }
     ensures refused { RefusedHasCause (texts_of words.now) (S.tally source.old) (S.tally source.new) (K.tally sink.old) (K.tally sink.new) result }
     ensures read_fault { ReadFaultHasCause (texts_of words.now) (S.tally source.old) (S.tally source.new) result }
@@ -109,7 +109,9 @@ fn answer_to<R: Threads + Sync, S: Source, K: Sink, T: Text, G: Gate>(
 ) -> Status
     requires empty { IfSome (K.contents sink.old) (λ c. c ≡ []) }
     requires unused { (meter.old.live ≡ 0) × (meter.old.peak ≡ 0) }
-    ensures promised { IsPromisedTo (job_of (texts_of words.now)) result (λ asked. IsPromised asked (record { held = S.held source.old; ranges = S.ranges source.old; source = S.tally source.old; sink = record { contents = K.contents sink.old; created = K.created sink.old; finished = K.finished sink.old; tally = K.tally sink.old }; text = record { contents = T.contents text.old; tally = T.tally text.old }; meter = meter.old }) (record { held = S.held source.new; ranges = S.ranges source.new; source = S.tally source.new; sink = record { contents = K.contents sink.new; created = K.created sink.new; finished = K.finished sink.new; tally = K.tally sink.new }; text = record { contents = T.contents text.new; tally = T.tally text.new }; meter = meter.new })) }
+    ensures promised { IsPromisedTo (job_of (texts_of words.now)) result (λ asked. IsPromised asked
+        (ends (S.held source.old) (S.ranges source.old) (S.tally source.old) (sink_is (K.contents sink.old) (K.created sink.old) (K.finished sink.old) (K.tally sink.old)) (text_is (T.contents text.old) (T.tally text.old)) meter.old)
+        (ends (S.held source.new) (S.ranges source.new) (S.tally source.new) (sink_is (K.contents sink.new) (K.created sink.new) (K.finished sink.new) (K.tally sink.new)) (text_is (T.contents text.new) (T.tally text.new)) meter.new)) }
     ensures untouched { result ≡ IsUsageStatus → (source.new ≡ source.old) × (sink.new ≡ sink.old) × (text.new ≡ text.old) × (meter.new ≡ meter.old) }
     ensures ended { IfSome (job_of (texts_of words.now)) (λ asked. IsEnd asked.job (given asked.job (S.held source.old)) result) }
     ensures left { IfSome (job_of (texts_of words.now)) (λ asked. LeavesSink asked.job (sink.new ≡ sink.old)) }
@@ -135,7 +137,9 @@ fn run_request<R: Threads + Sync, S: Source, K: Sink, T: Text, G: Gate>(
     requires lawful { IsLawful request.now }
     requires empty { IfSome (K.contents sink.old) (λ c. c ≡ []) }
     requires unused { (meter.old.live ≡ 0) × (meter.old.peak ≡ 0) }
-    ensures promised { IsPromisedTo (Some (asked_of request.now)) result (λ asked. IsPromised asked (record { held = S.held source.old; ranges = S.ranges source.old; source = S.tally source.old; sink = record { contents = K.contents sink.old; created = K.created sink.old; finished = K.finished sink.old; tally = K.tally sink.old }; text = record { contents = T.contents text.old; tally = T.tally text.old }; meter = meter.old }) (record { held = S.held source.new; ranges = S.ranges source.new; source = S.tally source.new; sink = record { contents = K.contents sink.new; created = K.created sink.new; finished = K.finished sink.new; tally = K.tally sink.new }; text = record { contents = T.contents text.new; tally = T.tally text.new }; meter = meter.new })) }
+    ensures promised { IsPromisedTo (Some (asked_of request.now)) result (λ asked. IsPromised asked
+        (ends (S.held source.old) (S.ranges source.old) (S.tally source.old) (sink_is (K.contents sink.old) (K.created sink.old) (K.finished sink.old) (K.tally sink.old)) (text_is (T.contents text.old) (T.tally text.old)) meter.old)
+        (ends (S.held source.new) (S.ranges source.new) (S.tally source.new) (sink_is (K.contents sink.new) (K.created sink.new) (K.finished sink.new) (K.tally sink.new)) (text_is (T.contents text.new) (T.tally text.new)) meter.new)) }
     ensures untouched { result ≡ IsUsageStatus → (source.new ≡ source.old) × (sink.new ≡ sink.old) × (text.new ≡ text.old) × (meter.new ≡ meter.old) }
     ensures ended { IfSome (Some (asked_of request.now)) (λ asked. IsEnd asked.job (given asked.job (S.held source.old)) result) }
     ensures left { IfSome (Some (asked_of request.now)) (λ asked. LeavesSink asked.job (sink.new ≡ sink.old)) }
@@ -171,7 +175,9 @@ fn run_pack<R: Threads + Sync, S: Source, K: Sink, G: Gate>(
     requires workers { (1 ≤ request.now.workers) × (request.now.workers ≤ 64) × (options.now.workers ≡ request.now.workers) }
     requires empty { IfSome (K.contents sink.old) (λ c. c ≡ []) }
     requires unused { (meter.old.live ≡ 0) × (meter.old.peak ≡ 0) }
-    ensures promised { (text : TextIs) → IsPromised (asked_of request.now) (record { held = S.held source.old; ranges = S.ranges source.old; source = S.tally source.old; sink = record { contents = K.contents sink.old; created = K.created sink.old; finished = K.finished sink.old; tally = K.tally sink.old }; text = text; meter = meter.old }) (record { held = S.held source.new; ranges = S.ranges source.new; source = S.tally source.new; sink = record { contents = K.contents sink.new; created = K.created sink.new; finished = K.finished sink.new; tally = K.tally sink.new }; text = text; meter = meter.new }) result }
+    ensures promised { (text : TextIs) → IsPromised (asked_of request.now)
+        (ends (S.held source.old) (S.ranges source.old) (S.tally source.old) (sink_is (K.contents sink.old) (K.created sink.old) (K.finished sink.old) (K.tally sink.old)) text meter.old)
+        (ends (S.held source.new) (S.ranges source.new) (S.tally source.new) (sink_is (K.contents sink.new) (K.created sink.new) (K.finished sink.new) (K.tally sink.new)) text meter.new) result }
 {
     // What is packed comes back.
     round_trip_law();
@@ -204,7 +210,9 @@ fn run_unpack<R: Threads + Sync, S: Source, K: Sink, G: Gate>(
     requires workers { (1 ≤ request.now.workers) × (request.now.workers ≤ 64) }
     requires empty { IfSome (K.contents sink.old) (λ c. c ≡ []) }
     requires unused { (meter.old.live ≡ 0) × (meter.old.peak ≡ 0) }
-    ensures promised { (text : TextIs) → IsPromised (asked_of request.now) (record { held = S.held source.old; ranges = S.ranges source.old; source = S.tally source.old; sink = record { contents = K.contents sink.old; created = K.created sink.old; finished = K.finished sink.old; tally = K.tally sink.old }; text = text; meter = meter.old }) (record { held = S.held source.new; ranges = S.ranges source.new; source = S.tally source.new; sink = record { contents = K.contents sink.new; created = K.created sink.new; finished = K.finished sink.new; tally = K.tally sink.new }; text = text; meter = meter.new }) result }
+    ensures promised { (text : TextIs) → IsPromised (asked_of request.now)
+        (ends (S.held source.old) (S.ranges source.old) (S.tally source.old) (sink_is (K.contents sink.old) (K.created sink.old) (K.finished sink.old) (K.tally sink.old)) text meter.old)
+        (ends (S.held source.new) (S.ranges source.new) (S.tally source.new) (sink_is (K.contents sink.new) (K.created sink.new) (K.finished sink.new) (K.tally sink.new)) text meter.new) result }
 {
     // What was packed comes back, and a packed file stands for one file.
     round_trip_law();
@@ -232,7 +240,9 @@ fn run_cut<R: Threads + Sync, S: Source, K: Sink, G: Gate>(
     requires workers { (1 ≤ request.now.workers) × (request.now.workers ≤ 64) }
     requires empty { IfSome (K.contents sink.old) (λ c. c ≡ []) }
     requires unused { (meter.old.live ≡ 0) × (meter.old.peak ≡ 0) }
-    ensures promised { (text : TextIs) → IsPromised (asked_of request.now) (record { held = S.held source.old; ranges = S.ranges source.old; source = S.tally source.old; sink = record { contents = K.contents sink.old; created = K.created sink.old; finished = K.finished sink.old; tally = K.tally sink.old }; text = text; meter = meter.old }) (record { held = S.held source.new; ranges = S.ranges source.new; source = S.tally source.new; sink = record { contents = K.contents sink.new; created = K.created sink.new; finished = K.finished sink.new; tally = K.tally sink.new }; text = text; meter = meter.new }) result }
+    ensures promised { (text : TextIs) → IsPromised (asked_of request.now)
+        (ends (S.held source.old) (S.ranges source.old) (S.tally source.old) (sink_is (K.contents sink.old) (K.created sink.old) (K.finished sink.old) (K.tally sink.old)) text meter.old)
+        (ends (S.held source.new) (S.ranges source.new) (S.tally source.new) (sink_is (K.contents sink.new) (K.created sink.new) (K.finished sink.new) (K.tally sink.new)) text meter.new) result }
 {
     // A cutout is a slice of what the packed file stands for.
     slice_law(sieve);
@@ -264,7 +274,9 @@ fn run_verify<R: Threads + Sync, S: Source, T: Text, G: Gate>(
 ) -> Result<bool, Stop>
     requires job { request.now.job ≡ Verify }
     requires unused { (meter.old.live ≡ 0) × (meter.old.peak ≡ 0) }
-    ensures promised { (sink : SinkIs) → IfSome sink.contents (λ c. c ≡ []) → IsPromised (asked_of request.now) (record { held = S.held source.old; ranges = S.ranges source.old; source = S.tally source.old; sink = sink; text = record { contents = T.contents text.old; tally = T.tally text.old }; meter = meter.old }) (record { held = S.held source.new; ranges = S.ranges source.new; source = S.tally source.new; sink = sink; text = record { contents = T.contents text.new; tally = T.tally text.new }; meter = meter.new }) (done_of result) }
+    ensures promised { (sink : SinkIs) → IfSome sink.contents (λ c. c ≡ []) → IsPromised (asked_of request.now)
+        (ends (S.held source.old) (S.ranges source.old) (S.tally source.old) sink (text_is (T.contents text.old) (T.tally text.old)) meter.old)
+        (ends (S.held source.new) (S.ranges source.new) (S.tally source.new) sink (text_is (T.contents text.new) (T.tally text.new)) meter.new) (done_of result) }
     ensures right { IfOk result (λ right. IfSome (S.held source.old) (IsRightAsSaid right)) }
 {
     let (length, mut window) = begin(alloc, request, 1, source, meter)?;
@@ -280,7 +292,9 @@ fn run_list<S: Source, T: Text>(
 ) -> Result<(), Stop>
     requires job { request.now.job ≡ ListHdus }
     requires unused { (meter.old.live ≡ 0) × (meter.old.peak ≡ 0) }
-    ensures promised { (sink : SinkIs) → IfSome sink.contents (λ c. c ≡ []) → IsPromised (asked_of request.now) (record { held = S.held source.old; ranges = S.ranges source.old; source = S.tally source.old; sink = sink; text = record { contents = T.contents text.old; tally = T.tally text.old }; meter = meter.old }) (record { held = S.held source.new; ranges = S.ranges source.new; source = S.tally source.new; sink = sink; text = record { contents = T.contents text.new; tally = T.tally text.new }; meter = meter.new }) result }
+    ensures promised { (sink : SinkIs) → IfSome sink.contents (λ c. c ≡ []) → IsPromised (asked_of request.now)
+        (ends (S.held source.old) (S.ranges source.old) (S.tally source.old) sink (text_is (T.contents text.old) (T.tally text.old)) meter.old)
+        (ends (S.held source.new) (S.ranges source.new) (S.tally source.new) sink (text_is (T.contents text.new) (T.tally text.new)) meter.new) result }
 {
     let length = attach(request, source, meter)?;
     list(source, length, text, meter)
@@ -299,7 +313,9 @@ fn run_drill<R: Threads + Sync, T: Text, G: Gate>(
     requires job { request.now.job ≡ Drill rows }
     requires rows { (1 ≤ rows) × (rows ≤ 16384) }
     requires unused { (meter.old.live ≡ 0) × (meter.old.peak ≡ 0) }
-    ensures promised { (held : Option (List ℕ)) (ranges : Option (List (ℕ × ℕ))) (source : Tally) (sink : SinkIs) → IfSome sink.contents (λ c. c ≡ []) → IsPromised (asked_of request.now) (record { held = held; ranges = ranges; source = source; sink = sink; text = record { contents = T.contents text.old; tally = T.tally text.old }; meter = meter.old }) (record { held = held; ranges = ranges; source = source; sink = sink; text = record { contents = T.contents text.new; tally = T.tally text.new }; meter = meter.new }) result }
+    ensures promised { (held : Option (List ℕ)) (ranges : Option (List (ℕ × ℕ))) (source : Tally) (sink : SinkIs) → IfSome sink.contents (λ c. c ≡ []) → IsPromised (asked_of request.now)
+        (ends held ranges source sink (text_is (T.contents text.old) (T.tally text.old)) meter.old)
+        (ends held ranges source sink (text_is (T.contents text.new) (T.tally text.new)) meter.new) result }
 {
     let memory = request.memory;
     meter.narrow(memory);
