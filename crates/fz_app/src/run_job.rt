@@ -172,7 +172,7 @@ fn run_pack<R: Threads + Sync, S: Source, K: Sink, G: Gate>(
 ) -> Result<(), Stop>
     requires job { request.now.job ≡ Pack options.now }
     requires options { AreOptions options.now }
-    requires workers { (1 ≤ request.now.workers) × (request.now.workers ≤ 64) × (options.now.workers ≡ request.now.workers) }
+    requires workers { (1 ≤ request.now.workers) × (request.now.workers ≤ 64) }
     requires empty { IfSome (K.contents sink.old) (λ c. c ≡ []) }
     requires unused { (meter.old.live ≡ 0) × (meter.old.peak ≡ 0) }
     ensures promised { (text : TextIs) → IsPromised (asked_of request.now)

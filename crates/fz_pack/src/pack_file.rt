@@ -44,7 +44,6 @@ pub fn pack<R: Threads + Sync, S: Source, K: Sink, G: Gate>(
     requires empty { IfSome (K.contents sink.old) (λ c. c ≡ []) }
     requires nothing_live { meter.old.live ≡ 0 }
     requires window { IsEmpty window.old }
-    requires workers { options.now.workers ≡ window.old.workers }
     requires options { AreOptions options.now }
 
     ensures output { OnOk result (HoldsPacked options.now (S.held source.old) (K.contents sink.new)) }
