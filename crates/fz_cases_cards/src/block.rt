@@ -270,28 +270,30 @@ fn numbers_of_blocks(rt: HostRuntime) {
     }
 }
 
+/// The bytes of a file, the index of its card END, the number of an HDU and the byte where it starts, and where it is refused, and why.
+const NOT_FOUND: [(u32, u32, u32, u64, Place, Kind); 9] = [
+    (0, NOWHERE, 0, 0, Place::Byte(0), Kind::Truncated),
+    (2879, 1, 0, 0, Place::Byte(2879), Kind::Truncated),
+    (5770, 1, 1, 5760, Place::Byte(5760), Kind::TrailingBytes),
+    (5767, 1, 1, 5760, Place::Byte(5760), Kind::TrailingBytes),
+    (5770, 1, 65536, 5760, Place::Byte(5760), Kind::Limit),
+    (2880, 0, 0, 0, Place::Card(0), Kind::NotFits),
+    (737_280, NOWHERE, 0, 0, Place::Byte(0), Kind::LongHeader),
+    (740_160, 9216, 0, 0, Place::Byte(0), Kind::LongHeader),
+    (
+        737_279,
+        NOWHERE,
+        0,
+        0,
+        Place::Byte(737_279),
+        Kind::Truncated,
+    ),
+];
+
 #[test]
 fn headers_that_are_not_found(rt: HostRuntime) {
     let alloc = rt.alloc();
-    let cases = [
-        (0, NOWHERE, 0, 0, Place::Byte(0), Kind::Truncated),
-        (2879, 1, 0, 0, Place::Byte(2879), Kind::Truncated),
-        (5770, 1, 1, 5760, Place::Byte(5760), Kind::TrailingBytes),
-        (5767, 1, 1, 5760, Place::Byte(5760), Kind::TrailingBytes),
-        (5770, 1, 65536, 5760, Place::Byte(5760), Kind::Limit),
-        (2880, 0, 0, 0, Place::Card(0), Kind::NotFits),
-        (737_280, NOWHERE, 0, 0, Place::Byte(0), Kind::LongHeader),
-        (740_160, 9216, 0, 0, Place::Byte(0), Kind::LongHeader),
-        (
-            737_279,
-            NOWHERE,
-            0,
-            0,
-            Place::Byte(737_279),
-            Kind::Truncated,
-        ),
-    ];
-    for (len, end, hdu, start, at, kind) in cases {
+    for (len, end, hdu, start, at, kind) in NOT_FOUND {
         let cards = [(0, SIMPLE), (1, b"ENDS"), (end, END)];
         let fault = Fault { hdu, at, kind };
         assert_eq!(rt;
@@ -301,64 +303,66 @@ fn headers_that_are_not_found(rt: HostRuntime) {
     }
 }
 
+/// A card of the small image that is another one, and where it is refused, and why.
+const FAULTY: [(Text, Place, Kind); 12] = [
+    ((1, NAXIS_2), Place::Card(1), Kind::BadCard),
+    (
+        (1, b"BITPIX  =                   24"),
+        Place::Card(1),
+        Kind::BadCard,
+    ),
+    (
+        (1, b"BITPIX  =                 16.0"),
+        Place::Card(1),
+        Kind::BadCard,
+    ),
+    (
+        (2, b"NAXIS   =                   -1"),
+        Place::Card(2),
+        Kind::BadCard,
+    ),
+    (
+        (2, b"NAXIS   =                   10"),
+        Place::Card(2),
+        Kind::Limit,
+    ),
+    (
+        (2, b"NAXIS   =                    3"),
+        Place::Card(5),
+        Kind::BadCard,
+    ),
+    (
+        (3, b"NAXIS2  =                    4"),
+        Place::Card(3),
+        Kind::BadCard,
+    ),
+    (
+        (3, b"NAXIS1  =                   -4"),
+        Place::Card(3),
+        Kind::BadCard,
+    ),
+    (
+        (3, b"NAXIS1  =           2147483648"),
+        Place::Card(3),
+        Kind::Limit,
+    ),
+    (
+        (4, b"END                           "),
+        Place::Card(4),
+        Kind::BadCard,
+    ),
+    (
+        (4, b"NAXIS2  =                  361"),
+        Place::Byte(5760),
+        Kind::Truncated,
+    ),
+    ((5, b"ENDS"), Place::Card(0), Kind::BadCard),
+];
+
 #[test]
 fn headers_with_a_faulty_card(rt: HostRuntime) {
     let alloc = rt.alloc();
-    let cases: [(Text, Place, Kind); 12] = [
-        ((1, NAXIS_2), Place::Card(1), Kind::BadCard),
-        (
-            (1, b"BITPIX  =                   24"),
-            Place::Card(1),
-            Kind::BadCard,
-        ),
-        (
-            (1, b"BITPIX  =                 16.0"),
-            Place::Card(1),
-            Kind::BadCard,
-        ),
-        (
-            (2, b"NAXIS   =                   -1"),
-            Place::Card(2),
-            Kind::BadCard,
-        ),
-        (
-            (2, b"NAXIS   =                   10"),
-            Place::Card(2),
-            Kind::Limit,
-        ),
-        (
-            (2, b"NAXIS   =                    3"),
-            Place::Card(5),
-            Kind::BadCard,
-        ),
-        (
-            (3, b"NAXIS2  =                    4"),
-            Place::Card(3),
-            Kind::BadCard,
-        ),
-        (
-            (3, b"NAXIS1  =                   -4"),
-            Place::Card(3),
-            Kind::BadCard,
-        ),
-        (
-            (3, b"NAXIS1  =           2147483648"),
-            Place::Card(3),
-            Kind::Limit,
-        ),
-        (
-            (4, b"END                           "),
-            Place::Card(4),
-            Kind::BadCard,
-        ),
-        (
-            (4, b"NAXIS2  =                  361"),
-            Place::Byte(5760),
-            Kind::Truncated,
-        ),
-        ((5, b"ENDS"), Place::Card(0), Kind::BadCard),
-    ];
-    for ((i, text), at, kind) in cases {
+    for ((i, text), at, kind) in FAULTY {
         let mut cards = SMALL_CARDS;
         cards[i as usize % 6] = (i, text);
         let fault = Fault { hdu: 0, at, kind };

@@ -42,61 +42,64 @@ fn plan_of_the_small_file(rt: HostRuntime) -> Result<(), Fail> {
     Ok(())
 }
 
+/// Cards of the small image that are other ones, or stand behind it, the codec that it is to be packed with, and where it is refused,
+/// and why.
+const REFUSED: [(&[(usize, &[u8])], CodecWord, Place, Kind); 6] = [
+    (
+        &[(5, b"ZTILE1  =                    4"), (6, b"END")],
+        CodecWord::Rice,
+        Place::Card(5),
+        Kind::Reserved,
+    ),
+    (
+        &[(5, b"BITPIX  =                   16"), (6, b"END")],
+        CodecWord::Rice,
+        Place::Card(5),
+        Kind::Duplicate,
+    ),
+    // A reserved name comes before a name that stands twice, and that before the fill.
+    (
+        &[
+            (5, b"BITPIX  =                   16"),
+            (6, b"ZTILE1  =                    4"),
+            (7, b"END     X"),
+        ],
+        CodecWord::Rice,
+        Place::Card(6),
+        Kind::Reserved,
+    ),
+    (
+        &[
+            (5, b"BITPIX  =                   16"),
+            (6, b"OBJECT  = 'M 31'"),
+            (7, b"END     X"),
+        ],
+        CodecWord::Rice,
+        Place::Card(5),
+        Kind::Duplicate,
+    ),
+    (
+        &[(5, b"OBJECT  = 'M 31'"), (6, b"END     X")],
+        CodecWord::Rice,
+        Place::Byte(488),
+        Kind::HeaderFill,
+    ),
+    (
+        &[
+            (5, b"EXTEND  =                    T"),
+            (6, b"BZERO   =                32768"),
+            (7, b"END"),
+        ],
+        CodecWord::Plio,
+        Place::Card(6),
+        Kind::PlioOffset,
+    ),
+];
+
 #[test]
 fn refused_images(rt: HostRuntime) -> Result<(), Fail> {
     let alloc = rt.alloc();
-    let cases: [(&[(usize, &[u8])], CodecWord, Place, Kind); 6] = [
-        (
-            &[(5, b"ZTILE1  =                    4"), (6, b"END")],
-            CodecWord::Rice,
-            Place::Card(5),
-            Kind::Reserved,
-        ),
-        (
-            &[(5, b"BITPIX  =                   16"), (6, b"END")],
-            CodecWord::Rice,
-            Place::Card(5),
-            Kind::Duplicate,
-        ),
-        // A reserved name comes before a name that stands twice, and that before the fill.
-        (
-            &[
-                (5, b"BITPIX  =                   16"),
-                (6, b"ZTILE1  =                    4"),
-                (7, b"END     X"),
-            ],
-            CodecWord::Rice,
-            Place::Card(6),
-            Kind::Reserved,
-        ),
-        (
-            &[
-                (5, b"BITPIX  =                   16"),
-                (6, b"OBJECT  = 'M 31'"),
-                (7, b"END     X"),
-            ],
-            CodecWord::Rice,
-            Place::Card(5),
-            Kind::Duplicate,
-        ),
-        (
-            &[(5, b"OBJECT  = 'M 31'"), (6, b"END     X")],
-            CodecWord::Rice,
-            Place::Byte(488),
-            Kind::HeaderFill,
-        ),
-        (
-            &[
-                (5, b"EXTEND  =                    T"),
-                (6, b"BZERO   =                32768"),
-                (7, b"END"),
-            ],
-            CodecWord::Plio,
-            Place::Card(6),
-            Kind::PlioOffset,
-        ),
-    ];
-    for (changes, codec, at, kind) in cases {
+    for (changes, codec, at, kind) in REFUSED {
         let mut buf = [0; 2880];
         let header = one_block(alloc, &file_of(&SMALL, changes), 0, &mut buf)?;
         assert!(rt; is_packable(&buf, &header));

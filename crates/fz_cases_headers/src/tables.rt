@@ -1,6 +1,6 @@
 //! Packed headers: the plans that they stand for, and the checks that refuse them.
 use crate::files::{PACKED, fault_at, file_of, one_block, packed_plan};
-use fz_base::{Fault, Kind};
+use fz_base::Kind;
 use fz_block::{Axes, Sort};
 use fz_head::{Plan, is_packed, table_check};
 use fz_tile::Codec;
@@ -35,107 +35,118 @@ const ZSIMPLE_TWICE: [(usize, &[u8]); 6] = [
     (26, b"END"),
 ];
 
+/// Cards of the packed header that are other ones, or stand behind it, and the card that is refused, and why.
+const CHECKED: [(&[(usize, &[u8])], Option<(u32, Kind)>); 6] = [
+    (&[], None),
+    (&ZSIMPLE_TWICE, Some((21, Kind::Duplicate))),
+    // ZSIMPLE and ZTENSION count as one name.
+    (
+        &[(25, b"ZTENSION= 'IMAGE   '"), (26, b"END")],
+        Some((25, Kind::Duplicate)),
+    ),
+    (
+        &[
+            (25, b"TTYPE1  = 'OTHER   '"),
+            (26, b"ZTABLE  =                    T"),
+            (27, b"END"),
+        ],
+        Some((26, Kind::CompressedTable)),
+    ),
+    // A table that is not packed may have a name twice.
+    (
+        &[
+            (12, b"ZIMAGE  =                    F"),
+            (25, b"TTYPE1  = 'OTHER   '"),
+            (26, b"END"),
+        ],
+        None,
+    ),
+    (
+        &[
+            (25, b"OBJECT  = 'M 31'"),
+            (26, b"OBJECT  = 'M 31'"),
+            (27, b"END"),
+        ],
+        None,
+    ),
+];
+
 #[test]
 fn checks_of_tables(rt: HostRuntime) -> Result<(), Fail> {
     let alloc = rt.alloc();
-    let cases: [(&[(usize, &[u8])], Result<(), Fault>); 6] = [
-        (&[], Ok(())),
-        (&ZSIMPLE_TWICE, Err(fault_at(21, Kind::Duplicate))),
-        // ZSIMPLE and ZTENSION count as one name.
-        (
-            &[(25, b"ZTENSION= 'IMAGE   '"), (26, b"END")],
-            Err(fault_at(25, Kind::Duplicate)),
-        ),
-        (
-            &[
-                (25, b"TTYPE1  = 'OTHER   '"),
-                (26, b"ZTABLE  =                    T"),
-                (27, b"END"),
-            ],
-            Err(fault_at(26, Kind::CompressedTable)),
-        ),
-        // A table that is not packed may have a name twice.
-        (
-            &[
-                (12, b"ZIMAGE  =                    F"),
-                (25, b"TTYPE1  = 'OTHER   '"),
-                (26, b"END"),
-            ],
-            Ok(()),
-        ),
-        (
-            &[
-                (25, b"OBJECT  = 'M 31'"),
-                (26, b"OBJECT  = 'M 31'"),
-                (27, b"END"),
-            ],
-            Ok(()),
-        ),
-    ];
-    for (changes, wanted) in cases {
+    for (changes, wanted) in CHECKED {
         let mut buf = [0; 2880];
         let header = one_block(alloc, &file_of(&PACKED, changes), 1, &mut buf)?;
         assert!(rt; header.sort == Sort::BinTable);
+        let wanted = match wanted {
+            None => Ok(()),
+            Some((card, kind)) => Err(fault_at(card, kind)),
+        };
         assert_eq!(rt; table_check(&buf, &header), wanted);
     }
     Ok(())
 }
 
+/// Cards of the packed header that are other ones, and the plan that it stands for then.
+const PLANS: [(&[(usize, &[u8])], Plan); 5] = [
+    (&[], PLAN),
+    // The plain bytes pass 31 bits.
+    (
+        &[
+            (3, b"NAXIS1  =                   32"),
+            (4, b"NAXIS2  =                   32"),
+            (9, b"TFORM1  = '1QB(4)  '"),
+            (11, b"TFORM2  = '1QI(0)  '"),
+            (14, b"ZTILE1  =             67108864"),
+            (23, b"ZNAXIS1 =             67108864"),
+            (24, b"ZNAXIS2 =                   32"),
+        ],
+        Plan {
+            shape: Axes {
+                n: 2,
+                len: [67_108_864, 32, 0, 0, 0, 0, 0, 0, 0],
+            },
+            tile: Axes {
+                n: 2,
+                len: [67_108_864, 1, 0, 0, 0, 0, 0, 0, 0],
+            },
+            wide: true,
+            ..PLAN
+        },
+    ),
+    // A tile that is longer than its axis counts as the axis.
+    (&[(14, b"ZTILE1  =   999999999999999999")], PLAN),
+    // Without ZTILE1 and ZTILE2 a tile is a row, and without ZNAME1 a block has 32 numbers.
+    (
+        &[(14, b"HISTORY"), (15, b"HISTORY"), (16, b"HISTORY")],
+        PLAN,
+    ),
+    (
+        &[
+            (13, b"ZCMPTYPE= 'RICE_ONE'"),
+            (15, b"ZTILE2  =                    2"),
+            (4, b"NAXIS2  =                    1"),
+            (17, b"ZVAL1   =                32767"),
+            (19, b"ZVAL2   =                    1"),
+        ],
+        Plan {
+            codec: Codec::Rice {
+                block: 32767,
+                bytepix: 1,
+            },
+            tile: Axes {
+                n: 2,
+                len: [4, 2, 0, 0, 0, 0, 0, 0, 0],
+            },
+            ..PLAN
+        },
+    ),
+];
+
 #[test]
 fn plans(rt: HostRuntime) -> Result<(), Fail> {
     let alloc = rt.alloc();
-    let cases: [(&[(usize, &[u8])], Plan); 5] = [
-        (&[], PLAN),
-        // The plain bytes pass 31 bits.
-        (
-            &[
-                (3, b"NAXIS1  =                   32"),
-                (4, b"NAXIS2  =                   32"),
-                (9, b"TFORM1  = '1QB(4)  '"),
-                (11, b"TFORM2  = '1QI(0)  '"),
-                (14, b"ZTILE1  =             67108864"),
-                (23, b"ZNAXIS1 =             67108864"),
-                (24, b"ZNAXIS2 =                   32"),
-            ],
-            Plan {
-                shape: Axes {
-                    n: 2,
-                    len: [67_108_864, 32, 0, 0, 0, 0, 0, 0, 0],
-                },
-                tile: Axes {
-                    n: 2,
-                    len: [67_108_864, 1, 0, 0, 0, 0, 0, 0, 0],
-                },
-                wide: true,
-                ..PLAN
-            },
-        ),
-        // A tile that is longer than its axis counts as the axis.
-        (&[(14, b"ZTILE1  =   999999999999999999")], PLAN),
-        // Without ZTILE1 and ZTILE2 a tile is a row, and without ZNAME1 a block has 32 numbers.
-        (
-            &[(14, b"HISTORY"), (15, b"HISTORY"), (16, b"HISTORY")],
-            PLAN,
-        ),
-        (
-            &[
-                (13, b"ZCMPTYPE= 'RICE_ONE'"),
-                (15, b"ZTILE2  =                    2"),
-                (4, b"NAXIS2  =                    1"),
-                (17, b"ZVAL1   =                32767"),
-                (19, b"ZVAL2   =                    1"),
-            ],
-            Plan {
-                codec: Codec::Rice {
-                    block: 32767,
-                    bytepix: 1,
-                },
-                tile: PLAN.shape,
-                ..PLAN
-            },
-        ),
-    ];
-    for (changes, plan) in cases {
+    for (changes, plan) in PLANS {
         let mut buf = [0; 2880];
         let header = one_block(alloc, &file_of(&PACKED, changes), 1, &mut buf)?;
         assert!(rt; is_packed(&buf, &header));
@@ -151,95 +162,98 @@ const LINE_LISTS: [(usize, &[u8]); 3] = [
     (26, b"END"),
 ];
 
+/// Cards of the packed header that are other ones, or stand behind it, whether it stands behind an empty primary, and the card that
+/// is refused, and why.
+const REFUSED: [(&[(usize, &[u8])], bool, u32, Kind); 15] = [
+    (&ZSIMPLE_TWICE, true, 21, Kind::Duplicate),
+    (
+        &[(25, b"ZSCALE  =                  1.5"), (26, b"END")],
+        true,
+        25,
+        Kind::Quantised,
+    ),
+    (
+        &[(13, b"ZCMPTYPE= 'HCOMPRESS_1'")],
+        true,
+        13,
+        Kind::UnknownCodec,
+    ),
+    (
+        &[(21, b"ZBITPIX =                  -32")],
+        true,
+        21,
+        Kind::Quantised,
+    ),
+    (
+        &[(21, b"ZBITPIX =                   64")],
+        true,
+        13,
+        Kind::UnknownCodec,
+    ),
+    // The codec comes before the bits of a pixel, and these before the axes.
+    (
+        &[
+            (13, b"ZCMPTYPE= 'HCOMPRESS_1'"),
+            (21, b"ZBITPIX =                  -32"),
+            (22, b"ZNAXIS  =                    0"),
+        ],
+        true,
+        13,
+        Kind::UnknownCodec,
+    ),
+    (
+        &[
+            (21, b"ZBITPIX =                  -32"),
+            (22, b"ZNAXIS  =                    0"),
+        ],
+        true,
+        21,
+        Kind::Quantised,
+    ),
+    // Of the axes all come before the tiles.
+    (
+        &[
+            (14, b"ZTILE1  =                    0"),
+            (24, b"ZNAXIS2 =                    0"),
+        ],
+        true,
+        24,
+        Kind::BadCard,
+    ),
+    (
+        &[(14, b"ZTILE1  =                    0")],
+        true,
+        14,
+        Kind::BadCard,
+    ),
+    (
+        &[(17, b"ZVAL1   =                    0")],
+        true,
+        17,
+        Kind::BadCard,
+    ),
+    (
+        &[(19, b"ZVAL2   =                    8")],
+        true,
+        19,
+        Kind::UnknownCodec,
+    ),
+    (&[], false, 20, Kind::MisplacedPrimary),
+    // What the image is comes before an offset of its pixels.
+    (&LINE_LISTS, false, 20, Kind::MisplacedPrimary),
+    (&LINE_LISTS, true, 25, Kind::PlioOffset),
+    (
+        &[(4, b"NAXIS2  =                    1")],
+        true,
+        4,
+        Kind::RowCount,
+    ),
+];
+
 #[test]
 fn refused_packed_headers(rt: HostRuntime) -> Result<(), Fail> {
     let alloc = rt.alloc();
-    let cases: [(&[(usize, &[u8])], bool, u32, Kind); 15] = [
-        (&ZSIMPLE_TWICE, true, 21, Kind::Duplicate),
-        (
-            &[(25, b"ZSCALE  =                  1.5"), (26, b"END")],
-            true,
-            25,
-            Kind::Quantised,
-        ),
-        (
-            &[(13, b"ZCMPTYPE= 'HCOMPRESS_1'")],
-            true,
-            13,
-            Kind::UnknownCodec,
-        ),
-        (
-            &[(21, b"ZBITPIX =                  -32")],
-            true,
-            21,
-            Kind::Quantised,
-        ),
-        (
-            &[(21, b"ZBITPIX =                   64")],
-            true,
-            13,
-            Kind::UnknownCodec,
-        ),
-        // The codec comes before the bits of a pixel, and these before the axes.
-        (
-            &[
-                (13, b"ZCMPTYPE= 'HCOMPRESS_1'"),
-                (21, b"ZBITPIX =                  -32"),
-                (22, b"ZNAXIS  =                    0"),
-            ],
-            true,
-            13,
-            Kind::UnknownCodec,
-        ),
-        (
-            &[
-                (21, b"ZBITPIX =                  -32"),
-                (22, b"ZNAXIS  =                    0"),
-            ],
-            true,
-            21,
-            Kind::Quantised,
-        ),
-        // Of the axes all come before the tiles.
-        (
-            &[
-                (14, b"ZTILE1  =                    0"),
-                (24, b"ZNAXIS2 =                    0"),
-            ],
-            true,
-            24,
-            Kind::BadCard,
-        ),
-        (
-            &[(14, b"ZTILE1  =                    0")],
-            true,
-            14,
-            Kind::BadCard,
-        ),
-        (
-            &[(17, b"ZVAL1   =                    0")],
-            true,
-            17,
-            Kind::BadCard,
-        ),
-        (
-            &[(19, b"ZVAL2   =                    8")],
-            true,
-            19,
-            Kind::UnknownCodec,
-        ),
-        (&[], false, 20, Kind::MisplacedPrimary),
-        // What the image is comes before an offset of its pixels.
-        (&LINE_LISTS, false, 20, Kind::MisplacedPrimary),
-        (&LINE_LISTS, true, 25, Kind::PlioOffset),
-        (
-            &[(4, b"NAXIS2  =                    1")],
-            true,
-            4,
-            Kind::RowCount,
-        ),
-    ];
-    for (changes, after_empty, card, kind) in cases {
+    for (changes, after_empty, card, kind) in REFUSED {
         let mut buf = [0; 2880];
         let header = one_block(alloc, &file_of(&PACKED, changes), 1, &mut buf)?;
         let answer = packed_plan(&buf, &header, after_empty);

@@ -80,12 +80,12 @@ fn put(file: &mut [u8; 8640], i: usize, text: &[u8]) {
 }
 
 /// A fault at this card.
-fn bad_at(card: u32) -> Result<Table, Fault> {
-    Err(Fault {
+fn bad_at(card: u32) -> Fault {
+    Fault {
         hdu: 1,
         at: Place::Card(card),
         kind: Kind::BadTable,
-    })
+    }
 }
 
 /// What the header of HDU 1 says of its table, and the card of ZIMAGE in it.
@@ -102,218 +102,238 @@ fn table_of(alloc: Global, file: &[u8; 8640]) -> Result<(Result<Table, Fault>, O
     Ok((Table::of(&buf, &header), zimage))
 }
 
+/// Cards of the header that are other ones, or stand behind it, and the table that it says then, or the index of the faulty card.
+const TABLES: [(&[(usize, &[u8])], Result<Table, u32>); 33] = [
+    (&[], Ok(TABLE)),
+    (&[(1, b"BITPIX  =                   16")], Err(1)),
+    (
+        &[
+            (2, b"NAXIS   =                    1"),
+            (4, b"PCOUNT  =                   16"),
+            (5, b"GCOUNT  =                    1"),
+        ],
+        Err(2),
+    ),
+    (&[(6, b"GCOUNT  =                    2")], Err(6)),
+    (&[(7, b"TFIELDS =                    0")], Err(7)),
+    (&[(7, b"TFIELDS =                 1000")], Err(7)),
+    (&[(7, b"COMMENT two columns")], Err(21)),
+    (&[(7, b"TFIELDS =                    3")], Err(21)),
+    (&[(9, b"COMMENT no form")], Err(21)),
+    (&[(9, b"TFORM1  = '2PB(0)'")], Err(9)),
+    (&[(9, b"TFORM1  = 'Z'")], Err(9)),
+    (&[(9, b"TFORM1  = '0000000001PB'")], Err(9)),
+    (&[(9, b"TFORM1  = '000000001PB'")], Ok(TABLE)),
+    (&[(9, b"TFORM1  = 'PB'")], Ok(TABLE)),
+    (&[(9, b"TFORM1  = '1pb'")], Err(9)),
+    (&[(9, b"TFORM1  = ' 1PB'")], Err(9)),
+    (&[(9, b"TFORM1  = ''")], Err(9)),
+    (&[(9, b"TFORM1  = '0PB(0)'")], Err(3)),
+    (&[(3, b"NAXIS1  =                   17")], Err(3)),
+    (&[(11, b"TFORM2  = '1PX(4)'")], Err(11)),
+    (&[(11, b"TFORM2  = '8B'")], Err(11)),
+    (
+        &[(11, b"TFORM2  = '1PK(2)'")],
+        Ok(Table {
+            stored: Some(Column {
+                at: 8,
+                wide: false,
+                unit: 8,
+            }),
+            ..TABLE
+        }),
+    ),
+    (
+        &[(10, b"TTYPE2  = 2"), (11, b"TFORM2  = '8B'")],
+        Ok(Table {
+            stored: None,
+            ..TABLE
+        }),
+    ),
+    (&[(10, b"TTYPE2  = 'compressed_data'")], Err(10)),
+    (&[(10, b"TTYPE2  = 'uncompressed_data'")], Ok(TABLE)),
+    (
+        &[(21, b"THEAP   =                    0"), (22, b"END")],
+        Err(21),
+    ),
+    (
+        &[(21, b"THEAP   =                   49"), (22, b"END")],
+        Err(21),
+    ),
+    (&[(21, b"THEAP   = '40'"), (22, b"END")], Err(21)),
+    (
+        &[(21, b"THEAP   =                   48"), (22, b"END")],
+        Ok(Table {
+            heap_at: 5808,
+            heap_len: 0,
+            ..TABLE
+        }),
+    ),
+    (
+        &[(21, b"THEAP   =                   40"), (22, b"END")],
+        Ok(Table {
+            heap_at: 5800,
+            heap_len: 8,
+            ..TABLE
+        }),
+    ),
+    (
+        &[
+            (3, b"NAXIS1  =                   18"),
+            (7, b"TFIELDS =                    3"),
+            (21, b"TFORM3  = '9X'"),
+            (22, b"END"),
+        ],
+        Ok(Table {
+            row_bytes: 18,
+            heap_at: 5796,
+            ..TABLE
+        }),
+    ),
+    (
+        &[
+            (3, b"NAXIS1  =                   24"),
+            (7, b"TFIELDS =                    3"),
+            (21, b"TFORM3  = 'PE'"),
+            (22, b"TTYPE3  = 'GZIP_COMPRESSED_DATA'"),
+            (23, b"END"),
+        ],
+        Ok(Table {
+            row_bytes: 24,
+            heap_at: 5808,
+            gzip: Some(Column {
+                at: 16,
+                wide: false,
+                unit: 4,
+            }),
+            ..TABLE
+        }),
+    ),
+    (
+        &[
+            (3, b"NAXIS1  =                   32"),
+            (9, b"TFORM1  = '1QB(0)'"),
+            (11, b"TFORM2  = '1QI(4)'"),
+        ],
+        Ok(Table {
+            row_bytes: 32,
+            heap_at: 5824,
+            coded: Some(Column {
+                at: 0,
+                wide: true,
+                unit: 1,
+            }),
+            stored: Some(Column {
+                at: 16,
+                wide: true,
+                unit: 2,
+            }),
+            ..TABLE
+        }),
+    ),
+];
+
 #[test]
 fn tables(rt: HostRuntime) {
     let alloc = rt.alloc();
-    let cases: [(&[(usize, &[u8])], Result<Table, Fault>); 33] = [
-        (&[], Ok(TABLE)),
-        (&[(1, b"BITPIX  =                   16")], bad_at(1)),
-        (
-            &[
-                (2, b"NAXIS   =                    1"),
-                (4, b"PCOUNT  =                   16"),
-                (5, b"GCOUNT  =                    1"),
-            ],
-            bad_at(2),
-        ),
-        (&[(6, b"GCOUNT  =                    2")], bad_at(6)),
-        (&[(7, b"TFIELDS =                    0")], bad_at(7)),
-        (&[(7, b"TFIELDS =                 1000")], bad_at(7)),
-        (&[(7, b"COMMENT two columns")], bad_at(21)),
-        (&[(7, b"TFIELDS =                    3")], bad_at(21)),
-        (&[(9, b"COMMENT no form")], bad_at(21)),
-        (&[(9, b"TFORM1  = '2PB(0)'")], bad_at(9)),
-        (&[(9, b"TFORM1  = 'Z'")], bad_at(9)),
-        (&[(9, b"TFORM1  = '0000000001PB'")], bad_at(9)),
-        (&[(9, b"TFORM1  = '000000001PB'")], Ok(TABLE)),
-        (&[(9, b"TFORM1  = 'PB'")], Ok(TABLE)),
-        (&[(9, b"TFORM1  = '1pb'")], bad_at(9)),
-        (&[(9, b"TFORM1  = ' 1PB'")], bad_at(9)),
-        (&[(9, b"TFORM1  = ''")], bad_at(9)),
-        (&[(9, b"TFORM1  = '0PB(0)'")], bad_at(3)),
-        (&[(3, b"NAXIS1  =                   17")], bad_at(3)),
-        (&[(11, b"TFORM2  = '1PX(4)'")], bad_at(11)),
-        (&[(11, b"TFORM2  = '8B'")], bad_at(11)),
-        (
-            &[(11, b"TFORM2  = '1PK(2)'")],
-            Ok(Table {
-                stored: Some(Column {
-                    at: 8,
-                    wide: false,
-                    unit: 8,
-                }),
-                ..TABLE
-            }),
-        ),
-        (
-            &[(10, b"TTYPE2  = 2"), (11, b"TFORM2  = '8B'")],
-            Ok(Table {
-                stored: None,
-                ..TABLE
-            }),
-        ),
-        (&[(10, b"TTYPE2  = 'compressed_data'")], bad_at(10)),
-        (&[(10, b"TTYPE2  = 'uncompressed_data'")], Ok(TABLE)),
-        (
-            &[(21, b"THEAP   =                    0"), (22, b"END")],
-            bad_at(21),
-        ),
-        (
-            &[(21, b"THEAP   =                   49"), (22, b"END")],
-            bad_at(21),
-        ),
-        (&[(21, b"THEAP   = '40'"), (22, b"END")], bad_at(21)),
-        (
-            &[(21, b"THEAP   =                   48"), (22, b"END")],
-            Ok(Table {
-                heap_at: 5808,
-                heap_len: 0,
-                ..TABLE
-            }),
-        ),
-        (
-            &[(21, b"THEAP   =                   40"), (22, b"END")],
-            Ok(Table {
-                heap_at: 5800,
-                heap_len: 8,
-                ..TABLE
-            }),
-        ),
-        (
-            &[
-                (3, b"NAXIS1  =                   18"),
-                (7, b"TFIELDS =                    3"),
-                (21, b"TFORM3  = '9X'"),
-                (22, b"END"),
-            ],
-            Ok(Table {
-                row_bytes: 18,
-                heap_at: 5796,
-                ..TABLE
-            }),
-        ),
-        (
-            &[
-                (3, b"NAXIS1  =                   24"),
-                (7, b"TFIELDS =                    3"),
-                (21, b"TFORM3  = 'PE'"),
-                (22, b"TTYPE3  = 'GZIP_COMPRESSED_DATA'"),
-                (23, b"END"),
-            ],
-            Ok(Table {
-                row_bytes: 24,
-                heap_at: 5808,
-                gzip: Some(Column {
-                    at: 16,
-                    wide: false,
-                    unit: 4,
-                }),
-                ..TABLE
-            }),
-        ),
-        (
-            &[
-                (3, b"NAXIS1  =                   32"),
-                (9, b"TFORM1  = '1QB(0)'"),
-                (11, b"TFORM2  = '1QI(4)'"),
-            ],
-            Ok(Table {
-                row_bytes: 32,
-                heap_at: 5824,
-                coded: Some(Column {
-                    at: 0,
-                    wide: true,
-                    unit: 1,
-                }),
-                stored: Some(Column {
-                    at: 16,
-                    wide: true,
-                    unit: 2,
-                }),
-                ..TABLE
-            }),
-        ),
-    ];
-    for (changes, expected) in cases {
+    for (changes, expected) in TABLES {
         let file = file_of(changes);
-        assert_eq!(rt; table_of(alloc, &file), Ok((expected, Some(12))));
+        assert_eq!(rt;
+            table_of(alloc, &file),
+            Ok((expected.map_err(bad_at), Some(12)))
+        );
     }
 }
+
+/// Four rows of TABLE from byte 0 on, and its heap behind them.
+const FOUR_ROWS: Table = Table {
+    rows_at: 0,
+    rows: 4,
+    heap_at: 100,
+    ..TABLE
+};
+
+/// A column of 16-bit elements, whose descriptors have 32-bit numbers.
+const SHORTS: Column = Column {
+    at: 8,
+    wide: false,
+    unit: 2,
+};
+
+/// A column of 64-bit elements, whose descriptors have 64-bit numbers.
+const LONGS: Column = Column {
+    at: 0,
+    wide: true,
+    unit: 8,
+};
+
+/// A descriptor of nothing.
+const NONE: Descriptor = Descriptor {
+    count: 0,
+    offset: 0,
+};
+
+/// A descriptor of four elements.
+const STORED: Descriptor = Descriptor {
+    count: 4,
+    offset: 8,
+};
+
+/// The greatest numbers of 32 bits.
+const HIGH: Descriptor = Descriptor {
+    count: 4_294_967_295,
+    offset: 4_294_967_295,
+};
+
+/// The greatest numbers of 64 bits.
+const GREATEST: Descriptor = Descriptor {
+    count: 18_446_744_073_709_551_615,
+    offset: 18_446_744_073_709_551_615,
+};
+
+/// A column, a descriptor in it, and the range that this describes behind the four rows.
+const RANGES: [(Column, Descriptor, Option<(u64, u64)>); 5] = [
+    (SHORTS, STORED, Some((108, 8))),
+    (LONGS, STORED, None),
+    (
+        SHORTS,
+        Descriptor {
+            count: 5,
+            offset: 8,
+        },
+        None,
+    ),
+    (
+        SHORTS,
+        Descriptor {
+            count: 1 << 63,
+            offset: 0,
+        },
+        None,
+    ),
+    (SHORTS, GREATEST, None),
+];
 
 #[test]
 fn rows_and_ranges(rt: HostRuntime) -> Result<(), Fail> {
     let alloc = rt.alloc();
     let mut rows = [0; 64];
-    let none = Descriptor {
-        count: 0,
-        offset: 0,
-    };
-    let stored = Descriptor {
-        count: 4,
-        offset: 8,
-    };
-    write_row(&mut rows[..16], false, &none, &stored);
-    write_row(&mut rows[16..48], true, &stored, &none);
+    write_row(&mut rows[..16], false, &NONE, &STORED);
+    write_row(&mut rows[16..48], true, &STORED, &NONE);
     rows[48..].fill(0xff);
     assert!(rt; rows[..16] == [0, 0, 0, 0, 0, 0, 0, 0, 0, 0, 0, 4, 0, 0, 0, 8]);
     assert!(rt; rows[16..32] == [0, 0, 0, 0, 0, 0, 0, 4, 0, 0, 0, 0, 0, 0, 0, 8]);
     let mut source = MemSource::new(alloc, rows.to_vec(alloc)?, Vec::new(alloc));
     let length = source.attach("any")?;
     assert_eq!(rt; length, 64);
-    let column = Column {
-        at: 8,
-        wide: false,
-        unit: 2,
-    };
-    let table = Table {
-        rows_at: 0,
-        rows: 4,
-        heap_at: 100,
-        ..TABLE
-    };
-    assert_eq!(rt; descriptor(&mut source, &table, &column, 0)?, stored);
-    let wide = Column {
-        at: 0,
-        wide: true,
-        unit: 8,
-    };
-    assert_eq!(rt; descriptor(&mut source, &table, &wide, 1)?, stored);
-    let greatest = Descriptor {
-        count: 18_446_744_073_709_551_615,
-        offset: 18_446_744_073_709_551_615,
-    };
-    assert_eq!(rt; descriptor(&mut source, &table, &wide, 3)?, greatest);
-    let high = Descriptor {
-        count: 4_294_967_295,
-        offset: 4_294_967_295,
-    };
-    assert_eq!(rt; descriptor(&mut source, &table, &column, 3)?, high);
+    assert_eq!(rt; descriptor(&mut source, &FOUR_ROWS, &SHORTS, 0)?, STORED);
+    assert_eq!(rt; descriptor(&mut source, &FOUR_ROWS, &LONGS, 1)?, STORED);
+    assert_eq!(rt; descriptor(&mut source, &FOUR_ROWS, &LONGS, 3)?, GREATEST);
+    assert_eq!(rt; descriptor(&mut source, &FOUR_ROWS, &SHORTS, 3)?, HIGH);
     assert!(rt; source.reads() == [(8, 8), (16, 16), (48, 16), (56, 8)].as_slice());
-    assert_eq!(rt; range(&table, &column, &stored), Some((108, 8)));
-    assert_eq!(rt; range(&table, &wide, &stored), None);
-    assert_eq!(rt;
-        range(
-            &table,
-            &column,
-            &Descriptor {
-                count: 5,
-                offset: 8
-            }
-        ),
-        None
-    );
-    assert_eq!(rt;
-        range(
-            &table,
-            &column,
-            &Descriptor {
-                count: 1 << 63,
-                offset: 0
-            }
-        ),
-        None
-    );
-    assert_eq!(rt; range(&table, &column, &greatest), None);
+    for (column, described, expected) in RANGES {
+        assert_eq!(rt; range(&FOUR_ROWS, &column, &described), expected);
+    }
     Ok(())
 }
 
@@ -390,98 +410,89 @@ fn refused(kind: Kind) -> Result<Record, Fault> {
     })
 }
 
+/// The count and the offset of the descriptors in three columns, the tile, and the column, start and length of the record, or why
+/// the row is refused.
+const RECORDS: [([(u64, u64); 3], Tile, Result<(TileColumn, u64, u64), Kind>); 21] = [
+    (
+        [(4, 2), (0, 0), (0, 0)],
+        TILE,
+        Ok((TileColumn::Coded, 74, 4)),
+    ),
+    (
+        [(4, 2), (4, 8), (0, 0)],
+        TILE,
+        Ok((TileColumn::Coded, 74, 4)),
+    ),
+    (
+        [(0, 0), (4, 8), (0, 0)],
+        TILE,
+        Ok((TileColumn::Stored, 80, 8)),
+    ),
+    (
+        [(0, 0), (4, 16), (0, 0)],
+        TILE,
+        Ok((TileColumn::Stored, 88, 8)),
+    ),
+    (
+        [(0, 0), (4, 8), (2, 0)],
+        TILE,
+        Ok((TileColumn::Stored, 80, 8)),
+    ),
+    (
+        [(4, 2), (0, 0), (2, 0)],
+        TILE,
+        Ok((TileColumn::Coded, 74, 4)),
+    ),
+    (
+        [(24, 0), (0, 0), (0, 0)],
+        TILE,
+        Ok((TileColumn::Coded, 72, 24)),
+    ),
+    ([(0, 0), (0, 0), (2, 0)], TILE, Err(Kind::GzipTile)),
+    ([(0, 0), (0, 0), (u64::MAX, 0)], TILE, Err(Kind::GzipTile)),
+    ([(0, 0), (0, 0), (0, 0)], TILE, Err(Kind::TileMissing)),
+    ([(0, 30), (0, 30), (0, 30)], TILE, Err(Kind::TileMissing)),
+    ([(0, 0), (4, 17), (0, 0)], TILE, Err(Kind::DescriptorRange)),
+    ([(0, 0), (16, 0), (0, 0)], TILE, Err(Kind::DescriptorRange)),
+    (
+        [(4_294_967_295, 0), (0, 0), (0, 0)],
+        TILE,
+        Err(Kind::DescriptorRange),
+    ),
+    (
+        [(0, 0), (4, u64::MAX), (0, 0)],
+        TILE,
+        Err(Kind::DescriptorRange),
+    ),
+    ([(0, 0), (1, 0), (0, 0)], TILE, Err(Kind::TileSize)),
+    ([(0, 0), (5, 0), (0, 0)], TILE, Err(Kind::TileSize)),
+    (
+        [(8, 0), (0, 0), (0, 0)],
+        PLAIN,
+        Ok((TileColumn::Coded, 72, 8)),
+    ),
+    ([(7, 0), (0, 0), (0, 0)], PLAIN, Err(Kind::TileSize)),
+    (
+        [(0, 0), (4, 0), (0, 0)],
+        PLAIN,
+        Ok((TileColumn::Stored, 72, 8)),
+    ),
+    ([(25, 0), (0, 0), (0, 0)], PLAIN, Err(Kind::DescriptorRange)),
+];
+
 #[test]
 fn records(rt: HostRuntime) {
-    let none = at(0, 0);
-    let greatest = 18_446_744_073_709_551_615;
-    let cases: [(Row, Tile, Result<Record, Fault>); 21] = [
-        (
-            says(at(4, 2), none, none),
-            TILE,
-            whole(TileColumn::Coded, 74, 4),
-        ),
-        (
-            says(at(4, 2), at(4, 8), none),
-            TILE,
-            whole(TileColumn::Coded, 74, 4),
-        ),
-        (
-            says(none, at(4, 8), none),
-            TILE,
-            whole(TileColumn::Stored, 80, 8),
-        ),
-        (
-            says(none, at(4, 16), none),
-            TILE,
-            whole(TileColumn::Stored, 88, 8),
-        ),
-        (
-            says(none, at(4, 8), at(2, 0)),
-            TILE,
-            whole(TileColumn::Stored, 80, 8),
-        ),
-        (
-            says(at(4, 2), none, at(2, 0)),
-            TILE,
-            whole(TileColumn::Coded, 74, 4),
-        ),
-        (
-            says(at(24, 0), none, none),
-            TILE,
-            whole(TileColumn::Coded, 72, 24),
-        ),
-        (says(none, none, at(2, 0)), TILE, refused(Kind::GzipTile)),
-        (
-            says(none, none, at(greatest, 0)),
-            TILE,
-            refused(Kind::GzipTile),
-        ),
-        (says(none, none, none), TILE, refused(Kind::TileMissing)),
-        (
-            says(at(0, 30), at(0, 30), at(0, 30)),
-            TILE,
-            refused(Kind::TileMissing),
-        ),
-        (
-            says(none, at(4, 17), none),
-            TILE,
-            refused(Kind::DescriptorRange),
-        ),
-        (
-            says(none, at(16, 0), none),
-            TILE,
-            refused(Kind::DescriptorRange),
-        ),
-        (
-            says(at(4_294_967_295, 0), none, none),
-            TILE,
-            refused(Kind::DescriptorRange),
-        ),
-        (
-            says(none, at(4, greatest), none),
-            TILE,
-            refused(Kind::DescriptorRange),
-        ),
-        (says(none, at(1, 0), none), TILE, refused(Kind::TileSize)),
-        (says(none, at(5, 0), none), TILE, refused(Kind::TileSize)),
-        (
-            says(at(8, 0), none, none),
-            PLAIN,
-            whole(TileColumn::Coded, 72, 8),
-        ),
-        (says(at(7, 0), none, none), PLAIN, refused(Kind::TileSize)),
-        (
-            says(none, at(4, 0), none),
-            PLAIN,
-            whole(TileColumn::Stored, 72, 8),
-        ),
-        (
-            says(at(25, 0), none, none),
-            PLAIN,
-            refused(Kind::DescriptorRange),
-        ),
-    ];
-    for (row, tile, expected) in cases {
+    for (described, tile, expected) in RECORDS {
+        let [coded, stored, gzip] = described;
+        let row = says(
+            at(coded.0, coded.1),
+            at(stored.0, stored.1),
+            at(gzip.0, gzip.1),
+        );
+        let expected = match expected {
+            Ok((column, start, total)) => whole(column, start, total),
+            Err(kind) => refused(kind),
+        };
         assert_eq!(rt; record_of(1, 5, &THREE, &row, &tile), expected);
     }
     let long = Table {
@@ -500,7 +511,7 @@ fn records(rt: HostRuntime) {
         read: 88,
     });
     assert_eq!(rt;
-        record_of(1, 0, &long, &says(at(1_000_006, 0), none, none), &three),
+        record_of(1, 0, &long, &says(at(1_000_006, 0), NONE, NONE), &three),
         expected
     );
 }
