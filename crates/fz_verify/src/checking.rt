@@ -1,5 +1,5 @@
 //! The HDUs of a file, verified one after another.
-ghost use Rattle.std.specs.Prelude.{ℕ, ◌≡◌, ◌+◌, ◌*◌, ◌≤◌, ◌<◌, ◌^◌, ◌&&◌, Some, length as len, replicate, IfSome};
+ghost use Rattle.std.specs.Prelude.{ℕ, ◌≡◌, ◌+◌, ◌*◌, ◌≤◌, ◌<◌, ◌^◌, Some, length as len, replicate, IfSome};
 ghost use Rattle.fz_base.specs.Stop.{IfRefused};
 ghost use Rattle.fz_base.specs.Told.{StaysTold};
 ghost use Rattle.fz_files.specs.Restored.{pixels_of};
@@ -67,7 +67,7 @@ pub(crate) fn verify_hdus<R: Threads + Sync, S: Source, T: Text, G: Gate>(
             buf,
         )?;
         let sound = print_verified(rt, source, text, window, gate, &again, space)?;
-        right = both(right, sound);
+        right = right & sound;
         start = next_start(&again.header);
         if start == length {
             return Ok(right);
@@ -75,13 +75,6 @@ pub(crate) fn verify_hdus<R: Threads + Sync, S: Source, T: Text, G: Gate>(
         after_empty = again.is_empty_primary();
     }
     Ok(right)
-}
-
-// Whether both are so.
-fn both(first: bool, second: bool) -> bool
-    ensures { result ≡ (first && second) }
-{
-    first && second
 }
 
 // Verifies an HDU, whose header is in the workspace, and prints its line. Answers whether no sum is wrong.

@@ -94,8 +94,7 @@ returns-then-start-length-clause-verified g c =
     more_checked c.none_refused_law.ensures s before held k start flag (is_empty_primary a.header) right sound mid now a few old.checked seen checked refl in
     let told : HoldsLength held c.args.length = g.met.S.Source.agrees c.args.source.now c.args.length c.requires.attached in
     let ends : next_start_of a.header ≡ c.args.length = omega (arith, c.next_start-start.ensures) in
-    subst (λ (b : Bool). IfSome held (λ f. VerifiesSeen f s before now (Ok b))) (sym c.both-right.ensures)
-    (ends_with_file c.none_refused_law.ensures s before held c.args.length (k + 1) (next_start_of a.header) (is_empty_primary a.header) (right && sound) now told ends more)
+    ends_with_file c.none_refused_law.ensures s before held c.args.length (k + 1) (next_start_of a.header) (is_empty_primary a.header) (right && sound) now told ends more
 
 pub loop-hdu-preserved : goal.loop-hdu-preserved
 loop-hdu-preserved g c =
@@ -140,7 +139,6 @@ loop-hdu-preserved g c =
       window = record { sizes = c.in_ok-sound.ensures.window.sizes ∙ old.window.sizes; workers = c.in_ok-sound.ensures.window.workers ∙ old.window.workers };
       within = inl (omega (arith, next, inside));
       early = omega (arith, next, early);
-      checked = subst (λ r. IfSome held (IsChecking s (k + 1) c.next_start-start.result c.is_empty_primary-after_empty.result r before now)) (sym c.both-right.ensures)
-          (subst (λ b. IfSome held (IsChecking s (k + 1) c.next_start-start.result b (right && sound) before now)) (sym says)
-          (subst (λ n. IfSome held (IsChecking s (k + 1) n (is_empty_primary a.header) (right && sound) before now)) (sym next) more));
+      checked = subst (λ b. IfSome held (IsChecking s (k + 1) c.next_start-start.result b (right && sound) before now)) (sym says)
+          (subst (λ n. IfSome held (IsChecking s (k + 1) n (is_empty_primary a.header) (right && sound) before now)) (sym next) more);
     }
