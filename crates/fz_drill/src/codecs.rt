@@ -8,7 +8,7 @@ ghost use Rattle.fz_drill.specs.Outcomes.{AreOutcomes, BlockDecides, IsOutcome, 
 
 use crate::files::{Files, make_files, no_memory};
 use crate::outcome::{Outcome, Outcomes};
-use crate::parts::{cuts, pack_it, unpacks};
+use crate::parts::{cuts_to_part, packed_by, unpacks_to_file};
 use fz_base::{Gate, Meter, Stop};
 use fz_head::CodecWord;
 use fz_pool::Window;
@@ -63,9 +63,9 @@ fn try_codec<R: Threads + Sync, G: Gate>(
     ensures block { BlockDecides meter.old.limit result }
     ensures kept { KeepsAll files.now.rows meter.old meter.new window.old window.new }
 {
-    let packed = pack_it(rt, alloc, files, codec, meter, window, gate)?;
-    let unpacked = unpacks(rt, alloc, files, &packed, meter, window, gate)?;
-    let cut = cuts(rt, alloc, files, &packed, meter, window, gate)?;
+    let packed = packed_by(rt, alloc, files, codec, meter, window, gate)?;
+    let unpacked = unpacks_to_file(rt, alloc, files, &packed, meter, window, gate)?;
+    let cut = cuts_to_part(rt, alloc, files, &packed, meter, window, gate)?;
     Ok(Outcome {
         packed: packed.len() as u64,
         unpacked,

@@ -12,9 +12,10 @@ use std::alloc::{AllocError, Global};
 /// The columns of the file.
 pub(crate) const COLUMNS: u32 = 256;
 
-/// The columns that are cut from it: the first, counted from 0, and how many.
+/// The first of the columns that are cut from it, counted from 0.
 pub(crate) const CUT_FROM: u32 = 32;
 
+/// How many are cut.
 pub(crate) const CUT_COLUMNS: u32 = 32;
 
 /// Makes a file in memory: an image of these columns of the pixels of `drill`, and of so many rows.

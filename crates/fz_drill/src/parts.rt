@@ -29,7 +29,7 @@ pub(crate) const WORKERS: u32 = 4;
 const NO_NAME: &str = "";
 
 /// Packs the file, and answers the packed file.
-pub(crate) fn pack_it<R: Threads + Sync, G: Gate>(
+pub(crate) fn packed_by<R: Threads + Sync, G: Gate>(
     rt: &R,
     alloc: Global,
     files: &Files,
@@ -76,7 +76,7 @@ pub(crate) fn pack_it<R: Threads + Sync, G: Gate>(
 }
 
 /// Unpacks a packed file, and answers whether that gave the bytes of the file.
-pub(crate) fn unpacks<R: Threads + Sync, G: Gate>(
+pub(crate) fn unpacks_to_file<R: Threads + Sync, G: Gate>(
     rt: &R,
     alloc: Global,
     files: &Files,
@@ -116,7 +116,7 @@ pub(crate) fn unpacks<R: Threads + Sync, G: Gate>(
 }
 
 /// Cuts columns of all rows from a packed file, and answers whether that gave the bytes of the part.
-pub(crate) fn cuts<R: Threads + Sync, G: Gate>(
+pub(crate) fn cuts_to_part<R: Threads + Sync, G: Gate>(
     rt: &R,
     alloc: Global,
     files: &Files,

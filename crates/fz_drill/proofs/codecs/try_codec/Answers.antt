@@ -26,7 +26,7 @@ returns-in_err-unpacked-clause-stops g c =
     let limit : ℕ = c.args.meter.now.limit in
     let stop : Stop = c.in_err-unpacked.field-0.0 in
     let is : c.from_residual-in_err-unpacked.result ≡ Err stop = search rules in
-    let same : c.pack_it.new.meter.limit ≡ limit = c.in_ok-packed.ensures.kept.limit in
+    let same : c.packed_by.new.meter.limit ≡ limit = c.in_ok-packed.ensures.kept.limit in
     let file : c.deref.result.now ≡ packed = search rules in
     subst (λ r. Stops rows (drill_takings rows c.args.codec) limit r) (sym is)
     (stops_later rows limit (file_takings (Pack (drill_options c.args.codec)) (drill_file rows) 4) (file_takings Unpack packed 4 ++ file_takings (Cut None (drill_sieve rows)) packed 4) _ (Unit {0}) _ _ stop c.in_ok-packed.ensures.stops
@@ -40,8 +40,8 @@ returns-in_err-cut-clause-stops g c =
     let limit : ℕ = c.args.meter.now.limit in
     let stop : Stop = c.in_err-cut.field-0.0 in
     let is : c.from_residual-in_err-cut.result ≡ Err stop = search rules in
-    let same : c.pack_it.new.meter.limit ≡ limit = c.in_ok-packed.ensures.kept.limit in
-    let also : c.unpacks.new.meter.limit ≡ limit = c.in_ok-unpacked.ensures.kept.limit ∙ same in
+    let same : c.packed_by.new.meter.limit ≡ limit = c.in_ok-packed.ensures.kept.limit in
+    let also : c.unpacks_to_file.new.meter.limit ≡ limit = c.in_ok-unpacked.ensures.kept.limit ∙ same in
     let file : c.deref.result.now ≡ packed = search rules in
     let again : c.deref-2.result.now ≡ packed = search rules in
     subst (λ r. Stops rows (drill_takings rows c.args.codec) limit r) (sym is)
@@ -55,8 +55,8 @@ returns-clause-stops g c =
     let rows : ℕ = c.args.files.now.rows in
     let packed : List ℕ = drill_packed rows c.args.codec in
     let limit : ℕ = c.args.meter.now.limit in
-    let same : c.pack_it.new.meter.limit ≡ limit = c.in_ok-packed.ensures.kept.limit in
-    let also : c.unpacks.new.meter.limit ≡ limit = c.in_ok-unpacked.ensures.kept.limit ∙ same in
+    let same : c.packed_by.new.meter.limit ≡ limit = c.in_ok-packed.ensures.kept.limit in
+    let also : c.unpacks_to_file.new.meter.limit ≡ limit = c.in_ok-unpacked.ensures.kept.limit ∙ same in
     let file : c.deref.result.now ≡ packed = search rules in
     let again : c.deref-2.result.now ≡ packed = search rules in
     stops_none rows limit (file_takings (Pack (drill_options c.args.codec)) (drill_file rows) 4) (file_takings Unpack packed 4 ++ file_takings (Cut None (drill_sieve rows)) packed 4) _ _ _ _ _ _ c.in_ok-packed.ensures.stops

@@ -7,7 +7,7 @@ use Rattle.fz_files.specs.declared.job.Job.TheVariants.{Pack}
 use Rattle.fz_drill.specs.Jobs.{Packs}
 use Rattle.fz_drill.specs.Outcomes.{Stops}
 use Rattle.fz_drill.proofs.Ends.{IsSafe, stops_from}
-use Rattle.fz_drill.proofs.parts.pack_it.Goals as goal
+use Rattle.fz_drill.proofs.parts.packed_by.Goals as goal
 
 pub returns-clause-stops : goal.returns-clause-stops
 returns-clause-stops g c =

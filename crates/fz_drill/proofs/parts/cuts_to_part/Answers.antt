@@ -10,7 +10,7 @@ use Rattle.fz_files.specs.declared.job.Job.TheVariants.{Cut}
 use Rattle.fz_drill.specs.Jobs.{Cuts}
 use Rattle.fz_drill.specs.Outcomes.{Stops}
 use Rattle.fz_drill.proofs.Ends.{IsSafe, stops_from}
-use Rattle.fz_drill.proofs.parts.cuts.Goals as goal
+use Rattle.fz_drill.proofs.parts.cuts_to_part.Goals as goal
 
 pub returns-clause-stops : goal.returns-clause-stops
 returns-clause-stops g c =

@@ -9,7 +9,7 @@ use Rattle.fz_files.specs.declared.job.Job.TheVariants.{Unpack}
 use Rattle.fz_drill.specs.Jobs.{Unpacks}
 use Rattle.fz_drill.specs.Outcomes.{Stops}
 use Rattle.fz_drill.proofs.Ends.{IsSafe, stops_from}
-use Rattle.fz_drill.proofs.parts.unpacks.Goals as goal
+use Rattle.fz_drill.proofs.parts.unpacks_to_file.Goals as goal
 
 pub returns-clause-stops : goal.returns-clause-stops
 returns-clause-stops g c =
