@@ -137,6 +137,7 @@ fn with_block<R: Threads + Sync, S: Source, K: Sink, G: Gate>(
     let region = box_of(sieve);
     let survey = survey_to_cut(source, length, meter, block, hdu, &region)?;
     let Some(from) = &survey.stopped else {
+        // A survey for a cut ends at the HDU that is cut from, or it is refused.
         unreachable!()
     };
     work(
