@@ -2,8 +2,8 @@
 
 ghost use Rattle.std.specs.Prelude.{◌≡◌, ℕ, ◌<◌, ◌≤◌, IsTrue, slice_index};
 ghost use Rattle.fz_grid.specs.Region.{IsDivided, IsPlaceOf, IsShape, IsWithin};
-ghost use Rattle.fz_grid.specs.Sieve.{IsSieveOf};
 
+use crate::lawful::{is_within, sifts};
 use fz_block::Axes;
 use fz_grid::{
     Grid, Region, Runs, Sieve, coordinates, index, one_tile_law, overlap_law, picks, place_law,
@@ -55,28 +55,6 @@ fn divides(shape: &Axes, tile: &Axes) -> bool
     true
 }
 
-/// The region lies in the array, and has a pixel.
-fn is_within(shape: &Axes, region: &Region) -> bool
-    requires { IsShape shape.now }
-    ensures { IsTrue result → IsWithin shape.now region.now }
-{
-    if region.n != shape.n {
-        return false;
-    }
-    for i in 0..shape.n as usize {
-        if region.len[i] < 1 {
-            return false;
-        }
-        if region.lo[i] > shape.len[i] {
-            return false;
-        }
-        if region.len[i] > shape.len[i] - region.lo[i] {
-            return false;
-        }
-    }
-    true
-}
-
 /// These are coordinates of a pixel of the array.
 fn is_place(shape: &Axes, at: &[u32; 9]) -> bool
     requires { IsShape shape.now }
@@ -84,28 +62,6 @@ fn is_place(shape: &Axes, at: &[u32; 9]) -> bool
 {
     for i in 0..shape.n as usize {
         if at[i] >= shape.len[i] {
-            return false;
-        }
-    }
-    true
-}
-
-/// The sieve has a pick along each axis of the array, and none behind it.
-fn sifts(shape: &Axes, sieve: &Sieve) -> bool
-    requires { IsShape shape.now }
-    ensures { IsTrue result → IsSieveOf shape.now sieve.now }
-{
-    if sieve.n != shape.n {
-        return false;
-    }
-    for i in 0..shape.n as usize {
-        if sieve.lo[i] > sieve.hi[i] {
-            return false;
-        }
-        if sieve.hi[i] >= shape.len[i] {
-            return false;
-        }
-        if sieve.step[i] < 1 {
             return false;
         }
     }

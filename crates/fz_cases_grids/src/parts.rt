@@ -3,10 +3,11 @@
 ghost use Rattle.std.specs.Prelude.{◌≡◌, ◌<◌, IsTrue};
 ghost use Rattle.fz_grid.specs.Grid.{tile_count};
 ghost use Rattle.fz_grid.specs.Overlap.{has_pixel};
-ghost use Rattle.fz_grid.specs.Region.{IsShape, IsWithin, lengths_of};
+ghost use Rattle.fz_grid.specs.Region.{IsShape, lengths_of};
 ghost use Rattle.fz_grid.specs.Sieve.{IsSieve, IsSieveOf};
 ghost use Rattle.fz_parts.specs.Cutout.{part_lengths};
 
+use crate::lawful::{is_within, sifts};
 use fz_block::Axes;
 use fz_grid::{Grid, Region, Sieve, runs, tile_counts};
 use fz_parts::{Line, cutout_axes, cutout_law, tile_lines, whole_lines};
@@ -74,50 +75,6 @@ fn plane(lo: [u32; 2], hi: [u32; 2], step: [u32; 2]) -> Sieve {
         hi: [hi[0], hi[1], 0, 0, 0, 0, 0, 0, 0],
         step: [step[0], step[1], 0, 0, 0, 0, 0, 0, 0],
     }
-}
-
-/// The sieve has a pick along each axis of the array, and none behind it.
-fn sifts(shape: &Axes, sieve: &Sieve) -> bool
-    requires { IsShape shape.now }
-    ensures { IsTrue result → IsSieveOf shape.now sieve.now }
-{
-    if sieve.n != shape.n {
-        return false;
-    }
-    for i in 0..shape.n as usize {
-        if sieve.lo[i] > sieve.hi[i] {
-            return false;
-        }
-        if sieve.hi[i] >= shape.len[i] {
-            return false;
-        }
-        if sieve.step[i] < 1 {
-            return false;
-        }
-    }
-    true
-}
-
-/// The region lies in the array, and has a pixel.
-fn is_within(shape: &Axes, region: &Region) -> bool
-    requires { IsShape shape.now }
-    ensures { IsTrue result → IsWithin shape.now region.now }
-{
-    if region.n != shape.n {
-        return false;
-    }
-    for i in 0..shape.n as usize {
-        if region.len[i] < 1 {
-            return false;
-        }
-        if region.lo[i] > shape.len[i] {
-            return false;
-        }
-        if region.len[i] > shape.len[i] - region.lo[i] {
-            return false;
-        }
-    }
-    true
 }
 
 /// The lengths of the grid's array, which a call takes.

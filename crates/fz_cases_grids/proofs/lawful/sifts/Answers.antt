@@ -1,5 +1,5 @@
 use Rattle.std.proofs.Common.{arith}
-use Rattle.fz_cases_grids.proofs.grid.sifts.Goals as goal
+use Rattle.fz_cases_grids.proofs.lawful.sifts.Goals as goal
 
 pub returns : goal.returns
 returns c =

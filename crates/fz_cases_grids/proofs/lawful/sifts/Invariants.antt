@@ -1,5 +1,5 @@
 use Rattle.std.proofs.Common.{ℕ, ◌<◌, ◌≤◌, get_or}
-use Rattle.fz_cases_grids.proofs.parts.sifts.Given as goal
+use Rattle.fz_cases_grids.proofs.lawful.sifts.Given as goal
 
 abbrev pub invariant-loop-i : goal.invariant-loop-i
 invariant-loop-i l =

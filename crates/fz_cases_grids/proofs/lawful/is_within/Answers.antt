@@ -1,12 +1,11 @@
 use Rattle.std.proofs.Common.{arith}
-use Rattle.fz_cases_grids.proofs.parts.sifts.Goals as goal
+use Rattle.fz_cases_grids.proofs.lawful.is_within.Goals as goal
 
 pub returns : goal.returns
 returns c =
     λ _.
     record {
       same_axes = omega arith;
-      ordered = λ i h. (c.loop-i.invariant i (omega arith)).0;
+      positive = λ i h. (c.loop-i.invariant i (omega arith)).0;
       inside = λ i h. (c.loop-i.invariant i (omega arith)).1;
-      positive = λ i h. (c.loop-i.invariant i (omega arith)).2;
     }
