@@ -2,6 +2,7 @@
 ghost use Rattle.std.specs.Prelude.{◌≡◌, ℕ, ◌<◌, ◌≤◌, length, All, IfOk, vec_len};
 ghost use Rattle.fz_rice.specs.Numbers.{IsWidth, IsNumber};
 
+use crate::random::next_word;
 use fz_bits::Full;
 use fz_rice::{CodeFault, Coder, one_code_law, producer_law, reading_law, round_trip_law};
 use std::alloc::{AllocError, Global};
@@ -130,13 +131,6 @@ fn answers_of_decode(rt: HostRuntime) {
     );
     let none: &mut [i32] = &mut [];
     assert_eq!(rt; Coder::<16>::decode(&[0x12, 0x34, 0x56], 32, none), Ok(2));
-}
-
-/// The next of a sequence of random words (a xorshift).
-fn next_word(word: u32) -> u32 {
-    let word = word ^ (word << 13);
-    let word = word ^ (word >> 17);
-    word ^ (word << 5)
 }
 
 /// The number of `W` bits in which a word ends: unsigned at 8, else in two's complement.

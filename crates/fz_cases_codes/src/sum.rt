@@ -1,6 +1,7 @@
 //! Rows worked out outside of the crate, and byte lists that are added in pieces.
 ghost use Rattle.std.specs.Prelude.{◌≡◌, ◌+◌, ◌<◌, ◌^◌, length};
 
+use crate::random::next_word;
 use fz_card::{Card, Name, int_card, text_card};
 use fz_sum::{
     Sum, Verdict, blank_checksum_card, characters, checksum_card, checksum_verdict, datasum_card,
@@ -184,13 +185,6 @@ fn verdicts_by_headers(rt: HostRuntime) {
         assert_eq!(rt; checksum_verdict(&buf, cards, sum), checksum);
     }
     assert_eq!(rt; datasum_verdict(&buf, 4, 8), Verdict::Wrong);
-}
-
-/// The next of a sequence of random words (a xorshift).
-fn next_word(word: u32) -> u32 {
-    let word = word ^ (word << 13);
-    let word = word ^ (word >> 17);
-    word ^ (word << 5)
 }
 
 /// Random bytes from a seed.
