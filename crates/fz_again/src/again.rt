@@ -1,0 +1,141 @@
+//! The header of an HDU, read once more, and the image that stands in the HDU.
+
+ghost use Rattle.std.specs.Prelude.{◌≡◌, ◌⊎◌, ◌<◌, ◌≤◌, Some, length as len, IfOk, IfSome};
+ghost use Rattle.fz_base.specs.Refusal.{refusal};
+ghost use Rattle.fz_base.specs.Stop.{IfRefused, ReadsOnly};
+ghost use Rattle.fz_base.specs.Told.{StaysTold};
+ghost use Rattle.fz_base.specs.declared.failure.Stop.TheVariants.{Refused};
+ghost use Rattle.fz_base.specs.declared.fault.Place.TheVariants.{Card as AtCard};
+ghost use Rattle.fz_base.specs.declared.kind.Kind.TheVariants.{BadCard};
+ghost use Rattle.fz_grid.specs.Region.{IsDivided};
+ghost use Rattle.fz_files.specs.Restored.{pixels_of};
+ghost use Rattle.fz_again.specs.Again.{IsAgain, ReadsAsSeen, is_larger as is_larger_of};
+ghost use Rattle.fz_job.specs.Clauses.{IsChanged};
+ghost use Rattle.fz_job.specs.Keeps.{SourceStays};
+
+use fz_base::{Fault, Kind, Place, Source, Stop, log_law};
+use fz_block::{BLOCK_LEN, Header, again_law, header_again};
+use fz_grid::Grid;
+use fz_head::{PackedImage, image_to_unpack};
+
+/// An HDU whose header was read once more.
+#[derive(Clone, Copy, Debug)]
+pub struct ReadHdu {
+    /// The facts of its header.
+    pub header: Header,
+    /// The image that stands in it, if it is packed.
+    pub image: Option<PackedImage>,
+}
+
+impl ReadHdu {
+    ghost use Rattle.std.specs.Prelude.{◌≡◌};
+    ghost use Rattle.fz_again.specs.Again.{is_empty_primary, was_primary_image};
+
+    /// Whether this is a primary with NAXIS 0.
+    pub fn is_empty_primary(&self) -> bool
+        ensures { result ≡ is_empty_primary self.now.header }
+    {
+        self.header.hdu == 0 && self.header.axes.n == 0
+    }
+
+    /// Whether the image that stands in the HDU was a primary.
+    pub fn was_primary(&self) -> bool
+        ensures { result ≡ was_primary_image self.now.image }
+    {
+        match &self.image {
+            Some(image) => image.plan.primary,
+            None => false,
+        }
+    }
+}
+
+/// Reads the header of an HDU once more, into the first bytes of a buffer, and finds its image, whose tiles have at
+/// most so many pixels. `after_empty` says that this is HDU 1 after a primary with NAXIS 0.
+///
+/// Refused: only where the source gives other bytes than before, and then with BadCard at card 0 of the HDU.
+pub fn read_again<S: Source>(
+    source: &mut S,
+    length: u64,
+    hdu: u32,
+    start: u64,
+    after_empty: bool,
+    tile: u32,
+    block: &mut [u8],
+    buf: &mut [u8],
+) -> Result<ReadHdu, Stop>
+    requires attached { S.attached source.old ≡ Some length }
+    requires within { (start < length) ⊎ ((hdu ≡ 0) × (start ≡ 0)) }
+    requires block { len block.old ≡ 2880 }
+    ensures again { IfOk result (IsAgain (S.held source.old) length buf.new) }
+    ensures place { IfOk result (λ a. (a.header.hdu ≡ hdu) × (a.header.start ≡ start)) }
+    ensures small { IfOk result (λ a. IfSome a.image (λ i. pixels_of i.plan 0 ≤ tile)) }
+    ensures as_seen { IfSome (S.held source.old) (λ g. ReadsAsSeen g hdu start after_empty (len buf.old) tile result) }
+    ensures refused { IfRefused result IsChanged }
+    ensures block { len block.new ≡ 2880 }
+    ensures buf { len buf.new ≡ len buf.old }
+    ensures source { SourceStays (S.held source.old) (S.held source.new) (S.attached source.old) (S.attached source.new) }
+    ensures told { StaysTold (S.ranges source.old) (S.ranges source.new) }
+    ensures cause { ReadsOnly (S.tally source.old) (S.tally source.new) result }
+{
+    match read_image(source, length, hdu, start, after_empty, tile, block, buf) {
+        Err(Stop::Refused(_)) => Err(changed(hdu)),
+        answer => answer,
+    }
+}
+
+// The same, refused as the header is that was read.
+fn read_image<S: Source>(
+    source: &mut S,
+    length: u64,
+    hdu: u32,
+    start: u64,
+    after_empty: bool,
+    tile: u32,
+    block: &mut [u8],
+    buf: &mut [u8],
+) -> Result<ReadHdu, Stop>
+    requires attached { S.attached source.old ≡ Some length }
+    requires within { (start < length) ⊎ ((hdu ≡ 0) × (start ≡ 0)) }
+    requires block { len block.old ≡ 2880 }
+    ensures again { IfOk result (IsAgain (S.held source.old) length buf.new) }
+    ensures place { IfOk result (λ a. (a.header.hdu ≡ hdu) × (a.header.start ≡ start)) }
+    ensures small { IfOk result (λ a. IfSome a.image (λ i. pixels_of i.plan 0 ≤ tile)) }
+    ensures as_seen { IfSome (S.held source.old) (λ g. ReadsAsSeen g hdu start after_empty (len buf.old) tile result) }
+    ensures block { len block.new ≡ 2880 }
+    ensures buf { len buf.new ≡ len buf.old }
+    ensures source { SourceStays (S.held source.old) (S.held source.new) (S.attached source.old) (S.attached source.new) }
+    ensures told { StaysTold (S.ranges source.old) (S.ranges source.new) }
+    ensures cause { ReadsOnly (S.tally source.old) (S.tally source.new) result }
+{
+    again_law();
+    log_law();
+    let header = header_again(source, length, hdu, start, block, buf)?;
+    let buf = &buf[..BLOCK_LEN * header.blocks as usize];
+    let image = image_to_unpack(buf, &header, after_empty).map_err(Stop::Refused)?;
+    if is_larger(&image, tile) {
+        return Err(changed(hdu));
+    }
+    Ok(ReadHdu { header, image })
+}
+
+// Whether the tiles have more pixels than those that were met before.
+fn is_larger(image: &Option<PackedImage>, tile: u32) -> bool
+    requires { IfSome image.now (λ i. IsDivided i.plan.shape i.plan.tile) }
+    ensures { result ≡ is_larger_of tile image.now }
+{
+    match image {
+        Some(image) => Grid::new(image.plan.shape, image.plan.tile).largest() > tile,
+        None => false,
+    }
+}
+
+// The source gave other bytes than before.
+fn changed(hdu: u32) -> Stop
+    ensures { result ≡ Refused (refusal hdu (AtCard 0) BadCard) }
+{
+    Stop::Refused(Fault {
+        hdu,
+        at: Place::Card(0),
+        kind: Kind::BadCard,
+    })
+}

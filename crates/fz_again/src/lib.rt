@@ -1,0 +1,11 @@
+//! A header of an HDU, read once more behind the first look at all headers, and the image that stands in the HDU; and
+//! what the first look says of a file.
+//!
+//! Reading order: `again`, `law`.
+#![tactic(auto)]
+
+mod again;
+mod law;
+
+pub use again::{ReadHdu, read_again};
+pub use law::known_law;
