@@ -20,8 +20,9 @@ use Rattle.fz_survey.specs.declared.checks.JobChecks.TheVariants.{Unpack as Unpa
 use Rattle.fz_survey.specs.declared.survey.Survey.{Survey}
 use Rattle.fz_unpack.specs.Output.{HoldsRestored}
 use Rattle.fz_job.specs.Clauses.{ComesLate, IfOverLimit, IsShutOrWhole, IsUnmade, TellsFirstFault}
-use Rattle.fz_unpack.specs.Stages.{IsKnown, SurveysKnow, later_takings, wants_for}
-use Rattle.fz_unpack.specs.Written.{AreRestored, AreShutOrWhole, FinishesSeen, IsList}
+use Rattle.fz_unpack.specs.Stages.{later_takings, wants_for}
+use Rattle.fz_again.specs.Known.{IsKnown, IsList, SurveysKnow}
+use Rattle.fz_unpack.specs.Written.{AreRestored, AreShutOrWhole, FinishesSeen}
 use Rattle.fz_unpack.proofs.Outcomes.{refused_weaker}
 use Rattle.fz_unpack.proofs.Rows.{rows_sound}
 use Rattle.fz_unpack.proofs.Takings.{look_within, work_tells, work_within}
@@ -30,14 +31,14 @@ use Rattle.fz_unpack.proofs.Takings.{look_within, work_tells, work_within}
 abbrev pub Knows : Survey → List ℕ → Type 0
 Knows s g = surveyed UnpackChecks g ≡ Ok s
 
-module _ (know : SurveysKnow) (s : Survey) where
+module _ (know : SurveysKnow Unpack) (s : Survey) where
   -- no row of a file that was restored is refused
-  no_fault_of : (g : List ℕ) (known : IsKnown g s) (c : Option (List ℕ)) → AreRestored g known.headers c → IsFirstFault Unpack g None
+  no_fault_of : (g : List ℕ) (known : IsKnown Unpack g s) (c : Option (List ℕ)) → AreRestored g known.headers c → IsFirstFault Unpack g None
   no_fault_of g known c is =
       let rows : IsFirstRowFault g (all_rows g known.headers) None = rows_sound g s.header_len s.tile known.headers is.bytes known.seen.seen is.stand in
       subst (λ (f : Option Fault). IsFaultBehind f Unpack g None) (sym known.no_fault) (subst (λ (hs : List Header). IsFirstRowFault g (all_rows g hs) None) (sym known.are) rows)
 
-  by_contents : (g : List ℕ) (known : IsKnown g s) (c : Option (List ℕ)) → AreRestored g known.headers c → IfSome c (StandsFor g)
+  by_contents : (g : List ℕ) (known : IsKnown Unpack g s) (c : Option (List ℕ)) → AreRestored g known.headers c → IfSome c (StandsFor g)
   by_contents g known None is = tt
   by_contents g known (Some bytes) is = record {
     sound = no_fault_of g known (Some bytes) is;

@@ -16,10 +16,10 @@ use Rattle.fz_head.specs.PlainHeader.{plain_header, was_primary}
 use Rattle.fz_head.specs.declared.job_checks.PackedImage.{PackedImage}
 use Rattle.fz_files.specs.Restored.{StandsForAs, header_in, is_image, is_packed_primary}
 use Rattle.fz_fetch.specs.Images.{IsSaid}
-use Rattle.fz_unpack.specs.Again.{IsAgain, header_at_front, was_primary_image}
+use Rattle.fz_again.specs.Again.{IsAgain, header_at_front, was_primary_image}
 use Rattle.fz_job.specs.Behind.{HoldsCopy}
 use Rattle.fz_unpack.specs.Behind.{HoldsHdu, HoldsImage}
-use Rattle.fz_unpack.specs.declared.again.Again.{Again}
+use Rattle.fz_again.specs.declared.again.ReadHdu.{ReadHdu}
 
 -- ---- what the checks answer
 
@@ -48,7 +48,7 @@ primary_by : (b : Bool) (h : Header) (header : List ℕ) → was_primary_image (
 primary_by true h header = primary_said (cards_of header)
 primary_by false h header = refl
 
-module _ (held : Option (List ℕ)) (n : ℕ) (buf : List ℕ) (a : Again) (w : IsAgain held n buf a) where
+module _ (held : Option (List ℕ)) (n : ℕ) (buf : List ℕ) (a : ReadHdu) (w : IsAgain held n buf a) where
   -- its header in the file is the one that was read
   pub header_there : (g : List ℕ) → held ≡ Some g → header_in g a.header ≡ header_at_front a buf
   header_there g told =
@@ -110,7 +110,7 @@ is_said_by true q i is = cc
 is_said_by false q i is = absurd cc
 
 module _ (held : Option (List ℕ)) (n : ℕ) (buf : List ℕ) (h : Header) (i : PackedImage) (w : IsAgain held n buf (record { header = h; image = Some i })) where
-  abbrev read_once_more : Again
+  abbrev read_once_more : ReadHdu
   read_once_more = record { header = h; image = Some i }
 
   pub said_again : IfSome held (λ g. IsSaid g h i)

@@ -19,7 +19,8 @@ use Rattle.fz_survey.specs.Surveys.{survey_takings, surveyed}
 use Rattle.fz_survey.specs.declared.checks.JobChecks.TheVariants.{Unpack as UnpackChecks}
 use Rattle.fz_survey.specs.declared.survey.Survey.{Survey}
 use Rattle.fz_job.specs.Clauses.{ComesLate, IfOverLimit, IsShutOrWhole, IsUnmade, TellsFirstFault}
-use Rattle.fz_unpack.specs.Stages.{SurveysRefuse, later_takings}
+use Rattle.fz_again.specs.Known.{SurveysRefuse}
+use Rattle.fz_unpack.specs.Stages.{later_takings}
 use Rattle.fz_unpack.specs.Written.{AreShutOrWhole, FinishesSeen}
 use Rattle.fz_unpack.proofs.Takings.{look_tells, look_within}
 
@@ -103,7 +104,7 @@ Knows s g = surveyed UnpackChecks g ≡ Ok s
 
 module _ (held : Option (List ℕ)) where
   -- it stopped
-  pub look_faulty : SurveysRefuse → (X : Type 0) (stop : Stop) → IfSome held (λ g. IsDefined {X = Survey} (surveyed UnpackChecks g) (Err stop)) → TellsFirstFault {X = X} Unpack held (Err stop)
+  pub look_faulty : SurveysRefuse Unpack → (X : Type 0) (stop : Stop) → IfSome held (λ g. IsDefined {X = Survey} (surveyed UnpackChecks g) (Err stop)) → TellsFirstFault {X = X} Unpack held (Err stop)
   look_faulty refuse X (Refused x) exact = by_held held exact
     where
       by_held : (told : Option (List ℕ)) → IfSome told (λ g. surveyed UnpackChecks g ≡ Err x) → IfSome told (λ g. IsFaultBehind (header_fault Unpack g) Unpack g (Some x))
@@ -114,7 +115,7 @@ module _ (held : Option (List ℕ)) where
   look_faulty refuse X (OverLimit live asked limit) exact = tt
   look_faulty refuse X NoMemory exact = tt
 
-  pub look_takes : SurveysRefuse → (X : Type 0) (W live limit : ℕ) (stop : Stop) (before now : Tally) → live ≡ 2880 → StoppedTaking before now limit stop → IfSome held (λ g. IsDefined {X = Survey} (surveyed UnpackChecks g) (Err stop)) →
+  pub look_takes : SurveysRefuse Unpack → (X : Type 0) (W live limit : ℕ) (stop : Stop) (before now : Tally) → live ≡ 2880 → StoppedTaking before now limit stop → IfSome held (λ g. IsDefined {X = Survey} (surveyed UnpackChecks g) (Err stop)) →
       IfSome held (λ g. TellsFirstPast {X = Survey} limit (survey_takings UnpackChecks live g) (Err stop)) → IfSome held (λ g. TellsFirstPast {X = X} limit (later_takings g W) (Err stop))
   look_takes refuse X W live limit stop before now one cause exact tells = by_held held exact tells
     where

@@ -24,11 +24,12 @@ use Rattle.fz_files.specs.FirstFault.{IsFirstRowFault, all_rows}
 use Rattle.fz_files.specs.Packed.{pixel_bits, zero_filled}
 use Rattle.fz_files.specs.Restored.{HdusStandFor, StandsForAs, header_in, is_image, is_packed_primary, plan_in, standing}
 use Rattle.fz_survey.specs.declared.survey.Survey.{Survey}
-use Rattle.fz_unpack.specs.Again.{WasSeen, WereSeen}
+use Rattle.fz_again.specs.Again.{WasSeen, WereSeen}
 use Rattle.fz_job.specs.Behind.{written_behind}
 use Rattle.fz_unpack.specs.Behind.{HoldsHdus, RestoresSeen}
 use Rattle.fz_unpack.specs.Laws.{PrimariesBegin}
-use Rattle.fz_unpack.specs.Written.{AreRestored, AreShutOrWhole, FinishesSeen, IsList}
+use Rattle.fz_again.specs.Known.{IsList}
+use Rattle.fz_unpack.specs.Written.{AreRestored, AreShutOrWhole, FinishesSeen}
 use Rattle.fz_unpack.proofs.Rows.{primary_plain}
 
 -- ---- the first byte

@@ -9,10 +9,10 @@ use Rattle.fz_block.specs.declared.header.Header.{Header}
 use Rattle.fz_head.specs.JobChecks.{is_after_empty}
 use Rattle.fz_head.specs.PlainHeader.{was_primary}
 use Rattle.fz_files.specs.Restored.{header_in, is_image, is_packed_primary}
-use Rattle.fz_unpack.specs.Again.{IsAgain, ReadsAsSeen, WasSeen, is_empty_primary, was_primary_image}
+use Rattle.fz_again.specs.Again.{IsAgain, ReadsAsSeen, WasSeen, is_empty_primary, was_primary_image}
 use Rattle.fz_unpack.specs.First.{FindsFirst, behind_primary, first_of, the_primary}
 use Rattle.fz_unpack.specs.Laws.{PrimariesAreBehind}
-use Rattle.fz_unpack.specs.declared.again.Again.{Again}
+use Rattle.fz_again.specs.declared.again.ReadHdu.{ReadHdu}
 use Rattle.fz_unpack.specs.declared.first.First.{First}
 use Rattle.fz_unpack.proofs.Begun.{none_behind_it, one_behind}
 use Rattle.fz_unpack.proofs.Images.{primary_is}
@@ -37,9 +37,9 @@ module _ (file : List ℕ) (header_len tile : ℕ) where
   -- the primary was not read
   pub not_read : (stop : Stop) → ReadsAsSeen file 0 0 false header_len tile (Err stop) → FindsFirst file header_len tile (Err stop)
   not_read stop again [] seen some = absurd (omega (arith, some))
-  not_read stop again (h ∷ hs) seen some = (not_refused Again First stop (again h seen.0 (none_behind_it file header_len tile h 0 seen.0)).0 (λ x. ⊥), tt)
+  not_read stop again (h ∷ hs) seen some = (not_refused ReadHdu First stop (again h seen.0 (none_behind_it file header_len tile h 0 seen.0)).0 (λ x. ⊥), tt)
 
-  module _ (a : Again) (again : ReadsAsSeen file 0 0 false header_len tile (Ok a)) where
+  module _ (a : ReadHdu) (again : ReadsAsSeen file 0 0 false header_len tile (Ok a)) where
     same : (h : Header) → WasSeen file 0 0 header_len tile h → a.header ≡ h
     same h seen = (again h seen (none_behind_it file header_len tile h 0 seen)).1
 
@@ -75,9 +75,9 @@ module _ (file : List ℕ) (header_len tile : ℕ) where
       pub next_not_read : (stop : Stop) → ReadsAsSeen file 1 start true header_len tile (Err stop) → FindsFirst file header_len tile (Err stop)
       next_not_read stop next [] seen some = absurd (omega (arith, some))
       next_not_read stop next (h ∷ []) seen some = absurd (one_more h seen.0 seen.1)
-      next_not_read stop next (h ∷ k ∷ hs) seen some = (not_refused Again First stop (next k (there h k seen.0 seen.1.0) (flag h k seen.0 seen.1.0)).0 (λ x. ⊥), tt)
+      next_not_read stop next (h ∷ k ∷ hs) seen some = (not_refused ReadHdu First stop (next k (there h k seen.0 seen.1.0) (flag h k seen.0 seen.1.0)).0 (λ x. ⊥), tt)
 
-      module _ (held : Option (List ℕ)) (n : ℕ) (buf : List ℕ) (b : Again) (w : IsAgain held n buf b) (told : held ≡ Some file) (next : ReadsAsSeen file 1 start true header_len tile (Ok b)) where
+      module _ (held : Option (List ℕ)) (n : ℕ) (buf : List ℕ) (b : ReadHdu) (w : IsAgain held n buf b) (told : held ≡ Some file) (next : ReadsAsSeen file 1 start true header_len tile (Ok b)) where
         primary_of : (h k : Header) → WasSeen file 0 0 header_len tile h → WasSeen file 1 (next_start_of h) header_len tile k → was_primary_image b.image ≡ is_packed_primary file k
         primary_of h k seen later = primary_is held n buf b w file told ∙ ap (is_packed_primary file) (next k (there h k seen later) (flag h k seen later)).1
 
@@ -104,7 +104,7 @@ module _ (header_len tile : ℕ) where
   if_not_read None stop again = tt
   if_not_read (Some g) stop again = not_read g header_len tile stop again
 
-  module _ (a : Again) where
+  module _ (a : ReadHdu) where
     pub if_ends : (held : Option (List ℕ)) (n : ℕ) → HoldsLength held n → next_start_of a.header ≡ n → IfSome held (λ g. ReadsAsSeen g 0 0 false header_len tile (Ok a)) → IfSome held (λ g. FindsFirst g header_len tile (Ok the_primary))
     if_ends None n told ends again = tt
     if_ends (Some g) n told ends again = ends_there g header_len tile a again (omega (arith, told, ends))
@@ -119,7 +119,7 @@ module _ (header_len tile : ℕ) where
       if_next_not_read None stop told again next = tt
       if_next_not_read (Some g) stop told again next = next_not_read g header_len tile a again start place (λ ends. more (omega (arith, ends, told))) empty stop next
 
-      module _ (buf : List ℕ) (b : Again) where
+      module _ (buf : List ℕ) (b : ReadHdu) where
         pub if_plain : (held : Option (List ℕ)) → HoldsLength held n → IfSome held (λ g. ReadsAsSeen g 0 0 false header_len tile (Ok a)) → IsAgain held n buf b →
             IfSome held (λ g. ReadsAsSeen g 1 start true header_len tile (Ok b)) → was_primary_image b.image ≡ false → IfSome held (λ g. FindsFirst g header_len tile (Ok the_primary))
         if_plain None told again w next none = tt

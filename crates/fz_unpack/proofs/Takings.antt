@@ -17,12 +17,13 @@ use Rattle.fz_files.specs.Buffers.{AreBounded, header_takings, job_bound, job_ta
 use Rattle.fz_files.specs.Walks.{header_fault}
 use Rattle.fz_files.specs.declared.job.Job.TheVariants.{Unpack}
 use Rattle.fz_survey.proofs.Outcomes.{highest_both, past_none, past_some}
+use Rattle.fz_survey.specs.Judges.{judge_of}
 use Rattle.fz_survey.specs.Surveys.{survey_takings, surveyed}
 use Rattle.fz_survey.specs.Workspace.{StaysInBound, wanted_buffers}
 use Rattle.fz_survey.specs.declared.checks.JobChecks.TheVariants.{Unpack as UnpackChecks}
 use Rattle.fz_survey.specs.declared.survey.Survey.{Survey}
-use Rattle.fz_unpack.specs.Stages.{IsKnown, SurveysRefuse, later_takings, wants_for}
-use Rattle.fz_unpack.proofs.Known.{same_judge}
+use Rattle.fz_again.specs.Known.{IsKnown, SurveysRefuse}
+use Rattle.fz_unpack.specs.Stages.{later_takings, wants_for}
 use Rattle.fz_head.specs.Judges.{unpack_judge}
 
 -- ---- lists of takings
@@ -62,6 +63,11 @@ tells_short X Y limit ts (PastLimit live asked told) tells = tells
 
 -- ---- those of the first look
 
+-- both name the same checks
+same_judge : (file : List ℕ) → judge_of UnpackChecks file ≡ unpack_judge file
+unfolding judge_of
+same_judge file = refl
+
 same_takings : (file : List ℕ) (live : ℕ) → live ≡ 2880 → survey_takings UnpackChecks live file ≡ header_takings Unpack file
 same_takings file live is =
     ap (λ (j : Judge). walk_takings j live 65536 0 0 file) (same_judge file) ∙ ap (λ n. walk_takings (unpack_judge file) n 65536 0 0 file) is
@@ -85,7 +91,7 @@ module _ (file : List ℕ) (W live : ℕ) (one : live ≡ 2880) where
       past_none limit (header_takings Unpack file) (work_takings (header_fault Unpack file) Unpack file W) first
       ∙ ap (first_past limit) (none_later x is)
 
-  pub look_tells : SurveysRefuse → (X : Type 0) (limit : ℕ) (stop : Stop) (before now : Tally) → StoppedTaking before now limit stop → IsDefined {X = Survey} (surveyed UnpackChecks file) (Err stop) →
+  pub look_tells : SurveysRefuse Unpack → (X : Type 0) (limit : ℕ) (stop : Stop) (before now : Tally) → StoppedTaking before now limit stop → IsDefined {X = Survey} (surveyed UnpackChecks file) (Err stop) →
       TellsFirstPast {X = Survey} limit (survey_takings UnpackChecks live file) (Err stop) → TellsFirstPast {X = X} limit (later_takings file W) (Err stop)
   look_tells refuse X limit (Refused x) before now cause exact tells = look_refuses limit x (refuse file x exact) tells
   look_tells refuse X limit ReadFault before now cause exact tells = tt
@@ -96,19 +102,19 @@ module _ (file : List ℕ) (W live : ℕ) (one : live ≡ 2880) where
 
   -- ---- those of the work
 
-  work_is : (s : Survey) → IsKnown file s → work_takings (header_fault Unpack file) Unpack file W ≡ piled live (wanted_buffers (wants_for s) W)
+  work_is : (s : Survey) → IsKnown Unpack file s → work_takings (header_fault Unpack file) Unpack file W ≡ piled live (wanted_buffers (wants_for s) W)
   work_is s known =
       ap (λ (f : Option Fault). work_takings f Unpack file W) known.no_fault
       ∙ (λ i. piled (sym one i) (job_buffers Unpack (known.longest i) (known.largest i) W))
 
-  pub work_tells : {X : Type 0} (limit : ℕ) (s : Survey) (r : Result X Stop) → IsKnown file s → first_past limit (survey_takings UnpackChecks live file) ≡ None →
+  pub work_tells : {X : Type 0} (limit : ℕ) (s : Survey) (r : Result X Stop) → IsKnown Unpack file s → first_past limit (survey_takings UnpackChecks live file) ≡ None →
       TellsFirstPast limit (piled live (wanted_buffers (wants_for s) W)) r → TellsFirstPast limit (later_takings file W) r
   work_tells limit s r known none tells =
       let first : first_past limit (header_takings Unpack file) ≡ None = ap (first_past limit) (sym (same_takings file live one)) ∙ none in
       tells_after limit (header_takings Unpack file) (work_takings (header_fault Unpack file) Unpack file W) r first
       (subst (λ (ts : List (ℕ × ℕ)). TellsFirstPast limit ts r) (sym (work_is s known)) tells)
 
-  pub work_within : StaysInBound → (s : Survey) → IsKnown file s → live + sum (wanted_buffers (wants_for s) W) ≤ job_bound Unpack file W
+  pub work_within : StaysInBound → (s : Survey) → IsKnown Unpack file s → live + sum (wanted_buffers (wants_for s) W) ≤ job_bound Unpack file W
   work_within bound s known =
       let all = bound (wants_for s) W in
       let same : job_bound Unpack file W ≡ buffer_bound s.header_len s.tile W = λ i. buffer_bound (known.longest i) (known.largest i) W in

@@ -17,11 +17,11 @@ use Rattle.fz_block.specs.Header.{next_start_of}
 use Rattle.fz_block.specs.declared.header.Header.{Header}
 use Rattle.fz_files.specs.FirstFault.{IsFirstRowFault, all_rows}
 use Rattle.fz_files.specs.Restored.{HduStandsFor, HdusStandFor, standing}
-use Rattle.fz_unpack.specs.Again.{ReadsAsSeen, WereSeen, is_empty_primary}
+use Rattle.fz_again.specs.Again.{ReadsAsSeen, WereSeen, is_empty_primary}
 use Rattle.fz_job.specs.Behind.{written_behind}
 use Rattle.fz_unpack.specs.Behind.{AreWritten, HoldsHdu, HoldsHdus, IsHduFault, IsUnderway, RestoresSeen, SaysBehind}
 use Rattle.fz_unpack.specs.First.{FindsFirst}
-use Rattle.fz_unpack.specs.declared.again.Again.{Again}
+use Rattle.fz_again.specs.declared.again.ReadHdu.{ReadHdu}
 use Rattle.fz_unpack.specs.declared.first.First.{First}
 use Rattle.fz_unpack.proofs.Begun.{Begins, begins_with, next_flag}
 use Rattle.fz_unpack.proofs.Hdus.{AreOneWrite, both_behind, none_behind}
@@ -102,7 +102,7 @@ module _ (header_len tile hdus : ℕ) (before : Option (List ℕ)) where
         first = b.first;
       }
 
-  one_more : AreOneWrite → (g : List ℕ) (hs : List Header) (k start at end : ℕ) (flag flag' : Bool) (mid now : Option (List ℕ)) (a : Again) (w : AreWritten g header_len tile hs k start at flag before mid) → (rest : List Header) → w.rest ≡ rest → k < length hs →
+  one_more : AreOneWrite → (g : List ℕ) (hs : List Header) (k start at end : ℕ) (flag flag' : Bool) (mid now : Option (List ℕ)) (a : ReadHdu) (w : AreWritten g header_len tile hs k start at flag before mid) → (rest : List Header) → w.rest ≡ rest → k < length hs →
       ReadsAsSeen g k start flag header_len tile (Ok a) → HoldsHdu a.header g at end mid now → flag' ≡ is_empty_primary a.header →
       AreWritten g header_len tile hs (k + 1) (next_start_of a.header) end flag' before now
   one_more next g hs k start at end flag flag' mid now a w [] is few again holds says = absurd (omega (arith, w.count, ap length is, few))
@@ -128,7 +128,7 @@ module _ (header_len tile hdus : ℕ) (before : Option (List ℕ)) where
         first = λ e. absurd (omega (arith, e));
       }
 
-  pub more_written : AreOneWrite → (held : Option (List ℕ)) (k start at end : ℕ) (flag flag' : Bool) (mid now : Option (List ℕ)) (a : Again) → k < hdus →
+  pub more_written : AreOneWrite → (held : Option (List ℕ)) (k start at end : ℕ) (flag flag' : Bool) (mid now : Option (List ℕ)) (a : ReadHdu) → k < hdus →
       IfSome held (IsUnderway header_len tile hdus k start at flag before mid) → IfSome held (λ g. ReadsAsSeen g k start flag header_len tile (Ok a)) →
       IfSome held (λ g. HoldsHdu a.header g at end mid now) → flag' ≡ is_empty_primary a.header → IfSome held (IsUnderway header_len tile hdus (k + 1) (next_start_of a.header) end flag' before now)
   more_written next None k start at end flag flag' mid now a few was again holds says = tt
@@ -173,7 +173,7 @@ module _ (header_len tile hdus : ℕ) (before : Option (List ℕ)) where
 
   -- the next was refused only if it was not seen
   next_seen : (g : List ℕ) (hs : List Header) (k start at : ℕ) (flag : Bool) (mid : Option (List ℕ)) (stop : Stop) (w : AreWritten g header_len tile hs k start at flag before mid) (rest : List Header) → w.rest ≡ rest → k < length hs →
-      ReadsAsSeen g k start flag header_len tile (Err stop) → IfRefused {X = Again} (Err stop) (λ x. ⊥)
+      ReadsAsSeen g k start flag header_len tile (Err stop) → IfRefused {X = ReadHdu} (Err stop) (λ x. ⊥)
   next_seen g hs k start at flag mid stop w [] is few again = absurd (omega (arith, w.count, ap length is, few))
   next_seen g hs k start at flag mid stop w (h ∷ rest) is few again =
       let seen : WereSeen g header_len tile k start (h ∷ rest) = subst (λ l. WereSeen g header_len tile k start l) is w.seen in
@@ -187,7 +187,7 @@ module _ (header_len tile hdus : ℕ) (before : Option (List ℕ)) where
     restored = λ hs seen count. tt;
     first_fault = λ hs seen count.
         let w = was hs seen count in
-        not_refused Again X stop (next_seen g hs k start at flag mid stop w w.rest refl (omega (arith, few, count)) again) (λ x. IsFirstRowFault g (all_rows g hs) (Some x));
+        not_refused ReadHdu X stop (next_seen g hs k start at flag mid stop w w.rest refl (omega (arith, few, count)) again) (λ x. IsFirstRowFault g (all_rows g hs) (Some x));
   }
 
   -- the search for the first was refused only if the HDUs were not seen
@@ -199,7 +199,7 @@ module _ (header_len tile hdus : ℕ) (before : Option (List ℕ)) where
   }
 
   -- the first faulty row is refused
-  faulty_row : (g : List ℕ) (hs : List Header) (k start at : ℕ) (flag : Bool) (mid : Option (List ℕ)) (a : Again) (x : Fault) → WereSeen g header_len tile 0 0 hs → (w : AreWritten g header_len tile hs k start at flag before mid) (rest : List Header) → w.rest ≡ rest → k < length hs →
+  faulty_row : (g : List ℕ) (hs : List Header) (k start at : ℕ) (flag : Bool) (mid : Option (List ℕ)) (a : ReadHdu) (x : Fault) → WereSeen g header_len tile 0 0 hs → (w : AreWritten g header_len tile hs k start at flag before mid) (rest : List Header) → w.rest ≡ rest → k < length hs →
       ReadsAsSeen g k start flag header_len tile (Ok a) → IsHduFault g a.header x → IsFirstRowFault g (all_rows g hs) (Some x)
   faulty_row g hs k start at flag mid a x were w [] is few again fault = absurd (omega (arith, w.count, ap length is, few))
   faulty_row g hs k start at flag mid a x were w (h ∷ rest) is few again fault =
@@ -207,7 +207,7 @@ module _ (header_len tile hdus : ℕ) (before : Option (List ℕ)) where
       let same : a.header ≡ h = (again h seen.0 (subst (λ l. SaysBehind g flag l) is w.flag)).1 in
       fault_among g header_len tile hs w.done rest h w.bytes x were (w.parts ∙ ap (λ l. w.done ++ l) is) w.stand (subst (λ (j : Header). IsHduFault g j x) same fault)
 
-  pub stops_writing : (X : Type 0) (held : Option (List ℕ)) (stop : Stop) (k start at : ℕ) (flag : Bool) (mid now : Option (List ℕ)) (a : Again) → k < hdus →
+  pub stops_writing : (X : Type 0) (held : Option (List ℕ)) (stop : Stop) (k start at : ℕ) (flag : Bool) (mid now : Option (List ℕ)) (a : ReadHdu) → k < hdus →
       IfSome held (IsUnderway header_len tile hdus k start at flag before mid) → IfSome held (λ g. ReadsAsSeen g k start flag header_len tile (Ok a)) →
       IfRefused {X = ℕ} (Err stop) (λ x. IfSome held (λ g. IsHduFault g a.header x)) → IfSome held (λ g. RestoresSeen {X = X} g header_len tile hdus before now (Err stop))
   stops_writing X None stop k start at flag mid now a few was again fault = tt

@@ -10,7 +10,7 @@ use Rattle.fz_head.specs.JobChecks.{is_after_empty}
 use Rattle.fz_files.specs.FirstFault.{IsFirstRowFault, all_rows}
 use Rattle.fz_files.specs.Restored.{HduStandsFor, HdusStandFor, IsImageOf, standing}
 use Rattle.fz_job.specs.Behind.{HoldsBytes, written_behind}
-use Rattle.fz_unpack.specs.Again.{WereSeen}
+use Rattle.fz_again.specs.Again.{WereSeen}
 
 -- the image of a packed HDU was written
 pub record HoldsImage (h : Header) (file : List ℕ) (at end : ℕ) (before now : Option (List ℕ)) : Type 0 where

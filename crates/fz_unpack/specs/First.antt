@@ -5,7 +5,7 @@ use Rattle.fz_base.specs.declared.failure.Stop.{Stop}
 use Rattle.fz_block.specs.Header.{next_start_of}
 use Rattle.fz_block.specs.declared.header.Header.{Header}
 use Rattle.fz_files.specs.Restored.{is_packed_primary}
-use Rattle.fz_unpack.specs.Again.{WereSeen, is_empty_primary}
+use Rattle.fz_again.specs.Again.{WereSeen, is_empty_primary}
 use Rattle.fz_unpack.specs.declared.first.First.{First}
 
 -- it begins within so many bytes

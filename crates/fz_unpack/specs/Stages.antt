@@ -1,18 +1,13 @@
 -- What the parts of the job promise each other: all headers are looked at, then all buffers are taken, then the file is written.
-use Rattle.std.specs.Prelude.{ℕ, ◌≡◌, ◌+◌, ◌<◌, ◌≤◌, true, List, ◌++◌, Some, None, Ok, Err, Result, OnOk, IfErr, ⊤}
+use Rattle.std.specs.Prelude.{ℕ, ◌≡◌, ◌+◌, ◌<◌, true, List, ◌++◌, Some, Result, OnOk, IfErr, ⊤}
 use Rattle.fz_base.specs.Counts.{Rose, Tally, CountsKept}
 use Rattle.fz_base.specs.declared.failure.Stop.{Stop}
 use Rattle.fz_base.specs.declared.failure.Stop.TheVariants.{Refused, ReadFault, WriteFault, OverLimit, NoMemory}
-use Rattle.fz_base.specs.declared.fault.Fault.{Fault}
-use Rattle.fz_block.specs.declared.header.Header.{Header}
-use Rattle.fz_survey.specs.Surveys.{surveyed}
-use Rattle.fz_survey.specs.declared.checks.JobChecks.TheVariants.{Unpack as UnpackChecks}
 use Rattle.fz_survey.specs.declared.survey.Survey.{Survey}
 use Rattle.fz_survey.specs.declared.workspace.Wants.{Wants}
-use Rattle.fz_files.specs.Buffers.{header_takings, largest_tile, longest_header, work_takings}
-use Rattle.fz_files.specs.Walks.{header_fault, headers_for}
+use Rattle.fz_files.specs.Buffers.{header_takings, work_takings}
+use Rattle.fz_files.specs.Walks.{header_fault}
 use Rattle.fz_files.specs.declared.job.Job.TheVariants.{Unpack}
-use Rattle.fz_unpack.specs.Written.{IsList}
 
 -- what is wanted of the buffers behind the first look
 abbrev pub wants_for : Survey → Wants
@@ -37,23 +32,3 @@ pub record Works {X : Type 0} (source source' sink sink' : Tally) (limit : ℕ) 
   pub sink_kept : CountsKept sink sink'
   pub ok : OnOk result ((source' ≡ source) × (sink' ≡ sink))
   pub stop : IfErr result (StoppedWorking source source' sink sink' limit)
-
--- A file passed all checks, and this was learnt of it: its headers were seen, they are those that the job looks at, none is refused, and they
--- tell the longest header and the largest tile that the job meets.
-pub record IsKnown (file : List ℕ) (s : Survey) : Type 0 where
-  pub headers : List Header
-  pub seen : IsList file s headers
-  pub are : headers_for Unpack file ≡ headers
-  pub no_fault : header_fault Unpack file ≡ None
-  pub longest : longest_header Unpack file ≡ s.header_len
-  pub largest : largest_tile Unpack file ≡ s.tile
-
--- ---- what the law says
-
--- the first look knows the file
-abbrev pub SurveysKnow : Type 0
-SurveysKnow = (file : List ℕ) (s : Survey) → surveyed UnpackChecks file ≡ Ok s → IsKnown file s
-
--- and refuses it by its first fault
-abbrev pub SurveysRefuse : Type 0
-SurveysRefuse = (file : List ℕ) (x : Fault) → surveyed UnpackChecks file ≡ Err x → header_fault Unpack file ≡ Some x

@@ -1,5 +1,5 @@
 -- The restored file, written whole, or cut short (FITS 4.0, section 4.4.1.1).
-use Rattle.std.specs.Prelude.{ℕ, ◌≡◌, ◌⊎◌, List, length, Option, Some, IfSome, Result, OnOk, OnErr, IsErrOf}
+use Rattle.std.specs.Prelude.{ℕ, ◌≡◌, ◌⊎◌, List, Option, Some, IfSome, Result, OnOk, OnErr, IsErrOf}
 use Rattle.fz_base.specs.FirstByte.{IsShut}
 use Rattle.fz_base.specs.Stop.{IfRefused}
 use Rattle.fz_base.specs.declared.failure.Stop.{Stop}
@@ -8,12 +8,7 @@ use Rattle.fz_block.specs.declared.header.Header.{Header}
 use Rattle.fz_files.specs.FirstFault.{IsFirstRowFault, all_rows}
 use Rattle.fz_files.specs.Restored.{HdusStandFor, standing}
 use Rattle.fz_survey.specs.declared.survey.Survey.{Survey}
-use Rattle.fz_unpack.specs.Again.{WereSeen}
-
--- the headers of the file, which were seen at the first look
-pub record IsList (file : List ℕ) (s : Survey) (hs : List Header) : Type 0 where
-  pub seen : WereSeen file s.header_len s.tile 0 0 hs
-  pub count : length hs ≡ s.hdus
+use Rattle.fz_again.specs.Known.{IsList}
 
 -- the HDUs stand for some bytes, and told contents are these
 pub record AreRestored (file : List ℕ) (hs : List Header) (contents : Option (List ℕ)) : Type 0 where

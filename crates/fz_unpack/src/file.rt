@@ -11,10 +11,10 @@ ghost use Rattle.fz_survey.specs.Workspace.{SpaceStays};
 ghost use Rattle.fz_job.specs.Keeps.{Rewrites, SinkStays, SourceStays, WindowStays};
 ghost use Rattle.fz_unpack.specs.Written.{AreShutOrWhole, FinishesSeen};
 
-use crate::again::read_again;
 use crate::first::first_standing;
 use crate::hdu::write_hdu;
 use crate::law::primary_law;
+use fz_again::read_again;
 use fz_base::{Gate, Sink, Source, Stop, output_law, seal};
 use fz_block::next_start;
 use fz_pool::Window;

@@ -7,8 +7,8 @@ ghost use Rattle.fz_job.specs.Clauses.{IsChanged};
 ghost use Rattle.fz_unpack.specs.First.{BeginsWithin, FindsFirst};
 ghost use Rattle.fz_job.specs.Keeps.{SourceStays};
 
-use crate::again::read_again;
 use crate::law::primary_law;
+use fz_again::read_again;
 use fz_base::{Source, Stop};
 use fz_block::next_start;
 use fz_survey::Survey;

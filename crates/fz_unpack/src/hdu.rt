@@ -5,14 +5,14 @@ ghost use Rattle.fz_base.specs.Stop.{IfRefused};
 ghost use Rattle.fz_base.specs.Told.{StaysTold};
 ghost use Rattle.fz_files.specs.Restored.{pixels_of};
 ghost use Rattle.fz_pool.specs.Window.{HasSlotsFor};
-ghost use Rattle.fz_unpack.specs.Again.{IsAgain};
+ghost use Rattle.fz_again.specs.Again.{IsAgain};
 ghost use Rattle.fz_unpack.specs.Behind.{EndsNear, HoldsHdu, IsHduFault};
 ghost use Rattle.fz_job.specs.Clauses.{IsOfSomeRow};
 ghost use Rattle.fz_survey.specs.Workspace.{SpaceStays};
 ghost use Rattle.fz_job.specs.Keeps.{Rewrites, SinkStays, SourceStays, WindowStays};
 
-use crate::again::Again;
 use crate::image::write_image;
+use fz_again::ReadHdu;
 use fz_base::{Gate, Sink, Source, Stop};
 use fz_job::copy_hdu;
 use fz_pool::Window;
@@ -27,7 +27,7 @@ pub(crate) fn write_hdu<R: Threads + Sync, S: Source, K: Sink, G: Gate>(
     sink: &mut K,
     window: &mut Window,
     gate: &G,
-    again: &Again,
+    again: &ReadHdu,
     at: u64,
     space: &mut Workspace,
 ) -> Result<u64, Stop>

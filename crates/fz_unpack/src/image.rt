@@ -18,7 +18,7 @@ ghost use Rattle.fz_files.specs.Restored.{pixels_of};
 ghost use Rattle.fz_pool.specs.Window.{HasSlotsFor};
 ghost use Rattle.fz_fetch.specs.Images.{HaveRoom, IsReadable, IsSaid};
 ghost use Rattle.fz_fetch.specs.Rows.{StandsWithin};
-ghost use Rattle.fz_unpack.specs.Again.{IsAgain};
+ghost use Rattle.fz_again.specs.Again.{IsAgain};
 ghost use Rattle.fz_job.specs.Behind.{HoldsBytes, written_behind};
 ghost use Rattle.fz_unpack.specs.Behind.{HoldsImage, IsHduFault};
 ghost use Rattle.fz_job.specs.Clauses.{IsOfSomeRow};

@@ -1,11 +1,9 @@
 //! Unpacks a file: each table of a packed image becomes the image, and every other HDU is copied, but for an empty
 //! primary before a packed primary.
 //!
-//! Reading order: `unpack_file`, `law`, `file`, `first`, `again`, `hdu`, `image`,
-//! `turns`.
+//! Reading order: `unpack_file`, `law`, `file`, `first`, `hdu`, `image`, `turns`.
 #![tactic(auto)]
 
-mod again;
 mod file;
 mod first;
 mod hdu;

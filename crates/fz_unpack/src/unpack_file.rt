@@ -14,7 +14,7 @@ ghost use Rattle.fz_unpack.specs.Stages.{Works, later_takings, wants_for};
 ghost use Rattle.fz_unpack.specs.Written.{AreShutOrWhole, FinishesSeen};
 
 use crate::file::write_file;
-use crate::law::known_law;
+use fz_again::known_law;
 use fz_base::{Gate, Meter, Sink, Source, Stop};
 use fz_block::BLOCK_LEN;
 use fz_files::buffers_law;

@@ -5,7 +5,7 @@ use Rattle.fz_base.specs.Source.{HoldsLength}
 use Rattle.fz_base.specs.Stop.{IfRefused}
 use Rattle.fz_base.specs.declared.failure.Stop.{Stop}
 use Rattle.fz_block.specs.Header.{next_start_of}
-use Rattle.fz_unpack.specs.Again.{ReadsAsSeen, is_empty_primary}
+use Rattle.fz_again.specs.Again.{ReadsAsSeen, is_empty_primary}
 use Rattle.fz_unpack.specs.Behind.{HoldsHdu, IsHduFault, IsUnderway, RestoresSeen}
 use Rattle.fz_unpack.proofs.Underway.{ends_with_file, more_written, none_written, stops_reading, stops_searching, stops_writing}
 use Rattle.fz_unpack.proofs.file.write_hdus.Goals as goal

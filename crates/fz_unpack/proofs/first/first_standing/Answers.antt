@@ -3,7 +3,7 @@ use Rattle.std.proofs.Common.{◌≡◌, ℕ, ◌+◌, ◌<◌, ◌≤◌, true,
 use Rattle.fz_base.specs.Source.{HoldsLength}
 use Rattle.fz_base.specs.declared.failure.Stop.{Stop}
 use Rattle.fz_block.specs.Header.{next_start_of}
-use Rattle.fz_unpack.specs.Again.{IsAgain, ReadsAsSeen, is_empty_primary, was_primary_image}
+use Rattle.fz_again.specs.Again.{IsAgain, ReadsAsSeen, is_empty_primary, was_primary_image}
 use Rattle.fz_unpack.specs.First.{FindsFirst}
 use Rattle.fz_unpack.specs.declared.first.First.{First}
 use Rattle.fz_unpack.proofs.Standing.{if_axes, if_ends, if_next_not_read, if_not_read, if_plain, if_primary}

@@ -22,7 +22,7 @@ returns-in_err-survey-clause-first_fault g c =
     let held : Option (List ℕ) = g.S.Source.held c.args.source.now in
     let stopped : c.from_residual.result ≡ Err c.in_err-survey.field-0.0 = search rules in
     subst (λ (r : Result (Unit {0}) Stop). TellsFirstFault Unpack held r) (sym stopped)
-    (look_faulty held c.known_law.ensures.refuse (Unit {0}) c.in_err-survey.field-0.0 c.in_err-survey.ensures.exact)
+    (look_faulty held (c.known_law.ensures.refuse Unpack tt) (Unit {0}) c.in_err-survey.field-0.0 c.in_err-survey.ensures.exact)
 
 pub returns-in_err-survey-clause-first_byte : goal.returns-in_err-survey-clause-first_byte
 returns-in_err-survey-clause-first_byte g c = untouched_shut (g.K.Sink.contents c.args.sink.now) _ c.from_residual.result c.requires.empty
@@ -37,7 +37,7 @@ returns-in_err-survey-clause-first_past g c =
     let W : ℕ = c.args.window.now.workers in
     let stopped : c.from_residual.result ≡ Err c.in_err-survey.field-0.0 = search rules in
     subst (λ (r : Result (Unit {0}) Stop). IfSome held (λ file. TellsFirstPast meter.limit (later_takings file W) r)) (sym stopped)
-    (look_takes held c.known_law.ensures.refuse (Unit {0}) W meter.live meter.limit c.in_err-survey.field-0.0 _ _ c.requires.one_block
+    (look_takes held (c.known_law.ensures.refuse Unpack tt) (Unit {0}) W meter.live meter.limit c.in_err-survey.field-0.0 _ _ c.requires.one_block
     c.in_err-survey.ensures.cause.stop c.in_err-survey.ensures.exact c.in_err-survey.ensures.first_past)
 
 pub returns-in_err-survey-clause-peak : goal.returns-in_err-survey-clause-peak
@@ -63,7 +63,7 @@ returns-clause-output g c =
     let now : Option (List ℕ) = g.K.Sink.contents c.work.new.sink in
     let exact : IfSome held (Knows c.in_ok-survey.survey) = c.in_ok-survey.ensures.exact in
     let written : IfSome held (λ file. FinishesSeen file c.in_ok-survey.survey now c.work.result) = rw same at c.work.ensures.written in
-    work_output c.known_law.ensures.know c.in_ok-survey.survey held now c.work.result exact written
+    work_output (c.known_law.ensures.know Unpack tt) c.in_ok-survey.survey held now c.work.result exact written
 
 pub returns-clause-first_fault : goal.returns-clause-first_fault
 returns-clause-first_fault g c =
@@ -72,7 +72,7 @@ returns-clause-first_fault g c =
     let now : Option (List ℕ) = g.K.Sink.contents c.work.new.sink in
     let exact : IfSome held (Knows c.in_ok-survey.survey) = c.in_ok-survey.ensures.exact in
     let written : IfSome held (λ file. FinishesSeen file c.in_ok-survey.survey now c.work.result) = rw same at c.work.ensures.written in
-    work_faulty c.known_law.ensures.know c.in_ok-survey.survey held now c.work.result exact written
+    work_faulty (c.known_law.ensures.know Unpack tt) c.in_ok-survey.survey held now c.work.result exact written
 
 pub returns-clause-first_byte : goal.returns-clause-first_byte
 returns-clause-first_byte g c =
@@ -81,13 +81,13 @@ returns-clause-first_byte g c =
     let now : Option (List ℕ) = g.K.Sink.contents c.work.new.sink in
     let exact : IfSome held (Knows c.in_ok-survey.survey) = c.in_ok-survey.ensures.exact in
     let shut : AreShutOrWhole c.in_ok-survey.survey held now c.work.result = rw same at c.work.ensures.shut in
-    work_shut c.known_law.ensures.know c.in_ok-survey.survey held now c.work.result exact shut
+    work_shut (c.known_law.ensures.know Unpack tt) c.in_ok-survey.survey held now c.work.result exact shut
 
 pub returns-clause-unmade : goal.returns-clause-unmade
 returns-clause-unmade g c =
     let held : Option (List ℕ) = g.S.Source.held c.args.source.now in
     let exact : IfSome held (Knows c.in_ok-survey.survey) = c.in_ok-survey.ensures.exact in
-    work_unmade c.known_law.ensures.know c.in_ok-survey.survey held _ c.work.result exact c.work.ensures.unmade c.work.ensures.late
+    work_unmade (c.known_law.ensures.know Unpack tt) c.in_ok-survey.survey held _ c.work.result exact c.work.ensures.unmade c.work.ensures.late
 
 pub returns-clause-first_past : goal.returns-clause-first_past
 returns-clause-first_past g c =
@@ -98,7 +98,7 @@ returns-clause-first_past g c =
     let none : IfSome held (λ file. first_past meter.limit (survey_takings UnpackChecks meter.live file) ≡ None) = c.in_ok-survey.ensures.first_past in
     let tells : TellsFirstPast meter.limit (piled meter.live (wanted_buffers (wants_for c.in_ok-survey.survey) W)) c.work.result =
     rw (c.in_ok-survey.ensures.live, c.in_ok-survey.ensures.limit) at c.work.ensures.first_past in
-    work_takes c.known_law.ensures.know c.in_ok-survey.survey W meter.live c.requires.one_block held meter.limit c.work.result exact none tells
+    work_takes (c.known_law.ensures.know Unpack tt) c.in_ok-survey.survey W meter.live c.requires.one_block held meter.limit c.work.result exact none tells
 
 pub returns-clause-peak : goal.returns-clause-peak
 returns-clause-peak g c =
@@ -107,7 +107,7 @@ returns-clause-peak g c =
     let W : ℕ = c.args.window.now.workers in
     let exact : IfSome held (Knows c.in_ok-survey.survey) = c.in_ok-survey.ensures.exact in
     let high : c.work.new.meter.peak ≤ max c.survey_to_unpack.new.meter.peak (meter.live + sum (wanted_buffers (wants_for c.in_ok-survey.survey) W)) = rw c.in_ok-survey.ensures.live at c.work.ensures.peak in
-    work_peak c.known_law.ensures.know c.in_ok-survey.survey W meter.live c.requires.one_block c.buffers_law.ensures.bounded c.workspace_law.ensures.bound held meter.peak c.survey_to_unpack.new.meter.peak c.work.new.meter.peak
+    work_peak (c.known_law.ensures.know Unpack tt) c.in_ok-survey.survey W meter.live c.requires.one_block c.buffers_law.ensures.bounded c.workspace_law.ensures.bound held meter.peak c.survey_to_unpack.new.meter.peak c.work.new.meter.peak
     exact c.in_ok-survey.ensures.peak high
 
 pub returns-clause-cause : goal.returns-clause-cause
