@@ -16,10 +16,11 @@ use Rattle.fz_block.specs.declared.header.Header.{Header}
 use Rattle.fz_files.specs.FirstFault.{IsFirstRowFault, all_rows}
 use Rattle.fz_files.specs.Lines.{before_fault, has_wrong_sum, verify_line}
 use Rattle.fz_survey.specs.declared.survey.Survey.{Survey}
-use Rattle.fz_verify.specs.Again.{ReadsAsSeen, WereSeen, is_empty_primary}
-use Rattle.fz_verify.specs.Printed.{AreChecked, AreVerified, ChecksHdu, GotBefore, GotLineFront, GotSome, GotVerified, IsChecking, IsList, IsPart, VerifiesSeen, verify_lines}
+use Rattle.fz_again.specs.Again.{ReadsAsSeen, WereSeen, is_empty_primary}
+use Rattle.fz_again.specs.Known.{IsList}
+use Rattle.fz_verify.specs.Printed.{AreChecked, AreVerified, ChecksHdu, GotBefore, GotLineFront, GotSome, GotVerified, IsChecking, IsPart, VerifiesSeen, verify_lines}
 use Rattle.fz_verify.specs.Rows.{IsHduFault, IsHduSound, SoundRowsAreNotRefused}
-use Rattle.fz_verify.specs.declared.again.Again.{Again}
+use Rattle.fz_again.specs.declared.again.ReadHdu.{ReadHdu}
 use Rattle.fz_verify.proofs.Parts.{all_by_count, all_by_end, never_refused, none_done, one_done}
 use Rattle.fz_verify.proofs.Rows.{Numbered, fault_among, fault_later, front_kept, hdu_number, none_kept, numbered, numbers_behind, sound_joined}
 use Rattle.fz_verify.proofs.Texts.{appended_none, front_all, front_behind, front_wider, got_both}
@@ -107,7 +108,7 @@ module _ (law : SoundRowsAreNotRefused) (s : Survey) (old : Option (List ℕ)) w
   none_checked None = tt
   none_checked (Some g) = λ hs list. record { done = []; part = none_done g s hs list; contents = appended_none old; verified = record { sound = tt; judged = refl } }
 
-  pub more_checked : (held : Option (List ℕ)) (k start : ℕ) (flag flag' right sound : Bool) (mid now : Option (List ℕ)) (a : Again) → k < s.hdus → IfSome held (IsChecking s k start flag right old mid) →
+  pub more_checked : (held : Option (List ℕ)) (k start : ℕ) (flag flag' right sound : Bool) (mid now : Option (List ℕ)) (a : ReadHdu) → k < s.hdus → IfSome held (IsChecking s k start flag right old mid) →
       IfSome held (λ g. ReadsAsSeen g k start flag s.header_len s.tile (Ok a)) → IfSome held (λ g. ChecksHdu g a.header mid now (Ok sound)) → flag' ≡ is_empty_primary a.header →
       IfSome held (IsChecking s (k + 1) (next_start_of a.header) flag' (right && sound) old now)
   more_checked None k start flag flag' right sound mid now a few was again checked says = tt
@@ -146,11 +147,11 @@ module _ (law : SoundRowsAreNotRefused) (s : Survey) (old : Option (List ℕ)) w
   stops_reading None stop k start flag right now few was again = tt
   stops_reading (Some g) stop k start flag right now few was again = λ hs list.
       let w = was hs list in
-      stops_by Again g hs old now stop (never_refused g s hs w.done k start flag w.part (omega (arith, few, list.count)) stop again)
+      stops_by ReadHdu g hs old now stop (never_refused g s hs w.done k start flag w.part (omega (arith, few, list.count)) stop again)
       (got_some law g s hs w.done w.part.rest list w.part.parts w.verified.sound old now (front_all (verify_lines g w.done) old now w.contents))
 
   -- it was not verified
-  module _ (g : List ℕ) (hs : List Header) (list : IsList g s hs) (k start : ℕ) (flag right : Bool) (mid now : Option (List ℕ)) (a : Again) (little : k < length hs) (w : AreChecked g s hs k start flag right old mid) (again : ReadsAsSeen g k start flag s.header_len s.tile (Ok a)) where
+  module _ (g : List ℕ) (hs : List Header) (list : IsList g s hs) (k start : ℕ) (flag right : Bool) (mid now : Option (List ℕ)) (a : ReadHdu) (little : k < length hs) (w : AreChecked g s hs k start flag right old mid) (again : ReadsAsSeen g k start flag s.header_len s.tile (Ok a)) where
     p : IsPart g s hs (w.done ++ a.header ∷ []) (k + 1) (next_start_of a.header) (is_empty_primary a.header)
     p = one_done g s hs w.done k start flag w.part little a (is_empty_primary a.header) again refl
 
@@ -175,7 +176,7 @@ module _ (law : SoundRowsAreNotRefused) (s : Survey) (old : Option (List ℕ)) w
     checked_by (OverLimit live asked limit) is = some_front is
     checked_by NoMemory is = some_front is
 
-  pub stops_checking : (held : Option (List ℕ)) (stop : Stop) (k start : ℕ) (flag right : Bool) (mid now : Option (List ℕ)) (a : Again) → k < s.hdus → IfSome held (IsChecking s k start flag right old mid) →
+  pub stops_checking : (held : Option (List ℕ)) (stop : Stop) (k start : ℕ) (flag right : Bool) (mid now : Option (List ℕ)) (a : ReadHdu) → k < s.hdus → IfSome held (IsChecking s k start flag right old mid) →
       IfSome held (λ g. ReadsAsSeen g k start flag s.header_len s.tile (Ok a)) → IfSome held (λ g. ChecksHdu g a.header mid now (Err stop)) → IfSome held (λ g. VerifiesSeen g s old now (Err stop))
   stops_checking None stop k start flag right mid now a few was again checked = tt
   stops_checking (Some g) stop k start flag right mid now a few was again checked = λ hs list.

@@ -15,16 +15,16 @@ use Rattle.fz_fetch.specs.Images.{IsSaid}
 use Rattle.fz_files.specs.FirstFault.{IsFirstRowFault, rows_of}
 use Rattle.fz_files.specs.Lines.{has_wrong_sum, is_wrong, verify_line}
 use Rattle.fz_files.specs.Restored.{is_image}
-use Rattle.fz_verify.specs.Again.{IsAgain}
+use Rattle.fz_again.specs.Again.{IsAgain}
 use Rattle.fz_verify.specs.Lines.{verdicts_text}
 use Rattle.fz_verify.specs.Printed.{ChecksHdu}
 use Rattle.fz_verify.specs.Rows.{IsHduFault, IsHduSound}
 use Rattle.fz_verify.specs.Sums.{AreVerdictsOn, are_right}
-use Rattle.fz_verify.specs.declared.again.Again.{Again}
+use Rattle.fz_again.specs.declared.again.ReadHdu.{ReadHdu}
 use Rattle.fz_verify.specs.declared.sums.Verdicts.{Verdicts}
 use Rattle.fz_verify.proofs.Said.{image_said, none_said, verify_text}
 
-module _ (held : Option (List ℕ)) (n : ℕ) (buf : List ℕ) (a : Again) (w : IsAgain held n buf a) where
+module _ (held : Option (List ℕ)) (n : ℕ) (buf : List ℕ) (a : ReadHdu) (w : IsAgain held n buf a) where
   -- ---- its rows
 
   those_of : (g : List ℕ) (b : Bool) (fault : Option Fault) → is_image g a.header ≡ b → IsFirstRowFault g (flat_map (rows_of g) (cond b (a.header ∷ []) [])) fault → IsFirstRowFault g (flat_map (rows_of g) (cond (is_image g a.header) (a.header ∷ []) [])) fault
@@ -34,19 +34,19 @@ module _ (held : Option (List ℕ)) (n : ℕ) (buf : List ℕ) (a : Again) (w : 
   all_of g fault is rows = those_of g true fault is (subst (λ l. IsFirstRowFault g l fault) (sym (append-nil (rows_of g a.header))) rows)
 
 -- the image is the one that the header says
-pub said_there : (held : Option (List ℕ)) (n : ℕ) (buf : List ℕ) (a : Again) → IsAgain held n buf a → (i : PackedImage) → a.image ≡ Some i → IfSome held (λ g. IsSaid g a.header i)
+pub said_there : (held : Option (List ℕ)) (n : ℕ) (buf : List ℕ) (a : ReadHdu) → IsAgain held n buf a → (i : PackedImage) → a.image ≡ Some i → IfSome held (λ g. IsSaid g a.header i)
 said_there None n buf a w i is = tt
 said_there (Some g) n buf a w i is = (image_said (Some g) n buf a w i g refl is).1
 
-pub rows_sound : (held : Option (List ℕ)) (n : ℕ) (buf : List ℕ) (a : Again) → IsAgain held n buf a → (i : PackedImage) → a.image ≡ Some i → IfSome held (λ g. IsFirstRowFault g (rows_of g a.header) None) → IfSome held (λ g. IsHduSound g a.header)
+pub rows_sound : (held : Option (List ℕ)) (n : ℕ) (buf : List ℕ) (a : ReadHdu) → IsAgain held n buf a → (i : PackedImage) → a.image ≡ Some i → IfSome held (λ g. IsFirstRowFault g (rows_of g a.header) None) → IfSome held (λ g. IsHduSound g a.header)
 rows_sound None n buf a w i is rows = tt
 rows_sound (Some g) n buf a w i is rows = all_of (Some g) n buf a w g None (image_said (Some g) n buf a w i g refl is).0 rows
 
-pub rows_faulty : (held : Option (List ℕ)) (n : ℕ) (buf : List ℕ) (a : Again) → IsAgain held n buf a → (i : PackedImage) → a.image ≡ Some i → (x : Fault) → IfSome held (λ g. IsFirstRowFault g (rows_of g a.header) (Some x)) → IfSome held (λ g. IsHduFault g a.header x)
+pub rows_faulty : (held : Option (List ℕ)) (n : ℕ) (buf : List ℕ) (a : ReadHdu) → IsAgain held n buf a → (i : PackedImage) → a.image ≡ Some i → (x : Fault) → IfSome held (λ g. IsFirstRowFault g (rows_of g a.header) (Some x)) → IfSome held (λ g. IsHduFault g a.header x)
 rows_faulty None n buf a w i is x rows = tt
 rows_faulty (Some g) n buf a w i is x rows = all_of (Some g) n buf a w g (Some x) (image_said (Some g) n buf a w i g refl is).0 rows
 
-pub rows_none : (held : Option (List ℕ)) (n : ℕ) (buf : List ℕ) (a : Again) → IsAgain held n buf a → a.image ≡ None → IfSome held (λ g. IsHduSound g a.header)
+pub rows_none : (held : Option (List ℕ)) (n : ℕ) (buf : List ℕ) (a : ReadHdu) → IsAgain held n buf a → a.image ≡ None → IfSome held (λ g. IsHduSound g a.header)
 rows_none None n buf a w is = tt
 rows_none (Some g) n buf a w is = those_of (Some g) n buf a w g false None (none_said (Some g) n buf a w g refl is) tt
 
@@ -70,7 +70,7 @@ right_is : (g : List ℕ) (h : Header) (v : Verdicts) → AreVerdictsOn g h v �
 right_is g h v are = λ i. not (is_wrong (are.datasum i) || is_wrong (are.checksum i))
 
 -- it was printed
-pub checked_line : (held : Option (List ℕ)) (n : ℕ) (buf : List ℕ) (a : Again) → IsAgain held n buf a → (v : Verdicts) (right : Bool) (old new : Option (List ℕ)) → right ≡ are_right v → IfSome held (λ g. AreVerdictsOn g a.header v × IsHduSound g a.header) →
+pub checked_line : (held : Option (List ℕ)) (n : ℕ) (buf : List ℕ) (a : ReadHdu) → IsAgain held n buf a → (v : Verdicts) (right : Bool) (old new : Option (List ℕ)) → right ≡ are_right v → IfSome held (λ g. AreVerdictsOn g a.header v × IsHduSound g a.header) →
     new ≡ appended (verdicts_text a.header.hdu a.image v) old → IfSome held (λ g. ChecksHdu g a.header old new (Ok right))
 checked_line None n buf a w v right old new says are got = tt
 checked_line (Some g) n buf a w v right old new says are got =
@@ -84,7 +84,7 @@ front_by g h old new before now WriteFault sound front why = inl (sound, front)
 front_by g h old new before now (OverLimit live asked limit) sound front why = inl (sound, front)
 front_by g h old new before now NoMemory sound front why = inl (sound, front)
 
-pub checked_front : (held : Option (List ℕ)) (n : ℕ) (buf : List ℕ) (a : Again) → IsAgain held n buf a → (v : Verdicts) (old new : Option (List ℕ)) (before now : Tally) (stop : Stop) → IfSome held (λ g. AreVerdictsOn g a.header v × IsHduSound g a.header) →
+pub checked_front : (held : Option (List ℕ)) (n : ℕ) (buf : List ℕ) (a : ReadHdu) → IsAgain held n buf a → (v : Verdicts) (old new : Option (List ℕ)) (before now : Tally) (stop : Stop) → IfSome held (λ g. AreVerdictsOn g a.header v × IsHduSound g a.header) →
     MayAppend (verdicts_text a.header.hdu a.image v) old new → StoppedByWrite before now stop → IfSome held (λ g. ChecksHdu g a.header old new (Err stop))
 checked_front None n buf a w v old new before now stop are front why = tt
 checked_front (Some g) n buf a w v old new before now stop are front why =

@@ -16,8 +16,8 @@ use Rattle.fz_block.specs.Mandatory.{axis_checks, bitpix_check, count_checks, ex
 use Rattle.fz_block.specs.declared.header.Header.{Header}
 use Rattle.fz_grid.specs.Region.{IsDivided}
 use Rattle.fz_head.specs.declared.job_checks.PackedImage.{PackedImage}
-use Rattle.fz_verify.specs.Again.{IsAgain, IsUsable, header_at_front}
-use Rattle.fz_verify.specs.declared.again.Again.{Again}
+use Rattle.fz_again.specs.Again.{IsAgain, IsUsable, header_at_front}
+use Rattle.fz_again.specs.declared.again.ReadHdu.{ReadHdu}
 use Rattle.fz_verify.proofs.Flags.{axes_are}
 
 behind_none : (xs ys : List (Bool × Fault)) → first_refusal (xs ++ ys) ≡ None → first_refusal ys ≡ None
@@ -50,7 +50,7 @@ pub divided : (header : List ℕ) (h : Header) (len : ℕ) (image : Option Packe
 divided header h len None usable = tt
 divided header h len (Some i) usable = usable.readable.divided
 
-pub again_divided : (held : Option (List ℕ)) (n : ℕ) (buf : List ℕ) (a : Again) → IsAgain held n buf a → IfSome a.image (λ i. IsDivided i.plan.shape i.plan.tile)
+pub again_divided : (held : Option (List ℕ)) (n : ℕ) (buf : List ℕ) (a : ReadHdu) → IsAgain held n buf a → IfSome a.image (λ i. IsDivided i.plan.shape i.plan.tile)
 again_divided held n buf a w = divided (header_at_front a buf) a.header n a.image w.usable
 
 -- ---- the cards before END

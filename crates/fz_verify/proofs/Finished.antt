@@ -23,7 +23,8 @@ use Rattle.fz_survey.specs.declared.workspace.Wants.{Wants}
 use Rattle.fz_job.specs.Clauses.{ComesLate, IfOverLimit, IsUnmade, TellsFirstFault}
 use Rattle.fz_verify.specs.Clauses.{GotFront, IsRightAsSaid, PrintsLines}
 use Rattle.fz_verify.specs.Printed.{GotSome, GotVerified, ListsSeen, VerifiesSeen, list_lines, verify_lines}
-use Rattle.fz_verify.specs.Stages.{IsKnown, SurveysKnow, SurveysMeasure, later_takings, wants_to_list, wants_to_verify}
+use Rattle.fz_again.specs.Known.{IsKnown, SurveysKnow}
+use Rattle.fz_verify.specs.Stages.{later_takings, wants_to_list, wants_to_verify}
 use Rattle.fz_verify.proofs.Jobs.{IsReader}
 use Rattle.fz_verify.proofs.Outcomes.{refused_weaker}
 use Rattle.fz_verify.proofs.Takings.{Wanted, look_within, wanted_to_list, wanted_to_verify, work_tells}
@@ -183,5 +184,5 @@ module _ (know : SurveysKnow Verify) (s : Survey) where
   verify_faulty None old new r exact seen = verify_fault_untold r
   verify_faulty (Some g) old new r exact seen = let known = know g s exact in verify_faulty_by g known old new r (seen known.headers known.seen)
 
-  pub verify_wants : SurveysMeasure → (g : List ℕ) → Knows s g → Wanted Verify g (wants_to_verify s)
-  verify_wants measure g exact = wanted_to_verify g s (know g s exact) (measure g s exact)
+  pub verify_wants : (g : List ℕ) → Knows s g → Wanted Verify g (wants_to_verify s)
+  verify_wants g exact = wanted_to_verify g s (know g s exact)

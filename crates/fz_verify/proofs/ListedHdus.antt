@@ -13,9 +13,9 @@ use Rattle.fz_block.specs.Header.{next_start_of}
 use Rattle.fz_block.specs.declared.header.Header.{Header}
 use Rattle.fz_files.specs.Lines.{list_line}
 use Rattle.fz_survey.specs.declared.survey.Survey.{Survey}
-use Rattle.fz_verify.specs.Again.{ReadsAsSeen, is_empty_primary}
+use Rattle.fz_again.specs.Again.{ReadsAsSeen, is_empty_primary}
 use Rattle.fz_verify.specs.Printed.{GotListed, IsListing, IsPart, ListsSeen, list_lines}
-use Rattle.fz_verify.specs.declared.again.Again.{Again}
+use Rattle.fz_again.specs.declared.again.ReadHdu.{ReadHdu}
 use Rattle.fz_verify.proofs.Parts.{all_by_count, all_by_end, never_refused, none_done, one_done}
 use Rattle.fz_verify.proofs.Texts.{appended_none, front_all, front_behind, front_wider, got_both}
 
@@ -45,7 +45,7 @@ module _ (s : Survey) (old : Option (List ℕ)) where
   none_listed None = tt
   none_listed (Some g) = λ hs list. record { done = []; part = none_done g s hs list; contents = appended_none old }
 
-  pub more_listed : (held : Option (List ℕ)) (k start : ℕ) (flag flag' : Bool) (mid now : Option (List ℕ)) (a : Again) → k < s.hdus → IfSome held (IsListing s k start flag old mid) →
+  pub more_listed : (held : Option (List ℕ)) (k start : ℕ) (flag flag' : Bool) (mid now : Option (List ℕ)) (a : ReadHdu) → k < s.hdus → IfSome held (IsListing s k start flag old mid) →
       IfSome held (λ g. ReadsAsSeen g k start flag s.header_len s.tile (Ok a)) → IfSome held (λ g. now ≡ appended (list_line g a.header) mid) → flag' ≡ is_empty_primary a.header →
       IfSome held (IsListing s (k + 1) (next_start_of a.header) flag' old now)
   more_listed None k start flag flag' mid now a few was again got says = tt
@@ -83,11 +83,11 @@ module _ (s : Survey) (old : Option (List ℕ)) where
       let w = was hs list in
       let front : MayAppend (list_lines g w.done) old now = front_all (list_lines g w.done) old now w.contents in
       let wider : MayAppend (list_lines g w.done ++ list_lines g w.part.rest) old now = front_wider (list_lines g w.done) (list_lines g w.part.rest) old now front in
-      stops_listing Again X (list_lines g hs) old now stop (never_refused g s hs w.done k start flag w.part (omega (arith, few, list.count)) stop again)
+      stops_listing ReadHdu X (list_lines g hs) old now stop (never_refused g s hs w.done k start flag w.part (omega (arith, few, list.count)) stop again)
       (subst (λ l. MayAppend l old now) (sym (ap (list_lines g) w.part.parts ∙ flat_map-append (list_line g) w.done w.part.rest)) wider)
 
   -- its line was not printed
-  pub stops_printing : (X : Type 0) (held : Option (List ℕ)) (stop : Stop) (before after : Tally) (k start : ℕ) (flag : Bool) (mid now : Option (List ℕ)) (a : Again) → k < s.hdus → IfSome held (IsListing s k start flag old mid) →
+  pub stops_printing : (X : Type 0) (held : Option (List ℕ)) (stop : Stop) (before after : Tally) (k start : ℕ) (flag : Bool) (mid now : Option (List ℕ)) (a : ReadHdu) → k < s.hdus → IfSome held (IsListing s k start flag old mid) →
       IfSome held (λ g. ReadsAsSeen g k start flag s.header_len s.tile (Ok a)) → IfSome held (λ g. MayAppend (list_line g a.header) mid now) → StoppedByWrite before after stop →
       IfSome held (λ g. ListsSeen {X = X} g s old now (Err stop))
   stops_printing X None stop before after k start flag mid now a few was again front why = tt

@@ -21,8 +21,10 @@ use Rattle.fz_survey.specs.declared.checks.JobChecks.TheVariants.{Unpack as Unpa
 use Rattle.fz_survey.specs.declared.survey.Survey.{Survey}
 use Rattle.fz_job.specs.Clauses.{ComesLate, IfOverLimit, IsUnmade, TellsFirstFault}
 use Rattle.fz_verify.specs.Clauses.{GotFront, GotLines, PrintsLines}
-use Rattle.fz_verify.specs.Printed.{GotSome, IsList, VerifiesSeen, verify_lines}
-use Rattle.fz_verify.specs.Stages.{SurveysRefuse, later_takings}
+use Rattle.fz_again.specs.Known.{IsList}
+use Rattle.fz_verify.specs.Printed.{GotSome, VerifiesSeen, verify_lines}
+use Rattle.fz_again.specs.Known.{SurveysRefuse}
+use Rattle.fz_verify.specs.Stages.{later_takings}
 use Rattle.fz_verify.proofs.Jobs.{IsReader}
 use Rattle.fz_verify.proofs.Takings.{look_tells, look_within}
 use Rattle.fz_verify.proofs.Texts.{appended_none, front_none}

@@ -7,9 +7,10 @@ use Rattle.fz_base.specs.declared.failure.Stop.{Stop}
 use Rattle.fz_block.specs.Header.{next_start_of}
 use Rattle.fz_block.specs.declared.header.Header.{Header}
 use Rattle.fz_survey.specs.declared.survey.Survey.{Survey}
-use Rattle.fz_verify.specs.Again.{ReadsAsSeen, WasSeen, WereSeen, is_empty_primary}
-use Rattle.fz_verify.specs.Printed.{IsList, IsPart, SaysBehind}
-use Rattle.fz_verify.specs.declared.again.Again.{Again}
+use Rattle.fz_again.specs.Again.{ReadsAsSeen, WasSeen, WereSeen, is_empty_primary}
+use Rattle.fz_again.specs.Known.{IsList}
+use Rattle.fz_verify.specs.Printed.{IsPart, SaysBehind}
+use Rattle.fz_again.specs.declared.again.ReadHdu.{ReadHdu}
 use Rattle.fz_verify.proofs.Ends.{no_more}
 use Rattle.fz_verify.proofs.Flags.{first_flag, next_flag}
 
@@ -56,16 +57,16 @@ module _ (file : List ℕ) (s : Survey) (hs : List Header) where
     pub was_seen : WasSeen file k start s.header_len s.tile next.0
     was_seen = next_seen.0
 
-    pub never_refused : (stop : Stop) → ReadsAsSeen file k start flag s.header_len s.tile (Err stop) → IfRefused {X = Again} (Err stop) (λ x. ⊥)
+    pub never_refused : (stop : Stop) → ReadsAsSeen file k start flag s.header_len s.tile (Err stop) → IfRefused {X = ReadHdu} (Err stop) (λ x. ⊥)
     never_refused stop again = (again next.0 next_seen.0 behind).0
 
-    pub read_same : (a : Again) → ReadsAsSeen file k start flag s.header_len s.tile (Ok a) → a.header ≡ next.0
+    pub read_same : (a : ReadHdu) → ReadsAsSeen file k start flag s.header_len s.tile (Ok a) → a.header ≡ next.0
     read_same a again = (again next.0 next_seen.0 behind).1
 
     pub parts_more : hs ≡ (done ++ next.0 ∷ []) ++ next.1.0
     parts_more = p.parts ∙ ap (λ l. done ++ l) next.1.1 ∙ sym (append_assoc done (next.0 ∷ []) next.1.0)
 
-    pub one_done : (a : Again) (flag' : Bool) → ReadsAsSeen file k start flag s.header_len s.tile (Ok a) → flag' ≡ is_empty_primary a.header → IsPart file s hs (done ++ a.header ∷ []) (k + 1) (next_start_of a.header) flag'
+    pub one_done : (a : ReadHdu) (flag' : Bool) → ReadsAsSeen file k start flag s.header_len s.tile (Ok a) → flag' ≡ is_empty_primary a.header → IsPart file s hs (done ++ a.header ∷ []) (k + 1) (next_start_of a.header) flag'
     one_done a flag' again says =
         let same : a.header ≡ next.0 = read_same a again in
         let after : WereSeen file s.header_len s.tile (suc k) (next_start_of a.header) next.1.0 = subst (λ (j : Header). WereSeen file s.header_len s.tile (suc k) (next_start_of j) next.1.0) (sym same) next_seen.1 in

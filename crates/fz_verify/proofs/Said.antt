@@ -15,10 +15,10 @@ use Rattle.fz_fetch.specs.Images.{IsSaid}
 use Rattle.fz_files.specs.Lines.{list_line, other_text, packed_text, sizes_text, tiles_text, verdict_word, verify_line}
 use Rattle.fz_files.specs.Packed.{tiles_in}
 use Rattle.fz_files.specs.Restored.{header_in, is_image, plan_in}
-use Rattle.fz_verify.specs.Again.{IsAgain, header_at_front}
+use Rattle.fz_again.specs.Again.{IsAgain, header_at_front}
 use Rattle.fz_verify.specs.Lines.{hdu_text, listed_text, tiles_said, verdicts_text}
 use Rattle.fz_verify.specs.Sums.{AreVerdictsOn}
-use Rattle.fz_verify.specs.declared.again.Again.{Again}
+use Rattle.fz_again.specs.declared.again.ReadHdu.{ReadHdu}
 use Rattle.fz_verify.specs.declared.sums.Verdicts.{Verdicts}
 
 -- ---- what the checks answer
@@ -32,7 +32,7 @@ image_if : (h : Header) (header : List ℕ) (after_empty : Bool) (image : Option
 unfolding image_to_unpack
 image_if h header after_empty image is = image_by (is_packed header h) (image_in h header) image (first_refusal (unpack_checks h header after_empty)) is
 
-module _ (held : Option (List ℕ)) (n : ℕ) (buf : List ℕ) (a : Again) (w : IsAgain held n buf a) where
+module _ (held : Option (List ℕ)) (n : ℕ) (buf : List ℕ) (a : ReadHdu) (w : IsAgain held n buf a) where
   -- its header in the file is the one that was read
   pub header_there : (g : List ℕ) → held ≡ Some g → header_in g a.header ≡ header_at_front a buf
   header_there g told =
@@ -85,10 +85,10 @@ module _ (held : Option (List ℕ)) (n : ℕ) (buf : List ℕ) (a : Again) (w : 
   none_said g told is = none_by (is_image g a.header) (image_in a.header (header_in g a.header)) (sym is ∙ image_there g told)
 
 -- the line of an HDU that was read
-pub got_listed : (held : Option (List ℕ)) (n : ℕ) (buf : List ℕ) (a : Again) (old new : Option (List ℕ)) → IsAgain held n buf a → new ≡ appended (listed_text a.header a.image) old → IfSome held (λ g. new ≡ appended (list_line g a.header) old)
+pub got_listed : (held : Option (List ℕ)) (n : ℕ) (buf : List ℕ) (a : ReadHdu) (old new : Option (List ℕ)) → IsAgain held n buf a → new ≡ appended (listed_text a.header a.image) old → IfSome held (λ g. new ≡ appended (list_line g a.header) old)
 got_listed None n buf a old new w is = tt
 got_listed (Some g) n buf a old new w is = is ∙ ap (λ l. appended l old) (list_text (Some g) n buf a w g refl)
 
-pub front_listed : (held : Option (List ℕ)) (n : ℕ) (buf : List ℕ) (a : Again) (old new : Option (List ℕ)) → IsAgain held n buf a → MayAppend (listed_text a.header a.image) old new → IfSome held (λ g. MayAppend (list_line g a.header) old new)
+pub front_listed : (held : Option (List ℕ)) (n : ℕ) (buf : List ℕ) (a : ReadHdu) (old new : Option (List ℕ)) → IsAgain held n buf a → MayAppend (listed_text a.header a.image) old new → IfSome held (λ g. MayAppend (list_line g a.header) old new)
 front_listed None n buf a old new w is = tt
 front_listed (Some g) n buf a old new w is = subst (λ l. MayAppend l old new) (list_text (Some g) n buf a w g refl) is

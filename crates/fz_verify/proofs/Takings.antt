@@ -21,14 +21,15 @@ use Rattle.fz_files.specs.Walks.{header_fault}
 use Rattle.fz_files.specs.declared.job.Job.{Job}
 use Rattle.fz_files.specs.declared.job.Job.TheVariants.{Verify, List as ListHdus}
 use Rattle.fz_survey.proofs.Outcomes.{highest_both, past_none, past_some}
+use Rattle.fz_survey.specs.Judges.{judge_of}
 use Rattle.fz_survey.specs.Surveys.{survey_takings, surveyed}
 use Rattle.fz_survey.specs.Workspace.{StaysInBound, wanted_buffers}
 use Rattle.fz_survey.specs.declared.checks.JobChecks.TheVariants.{Unpack as UnpackChecks}
 use Rattle.fz_survey.specs.declared.survey.Survey.{Survey}
 use Rattle.fz_survey.specs.declared.workspace.Wants.{Wants}
-use Rattle.fz_verify.specs.Stages.{IsKnown, SurveysRefuse, later_takings, wants_to_list, wants_to_verify}
+use Rattle.fz_again.specs.Known.{IsKnown, SurveysRefuse}
+use Rattle.fz_verify.specs.Stages.{later_takings, wants_to_list, wants_to_verify}
 use Rattle.fz_verify.proofs.Jobs.{IsReader}
-use Rattle.fz_verify.proofs.Known.{same_judge}
 
 -- ---- lists of takings
 
@@ -64,6 +65,11 @@ tells_after limit xs ys (Err NoMemory) none tells = tt
 pub tells_short : (X Y : Type 0) (limit : ℕ) (ts : List (ℕ × ℕ)) (short : Short) → TellsShort {X = Y} limit ts (Err short) → TellsFirstPast {X = X} limit ts (Err (stop_of_short short))
 tells_short X Y limit ts NoRoom tells = tt
 tells_short X Y limit ts (PastLimit live asked told) tells = tells
+
+-- both name the same checks
+same_judge : (file : List ℕ) → judge_of UnpackChecks file ≡ unpack_judge file
+unfolding judge_of
+same_judge file = refl
 
 module _ (job : Job) (reader : IsReader job) (file : List ℕ) (live : ℕ) (one : live ≡ 2880) where
   -- ---- those of the first look
@@ -111,14 +117,14 @@ pub record Wanted (job : Job) (file : List ℕ) (wants : Wants) : Type 0 where
   pub takings : (live : ℕ) → live ≡ 2880 → work_takings (header_fault job file) job file 1 ≡ piled live (wanted_buffers wants 1)
   pub within : (live : ℕ) → live ≡ 2880 → StaysInBound → live + sum (wanted_buffers wants 1) ≤ job_bound job file 1
 
-pub wanted_to_verify : (file : List ℕ) (s : Survey) → IsKnown Verify file s → largest_tile Verify file ≡ s.tile → Wanted Verify file (wants_to_verify s)
-wanted_to_verify file s known largest = record {
+pub wanted_to_verify : (file : List ℕ) (s : Survey) → IsKnown Verify file s → Wanted Verify file (wants_to_verify s)
+wanted_to_verify file s known = record {
   takings = λ live one.
       ap (λ (f : Option Fault). work_takings f Verify file 1) known.no_fault
-      ∙ (λ i. piled (sym one i) (work_buffers (known.longest i) false (Some (largest i)) 1));
+      ∙ (λ i. piled (sym one i) (work_buffers (known.longest i) false (Some (known.largest i)) 1));
   within = λ live one bound.
       let all = bound (wants_to_verify s) 1 in
-      let same : job_bound Verify file 1 ≡ buffer_bound s.header_len s.tile 1 = λ i. buffer_bound (known.longest i) (largest i) 1 in
+      let same : job_bound Verify file 1 ≡ buffer_bound s.header_len s.tile 1 = λ i. buffer_bound (known.longest i) (known.largest i) 1 in
       omega (arith, all, same, one);
 }
 

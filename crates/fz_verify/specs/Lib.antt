@@ -1,4 +1,3 @@
-pub mod Again
 pub mod Clauses
 pub mod Lines
 pub mod Printed

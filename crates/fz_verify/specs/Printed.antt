@@ -10,13 +10,9 @@ use Rattle.fz_head.specs.JobChecks.{is_after_empty}
 use Rattle.fz_files.specs.FirstFault.{IsFirstRowFault, all_rows}
 use Rattle.fz_files.specs.Lines.{before_fault, has_wrong_sum, list_line, verify_line}
 use Rattle.fz_survey.specs.declared.survey.Survey.{Survey}
-use Rattle.fz_verify.specs.Again.{WereSeen}
+use Rattle.fz_again.specs.Again.{WereSeen}
+use Rattle.fz_again.specs.Known.{IsList}
 use Rattle.fz_verify.specs.Rows.{IsHduFault, IsHduSound}
-
--- the headers of the file, which were seen at the first look
-pub record IsList (file : List ℕ) (s : Survey) (hs : List Header) : Type 0 where
-  pub seen : WereSeen file s.header_len s.tile 0 0 hs
-  pub count : length hs ≡ s.hdus
 
 -- the lines of HDUs
 abbrev pub list_lines : List ℕ → List Header → List ℕ

@@ -1,19 +1,13 @@
 -- What the parts of the two jobs promise each other: all headers are looked at, then all buffers are taken, then the lines are printed.
-use Rattle.std.specs.Prelude.{ℕ, ◌≡◌, ◌+◌, ◌<◌, false, List, ◌++◌, Some, None, Ok, Err, Result, OnOk, IfErr, ⊤}
+use Rattle.std.specs.Prelude.{ℕ, ◌≡◌, ◌+◌, ◌<◌, false, List, ◌++◌, Some, None, Result, OnOk, IfErr, ⊤}
 use Rattle.fz_base.specs.Counts.{Rose, Tally, CountsKept}
 use Rattle.fz_base.specs.declared.failure.Stop.{Stop}
 use Rattle.fz_base.specs.declared.failure.Stop.TheVariants.{Refused, ReadFault, WriteFault, OverLimit, NoMemory}
-use Rattle.fz_base.specs.declared.fault.Fault.{Fault}
-use Rattle.fz_block.specs.declared.header.Header.{Header}
-use Rattle.fz_survey.specs.Surveys.{surveyed}
-use Rattle.fz_survey.specs.declared.checks.JobChecks.TheVariants.{Unpack as UnpackChecks}
 use Rattle.fz_survey.specs.declared.survey.Survey.{Survey}
 use Rattle.fz_survey.specs.declared.workspace.Wants.{Wants}
-use Rattle.fz_files.specs.Buffers.{header_takings, largest_tile, longest_header, work_takings}
-use Rattle.fz_files.specs.Walks.{header_fault, headers_for}
+use Rattle.fz_files.specs.Buffers.{header_takings, work_takings}
+use Rattle.fz_files.specs.Walks.{header_fault}
 use Rattle.fz_files.specs.declared.job.Job.{Job}
-use Rattle.fz_files.specs.declared.job.Job.TheVariants.{Verify}
-use Rattle.fz_verify.specs.Printed.{IsList}
 
 -- what is wanted of the buffers behind the first look: `list` works on no tiles
 abbrev pub wants_to_verify : Survey → Wants
@@ -41,26 +35,3 @@ pub record Works {X : Type 0} (source source' text text' : Tally) (limit : ℕ) 
   pub text_kept : CountsKept text text'
   pub ok : OnOk result ((source' ≡ source) × (text' ≡ text))
   pub stop : IfErr result (StoppedWorking source source' text text' limit)
-
--- A file passed all checks, and this was learnt of it: its headers were seen, they are those that the job looks at, none is refused, and
--- they tell the longest header that the job meets.
-pub record IsKnown (job : Job) (file : List ℕ) (s : Survey) : Type 0 where
-  pub headers : List Header
-  pub seen : IsList file s headers
-  pub are : headers_for job file ≡ headers
-  pub no_fault : header_fault job file ≡ None
-  pub longest : longest_header job file ≡ s.header_len
-
--- ---- what the law says
-
--- the first look knows the file
-abbrev pub SurveysKnow : Job → Type 0
-SurveysKnow job = (file : List ℕ) (s : Survey) → surveyed UnpackChecks file ≡ Ok s → IsKnown job file s
-
--- and the largest tile
-abbrev pub SurveysMeasure : Type 0
-SurveysMeasure = (file : List ℕ) (s : Survey) → surveyed UnpackChecks file ≡ Ok s → largest_tile Verify file ≡ s.tile
-
--- it refuses a file by its first fault
-abbrev pub SurveysRefuse : Job → Type 0
-SurveysRefuse job = (file : List ℕ) (x : Fault) → surveyed UnpackChecks file ≡ Err x → header_fault job file ≡ Some x

@@ -8,13 +8,13 @@ ghost use Rattle.fz_pool.specs.Window.{HasSlotsFor, slot_sizes};
 ghost use Rattle.fz_survey.specs.Workspace.{SpaceStays};
 ghost use Rattle.fz_job.specs.Clauses.{ComesLate, IsOfSomeRow};
 ghost use Rattle.fz_job.specs.Keeps.{Rewrites, SourceStays, WindowStays};
-ghost use Rattle.fz_verify.specs.Again.{IsAgain};
+ghost use Rattle.fz_again.specs.Again.{IsAgain};
 ghost use Rattle.fz_verify.specs.Printed.{ChecksHdu, VerifiesSeen};
 
-use crate::again::{Again, read_again};
 use crate::hdu::verify_hdu;
 use crate::law::none_refused_law;
 use crate::lines::{print, verify_line};
+use fz_again::{ReadHdu, read_again};
 use fz_base::{Gate, Source, Stop, Text};
 use fz_block::next_start;
 use fz_pool::Window;
@@ -84,7 +84,7 @@ fn print_verified<R: Threads + Sync, S: Source, T: Text, G: Gate>(
     text: &mut T,
     window: &mut Window,
     gate: &G,
-    again: &Again,
+    again: &ReadHdu,
     space: &mut Workspace,
 ) -> Result<bool, Stop>
     requires again { (n : ℕ) × (n < 2 ^ 64) × (S.attached source.old ≡ Some n) × IsAgain (S.held source.old) n space.old.header again.now }

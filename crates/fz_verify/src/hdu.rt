@@ -8,13 +8,13 @@ ghost use Rattle.fz_pool.specs.Window.{HasSlotsFor};
 ghost use Rattle.fz_survey.specs.Workspace.{SpaceStays};
 ghost use Rattle.fz_job.specs.Clauses.{IsOfSomeRow};
 ghost use Rattle.fz_job.specs.Keeps.{SourceStays, WindowStays};
-ghost use Rattle.fz_verify.specs.Again.{IsAgain};
+ghost use Rattle.fz_again.specs.Again.{IsAgain};
 ghost use Rattle.fz_verify.specs.Rows.{IsHduFault, IsHduSound};
 ghost use Rattle.fz_verify.specs.Sums.{AreVerdictsOn};
 
-use crate::again::Again;
 use crate::sums::{Verdicts, judge_sums};
 use crate::tiles::decode_tiles;
+use fz_again::ReadHdu;
 use fz_base::{Gate, Source, Stop};
 use fz_block::BLOCK_LEN;
 use fz_pool::Window;
@@ -27,7 +27,7 @@ pub(crate) fn verify_hdu<R: Threads + Sync, S: Source, G: Gate>(
     source: &mut S,
     window: &mut Window,
     gate: &G,
-    again: &Again,
+    again: &ReadHdu,
     space: &mut Workspace,
 ) -> Result<Verdicts, Stop>
     requires again { (n : ℕ) × (n < 2 ^ 64) × (S.attached source.old ≡ Some n) × IsAgain (S.held source.old) n space.old.header again.now }
@@ -53,7 +53,7 @@ fn decode_hdu<R: Threads + Sync, S: Source, G: Gate>(
     source: &mut S,
     window: &mut Window,
     gate: &G,
-    again: &Again,
+    again: &ReadHdu,
     rows: &mut [u8],
 ) -> Result<(), Stop>
     requires again { (n : ℕ) × (n < 2 ^ 64) × (S.attached source.old ≡ Some n) × ((buf : List ℕ) × IsAgain (S.held source.old) n buf again.now) }

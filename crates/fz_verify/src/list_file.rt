@@ -12,8 +12,8 @@ ghost use Rattle.fz_verify.specs.Clauses.{KeepsMeter, PrintsLines};
 ghost use Rattle.fz_verify.specs.Printed.{ListsSeen};
 ghost use Rattle.fz_verify.specs.Stages.{Works, later_takings, wants_to_list};
 
-use crate::law::known_law;
 use crate::listing::list_hdus;
+use fz_again::known_law;
 use fz_base::{Meter, Source, Stop, Text};
 use fz_block::BLOCK_LEN;
 use fz_files::buffers_law;

@@ -5,12 +5,12 @@ ghost use Rattle.fz_base.specs.Stop.{IfRefused, Writes};
 ghost use Rattle.fz_base.specs.Told.{StaysTold};
 ghost use Rattle.fz_job.specs.Clauses.{IsChanged};
 ghost use Rattle.fz_job.specs.Keeps.{Rewrites, SourceStays};
-ghost use Rattle.fz_verify.specs.Again.{IsAgain};
+ghost use Rattle.fz_again.specs.Again.{IsAgain};
 ghost use Rattle.fz_verify.specs.Lines.{listed_text};
 ghost use Rattle.fz_verify.specs.Printed.{ListsSeen};
 
-use crate::again::{Again, read_again};
 use crate::lines::{list_line, print};
+use fz_again::{ReadHdu, read_again};
 use fz_base::{Source, Stop, Text};
 use fz_block::next_start;
 use fz_survey::Survey;
@@ -62,7 +62,7 @@ pub(crate) fn list_hdus<S: Source, T: Text>(
 }
 
 // Prints the line of an HDU.
-fn print_listed<T: Text>(text: &mut T, again: &Again) -> Result<(), Stop>
+fn print_listed<T: Text>(text: &mut T, again: &ReadHdu) -> Result<(), Stop>
     requires again { (held : Option (List ℕ)) × ((n : ℕ) × ((buf : List ℕ) × IsAgain held n buf again.now)) }
     ensures all { OnOk result (T.contents text.new ≡ appended (listed_text again.now.header again.now.image) (T.contents text.old)) }
     ensures front { OnErr result (MayAppend (listed_text again.now.header again.now.image) (T.contents text.old) (T.contents text.new)) }

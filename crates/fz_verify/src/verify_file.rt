@@ -14,7 +14,7 @@ ghost use Rattle.fz_verify.specs.Printed.{VerifiesSeen};
 ghost use Rattle.fz_verify.specs.Stages.{Works, later_takings, wants_to_verify};
 
 use crate::checking::verify_hdus;
-use crate::law::known_law;
+use fz_again::known_law;
 use fz_base::{Gate, Meter, Source, Stop, Text};
 use fz_block::BLOCK_LEN;
 use fz_files::buffers_law;

@@ -4,7 +4,7 @@ use Rattle.std.proofs.lemmas.List.{length-append, length-drop, length-take}
 use Rattle.fz_base.specs.Source.{HoldsLength}
 use Rattle.fz_base.specs.declared.failure.Stop.{Stop}
 use Rattle.fz_block.specs.Header.{next_start_of}
-use Rattle.fz_verify.specs.Again.{ReadsAsSeen, is_empty_primary}
+use Rattle.fz_again.specs.Again.{ReadsAsSeen, is_empty_primary}
 use Rattle.fz_verify.specs.Printed.{ChecksHdu, IsChecking, VerifiesSeen}
 use Rattle.fz_verify.proofs.CheckedHdus.{ends_with_file, more_checked, none_checked, stops_checking, stops_reading}
 use Rattle.fz_verify.proofs.checking.verify_hdus.Goals as goal

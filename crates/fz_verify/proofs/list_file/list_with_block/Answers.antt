@@ -25,14 +25,14 @@ returns-in_err-survey-clause-lines g c =
     let old : Option (List ℕ) = g.T.Text.contents c.args.text.now in
     let stopped : c.from_residual.result ≡ Err c.in_err-survey.field-0.0 = search rules in
     subst (λ (r : Result (Unit {0}) Stop). PrintsLines ListHdus held old old r) (sym stopped)
-    (look_unprinted ListHdus held c.known_law.ensures.refuse_list (Unit {0}) old c.in_err-survey.field-0.0 c.in_err-survey.ensures.exact)
+    (look_unprinted ListHdus held (c.known_law.ensures.refuse ListHdus tt) (Unit {0}) old c.in_err-survey.field-0.0 c.in_err-survey.ensures.exact)
 
 pub returns-in_err-survey-clause-first_fault : goal.returns-in_err-survey-clause-first_fault
 returns-in_err-survey-clause-first_fault g c =
     let held : Option (List ℕ) = g.S.Source.held c.args.source.now in
     let stopped : c.from_residual.result ≡ Err c.in_err-survey.field-0.0 = search rules in
     subst (λ (r : Result (Unit {0}) Stop). TellsFirstFault ListHdus held r) (sym stopped)
-    (look_faulty ListHdus held c.known_law.ensures.refuse_list (Unit {0}) c.in_err-survey.field-0.0 c.in_err-survey.ensures.exact)
+    (look_faulty ListHdus held (c.known_law.ensures.refuse ListHdus tt) (Unit {0}) c.in_err-survey.field-0.0 c.in_err-survey.ensures.exact)
 
 pub returns-in_err-survey-clause-silent : goal.returns-in_err-survey-clause-silent
 returns-in_err-survey-clause-silent g c = untouched_silent ListHdus (g.S.Source.held c.args.source.now) _ c.from_residual.result (refl, refl)
@@ -43,7 +43,7 @@ returns-in_err-survey-clause-first_past g c =
     let meter = c.args.meter.now in
     let stopped : c.from_residual.result ≡ Err c.in_err-survey.field-0.0 = search rules in
     subst (λ (r : Result (Unit {0}) Stop). IfSome held (λ file. TellsFirstPast meter.limit (later_takings ListHdus file) r)) (sym stopped)
-    (look_takes ListHdus held lists c.known_law.ensures.refuse_list (Unit {0}) meter.live meter.limit c.in_err-survey.field-0.0 _ _ c.requires.one_block
+    (look_takes ListHdus held lists (c.known_law.ensures.refuse ListHdus tt) (Unit {0}) meter.live meter.limit c.in_err-survey.field-0.0 _ _ c.requires.one_block
     c.in_err-survey.ensures.cause.stop c.in_err-survey.ensures.exact c.in_err-survey.ensures.first_past)
 
 pub returns-in_err-survey-clause-peak : goal.returns-in_err-survey-clause-peak
@@ -79,7 +79,7 @@ returns-clause-lines g c =
     let now : Option (List ℕ) = g.T.Text.contents c.list_seen.new.text in
     let exact : IfSome held (Knows c.in_ok-survey.survey) = c.in_ok-survey.ensures.exact in
     let listed : IfSome held (λ file. ListsSeen file c.in_ok-survey.survey old now c.list_seen.result) = rw same at c.list_seen.ensures.listed in
-    list_prints c.known_law.ensures.list c.in_ok-survey.survey held old now c.list_seen.result exact listed
+    list_prints (c.known_law.ensures.know ListHdus tt) c.in_ok-survey.survey held old now c.list_seen.result exact listed
 
 pub returns-clause-first_fault : goal.returns-clause-first_fault
 returns-clause-first_fault g c =
@@ -89,13 +89,13 @@ returns-clause-first_fault g c =
     let now : Option (List ℕ) = g.T.Text.contents c.list_seen.new.text in
     let exact : IfSome held (Knows c.in_ok-survey.survey) = c.in_ok-survey.ensures.exact in
     let listed : IfSome held (λ file. ListsSeen file c.in_ok-survey.survey old now c.list_seen.result) = rw same at c.list_seen.ensures.listed in
-    list_faulty c.known_law.ensures.list c.in_ok-survey.survey held old now c.list_seen.result exact listed
+    list_faulty (c.known_law.ensures.know ListHdus tt) c.in_ok-survey.survey held old now c.list_seen.result exact listed
 
 pub returns-clause-silent : goal.returns-clause-silent
 returns-clause-silent g c =
     let held : Option (List ℕ) = g.S.Source.held c.args.source.now in
     let exact : IfSome held (Knows c.in_ok-survey.survey) = c.in_ok-survey.ensures.exact in
-    work_silent ListHdus c.known_law.ensures.list c.in_ok-survey.survey held _ c.list_seen.result exact c.list_seen.ensures.silent c.list_seen.ensures.changed
+    work_silent ListHdus (c.known_law.ensures.know ListHdus tt) c.in_ok-survey.survey held _ c.list_seen.result exact c.list_seen.ensures.silent c.list_seen.ensures.changed
 
 pub returns-clause-first_past : goal.returns-clause-first_past
 returns-clause-first_past g c =
@@ -106,7 +106,7 @@ returns-clause-first_past g c =
     let none : IfSome held (λ file. first_past meter.limit (survey_takings UnpackChecks meter.live file) ≡ None) = c.in_ok-survey.ensures.first_past in
     let tells : TellsFirstPast meter.limit (piled meter.live (wanted_buffers (wants_to_list s) 1)) c.list_seen.result =
     rw (c.in_ok-survey.ensures.live, c.in_ok-survey.ensures.limit) at c.list_seen.ensures.first_past in
-    work_takes ListHdus c.known_law.ensures.list s lists (wants_to_list s) (list_wants c.known_law.ensures.list s) meter.live c.requires.one_block held meter.limit c.list_seen.result exact none tells
+    work_takes ListHdus (c.known_law.ensures.know ListHdus tt) s lists (wants_to_list s) (list_wants (c.known_law.ensures.know ListHdus tt) s) meter.live c.requires.one_block held meter.limit c.list_seen.result exact none tells
 
 pub returns-clause-peak : goal.returns-clause-peak
 returns-clause-peak g c =
@@ -115,7 +115,7 @@ returns-clause-peak g c =
     let s = c.in_ok-survey.survey in
     let exact : IfSome held (Knows s) = c.in_ok-survey.ensures.exact in
     let high : c.list_seen.new.meter.peak ≤ max c.survey_to_unpack.new.meter.peak (meter.live + sum (wanted_buffers (wants_to_list s) 1)) = rw c.in_ok-survey.ensures.live at c.list_seen.ensures.peak in
-    work_peak ListHdus c.known_law.ensures.list s lists (wants_to_list s) (list_wants c.known_law.ensures.list s) meter.live c.requires.one_block c.buffers_law.ensures.bounded c.workspace_law.ensures.bound
+    work_peak ListHdus (c.known_law.ensures.know ListHdus tt) s lists (wants_to_list s) (list_wants (c.known_law.ensures.know ListHdus tt) s) meter.live c.requires.one_block c.buffers_law.ensures.bounded c.workspace_law.ensures.bound
     held meter.peak c.survey_to_unpack.new.meter.peak c.list_seen.new.meter.peak exact c.in_ok-survey.ensures.peak high
 
 pub returns-clause-most : goal.returns-clause-most

@@ -5,7 +5,7 @@ use Rattle.fz_base.specs.Source.{HoldsLength}
 use Rattle.fz_base.specs.declared.failure.Stop.{Stop}
 use Rattle.fz_block.specs.Header.{next_start_of}
 use Rattle.fz_files.specs.Lines.{list_line}
-use Rattle.fz_verify.specs.Again.{ReadsAsSeen, is_empty_primary}
+use Rattle.fz_again.specs.Again.{ReadsAsSeen, is_empty_primary}
 use Rattle.fz_verify.specs.Printed.{IsListing, ListsSeen}
 use Rattle.fz_verify.proofs.ListedHdus.{ends_with_file, more_listed, none_listed, stops_printing, stops_reading}
 use Rattle.fz_verify.proofs.Said.{front_listed, got_listed}

@@ -25,14 +25,14 @@ returns-in_err-survey-clause-lines g c =
     let old : Option (List ℕ) = g.T.Text.contents c.args.text.now in
     let stopped : c.from_residual.result ≡ Err c.in_err-survey.field-0.0 = search rules in
     subst (λ (r : Result Bool Stop). PrintsLines Verify held old old r) (sym stopped)
-    (look_unprinted Verify held c.known_law.ensures.refuse_verify Bool old c.in_err-survey.field-0.0 c.in_err-survey.ensures.exact)
+    (look_unprinted Verify held (c.known_law.ensures.refuse Verify tt) Bool old c.in_err-survey.field-0.0 c.in_err-survey.ensures.exact)
 
 pub returns-in_err-survey-clause-first_fault : goal.returns-in_err-survey-clause-first_fault
 returns-in_err-survey-clause-first_fault g c =
     let held : Option (List ℕ) = g.S.Source.held c.args.source.now in
     let stopped : c.from_residual.result ≡ Err c.in_err-survey.field-0.0 = search rules in
     subst (λ (r : Result Bool Stop). TellsFirstFault Verify held r) (sym stopped)
-    (look_faulty Verify held c.known_law.ensures.refuse_verify Bool c.in_err-survey.field-0.0 c.in_err-survey.ensures.exact)
+    (look_faulty Verify held (c.known_law.ensures.refuse Verify tt) Bool c.in_err-survey.field-0.0 c.in_err-survey.ensures.exact)
 
 pub returns-in_err-survey-clause-silent : goal.returns-in_err-survey-clause-silent
 returns-in_err-survey-clause-silent g c = untouched_silent Verify (g.S.Source.held c.args.source.now) _ c.from_residual.result (refl, refl)
@@ -43,7 +43,7 @@ returns-in_err-survey-clause-first_past g c =
     let meter = c.args.meter.now in
     let stopped : c.from_residual.result ≡ Err c.in_err-survey.field-0.0 = search rules in
     subst (λ (r : Result Bool Stop). IfSome held (λ file. TellsFirstPast meter.limit (later_takings Verify file) r)) (sym stopped)
-    (look_takes Verify held verifies c.known_law.ensures.refuse_verify Bool meter.live meter.limit c.in_err-survey.field-0.0 _ _ c.requires.one_block
+    (look_takes Verify held verifies (c.known_law.ensures.refuse Verify tt) Bool meter.live meter.limit c.in_err-survey.field-0.0 _ _ c.requires.one_block
     c.in_err-survey.ensures.cause.stop c.in_err-survey.ensures.exact c.in_err-survey.ensures.first_past)
 
 pub returns-in_err-survey-clause-peak : goal.returns-in_err-survey-clause-peak
@@ -82,7 +82,7 @@ returns-clause-lines g c =
     let now : Option (List ℕ) = g.T.Text.contents c.verify_seen.new.text in
     let exact : IfSome held (Knows c.in_ok-survey.survey) = c.in_ok-survey.ensures.exact in
     let verified : IfSome held (λ file. VerifiesSeen file c.in_ok-survey.survey old now c.verify_seen.result) = rw same at c.verify_seen.ensures.verified in
-    verify_prints c.known_law.ensures.verify c.in_ok-survey.survey held old now c.verify_seen.result exact verified
+    verify_prints (c.known_law.ensures.know Verify tt) c.in_ok-survey.survey held old now c.verify_seen.result exact verified
 
 pub returns-clause-right : goal.returns-clause-right
 returns-clause-right g c =
@@ -92,7 +92,7 @@ returns-clause-right g c =
     let now : Option (List ℕ) = g.T.Text.contents c.verify_seen.new.text in
     let exact : IfSome held (Knows c.in_ok-survey.survey) = c.in_ok-survey.ensures.exact in
     let verified : IfSome held (λ file. VerifiesSeen file c.in_ok-survey.survey old now c.verify_seen.result) = rw same at c.verify_seen.ensures.verified in
-    verify_right c.known_law.ensures.verify c.in_ok-survey.survey held old now c.verify_seen.result exact verified
+    verify_right (c.known_law.ensures.know Verify tt) c.in_ok-survey.survey held old now c.verify_seen.result exact verified
 
 pub returns-clause-first_fault : goal.returns-clause-first_fault
 returns-clause-first_fault g c =
@@ -102,13 +102,13 @@ returns-clause-first_fault g c =
     let now : Option (List ℕ) = g.T.Text.contents c.verify_seen.new.text in
     let exact : IfSome held (Knows c.in_ok-survey.survey) = c.in_ok-survey.ensures.exact in
     let verified : IfSome held (λ file. VerifiesSeen file c.in_ok-survey.survey old now c.verify_seen.result) = rw same at c.verify_seen.ensures.verified in
-    verify_faulty c.known_law.ensures.verify c.in_ok-survey.survey held old now c.verify_seen.result exact verified
+    verify_faulty (c.known_law.ensures.know Verify tt) c.in_ok-survey.survey held old now c.verify_seen.result exact verified
 
 pub returns-clause-silent : goal.returns-clause-silent
 returns-clause-silent g c =
     let held : Option (List ℕ) = g.S.Source.held c.args.source.now in
     let exact : IfSome held (Knows c.in_ok-survey.survey) = c.in_ok-survey.ensures.exact in
-    work_silent Verify c.known_law.ensures.verify c.in_ok-survey.survey held _ c.verify_seen.result exact c.verify_seen.ensures.silent c.verify_seen.ensures.late
+    work_silent Verify (c.known_law.ensures.know Verify tt) c.in_ok-survey.survey held _ c.verify_seen.result exact c.verify_seen.ensures.silent c.verify_seen.ensures.late
 
 pub returns-clause-first_past : goal.returns-clause-first_past
 returns-clause-first_past g c =
@@ -119,7 +119,7 @@ returns-clause-first_past g c =
     let none : IfSome held (λ file. first_past meter.limit (survey_takings UnpackChecks meter.live file) ≡ None) = c.in_ok-survey.ensures.first_past in
     let tells : TellsFirstPast meter.limit (piled meter.live (wanted_buffers (wants_to_verify s) 1)) c.verify_seen.result =
     rw (c.in_ok-survey.ensures.live, c.in_ok-survey.ensures.limit, c.requires.one_worker) at c.verify_seen.ensures.first_past in
-    work_takes Verify c.known_law.ensures.verify s verifies (wants_to_verify s) (verify_wants c.known_law.ensures.verify s c.known_law.ensures.tile) meter.live c.requires.one_block held meter.limit c.verify_seen.result exact none tells
+    work_takes Verify (c.known_law.ensures.know Verify tt) s verifies (wants_to_verify s) (verify_wants (c.known_law.ensures.know Verify tt) s) meter.live c.requires.one_block held meter.limit c.verify_seen.result exact none tells
 
 pub returns-clause-peak : goal.returns-clause-peak
 returns-clause-peak g c =
@@ -128,7 +128,7 @@ returns-clause-peak g c =
     let s = c.in_ok-survey.survey in
     let exact : IfSome held (Knows s) = c.in_ok-survey.ensures.exact in
     let high : c.verify_seen.new.meter.peak ≤ max c.survey_to_unpack.new.meter.peak (meter.live + sum (wanted_buffers (wants_to_verify s) 1)) = rw (c.in_ok-survey.ensures.live, c.requires.one_worker) at c.verify_seen.ensures.peak in
-    work_peak Verify c.known_law.ensures.verify s verifies (wants_to_verify s) (verify_wants c.known_law.ensures.verify s c.known_law.ensures.tile) meter.live c.requires.one_block c.buffers_law.ensures.bounded c.workspace_law.ensures.bound
+    work_peak Verify (c.known_law.ensures.know Verify tt) s verifies (wants_to_verify s) (verify_wants (c.known_law.ensures.know Verify tt) s) meter.live c.requires.one_block c.buffers_law.ensures.bounded c.workspace_law.ensures.bound
     held meter.peak c.survey_to_unpack.new.meter.peak c.verify_seen.new.meter.peak exact c.in_ok-survey.ensures.peak high
 
 pub returns-clause-most : goal.returns-clause-most
