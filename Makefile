@@ -9,7 +9,7 @@ MAN = $(DESTDIR)$(PREFIX)/share/man/man1
 help:
 	@echo 'make demo       compile fz without proving it, and pack, list, verify, cut and unpack samples/star_field.fits: a minute'
 	@echo 'make fz         prove and build the program: crates/fz/out/fz'
-	@echo 'make test       what the gate runs: every proof, must-fail edit, test and program: an hour and a half'
+	@echo 'make test       what the gate runs: every proof, must-fail edit, test and program: 85 minutes'
 	@echo 'make samples    write samples/ again'
 	@echo 'make install    put the program that was built and its manual page under PREFIX (/usr/local)'
 	@echo 'make uninstall  take them away again'
@@ -22,7 +22,7 @@ fz:
 	@cd crates/fz && rt run -- list ../../samples/small.fits
 
 test:
-	@echo 'The whole gate, which proves everything from nothing: an hour and a half on 4 processors; seconds where all was.'
+	@echo 'The whole gate, which proves everything from nothing: 85 minutes on 4 processors; seconds where all was.'
 	@bash .ci/run
 
 samples:
