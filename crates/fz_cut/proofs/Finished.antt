@@ -1,29 +1,26 @@
 -- What the job promises where the first look knows the file, by what the work behind it says.
-use Rattle.std.proofs.Common.{◌≡◌, ◌⊎◌, inl, inr, ℕ, ◌+◌, ◌≤◌, max, List, [], ◌++◌, append-nil, sum, sym, ◌∙◌, subst, arith}
+use Rattle.std.proofs.Common.{◌≡◌, ◌⊎◌, inl, inr, ℕ, List, [], ◌++◌, append-nil, sym, ◌∙◌, subst}
 use Rattle.std.specs.Prelude.{Option, Some, None, IfSome, Result, Ok, Err, OnOk, IsErrOf}
 use Rattle.std.specs.List.{flat_map}
 use Rattle.fz_base.specs.Ranges.{LiesIn, LogsIn}
 use Rattle.fz_base.specs.FirstByte.{IsShut}
 use Rattle.fz_base.specs.Stop.{IfRefused}
-use Rattle.fz_base.specs.Takings.{TellsFirstPast, first_past, highest, piled}
 use Rattle.fz_base.specs.declared.fault.Fault.{Fault}
 use Rattle.fz_base.specs.declared.failure.Stop.{Stop}
 use Rattle.fz_base.specs.declared.failure.Stop.TheVariants.{Refused, ReadFault, WriteFault, OverLimit, NoMemory}
 use Rattle.fz_block.specs.declared.header.Header.{Header}
 use Rattle.fz_grid.specs.declared.sieve.Sieve.{Sieve}
-use Rattle.fz_files.specs.Buffers.{AreBounded, job_bound}
 use Rattle.fz_files.specs.FirstFault.{IsFaultBehind, IsFirstFault, IsFirstRowFault, picked_rows}
 use Rattle.fz_files.specs.Cutout.{touched}
 use Rattle.fz_files.specs.CutoutBytes.{IsCutout}
 use Rattle.fz_files.specs.Walks.{box_of, header_fault}
 use Rattle.fz_files.specs.declared.job.Job.TheVariants.{Cut}
-use Rattle.fz_survey.specs.Surveys.{survey_takings, cut_surveyed}
-use Rattle.fz_survey.specs.Workspace.{StaysInBound, wanted_buffers}
-use Rattle.fz_survey.specs.declared.checks.JobChecks.TheVariants.{Cut as CutChecks}
+use Rattle.fz_survey.specs.Surveys.{cut_surveyed}
 use Rattle.fz_survey.specs.declared.survey.Survey.{Survey}
 use Rattle.fz_cut.specs.Output.{HoldsCutout}
 use Rattle.fz_job.specs.Clauses.{ComesLate, IfOverLimit, IsShutOrWhole, IsUnmade, TellsFirstFault}
-use Rattle.fz_cut.specs.Stages.{IsKnown, SurveysKnow, later_takings, wants_for}
+use Rattle.fz_stages.specs.Stages.{IsLearnt}
+use Rattle.fz_cut.specs.Stages.{IsKnown, SurveysKnow}
 use Rattle.fz_cut.specs.Written.{FinishesSeen, IsPart, IsShutOrPart, work_ranges}
 use Rattle.fz_cut.specs.Again.{WasSeen}
 use Rattle.fz_cut.specs.Laws.{WorkIsTouched}
@@ -31,7 +28,6 @@ use Rattle.fz_cut.specs.Part.{IsPartOf}
 use Rattle.fz_cut.proofs.Logs.{LogsInWider}
 use Rattle.fz_cut.proofs.Rows.{picked_sound}
 use Rattle.fz_cut.proofs.Outcomes.{refused_weaker}
-use Rattle.fz_cut.proofs.Takings.{look_within, work_tells, work_within}
 
 -- the first look knows this of the file
 abbrev pub Knows : Option ℕ → Sieve → Survey → List ℕ → Type 0
@@ -139,18 +135,7 @@ module _ (know : SurveysKnow) (want : Option ℕ) (sieve : Sieve) (s : Survey) w
       by_held None is = tt
       by_held (Some g) is = λ faulty. absurd (faulty (know want sieve g s is).no_fault)
 
-  -- ---- buffers
-
-  module _ (W live : ℕ) (one : live ≡ 2880) where
-    pub work_takes : {X : Type 0} (held : Option (List ℕ)) (limit : ℕ) (r : Result X Stop) → IfSome held (Knows want sieve s) → IfSome held (λ g. first_past limit (survey_takings (CutChecks want (box_of sieve)) live g) ≡ None) →
-        TellsFirstPast limit (piled live (wanted_buffers (wants_for s) W)) r → IfSome held (λ g. TellsFirstPast limit (later_takings want sieve g W) r)
-    work_takes None limit r exact none tells = tt
-    work_takes (Some g) limit r exact none tells = work_tells want sieve g W live one limit s r (know want sieve g s exact) none tells
-
-    pub work_peak : AreBounded → StaysInBound → (held : Option (List ℕ)) (old mid new : ℕ) → IfSome held (Knows want sieve s) → IfSome held (λ g. mid ≤ max old (highest (survey_takings (CutChecks want (box_of sieve)) live g))) →
-        new ≤ max mid (live + sum (wanted_buffers (wants_for s) W)) → IfSome held (λ g. new ≤ max old (job_bound (Cut want sieve) g W))
-    work_peak bounded bound None old mid new exact low high = tt
-    work_peak bounded bound (Some g) old mid new exact low high =
-        let look = look_within want sieve g W live one bounded in
-        let work = work_within want sieve g W live one bound s (know want sieve g s exact) in
-        omega (arith, look, work, low, high)
+  -- ---- what the work wants
+  pub learnt : (held : Option (List ℕ)) → IfSome held (Knows want sieve s) → IfSome held (IsLearnt (Cut want sieve) s.header_len s.tile)
+  learnt None exact = tt
+  learnt (Some g) exact = let known = know want sieve g s exact in record { no_fault = known.no_fault; longest = known.longest; largest = known.largest }

@@ -2,14 +2,12 @@ pub mod Beginnings
 pub mod FileImages
 pub mod FileReads
 pub mod Finished
-pub mod Greatest
 pub mod Held
 pub mod Known
 pub mod Logs
 pub mod Moves
 pub mod Outcomes
 pub mod PartBytes
-pub mod Promised
 pub mod Rounds
 pub mod Rows
 pub mod Sealing
@@ -21,8 +19,6 @@ pub mod SliceWalks
 pub mod Slices
 pub mod Standing
 pub mod Tables
-pub mod Takings
 pub mod Touching
 pub mod Walks
 pub mod Within
-pub mod Working

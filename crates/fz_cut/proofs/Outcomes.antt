@@ -1,35 +1,38 @@
--- What the job promises, by the first look and by the work behind it.
-use Rattle.std.proofs.Common.{◌≡◌, ◌⊎◌, inl, ℕ, ◌≤◌, max, List, [], ◌∷◌, refl, sym, subst, arith}
-use Rattle.std.specs.Prelude.{Option, Some, None, IfSome, Result, Ok, Err}
-use Rattle.fz_base.specs.Counts.{Tally}
+-- What the job promises that does not touch its sink, and what the look at the headers tells of its end.
+use Rattle.std.proofs.Common.{◌≡◌, ◌⊎◌, inl, ℕ, ◌≤◌, max, List, [], ◌∷◌, arith}
+use Rattle.std.specs.Prelude.{Option, Some, None, IfErr, IfSome, Result, Ok, Err}
+use Rattle.fz_base.specs.Counts.{Tally, CountsKept}
 use Rattle.fz_base.specs.FirstByte.{IsShut}
-use Rattle.fz_base.specs.Stop.{IfRefused, IsDefined, StoppedTaking, stop_of_short}
-use Rattle.fz_base.specs.Takings.{TellsFirstPast, highest}
+use Rattle.fz_base.specs.Stop.{IfRefused, IsDefined, stop_of_short}
 use Rattle.fz_base.specs.declared.fault.Fault.{Fault}
 use Rattle.fz_base.specs.declared.failure.Short.{Short}
 use Rattle.fz_base.specs.declared.failure.Short.TheVariants.{NoMemory as NoRoom, OverLimit as PastLimit}
 use Rattle.fz_base.specs.declared.failure.Stop.{Stop}
 use Rattle.fz_base.specs.declared.failure.Stop.TheVariants.{Refused, ReadFault, WriteFault, OverLimit, NoMemory}
-use Rattle.fz_grid.specs.declared.sieve.Sieve.{Sieve}
 use Rattle.fz_block.specs.declared.header.Header.{Header}
-use Rattle.fz_files.specs.Buffers.{AreBounded, job_bound}
-use Rattle.fz_files.specs.FirstFault.{IsFaultBehind}
+use Rattle.fz_grid.specs.declared.sieve.Sieve.{Sieve}
 use Rattle.fz_files.specs.Walks.{box_of, header_fault}
 use Rattle.fz_files.specs.declared.job.Job.{Job}
 use Rattle.fz_files.specs.declared.job.Job.TheVariants.{Cut}
-use Rattle.fz_survey.specs.Surveys.{survey_takings, cut_surveyed}
-use Rattle.fz_survey.specs.declared.checks.JobChecks.TheVariants.{Cut as CutChecks}
+use Rattle.fz_survey.specs.Surveys.{cut_surveyed}
 use Rattle.fz_survey.specs.declared.survey.Survey.{Survey}
-use Rattle.fz_job.specs.Clauses.{ComesLate, IfOverLimit, IsShutOrWhole, IsUnmade, TellsFirstFault}
-use Rattle.fz_cut.specs.Stages.{SurveysRefuse, later_takings}
+use Rattle.fz_job.specs.Clauses.{IfOverLimit, ComesLate, IsShutOrWhole, IsUnmade}
+use Rattle.fz_job.specs.Keeps.{StoppedRewriting}
+use Rattle.fz_stages.specs.Stages.{TellsHeaderFault}
+use Rattle.fz_cut.specs.Stages.{SurveysRefuse}
 use Rattle.fz_cut.specs.Written.{FinishesSeen, IsShutOrPart}
-use Rattle.fz_cut.proofs.Takings.{look_tells, look_within}
 
 -- ---- facts that hold whatever the answer
 
 pub always : (held : Option (List ℕ)) (P : List ℕ → Type 0) → ((g : List ℕ) → P g) → IfSome held P
 always None P is = tt
 always (Some g) P is = is g
+
+pub peak_stays : (held : Option (List ℕ)) (bound : List ℕ → ℕ) (old new : ℕ) → new ≡ old → IfSome held (λ g. new ≤ max old (bound g))
+peak_stays held bound old new same = always held (λ g. new ≤ max old (bound g)) (λ g. omega (arith, same))
+
+pub kept_same : (t : Tally) → CountsKept t t
+kept_same t = record { faults_kept = omega arith; wants_kept = omega arith; faults_stay = λ end. end; wants_stay = λ end. end }
 
 pub if_over : {X : Type 0} (r : Result X Stop) (P : Type 0) → P → IfOverLimit r P
 if_over (Ok x) P is = tt
@@ -55,12 +58,22 @@ refused_weaker (Err WriteFault) weaker is = tt
 refused_weaker (Err (OverLimit live asked limit)) weaker is = tt
 refused_weaker (Err NoMemory) weaker is = tt
 
-pub shut_empty : (contents : Option (List ℕ)) → IfSome contents (λ c. c ≡ []) → IsShut contents
+-- what takes no buffers passes no limit
+pub rewrite_over : {X : Type 0} (source source' sink sink' : Tally) (r : Result X Stop) (P : Type 0) → IfErr r (StoppedRewriting source source' sink sink') → IfOverLimit r P
+rewrite_over source source' sink sink' (Ok x) P why = tt
+rewrite_over source source' sink sink' (Err (Refused x)) P why = tt
+rewrite_over source source' sink sink' (Err ReadFault) P why = tt
+rewrite_over source source' sink sink' (Err WriteFault) P why = tt
+rewrite_over source source' sink sink' (Err (OverLimit live asked told)) P why = absurd why
+rewrite_over source source' sink sink' (Err NoMemory) P why = tt
+
+-- ---- a sink that was not touched, and is empty
+
+shut_empty : (contents : Option (List ℕ)) → IfSome contents (λ c. c ≡ []) → IsShut contents
 shut_empty None empty = tt
 shut_empty (Some []) empty = tt
 shut_empty (Some (b ∷ bytes)) empty = absurd cc
 
--- a sink that was not touched, and is empty
 pub untouched_shut : {X : Type 0} (contents : Option (List ℕ)) (Whole : Type 0) (r : Result X Stop) → IfSome contents (λ c. c ≡ []) → IsShutOrWhole contents Whole r
 untouched_shut contents Whole (Ok x) empty = tt
 untouched_shut contents Whole (Err stop) empty = inl (shut_empty contents empty)
@@ -72,8 +85,7 @@ untouched_unmade job held Same r is = record {
   refused = if_refused r (λ x. Same ⊎ ComesLate job x) (λ x. inl is);
 }
 
--- ---- buffers that were not given
-
+-- buffers that were not given
 pub short_unwritten : (X : Type 0) (sieve : Sieve) (held : Option (List ℕ)) (most tile : ℕ) (h : Header) (now : Option (List ℕ)) (short : Short) → IfSome held (λ g. FinishesSeen {X = X} g sieve most tile h now (Err (stop_of_short short)))
 short_unwritten X sieve held most tile h now short = always held (λ g. FinishesSeen {X = X} g sieve most tile h now (Err (stop_of_short short))) (λ g. unwritten g short)
   where
@@ -85,41 +97,16 @@ pub short_shut : {X : Type 0} (sieve : Sieve) (held : Option (List ℕ)) (most t
 short_shut sieve held most tile h now (Ok x) empty = tt
 short_shut sieve held most tile h now (Err stop) empty = inl (shut_empty now empty)
 
-pub short_untold : (X : Type 0) (job : Job) (held : Option (List ℕ)) (short : Short) → TellsFirstFault {X = X} job held (Err (stop_of_short short))
-short_untold X job held NoRoom = tt
-short_untold X job held (PastLimit live asked limit) = tt
+-- ---- the look at the headers
 
--- ---- the first look, by the bytes that the source tells
-
--- it knows this of the file
-abbrev pub Knows : Option ℕ → Sieve → Survey → List ℕ → Type 0
-Knows want sieve s g = cut_surveyed want (box_of sieve) g ≡ Ok s
-
-module _ (want : Option ℕ) (sieve : Sieve) (held : Option (List ℕ)) where
-  -- it stopped
-  pub look_faulty : SurveysRefuse → (X : Type 0) (stop : Stop) → IfSome held (λ g. IsDefined {X = Survey} (cut_surveyed want (box_of sieve) g) (Err stop)) → TellsFirstFault {X = X} (Cut want sieve) held (Err stop)
-  look_faulty refuse X (Refused x) exact = by_held held exact
-    where
-      by_held : (told : Option (List ℕ)) → IfSome told (λ g. cut_surveyed want (box_of sieve) g ≡ Err x) → IfSome told (λ g. IsFaultBehind (header_fault (Cut want sieve) g) (Cut want sieve) g (Some x))
-      by_held None is = tt
-      by_held (Some g) is = subst (λ (f : Option Fault). IsFaultBehind f (Cut want sieve) g (Some x)) (sym (refuse want sieve g x is)) refl
-  look_faulty refuse X ReadFault exact = tt
-  look_faulty refuse X WriteFault exact = tt
-  look_faulty refuse X (OverLimit live asked limit) exact = tt
-  look_faulty refuse X NoMemory exact = tt
-
-  pub look_takes : SurveysRefuse → (X : Type 0) (W live limit : ℕ) (stop : Stop) (before now : Tally) → live ≡ 2880 → StoppedTaking before now limit stop → IfSome held (λ g. IsDefined {X = Survey} (cut_surveyed want (box_of sieve) g) (Err stop)) →
-      IfSome held (λ g. TellsFirstPast {X = Survey} limit (survey_takings (CutChecks want (box_of sieve)) live g) (Err stop)) → IfSome held (λ g. TellsFirstPast {X = X} limit (later_takings want sieve g W) (Err stop))
-  look_takes refuse X W live limit stop before now one cause exact tells = by_held held exact tells
-    where
-      by_held : (told : Option (List ℕ)) → IfSome told (λ g. IsDefined {X = Survey} (cut_surveyed want (box_of sieve) g) (Err stop)) → IfSome told (λ g. TellsFirstPast {X = Survey} limit (survey_takings (CutChecks want (box_of sieve)) live g) (Err stop)) →
-          IfSome told (λ g. TellsFirstPast {X = X} limit (later_takings want sieve g W) (Err stop))
-      by_held None is past = tt
-      by_held (Some g) is past = look_tells want sieve g W live one refuse X limit stop before now cause is past
-
-  pub look_peak : AreBounded → (W live old new : ℕ) → live ≡ 2880 → IfSome held (λ g. new ≤ max old (highest (survey_takings (CutChecks want (box_of sieve)) live g))) → IfSome held (λ g. new ≤ max old (job_bound (Cut want sieve) g W))
-  look_peak bounded W live old new one peak = by_held held peak
-    where
-      by_held : (told : Option (List ℕ)) → IfSome told (λ g. new ≤ max old (highest (survey_takings (CutChecks want (box_of sieve)) live g))) → IfSome told (λ g. new ≤ max old (job_bound (Cut want sieve) g W))
-      by_held None low = tt
-      by_held (Some g) low = let within = look_within want sieve g W live one bounded in omega (arith, low, within)
+-- a file that it refuses has that fault
+pub look_refused : SurveysRefuse → (want : Option ℕ) (sieve : Sieve) (held : Option (List ℕ)) (stop : Stop) → IfSome held (λ g. IsDefined {X = Survey} (cut_surveyed want (box_of sieve) g) (Err stop)) → TellsHeaderFault (Cut want sieve) held stop
+look_refused refuse want sieve held (Refused x) exact = by_held held exact
+  where
+    by_held : (told : Option (List ℕ)) → IfSome told (λ g. cut_surveyed want (box_of sieve) g ≡ Err x) → IfSome told (λ g. header_fault (Cut want sieve) g ≡ Some x)
+    by_held None is = tt
+    by_held (Some g) is = refuse want sieve g x is
+look_refused refuse want sieve held ReadFault exact = tt
+look_refused refuse want sieve held WriteFault exact = tt
+look_refused refuse want sieve held (OverLimit live asked limit) exact = tt
+look_refused refuse want sieve held NoMemory exact = tt

@@ -8,7 +8,6 @@ use Rattle.std.proofs.lemmas.List.{get_or-take, length-take-le}
 use Rattle.std.proofs.lemmas.List.FromFn.{get_or-map-range_with_len, length-map-range_with_len}
 use Rattle.fz_base.specs.Refusal.{first_refusal}
 use Rattle.fz_base.specs.declared.fault.Fault.{Fault}
-use Rattle.fz_block.proofs.Refusals.{back_passed}
 use Rattle.fz_block.specs.Facts.{nine_axes}
 use Rattle.fz_block.specs.Hdus.{cards_of}
 use Rattle.fz_block.specs.declared.header.Header.{Header}
@@ -24,6 +23,7 @@ use Rattle.fz_head.specs.TableChecks.{compressed_table, repeated_table_names}
 use Rattle.fz_parts.specs.Cutout.{Sifts}
 use Rattle.fz_files.specs.Walks.{box_of}
 use Rattle.fz_cut.specs.Output.{HasPicks}
+use Rattle.fz_cut.proofs.Standing.{back_passed}
 use Rattle.fz_cut.proofs.Within.{box_length}
 
 -- ---- checks that refuse nothing

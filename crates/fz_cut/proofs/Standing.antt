@@ -1,9 +1,8 @@
 -- Where a packed primary may stand is one check, which refuses nothing behind an empty primary (FITS 4.0, section 10.1.1).
-use Rattle.std.proofs.Common.{◌≡◌, ℕ, Bool, true, false, ◌&&◌, List, [], ◌∷◌, ◌++◌, refl, ap, ◌∙◌}
+use Rattle.std.proofs.Common.{◌≡◌, ℕ, Bool, true, false, ◌&&◌, List, [], ◌∷◌, ◌++◌, refl, ap, sym, ◌∙◌}
 use Rattle.std.specs.Prelude.{not, pos, unwrap_or, None, Option, Some, Ok, codes}
 use Rattle.fz_base.specs.Refusal.{first_refusal}
 use Rattle.fz_base.specs.declared.fault.Fault.{Fault}
-use Rattle.fz_block.proofs.Refusals.{back_passed, front_passed, passed}
 use Rattle.fz_block.specs.Checks.{unless_refused}
 use Rattle.fz_block.specs.Hdus.{cards_of}
 use Rattle.fz_block.specs.declared.header.Header.{Header}
@@ -15,6 +14,21 @@ use Rattle.fz_head.specs.PackedPlan.{word_in}
 use Rattle.fz_base.specs.declared.kind.Kind.TheVariants.{BadCard, MisplacedPrimary}
 use Rattle.fz_card.specs.Reading.{is_text, logical_of, text_of}
 use Rattle.fz_head.specs.declared.job_checks.PackedImage.{PackedImage}
+
+-- ---- checks of two lists, of which none refuses
+
+passed : (xs ys : List (Bool × Fault)) → first_refusal xs ≡ None → first_refusal (xs ++ ys) ≡ first_refusal ys
+passed [] ys none = refl
+passed ((true, fault) ∷ xs) ys none = absurd cc
+passed ((false, fault) ∷ xs) ys none = passed xs ys none
+
+front_passed : (xs ys : List (Bool × Fault)) → first_refusal (xs ++ ys) ≡ None → first_refusal xs ≡ None
+front_passed [] ys none = refl
+front_passed ((true, fault) ∷ xs) ys none = none
+front_passed ((false, fault) ∷ xs) ys none = front_passed xs ys none
+
+pub back_passed : (xs ys : List (Bool × Fault)) → first_refusal (xs ++ ys) ≡ None → first_refusal ys ≡ None
+back_passed xs ys none = sym (passed xs ys (front_passed xs ys none)) ∙ none
 
 -- other checks in the place of some, which refuse nothing where these do not
 behind : (xs ys zs : List (Bool × Fault)) → (first_refusal ys ≡ None → first_refusal zs ≡ None) → first_refusal (xs ++ ys) ≡ None → first_refusal (xs ++ zs) ≡ None

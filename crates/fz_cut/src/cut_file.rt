@@ -14,7 +14,7 @@ ghost use Rattle.fz_job.specs.Clauses.{Answers, ComesLate, HasJobCause, IfOverLi
 ghost use Rattle.fz_job.specs.Keeps.{SourceStays};
 ghost use Rattle.fz_cut.specs.Again.{WasSeen};
 ghost use Rattle.fz_cut.specs.Output.{HasPicks, HoldsCutout};
-ghost use Rattle.fz_cut.specs.Stages.{Works, later_takings, wants_for};
+ghost use Rattle.fz_stages.specs.Stages.{Works, later_takings, wants_for};
 ghost use Rattle.fz_cut.specs.Written.{FinishesSeen, IsShutOrPart, work_ranges};
 
 use crate::boxes::box_of;
@@ -22,10 +22,10 @@ use crate::file::write_file;
 use crate::law::{known_law, touched_law};
 use fz_base::{Gate, Meter, Sink, Source, Stop, ranges_law};
 use fz_block::{BLOCK_LEN, Header};
-use fz_files::buffers_law;
 use fz_grid::Sieve;
 use fz_pool::{Window, sizes_law};
-use fz_survey::{Survey, Wants, Workspace, survey_to_cut, workspace_law};
+use fz_stages::stages_law;
+use fz_survey::{Survey, Wants, Workspace, survey_to_cut};
 use std::thread::Threads;
 
 /// Cuts the picks of a sieve out of a packed image of the file that is attached to the source: of the HDU of this
@@ -70,8 +70,7 @@ pub fn cut<R: Threads + Sync, S: Source, K: Sink, G: Gate>(
     ensures told_ranges { StaysTold (S.ranges source.old) (S.ranges source.new) }
     ensures told_contents { StaysTold (K.contents sink.old) (K.contents sink.new) }
 {
-    // What the bound of the buffers is.
-    buffers_law();
+    stages_law::<()>();
     let mut block = meter.bytes(BLOCK_LEN as u64)?;
     let answer = with_block(
         rt,
@@ -116,7 +115,7 @@ fn with_block<R: Threads + Sync, S: Source, K: Sink, G: Gate>(
     ensures touched { IfSome (S.held source.old) (λ g. LogsIn (touched hdu sieve.now g) (S.ranges source.old) (S.ranges source.new)) }
     ensures first_byte { IsShutOrWhole (K.contents sink.new) (HoldsCutout hdu sieve.now (S.held source.old) (K.contents sink.new)) result }
     ensures unmade { IsUnmade (Cut hdu sieve.now) (S.held source.old) ((K.created sink.new ≡ K.created sink.old) × (K.contents sink.new ≡ K.contents sink.old)) result }
-    ensures first_past { IfSome (S.held source.old) (λ g. TellsFirstPast meter.old.limit (later_takings hdu sieve.now g window.old.workers) result) }
+    ensures first_past { IfSome (S.held source.old) (λ g. TellsFirstPast meter.old.limit (later_takings (Cut hdu sieve.now) g window.old.workers) result) }
     ensures peak { IfSome (S.held source.old) (λ g. meter.new.peak ≤ max meter.old.peak (job_bound (Cut hdu sieve.now) g window.old.workers)) }
     ensures most { TellsLimit meter.old.limit (greatest_bound (Cut hdu sieve.now) window.old.workers) result }
     ensures peak_most { meter.new.peak ≤ max meter.old.peak (greatest_bound (Cut hdu sieve.now) window.old.workers) }
@@ -128,12 +127,11 @@ fn with_block<R: Threads + Sync, S: Source, K: Sink, G: Gate>(
     ensures told_contents { StaysTold (K.contents sink.old) (K.contents sink.new) }
     ensures cause { Works (S.tally source.old) (S.tally source.new) (K.tally sink.old) (K.tally sink.new) meter.old.limit result }
 {
-    // What the survey says of the file, what is read of it, and what the bound of the buffers is.
+    // What the survey says of the file, and what is read of it.
     known_law();
     touched_law();
     ranges_law();
-    buffers_law();
-    workspace_law();
+    stages_law::<()>();
     let region = box_of(sieve);
     let survey = survey_to_cut(source, length, meter, block, hdu, &region)?;
     let Some(from) = &survey.stopped else {
@@ -171,8 +169,8 @@ fn work<R: Threads + Sync, S: Source, K: Sink, G: Gate>(
     ensures touched { IfSome (S.held source.old) (λ g. WasSeen g (box_of sieve.now) survey.now.header_len survey.now.tile from.now
         → LogsIn (work_ranges g sieve.now from.now) (S.ranges source.old) (S.ranges source.new)) }
     ensures unmade { IfOverLimit result ((K.created sink.new ≡ K.created sink.old) × (K.contents sink.new ≡ K.contents sink.old)) }
-    ensures first_past { TellsFirstPast meter.old.limit (piled meter.old.live (wanted_buffers (wants_for survey.now) window.old.workers)) result }
-    ensures peak { meter.new.peak ≤ max meter.old.peak (meter.old.live + sum (wanted_buffers (wants_for survey.now) window.old.workers)) }
+    ensures first_past { TellsFirstPast meter.old.limit (piled meter.old.live (wanted_buffers (wants_for (Cut None sieve.now) survey.now) window.old.workers)) result }
+    ensures peak { meter.new.peak ≤ max meter.old.peak (meter.old.live + sum (wanted_buffers (wants_for (Cut None sieve.now) survey.now) window.old.workers)) }
     ensures live { meter.new.live ≡ meter.old.live }
     ensures limit { meter.new.limit ≡ meter.old.limit }
     ensures emptied { window.new ≡ record { slots = []; workers = window.old.workers } }
@@ -182,9 +180,9 @@ fn work<R: Threads + Sync, S: Source, K: Sink, G: Gate>(
     ensures told_contents { StaysTold (K.contents sink.old) (K.contents sink.new) }
     ensures cause { Works (S.tally source.old) (S.tally source.new) (K.tally sink.old) (K.tally sink.new) meter.old.limit result }
 {
-    // What is held is what was taken, and how long the slots are that were filled.
-    workspace_law();
+    // How long the slots are that were filled.
     sizes_law();
+    stages_law::<()>();
     let wants = Wants {
         header_len: survey.header_len,
         translates: true,

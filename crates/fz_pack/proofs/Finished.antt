@@ -1,30 +1,27 @@
 -- What the job promises where the first look knows the file, by what the work behind it says.
-use Rattle.std.proofs.Common.{◌≡◌, ◌⊎◌, inl, inr, ℕ, ◌+◌, ◌≤◌, max, List, map, sum, sym, subst, arith}
+use Rattle.std.proofs.Common.{◌≡◌, ◌⊎◌, inl, inr, ℕ, List, map, sym, subst}
 use Rattle.std.specs.Prelude.{Option, Some, None, IfSome, Result, Ok, Err, OnOk, IsErrOf}
 use Rattle.fz_base.specs.FirstByte.{IsShut}
 use Rattle.fz_base.specs.Stop.{IfRefused}
-use Rattle.fz_base.specs.Takings.{TellsFirstPast, first_past, highest, piled}
 use Rattle.fz_base.specs.declared.fault.Fault.{Fault}
 use Rattle.fz_base.specs.declared.failure.Stop.{Stop}
 use Rattle.fz_base.specs.declared.failure.Stop.TheVariants.{Refused, ReadFault, WriteFault, OverLimit, NoMemory}
 use Rattle.fz_block.specs.Walk.{hdu_of}
 use Rattle.fz_block.specs.declared.header.Header.{Header}
 use Rattle.fz_head.specs.declared.options.PackOptions.{PackOptions}
-use Rattle.fz_files.specs.Buffers.{AreBounded, job_bound}
 use Rattle.fz_files.specs.FirstFault.{IsFaultBehind, IsFirstFault}
 use Rattle.fz_files.specs.Packed.{IsPackedFile}
 use Rattle.fz_files.specs.Walks.{header_fault}
 use Rattle.fz_files.specs.declared.job.Job.TheVariants.{Pack}
-use Rattle.fz_survey.specs.Surveys.{survey_takings, surveyed}
-use Rattle.fz_survey.specs.Workspace.{StaysInBound, wanted_buffers}
+use Rattle.fz_survey.specs.Surveys.{surveyed}
 use Rattle.fz_survey.specs.declared.checks.JobChecks.TheVariants.{Pack as PackChecks}
 use Rattle.fz_survey.specs.declared.survey.Survey.{Survey}
 use Rattle.fz_pack.specs.Output.{HoldsPacked}
 use Rattle.fz_job.specs.Clauses.{IfOverLimit, IsChanged, IsShutOrWhole, IsUnmade, TellsFirstFault}
-use Rattle.fz_pack.specs.Stages.{IsKnown, SurveysKnow, later_takings, wants_for}
+use Rattle.fz_stages.specs.Stages.{IsLearnt}
+use Rattle.fz_pack.specs.Stages.{IsKnown, SurveysKnow}
 use Rattle.fz_pack.specs.Written.{ArePacked, AreShutOrWhole, FinishesSeen, IsList}
 use Rattle.fz_pack.proofs.Outcomes.{refused_weaker}
-use Rattle.fz_pack.proofs.Takings.{look_within, work_tells, work_within}
 
 -- the first look knows this of the file
 abbrev pub Knows : PackOptions → Survey → List ℕ → Type 0
@@ -87,18 +84,7 @@ module _ (know : SurveysKnow) (o : PackOptions) (s : Survey) where
       by_shut (inl is) = inl is
       by_shut (inr is) = inr (sealed_whole held now exact is.0, is.1)
 
-  -- ---- buffers
-
-  module _ (W live : ℕ) (one : live ≡ 2880) where
-    pub work_takes : {X : Type 0} (held : Option (List ℕ)) (limit : ℕ) (r : Result X Stop) → IfSome held (Knows o s) → IfSome held (λ g. first_past limit (survey_takings (PackChecks o) live g) ≡ None) →
-        TellsFirstPast limit (piled live (wanted_buffers (wants_for s) W)) r → IfSome held (λ g. TellsFirstPast limit (later_takings o g W) r)
-    work_takes None limit r exact none tells = tt
-    work_takes (Some g) limit r exact none tells = work_tells o g W live one limit s r (know o g s exact) none tells
-
-    pub work_peak : AreBounded → StaysInBound → (held : Option (List ℕ)) (old mid new : ℕ) → IfSome held (Knows o s) → IfSome held (λ g. mid ≤ max old (highest (survey_takings (PackChecks o) live g))) →
-        new ≤ max mid (live + sum (wanted_buffers (wants_for s) W)) → IfSome held (λ g. new ≤ max old (job_bound (Pack o) g W))
-    work_peak bounded bound None old mid new exact low high = tt
-    work_peak bounded bound (Some g) old mid new exact low high =
-        let look = look_within o g W live one bounded in
-        let work = work_within o g W live one bound s (know o g s exact) in
-        omega (arith, look, work, low, high)
+  -- ---- what the work wants
+  pub learnt : (held : Option (List ℕ)) → IfSome held (Knows o s) → IfSome held (IsLearnt (Pack o) s.header_len s.tile)
+  learnt None exact = tt
+  learnt (Some g) exact = let known = know o g s exact in record { no_fault = known.no_fault; longest = known.longest; largest = known.largest }

@@ -1,15 +1,11 @@
 pub mod Finished
-pub mod Greatest
 pub mod Hdus
 pub mod Held
 pub mod Known
 pub mod Outcomes
 pub mod Plans
 pub mod Products
-pub mod Promised
 pub mod Sealing
 pub mod Seen
-pub mod Takings
 pub mod Underway
 pub mod Walked
-pub mod Working

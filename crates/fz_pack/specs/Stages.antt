@@ -1,8 +1,5 @@
--- What the parts of the job promise each other: all headers are looked at, then all buffers are taken, then the file is written.
-use Rattle.std.specs.Prelude.{ℕ, ◌≡◌, ◌+◌, ◌<◌, true, List, ◌++◌, map, Some, None, Ok, Err, Result, OnOk, IfErr, ⊤}
-use Rattle.fz_base.specs.Counts.{Rose, Tally, CountsKept}
-use Rattle.fz_base.specs.declared.failure.Stop.{Stop}
-use Rattle.fz_base.specs.declared.failure.Stop.TheVariants.{Refused, ReadFault, WriteFault, OverLimit, NoMemory}
+-- What the first look says of a file.
+use Rattle.std.specs.Prelude.{ℕ, ◌≡◌, List, map, Some, None, Ok, Err}
 use Rattle.fz_base.specs.declared.fault.Fault.{Fault}
 use Rattle.fz_block.specs.Hdus.{AreHdusOf}
 use Rattle.fz_block.specs.Walk.{hdu_of}
@@ -11,35 +8,10 @@ use Rattle.fz_head.specs.declared.options.PackOptions.{PackOptions}
 use Rattle.fz_survey.specs.Surveys.{surveyed}
 use Rattle.fz_survey.specs.declared.checks.JobChecks.TheVariants.{Pack as PackChecks}
 use Rattle.fz_survey.specs.declared.survey.Survey.{Survey}
-use Rattle.fz_survey.specs.declared.workspace.Wants.{Wants}
-use Rattle.fz_files.specs.Buffers.{header_takings, largest_tile, longest_header, work_takings}
+use Rattle.fz_files.specs.Buffers.{largest_tile, longest_header}
 use Rattle.fz_files.specs.Walks.{header_fault}
 use Rattle.fz_files.specs.declared.job.Job.TheVariants.{Pack}
 use Rattle.fz_pack.specs.Written.{IsList}
-
--- what is wanted of the buffers behind the first look
-abbrev pub wants_for : Survey → Wants
-wants_for s = record { header_len = s.header_len; translates = true; tile = Some s.tile }
-
--- what is taken behind the first block: each header in turn, and then what the work takes
-abbrev pub later_takings : PackOptions → List ℕ → ℕ → List (ℕ × ℕ)
-later_takings o file W = header_takings (Pack o) file ++ work_takings (header_fault (Pack o) file) (Pack o) file W
-
--- Why a call stopped that reads, takes buffers and writes: Refused comes only where no count rose, and what passed the limit is said by
--- the takings of the call.
-abbrev pub StoppedWorking : Tally → Tally → Tally → Tally → ℕ → Stop → Type 0
-StoppedWorking source source' sink sink' limit (Refused x) = (source' ≡ source) × (sink' ≡ sink)
-StoppedWorking source source' sink sink' limit ReadFault = Rose source.faults source'.faults
-StoppedWorking source source' sink sink' limit WriteFault = Rose sink.faults sink'.faults
-StoppedWorking source source' sink sink' limit (OverLimit live asked told) = (told ≡ limit) × (limit < live + asked)
-StoppedWorking source source' sink sink' limit NoMemory = ⊤
-
--- such a call changed the counts of its source and its sink as its answer says
-pub record Works {X : Type 0} (source source' sink sink' : Tally) (limit : ℕ) (result : Result X Stop) : Type 0 where
-  pub source_kept : CountsKept source source'
-  pub sink_kept : CountsKept sink sink'
-  pub ok : OnOk result ((source' ≡ source) × (sink' ≡ sink))
-  pub stop : IfErr result (StoppedWorking source source' sink sink' limit)
 
 -- A file passed all checks, and this was learnt of it: its headers were seen, they are those of its HDUs, none is refused, and they
 -- tell the longest header and the largest tile that the job meets.

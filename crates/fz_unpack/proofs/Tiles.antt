@@ -7,7 +7,6 @@ use Rattle.fz_base.specs.declared.fault.Fault.{Fault}
 use Rattle.fz_block.specs.declared.header.Header.{Header}
 use Rattle.fz_grid.specs.Arrays.{NumberArray}
 use Rattle.fz_grid.specs.Division.{AreTileLengths}
-use Rattle.fz_grid.specs.Grid.{tile}
 use Rattle.fz_grid.specs.Laws.{JoinedHasTheTiles, JoinedIsArray}
 use Rattle.fz_grid.specs.Region.{IsDivided, lengths_of}
 use Rattle.fz_grid.specs.Whole.{AreTiles, joined}

@@ -1,5 +1,5 @@
 -- The halves of the window between two turns.
-use Rattle.std.proofs.Common.{◌≡◌, ℕ, ◌+◌, ◌*◌, ◌<◌, ◌≤◌, List, [], ◌++◌, length, map, replicate, Option, Some, None, IfSome, refl, sym, ap, ◌∙◌, subst, arith}
+use Rattle.std.proofs.Common.{◌≡◌, ℕ, ◌+◌, ◌*◌, ◌≤◌, List, [], ◌++◌, map, Option, Some, None, IfSome, refl, sym, ap, ◌∙◌, subst, arith}
 use Rattle.std.specs.List.{range_with_len}
 use Rattle.std.proofs.lemmas.List.{map-append}
 use Rattle.fz_base.specs.declared.fault.Fault.{Fault}
@@ -8,9 +8,9 @@ use Rattle.fz_head.specs.declared.job_checks.PackedImage.{PackedImage}
 use Rattle.fz_head.specs.declared.plan.Plan.{Plan}
 use Rattle.fz_files.specs.FirstFault.{IsFirstRowFault, image_row, rows_of}
 use Rattle.fz_files.specs.Packed.{tiles_in}
-use Rattle.fz_pool.specs.Laws.{AreAsMany, BothAlike, HalvesAlike}
-use Rattle.fz_pool.specs.Window.{AreHalves, Pool, slot_sizes}
-use Rattle.fz_fetch.specs.Fetched.{AreFetched, RowsGive}
+use Rattle.fz_pool.specs.Laws.{HalvesAlike}
+use Rattle.fz_pool.specs.Window.{AreHalves, Pool}
+use Rattle.fz_fetch.specs.Fetched.{RowsGive}
 use Rattle.fz_fetch.specs.Images.{HaveRoom, IsSaid}
 use Rattle.fz_unpack.specs.Images.{AreWrittenTiles}
 use Rattle.fz_unpack.specs.Turns.{AreAlike, HaveRooms, StandFetched}

@@ -1,6 +1,5 @@
 -- The restored file, written but for its byte 0, which comes last (FITS 4.0, section 4.4.1.1).
 use Rattle.std.specs.Prelude.{ℕ, ◌≡◌, ◌+◌, ◌^◌, ◌≤◌, ◌<◌, Bool, List, [], ◌∷◌, ◌++◌, length, Option, Some, Result, OnOk, ⊤}
-use Rattle.fz_base.specs.Sink.{written}
 use Rattle.fz_base.specs.Stop.{IfRefused}
 use Rattle.fz_base.specs.declared.fault.Fault.{Fault}
 use Rattle.fz_base.specs.declared.failure.Stop.{Stop}

@@ -3,6 +3,5 @@ pub mod First
 pub mod Images
 pub mod Laws
 pub mod Output
-pub mod Stages
 pub mod Turns
 pub mod Written

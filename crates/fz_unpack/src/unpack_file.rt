@@ -10,16 +10,16 @@ ghost use Rattle.fz_files.specs.declared.job.Job.TheVariants.{Unpack};
 ghost use Rattle.fz_unpack.specs.Output.{HoldsRestored};
 ghost use Rattle.fz_job.specs.Clauses.{Answers, ComesLate, HasJobCause, IfOverLimit, IsShutOrWhole, IsUnmade, KeepsBuffers, KeepsSource, TellsFirstFault, greatest_bound};
 ghost use Rattle.fz_job.specs.Keeps.{SourceStays};
-ghost use Rattle.fz_unpack.specs.Stages.{Works, later_takings, wants_for};
+ghost use Rattle.fz_stages.specs.Stages.{Works, later_takings, wants_for};
 ghost use Rattle.fz_unpack.specs.Written.{AreShutOrWhole, FinishesSeen};
 
 use crate::file::write_file;
 use fz_again::known_law;
 use fz_base::{Gate, Meter, Sink, Source, Stop};
 use fz_block::BLOCK_LEN;
-use fz_files::buffers_law;
 use fz_pool::{Window, sizes_law};
-use fz_survey::{Survey, Wants, Workspace, survey_to_unpack, workspace_law};
+use fz_stages::stages_law;
+use fz_survey::{Survey, Wants, Workspace, survey_to_unpack};
 use std::thread::Threads;
 
 /// Unpacks the file that is attached to the source into the sink, which it makes by this name: the sink then holds the
@@ -58,8 +58,7 @@ pub fn unpack<R: Threads + Sync, S: Source, K: Sink, G: Gate>(
     ensures told_ranges { StaysTold (S.ranges source.old) (S.ranges source.new) }
     ensures told_contents { StaysTold (K.contents sink.old) (K.contents sink.new) }
 {
-    // What the bound of the buffers is.
-    buffers_law();
+    stages_law::<()>();
     let mut block = meter.bytes(BLOCK_LEN as u64)?;
     let answer = with_block(
         rt,
@@ -98,7 +97,7 @@ fn with_block<R: Threads + Sync, S: Source, K: Sink, G: Gate>(
     ensures first_fault { TellsFirstFault Unpack (S.held source.old) result }
     ensures first_byte { IsShutOrWhole (K.contents sink.new) (HoldsRestored (S.held source.old) (K.contents sink.new)) result }
     ensures unmade { IsUnmade Unpack (S.held source.old) ((K.created sink.new ≡ K.created sink.old) × (K.contents sink.new ≡ K.contents sink.old)) result }
-    ensures first_past { IfSome (S.held source.old) (λ g. TellsFirstPast meter.old.limit (later_takings g window.old.workers) result) }
+    ensures first_past { IfSome (S.held source.old) (λ g. TellsFirstPast meter.old.limit (later_takings Unpack g window.old.workers) result) }
     ensures peak { IfSome (S.held source.old) (λ g. meter.new.peak ≤ max meter.old.peak (job_bound Unpack g window.old.workers)) }
     ensures most { TellsLimit meter.old.limit (greatest_bound Unpack window.old.workers) result }
     ensures peak_most { meter.new.peak ≤ max meter.old.peak (greatest_bound Unpack window.old.workers) }
@@ -110,10 +109,9 @@ fn with_block<R: Threads + Sync, S: Source, K: Sink, G: Gate>(
     ensures told_contents { StaysTold (K.contents sink.old) (K.contents sink.new) }
     ensures cause { Works (S.tally source.old) (S.tally source.new) (K.tally sink.old) (K.tally sink.new) meter.old.limit result }
 {
-    // What the survey says of the file, and what the bound of the buffers is.
+    // What the survey says of the file.
     known_law();
-    buffers_law();
-    workspace_law();
+    stages_law::<()>();
     let survey = survey_to_unpack(source, length, meter, block)?;
     work(
         rt, source, length, name, sink, meter, window, gate, &survey, block,
@@ -143,8 +141,8 @@ fn work<R: Threads + Sync, S: Source, K: Sink, G: Gate>(
     ensures finished { OnOk result (K.finished sink.new ≡ true) }
     ensures shut { AreShutOrWhole survey.now (S.held source.old) (K.contents sink.new) result }
     ensures unmade { IfOverLimit result ((K.created sink.new ≡ K.created sink.old) × (K.contents sink.new ≡ K.contents sink.old)) }
-    ensures first_past { TellsFirstPast meter.old.limit (piled meter.old.live (wanted_buffers (wants_for survey.now) window.old.workers)) result }
-    ensures peak { meter.new.peak ≤ max meter.old.peak (meter.old.live + sum (wanted_buffers (wants_for survey.now) window.old.workers)) }
+    ensures first_past { TellsFirstPast meter.old.limit (piled meter.old.live (wanted_buffers (wants_for Unpack survey.now) window.old.workers)) result }
+    ensures peak { meter.new.peak ≤ max meter.old.peak (meter.old.live + sum (wanted_buffers (wants_for Unpack survey.now) window.old.workers)) }
     ensures live { meter.new.live ≡ meter.old.live }
     ensures limit { meter.new.limit ≡ meter.old.limit }
     ensures emptied { window.new ≡ record { slots = []; workers = window.old.workers } }
@@ -154,9 +152,9 @@ fn work<R: Threads + Sync, S: Source, K: Sink, G: Gate>(
     ensures told_contents { StaysTold (K.contents sink.old) (K.contents sink.new) }
     ensures cause { Works (S.tally source.old) (S.tally source.new) (K.tally sink.old) (K.tally sink.new) meter.old.limit result }
 {
-    // What is held is what was taken, and how long the slots are that were filled.
-    workspace_law();
+    // How long the slots are that were filled.
     sizes_law();
+    stages_law::<()>();
     let wants = Wants {
         header_len: survey.header_len,
         translates: true,

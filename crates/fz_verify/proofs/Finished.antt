@@ -1,33 +1,30 @@
 -- What a job promises where the first look knows the file, by what the work behind it says.
-use Rattle.std.proofs.Common.{◌≡◌, inr, ℕ, ◌+◌, ◌≤◌, max, Bool, List, sum, sym, ap, ◌∙◌, subst, arith}
+use Rattle.std.proofs.Common.{◌≡◌, inr, ℕ, Bool, List, map, sym, ap, ◌∙◌, subst}
 use Rattle.std.specs.Prelude.{Option, Some, None, IfSome, IfOk, Result, Ok, Err, not}
 use Rattle.std.specs.List.{list_any}
 use Rattle.fz_base.specs.Sink.{MayAppend, appended}
 use Rattle.fz_base.specs.Stop.{IfRefused}
-use Rattle.fz_base.specs.Takings.{TellsFirstPast, first_past, highest, piled}
 use Rattle.fz_base.specs.declared.fault.Fault.{Fault}
 use Rattle.fz_base.specs.declared.failure.Stop.{Stop}
 use Rattle.fz_base.specs.declared.failure.Stop.TheVariants.{Refused, ReadFault, WriteFault, OverLimit, NoMemory}
 use Rattle.fz_block.specs.declared.header.Header.{Header}
-use Rattle.fz_files.specs.Buffers.{AreBounded, job_bound}
+use Rattle.fz_head.specs.Greatest.{greatest}
+use Rattle.fz_head.specs.WorkBuffers.{pixels_of_tile}
+use Rattle.fz_files.specs.Buffers.{largest_tile, plans_behind}
 use Rattle.fz_files.specs.FirstFault.{IsFaultBehind, IsFirstFault, IsFirstRowFault, all_rows}
 use Rattle.fz_files.specs.Lines.{before_fault, has_wrong_sum, lines_behind, report_lines}
 use Rattle.fz_files.specs.Walks.{header_fault}
 use Rattle.fz_files.specs.declared.job.Job.{Job}
 use Rattle.fz_files.specs.declared.job.Job.TheVariants.{Verify, List as ListHdus}
-use Rattle.fz_survey.specs.Surveys.{survey_takings, surveyed}
-use Rattle.fz_survey.specs.Workspace.{StaysInBound, wanted_buffers}
+use Rattle.fz_survey.specs.Surveys.{surveyed}
 use Rattle.fz_survey.specs.declared.checks.JobChecks.TheVariants.{Unpack as UnpackChecks}
 use Rattle.fz_survey.specs.declared.survey.Survey.{Survey}
-use Rattle.fz_survey.specs.declared.workspace.Wants.{Wants}
 use Rattle.fz_job.specs.Clauses.{ComesLate, IfOverLimit, IsUnmade, TellsFirstFault}
 use Rattle.fz_verify.specs.Clauses.{GotFront, IsRightAsSaid, PrintsLines}
 use Rattle.fz_verify.specs.Printed.{GotSome, GotVerified, ListsSeen, VerifiesSeen, list_lines, verify_lines}
 use Rattle.fz_again.specs.Known.{IsKnown, SurveysKnow}
-use Rattle.fz_verify.specs.Stages.{later_takings, wants_to_list, wants_to_verify}
-use Rattle.fz_verify.proofs.Jobs.{IsReader}
+use Rattle.fz_stages.specs.Stages.{IsLearnt}
 use Rattle.fz_verify.proofs.Outcomes.{refused_weaker}
-use Rattle.fz_verify.proofs.Takings.{Wanted, look_within, wanted_to_list, wanted_to_verify, work_tells}
 
 -- the first look knows this of the file
 abbrev pub Knows : Survey → List ℕ → Type 0
@@ -42,20 +39,6 @@ module _ (job : Job) (know : SurveysKnow job) (s : Survey) where
       by_held : (told : Option (List ℕ)) → IfSome told (Knows s) → IfSome told (λ file. ¬ (header_fault job file ≡ None) → Same)
       by_held None is = tt
       by_held (Some g) is = λ faulty. absurd (faulty (know g s is).no_fault)
-
-  module _ (reader : IsReader job) (wants : Wants) (wanted : (g : List ℕ) → Knows s g → Wanted job g wants) (live : ℕ) (one : live ≡ 2880) where
-    pub work_takes : {X : Type 0} (held : Option (List ℕ)) (limit : ℕ) (r : Result X Stop) → IfSome held (Knows s) → IfSome held (λ g. first_past limit (survey_takings UnpackChecks live g) ≡ None) →
-        TellsFirstPast limit (piled live (wanted_buffers wants 1)) r → IfSome held (λ g. TellsFirstPast limit (later_takings job g) r)
-    work_takes None limit r exact none tells = tt
-    work_takes (Some g) limit r exact none tells = work_tells job reader g live one limit wants r ((wanted g exact).takings live one) none tells
-
-    pub work_peak : AreBounded → StaysInBound → (held : Option (List ℕ)) (old mid new : ℕ) → IfSome held (Knows s) → IfSome held (λ g. mid ≤ max old (highest (survey_takings UnpackChecks live g))) →
-        new ≤ max mid (live + sum (wanted_buffers wants 1)) → IfSome held (λ g. new ≤ max old (job_bound job g 1))
-    work_peak bounded bound None old mid new exact low high = tt
-    work_peak bounded bound (Some g) old mid new exact low high =
-        let look = look_within job reader g live one bounded in
-        let work = (wanted g exact).within live one bound in
-        omega (arith, look, work, low, high)
 
   -- the first fault of the file, by that of its rows
   pub rows_fault : (g : List ℕ) (known : IsKnown job g s) (fault : Option Fault) → IsFaultBehind None job g fault → IsFirstFault job g fault
@@ -114,8 +97,13 @@ module _ (know : SurveysKnow ListHdus) (s : Survey) where
   list_faulty None old new r exact seen = fault_untold ListHdus r
   list_faulty (Some g) old new r exact seen = list_faulty_by g (know g s exact) old new r seen
 
-  pub list_wants : (g : List ℕ) → Knows s g → Wanted ListHdus g (wants_to_list s)
-  list_wants g exact = wanted_to_list g s (know g s exact)
+  -- what the work wants: it works on no tiles
+  pub list_learnt : (held : Option (List ℕ)) → IfSome held (Knows s) → IfSome held (IsLearnt ListHdus s.header_len 0)
+  list_learnt None exact = tt
+  list_learnt (Some g) exact =
+      let known = know g s exact in
+      let none : largest_tile ListHdus g ≡ 0 = ap (λ (f : Option Fault). greatest (map pixels_of_tile (plans_behind f ListHdus g))) known.no_fault in
+      record { no_fault = known.no_fault; longest = known.longest; largest = none }
 
 -- ---- `verify`
 
@@ -184,5 +172,7 @@ module _ (know : SurveysKnow Verify) (s : Survey) where
   verify_faulty None old new r exact seen = verify_fault_untold r
   verify_faulty (Some g) old new r exact seen = let known = know g s exact in verify_faulty_by g known old new r (seen known.headers known.seen)
 
-  pub verify_wants : (g : List ℕ) → Knows s g → Wanted Verify g (wants_to_verify s)
-  verify_wants g exact = wanted_to_verify g s (know g s exact)
+  -- what the work wants
+  pub verify_learnt : (held : Option (List ℕ)) → IfSome held (Knows s) → IfSome held (IsLearnt Verify s.header_len s.tile)
+  verify_learnt None exact = tt
+  verify_learnt (Some g) exact = let known = know g s exact in record { no_fault = known.no_fault; longest = known.longest; largest = known.largest }

@@ -11,13 +11,13 @@ use Rattle.fz_base.specs.declared.failure.Short.TheVariants.{NoMemory as NoRoom,
 use Rattle.fz_survey.specs.Workspace.{wanted_buffers}
 use Rattle.fz_survey.specs.declared.survey.Survey.{Survey}
 use Rattle.fz_verify.specs.Printed.{ListsSeen, list_lines}
-use Rattle.fz_verify.specs.Stages.{Works, wants_to_list}
+use Rattle.fz_files.specs.declared.job.Job.TheVariants.{List as ListHdus}
+use Rattle.fz_stages.specs.Stages.{Works, wants_for}
 use Rattle.fz_verify.proofs.Held.{sum_one}
-use Rattle.fz_verify.proofs.Outcomes.{always}
+use Rattle.fz_verify.proofs.Outcomes.{always, kept_same}
 use Rattle.fz_verify.proofs.Texts.{front_none}
-use Rattle.fz_verify.proofs.Working.{kept_same}
 
-pub sum_of_one : (s : Survey) → sum (wanted_buffers (wants_to_list s) 1) ≡ s.header_len
+pub sum_of_one : (s : Survey) → sum (wanted_buffers (wants_for ListHdus s) 1) ≡ s.header_len
 sum_of_one s = sum_one s.header_len
 
 -- it was given
@@ -34,10 +34,10 @@ one_short_takes X meter n (PastLimit live asked told) why =
     ap (λ b. if b then Some (meter.live, n) else None) test ∙ (λ i. Some (sym why.1 i, sym why.2 i))
 
 pub one_works : (X : Type 0) (source text : Tally) (meter : Gauge) (n : ℕ) (short : Short) → RefusedFor meter n short → Works {X = X} source source text text meter.limit (Err (stop_of_short short))
-one_works X source text meter n NoRoom why = record { source_kept = kept_same source; text_kept = kept_same text; ok = tt; stop = tt }
+one_works X source text meter n NoRoom why = record { source_kept = kept_same source; sink_kept = kept_same text; ok = tt; stop = tt }
 one_works X source text meter n (PastLimit live asked told) why = record {
   source_kept = kept_same source;
-  text_kept = kept_same text;
+  sink_kept = kept_same text;
   ok = tt;
   stop = (why.3, omega (arith, why.0, why.1, why.2));
 }

@@ -1,32 +1,28 @@
 -- What the parts of a job make of its promises, where no line was printed.
-use Rattle.std.proofs.Common.{◌≡◌, ◌⊎◌, inl, ℕ, ◌≤◌, max, List, refl, sym, ap, ◌∙◌, subst, arith}
-use Rattle.std.specs.Prelude.{Option, Some, None, IfSome, Result, Ok, Err}
-use Rattle.fz_base.specs.Counts.{Tally}
+use Rattle.std.proofs.Common.{◌≡◌, ◌⊎◌, inl, ℕ, ◌≤◌, max, List, sym, ap, ◌∙◌, arith}
+use Rattle.std.specs.Prelude.{Option, Some, None, IfErr, IfSome, Result, Ok, Err}
+use Rattle.fz_base.specs.Counts.{Tally, CountsKept}
 use Rattle.fz_base.specs.Sink.{appended}
-use Rattle.fz_base.specs.Stop.{IfRefused, IsDefined, StoppedTaking, stop_of_short}
-use Rattle.fz_base.specs.Takings.{TellsFirstPast, highest}
+use Rattle.fz_base.specs.Stop.{IfRefused, IsDefined, stop_of_short}
 use Rattle.fz_base.specs.declared.fault.Fault.{Fault}
 use Rattle.fz_base.specs.declared.failure.Short.{Short}
 use Rattle.fz_base.specs.declared.failure.Short.TheVariants.{NoMemory as NoRoom, OverLimit as PastLimit}
 use Rattle.fz_base.specs.declared.failure.Stop.{Stop}
 use Rattle.fz_base.specs.declared.failure.Stop.TheVariants.{Refused, ReadFault, WriteFault, OverLimit, NoMemory}
-use Rattle.fz_files.specs.Buffers.{AreBounded, job_bound}
-use Rattle.fz_files.specs.FirstFault.{IsFaultBehind}
 use Rattle.fz_block.specs.declared.header.Header.{Header}
 use Rattle.fz_files.specs.Lines.{before_fault, lines_behind, report_lines}
 use Rattle.fz_files.specs.Walks.{header_fault}
 use Rattle.fz_files.specs.declared.job.Job.{Job}
-use Rattle.fz_survey.specs.Surveys.{survey_takings, surveyed}
+use Rattle.fz_survey.specs.Surveys.{surveyed}
 use Rattle.fz_survey.specs.declared.checks.JobChecks.TheVariants.{Unpack as UnpackChecks}
 use Rattle.fz_survey.specs.declared.survey.Survey.{Survey}
-use Rattle.fz_job.specs.Clauses.{ComesLate, IfOverLimit, IsUnmade, TellsFirstFault}
+use Rattle.fz_job.specs.Clauses.{ComesLate, IfOverLimit, IsUnmade}
+use Rattle.fz_job.specs.Keeps.{StoppedRewriting}
 use Rattle.fz_verify.specs.Clauses.{GotFront, GotLines, PrintsLines}
 use Rattle.fz_again.specs.Known.{IsList}
 use Rattle.fz_verify.specs.Printed.{GotSome, VerifiesSeen, verify_lines}
 use Rattle.fz_again.specs.Known.{SurveysRefuse}
-use Rattle.fz_verify.specs.Stages.{later_takings}
-use Rattle.fz_verify.proofs.Jobs.{IsReader}
-use Rattle.fz_verify.proofs.Takings.{look_tells, look_within}
+use Rattle.fz_stages.specs.Stages.{TellsHeaderFault}
 use Rattle.fz_verify.proofs.Texts.{appended_none, front_none}
 
 -- ---- facts that hold whatever the answer
@@ -34,6 +30,12 @@ use Rattle.fz_verify.proofs.Texts.{appended_none, front_none}
 pub always : (held : Option (List ℕ)) (P : List ℕ → Type 0) → ((g : List ℕ) → P g) → IfSome held P
 always None P is = tt
 always (Some g) P is = is g
+
+pub peak_stays : (held : Option (List ℕ)) (bound : List ℕ → ℕ) (old new : ℕ) → new ≡ old → IfSome held (λ g. new ≤ max old (bound g))
+peak_stays held bound old new same = always held (λ g. new ≤ max old (bound g)) (λ g. omega (arith, same))
+
+pub kept_same : (t : Tally) → CountsKept t t
+kept_same t = record { faults_kept = omega arith; wants_kept = omega arith; faults_stay = λ end. end; wants_stay = λ end. end }
 
 pub if_over : {X : Type 0} (r : Result X Stop) (P : Type 0) → P → IfOverLimit r P
 if_over (Ok x) P is = tt
@@ -59,6 +61,15 @@ refused_weaker (Err WriteFault) weaker is = tt
 refused_weaker (Err (OverLimit live asked limit)) weaker is = tt
 refused_weaker (Err NoMemory) weaker is = tt
 
+-- what takes no buffers passes no limit
+pub rewrite_over : {X : Type 0} (source source' text text' : Tally) (r : Result X Stop) (P : Type 0) → IfErr r (StoppedRewriting source source' text text') → IfOverLimit r P
+rewrite_over source source' text text' (Ok x) P why = tt
+rewrite_over source source' text text' (Err (Refused x)) P why = tt
+rewrite_over source source' text text' (Err ReadFault) P why = tt
+rewrite_over source source' text text' (Err WriteFault) P why = tt
+rewrite_over source source' text text' (Err (OverLimit live asked told)) P why = absurd why
+rewrite_over source source' text text' (Err NoMemory) P why = tt
+
 -- the text was not touched
 pub untouched_silent : {X : Type 0} (job : Job) (held : Option (List ℕ)) (Same : Type 0) (r : Result X Stop) → Same → IsUnmade job held Same r
 untouched_silent job held Same r is = record {
@@ -76,24 +87,20 @@ pub short_unprinted : (X : Type 0) (job : Job) (held old : Option (List ℕ)) (s
 short_unprinted X job held old NoRoom = front_always job held old
 short_unprinted X job held old (PastLimit live asked limit) = front_always job held old
 
-pub short_untold : (X : Type 0) (job : Job) (held : Option (List ℕ)) (short : Short) → TellsFirstFault {X = X} job held (Err (stop_of_short short))
-short_untold X job held NoRoom = tt
-short_untold X job held (PastLimit live asked limit) = tt
-
 -- ---- the first look, by the bytes that the source tells
 
 module _ (job : Job) (held : Option (List ℕ)) where
-  -- it stopped
-  pub look_faulty : SurveysRefuse job → (X : Type 0) (stop : Stop) → IfSome held (λ g. IsDefined {X = Survey} (surveyed UnpackChecks g) (Err stop)) → TellsFirstFault {X = X} job held (Err stop)
-  look_faulty refuse X (Refused x) exact = by_held held exact
+  -- a file that it refuses has that fault
+  pub look_refused : SurveysRefuse job → (stop : Stop) → IfSome held (λ g. IsDefined {X = Survey} (surveyed UnpackChecks g) (Err stop)) → TellsHeaderFault job held stop
+  look_refused refuse (Refused x) exact = by_held held exact
     where
-      by_held : (told : Option (List ℕ)) → IfSome told (λ g. surveyed UnpackChecks g ≡ Err x) → IfSome told (λ g. IsFaultBehind (header_fault job g) job g (Some x))
+      by_held : (told : Option (List ℕ)) → IfSome told (λ g. surveyed UnpackChecks g ≡ Err x) → IfSome told (λ g. header_fault job g ≡ Some x)
       by_held None is = tt
-      by_held (Some g) is = subst (λ (f : Option Fault). IsFaultBehind f job g (Some x)) (sym (refuse g x is)) refl
-  look_faulty refuse X ReadFault exact = tt
-  look_faulty refuse X WriteFault exact = tt
-  look_faulty refuse X (OverLimit live asked limit) exact = tt
-  look_faulty refuse X NoMemory exact = tt
+      by_held (Some g) is = refuse g x is
+  look_refused refuse ReadFault exact = tt
+  look_refused refuse WriteFault exact = tt
+  look_refused refuse (OverLimit live asked limit) exact = tt
+  look_refused refuse NoMemory exact = tt
 
   -- and printed nothing
   pub look_unprinted : SurveysRefuse job → (X : Type 0) (old : Option (List ℕ)) (stop : Stop) → IfSome held (λ g. IsDefined {X = Survey} (surveyed UnpackChecks g) (Err stop)) → PrintsLines {X = X} job held old old (Err stop)
@@ -106,22 +113,6 @@ module _ (job : Job) (held : Option (List ℕ)) where
   look_unprinted refuse X old WriteFault exact = front_always job held old
   look_unprinted refuse X old (OverLimit live asked limit) exact = front_always job held old
   look_unprinted refuse X old NoMemory exact = front_always job held old
-
-  pub look_takes : IsReader job → SurveysRefuse job → (X : Type 0) (live limit : ℕ) (stop : Stop) (before now : Tally) → live ≡ 2880 → StoppedTaking before now limit stop → IfSome held (λ g. IsDefined {X = Survey} (surveyed UnpackChecks g) (Err stop)) →
-      IfSome held (λ g. TellsFirstPast {X = Survey} limit (survey_takings UnpackChecks live g) (Err stop)) → IfSome held (λ g. TellsFirstPast {X = X} limit (later_takings job g) (Err stop))
-  look_takes reader refuse X live limit stop before now one cause exact tells = by_held held exact tells
-    where
-      by_held : (told : Option (List ℕ)) → IfSome told (λ g. IsDefined {X = Survey} (surveyed UnpackChecks g) (Err stop)) → IfSome told (λ g. TellsFirstPast {X = Survey} limit (survey_takings UnpackChecks live g) (Err stop)) →
-          IfSome told (λ g. TellsFirstPast {X = X} limit (later_takings job g) (Err stop))
-      by_held None is past = tt
-      by_held (Some g) is past = look_tells job reader g live one refuse X limit stop before now cause is past
-
-  pub look_peak : IsReader job → AreBounded → (live old new : ℕ) → live ≡ 2880 → IfSome held (λ g. new ≤ max old (highest (survey_takings UnpackChecks live g))) → IfSome held (λ g. new ≤ max old (job_bound job g 1))
-  look_peak reader bounded live old new one peak = by_held held peak
-    where
-      by_held : (told : Option (List ℕ)) → IfSome told (λ g. new ≤ max old (highest (survey_takings UnpackChecks live g))) → IfSome told (λ g. new ≤ max old (job_bound job g 1))
-      by_held None low = tt
-      by_held (Some g) low = let within = look_within job reader g live one bounded in omega (arith, low, within)
 
 -- no HDU was verified
 some_always : (held : Option (List ℕ)) (s : Survey) (old : Option (List ℕ)) → IfSome held (λ g. (hs : List Header) → IsList g s hs → GotSome g hs old old)

@@ -2,5 +2,4 @@ pub mod Clauses
 pub mod Lines
 pub mod Printed
 pub mod Rows
-pub mod Stages
 pub mod Sums

@@ -10,14 +10,14 @@ ghost use Rattle.fz_job.specs.Clauses.{Answers, HasJobCause, IfOverLimit, IsChan
 ghost use Rattle.fz_job.specs.Keeps.{SourceStays};
 ghost use Rattle.fz_verify.specs.Clauses.{KeepsMeter, PrintsLines};
 ghost use Rattle.fz_verify.specs.Printed.{ListsSeen};
-ghost use Rattle.fz_verify.specs.Stages.{Works, later_takings, wants_to_list};
+ghost use Rattle.fz_stages.specs.Stages.{Works, later_takings, wants_for};
 
 use crate::listing::list_hdus;
 use fz_again::known_law;
 use fz_base::{Meter, Source, Stop, Text};
 use fz_block::BLOCK_LEN;
-use fz_files::buffers_law;
-use fz_survey::{Survey, survey_to_unpack, workspace_law};
+use fz_stages::stages_law;
+use fz_survey::{Survey, survey_to_unpack};
 
 /// Prints what each HDU of the file is that is attached to the source, a line for each.
 ///
@@ -44,9 +44,7 @@ pub fn list<S: Source, T: Text>(
     ensures told_ranges { StaysTold (S.ranges source.old) (S.ranges source.new) }
     ensures told_contents { StaysTold (T.contents text.old) (T.contents text.new) }
 {
-    // What the bound of the buffers is.
-    buffers_law();
-    workspace_law();
+    stages_law::<()>();
     let mut block = meter.bytes(BLOCK_LEN as u64)?;
     let answer = list_with_block(source, length, text, meter, block.as_mut_slice());
     meter.give_bytes(block);
@@ -67,7 +65,7 @@ fn list_with_block<S: Source, T: Text>(
     ensures lines { PrintsLines ListHdus (S.held source.old) (T.contents text.old) (T.contents text.new) result }
     ensures first_fault { TellsFirstFault ListHdus (S.held source.old) result }
     ensures silent { IsUnmade ListHdus (S.held source.old) ((T.contents text.new ≡ T.contents text.old) × (T.tally text.new ≡ T.tally text.old)) result }
-    ensures first_past { IfSome (S.held source.old) (λ g. TellsFirstPast meter.old.limit (later_takings ListHdus g) result) }
+    ensures first_past { IfSome (S.held source.old) (λ g. TellsFirstPast meter.old.limit (later_takings ListHdus g 1) result) }
     ensures peak { IfSome (S.held source.old) (λ g. meter.new.peak ≤ max meter.old.peak (job_bound ListHdus g 1)) }
     ensures most { TellsLimit meter.old.limit (greatest_bound ListHdus 1) result }
     ensures peak_most { meter.new.peak ≤ max meter.old.peak (greatest_bound ListHdus 1) }
@@ -78,10 +76,9 @@ fn list_with_block<S: Source, T: Text>(
     ensures told_contents { StaysTold (T.contents text.old) (T.contents text.new) }
     ensures cause { Works (S.tally source.old) (S.tally source.new) (T.tally text.old) (T.tally text.new) meter.old.limit result }
 {
-    // What the survey says of the file, and what the bound of the buffers is.
+    // What the survey says of the file.
     known_law();
-    buffers_law();
-    workspace_law();
+    stages_law::<()>();
     let survey = survey_to_unpack(source, length, meter, block)?;
     list_seen(source, length, text, meter, &survey, block)
 }
@@ -101,8 +98,8 @@ fn list_seen<S: Source, T: Text>(
     requires block { len block.old ≡ 2880 }
     ensures listed { IfSome (S.held source.old) (λ g. ListsSeen g survey.now (T.contents text.old) (T.contents text.new) result) }
     ensures silent { IfOverLimit result ((T.contents text.new ≡ T.contents text.old) × (T.tally text.new ≡ T.tally text.old)) }
-    ensures first_past { TellsFirstPast meter.old.limit (piled meter.old.live (wanted_buffers (wants_to_list survey.now) 1)) result }
-    ensures peak { meter.new.peak ≤ max meter.old.peak (meter.old.live + sum (wanted_buffers (wants_to_list survey.now) 1)) }
+    ensures first_past { TellsFirstPast meter.old.limit (piled meter.old.live (wanted_buffers (wants_for ListHdus survey.now) 1)) result }
+    ensures peak { meter.new.peak ≤ max meter.old.peak (meter.old.live + sum (wanted_buffers (wants_for ListHdus survey.now) 1)) }
     ensures live { meter.new.live ≡ meter.old.live }
     ensures limit { meter.new.limit ≡ meter.old.limit }
     ensures changed { IfRefused result IsChanged }
@@ -111,6 +108,7 @@ fn list_seen<S: Source, T: Text>(
     ensures told_contents { StaysTold (T.contents text.old) (T.contents text.new) }
     ensures cause { Works (S.tally source.old) (S.tally source.new) (T.tally text.old) (T.tally text.new) meter.old.limit result }
 {
+    stages_law::<()>();
     let mut header = meter.bytes(u64::from(survey.header_len))?;
     let answer = list_hdus(source, length, text, survey, block, header.as_mut_slice());
     meter.give_bytes(header);

@@ -11,15 +11,15 @@ ghost use Rattle.fz_job.specs.Clauses.{Answers, ComesLate, HasJobCause, IfOverLi
 ghost use Rattle.fz_job.specs.Keeps.{SourceStays};
 ghost use Rattle.fz_verify.specs.Clauses.{IsRightAsSaid, PrintsLines};
 ghost use Rattle.fz_verify.specs.Printed.{VerifiesSeen};
-ghost use Rattle.fz_verify.specs.Stages.{Works, later_takings, wants_to_verify};
+ghost use Rattle.fz_stages.specs.Stages.{Works, later_takings, wants_for};
 
 use crate::checking::verify_hdus;
 use fz_again::known_law;
 use fz_base::{Gate, Meter, Source, Stop, Text};
 use fz_block::BLOCK_LEN;
-use fz_files::buffers_law;
 use fz_pool::{Window, sizes_law};
-use fz_survey::{Survey, Wants, Workspace, survey_to_unpack, workspace_law};
+use fz_stages::stages_law;
+use fz_survey::{Survey, Wants, Workspace, survey_to_unpack};
 use std::thread::Threads;
 
 /// Verifies the file that is attached to the source: decodes every tile of its packed images, and prints for each HDU a
@@ -56,9 +56,7 @@ pub fn verify<R: Threads + Sync, S: Source, T: Text, G: Gate>(
     ensures told_ranges { StaysTold (S.ranges source.old) (S.ranges source.new) }
     ensures told_contents { StaysTold (T.contents text.old) (T.contents text.new) }
 {
-    // What the bound of the buffers is.
-    buffers_law();
-    workspace_law();
+    stages_law::<bool>();
     let mut block = meter.bytes(BLOCK_LEN as u64)?;
     let answer = verify_with_block(
         rt,
@@ -94,7 +92,7 @@ fn verify_with_block<R: Threads + Sync, S: Source, T: Text, G: Gate>(
     ensures right { IfOk result (λ right. IfSome (S.held source.old) (IsRightAsSaid right)) }
     ensures first_fault { TellsFirstFault Verify (S.held source.old) result }
     ensures silent { IsUnmade Verify (S.held source.old) ((T.contents text.new ≡ T.contents text.old) × (T.tally text.new ≡ T.tally text.old)) result }
-    ensures first_past { IfSome (S.held source.old) (λ g. TellsFirstPast meter.old.limit (later_takings Verify g) result) }
+    ensures first_past { IfSome (S.held source.old) (λ g. TellsFirstPast meter.old.limit (later_takings Verify g 1) result) }
     ensures peak { IfSome (S.held source.old) (λ g. meter.new.peak ≤ max meter.old.peak (job_bound Verify g 1)) }
     ensures most { TellsLimit meter.old.limit (greatest_bound Verify 1) result }
     ensures peak_most { meter.new.peak ≤ max meter.old.peak (greatest_bound Verify 1) }
@@ -106,10 +104,9 @@ fn verify_with_block<R: Threads + Sync, S: Source, T: Text, G: Gate>(
     ensures told_contents { StaysTold (T.contents text.old) (T.contents text.new) }
     ensures cause { Works (S.tally source.old) (S.tally source.new) (T.tally text.old) (T.tally text.new) meter.old.limit result }
 {
-    // What the survey says of the file, and what the bound of the buffers is.
+    // What the survey says of the file.
     known_law();
-    buffers_law();
-    workspace_law();
+    stages_law::<bool>();
     let survey = survey_to_unpack(source, length, meter, block)?;
     verify_seen(
         rt, source, length, text, meter, window, gate, &survey, block,
@@ -135,8 +132,8 @@ fn verify_seen<R: Threads + Sync, S: Source, T: Text, G: Gate>(
     requires block { len block.old ≡ 2880 }
     ensures verified { IfSome (S.held source.old) (λ g. VerifiesSeen g survey.now (T.contents text.old) (T.contents text.new) result) }
     ensures silent { IfOverLimit result ((T.contents text.new ≡ T.contents text.old) × (T.tally text.new ≡ T.tally text.old)) }
-    ensures first_past { TellsFirstPast meter.old.limit (piled meter.old.live (wanted_buffers (wants_to_verify survey.now) window.old.workers)) result }
-    ensures peak { meter.new.peak ≤ max meter.old.peak (meter.old.live + sum (wanted_buffers (wants_to_verify survey.now) window.old.workers)) }
+    ensures first_past { TellsFirstPast meter.old.limit (piled meter.old.live (wanted_buffers (wants_for Verify survey.now) window.old.workers)) result }
+    ensures peak { meter.new.peak ≤ max meter.old.peak (meter.old.live + sum (wanted_buffers (wants_for Verify survey.now) window.old.workers)) }
     ensures live { meter.new.live ≡ meter.old.live }
     ensures limit { meter.new.limit ≡ meter.old.limit }
     ensures emptied { window.new ≡ record { slots = []; workers = window.old.workers } }
@@ -146,9 +143,9 @@ fn verify_seen<R: Threads + Sync, S: Source, T: Text, G: Gate>(
     ensures told_contents { StaysTold (T.contents text.old) (T.contents text.new) }
     ensures cause { Works (S.tally source.old) (S.tally source.new) (T.tally text.old) (T.tally text.new) meter.old.limit result }
 {
-    // What is held is what was taken, and how long the slots are that were filled.
-    workspace_law();
+    // How long the slots are that were filled.
     sizes_law();
+    stages_law::<bool>();
     let wants = Wants {
         header_len: survey.header_len,
         translates: false,

@@ -10,18 +10,16 @@ use Rattle.fz_base.specs.declared.failure.Stop.{Stop}
 use Rattle.fz_files.specs.Buffers.{job_bound}
 use Rattle.fz_files.specs.declared.job.Job.TheVariants.{Pack}
 use Rattle.fz_job.specs.Clauses.{HasJobCause, TellsFirstFault, greatest_bound}
-use Rattle.fz_pack.specs.Stages.{Works, later_takings}
+use Rattle.fz_stages.specs.Stages.{Works, later_takings}
 use Rattle.fz_pack.proofs.Held.{refilled_len}
-use Rattle.fz_pack.proofs.Outcomes.{short_untold, untouched_shut, untouched_unmade}
-use Rattle.fz_pack.proofs.Promised.{block_cause, block_in, block_peak, has_answer, peak_stays, work_cause}
-use Rattle.fz_pack.proofs.Working.{kept_same}
+use Rattle.fz_pack.proofs.Outcomes.{kept_same, peak_stays, untouched_shut, untouched_unmade}
 use Rattle.fz_pack.proofs.pack_file.pack.Goals as goal
 
 pub returns-in_err-block-clause-first_fault : goal.returns-in_err-block-clause-first_fault
 returns-in_err-block-clause-first_fault g c =
     let held : Option (List ℕ) = g.S.Source.held c.args.source.now in
     let stopped : c.from_residual.result ≡ Err (stop_of_short c.in_err-block.field-0.0) = search rules in
-    subst (λ (r : Result (Unit {0}) Stop). TellsFirstFault (Pack c.args.options.now) held r) (sym stopped) (short_untold (Unit {0}) (Pack c.args.options.now) held c.in_err-block.field-0.0)
+    subst (λ (r : Result (Unit {0}) Stop). TellsFirstFault (Pack c.args.options.now) held r) (sym stopped) (c.stages_law.ensures.block.fault (Pack c.args.options.now) held c.in_err-block.field-0.0)
 
 pub returns-in_err-block-clause-first_byte : goal.returns-in_err-block-clause-first_byte
 returns-in_err-block-clause-first_byte g c = untouched_shut (g.K.Sink.contents c.args.sink.now) _ c.from_residual.result c.requires.empty
@@ -37,7 +35,7 @@ returns-in_err-block-clause-cause g c =
     let W : ℕ = c.args.window.now.workers in
     let stopped : c.from_residual.result ≡ Err (stop_of_short c.in_err-block.field-0.0) = search rules in
     subst (λ (r : Result (Unit {0}) Stop). HasJobCause (Pack c.args.options.now) held source source sink sink c.args.meter.now.limit W r) (sym stopped)
-    (block_cause (Unit {0}) c.args.options.now held source sink W c.args.meter.now c.in_err-block.field-0.0 c.requires.nothing_live c.in_err-block.ensures.refused)
+    (c.stages_law.ensures.block.short (Pack c.args.options.now) held source sink W c.args.meter.now c.in_err-block.field-0.0 tt c.requires.nothing_live c.in_err-block.ensures.refused)
 
 pub returns-in_err-block-clause-answered : goal.returns-in_err-block-clause-answered
 returns-in_err-block-clause-answered g c =
@@ -45,13 +43,13 @@ returns-in_err-block-clause-answered g c =
     let source : Tally = g.S.Source.tally c.args.source.now in
     let sink : Tally = g.K.Sink.tally c.args.sink.now in
     let W : ℕ = c.args.window.now.workers in
-    has_answer c.buffers_law.ensures.bounded c.args.options.now held source source sink sink c.args.meter.now.limit W c.from_residual.result (returns-in_err-block-clause-cause g c)
+    c.stages_law.ensures.answers (Pack c.args.options.now) held source source sink sink c.args.meter.now.limit W c.from_residual.result tt (returns-in_err-block-clause-cause g c)
 
 pub returns-in_err-block-clause-buffers : goal.returns-in_err-block-clause-buffers
 returns-in_err-block-clause-buffers g c = record {
   live = ap (λ (m : Gauge). m.live) c.in_err-block.ensures.unchanged ∙ c.requires.nothing_live;
   limit = ap (λ (m : Gauge). m.limit) c.in_err-block.ensures.unchanged;
-  peak = peak_stays c.args.options.now (g.S.Source.held c.args.source.now) c.args.window.now.workers _ _ (ap (λ (m : Gauge). m.peak) c.in_err-block.ensures.unchanged);
+  peak = peak_stays (g.S.Source.held c.args.source.now) (λ file. job_bound (Pack c.args.options.now) file c.args.window.now.workers) _ _ (ap (λ (m : Gauge). m.peak) c.in_err-block.ensures.unchanged);
   most = omega (arith, ap (λ (m : Gauge). m.peak) c.in_err-block.ensures.unchanged);
   window_is = λ i. record { slots = c.requires.window i; workers = c.args.window.now.workers };
 }
@@ -72,13 +70,13 @@ returns-clause-cause g c =
     let room : 2880 ≤ limit = omega (arith, c.in_ok-block.ensures.taken.0, c.requires.nothing_live) in
     let works : Works source source' sink sink' limit c.with_block-answer.result = rw same at c.with_block-answer.ensures.cause in
     let most : TellsLimit limit (greatest_bound (Pack c.args.options.now) W) c.with_block-answer.result = rw same at c.with_block-answer.ensures.most in
-    let tells : IfSome held (λ file. TellsFirstPast limit (later_takings c.args.options.now file W) c.with_block-answer.result) = rw same at c.with_block-answer.ensures.first_past in
-    work_cause c.args.options.now held source source' sink sink' limit W c.with_block-answer.result room works most tells
+    let tells : IfSome held (λ file. TellsFirstPast limit (later_takings (Pack c.args.options.now) file W) c.with_block-answer.result) = rw same at c.with_block-answer.ensures.first_past in
+    c.stages_law.ensures.block.behind (Pack c.args.options.now) held source source' sink sink' limit W c.with_block-answer.result tt room works most tells
 
 pub returns-clause-answered : goal.returns-clause-answered
 returns-clause-answered g c =
     let held : Option (List ℕ) = g.S.Source.held c.args.source.now in
-    has_answer c.buffers_law.ensures.bounded c.args.options.now held _ _ _ _ c.args.meter.now.limit c.args.window.now.workers c.with_block-answer.result (returns-clause-cause g c)
+    c.stages_law.ensures.answers (Pack c.args.options.now) held _ _ _ _ c.args.meter.now.limit c.args.window.now.workers c.with_block-answer.result tt (returns-clause-cause g c)
 
 pub returns-clause-buffers : goal.returns-clause-buffers
 returns-clause-buffers g c =
@@ -95,7 +93,7 @@ returns-clause-buffers g c =
     record {
       live = omega (arith, gave, refilled_len block left, long, took, c.with_block-answer.ensures.live, c.requires.nothing_live);
       limit = ap (λ (m : Gauge). m.limit) c.give_bytes.ensures ∙ c.with_block-answer.ensures.limit ∙ ap (λ (m : Gauge). m.limit) c.in_ok-block.ensures.taken.1;
-      peak = rw back (block_peak c.args.options.now held W c.args.meter.now.peak c.bytes.new.self.peak c.with_block-answer.new.meter.peak (omega (arith, begun, c.requires.nothing_live)) low);
-      most = omega (arith, back, begun, c.requires.nothing_live, c.with_block-answer.ensures.peak_most, block_in W);
+      peak = rw back (c.stages_law.ensures.peaks.block (Pack c.args.options.now) held W c.args.meter.now.peak c.bytes.new.self.peak c.with_block-answer.new.meter.peak (omega (arith, begun, c.requires.nothing_live)) low);
+      most = omega (arith, back, begun, c.requires.nothing_live, c.with_block-answer.ensures.peak_most, c.stages_law.ensures.peaks.block_most (Pack c.args.options.now) W);
       window_is = c.with_block-answer.ensures.emptied;
     }

@@ -1,5 +1,5 @@
 -- The primary, or the packed primary behind it.
-use Rattle.std.proofs.Common.{◌≡◌, ℕ, ◌+◌, ◌<◌, ◌≤◌, true, false, List, length, Option, IfSome, Result, Ok, Err, sym, ◌∙◌, subst, arith, rules}
+use Rattle.std.proofs.Common.{◌≡◌, ℕ, true, false, List, length, Option, IfSome, Result, Ok, Err, sym, ◌∙◌, subst, arith, rules}
 use Rattle.fz_base.specs.Source.{HoldsLength}
 use Rattle.fz_base.specs.declared.failure.Stop.{Stop}
 use Rattle.fz_block.specs.Header.{next_start_of}

@@ -1,5 +1,5 @@
 -- The image is its header, its pixels and the fill.
-use Rattle.std.proofs.Common.{◌≡◌, ℕ, ◌*◌, List, take, Option, Some, IfSome, Result, Err, refl, sym, subst, rules}
+use Rattle.std.proofs.Common.{◌≡◌, ℕ, ◌*◌, List, take, Option, IfSome, Result, Err, refl, sym, subst, rules}
 use Rattle.fz_base.specs.Stop.{IfRefused}
 use Rattle.fz_base.specs.declared.failure.Stop.{Stop}
 use Rattle.fz_block.specs.Hdus.{cards_of, header_bytes}

@@ -1,5 +1,5 @@
 -- The header of the image is made, and then written.
-use Rattle.std.proofs.Common.{ℕ, ◌+◌, ◌<◌, ◌≤◌, List, length, ap, ◌∙◌, arith}
+use Rattle.std.proofs.Common.{ℕ, List, ap, ◌∙◌, arith}
 use Rattle.fz_block.specs.Hdus.{cards_of}
 use Rattle.fz_head.specs.PlainHeader.{plain_header}
 use Rattle.fz_job.specs.Behind.{written_behind}

@@ -1,5 +1,5 @@
 -- The tiles of the one half are scattered, and those of the other are the next ones.
-use Rattle.std.proofs.Common.{◌≡◌, ℕ, ◌+◌, ◌*◌, ◌≤◌, List, map, length, take, replicate, Option, Some, IfSome, Result, Err, sym, subst, arith, rules}
+use Rattle.std.proofs.Common.{◌≡◌, ℕ, ◌+◌, ◌≤◌, List, map, length, Option, Some, IfSome, Result, Err, sym, subst, arith, rules}
 use Rattle.std.specs.List.{range_with_len}
 use Rattle.std.proofs.lemmas.List.{length-replicate, length-take}
 use Rattle.std.proofs.lemmas.List.FromFn.{length-range_with_len}

@@ -1,20 +1,17 @@
 -- The first look stops, or knows the file, and then the work says the rest.
-use Rattle.std.proofs.Common.{◌≡◌, ℕ, ◌+◌, ◌≤◌, max, List, Option, None, IfSome, Result, Err, sum, refl, sym, ◌∙◌, subst, arith, rules}
-use Rattle.fz_base.specs.Stop.{TellsLimit}
+use Rattle.std.proofs.Common.{◌≡◌, ℕ, ◌+◌, ◌≤◌, max, List, Option, None, IfSome, Result, Err, sum, refl, sym, ◌∙◌, subst, rules, arith}
 use Rattle.fz_base.specs.Takings.{TellsFirstPast, first_past, piled}
 use Rattle.fz_base.specs.declared.failure.Stop.{Stop}
 use Rattle.fz_files.specs.declared.job.Job.TheVariants.{Unpack}
 use Rattle.fz_survey.specs.Surveys.{survey_takings}
 use Rattle.fz_survey.specs.Workspace.{wanted_buffers}
 use Rattle.fz_survey.specs.declared.checks.JobChecks.TheVariants.{Unpack as UnpackChecks}
-use Rattle.fz_survey.specs.declared.survey.Survey.{Survey}
+use Rattle.fz_base.specs.Stop.{TellsLimit}
 use Rattle.fz_job.specs.Clauses.{TellsFirstFault, greatest_bound}
-use Rattle.fz_unpack.proofs.Greatest.{header_within, tells_more, tells_within, work_within}
-use Rattle.fz_unpack.specs.Stages.{Works, later_takings, wants_for}
+use Rattle.fz_stages.specs.Stages.{Works, later_takings, wants_for}
 use Rattle.fz_unpack.specs.Written.{AreShutOrWhole, FinishesSeen}
-use Rattle.fz_unpack.proofs.Finished.{Knows, work_faulty, work_output, work_peak, work_shut, work_takes, work_unmade}
-use Rattle.fz_unpack.proofs.Outcomes.{look_faulty, look_peak, look_takes, untouched_shut, untouched_unmade}
-use Rattle.fz_unpack.proofs.Working.{later_works, look_works}
+use Rattle.fz_unpack.proofs.Finished.{Knows, learnt, work_faulty, work_output, work_shut, work_unmade}
+use Rattle.fz_unpack.proofs.Outcomes.{look_refused, untouched_shut, untouched_unmade}
 use Rattle.fz_unpack.proofs.unpack_file.with_block.Goals as goal
 
 pub returns-in_err-survey-clause-first_fault : goal.returns-in_err-survey-clause-first_fault
@@ -22,7 +19,7 @@ returns-in_err-survey-clause-first_fault g c =
     let held : Option (List ℕ) = g.S.Source.held c.args.source.now in
     let stopped : c.from_residual.result ≡ Err c.in_err-survey.field-0.0 = search rules in
     subst (λ (r : Result (Unit {0}) Stop). TellsFirstFault Unpack held r) (sym stopped)
-    (look_faulty held (c.known_law.ensures.refuse Unpack tt) (Unit {0}) c.in_err-survey.field-0.0 c.in_err-survey.ensures.exact)
+    (c.stages_law.ensures.look.fault Unpack held c.in_err-survey.field-0.0 (look_refused (c.known_law.ensures.refuse Unpack tt) held c.in_err-survey.field-0.0 c.in_err-survey.ensures.exact))
 
 pub returns-in_err-survey-clause-first_byte : goal.returns-in_err-survey-clause-first_byte
 returns-in_err-survey-clause-first_byte g c = untouched_shut (g.K.Sink.contents c.args.sink.now) _ c.from_residual.result c.requires.empty
@@ -36,13 +33,14 @@ returns-in_err-survey-clause-first_past g c =
     let meter = c.args.meter.now in
     let W : ℕ = c.args.window.now.workers in
     let stopped : c.from_residual.result ≡ Err c.in_err-survey.field-0.0 = search rules in
-    subst (λ (r : Result (Unit {0}) Stop). IfSome held (λ file. TellsFirstPast meter.limit (later_takings file W) r)) (sym stopped)
-    (look_takes held (c.known_law.ensures.refuse Unpack tt) (Unit {0}) W meter.live meter.limit c.in_err-survey.field-0.0 _ _ c.requires.one_block
-    c.in_err-survey.ensures.cause.stop c.in_err-survey.ensures.exact c.in_err-survey.ensures.first_past)
+    subst (λ (r : Result (Unit {0}) Stop). IfSome held (λ file. TellsFirstPast meter.limit (later_takings Unpack file W) r)) (sym stopped)
+    (c.stages_law.ensures.look.first_past Unpack UnpackChecks held W meter.live meter.limit c.in_err-survey.field-0.0 _ _ refl c.requires.one_block c.in_err-survey.ensures.cause.stop
+    (look_refused (c.known_law.ensures.refuse Unpack tt) held c.in_err-survey.field-0.0 c.in_err-survey.ensures.exact) c.in_err-survey.ensures.first_past)
 
 pub returns-in_err-survey-clause-peak : goal.returns-in_err-survey-clause-peak
 returns-in_err-survey-clause-peak g c =
-    look_peak (g.S.Source.held c.args.source.now) c.buffers_law.ensures.bounded c.args.window.now.workers c.args.meter.now.live c.args.meter.now.peak c.survey_to_unpack.new.meter.peak c.requires.one_block c.in_err-survey.ensures.peak
+    c.stages_law.ensures.peaks.look Unpack UnpackChecks (g.S.Source.held c.args.source.now) c.args.window.now.workers c.args.meter.now.live c.args.meter.now.peak c.survey_to_unpack.new.meter.peak refl c.requires.one_block
+    c.in_err-survey.ensures.peak
 
 pub returns-in_err-survey-clause-emptied : goal.returns-in_err-survey-clause-emptied
 returns-in_err-survey-clause-emptied g c = λ i. record { slots = c.requires.window i; workers = c.args.window.now.workers }
@@ -54,7 +52,7 @@ returns-in_err-survey-clause-cause g c =
     let sink = g.K.Sink.tally c.args.sink.now in
     let stopped : c.from_residual.result ≡ Err c.in_err-survey.field-0.0 = search rules in
     subst (λ (r : Result (Unit {0}) Stop). Works source source' sink sink c.args.meter.now.limit r) (sym stopped)
-    (look_works (Unit {0}) _ source source' sink c.args.meter.now.limit c.in_err-survey.field-0.0 c.in_err-survey.ensures.cause)
+    (c.stages_law.ensures.look.works source source' sink c.args.meter.now.limit c.in_err-survey.field-0.0 c.in_err-survey.ensures.cause)
 
 pub returns-clause-output : goal.returns-clause-output
 returns-clause-output g c =
@@ -96,9 +94,10 @@ returns-clause-first_past g c =
     let W : ℕ = c.args.window.now.workers in
     let exact : IfSome held (Knows c.in_ok-survey.survey) = c.in_ok-survey.ensures.exact in
     let none : IfSome held (λ file. first_past meter.limit (survey_takings UnpackChecks meter.live file) ≡ None) = c.in_ok-survey.ensures.first_past in
-    let tells : TellsFirstPast meter.limit (piled meter.live (wanted_buffers (wants_for c.in_ok-survey.survey) W)) c.work.result =
+    let tells : TellsFirstPast meter.limit (piled meter.live (wanted_buffers (wants_for Unpack c.in_ok-survey.survey) W)) c.work.result =
     rw (c.in_ok-survey.ensures.live, c.in_ok-survey.ensures.limit) at c.work.ensures.first_past in
-    work_takes (c.known_law.ensures.know Unpack tt) c.in_ok-survey.survey W meter.live c.requires.one_block held meter.limit c.work.result exact none tells
+    c.stages_law.ensures.work.first_past Unpack UnpackChecks held W meter.live meter.limit c.in_ok-survey.survey.header_len c.in_ok-survey.survey.tile c.work.result refl c.requires.one_block
+    (learnt (c.known_law.ensures.know Unpack tt) c.in_ok-survey.survey held exact) none tells
 
 pub returns-clause-peak : goal.returns-clause-peak
 returns-clause-peak g c =
@@ -106,24 +105,24 @@ returns-clause-peak g c =
     let meter = c.args.meter.now in
     let W : ℕ = c.args.window.now.workers in
     let exact : IfSome held (Knows c.in_ok-survey.survey) = c.in_ok-survey.ensures.exact in
-    let high : c.work.new.meter.peak ≤ max c.survey_to_unpack.new.meter.peak (meter.live + sum (wanted_buffers (wants_for c.in_ok-survey.survey) W)) = rw c.in_ok-survey.ensures.live at c.work.ensures.peak in
-    work_peak (c.known_law.ensures.know Unpack tt) c.in_ok-survey.survey W meter.live c.requires.one_block c.buffers_law.ensures.bounded c.workspace_law.ensures.bound held meter.peak c.survey_to_unpack.new.meter.peak c.work.new.meter.peak
-    exact c.in_ok-survey.ensures.peak high
+    let high : c.work.new.meter.peak ≤ max c.survey_to_unpack.new.meter.peak (meter.live + sum (wanted_buffers (wants_for Unpack c.in_ok-survey.survey) W)) = rw c.in_ok-survey.ensures.live at c.work.ensures.peak in
+    c.stages_law.ensures.peaks.work Unpack UnpackChecks held W meter.live meter.peak c.survey_to_unpack.new.meter.peak c.work.new.meter.peak c.in_ok-survey.survey.header_len c.in_ok-survey.survey.tile refl c.requires.one_block
+    (learnt (c.known_law.ensures.know Unpack tt) c.in_ok-survey.survey held exact) c.in_ok-survey.ensures.peak high
 
 pub returns-clause-cause : goal.returns-clause-cause
-returns-clause-cause g c = later_works _ _ _ _ _ _ _ c.work.result c.in_ok-survey.ensures.cause.ok c.in_ok-survey.ensures.limit c.work.ensures.cause
+returns-clause-cause g c = rw (c.in_ok-survey.ensures.cause.ok, c.in_ok-survey.ensures.limit) at c.work.ensures.cause
 
 pub returns-in_err-survey-clause-most : goal.returns-in_err-survey-clause-most
 returns-in_err-survey-clause-most g c =
     let W : ℕ = c.args.window.now.workers in
+    let meter = c.args.meter.now in
     let stopped : c.from_residual.result ≡ Err c.in_err-survey.field-0.0 = search rules in
-    let within = header_within c.workspace_law.ensures.bound c.workspace_law.ensures.grows W in
-    subst (λ (r : Result (Unit {0}) Stop). TellsLimit c.args.meter.now.limit (greatest_bound Unpack W) r) (sym stopped)
-    (tells_more Survey (Unit {0}) c.args.meter.now.limit c.args.meter.now.limit (c.args.meter.now.live + 737280) (greatest_bound Unpack W) c.in_err-survey.field-0.0 refl (omega (arith, within, c.requires.one_block)) c.in_err-survey.ensures.most)
+    subst (λ (r : Result (Unit {0}) Stop). TellsLimit meter.limit (greatest_bound Unpack W) r) (sym stopped)
+    (c.stages_law.ensures.look.most Unpack W meter.live meter.limit c.in_err-survey.field-0.0 c.requires.one_block c.in_err-survey.ensures.most)
 
 pub returns-in_err-survey-clause-peak_most : goal.returns-in_err-survey-clause-peak_most
 returns-in_err-survey-clause-peak_most g c =
-    let within = header_within c.workspace_law.ensures.bound c.workspace_law.ensures.grows c.args.window.now.workers in
+    let within = c.stages_law.ensures.peaks.look_most Unpack c.args.window.now.workers in
     omega (arith, within, c.requires.one_block, c.in_err-survey.ensures.peak_most)
 
 pub returns-clause-most : goal.returns-clause-most
@@ -131,14 +130,15 @@ returns-clause-most g c =
     let W : ℕ = c.args.window.now.workers in
     let meter = c.survey_to_unpack.new.meter in
     let s = c.in_ok-survey.survey in
-    let within = work_within c.workspace_law.ensures.bound c.workspace_law.ensures.grows W s c.in_ok-survey.ensures.survey.header.1 c.in_ok-survey.ensures.survey.tile in
-    tells_within c.workspace_law.ensures.past _ _ _ _ meter.limit c.args.meter.now.limit meter.live (greatest_bound Unpack W) (wanted_buffers (wants_for s) W) c.work.result
-    c.in_ok-survey.ensures.limit (omega (arith, within, c.requires.one_block, c.in_ok-survey.ensures.live)) c.work.ensures.cause.stop c.work.ensures.first_past
+    let most : TellsLimit meter.limit (greatest_bound Unpack W) c.work.result =
+    c.stages_law.ensures.work.most Unpack W meter.live meter.limit s.header_len s.tile _ _ _ _ c.work.result tt (c.in_ok-survey.ensures.live ∙ c.requires.one_block) c.in_ok-survey.ensures.survey.header.1
+    c.in_ok-survey.ensures.survey.tile c.work.ensures.cause.stop c.work.ensures.first_past in
+    rw c.in_ok-survey.ensures.limit at most
 
 pub returns-clause-peak_most : goal.returns-clause-peak_most
 returns-clause-peak_most g c =
     let s = c.in_ok-survey.survey in
     let W : ℕ = c.args.window.now.workers in
-    let look = header_within c.workspace_law.ensures.bound c.workspace_law.ensures.grows W in
-    let work = work_within c.workspace_law.ensures.bound c.workspace_law.ensures.grows W s c.in_ok-survey.ensures.survey.header.1 c.in_ok-survey.ensures.survey.tile in
+    let look = c.stages_law.ensures.peaks.look_most Unpack W in
+    let work = c.stages_law.ensures.peaks.work_most Unpack W s.header_len s.tile tt c.in_ok-survey.ensures.survey.header.1 c.in_ok-survey.ensures.survey.tile in
     omega (arith, look, work, c.requires.one_block, c.in_ok-survey.ensures.live, c.in_ok-survey.ensures.peak_most, c.work.ensures.peak)

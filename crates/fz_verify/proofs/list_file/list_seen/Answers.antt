@@ -7,11 +7,11 @@ use Rattle.fz_base.specs.Takings.{TellsFirstPast, first_past, piled}
 use Rattle.fz_base.specs.declared.failure.Stop.{Stop}
 use Rattle.fz_survey.specs.Workspace.{wanted_buffers}
 use Rattle.fz_verify.specs.Printed.{ListsSeen}
-use Rattle.fz_verify.specs.Stages.{Works, wants_to_list}
+use Rattle.fz_files.specs.declared.job.Job.TheVariants.{List as ListHdus}
+use Rattle.fz_stages.specs.Stages.{Works, wants_for}
 use Rattle.fz_verify.proofs.Held.{refilled_len}
-use Rattle.fz_verify.proofs.Outcomes.{if_over}
+use Rattle.fz_verify.proofs.Outcomes.{if_over, rewrite_over}
 use Rattle.fz_verify.proofs.One.{one_given, one_short_takes, one_works, short_listed, sum_of_one}
-use Rattle.fz_verify.proofs.Working.{rewrite_over, rewrite_takes, rewrite_works}
 use Rattle.fz_verify.proofs.list_file.list_seen.Goals as goal
 
 pub returns-in_err-header-clause-listed : goal.returns-in_err-header-clause-listed
@@ -30,7 +30,7 @@ returns-in_err-header-clause-first_past g c =
     let is : c.from.result ≡ c.args.survey.now.header_len = search rules in
     let meter = c.args.meter.now in
     let stopped : c.from_residual.result ≡ Err (stop_of_short c.in_err-header.field-0.0) = search rules in
-    subst (λ (r : Result (Unit {0}) Stop). TellsFirstPast meter.limit (piled meter.live (wanted_buffers (wants_to_list c.args.survey.now) 1)) r) (sym stopped)
+    subst (λ (r : Result (Unit {0}) Stop). TellsFirstPast meter.limit (piled meter.live (wanted_buffers (wants_for ListHdus c.args.survey.now) 1)) r) (sym stopped)
     (one_short_takes (Unit {0}) meter c.args.survey.now.header_len c.in_err-header.field-0.0 (rw is at c.in_err-header.ensures.refused))
 
 pub returns-in_err-header-clause-cause : goal.returns-in_err-header-clause-cause
@@ -53,10 +53,10 @@ returns-clause-silent g c = rewrite_over _ _ _ _ c.list_hdus-answer.result _ c.l
 pub returns-clause-first_past : goal.returns-clause-first_past
 returns-clause-first_past g c =
     let meter = c.args.meter.now in
-    let ts : List (ℕ × ℕ) = piled meter.live (wanted_buffers (wants_to_list c.args.survey.now) 1) in
+    let ts : List (ℕ × ℕ) = piled meter.live (wanted_buffers (wants_for ListHdus c.args.survey.now) 1) in
     let is : c.from.result ≡ c.args.survey.now.header_len = search rules in
     let none : first_past meter.limit ts ≡ None = one_given meter c.args.survey.now.header_len (omega (arith, c.in_ok-header.ensures.taken.0, is)) in
-    rewrite_takes _ _ _ _ meter.limit ts c.list_hdus-answer.result c.list_hdus-answer.ensures.cause.stop none
+    c.stages_law.ensures.work.past _ _ _ _ meter.limit ts c.list_hdus-answer.result c.list_hdus-answer.ensures.cause.stop none
 
 pub returns-clause-peak : goal.returns-clause-peak
 returns-clause-peak g c =
@@ -81,4 +81,4 @@ pub returns-clause-limit : goal.returns-clause-limit
 returns-clause-limit g c = ap (λ (m : Gauge). m.limit) c.give_bytes.ensures ∙ ap (λ (m : Gauge). m.limit) c.in_ok-header.ensures.taken.1
 
 pub returns-clause-cause : goal.returns-clause-cause
-returns-clause-cause g c = rewrite_works _ _ _ _ c.args.meter.now.limit c.list_hdus-answer.result c.list_hdus-answer.ensures.cause
+returns-clause-cause g c = c.stages_law.ensures.work.works _ _ _ _ c.args.meter.now.limit c.list_hdus-answer.result c.list_hdus-answer.ensures.cause

@@ -11,12 +11,9 @@ use Rattle.fz_files.specs.Buffers.{job_bound}
 use Rattle.fz_files.specs.declared.job.Job.TheVariants.{Verify}
 use Rattle.fz_job.specs.Clauses.{HasJobCause, TellsFirstFault, greatest_bound}
 use Rattle.fz_verify.specs.Clauses.{PrintsLines}
-use Rattle.fz_verify.specs.Stages.{Works, later_takings}
+use Rattle.fz_stages.specs.Stages.{Works, later_takings}
 use Rattle.fz_verify.proofs.Held.{refilled_len}
-use Rattle.fz_verify.proofs.Jobs.{verifies}
-use Rattle.fz_verify.proofs.Outcomes.{short_unprinted, short_untold, untouched_silent}
-use Rattle.fz_verify.proofs.Promised.{block_cause, block_peak, has_answer, most_peak, peak_stays, work_cause}
-use Rattle.fz_verify.proofs.Working.{kept_same}
+use Rattle.fz_verify.proofs.Outcomes.{kept_same, peak_stays, short_unprinted, untouched_silent}
 use Rattle.fz_verify.proofs.verify_file.verify.Goals as goal
 
 pub returns-in_err-block-clause-lines : goal.returns-in_err-block-clause-lines
@@ -30,7 +27,7 @@ pub returns-in_err-block-clause-first_fault : goal.returns-in_err-block-clause-f
 returns-in_err-block-clause-first_fault g c =
     let held : Option (List ℕ) = g.S.Source.held c.args.source.now in
     let stopped : c.from_residual.result ≡ Err (stop_of_short c.in_err-block.field-0.0) = search rules in
-    subst (λ (r : Result Bool Stop). TellsFirstFault Verify held r) (sym stopped) (short_untold Bool Verify held c.in_err-block.field-0.0)
+    subst (λ (r : Result Bool Stop). TellsFirstFault Verify held r) (sym stopped) (c.stages_law.ensures.block.fault Verify held c.in_err-block.field-0.0)
 
 pub returns-in_err-block-clause-silent : goal.returns-in_err-block-clause-silent
 returns-in_err-block-clause-silent g c = untouched_silent Verify (g.S.Source.held c.args.source.now) _ c.from_residual.result (refl, refl)
@@ -42,14 +39,14 @@ returns-in_err-block-clause-cause g c =
     let text : Tally = g.T.Text.tally c.args.text.now in
     let stopped : c.from_residual.result ≡ Err (stop_of_short c.in_err-block.field-0.0) = search rules in
     subst (λ (r : Result Bool Stop). HasJobCause Verify held source source text text c.args.meter.now.limit 1 r) (sym stopped)
-    (block_cause Verify verifies Bool held source text c.args.meter.now c.in_err-block.field-0.0 c.requires.nothing_live c.in_err-block.ensures.refused)
+    (c.stages_law.ensures.block.short Verify held source text 1 c.args.meter.now c.in_err-block.field-0.0 tt c.requires.nothing_live c.in_err-block.ensures.refused)
 
 pub returns-in_err-block-clause-answered : goal.returns-in_err-block-clause-answered
 returns-in_err-block-clause-answered g c =
     let held : Option (List ℕ) = g.S.Source.held c.args.source.now in
     let source : Tally = g.S.Source.tally c.args.source.now in
     let text : Tally = g.T.Text.tally c.args.text.now in
-    has_answer Verify verifies c.buffers_law.ensures.bounded held source source text text c.args.meter.now.limit c.from_residual.result (returns-in_err-block-clause-cause g c)
+    c.stages_law.ensures.answers Verify held source source text text c.args.meter.now.limit 1 c.from_residual.result tt (returns-in_err-block-clause-cause g c)
 
 pub returns-in_err-block-clause-buffers : goal.returns-in_err-block-clause-buffers
 returns-in_err-block-clause-buffers g c =
@@ -57,7 +54,7 @@ returns-in_err-block-clause-buffers g c =
     record {
       live = ap (λ (m : Gauge). m.live) c.in_err-block.ensures.unchanged ∙ c.requires.nothing_live;
       limit = ap (λ (m : Gauge). m.limit) c.in_err-block.ensures.unchanged;
-      peak = peak_stays Verify verifies (g.S.Source.held c.args.source.now) _ _ same;
+      peak = peak_stays (g.S.Source.held c.args.source.now) (λ file. job_bound Verify file 1) _ _ same;
       most = omega (arith, same);
       window_is = λ i. record { slots = c.requires.window i; workers = c.args.window.now.workers };
     }
@@ -77,13 +74,13 @@ returns-clause-cause g c =
     let room : 2880 ≤ limit = omega (arith, c.in_ok-block.ensures.taken.0, c.requires.nothing_live) in
     let works : Works source source' text text' limit c.verify_with_block-answer.result = rw same at c.verify_with_block-answer.ensures.cause in
     let most : TellsLimit limit (greatest_bound Verify 1) c.verify_with_block-answer.result = rw same at c.verify_with_block-answer.ensures.most in
-    let tells : IfSome held (λ file. TellsFirstPast limit (later_takings Verify file) c.verify_with_block-answer.result) = rw same at c.verify_with_block-answer.ensures.first_past in
-    work_cause Verify verifies held source source' text text' limit c.verify_with_block-answer.result room works most tells
+    let tells : IfSome held (λ file. TellsFirstPast limit (later_takings Verify file 1) c.verify_with_block-answer.result) = rw same at c.verify_with_block-answer.ensures.first_past in
+    c.stages_law.ensures.block.behind Verify held source source' text text' limit 1 c.verify_with_block-answer.result tt room works most tells
 
 pub returns-clause-answered : goal.returns-clause-answered
 returns-clause-answered g c =
     let held : Option (List ℕ) = g.S.Source.held c.args.source.now in
-    has_answer Verify verifies c.buffers_law.ensures.bounded held _ _ _ _ c.args.meter.now.limit c.verify_with_block-answer.result (returns-clause-cause g c)
+    c.stages_law.ensures.answers Verify held _ _ _ _ c.args.meter.now.limit 1 c.verify_with_block-answer.result tt (returns-clause-cause g c)
 
 pub returns-clause-buffers : goal.returns-clause-buffers
 returns-clause-buffers g c =
@@ -100,7 +97,7 @@ returns-clause-buffers g c =
     record {
       live = omega (arith, gave, refilled_len block left, long, took, c.verify_with_block-answer.ensures.live, c.requires.nothing_live);
       limit = ap (λ (m : Gauge). m.limit) c.give_bytes.ensures ∙ c.verify_with_block-answer.ensures.limit ∙ ap (λ (m : Gauge). m.limit) c.in_ok-block.ensures.taken.1;
-      peak = rw back (block_peak Verify verifies held c.args.meter.now.peak c.bytes.new.self.peak c.verify_with_block-answer.new.meter.peak first low);
-      most = rw back (most_peak Verify verifies c.args.meter.now.peak c.bytes.new.self.peak c.verify_with_block-answer.new.meter.peak first c.verify_with_block-answer.ensures.peak_most);
+      peak = rw back (c.stages_law.ensures.peaks.block Verify held 1 c.args.meter.now.peak c.bytes.new.self.peak c.verify_with_block-answer.new.meter.peak first low);
+      most = omega (arith, back, first, c.verify_with_block-answer.ensures.peak_most, c.stages_law.ensures.peaks.block_most Verify 1);
       window_is = c.verify_with_block-answer.ensures.emptied;
     }

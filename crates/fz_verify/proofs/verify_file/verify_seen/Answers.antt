@@ -6,13 +6,10 @@ use Rattle.fz_base.specs.declared.failure.Stop.{Stop}
 use Rattle.fz_pool.specs.Window.{Pool}
 use Rattle.fz_survey.specs.Workspace.{held_bytes, wanted_buffers}
 use Rattle.fz_survey.specs.declared.workspace.Wants.{Wants}
-use Rattle.fz_survey.specs.declared.workspace.Workspace.{Workspace}
-use Rattle.fz_verify.specs.Stages.{Works, wants_to_verify}
+use Rattle.fz_files.specs.declared.job.Job.TheVariants.{Verify}
+use Rattle.fz_stages.specs.Stages.{Works, wants_for}
 use Rattle.fz_verify.specs.Printed.{VerifiesSeen}
-use Rattle.fz_verify.proofs.Held.{limit_back, live_back, peak_back, still_held}
-use Rattle.fz_verify.proofs.Outcomes.{if_over, short_verified}
-use Rattle.fz_verify.proofs.Takings.{tells_short}
-use Rattle.fz_verify.proofs.Working.{rewrite_over, rewrite_takes, rewrite_works, short_works}
+use Rattle.fz_verify.proofs.Outcomes.{if_over, rewrite_over, short_verified}
 use Rattle.fz_verify.proofs.verify_file.verify_seen.Goals as goal
 
 pub returns-in_err-space-clause-verified : goal.returns-in_err-space-clause-verified
@@ -29,16 +26,16 @@ returns-in_err-space-clause-silent g c = if_over c.from_residual.result _ (refl,
 pub returns-in_err-space-clause-first_past : goal.returns-in_err-space-clause-first_past
 returns-in_err-space-clause-first_past g c =
     let meter = c.args.meter.now in
-    let ts : List (ℕ × ℕ) = piled meter.live (wanted_buffers (wants_to_verify c.args.survey.now) c.args.window.now.workers) in
+    let ts : List (ℕ × ℕ) = piled meter.live (wanted_buffers (wants_for Verify c.args.survey.now) c.args.window.now.workers) in
     let stopped : c.from_residual.result ≡ Err (stop_of_short c.in_err-space.field-0.0) = search rules in
-    subst (λ (r : Result Bool Stop). TellsFirstPast meter.limit ts r) (sym stopped) (tells_short Bool Workspace meter.limit ts c.in_err-space.field-0.0 c.in_err-space.ensures.takings.first_past)
+    subst (λ (r : Result Bool Stop). TellsFirstPast meter.limit ts r) (sym stopped) (c.stages_law.ensures.work.short_past meter.limit ts c.in_err-space.field-0.0 c.in_err-space.ensures.takings.first_past)
 
 pub returns-in_err-space-clause-cause : goal.returns-in_err-space-clause-cause
 returns-in_err-space-clause-cause g c =
     let source = g.S.Source.tally c.args.source.now in
     let text = g.T.Text.tally c.args.text.now in
     let stopped : c.from_residual.result ≡ Err (stop_of_short c.in_err-space.field-0.0) = search rules in
-    subst (λ (r : Result Bool Stop). Works source source text text c.args.meter.now.limit r) (sym stopped) (short_works Bool source text c.args.meter.now.limit c.in_err-space.field-0.0 c.in_err-space.ensures.takings.told)
+    subst (λ (r : Result Bool Stop). Works source source text text c.args.meter.now.limit r) (sym stopped) (c.stages_law.ensures.work.short_works source text c.args.meter.now.limit c.in_err-space.field-0.0 c.in_err-space.ensures.takings.told)
 
 pub returns-in_err-space-clause-emptied : goal.returns-in_err-space-clause-emptied
 returns-in_err-space-clause-emptied g c =
@@ -46,8 +43,8 @@ returns-in_err-space-clause-emptied g c =
 
 pub give_back-requires : goal.give_back-requires
 give_back-requires g c =
-    let wants : Wants = wants_to_verify c.args.survey.now in
-    let held = still_held c.workspace_law.ensures.held wants c.in_ok-space.space c.verify_hdus-answer.new.space c.args.window.now.workers c.take.new.window c.verify_hdus-answer.new.window
+    let wants : Wants = wants_for Verify c.args.survey.now in
+    let held = c.stages_law.ensures.back.held wants c.in_ok-space.space c.verify_hdus-answer.new.space c.args.window.now.workers c.take.new.window c.verify_hdus-answer.new.window
     c.in_ok-space.ensures.lengths c.verify_hdus-answer.ensures.space c.in_ok-space.ensures.filled c.verify_hdus-answer.ensures.window in
     let live = ap (λ m. m.live) c.in_ok-space.ensures.takings.all.1 in
     omega (arith, held, live)
@@ -58,32 +55,32 @@ returns-clause-silent g c =
 
 pub returns-clause-first_past : goal.returns-clause-first_past
 returns-clause-first_past g c =
-    rewrite_takes _ _ _ _ c.args.meter.now.limit (piled c.args.meter.now.live (wanted_buffers (wants_to_verify c.args.survey.now) c.args.window.now.workers)) c.verify_hdus-answer.result
+    c.stages_law.ensures.work.past _ _ _ _ c.args.meter.now.limit (piled c.args.meter.now.live (wanted_buffers (wants_for Verify c.args.survey.now) c.args.window.now.workers)) c.verify_hdus-answer.result
     c.verify_hdus-answer.ensures.cause.stop c.in_ok-space.ensures.takings.first_past
 
 pub returns-clause-peak : goal.returns-clause-peak
 returns-clause-peak g c =
-    let wants : Wants = wants_to_verify c.args.survey.now in
-    let held = still_held c.workspace_law.ensures.held wants c.in_ok-space.space c.verify_hdus-answer.new.space c.args.window.now.workers c.take.new.window c.verify_hdus-answer.new.window
+    let wants : Wants = wants_for Verify c.args.survey.now in
+    let held = c.stages_law.ensures.back.held wants c.in_ok-space.space c.verify_hdus-answer.new.space c.args.window.now.workers c.take.new.window c.verify_hdus-answer.new.window
     c.in_ok-space.ensures.lengths c.verify_hdus-answer.ensures.space c.in_ok-space.ensures.filled c.verify_hdus-answer.ensures.window in
-    peak_back c.args.meter.now c.take.new.meter c.give_back.new.meter (sum (wanted_buffers wants c.args.window.now.workers)) (held_bytes c.verify_hdus-answer.new.space c.verify_hdus-answer.new.window)
-    c.in_ok-space.ensures.takings.all.1 held c.give_back.ensures.given
+    (c.stages_law.ensures.back.meter c.args.meter.now c.take.new.meter c.give_back.new.meter (sum (wanted_buffers wants c.args.window.now.workers)) (held_bytes c.verify_hdus-answer.new.space c.verify_hdus-answer.new.window)
+    c.in_ok-space.ensures.takings.all.1 held c.give_back.ensures.given).2
 
 pub returns-clause-live : goal.returns-clause-live
 returns-clause-live g c =
-    let wants : Wants = wants_to_verify c.args.survey.now in
-    let held = still_held c.workspace_law.ensures.held wants c.in_ok-space.space c.verify_hdus-answer.new.space c.args.window.now.workers c.take.new.window c.verify_hdus-answer.new.window
+    let wants : Wants = wants_for Verify c.args.survey.now in
+    let held = c.stages_law.ensures.back.held wants c.in_ok-space.space c.verify_hdus-answer.new.space c.args.window.now.workers c.take.new.window c.verify_hdus-answer.new.window
     c.in_ok-space.ensures.lengths c.verify_hdus-answer.ensures.space c.in_ok-space.ensures.filled c.verify_hdus-answer.ensures.window in
-    live_back c.args.meter.now c.take.new.meter c.give_back.new.meter (sum (wanted_buffers wants c.args.window.now.workers)) (held_bytes c.verify_hdus-answer.new.space c.verify_hdus-answer.new.window)
-    c.in_ok-space.ensures.takings.all.1 held c.give_back.ensures.given
+    (c.stages_law.ensures.back.meter c.args.meter.now c.take.new.meter c.give_back.new.meter (sum (wanted_buffers wants c.args.window.now.workers)) (held_bytes c.verify_hdus-answer.new.space c.verify_hdus-answer.new.window)
+    c.in_ok-space.ensures.takings.all.1 held c.give_back.ensures.given).0
 
 pub returns-clause-limit : goal.returns-clause-limit
 returns-clause-limit g c =
-    let wants : Wants = wants_to_verify c.args.survey.now in
-    let held = still_held c.workspace_law.ensures.held wants c.in_ok-space.space c.verify_hdus-answer.new.space c.args.window.now.workers c.take.new.window c.verify_hdus-answer.new.window
+    let wants : Wants = wants_for Verify c.args.survey.now in
+    let held = c.stages_law.ensures.back.held wants c.in_ok-space.space c.verify_hdus-answer.new.space c.args.window.now.workers c.take.new.window c.verify_hdus-answer.new.window
     c.in_ok-space.ensures.lengths c.verify_hdus-answer.ensures.space c.in_ok-space.ensures.filled c.verify_hdus-answer.ensures.window in
-    limit_back c.args.meter.now c.take.new.meter c.give_back.new.meter (sum (wanted_buffers wants c.args.window.now.workers)) (held_bytes c.verify_hdus-answer.new.space c.verify_hdus-answer.new.window)
-    c.in_ok-space.ensures.takings.all.1 held c.give_back.ensures.given
+    (c.stages_law.ensures.back.meter c.args.meter.now c.take.new.meter c.give_back.new.meter (sum (wanted_buffers wants c.args.window.now.workers)) (held_bytes c.verify_hdus-answer.new.space c.verify_hdus-answer.new.window)
+    c.in_ok-space.ensures.takings.all.1 held c.give_back.ensures.given).1
 
 pub returns-clause-emptied : goal.returns-clause-emptied
 returns-clause-emptied g c =
@@ -91,4 +88,4 @@ returns-clause-emptied g c =
     c.give_back.ensures.emptied ∙ (λ i. record { slots = []; workers = (c.verify_hdus-answer.ensures.window.workers ∙ filled) i })
 
 pub returns-clause-cause : goal.returns-clause-cause
-returns-clause-cause g c = rewrite_works _ _ _ _ c.args.meter.now.limit c.verify_hdus-answer.result c.verify_hdus-answer.ensures.cause
+returns-clause-cause g c = c.stages_law.ensures.work.works _ _ _ _ c.args.meter.now.limit c.verify_hdus-answer.result c.verify_hdus-answer.ensures.cause

@@ -1,5 +1,5 @@
 -- The first look stops, or knows the file, and then the work says the rest.
-use Rattle.std.proofs.Common.{◌≡◌, ℕ, ◌+◌, ◌≤◌, max, Bool, List, Option, None, IfSome, Result, Err, sum, refl, sym, subst, rules, arith}
+use Rattle.std.proofs.Common.{◌≡◌, ℕ, ◌+◌, ◌≤◌, max, Bool, List, Option, None, IfSome, Result, Err, sum, refl, sym, ◌∙◌, subst, rules, arith}
 use Rattle.fz_base.specs.Stop.{TellsLimit}
 use Rattle.fz_base.specs.Takings.{TellsFirstPast, first_past, piled}
 use Rattle.fz_base.specs.declared.failure.Stop.{Stop}
@@ -7,16 +7,12 @@ use Rattle.fz_files.specs.declared.job.Job.TheVariants.{Verify}
 use Rattle.fz_survey.specs.Surveys.{survey_takings}
 use Rattle.fz_survey.specs.Workspace.{wanted_buffers}
 use Rattle.fz_survey.specs.declared.checks.JobChecks.TheVariants.{Unpack as UnpackChecks}
-use Rattle.fz_survey.specs.declared.survey.Survey.{Survey}
 use Rattle.fz_job.specs.Clauses.{TellsFirstFault, greatest_bound}
 use Rattle.fz_verify.specs.Clauses.{PrintsLines}
 use Rattle.fz_verify.specs.Printed.{VerifiesSeen}
-use Rattle.fz_verify.specs.Stages.{Works, later_takings, wants_to_verify}
-use Rattle.fz_verify.proofs.Finished.{Knows, verify_faulty, verify_prints, verify_right, verify_wants, work_peak, work_silent, work_takes}
-use Rattle.fz_verify.proofs.Greatest.{header_within, tells_more, tells_within, work_within}
-use Rattle.fz_verify.proofs.Jobs.{verifies}
-use Rattle.fz_verify.proofs.Outcomes.{look_faulty, look_peak, look_takes, look_unprinted, untouched_silent}
-use Rattle.fz_verify.proofs.Working.{later_works, look_works}
+use Rattle.fz_stages.specs.Stages.{Works, later_takings, wants_for}
+use Rattle.fz_verify.proofs.Finished.{Knows, verify_faulty, verify_learnt, verify_prints, verify_right, work_silent}
+use Rattle.fz_verify.proofs.Outcomes.{look_refused, look_unprinted, untouched_silent}
 use Rattle.fz_verify.proofs.verify_file.verify_with_block.Goals as goal
 
 pub returns-in_err-survey-clause-lines : goal.returns-in_err-survey-clause-lines
@@ -32,7 +28,7 @@ returns-in_err-survey-clause-first_fault g c =
     let held : Option (List ℕ) = g.S.Source.held c.args.source.now in
     let stopped : c.from_residual.result ≡ Err c.in_err-survey.field-0.0 = search rules in
     subst (λ (r : Result Bool Stop). TellsFirstFault Verify held r) (sym stopped)
-    (look_faulty Verify held (c.known_law.ensures.refuse Verify tt) Bool c.in_err-survey.field-0.0 c.in_err-survey.ensures.exact)
+    (c.stages_law.ensures.look.fault Verify held c.in_err-survey.field-0.0 (look_refused Verify held (c.known_law.ensures.refuse Verify tt) c.in_err-survey.field-0.0 c.in_err-survey.ensures.exact))
 
 pub returns-in_err-survey-clause-silent : goal.returns-in_err-survey-clause-silent
 returns-in_err-survey-clause-silent g c = untouched_silent Verify (g.S.Source.held c.args.source.now) _ c.from_residual.result (refl, refl)
@@ -42,24 +38,23 @@ returns-in_err-survey-clause-first_past g c =
     let held : Option (List ℕ) = g.S.Source.held c.args.source.now in
     let meter = c.args.meter.now in
     let stopped : c.from_residual.result ≡ Err c.in_err-survey.field-0.0 = search rules in
-    subst (λ (r : Result Bool Stop). IfSome held (λ file. TellsFirstPast meter.limit (later_takings Verify file) r)) (sym stopped)
-    (look_takes Verify held verifies (c.known_law.ensures.refuse Verify tt) Bool meter.live meter.limit c.in_err-survey.field-0.0 _ _ c.requires.one_block
-    c.in_err-survey.ensures.cause.stop c.in_err-survey.ensures.exact c.in_err-survey.ensures.first_past)
+    subst (λ (r : Result Bool Stop). IfSome held (λ file. TellsFirstPast meter.limit (later_takings Verify file 1) r)) (sym stopped)
+    (c.stages_law.ensures.look.first_past Verify UnpackChecks held 1 meter.live meter.limit c.in_err-survey.field-0.0 _ _ refl c.requires.one_block c.in_err-survey.ensures.cause.stop
+    (look_refused Verify held (c.known_law.ensures.refuse Verify tt) c.in_err-survey.field-0.0 c.in_err-survey.ensures.exact) c.in_err-survey.ensures.first_past)
 
 pub returns-in_err-survey-clause-peak : goal.returns-in_err-survey-clause-peak
 returns-in_err-survey-clause-peak g c =
-    look_peak Verify (g.S.Source.held c.args.source.now) verifies c.buffers_law.ensures.bounded c.args.meter.now.live c.args.meter.now.peak c.survey_to_unpack.new.meter.peak c.requires.one_block c.in_err-survey.ensures.peak
+    c.stages_law.ensures.peaks.look Verify UnpackChecks (g.S.Source.held c.args.source.now) 1 c.args.meter.now.live c.args.meter.now.peak c.survey_to_unpack.new.meter.peak refl c.requires.one_block c.in_err-survey.ensures.peak
 
 pub returns-in_err-survey-clause-most : goal.returns-in_err-survey-clause-most
 returns-in_err-survey-clause-most g c =
     let stopped : c.from_residual.result ≡ Err c.in_err-survey.field-0.0 = search rules in
-    let within = header_within c.workspace_law.ensures.bound c.workspace_law.ensures.grows 1 in
     subst (λ (r : Result Bool Stop). TellsLimit c.args.meter.now.limit (greatest_bound Verify 1) r) (sym stopped)
-    (tells_more Survey Bool c.args.meter.now.limit c.args.meter.now.limit (c.args.meter.now.live + 737280) (greatest_bound Verify 1) c.in_err-survey.field-0.0 refl (omega (arith, within, c.requires.one_block)) c.in_err-survey.ensures.most)
+    (c.stages_law.ensures.look.most Verify 1 c.args.meter.now.live c.args.meter.now.limit c.in_err-survey.field-0.0 c.requires.one_block c.in_err-survey.ensures.most)
 
 pub returns-in_err-survey-clause-peak_most : goal.returns-in_err-survey-clause-peak_most
 returns-in_err-survey-clause-peak_most g c =
-    let within = header_within c.workspace_law.ensures.bound c.workspace_law.ensures.grows 1 in
+    let within = c.stages_law.ensures.peaks.look_most Verify 1 in
     omega (arith, within, c.requires.one_block, c.in_err-survey.ensures.peak_most)
 
 pub returns-in_err-survey-clause-cause : goal.returns-in_err-survey-clause-cause
@@ -69,7 +64,7 @@ returns-in_err-survey-clause-cause g c =
     let text = g.T.Text.tally c.args.text.now in
     let stopped : c.from_residual.result ≡ Err c.in_err-survey.field-0.0 = search rules in
     subst (λ (r : Result Bool Stop). Works source source' text text c.args.meter.now.limit r) (sym stopped)
-    (look_works Bool _ source source' text c.args.meter.now.limit c.in_err-survey.field-0.0 c.in_err-survey.ensures.cause)
+    (c.stages_law.ensures.look.works source source' text c.args.meter.now.limit c.in_err-survey.field-0.0 c.in_err-survey.ensures.cause)
 
 pub returns-in_err-survey-clause-emptied : goal.returns-in_err-survey-clause-emptied
 returns-in_err-survey-clause-emptied g c = λ i. record { slots = c.requires.window i; workers = c.args.window.now.workers }
@@ -117,9 +112,9 @@ returns-clause-first_past g c =
     let s = c.in_ok-survey.survey in
     let exact : IfSome held (Knows s) = c.in_ok-survey.ensures.exact in
     let none : IfSome held (λ file. first_past meter.limit (survey_takings UnpackChecks meter.live file) ≡ None) = c.in_ok-survey.ensures.first_past in
-    let tells : TellsFirstPast meter.limit (piled meter.live (wanted_buffers (wants_to_verify s) 1)) c.verify_seen.result =
+    let tells : TellsFirstPast meter.limit (piled meter.live (wanted_buffers (wants_for Verify s) 1)) c.verify_seen.result =
     rw (c.in_ok-survey.ensures.live, c.in_ok-survey.ensures.limit, c.requires.one_worker) at c.verify_seen.ensures.first_past in
-    work_takes Verify (c.known_law.ensures.know Verify tt) s verifies (wants_to_verify s) (verify_wants (c.known_law.ensures.know Verify tt) s) meter.live c.requires.one_block held meter.limit c.verify_seen.result exact none tells
+    c.stages_law.ensures.work.first_past Verify UnpackChecks held 1 meter.live meter.limit s.header_len s.tile c.verify_seen.result refl c.requires.one_block (verify_learnt (c.known_law.ensures.know Verify tt) s held exact) none tells
 
 pub returns-clause-peak : goal.returns-clause-peak
 returns-clause-peak g c =
@@ -127,26 +122,27 @@ returns-clause-peak g c =
     let meter = c.args.meter.now in
     let s = c.in_ok-survey.survey in
     let exact : IfSome held (Knows s) = c.in_ok-survey.ensures.exact in
-    let high : c.verify_seen.new.meter.peak ≤ max c.survey_to_unpack.new.meter.peak (meter.live + sum (wanted_buffers (wants_to_verify s) 1)) = rw (c.in_ok-survey.ensures.live, c.requires.one_worker) at c.verify_seen.ensures.peak in
-    work_peak Verify (c.known_law.ensures.know Verify tt) s verifies (wants_to_verify s) (verify_wants (c.known_law.ensures.know Verify tt) s) meter.live c.requires.one_block c.buffers_law.ensures.bounded c.workspace_law.ensures.bound
-    held meter.peak c.survey_to_unpack.new.meter.peak c.verify_seen.new.meter.peak exact c.in_ok-survey.ensures.peak high
+    let high : c.verify_seen.new.meter.peak ≤ max c.survey_to_unpack.new.meter.peak (meter.live + sum (wanted_buffers (wants_for Verify s) 1)) = rw (c.in_ok-survey.ensures.live, c.requires.one_worker) at c.verify_seen.ensures.peak in
+    c.stages_law.ensures.peaks.work Verify UnpackChecks held 1 meter.live meter.peak c.survey_to_unpack.new.meter.peak c.verify_seen.new.meter.peak s.header_len s.tile refl c.requires.one_block
+    (verify_learnt (c.known_law.ensures.know Verify tt) s held exact) c.in_ok-survey.ensures.peak high
 
 pub returns-clause-most : goal.returns-clause-most
 returns-clause-most g c =
     let meter = c.survey_to_unpack.new.meter in
     let s = c.in_ok-survey.survey in
-    let within = work_within c.workspace_law.ensures.bound c.workspace_law.ensures.grows 1 (wants_to_verify s) c.in_ok-survey.ensures.survey.header.1 c.in_ok-survey.ensures.survey.tile in
-    let tells : TellsFirstPast meter.limit (piled meter.live (wanted_buffers (wants_to_verify s) 1)) c.verify_seen.result = rw c.requires.one_worker at c.verify_seen.ensures.first_past in
-    tells_within c.workspace_law.ensures.past _ _ _ _ meter.limit c.args.meter.now.limit meter.live (greatest_bound Verify 1) (wanted_buffers (wants_to_verify s) 1) c.verify_seen.result
-    c.in_ok-survey.ensures.limit (omega (arith, within, c.requires.one_block, c.in_ok-survey.ensures.live)) c.verify_seen.ensures.cause.stop tells
+    let tells : TellsFirstPast meter.limit (piled meter.live (wanted_buffers (wants_for Verify s) 1)) c.verify_seen.result = rw c.requires.one_worker at c.verify_seen.ensures.first_past in
+    let most : TellsLimit meter.limit (greatest_bound Verify 1) c.verify_seen.result =
+    c.stages_law.ensures.work.most Verify 1 meter.live meter.limit s.header_len s.tile _ _ _ _ c.verify_seen.result tt (c.in_ok-survey.ensures.live ∙ c.requires.one_block) c.in_ok-survey.ensures.survey.header.1
+    c.in_ok-survey.ensures.survey.tile c.verify_seen.ensures.cause.stop tells in
+    rw c.in_ok-survey.ensures.limit at most
 
 pub returns-clause-peak_most : goal.returns-clause-peak_most
 returns-clause-peak_most g c =
     let s = c.in_ok-survey.survey in
-    let look = header_within c.workspace_law.ensures.bound c.workspace_law.ensures.grows 1 in
-    let work = work_within c.workspace_law.ensures.bound c.workspace_law.ensures.grows 1 (wants_to_verify s) c.in_ok-survey.ensures.survey.header.1 c.in_ok-survey.ensures.survey.tile in
-    let high : c.verify_seen.new.meter.peak ≤ max c.survey_to_unpack.new.meter.peak (c.survey_to_unpack.new.meter.live + sum (wanted_buffers (wants_to_verify s) 1)) = rw c.requires.one_worker at c.verify_seen.ensures.peak in
+    let look = c.stages_law.ensures.peaks.look_most Verify 1 in
+    let work = c.stages_law.ensures.peaks.work_most Verify 1 s.header_len s.tile tt c.in_ok-survey.ensures.survey.header.1 c.in_ok-survey.ensures.survey.tile in
+    let high : c.verify_seen.new.meter.peak ≤ max c.survey_to_unpack.new.meter.peak (c.survey_to_unpack.new.meter.live + sum (wanted_buffers (wants_for Verify s) 1)) = rw c.requires.one_worker at c.verify_seen.ensures.peak in
     omega (arith, look, work, c.requires.one_block, c.in_ok-survey.ensures.live, c.in_ok-survey.ensures.peak_most, high)
 
 pub returns-clause-cause : goal.returns-clause-cause
-returns-clause-cause g c = later_works _ _ _ _ _ _ _ c.verify_seen.result c.in_ok-survey.ensures.cause.ok c.in_ok-survey.ensures.limit c.verify_seen.ensures.cause
+returns-clause-cause g c = rw (c.in_ok-survey.ensures.cause.ok, c.in_ok-survey.ensures.limit) at c.verify_seen.ensures.cause

@@ -1,0 +1,55 @@
+-- Takings one after another: the first of them that passes a limit, and the most that is live.
+use Rattle.std.proofs.Common.{◌≡◌, ℕ, ◌+◌, ◌≤◌, true, false, nat_lt, Bool, List, [], ◌∷◌, ◌++◌, refl, ap, ◌∙◌, arith}
+use Rattle.std.specs.Prelude.{Option, Some, None, Result, Ok, Err, if◌then◌else◌}
+use Rattle.std.proofs.lemmas.Bool.Decides.{nat_tests}
+use Rattle.fz_base.specs.Takings.{TellsFirstPast, first_past, highest}
+use Rattle.fz_base.specs.declared.failure.Stop.{Stop}
+use Rattle.fz_base.specs.declared.failure.Stop.TheVariants.{Refused, ReadFault, WriteFault, OverLimit, NoMemory}
+
+on_bool : (b : Bool) (taking : ℕ × ℕ) (later : Option (ℕ × ℕ)) → (if b then Some taking else later) ≡ None → (b ≡ false) × (later ≡ None)
+on_bool true taking later e = absurd cc
+on_bool false taking later e = (refl, e)
+
+on_bool_some : (b : Bool) (taking found : ℕ × ℕ) (later more : Option (ℕ × ℕ)) → (later ≡ Some found → more ≡ Some found) → (if b then Some taking else later) ≡ Some found → (if b then Some taking else more) ≡ Some found
+on_bool_some true taking found later more grows e = e
+on_bool_some false taking found later more grows e = grows e
+
+pub past_none : (limit : ℕ) (first second : List (ℕ × ℕ)) → first_past limit first ≡ None → first_past limit (first ++ second) ≡ first_past limit second
+past_none limit [] second e = refl
+past_none limit ((live, asked) ∷ first) second e =
+    let parts : (nat_lt limit (live + asked) ≡ false) × (first_past limit first ≡ None) = on_bool (nat_lt limit (live + asked)) (live, asked) (first_past limit first) e in
+    ap (λ b. if b then Some (live, asked) else first_past limit (first ++ second)) parts.0 ∙ past_none limit first second parts.1
+
+pub past_some : (limit : ℕ) (found : ℕ × ℕ) (first second : List (ℕ × ℕ)) → first_past limit first ≡ Some found → first_past limit (first ++ second) ≡ Some found
+past_some limit found [] second e = absurd cc
+past_some limit found ((live, asked) ∷ first) second e =
+    on_bool_some (nat_lt limit (live + asked)) (live, asked) found (first_past limit first) (first_past limit (first ++ second)) (past_some limit found first second) e
+
+pub highest_first : (first second : List (ℕ × ℕ)) → highest first ≤ highest (first ++ second)
+highest_first [] second = omega arith
+highest_first ((live, asked) ∷ first) second = let more = highest_first first second in omega (arith, more)
+
+-- a limit that no taking passes is at least the most that is live, and no larger one is passed
+pub highest_within : (limit : ℕ) (ts : List (ℕ × ℕ)) → first_past limit ts ≡ None → highest ts ≤ limit
+highest_within limit [] none = omega arith
+highest_within limit ((live, asked) ∷ ts) none =
+    let parts : (nat_lt limit (live + asked) ≡ false) × (first_past limit ts ≡ None) = on_bool (nat_lt limit (live + asked)) (live, asked) (first_past limit ts) none in
+    let rest : highest ts ≤ limit = highest_within limit ts parts.1 in
+    let here : live + asked ≤ limit = grind (arith, nat_tests, parts.0) in
+    omega (arith, rest, here)
+
+pub past_wider : (limit wider : ℕ) (ts : List (ℕ × ℕ)) → limit ≤ wider → first_past limit ts ≡ None → first_past wider ts ≡ None
+past_wider limit wider [] more none = refl
+past_wider limit wider ((live, asked) ∷ ts) more none =
+    let parts : (nat_lt limit (live + asked) ≡ false) × (first_past limit ts ≡ None) = on_bool (nat_lt limit (live + asked)) (live, asked) (first_past limit ts) none in
+    let test : nat_lt wider (live + asked) ≡ false = grind (arith, nat_tests, parts.0, more) in
+    ap (λ c. if c then Some (live, asked) else first_past wider ts) test ∙ past_wider limit wider ts more parts.1
+
+-- an answer that tells the first of some takings tells that of others where it is the same
+pub tells_same : {X : Type 0} (limit : ℕ) (xs ys : List (ℕ × ℕ)) (r : Result X Stop) → first_past limit ys ≡ first_past limit xs → TellsFirstPast limit xs r → TellsFirstPast limit ys r
+tells_same limit xs ys (Ok x) same tells = same ∙ tells
+tells_same limit xs ys (Err (Refused x)) same tells = same ∙ tells
+tells_same limit xs ys (Err ReadFault) same tells = tt
+tells_same limit xs ys (Err WriteFault) same tells = same ∙ tells
+tells_same limit xs ys (Err (OverLimit live asked told)) same tells = same ∙ tells
+tells_same limit xs ys (Err NoMemory) same tells = tt

@@ -1,0 +1,118 @@
+-- The look learnt what the work wants; the buffers for it were not given, or they were, and the work took no others.
+use Rattle.std.proofs.Common.{◌≡◌, ◌^◌, ℕ, ◌+◌, ◌≤◌, max, List, sym, ap, ◌∙◌, arith}
+use Rattle.std.specs.Prelude.{Option, Some, None, IfSome, IfErr, Result, Ok, Err, sum}
+use Rattle.fz_base.specs.Counts.{Tally}
+use Rattle.fz_base.specs.Stop.{TellsLimit, stop_of_short}
+use Rattle.fz_base.specs.Takings.{TellsFirstPast, TellsShort, first_past, highest, piled}
+use Rattle.fz_base.specs.declared.failure.Short.{Short}
+use Rattle.fz_base.specs.declared.failure.Short.TheVariants.{NoMemory as NoRoom, OverLimit as PastLimit}
+use Rattle.fz_base.specs.declared.failure.Stop.{Stop}
+use Rattle.fz_base.specs.declared.failure.Stop.TheVariants.{Refused, ReadFault, WriteFault, OverLimit, NoMemory}
+use Rattle.fz_files.specs.Buffers.{AreBounded, IsOfFile, header_takings, job_bound, work_takings, workers_of}
+use Rattle.fz_files.specs.Walks.{header_fault}
+use Rattle.fz_files.specs.declared.job.Job.{Job}
+use Rattle.fz_job.specs.Clauses.{greatest_bound}
+use Rattle.fz_job.specs.Keeps.{Rewrites, StoppedRewriting}
+use Rattle.fz_survey.specs.Surveys.{survey_takings}
+use Rattle.fz_survey.specs.Takes.{TellsTheLimit}
+use Rattle.fz_survey.specs.Workspace.{BoundGrows, PassesWithinAll, StaysInBound, pixels_of, wanted_buffers}
+use Rattle.fz_survey.specs.declared.checks.JobChecks.{JobChecks}
+use Rattle.fz_survey.specs.declared.workspace.Wants.{Wants}
+use Rattle.fz_survey.specs.declared.workspace.Workspace.{Workspace}
+use Rattle.fz_stages.specs.Stages.{IsLearnt, MakesChecks, StoppedWorking, Works, later_takings, wants_of}
+use Rattle.fz_stages.proofs.Jobs.{of_file, takings_of_headers, takings_of_work, wants_header, wants_pixels, work_within}
+use Rattle.fz_stages.proofs.Look.{headers_within, kept_same}
+use Rattle.fz_stages.proofs.Takings.{past_none, tells_same}
+
+-- ---- buffers that were not given
+
+pub short_works : (X : Type 0) (source sink : Tally) (limit : ℕ) (short : Short) → TellsTheLimit limit short → Works {X = X} source source sink sink limit (Err (stop_of_short short))
+short_works X source sink limit NoRoom told = record { source_kept = kept_same source; sink_kept = kept_same sink; ok = tt; stop = tt }
+short_works X source sink limit (PastLimit live asked passed) told = record { source_kept = kept_same source; sink_kept = kept_same sink; ok = tt; stop = told }
+
+pub short_past : (X : Type 0) (limit : ℕ) (takings : List (ℕ × ℕ)) (short : Short) → TellsShort {X = Workspace} limit takings (Err short) → TellsFirstPast {X = X} limit takings (Err (stop_of_short short))
+short_past X limit takings NoRoom tells = tt
+short_past X limit takings (PastLimit live asked told) tells = tells
+
+-- ---- buffers that were given
+
+wide_stop : (source source' sink sink' : Tally) (limit : ℕ) (stop : Stop) → StoppedRewriting source source' sink sink' stop → StoppedWorking source source' sink sink' limit stop
+wide_stop source source' sink sink' limit (Refused x) why = why
+wide_stop source source' sink sink' limit ReadFault why = why
+wide_stop source source' sink sink' limit WriteFault why = why
+wide_stop source source' sink sink' limit (OverLimit live asked told) why = absurd why
+wide_stop source source' sink sink' limit NoMemory why = tt
+
+module _ {X : Type 0} (source source' sink sink' : Tally) (limit : ℕ) where
+  wide_err : (r : Result X Stop) → IfErr r (StoppedRewriting source source' sink sink') → IfErr r (StoppedWorking source source' sink sink' limit)
+  wide_err (Ok x) why = tt
+  wide_err (Err stop) why = wide_stop source source' sink sink' limit stop why
+
+  pub rewrite_works : (r : Result X Stop) → Rewrites source source' sink sink' r → Works source source' sink sink' limit r
+  rewrite_works r rewrites = record {
+    source_kept = rewrites.source_kept;
+    sink_kept = rewrites.sink_kept;
+    ok = rewrites.ok;
+    stop = wide_err r rewrites.stop;
+  }
+
+  pub rewrite_past : (takings : List (ℕ × ℕ)) (r : Result X Stop) → IfErr r (StoppedRewriting source source' sink sink') → first_past limit takings ≡ None → TellsFirstPast limit takings r
+  rewrite_past takings (Ok x) why none = none
+  rewrite_past takings (Err (Refused x)) why none = none
+  rewrite_past takings (Err ReadFault) why none = tt
+  rewrite_past takings (Err WriteFault) why none = none
+  rewrite_past takings (Err (OverLimit live asked told)) why none = absurd why
+  rewrite_past takings (Err NoMemory) why none = tt
+
+-- ---- what the look learnt says of the work
+
+past_learnt : {X : Type 0} (job : Job) (checks : JobChecks) (file : List ℕ) (W live limit H n : ℕ) (r : Result X Stop) → MakesChecks job checks → live ≡ 2880 → IsLearnt job H n file →
+    first_past limit (survey_takings checks live file) ≡ None → TellsFirstPast limit (piled live (wanted_buffers (wants_of job H n) W)) r → TellsFirstPast limit (later_takings job file W) r
+past_learnt job checks file W live limit H n r makes one learnt none tells =
+    let first : first_past limit (header_takings job file) ≡ None = ap (first_past limit) (sym (takings_of_headers job checks file live makes one)) ∙ none in
+    let work : work_takings (header_fault job file) job file W ≡ piled live (wanted_buffers (wants_of job H n) W) =
+    takings_of_work job (of_file job checks makes) file H n learnt W ∙ ap (λ l. piled l (wanted_buffers (wants_of job H n) W)) (sym one) in
+    tells_same limit (piled live (wanted_buffers (wants_of job H n) W)) (later_takings job file W) r
+    (past_none limit (header_takings job file) (work_takings (header_fault job file) job file W) first ∙ ap (first_past limit) work) tells
+
+pub work_past : {X : Type 0} (job : Job) (checks : JobChecks) (held : Option (List ℕ)) (W live limit H n : ℕ) (r : Result X Stop) → MakesChecks job checks → live ≡ 2880 → IfSome held (IsLearnt job H n) →
+    IfSome held (λ file. first_past limit (survey_takings checks live file) ≡ None) → TellsFirstPast limit (piled live (wanted_buffers (wants_of job H n) W)) r → IfSome held (λ file. TellsFirstPast limit (later_takings job file W) r)
+work_past job checks None W live limit H n r makes one learnt none tells = tt
+work_past job checks (Some g) W live limit H n r makes one learnt none tells = past_learnt job checks g W live limit H n r makes one learnt none tells
+
+module _ (stays : StaysInBound) (grows : BoundGrows) where
+  pub work_most : (job : Job) (asked H n : ℕ) → IsOfFile job → H ≤ 737280 → n ≤ 2 ^ 26 → 2880 + sum (wanted_buffers (wants_of job H n) (workers_of job asked)) ≤ greatest_bound job asked
+  work_most job asked H n own header tile =
+      let wants : Wants = wants_of job H n in
+      let long : wants.header_len ≤ 737280 = omega (arith, wants_header job H n, header) in
+      let large : pixels_of wants.tile ≤ 2 ^ 26 = omega (arith, wants_pixels job H n, tile) in
+      let one = stays wants (workers_of job asked) in
+      let more = grows wants.header_len 737280 (pixels_of wants.tile) (2 ^ 26) (workers_of job asked) long large in
+      omega (arith, one, more)
+
+  pub work_peak : AreBounded → (job : Job) (checks : JobChecks) (held : Option (List ℕ)) (asked live old mid new H n : ℕ) → MakesChecks job checks → live ≡ 2880 → IfSome held (IsLearnt job H n) →
+      IfSome held (λ file. mid ≤ max old (highest (survey_takings checks live file))) → new ≤ max mid (live + sum (wanted_buffers (wants_of job H n) (workers_of job asked))) →
+      IfSome held (λ file. new ≤ max old (job_bound job file asked))
+  work_peak bounded job checks None asked live old mid new H n makes one learnt low high = tt
+  work_peak bounded job checks (Some g) asked live old mid new H n makes one learnt low high =
+      let look = headers_within bounded job checks g asked live makes one in
+      let work = work_within job (of_file job checks makes) g H n learnt stays grows asked in
+      omega (arith, look, work, low, high, one)
+
+-- the first taking of the work that passes the limit
+pub tells_within : {X : Type 0} (past : PassesWithinAll) (source source' sink sink' : Tally) (limit live most : ℕ) (buffers : List ℕ) (r : Result X Stop) → live + sum buffers ≤ most →
+    IfErr r (StoppedWorking source source' sink sink' limit) → TellsFirstPast limit (piled live buffers) r → TellsLimit limit most r
+tells_within past source source' sink sink' limit live most buffers (Ok x) less why tells = tt
+tells_within past source source' sink sink' limit live most buffers (Err (Refused x)) less why tells = tt
+tells_within past source source' sink sink' limit live most buffers (Err ReadFault) less why tells = tt
+tells_within past source source' sink sink' limit live most buffers (Err WriteFault) less why tells = tt
+tells_within past source source' sink sink' limit live most buffers (Err (OverLimit before asked told)) less why tells =
+    let within = past limit live before asked buffers tells in
+    (why.0, why.1, omega (arith, within.1, less))
+tells_within past source source' sink sink' limit live most buffers (Err NoMemory) less why tells = tt
+
+pub work_tells : {X : Type 0} → StaysInBound → BoundGrows → PassesWithinAll → (job : Job) (asked live limit H n : ℕ) (source source' sink sink' : Tally) (r : Result X Stop) → IsOfFile job → live ≡ 2880 → H ≤ 737280 → n ≤ 2 ^ 26 →
+    IfErr r (StoppedWorking source source' sink sink' limit) → TellsFirstPast limit (piled live (wanted_buffers (wants_of job H n) (workers_of job asked))) r → TellsLimit limit (greatest_bound job asked) r
+work_tells stays grows past job asked live limit H n source source' sink sink' r own one header tile why tells =
+    let most = work_most stays grows job asked H n own header tile in
+    tells_within past source source' sink sink' limit live (greatest_bound job asked) (wanted_buffers (wants_of job H n) (workers_of job asked)) r (omega (arith, most, one)) why tells
