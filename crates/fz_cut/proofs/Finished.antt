@@ -19,8 +19,8 @@ use Rattle.fz_survey.specs.Surveys.{cut_surveyed}
 use Rattle.fz_survey.specs.declared.survey.Survey.{Survey}
 use Rattle.fz_cut.specs.Output.{HoldsCutout}
 use Rattle.fz_job.specs.Clauses.{ComesLate, IfOverLimit, IsShutOrWhole, IsUnmade, TellsFirstFault}
-use Rattle.fz_stages.specs.Stages.{IsLearnt}
-use Rattle.fz_cut.specs.Stages.{IsKnown, SurveysKnow}
+use Rattle.fz_stages.specs.Stages.{HasLargest}
+use Rattle.fz_cut.specs.Known.{IsKnown, SurveysKnow}
 use Rattle.fz_cut.specs.Written.{FinishesSeen, IsPart, IsShutOrPart, work_ranges}
 use Rattle.fz_cut.specs.Again.{WasSeen}
 use Rattle.fz_cut.specs.Laws.{WorkIsTouched}
@@ -136,6 +136,6 @@ module _ (know : SurveysKnow) (want : Option ℕ) (sieve : Sieve) (s : Survey) w
       by_held (Some g) is = λ faulty. absurd (faulty (know want sieve g s is).no_fault)
 
   -- ---- what the work wants
-  pub learnt : (held : Option (List ℕ)) → IfSome held (Knows want sieve s) → IfSome held (IsLearnt (Cut want sieve) s.header_len s.tile)
+  pub learnt : (held : Option (List ℕ)) → IfSome held (Knows want sieve s) → IfSome held (HasLargest (Cut want sieve) s.header_len s.tile)
   learnt None exact = tt
   learnt (Some g) exact = let known = know want sieve g s exact in record { no_fault = known.no_fault; longest = known.longest; largest = known.largest }

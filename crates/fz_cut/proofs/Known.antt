@@ -26,7 +26,7 @@ use Rattle.fz_survey.specs.Surveys.{by_stop, cut_surveyed, header_len as header_
 use Rattle.fz_survey.specs.declared.checks.JobChecks.TheVariants.{Cut as CutChecks}
 use Rattle.fz_survey.specs.declared.survey.Survey.{Survey}
 use Rattle.fz_cut.specs.Again.{WasSeen}
-use Rattle.fz_cut.specs.Stages.{IsKnown}
+use Rattle.fz_cut.specs.Known.{IsKnown}
 use Rattle.fz_cut.proofs.Walks.{AreFound, BlocksLaw, FactsLaw, HasLast, has_last, last_is, longest_is, or_parts, place_of, stopped_last, stops_last, stops_none, walk_met}
 
 -- the laws that it stands on

@@ -16,10 +16,10 @@ use Rattle.fz_files.specs.declared.job.Job.{Job}
 use Rattle.fz_files.specs.declared.job.Job.TheVariants.{Cut}
 use Rattle.fz_survey.specs.Surveys.{cut_surveyed}
 use Rattle.fz_survey.specs.declared.survey.Survey.{Survey}
-use Rattle.fz_job.specs.Clauses.{IfOverLimit, ComesLate, IsShutOrWhole, IsUnmade}
+use Rattle.fz_job.specs.Clauses.{IfOverLimit, ComesLate, IsShutOrWhole, IsUnmade, TellsFirstFault}
 use Rattle.fz_job.specs.Keeps.{StoppedRewriting}
 use Rattle.fz_stages.specs.Stages.{TellsHeaderFault}
-use Rattle.fz_cut.specs.Stages.{SurveysRefuse}
+use Rattle.fz_cut.specs.Known.{SurveysRefuse}
 use Rattle.fz_cut.specs.Written.{FinishesSeen, IsShutOrPart}
 
 -- ---- facts that hold whatever the answer
@@ -96,6 +96,10 @@ short_unwritten X sieve held most tile h now short = always held (λ g. Finishes
 pub short_shut : {X : Type 0} (sieve : Sieve) (held : Option (List ℕ)) (most tile : ℕ) (h : Header) (now : Option (List ℕ)) (r : Result X Stop) → IfSome now (λ c. c ≡ []) → IsShutOrPart held sieve most tile h now r
 short_shut sieve held most tile h now (Ok x) empty = tt
 short_shut sieve held most tile h now (Err stop) empty = inl (shut_empty now empty)
+
+pub short_untold : (X : Type 0) (job : Job) (held : Option (List ℕ)) (short : Short) → TellsFirstFault {X = X} job held (Err (stop_of_short short))
+short_untold X job held NoRoom = tt
+short_untold X job held (PastLimit live asked limit) = tt
 
 -- ---- the look at the headers
 

@@ -18,7 +18,7 @@ use Rattle.fz_survey.specs.Surveys.{survey_places}
 use Rattle.fz_survey.specs.declared.checks.JobChecks.TheVariants.{Cut as CutChecks}
 use Rattle.fz_survey.specs.declared.survey.Survey.{Survey}
 use Rattle.fz_cut.specs.Picks.{picked_ranges}
-use Rattle.fz_cut.specs.Stages.{IsKnown}
+use Rattle.fz_cut.specs.Known.{IsKnown}
 use Rattle.fz_cut.specs.Written.{work_ranges}
 use Rattle.fz_cut.proofs.Known.{job_is, reached_is, same_judge}
 use Rattle.fz_cut.proofs.Walks.{FactsLaw, HasLast, has_last, last_is, lies_before, lies_behind, lies_in_headers, lies_in_last, looked, place_of, places_are, walk_met}

@@ -10,7 +10,7 @@ use Rattle.fz_survey.specs.declared.survey.Survey.{Survey}
 use Rattle.fz_files.specs.Cutout.{touched}
 use Rattle.fz_files.specs.Walks.{box_of}
 use Rattle.fz_cut.specs.Part.{IsPartOf}
-use Rattle.fz_cut.specs.Stages.{IsKnown}
+use Rattle.fz_cut.specs.Known.{IsKnown}
 use Rattle.fz_cut.specs.Written.{work_ranges}
 
 -- what the first look reads lies in the touched ranges

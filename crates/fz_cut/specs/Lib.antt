@@ -1,9 +1,9 @@
 pub mod Again
+pub mod Known
 pub mod Laws
 pub mod Moved
 pub mod Output
 pub mod Part
 pub mod Picks
 pub mod Slices
-pub mod Stages
 pub mod Written

@@ -70,6 +70,7 @@ pub fn cut<R: Threads + Sync, S: Source, K: Sink, G: Gate>(
     ensures told_ranges { StaysTold (S.ranges source.old) (S.ranges source.new) }
     ensures told_contents { StaysTold (K.contents sink.old) (K.contents sink.new) }
 {
+    // How the promises of the job follow from its stages.
     stages_law::<()>();
     let mut block = meter.bytes(BLOCK_LEN as u64)?;
     let answer = with_block(
@@ -127,7 +128,7 @@ fn with_block<R: Threads + Sync, S: Source, K: Sink, G: Gate>(
     ensures told_contents { StaysTold (K.contents sink.old) (K.contents sink.new) }
     ensures cause { Works (S.tally source.old) (S.tally source.new) (K.tally sink.old) (K.tally sink.new) meter.old.limit result }
 {
-    // What the survey says of the file, and what is read of it.
+    // What the survey says of the file, what is read of it, and what follows for the job.
     known_law();
     touched_law();
     ranges_law();
@@ -169,6 +170,7 @@ fn work<R: Threads + Sync, S: Source, K: Sink, G: Gate>(
     ensures touched { IfSome (S.held source.old) (λ g. WasSeen g (box_of sieve.now) survey.now.header_len survey.now.tile from.now
         → LogsIn (work_ranges g sieve.now from.now) (S.ranges source.old) (S.ranges source.new)) }
     ensures unmade { IfOverLimit result ((K.created sink.new ≡ K.created sink.old) × (K.contents sink.new ≡ K.contents sink.old)) }
+    // The number of the HDU has no part in what is wanted.
     ensures first_past { TellsFirstPast meter.old.limit (piled meter.old.live (wanted_buffers (wants_for (Cut None sieve.now) survey.now) window.old.workers)) result }
     ensures peak { meter.new.peak ≤ max meter.old.peak (meter.old.live + sum (wanted_buffers (wants_for (Cut None sieve.now) survey.now) window.old.workers)) }
     ensures live { meter.new.live ≡ meter.old.live }
@@ -180,7 +182,7 @@ fn work<R: Threads + Sync, S: Source, K: Sink, G: Gate>(
     ensures told_contents { StaysTold (K.contents sink.old) (K.contents sink.new) }
     ensures cause { Works (S.tally source.old) (S.tally source.new) (K.tally sink.old) (K.tally sink.new) meter.old.limit result }
 {
-    // How long the slots are that were filled.
+    // How long the slots are that were filled, and that what was taken comes back.
     sizes_law();
     stages_law::<()>();
     let wants = Wants {

@@ -2,7 +2,7 @@
 ghost use Rattle.fz_cut.specs.Laws.{LooksAreTouched, PartsBegin, WorkIsTouched};
 ghost use Rattle.fz_cut.specs.Output.{HasPicks};
 ghost use Rattle.fz_cut.specs.Slices.{CutoutsAreSlices, SinksHoldSlices};
-ghost use Rattle.fz_cut.specs.Stages.{SurveysKnow, SurveysRefuse};
+ghost use Rattle.fz_cut.specs.Known.{SurveysKnow, SurveysRefuse};
 
 use crate::boxes::tables_law;
 use fz_block::{found_hdus_law, hdu_at_law, walk_law};

@@ -18,8 +18,8 @@ use Rattle.fz_survey.specs.declared.checks.JobChecks.TheVariants.{Pack as PackCh
 use Rattle.fz_survey.specs.declared.survey.Survey.{Survey}
 use Rattle.fz_pack.specs.Output.{HoldsPacked}
 use Rattle.fz_job.specs.Clauses.{IfOverLimit, IsChanged, IsShutOrWhole, IsUnmade, TellsFirstFault}
-use Rattle.fz_stages.specs.Stages.{IsLearnt}
-use Rattle.fz_pack.specs.Stages.{IsKnown, SurveysKnow}
+use Rattle.fz_stages.specs.Stages.{HasLargest}
+use Rattle.fz_pack.specs.Known.{IsKnown, SurveysKnow}
 use Rattle.fz_pack.specs.Written.{ArePacked, AreShutOrWhole, FinishesSeen, IsList}
 use Rattle.fz_pack.proofs.Outcomes.{refused_weaker}
 
@@ -85,6 +85,6 @@ module _ (know : SurveysKnow) (o : PackOptions) (s : Survey) where
       by_shut (inr is) = inr (sealed_whole held now exact is.0, is.1)
 
   -- ---- what the work wants
-  pub learnt : (held : Option (List ℕ)) → IfSome held (Knows o s) → IfSome held (IsLearnt (Pack o) s.header_len s.tile)
+  pub learnt : (held : Option (List ℕ)) → IfSome held (Knows o s) → IfSome held (HasLargest (Pack o) s.header_len s.tile)
   learnt None exact = tt
   learnt (Some g) exact = let known = know o g s exact in record { no_fault = known.no_fault; longest = known.longest; largest = known.largest }

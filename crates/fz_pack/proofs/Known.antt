@@ -18,7 +18,7 @@ use Rattle.fz_survey.specs.Judges.{judge_of}
 use Rattle.fz_survey.specs.Surveys.{header_len as header_len_seen, headers_seen, survey_of, surveyed, tile_pixels as tile_seen}
 use Rattle.fz_survey.specs.declared.checks.JobChecks.TheVariants.{Pack as PackChecks}
 use Rattle.fz_survey.specs.declared.survey.Survey.{Survey}
-use Rattle.fz_pack.specs.Stages.{IsKnown}
+use Rattle.fz_pack.specs.Known.{IsKnown}
 use Rattle.fz_pack.specs.Written.{IsList}
 use Rattle.fz_pack.proofs.Walked.{AreMet, AreSound, BlocksLaw, PlacesLaw, largest_is, longest_is, never_stops, walk_met, walk_sound, were_seen}
 use Rattle.fz_head.specs.WorkBuffers.{pixels_of_tile}

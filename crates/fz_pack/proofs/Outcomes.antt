@@ -16,10 +16,10 @@ use Rattle.fz_files.specs.declared.job.Job.TheVariants.{Pack}
 use Rattle.fz_survey.specs.Surveys.{surveyed}
 use Rattle.fz_survey.specs.declared.checks.JobChecks.TheVariants.{Pack as PackChecks}
 use Rattle.fz_survey.specs.declared.survey.Survey.{Survey}
-use Rattle.fz_job.specs.Clauses.{IfOverLimit, ComesLate, IsShutOrWhole, IsUnmade}
+use Rattle.fz_job.specs.Clauses.{IfOverLimit, ComesLate, IsShutOrWhole, IsUnmade, TellsFirstFault}
 use Rattle.fz_job.specs.Keeps.{StoppedRewriting}
 use Rattle.fz_stages.specs.Stages.{TellsHeaderFault}
-use Rattle.fz_pack.specs.Stages.{SurveysRefuse}
+use Rattle.fz_pack.specs.Known.{SurveysRefuse}
 use Rattle.fz_pack.specs.Written.{AreShutOrWhole, FinishesSeen}
 
 -- ---- facts that hold whatever the answer
@@ -96,6 +96,10 @@ short_unwritten X o held s now short = always held (λ g. FinishesSeen {X = X} o
 pub short_shut : {X : Type 0} (o : PackOptions) (held : Option (List ℕ)) (s : Survey) (now : Option (List ℕ)) (r : Result X Stop) → IfSome now (λ c. c ≡ []) → AreShutOrWhole o s held now r
 short_shut o held s now (Ok x) empty = tt
 short_shut o held s now (Err stop) empty = inl (shut_empty now empty)
+
+pub short_untold : (X : Type 0) (job : Job) (held : Option (List ℕ)) (short : Short) → TellsFirstFault {X = X} job held (Err (stop_of_short short))
+short_untold X job held NoRoom = tt
+short_untold X job held (PastLimit live asked limit) = tt
 
 -- ---- the look at the headers
 

@@ -1,5 +1,5 @@
 pub mod Again
 pub mod Behind
+pub mod Known
 pub mod Output
-pub mod Stages
 pub mod Written

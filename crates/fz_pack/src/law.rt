@@ -1,5 +1,5 @@
 //! What the first look says of a file: no code runs.
-ghost use Rattle.fz_pack.specs.Stages.{SurveysKnow, SurveysRefuse};
+ghost use Rattle.fz_pack.specs.Known.{SurveysKnow, SurveysRefuse};
 
 use fz_block::{found_hdus_law, found_law, hdu_law, hdu_list_law, walk_law};
 

@@ -38,15 +38,15 @@ pub record WalkLaws : Type 0 where
 
 -- ---- the file that is packed
 
-no_header_fault : (refused : Option Fault) (job : Job) (file : List ℕ) → IsFaultBehind refused job file None → refused ≡ None
+pub no_header_fault : (refused : Option Fault) (job : Job) (file : List ℕ) → IsFaultBehind refused job file None → refused ≡ None
 no_header_fault None job file is = refl
 no_header_fault (Some fault) job file is = absurd cc
 
-found_walk : (job : Job) (file : List ℕ) (found : Result (List Header) Fault) → fault_of_walk job file found ≡ None → (hs : List Header) × (found ≡ Ok hs)
+pub found_walk : (job : Job) (file : List ℕ) (found : Result (List Header) Fault) → fault_of_walk job file found ≡ None → (hs : List Header) × (found ≡ Ok hs)
 found_walk job file (Ok hs) none = (hs, refl)
 found_walk job file (Err fault) none = absurd cc
 
-pack_walk : (o : PackOptions) (file : List ℕ) → header_fault (Pack o) file ≡ None → (hs : List Header) × (walk_of (pack_judge o file) 65535 file ≡ Ok hs)
+pub pack_walk : (o : PackOptions) (file : List ℕ) → header_fault (Pack o) file ≡ None → (hs : List Header) × (walk_of (pack_judge o file) 65535 file ≡ Ok hs)
 unfolding job_walk
 pack_walk o file none = found_walk (Pack o) file (walk_of (pack_judge o file) 65535 file) none
 

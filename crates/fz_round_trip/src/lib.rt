@@ -3,4 +3,4 @@
 
 mod laws;
 
-pub use laws::round_trip_law;
+pub use laws::{packed_file_law, restored_file_law, round_trip_law};

@@ -18,7 +18,7 @@ use Rattle.fz_survey.specs.Workspace.{BoundGrows, StaysInBound, pixels_of, wante
 use Rattle.fz_survey.specs.declared.checks.JobChecks.{JobChecks}
 use Rattle.fz_survey.specs.declared.checks.JobChecks.TheVariants.{Pack as PackChecks, Unpack as UnpackChecks, Cut as CutChecks}
 use Rattle.fz_survey.specs.declared.workspace.Wants.{Wants}
-use Rattle.fz_stages.specs.Stages.{IsLearnt, MakesChecks, wants_of}
+use Rattle.fz_stages.specs.Stages.{HasLargest, MakesChecks, wants_of}
 
 -- a job that makes checks works on a file
 pub of_file : (job : Job) (checks : JobChecks) → MakesChecks job checks → IsOfFile job
@@ -31,13 +31,13 @@ of_file (Drill rows) checks makes = absurd makes
 
 -- ---- takings
 
-pub takings_of_file : (job : Job) (file : List ℕ) (asked : ℕ) → IsOfFile job → job_takings job file asked ≡ file_takings job file (workers_of job asked)
-takings_of_file (Pack o) file asked own = refl
-takings_of_file Unpack file asked own = refl
-takings_of_file (Cut wanted sieve) file asked own = refl
-takings_of_file Verify file asked own = refl
-takings_of_file ListHdus file asked own = refl
-takings_of_file (Drill rows) file asked own = absurd own
+pub takings_of_file : (job : Job) (file : List ℕ) (workers : ℕ) → IsOfFile job → job_takings job file workers ≡ file_takings job file (workers_of job workers)
+takings_of_file (Pack o) file workers own = refl
+takings_of_file Unpack file workers own = refl
+takings_of_file (Cut wanted sieve) file workers own = refl
+takings_of_file Verify file workers own = refl
+takings_of_file ListHdus file workers own = refl
+takings_of_file (Drill rows) file workers own = absurd own
 
 -- both name the same checks
 pack_checks : (o : PackOptions) (file : List ℕ) → judge_of (PackChecks o) file ≡ pack_judge o file
@@ -69,7 +69,7 @@ takings_of_headers (Drill rows) checks file live makes one = absurd makes
 
 -- ---- what the work wants
 
-wanted_are : (job : Job) (H n W : ℕ) → IsOfFile job → job_buffers job H n W ≡ wanted_buffers (wants_of job H n) W
+pub wanted_are : (job : Job) (H n W : ℕ) → IsOfFile job → job_buffers job H n W ≡ wanted_buffers (wants_of job H n) W
 wanted_are (Pack o) H n W own = refl
 wanted_are Unpack H n W own = refl
 wanted_are (Cut wanted sieve) H n W own = refl
@@ -93,18 +93,18 @@ wants_pixels Verify H n = omega arith
 wants_pixels ListHdus H n = omega arith
 wants_pixels (Drill rows) H n = omega arith
 
-module _ (job : Job) (own : IsOfFile job) (file : List ℕ) (H n : ℕ) (learnt : IsLearnt job H n file) where
+module _ (job : Job) (own : IsOfFile job) (file : List ℕ) (H n : ℕ) (learnt : HasLargest job H n file) where
   pub takings_of_work : (W : ℕ) → work_takings (header_fault job file) job file W ≡ piled 2880 (wanted_buffers (wants_of job H n) W)
   takings_of_work W =
       ap (λ (f : Option Fault). work_takings f job file W) learnt.no_fault
       ∙ (λ i. piled 2880 (job_buffers job (learnt.longest i) (learnt.largest i) W))
       ∙ ap (piled 2880) (wanted_are job H n W own)
 
-  pub work_within : StaysInBound → BoundGrows → (asked : ℕ) → 2880 + sum (wanted_buffers (wants_of job H n) (workers_of job asked)) ≤ job_bound job file asked
-  work_within stays grows asked =
+  pub work_within : StaysInBound → BoundGrows → (workers : ℕ) → 2880 + sum (wanted_buffers (wants_of job H n) (workers_of job workers)) ≤ job_bound job file workers
+  work_within stays grows workers =
       let wants : Wants = wants_of job H n in
       let header : wants.header_len ≤ longest_header job file = omega (arith, wants_header job H n, learnt.longest) in
       let tile : pixels_of wants.tile ≤ largest_tile job file = omega (arith, wants_pixels job H n, learnt.largest) in
-      let one = stays wants (workers_of job asked) in
-      let more = grows wants.header_len (longest_header job file) (pixels_of wants.tile) (largest_tile job file) (workers_of job asked) header tile in
+      let one = stays wants (workers_of job workers) in
+      let more = grows wants.header_len (longest_header job file) (pixels_of wants.tile) (largest_tile job file) (workers_of job workers) header tile in
       omega (arith, one, more)

@@ -79,11 +79,11 @@ look_past X job checks (Some g) W live limit stop before now makes one cause fau
 -- ---- the bounds
 
 -- one block and the longest header
-pub look_most : StaysInBound → BoundGrows → (job : Job) (asked : ℕ) → 2880 + 737280 ≤ greatest_bound job asked
-look_most stays grows job asked =
+pub look_most : StaysInBound → BoundGrows → (job : Job) (workers : ℕ) → 2880 + 737280 ≤ greatest_bound job workers
+look_most stays grows job workers =
     let wants : Wants = record { header_len = 737280; translates = false; tile = None } in
-    let one = stays wants (workers_of job asked) in
-    let more = grows 737280 737280 0 (2 ^ 26) (workers_of job asked) (omega arith) (omega arith) in
+    let one = stays wants (workers_of job workers) in
+    let more = grows 737280 737280 0 (2 ^ 26) (workers_of job workers) (omega arith) (omega arith) in
     omega (arith, one, more)
 
 pub tells_most : (X : Type 0) (limit most more : ℕ) (stop : Stop) → most ≤ more → TellsLimit {X = Survey} limit most (Err stop) → TellsLimit {X = X} limit more (Err stop)
@@ -93,18 +93,18 @@ tells_most X limit most more WriteFault less tells = tt
 tells_most X limit most more (OverLimit live asked told) less tells = (tells.0, tells.1, omega (arith, tells.2, less))
 tells_most X limit most more NoMemory less tells = tt
 
-pub headers_within : AreBounded → (job : Job) (checks : JobChecks) (file : List ℕ) (asked live : ℕ) → MakesChecks job checks → live ≡ 2880 → highest (survey_takings checks live file) ≤ job_bound job file asked
-headers_within bounded job checks file asked live makes one =
+pub headers_within : AreBounded → (job : Job) (checks : JobChecks) (file : List ℕ) (workers live : ℕ) → MakesChecks job checks → live ≡ 2880 → highest (survey_takings checks live file) ≤ job_bound job file workers
+headers_within bounded job checks file workers live makes one =
     let own = of_file job checks makes in
-    let W : ℕ = workers_of job asked in
-    let none : first_past (job_bound job file asked) (file_takings job file W) ≡ None =
-    ap (first_past (job_bound job file asked)) (sym (takings_of_file job file asked own)) ∙ bounded job file asked own in
-    let all : highest (file_takings job file W) ≤ job_bound job file asked = highest_within (job_bound job file asked) (file_takings job file W) none in
+    let W : ℕ = workers_of job workers in
+    let none : first_past (job_bound job file workers) (file_takings job file W) ≡ None =
+    ap (first_past (job_bound job file workers)) (sym (takings_of_file job file workers own)) ∙ bounded job file workers own in
+    let all : highest (file_takings job file W) ≤ job_bound job file workers = highest_within (job_bound job file workers) (file_takings job file W) none in
     let front : highest (header_takings job file) ≤ highest (later_takings job file W) = highest_first (header_takings job file) (work_takings (header_fault job file) job file W) in
     let same : highest (survey_takings checks live file) ≡ highest (header_takings job file) = ap highest (takings_of_headers job checks file live makes one) in
     omega (arith, all, front, same)
 
-pub look_peak : AreBounded → (job : Job) (checks : JobChecks) (held : Option (List ℕ)) (asked live old new : ℕ) → MakesChecks job checks → live ≡ 2880 →
-    IfSome held (λ file. new ≤ max old (highest (survey_takings checks live file))) → IfSome held (λ file. new ≤ max old (job_bound job file asked))
-look_peak bounded job checks None asked live old new makes one low = tt
-look_peak bounded job checks (Some g) asked live old new makes one low = let within = headers_within bounded job checks g asked live makes one in omega (arith, low, within)
+pub look_peak : AreBounded → (job : Job) (checks : JobChecks) (held : Option (List ℕ)) (workers live old new : ℕ) → MakesChecks job checks → live ≡ 2880 →
+    IfSome held (λ file. new ≤ max old (highest (survey_takings checks live file))) → IfSome held (λ file. new ≤ max old (job_bound job file workers))
+look_peak bounded job checks None workers live old new makes one low = tt
+look_peak bounded job checks (Some g) workers live old new makes one low = let within = headers_within bounded job checks g workers live makes one in omega (arith, low, within)

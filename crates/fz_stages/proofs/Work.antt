@@ -19,7 +19,7 @@ use Rattle.fz_survey.specs.Workspace.{BoundGrows, PassesWithinAll, StaysInBound,
 use Rattle.fz_survey.specs.declared.checks.JobChecks.{JobChecks}
 use Rattle.fz_survey.specs.declared.workspace.Wants.{Wants}
 use Rattle.fz_survey.specs.declared.workspace.Workspace.{Workspace}
-use Rattle.fz_stages.specs.Stages.{IsLearnt, MakesChecks, StoppedWorking, Works, later_takings, wants_of}
+use Rattle.fz_stages.specs.Stages.{HasLargest, MakesChecks, StoppedWorking, Works, later_takings, wants_of}
 use Rattle.fz_stages.proofs.Jobs.{of_file, takings_of_headers, takings_of_work, wants_header, wants_pixels, work_within}
 use Rattle.fz_stages.proofs.Look.{headers_within, kept_same}
 use Rattle.fz_stages.proofs.Takings.{past_none, tells_same}
@@ -66,7 +66,7 @@ module _ {X : Type 0} (source source' sink sink' : Tally) (limit : ℕ) where
 
 -- ---- what the look learnt says of the work
 
-past_learnt : {X : Type 0} (job : Job) (checks : JobChecks) (file : List ℕ) (W live limit H n : ℕ) (r : Result X Stop) → MakesChecks job checks → live ≡ 2880 → IsLearnt job H n file →
+past_learnt : {X : Type 0} (job : Job) (checks : JobChecks) (file : List ℕ) (W live limit H n : ℕ) (r : Result X Stop) → MakesChecks job checks → live ≡ 2880 → HasLargest job H n file →
     first_past limit (survey_takings checks live file) ≡ None → TellsFirstPast limit (piled live (wanted_buffers (wants_of job H n) W)) r → TellsFirstPast limit (later_takings job file W) r
 past_learnt job checks file W live limit H n r makes one learnt none tells =
     let first : first_past limit (header_takings job file) ≡ None = ap (first_past limit) (sym (takings_of_headers job checks file live makes one)) ∙ none in
@@ -75,28 +75,28 @@ past_learnt job checks file W live limit H n r makes one learnt none tells =
     tells_same limit (piled live (wanted_buffers (wants_of job H n) W)) (later_takings job file W) r
     (past_none limit (header_takings job file) (work_takings (header_fault job file) job file W) first ∙ ap (first_past limit) work) tells
 
-pub work_past : {X : Type 0} (job : Job) (checks : JobChecks) (held : Option (List ℕ)) (W live limit H n : ℕ) (r : Result X Stop) → MakesChecks job checks → live ≡ 2880 → IfSome held (IsLearnt job H n) →
+pub work_past : {X : Type 0} (job : Job) (checks : JobChecks) (held : Option (List ℕ)) (W live limit H n : ℕ) (r : Result X Stop) → MakesChecks job checks → live ≡ 2880 → IfSome held (HasLargest job H n) →
     IfSome held (λ file. first_past limit (survey_takings checks live file) ≡ None) → TellsFirstPast limit (piled live (wanted_buffers (wants_of job H n) W)) r → IfSome held (λ file. TellsFirstPast limit (later_takings job file W) r)
 work_past job checks None W live limit H n r makes one learnt none tells = tt
 work_past job checks (Some g) W live limit H n r makes one learnt none tells = past_learnt job checks g W live limit H n r makes one learnt none tells
 
 module _ (stays : StaysInBound) (grows : BoundGrows) where
-  pub work_most : (job : Job) (asked H n : ℕ) → IsOfFile job → H ≤ 737280 → n ≤ 2 ^ 26 → 2880 + sum (wanted_buffers (wants_of job H n) (workers_of job asked)) ≤ greatest_bound job asked
-  work_most job asked H n own header tile =
+  pub work_most : (job : Job) (workers H n : ℕ) → IsOfFile job → H ≤ 737280 → n ≤ 2 ^ 26 → 2880 + sum (wanted_buffers (wants_of job H n) (workers_of job workers)) ≤ greatest_bound job workers
+  work_most job workers H n own header tile =
       let wants : Wants = wants_of job H n in
       let long : wants.header_len ≤ 737280 = omega (arith, wants_header job H n, header) in
       let large : pixels_of wants.tile ≤ 2 ^ 26 = omega (arith, wants_pixels job H n, tile) in
-      let one = stays wants (workers_of job asked) in
-      let more = grows wants.header_len 737280 (pixels_of wants.tile) (2 ^ 26) (workers_of job asked) long large in
+      let one = stays wants (workers_of job workers) in
+      let more = grows wants.header_len 737280 (pixels_of wants.tile) (2 ^ 26) (workers_of job workers) long large in
       omega (arith, one, more)
 
-  pub work_peak : AreBounded → (job : Job) (checks : JobChecks) (held : Option (List ℕ)) (asked live old mid new H n : ℕ) → MakesChecks job checks → live ≡ 2880 → IfSome held (IsLearnt job H n) →
-      IfSome held (λ file. mid ≤ max old (highest (survey_takings checks live file))) → new ≤ max mid (live + sum (wanted_buffers (wants_of job H n) (workers_of job asked))) →
-      IfSome held (λ file. new ≤ max old (job_bound job file asked))
-  work_peak bounded job checks None asked live old mid new H n makes one learnt low high = tt
-  work_peak bounded job checks (Some g) asked live old mid new H n makes one learnt low high =
-      let look = headers_within bounded job checks g asked live makes one in
-      let work = work_within job (of_file job checks makes) g H n learnt stays grows asked in
+  pub work_peak : AreBounded → (job : Job) (checks : JobChecks) (held : Option (List ℕ)) (workers live old mid new H n : ℕ) → MakesChecks job checks → live ≡ 2880 → IfSome held (HasLargest job H n) →
+      IfSome held (λ file. mid ≤ max old (highest (survey_takings checks live file))) → new ≤ max mid (live + sum (wanted_buffers (wants_of job H n) (workers_of job workers))) →
+      IfSome held (λ file. new ≤ max old (job_bound job file workers))
+  work_peak bounded job checks None workers live old mid new H n makes one learnt low high = tt
+  work_peak bounded job checks (Some g) workers live old mid new H n makes one learnt low high =
+      let look = headers_within bounded job checks g workers live makes one in
+      let work = work_within job (of_file job checks makes) g H n learnt stays grows workers in
       omega (arith, look, work, low, high, one)
 
 -- the first taking of the work that passes the limit
@@ -111,8 +111,8 @@ tells_within past source source' sink sink' limit live most buffers (Err (OverLi
     (why.0, why.1, omega (arith, within.1, less))
 tells_within past source source' sink sink' limit live most buffers (Err NoMemory) less why tells = tt
 
-pub work_tells : {X : Type 0} → StaysInBound → BoundGrows → PassesWithinAll → (job : Job) (asked live limit H n : ℕ) (source source' sink sink' : Tally) (r : Result X Stop) → IsOfFile job → live ≡ 2880 → H ≤ 737280 → n ≤ 2 ^ 26 →
-    IfErr r (StoppedWorking source source' sink sink' limit) → TellsFirstPast limit (piled live (wanted_buffers (wants_of job H n) (workers_of job asked))) r → TellsLimit limit (greatest_bound job asked) r
-work_tells stays grows past job asked live limit H n source source' sink sink' r own one header tile why tells =
-    let most = work_most stays grows job asked H n own header tile in
-    tells_within past source source' sink sink' limit live (greatest_bound job asked) (wanted_buffers (wants_of job H n) (workers_of job asked)) r (omega (arith, most, one)) why tells
+pub work_tells : {X : Type 0} → StaysInBound → BoundGrows → PassesWithinAll → (job : Job) (workers live limit H n : ℕ) (source source' sink sink' : Tally) (r : Result X Stop) → IsOfFile job → live ≡ 2880 → H ≤ 737280 → n ≤ 2 ^ 26 →
+    IfErr r (StoppedWorking source source' sink sink' limit) → TellsFirstPast limit (piled live (wanted_buffers (wants_of job H n) (workers_of job workers))) r → TellsLimit limit (greatest_bound job workers) r
+work_tells stays grows past job workers live limit H n source source' sink sink' r own one header tile why tells =
+    let most = work_most stays grows job workers H n own header tile in
+    tells_within past source source' sink sink' limit live (greatest_bound job workers) (wanted_buffers (wants_of job H n) (workers_of job workers)) r (omega (arith, most, one)) why tells

@@ -1,4 +1,5 @@
--- The stages of a job on a file: it takes one block, looks at the headers, takes the buffers that its work wants, and works.
+-- What the stages of a job on a file say of themselves: it takes one block, looks at the headers, takes the buffers that its work wants,
+-- and works. `drill` works on no file that it is given: no stage is said of it.
 use Rattle.std.specs.Prelude.{ℕ, ◌≡◌, ◌+◌, ◌<◌, true, false, List, ◌++◌, Option, Some, None, IfSome, Result, OnOk, IfErr, ⊤}
 use Rattle.fz_base.specs.Counts.{Rose, Tally, CountsKept}
 use Rattle.fz_base.specs.declared.failure.Stop.{Stop}
@@ -18,7 +19,7 @@ later_takings job file W = header_takings job file ++ work_takings (header_fault
 
 -- ---- the look at the headers
 
--- the checks that a job on a file makes of each header
+-- the checks that a job makes of each header that it comes to; `drill` makes none
 abbrev pub MakesChecks : Job → JobChecks → Type 0
 MakesChecks (Pack o) checks = checks ≡ PackChecks o
 MakesChecks Unpack checks = checks ≡ UnpackChecks
@@ -27,7 +28,7 @@ MakesChecks Verify checks = checks ≡ UnpackChecks
 MakesChecks ListHdus checks = checks ≡ UnpackChecks
 MakesChecks (Drill rows) checks = ⊥
 
--- a look that ends with Refused tells the fault of the file's headers
+-- where the look refuses the file, and its bytes are told, it tells the first fault of its headers for the job
 abbrev pub TellsHeaderFault : Job → Option (List ℕ) → Stop → Type 0
 TellsHeaderFault job held (Refused x) = IfSome held (λ file. header_fault job file ≡ Some x)
 TellsHeaderFault job held ReadFault = ⊤
@@ -35,16 +36,16 @@ TellsHeaderFault job held WriteFault = ⊤
 TellsHeaderFault job held (OverLimit live asked limit) = ⊤
 TellsHeaderFault job held NoMemory = ⊤
 
--- What a look learns of a file of which no header is refused: the longest header, and the largest tile that the job works on.
-pub record IsLearnt (job : Job) (H n : ℕ) (file : List ℕ) : Type 0 where
+-- No header of the file is refused, and these are its longest header, and the pixels of the largest tile that the job works on: 0 for `list`.
+pub record HasLargest (job : Job) (H n : ℕ) (file : List ℕ) : Type 0 where
   pub no_fault : header_fault job file ≡ None
   pub longest : longest_header job file ≡ H
   pub largest : largest_tile job file ≡ n
 
 -- ---- the work
 
--- The buffers that the work of a job wants for headers of at most H bytes and tiles of at most n pixels. Where nothing is written no header
--- is translated, and `list` works on no tiles.
+-- What the work of a job wants for headers of at most H bytes and tiles of at most n pixels. Where nothing is written no header is
+-- translated, and `list` works on no tiles.
 abbrev pub wants_of : Job → ℕ → ℕ → Wants
 wants_of (Pack o) H n = record { header_len = H; translates = true; tile = Some n }
 wants_of Unpack H n = record { header_len = H; translates = true; tile = Some n }
@@ -53,14 +54,14 @@ wants_of Verify H n = record { header_len = H; translates = false; tile = Some n
 wants_of ListHdus H n = record { header_len = H; translates = false; tile = None }
 wants_of (Drill rows) H n = record { header_len = H; translates = false; tile = None }
 
--- behind a look that learnt this
+-- what it wants where the look learnt this; `list` leaves out the tile
 abbrev pub wants_for : Job → Survey → Wants
 wants_for job s = wants_of job s.header_len s.tile
 
 -- ---- why a job ended behind its first block
 
--- Refused comes only where no count rose, a fault only where that of the source rose or that of what the job writes to, its sink or its text;
--- what passed the limit is said by the takings.
+-- Refused comes only where no count rose, ReadFault only where the source's count of faults rose, and WriteFault only where that of what the
+-- job writes to rose, its sink or its text; OverLimit tells the limit, and what passes it; NoMemory comes at will.
 abbrev pub StoppedWorking : Tally → Tally → Tally → Tally → ℕ → Stop → Type 0
 StoppedWorking source source' sink sink' limit (Refused x) = (source' ≡ source) × (sink' ≡ sink)
 StoppedWorking source source' sink sink' limit ReadFault = Rose source.faults source'.faults

@@ -1,4 +1,5 @@
-//! How a job ends, by its stages: its first block, the look at the headers, and the work.
+//! How the promises of a job on a file follow from its stages: its first block, the look at the headers, the buffers of
+//! its work, and the work.
 #![tactic(auto)]
 
 mod law;

@@ -17,7 +17,7 @@ use Rattle.fz_survey.specs.declared.checks.JobChecks.TheVariants.{Unpack as Unpa
 use Rattle.fz_survey.specs.declared.survey.Survey.{Survey}
 use Rattle.fz_unpack.specs.Output.{HoldsRestored}
 use Rattle.fz_job.specs.Clauses.{ComesLate, IfOverLimit, IsShutOrWhole, IsUnmade, TellsFirstFault}
-use Rattle.fz_stages.specs.Stages.{IsLearnt}
+use Rattle.fz_stages.specs.Stages.{HasLargest}
 use Rattle.fz_again.specs.Known.{IsKnown, IsList, SurveysKnow}
 use Rattle.fz_unpack.specs.Written.{AreRestored, AreShutOrWhole, FinishesSeen}
 use Rattle.fz_unpack.proofs.Outcomes.{refused_weaker}
@@ -98,6 +98,6 @@ module _ (know : SurveysKnow Unpack) (s : Survey) where
       by_shut (inr is) = inr (sealed_whole held now exact is.0, is.1)
 
   -- ---- what the work wants
-  pub learnt : (held : Option (List ℕ)) → IfSome held (Knows s) → IfSome held (IsLearnt Unpack s.header_len s.tile)
+  pub learnt : (held : Option (List ℕ)) → IfSome held (Knows s) → IfSome held (HasLargest Unpack s.header_len s.tile)
   learnt None exact = tt
   learnt (Some g) exact = let known = know g s exact in record { no_fault = known.no_fault; longest = known.longest; largest = known.largest }

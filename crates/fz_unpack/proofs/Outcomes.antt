@@ -15,7 +15,7 @@ use Rattle.fz_files.specs.declared.job.Job.TheVariants.{Unpack}
 use Rattle.fz_survey.specs.Surveys.{surveyed}
 use Rattle.fz_survey.specs.declared.checks.JobChecks.TheVariants.{Unpack as UnpackChecks}
 use Rattle.fz_survey.specs.declared.survey.Survey.{Survey}
-use Rattle.fz_job.specs.Clauses.{IfOverLimit, ComesLate, IsShutOrWhole, IsUnmade}
+use Rattle.fz_job.specs.Clauses.{IfOverLimit, ComesLate, IsShutOrWhole, IsUnmade, TellsFirstFault}
 use Rattle.fz_job.specs.Keeps.{StoppedRewriting}
 use Rattle.fz_stages.specs.Stages.{TellsHeaderFault}
 use Rattle.fz_again.specs.Known.{SurveysRefuse}
@@ -103,6 +103,10 @@ short_unwritten X held s now short = always held (λ g. FinishesSeen {X = X} g s
 pub short_shut : {X : Type 0} (held : Option (List ℕ)) (s : Survey) (now : Option (List ℕ)) (r : Result X Stop) → IfSome now (λ c. c ≡ []) → AreShutOrWhole s held now r
 short_shut held s now (Ok x) empty = tt
 short_shut held s now (Err stop) empty = inl (shut_empty now empty)
+
+pub short_untold : (X : Type 0) (job : Job) (held : Option (List ℕ)) (short : Short) → TellsFirstFault {X = X} job held (Err (stop_of_short short))
+short_untold X job held NoRoom = tt
+short_untold X job held (PastLimit live asked limit) = tt
 
 -- ---- the look at the headers
 

@@ -58,6 +58,7 @@ pub fn unpack<R: Threads + Sync, S: Source, K: Sink, G: Gate>(
     ensures told_ranges { StaysTold (S.ranges source.old) (S.ranges source.new) }
     ensures told_contents { StaysTold (K.contents sink.old) (K.contents sink.new) }
 {
+    // How the promises of the job follow from its stages.
     stages_law::<()>();
     let mut block = meter.bytes(BLOCK_LEN as u64)?;
     let answer = with_block(
@@ -109,7 +110,7 @@ fn with_block<R: Threads + Sync, S: Source, K: Sink, G: Gate>(
     ensures told_contents { StaysTold (K.contents sink.old) (K.contents sink.new) }
     ensures cause { Works (S.tally source.old) (S.tally source.new) (K.tally sink.old) (K.tally sink.new) meter.old.limit result }
 {
-    // What the survey says of the file.
+    // What the survey says of the file, and what follows from it for the job.
     known_law();
     stages_law::<()>();
     let survey = survey_to_unpack(source, length, meter, block)?;
@@ -152,7 +153,7 @@ fn work<R: Threads + Sync, S: Source, K: Sink, G: Gate>(
     ensures told_contents { StaysTold (K.contents sink.old) (K.contents sink.new) }
     ensures cause { Works (S.tally source.old) (S.tally source.new) (K.tally sink.old) (K.tally sink.new) meter.old.limit result }
 {
-    // How long the slots are that were filled.
+    // How long the slots are that were filled, and that what was taken comes back.
     sizes_law();
     stages_law::<()>();
     let wants = Wants {

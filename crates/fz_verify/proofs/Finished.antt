@@ -23,7 +23,7 @@ use Rattle.fz_job.specs.Clauses.{ComesLate, IfOverLimit, IsUnmade, TellsFirstFau
 use Rattle.fz_verify.specs.Clauses.{GotFront, IsRightAsSaid, PrintsLines}
 use Rattle.fz_verify.specs.Printed.{GotSome, GotVerified, ListsSeen, VerifiesSeen, list_lines, verify_lines}
 use Rattle.fz_again.specs.Known.{IsKnown, SurveysKnow}
-use Rattle.fz_stages.specs.Stages.{IsLearnt}
+use Rattle.fz_stages.specs.Stages.{HasLargest}
 use Rattle.fz_verify.proofs.Outcomes.{refused_weaker}
 
 -- the first look knows this of the file
@@ -98,7 +98,7 @@ module _ (know : SurveysKnow ListHdus) (s : Survey) where
   list_faulty (Some g) old new r exact seen = list_faulty_by g (know g s exact) old new r seen
 
   -- what the work wants: it works on no tiles
-  pub list_learnt : (held : Option (List ℕ)) → IfSome held (Knows s) → IfSome held (IsLearnt ListHdus s.header_len 0)
+  pub list_learnt : (held : Option (List ℕ)) → IfSome held (Knows s) → IfSome held (HasLargest ListHdus s.header_len 0)
   list_learnt None exact = tt
   list_learnt (Some g) exact =
       let known = know g s exact in
@@ -173,6 +173,6 @@ module _ (know : SurveysKnow Verify) (s : Survey) where
   verify_faulty (Some g) old new r exact seen = let known = know g s exact in verify_faulty_by g known old new r (seen known.headers known.seen)
 
   -- what the work wants
-  pub verify_learnt : (held : Option (List ℕ)) → IfSome held (Knows s) → IfSome held (IsLearnt Verify s.header_len s.tile)
+  pub verify_learnt : (held : Option (List ℕ)) → IfSome held (Knows s) → IfSome held (HasLargest Verify s.header_len s.tile)
   verify_learnt None exact = tt
   verify_learnt (Some g) exact = let known = know g s exact in record { no_fault = known.no_fault; longest = known.longest; largest = known.largest }

@@ -16,7 +16,7 @@ use Rattle.fz_files.specs.declared.job.Job.{Job}
 use Rattle.fz_survey.specs.Surveys.{surveyed}
 use Rattle.fz_survey.specs.declared.checks.JobChecks.TheVariants.{Unpack as UnpackChecks}
 use Rattle.fz_survey.specs.declared.survey.Survey.{Survey}
-use Rattle.fz_job.specs.Clauses.{ComesLate, IfOverLimit, IsUnmade}
+use Rattle.fz_job.specs.Clauses.{ComesLate, IfOverLimit, IsUnmade, TellsFirstFault}
 use Rattle.fz_job.specs.Keeps.{StoppedRewriting}
 use Rattle.fz_verify.specs.Clauses.{GotFront, GotLines, PrintsLines}
 use Rattle.fz_again.specs.Known.{IsList}
@@ -86,6 +86,10 @@ front_always job held old = always held (λ file. GotFront job file old old) (λ
 pub short_unprinted : (X : Type 0) (job : Job) (held old : Option (List ℕ)) (short : Short) → PrintsLines {X = X} job held old old (Err (stop_of_short short))
 short_unprinted X job held old NoRoom = front_always job held old
 short_unprinted X job held old (PastLimit live asked limit) = front_always job held old
+
+pub short_untold : (X : Type 0) (job : Job) (held : Option (List ℕ)) (short : Short) → TellsFirstFault {X = X} job held (Err (stop_of_short short))
+short_untold X job held NoRoom = tt
+short_untold X job held (PastLimit live asked limit) = tt
 
 -- ---- the first look, by the bytes that the source tells
 

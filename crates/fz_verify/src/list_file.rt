@@ -44,6 +44,7 @@ pub fn list<S: Source, T: Text>(
     ensures told_ranges { StaysTold (S.ranges source.old) (S.ranges source.new) }
     ensures told_contents { StaysTold (T.contents text.old) (T.contents text.new) }
 {
+    // How the promises of the job follow from its stages.
     stages_law::<()>();
     let mut block = meter.bytes(BLOCK_LEN as u64)?;
     let answer = list_with_block(source, length, text, meter, block.as_mut_slice());
@@ -76,7 +77,7 @@ fn list_with_block<S: Source, T: Text>(
     ensures told_contents { StaysTold (T.contents text.old) (T.contents text.new) }
     ensures cause { Works (S.tally source.old) (S.tally source.new) (T.tally text.old) (T.tally text.new) meter.old.limit result }
 {
-    // What the survey says of the file.
+    // What the survey says of the file, and what follows from it for the job.
     known_law();
     stages_law::<()>();
     let survey = survey_to_unpack(source, length, meter, block)?;
@@ -108,6 +109,7 @@ fn list_seen<S: Source, T: Text>(
     ensures told_contents { StaysTold (T.contents text.old) (T.contents text.new) }
     ensures cause { Works (S.tally source.old) (S.tally source.new) (T.tally text.old) (T.tally text.new) meter.old.limit result }
 {
+    // How the promises of the job follow from its stages.
     stages_law::<()>();
     let mut header = meter.bytes(u64::from(survey.header_len))?;
     let answer = list_hdus(source, length, text, survey, block, header.as_mut_slice());

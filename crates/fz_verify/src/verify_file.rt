@@ -56,6 +56,7 @@ pub fn verify<R: Threads + Sync, S: Source, T: Text, G: Gate>(
     ensures told_ranges { StaysTold (S.ranges source.old) (S.ranges source.new) }
     ensures told_contents { StaysTold (T.contents text.old) (T.contents text.new) }
 {
+    // How the promises of the job follow from its stages.
     stages_law::<bool>();
     let mut block = meter.bytes(BLOCK_LEN as u64)?;
     let answer = verify_with_block(
@@ -104,7 +105,7 @@ fn verify_with_block<R: Threads + Sync, S: Source, T: Text, G: Gate>(
     ensures told_contents { StaysTold (T.contents text.old) (T.contents text.new) }
     ensures cause { Works (S.tally source.old) (S.tally source.new) (T.tally text.old) (T.tally text.new) meter.old.limit result }
 {
-    // What the survey says of the file.
+    // What the survey says of the file, and what follows from it for the job.
     known_law();
     stages_law::<bool>();
     let survey = survey_to_unpack(source, length, meter, block)?;
@@ -143,7 +144,7 @@ fn verify_seen<R: Threads + Sync, S: Source, T: Text, G: Gate>(
     ensures told_contents { StaysTold (T.contents text.old) (T.contents text.new) }
     ensures cause { Works (S.tally source.old) (S.tally source.new) (T.tally text.old) (T.tally text.new) meter.old.limit result }
 {
-    // How long the slots are that were filled.
+    // How long the slots are that were filled, and that what was taken comes back.
     sizes_law();
     stages_law::<bool>();
     let wants = Wants {

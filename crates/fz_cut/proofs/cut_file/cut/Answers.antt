@@ -12,14 +12,14 @@ use Rattle.fz_files.specs.declared.job.Job.TheVariants.{Cut}
 use Rattle.fz_job.specs.Clauses.{HasJobCause, TellsFirstFault, greatest_bound}
 use Rattle.fz_stages.specs.Stages.{Works, later_takings}
 use Rattle.fz_cut.proofs.Held.{refilled_len}
-use Rattle.fz_cut.proofs.Outcomes.{kept_same, peak_stays, untouched_shut, untouched_unmade}
+use Rattle.fz_cut.proofs.Outcomes.{kept_same, peak_stays, short_untold, untouched_shut, untouched_unmade}
 use Rattle.fz_cut.proofs.cut_file.cut.Goals as goal
 
 pub returns-in_err-block-clause-first_fault : goal.returns-in_err-block-clause-first_fault
 returns-in_err-block-clause-first_fault g c =
     let held : Option (List ℕ) = g.S.Source.held c.args.source.now in
     let stopped : c.from_residual.result ≡ Err (stop_of_short c.in_err-block.field-0.0) = search rules in
-    subst (λ (r : Result (Unit {0}) Stop). TellsFirstFault (Cut c.args.hdu c.args.sieve.now) held r) (sym stopped) (c.stages_law.ensures.block.fault (Cut c.args.hdu c.args.sieve.now) held c.in_err-block.field-0.0)
+    subst (λ (r : Result (Unit {0}) Stop). TellsFirstFault (Cut c.args.hdu c.args.sieve.now) held r) (sym stopped) (short_untold (Unit {0}) (Cut c.args.hdu c.args.sieve.now) held c.in_err-block.field-0.0)
 
 pub returns-in_err-block-clause-first_byte : goal.returns-in_err-block-clause-first_byte
 returns-in_err-block-clause-first_byte g c = untouched_shut (g.K.Sink.contents c.args.sink.now) _ c.from_residual.result c.requires.empty
@@ -94,6 +94,6 @@ returns-clause-buffers g c =
       live = omega (arith, gave, refilled_len block left, long, took, c.with_block-answer.ensures.live, c.requires.nothing_live);
       limit = ap (λ (m : Gauge). m.limit) c.give_bytes.ensures ∙ c.with_block-answer.ensures.limit ∙ ap (λ (m : Gauge). m.limit) c.in_ok-block.ensures.taken.1;
       peak = rw back (c.stages_law.ensures.peaks.block (Cut c.args.hdu c.args.sieve.now) held W c.args.meter.now.peak c.bytes.new.self.peak c.with_block-answer.new.meter.peak (omega (arith, begun, c.requires.nothing_live)) low);
-      most = omega (arith, back, begun, c.requires.nothing_live, c.with_block-answer.ensures.peak_most, c.stages_law.ensures.peaks.block_most (Cut c.args.hdu c.args.sieve.now) W);
+      most = omega (arith, back, begun, c.requires.nothing_live, c.with_block-answer.ensures.peak_most, c.stages_law.ensures.sizes.look (Cut c.args.hdu c.args.sieve.now) W);
       window_is = c.with_block-answer.ensures.emptied;
     }

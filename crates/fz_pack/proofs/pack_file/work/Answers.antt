@@ -55,7 +55,7 @@ write_file-answer-requires-clause-translated g c =
 pub give_back-requires : goal.give_back-requires
 give_back-requires g c =
     let wants : Wants = wants_for (Pack c.args.options.now) c.args.survey.now in
-    let held = c.stages_law.ensures.back.held wants c.in_ok-space.space c.write_file-answer.new.space c.args.window.now.workers c.take.new.window c.write_file-answer.new.window
+    let held = c.stages_law.ensures.back.kept wants c.in_ok-space.space c.write_file-answer.new.space c.args.window.now.workers c.take.new.window c.write_file-answer.new.window
     c.in_ok-space.ensures.lengths c.write_file-answer.ensures.space c.in_ok-space.ensures.filled c.write_file-answer.ensures.window in
     let live = ap (λ m. m.live) c.in_ok-space.ensures.takings.all.1 in
     omega (arith, held, live)
@@ -72,25 +72,25 @@ returns-clause-first_past g c =
 pub returns-clause-peak : goal.returns-clause-peak
 returns-clause-peak g c =
     let wants : Wants = wants_for (Pack c.args.options.now) c.args.survey.now in
-    let held = c.stages_law.ensures.back.held wants c.in_ok-space.space c.write_file-answer.new.space c.args.window.now.workers c.take.new.window c.write_file-answer.new.window
+    let held = c.stages_law.ensures.back.kept wants c.in_ok-space.space c.write_file-answer.new.space c.args.window.now.workers c.take.new.window c.write_file-answer.new.window
     c.in_ok-space.ensures.lengths c.write_file-answer.ensures.space c.in_ok-space.ensures.filled c.write_file-answer.ensures.window in
-    (c.stages_law.ensures.back.meter c.args.meter.now c.take.new.meter c.give_back.new.meter (sum (wanted_buffers wants c.args.window.now.workers)) (held_bytes c.write_file-answer.new.space c.write_file-answer.new.window)
+    (c.stages_law.ensures.back.given c.args.meter.now c.take.new.meter c.give_back.new.meter (sum (wanted_buffers wants c.args.window.now.workers)) (held_bytes c.write_file-answer.new.space c.write_file-answer.new.window)
     c.in_ok-space.ensures.takings.all.1 held c.give_back.ensures.given).2
 
 pub returns-clause-live : goal.returns-clause-live
 returns-clause-live g c =
     let wants : Wants = wants_for (Pack c.args.options.now) c.args.survey.now in
-    let held = c.stages_law.ensures.back.held wants c.in_ok-space.space c.write_file-answer.new.space c.args.window.now.workers c.take.new.window c.write_file-answer.new.window
+    let held = c.stages_law.ensures.back.kept wants c.in_ok-space.space c.write_file-answer.new.space c.args.window.now.workers c.take.new.window c.write_file-answer.new.window
     c.in_ok-space.ensures.lengths c.write_file-answer.ensures.space c.in_ok-space.ensures.filled c.write_file-answer.ensures.window in
-    (c.stages_law.ensures.back.meter c.args.meter.now c.take.new.meter c.give_back.new.meter (sum (wanted_buffers wants c.args.window.now.workers)) (held_bytes c.write_file-answer.new.space c.write_file-answer.new.window)
+    (c.stages_law.ensures.back.given c.args.meter.now c.take.new.meter c.give_back.new.meter (sum (wanted_buffers wants c.args.window.now.workers)) (held_bytes c.write_file-answer.new.space c.write_file-answer.new.window)
     c.in_ok-space.ensures.takings.all.1 held c.give_back.ensures.given).0
 
 pub returns-clause-limit : goal.returns-clause-limit
 returns-clause-limit g c =
     let wants : Wants = wants_for (Pack c.args.options.now) c.args.survey.now in
-    let held = c.stages_law.ensures.back.held wants c.in_ok-space.space c.write_file-answer.new.space c.args.window.now.workers c.take.new.window c.write_file-answer.new.window
+    let held = c.stages_law.ensures.back.kept wants c.in_ok-space.space c.write_file-answer.new.space c.args.window.now.workers c.take.new.window c.write_file-answer.new.window
     c.in_ok-space.ensures.lengths c.write_file-answer.ensures.space c.in_ok-space.ensures.filled c.write_file-answer.ensures.window in
-    (c.stages_law.ensures.back.meter c.args.meter.now c.take.new.meter c.give_back.new.meter (sum (wanted_buffers wants c.args.window.now.workers)) (held_bytes c.write_file-answer.new.space c.write_file-answer.new.window)
+    (c.stages_law.ensures.back.given c.args.meter.now c.take.new.meter c.give_back.new.meter (sum (wanted_buffers wants c.args.window.now.workers)) (held_bytes c.write_file-answer.new.space c.write_file-answer.new.window)
     c.in_ok-space.ensures.takings.all.1 held c.give_back.ensures.given).1
 
 pub returns-clause-emptied : goal.returns-clause-emptied

@@ -1,7 +1,8 @@
 -- Stage by stage.
 use Rattle.std.proofs.Common.{◌+◌, arith}
 use Rattle.fz_stages.proofs.Back.{meter_back, still_held}
-use Rattle.fz_stages.proofs.Behind.{behind_cause, block_most, block_peak, has_answer, short_cause, short_untold}
+use Rattle.fz_stages.proofs.Behind.{behind_cause, block_peak, has_answer, short_cause}
+use Rattle.fz_stages.proofs.Jobs.{wanted_are}
 use Rattle.fz_stages.proofs.Look.{look_faulty, look_most, look_past, look_peak, look_works, tells_most}
 use Rattle.fz_stages.proofs.Work.{rewrite_past, rewrite_works, short_past, short_works, work_most, work_past, work_peak, work_tells}
 use Rattle.fz_stages.proofs.law.stages_law.Goals as goal
@@ -9,16 +10,15 @@ use Rattle.fz_stages.proofs.law.stages_law.Goals as goal
 pub returns : goal.returns
 returns g c = record {
   block = record {
-    fault = λ job held short. short_untold g.row.T.Denot job held short;
-    short = λ job held source sink asked meter short own nothing why. short_cause g.row.T.Denot job held source sink asked meter short own nothing why;
-    behind = λ job held source source' sink sink' limit asked r own room works most tells. behind_cause job held source source' sink sink' limit asked r own room works most tells;
+    short = λ job held source sink workers meter short own nothing why. short_cause g.row.T.Denot job held source sink workers meter short own nothing why;
+    behind = λ job held source source' sink sink' limit workers r own room works most tells. behind_cause job held source source' sink sink' limit workers r own room works most tells;
   };
   look = record {
     fault = λ job held stop tells. look_faulty g.row.T.Denot job held stop tells;
     works = λ before now sink limit stop reads. look_works g.row.T.Denot before now sink limit stop reads;
     first_past = λ job checks held W live limit stop before now makes one cause fault tells. look_past g.row.T.Denot job checks held W live limit stop before now makes one cause fault tells;
-    most = λ job asked live limit stop one tells.
-        let within = look_most c.workspace_law.ensures.bound c.workspace_law.ensures.grows job asked in
+    over_limit = λ job workers live limit stop one tells.
+        let within = look_most c.workspace_law.ensures.bound c.workspace_law.ensures.grows job workers in
         tells_most g.row.T.Denot limit (live + 737280) _ stop (omega (arith, within, one)) tells;
   };
   work = record {
@@ -27,21 +27,23 @@ returns g c = record {
     works = λ source source' sink sink' limit r rewrites. rewrite_works source source' sink sink' limit r rewrites;
     past = λ source source' sink sink' limit takings r why none. rewrite_past source source' sink sink' limit takings r why none;
     first_past = λ job checks held W live limit H n r makes one learnt none tells. work_past job checks held W live limit H n r makes one learnt none tells;
-    most = λ job asked live limit H n source source' sink sink' r own one header tile why tells.
-        work_tells c.workspace_law.ensures.bound c.workspace_law.ensures.grows c.workspace_law.ensures.past job asked live limit H n source source' sink sink' r own one header tile why tells;
+    over_limit = λ job workers live limit H n source source' sink sink' r own one header tile why tells.
+        work_tells c.workspace_law.ensures.bound c.workspace_law.ensures.grows c.workspace_law.ensures.past job workers live limit H n source source' sink sink' r own one header tile why tells;
   };
-  answers = λ job held source source' sink sink' limit asked r own cause. has_answer c.buffers_law.ensures.bounded job own held source source' sink sink' limit asked r cause;
+  answers = λ job held source source' sink sink' limit workers r own cause. has_answer c.buffers_law.ensures.bounded job own held source source' sink sink' limit workers r cause;
   peaks = record {
     block = block_peak;
-    look = λ job checks held asked live old new makes one low. look_peak c.buffers_law.ensures.bounded job checks held asked live old new makes one low;
-    work = λ job checks held asked live old mid new H n makes one learnt low high.
-        work_peak c.workspace_law.ensures.bound c.workspace_law.ensures.grows c.buffers_law.ensures.bounded job checks held asked live old mid new H n makes one learnt low high;
-    block_most = block_most;
-    look_most = λ job asked. look_most c.workspace_law.ensures.bound c.workspace_law.ensures.grows job asked;
-    work_most = λ job asked H n own header tile. work_most c.workspace_law.ensures.bound c.workspace_law.ensures.grows job asked H n own header tile;
+    look = λ job checks held workers live old new makes one low. look_peak c.buffers_law.ensures.bounded job checks held workers live old new makes one low;
+    work = λ job checks held workers live old mid new H n makes one learnt low high.
+        work_peak c.workspace_law.ensures.bound c.workspace_law.ensures.grows c.buffers_law.ensures.bounded job checks held workers live old mid new H n makes one learnt low high;
+  };
+  sizes = record {
+    look = λ job workers. look_most c.workspace_law.ensures.bound c.workspace_law.ensures.grows job workers;
+    work = λ job workers H n own header tile. work_most c.workspace_law.ensures.bound c.workspace_law.ensures.grows job workers H n own header tile;
+    wanted = wanted_are;
   };
   back = record {
-    held = λ wants w w' W pool pool' lengths space is window. still_held c.workspace_law.ensures.held wants w w' W pool pool' lengths space is window;
-    meter = meter_back;
+    kept = λ wants w w' W pool pool' lengths space is window. still_held c.workspace_law.ensures.held wants w w' W pool pool' lengths space is window;
+    given = meter_back;
   };
 }

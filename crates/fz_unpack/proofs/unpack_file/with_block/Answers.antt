@@ -118,11 +118,11 @@ returns-in_err-survey-clause-most g c =
     let meter = c.args.meter.now in
     let stopped : c.from_residual.result ≡ Err c.in_err-survey.field-0.0 = search rules in
     subst (λ (r : Result (Unit {0}) Stop). TellsLimit meter.limit (greatest_bound Unpack W) r) (sym stopped)
-    (c.stages_law.ensures.look.most Unpack W meter.live meter.limit c.in_err-survey.field-0.0 c.requires.one_block c.in_err-survey.ensures.most)
+    (c.stages_law.ensures.look.over_limit Unpack W meter.live meter.limit c.in_err-survey.field-0.0 c.requires.one_block c.in_err-survey.ensures.most)
 
 pub returns-in_err-survey-clause-peak_most : goal.returns-in_err-survey-clause-peak_most
 returns-in_err-survey-clause-peak_most g c =
-    let within = c.stages_law.ensures.peaks.look_most Unpack c.args.window.now.workers in
+    let within = c.stages_law.ensures.sizes.look Unpack c.args.window.now.workers in
     omega (arith, within, c.requires.one_block, c.in_err-survey.ensures.peak_most)
 
 pub returns-clause-most : goal.returns-clause-most
@@ -131,7 +131,7 @@ returns-clause-most g c =
     let meter = c.survey_to_unpack.new.meter in
     let s = c.in_ok-survey.survey in
     let most : TellsLimit meter.limit (greatest_bound Unpack W) c.work.result =
-    c.stages_law.ensures.work.most Unpack W meter.live meter.limit s.header_len s.tile _ _ _ _ c.work.result tt (c.in_ok-survey.ensures.live ∙ c.requires.one_block) c.in_ok-survey.ensures.survey.header.1
+    c.stages_law.ensures.work.over_limit Unpack W meter.live meter.limit s.header_len s.tile _ _ _ _ c.work.result tt (c.in_ok-survey.ensures.live ∙ c.requires.one_block) c.in_ok-survey.ensures.survey.header.1
     c.in_ok-survey.ensures.survey.tile c.work.ensures.cause.stop c.work.ensures.first_past in
     rw c.in_ok-survey.ensures.limit at most
 
@@ -139,6 +139,6 @@ pub returns-clause-peak_most : goal.returns-clause-peak_most
 returns-clause-peak_most g c =
     let s = c.in_ok-survey.survey in
     let W : ℕ = c.args.window.now.workers in
-    let look = c.stages_law.ensures.peaks.look_most Unpack W in
-    let work = c.stages_law.ensures.peaks.work_most Unpack W s.header_len s.tile tt c.in_ok-survey.ensures.survey.header.1 c.in_ok-survey.ensures.survey.tile in
+    let look = c.stages_law.ensures.sizes.look Unpack W in
+    let work = c.stages_law.ensures.sizes.work Unpack W s.header_len s.tile tt c.in_ok-survey.ensures.survey.header.1 c.in_ok-survey.ensures.survey.tile in
     omega (arith, look, work, c.requires.one_block, c.in_ok-survey.ensures.live, c.in_ok-survey.ensures.peak_most, c.work.ensures.peak)

@@ -13,7 +13,7 @@ use Rattle.fz_job.specs.Clauses.{HasJobCause, TellsFirstFault, greatest_bound}
 use Rattle.fz_verify.specs.Clauses.{PrintsLines}
 use Rattle.fz_stages.specs.Stages.{Works, later_takings}
 use Rattle.fz_verify.proofs.Held.{refilled_len}
-use Rattle.fz_verify.proofs.Outcomes.{kept_same, peak_stays, short_unprinted, untouched_silent}
+use Rattle.fz_verify.proofs.Outcomes.{kept_same, peak_stays, short_unprinted, short_untold, untouched_silent}
 use Rattle.fz_verify.proofs.list_file.list.Goals as goal
 
 pub returns-in_err-block-clause-lines : goal.returns-in_err-block-clause-lines
@@ -27,7 +27,7 @@ pub returns-in_err-block-clause-first_fault : goal.returns-in_err-block-clause-f
 returns-in_err-block-clause-first_fault g c =
     let held : Option (List ℕ) = g.S.Source.held c.args.source.now in
     let stopped : c.from_residual.result ≡ Err (stop_of_short c.in_err-block.field-0.0) = search rules in
-    subst (λ (r : Result (Unit {0}) Stop). TellsFirstFault ListHdus held r) (sym stopped) (c.stages_law.ensures.block.fault ListHdus held c.in_err-block.field-0.0)
+    subst (λ (r : Result (Unit {0}) Stop). TellsFirstFault ListHdus held r) (sym stopped) (short_untold (Unit {0}) ListHdus held c.in_err-block.field-0.0)
 
 pub returns-in_err-block-clause-silent : goal.returns-in_err-block-clause-silent
 returns-in_err-block-clause-silent g c = untouched_silent ListHdus (g.S.Source.held c.args.source.now) _ c.from_residual.result (refl, refl)
@@ -97,5 +97,5 @@ returns-clause-buffers g c =
       live = omega (arith, gave, refilled_len block left, long, took, c.list_with_block-answer.ensures.live, c.requires.nothing_live);
       limit = ap (λ (m : Gauge). m.limit) c.give_bytes.ensures ∙ c.list_with_block-answer.ensures.limit ∙ ap (λ (m : Gauge). m.limit) c.in_ok-block.ensures.taken.1;
       peak = rw back (c.stages_law.ensures.peaks.block ListHdus held 1 c.args.meter.now.peak c.bytes.new.self.peak c.list_with_block-answer.new.meter.peak first low);
-      most = omega (arith, back, first, c.list_with_block-answer.ensures.peak_most, c.stages_law.ensures.peaks.block_most ListHdus 1);
+      most = omega (arith, back, first, c.list_with_block-answer.ensures.peak_most, c.stages_law.ensures.sizes.look ListHdus 1);
     }

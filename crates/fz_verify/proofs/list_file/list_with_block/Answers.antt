@@ -50,11 +50,11 @@ pub returns-in_err-survey-clause-most : goal.returns-in_err-survey-clause-most
 returns-in_err-survey-clause-most g c =
     let stopped : c.from_residual.result ≡ Err c.in_err-survey.field-0.0 = search rules in
     subst (λ (r : Result (Unit {0}) Stop). TellsLimit c.args.meter.now.limit (greatest_bound ListHdus 1) r) (sym stopped)
-    (c.stages_law.ensures.look.most ListHdus 1 c.args.meter.now.live c.args.meter.now.limit c.in_err-survey.field-0.0 c.requires.one_block c.in_err-survey.ensures.most)
+    (c.stages_law.ensures.look.over_limit ListHdus 1 c.args.meter.now.live c.args.meter.now.limit c.in_err-survey.field-0.0 c.requires.one_block c.in_err-survey.ensures.most)
 
 pub returns-in_err-survey-clause-peak_most : goal.returns-in_err-survey-clause-peak_most
 returns-in_err-survey-clause-peak_most g c =
-    let within = c.stages_law.ensures.peaks.look_most ListHdus 1 in
+    let within = c.stages_law.ensures.sizes.look ListHdus 1 in
     omega (arith, within, c.requires.one_block, c.in_err-survey.ensures.peak_most)
 
 pub returns-in_err-survey-clause-cause : goal.returns-in_err-survey-clause-cause
@@ -119,15 +119,15 @@ returns-clause-most g c =
     let s = c.in_ok-survey.survey in
     let tells : TellsFirstPast meter.limit (piled meter.live (wanted_buffers (wants_for ListHdus s) 1)) c.list_seen.result = c.list_seen.ensures.first_past in
     let most : TellsLimit meter.limit (greatest_bound ListHdus 1) c.list_seen.result =
-    c.stages_law.ensures.work.most ListHdus 1 meter.live meter.limit s.header_len 0 _ _ _ _ c.list_seen.result tt (c.in_ok-survey.ensures.live ∙ c.requires.one_block) c.in_ok-survey.ensures.survey.header.1
+    c.stages_law.ensures.work.over_limit ListHdus 1 meter.live meter.limit s.header_len 0 _ _ _ _ c.list_seen.result tt (c.in_ok-survey.ensures.live ∙ c.requires.one_block) c.in_ok-survey.ensures.survey.header.1
     (omega arith) c.list_seen.ensures.cause.stop tells in
     rw c.in_ok-survey.ensures.limit at most
 
 pub returns-clause-peak_most : goal.returns-clause-peak_most
 returns-clause-peak_most g c =
     let s = c.in_ok-survey.survey in
-    let look = c.stages_law.ensures.peaks.look_most ListHdus 1 in
-    let work = c.stages_law.ensures.peaks.work_most ListHdus 1 s.header_len 0 tt c.in_ok-survey.ensures.survey.header.1 (omega arith) in
+    let look = c.stages_law.ensures.sizes.look ListHdus 1 in
+    let work = c.stages_law.ensures.sizes.work ListHdus 1 s.header_len 0 tt c.in_ok-survey.ensures.survey.header.1 (omega arith) in
     omega (arith, look, work, c.requires.one_block, c.in_ok-survey.ensures.live, c.in_ok-survey.ensures.peak_most, c.list_seen.ensures.peak)
 
 pub returns-clause-cause : goal.returns-clause-cause

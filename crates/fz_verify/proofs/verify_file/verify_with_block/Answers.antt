@@ -50,11 +50,11 @@ pub returns-in_err-survey-clause-most : goal.returns-in_err-survey-clause-most
 returns-in_err-survey-clause-most g c =
     let stopped : c.from_residual.result ≡ Err c.in_err-survey.field-0.0 = search rules in
     subst (λ (r : Result Bool Stop). TellsLimit c.args.meter.now.limit (greatest_bound Verify 1) r) (sym stopped)
-    (c.stages_law.ensures.look.most Verify 1 c.args.meter.now.live c.args.meter.now.limit c.in_err-survey.field-0.0 c.requires.one_block c.in_err-survey.ensures.most)
+    (c.stages_law.ensures.look.over_limit Verify 1 c.args.meter.now.live c.args.meter.now.limit c.in_err-survey.field-0.0 c.requires.one_block c.in_err-survey.ensures.most)
 
 pub returns-in_err-survey-clause-peak_most : goal.returns-in_err-survey-clause-peak_most
 returns-in_err-survey-clause-peak_most g c =
-    let within = c.stages_law.ensures.peaks.look_most Verify 1 in
+    let within = c.stages_law.ensures.sizes.look Verify 1 in
     omega (arith, within, c.requires.one_block, c.in_err-survey.ensures.peak_most)
 
 pub returns-in_err-survey-clause-cause : goal.returns-in_err-survey-clause-cause
@@ -132,15 +132,15 @@ returns-clause-most g c =
     let s = c.in_ok-survey.survey in
     let tells : TellsFirstPast meter.limit (piled meter.live (wanted_buffers (wants_for Verify s) 1)) c.verify_seen.result = rw c.requires.one_worker at c.verify_seen.ensures.first_past in
     let most : TellsLimit meter.limit (greatest_bound Verify 1) c.verify_seen.result =
-    c.stages_law.ensures.work.most Verify 1 meter.live meter.limit s.header_len s.tile _ _ _ _ c.verify_seen.result tt (c.in_ok-survey.ensures.live ∙ c.requires.one_block) c.in_ok-survey.ensures.survey.header.1
+    c.stages_law.ensures.work.over_limit Verify 1 meter.live meter.limit s.header_len s.tile _ _ _ _ c.verify_seen.result tt (c.in_ok-survey.ensures.live ∙ c.requires.one_block) c.in_ok-survey.ensures.survey.header.1
     c.in_ok-survey.ensures.survey.tile c.verify_seen.ensures.cause.stop tells in
     rw c.in_ok-survey.ensures.limit at most
 
 pub returns-clause-peak_most : goal.returns-clause-peak_most
 returns-clause-peak_most g c =
     let s = c.in_ok-survey.survey in
-    let look = c.stages_law.ensures.peaks.look_most Verify 1 in
-    let work = c.stages_law.ensures.peaks.work_most Verify 1 s.header_len s.tile tt c.in_ok-survey.ensures.survey.header.1 c.in_ok-survey.ensures.survey.tile in
+    let look = c.stages_law.ensures.sizes.look Verify 1 in
+    let work = c.stages_law.ensures.sizes.work Verify 1 s.header_len s.tile tt c.in_ok-survey.ensures.survey.header.1 c.in_ok-survey.ensures.survey.tile in
     let high : c.verify_seen.new.meter.peak ≤ max c.survey_to_unpack.new.meter.peak (c.survey_to_unpack.new.meter.live + sum (wanted_buffers (wants_for Verify s) 1)) = rw c.requires.one_worker at c.verify_seen.ensures.peak in
     omega (arith, look, work, c.requires.one_block, c.in_ok-survey.ensures.live, c.in_ok-survey.ensures.peak_most, high)
 

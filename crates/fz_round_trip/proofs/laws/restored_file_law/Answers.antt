@@ -1,0 +1,15 @@
+-- HDU by HDU, and in each image tile by tile.
+use Rattle.fz_round_trip.proofs.Stood.{StoodLaws, stands_for_some}
+use Rattle.fz_round_trip.proofs.laws.restored_file_law.Goals as goal
+
+pub returns : goal.returns
+returns c =
+    let laws : StoodLaws =
+    record {
+      headers = c.walk_law.ensures.headers;
+      images = c.packed_image_law.ensures.unpack;
+      lengths = c.shape_law.ensures.tiles;
+      whole = c.tiles_law.ensures.whole;
+      tiles = c.tiles_law.ensures.joined;
+    } in
+    stands_for_some laws
