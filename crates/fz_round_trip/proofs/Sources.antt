@@ -29,7 +29,8 @@ abbrev pub AreSources : PackOptions → List ℕ → ℕ → List Header → Typ
 AreSources o file k [] = ⊤
 AreSources o file k (h ∷ hs) = IsSource o file k h × AreSources o file (suc k) hs
 
-answer_none : (answer : Bool) (found : Option Fault) → IsOk (unless_refused answer found) → found ≡ None
+-- checks that answer refuse nothing
+pub answer_none : (answer : Bool) (found : Option Fault) → IsOk (unless_refused answer found) → found ≡ None
 answer_none answer None ok = refl
 answer_none answer (Some fault) ok = absurd cc
 

@@ -1,11 +1,9 @@
 -- A packed file in which `unpack` finds no fault stands for a file: tile by tile, image by image, HDU by HDU.
 use Rattle.std.specs.Prelude.{⊤, slice_index_or}
-use Rattle.std.proofs.Common.{◌≡◌, ℕ, zero, suc, ◌+◌, ◌<◌, ◌≤◌, Bool, true, false, cond, ℤ, List, [], ◌∷◌, ◌++◌, length, map, Option, Some, None, Ok, IsOk, if◌then◌else◌, refl, sym, subst, ap, arith}
-use Rattle.std.proofs.lemmas.List.{append-nil}
+use Rattle.std.proofs.Common.{◌≡◌, ℕ, zero, suc, ◌+◌, ◌<◌, ◌≤◌, Bool, true, false, cond, ℤ, List, [], ◌∷◌, ◌++◌, length, map, None, Ok, if◌then◌else◌, refl, sym, subst, arith}
 use Rattle.std.specs.List.{filter, flat_map, range_with_len}
 use Rattle.fz_base.specs.Refusal.{first_refusal}
-use Rattle.fz_base.specs.declared.fault.Fault.{Fault}
-use Rattle.fz_block.specs.Checks.{Judge, unless_refused, walk_of}
+use Rattle.fz_block.specs.Checks.{Judge, walk_of}
 use Rattle.fz_block.specs.Facts.{IsHeaderOf}
 use Rattle.fz_block.specs.Hdus.{cards_of, hdu_bytes}
 use Rattle.fz_block.specs.Header.{next_start_of}
@@ -27,6 +25,7 @@ use Rattle.fz_files.specs.StandsFor.{StandsFor}
 use Rattle.fz_files.specs.Walks.{found_headers, header_fault, headers_for, job_walk}
 use Rattle.fz_files.specs.declared.job.Job.TheVariants.{Unpack}
 use Rattle.fz_round_trip.specs.RoundTrip.{HasRestoredFile}
+use Rattle.fz_round_trip.proofs.Sources.{answer_none}
 use Rattle.fz_round_trip.proofs.Way.{found_walk, no_header_fault}
 
 -- what is taken of the laws of walks, images and tiles
@@ -93,17 +92,15 @@ module _ (laws : StoodLaws) (file : List ℕ) (h : Header) where
         tiles = λ t less. subst (λ xs. RowStandsFor file h t xs) (sym (laws.tiles (lengths_of p.shape) (lengths_of p.tile) tiles t divided are less)) (stands t less);
       }
 
-  by_image : (b : Bool) → is_image file h ≡ b → IsHeaderOf (header_in file h) h → first_refusal (unpack_hdu_checks file h) ≡ None → IsFirstRowFault file (flat_map (rows_of file) (cond b (h ∷ []) [])) None →
-      (bytes : List ℕ) × StandsForAs b file h bytes
-  by_image true is are none sound =
-      let rows : IsFirstRowFault file (rows_of file h) None = sound_front file (rows_of file h) [] sound in
+  -- what it stands for, and that no row of the images behind it is refused
+  hdu_stands : (b : Bool) → is_image file h ≡ b → IsHeaderOf (header_in file h) h → first_refusal (unpack_hdu_checks file h) ≡ None → (images : List Header) →
+      IsFirstRowFault file (flat_map (rows_of file) (cond b (h ∷ images) images)) None → ((bytes : List ℕ) × StandsForAs b file h bytes) × IsFirstRowFault file (flat_map (rows_of file) images) None
+  hdu_stands true is are none images sound =
+      let rows : IsFirstRowFault file (rows_of file h) None = sound_front file (rows_of file h) (flat_map (rows_of file) images) sound in
       let image = laws.images h (header_in file h) (is_after_empty file h) are is none in
       let divided : AreTileLengths (lengths_of p.shape) (lengths_of p.tile) = laws.lengths p.shape p.tile image.divided in
-      (image_bytes p (cards_of (header_in file h)) (whole_of rows), record { array = whole_of rows; rows = rows_stand divided rows; image = refl })
-  by_image false is are none sound = (hdu_bytes (hdu_of file h), refl)
-
-  hdu_stands : IsHeaderOf (header_in file h) h → first_refusal (unpack_hdu_checks file h) ≡ None → IsFirstRowFault file (all_rows file (h ∷ [])) None → (bytes : List ℕ) × HduStandsFor file h bytes
-  hdu_stands are none sound = by_image (is_image file h) refl are none sound
+      ((image_bytes p (cards_of (header_in file h)) (whole_of rows), record { array = whole_of rows; rows = rows_stand divided rows; image = refl }), sound_back file (rows_of file h) (flat_map (rows_of file) images) sound)
+  hdu_stands false is are none images sound = ((hdu_bytes (hdu_of file h), refl), sound)
 
 -- ---- HDUs, one after another
 
@@ -114,25 +111,12 @@ Each P (h ∷ hs) = P h × Each P hs
 abbrev Stood : List ℕ → Header → Type 0
 Stood file h = (bytes : List ℕ) × HduStandsFor file h bytes
 
-rows_by : (file : List ℕ) (b : Bool) (h : Header) (hs : List Header) → flat_map (rows_of file) (cond b (h ∷ hs) hs) ≡ flat_map (rows_of file) (cond b (h ∷ []) []) ++ flat_map (rows_of file) hs
-rows_by file true h hs = ap (λ l. l ++ flat_map (rows_of file) hs) (sym (append-nil (rows_of file h)))
-rows_by file false h hs = refl
-
-rows_first : (file : List ℕ) (h : Header) (hs : List Header) → all_rows file (h ∷ hs) ≡ all_rows file (h ∷ []) ++ all_rows file hs
-rows_first file h hs = rows_by file (is_image file h) h (filter (is_image file) hs)
-
-answer_none : (answer : Bool) (found : Option Fault) → IsOk (unless_refused answer found) → found ≡ None
-answer_none answer None ok = refl
-answer_none answer (Some fault) ok = absurd cc
-
 each_stands : StoodLaws → (file : List ℕ) (k start end : ℕ) (hs : List Header) → AreHeadersBetween k start end file hs → RefusesNone (unpack_judge file) hs → IsFirstRowFault file (all_rows file hs) None → Each (Stood file) hs
 each_stands laws file k start end [] are none sound = tt
 each_stands laws file k start end (h ∷ hs) are none sound =
-    let both : IsFirstRowFault file (all_rows file (h ∷ []) ++ all_rows file hs) None = subst (λ l. IsFirstRowFault file l None) (rows_first file h hs) sound in
-    let passed : first_refusal (unpack_hdu_checks file h) ≡ None = answer_none false (first_refusal (unpack_hdu_checks file h)) none.0 in (
-      hdu_stands laws file h are.2 passed (sound_front file (all_rows file (h ∷ [])) (all_rows file hs) both),
-      each_stands laws file (suc k) (next_start_of h) end hs are.3 none.1 (sound_back file (all_rows file (h ∷ [])) (all_rows file hs) both),
-    )
+    let passed : first_refusal (unpack_hdu_checks file h) ≡ None = answer_none false (first_refusal (unpack_hdu_checks file h)) none.0 in
+    let here : Stood file h × IsFirstRowFault file (all_rows file hs) None = hdu_stands laws file h (is_image file h) refl are.2 passed (filter (is_image file) hs) sound in
+    (here.0, each_stands laws file (suc k) (next_start_of h) end hs are.3 none.1 here.1)
 
 standing_each : (file : List ℕ) (hs : List Header) → Each (Stood file) hs → Each (Stood file) (standing file hs)
 standing_each file [] each = tt
