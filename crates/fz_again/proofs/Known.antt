@@ -27,7 +27,7 @@ pub record TheLaws : Type 0 where
   pub places : PlacesLaw
 
 -- both name the same checks
-same_judge : (file : List ℕ) → judge_of UnpackChecks file ≡ unpack_judge file
+pub same_judge : (file : List ℕ) → judge_of UnpackChecks file ≡ unpack_judge file
 unfolding judge_of
 same_judge file = refl
 

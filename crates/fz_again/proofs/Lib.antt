@@ -1,3 +1,4 @@
+pub mod Headers
 pub mod Jobs
 pub mod Known
 pub mod Plans

@@ -1,2 +1,3 @@
 pub mod Again
+pub mod Headers
 pub mod Known

@@ -2,11 +2,13 @@
 
 ghost use Rattle.std.specs.Prelude.{◌≡◌, ◌⊎◌, ◌<◌, ◌≤◌, Some, length as len, IfOk, IfSome};
 ghost use Rattle.fz_base.specs.Refusal.{refusal};
+ghost use Rattle.fz_base.specs.Source.{LogsWithin};
 ghost use Rattle.fz_base.specs.Stop.{IfRefused, ReadsOnly};
 ghost use Rattle.fz_base.specs.Told.{StaysTold};
 ghost use Rattle.fz_base.specs.declared.failure.Stop.TheVariants.{Refused};
 ghost use Rattle.fz_base.specs.declared.fault.Place.TheVariants.{Card as AtCard};
 ghost use Rattle.fz_base.specs.declared.kind.Kind.TheVariants.{BadCard};
+ghost use Rattle.fz_block.specs.Checks.{header_touched};
 ghost use Rattle.fz_grid.specs.Region.{IsDivided};
 ghost use Rattle.fz_files.specs.Restored.{pixels_of};
 ghost use Rattle.fz_again.specs.Again.{IsAgain, ReadsAsSeen, is_larger as is_larger_of};
@@ -74,6 +76,7 @@ pub fn read_again<S: Source>(
     ensures block { len block.new ≡ 2880 }
     ensures buf { len buf.new ≡ len buf.old }
     ensures source { SourceStays (S.held source.old) (S.held source.new) (S.attached source.old) (S.attached source.new) }
+    ensures read { IfSome (S.held source.old) (λ g. LogsWithin start (header_touched hdu start g) (S.ranges source.old) (S.ranges source.new)) }
     ensures told { StaysTold (S.ranges source.old) (S.ranges source.new) }
     ensures cause { ReadsOnly (S.tally source.old) (S.tally source.new) result }
 {
@@ -104,6 +107,7 @@ fn read_image<S: Source>(
     ensures block { len block.new ≡ 2880 }
     ensures buf { len buf.new ≡ len buf.old }
     ensures source { SourceStays (S.held source.old) (S.held source.new) (S.attached source.old) (S.attached source.new) }
+    ensures read { IfSome (S.held source.old) (λ g. LogsWithin start (header_touched hdu start g) (S.ranges source.old) (S.ranges source.new)) }
     ensures told { StaysTold (S.ranges source.old) (S.ranges source.new) }
     ensures cause { ReadsOnly (S.tally source.old) (S.tally source.new) result }
 {

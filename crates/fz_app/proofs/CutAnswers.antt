@@ -9,13 +9,14 @@ use Rattle.fz_base.specs.Ranges.{LogsIn}
 use Rattle.fz_base.specs.declared.failure.Stop.{Stop}
 use Rattle.fz_files.specs.Cutout.{touched}
 use Rattle.fz_files.specs.FirstFault.{IsFirstFault}
+use Rattle.fz_files.specs.Reads.{header_ranges}
 use Rattle.fz_files.specs.declared.job.Job.{Job}
 use Rattle.fz_files.specs.declared.job.Job.TheVariants.{Pack, Unpack, Cut, Verify, List as ListHdus, Drill}
 use Rattle.fz_grid.specs.declared.sieve.Sieve.{Sieve}
 use Rattle.fz_cut.specs.Slices.{SinksHoldSlices}
 use Rattle.fz_words.specs.Jobs.{Asked}
 use Rattle.fz_app.specs.Ends.{Ends}
-use Rattle.fz_app.specs.Outputs.{HoldsJobOutput, HoldsJobSlice, IfCut, ReadsTouched}
+use Rattle.fz_app.specs.Outputs.{HoldsJobOutput, HoldsJobSlice, ReadsTouched}
 use Rattle.fz_app.specs.Promised.{IsPromised}
 use Rattle.fz_app.proofs.JobAnswers.{JobSays, always_ok, on_ok, promised}
 use Rattle.fz_app.proofs.TextAnswers.{nothing_restored}
@@ -29,20 +30,17 @@ none_logged : (ranges : List (ℕ × ℕ)) (old : Option (List (ℕ × ℕ))) �
 none_logged ranges old = ([], (λ k d few. absurd (omega (arith, few))), mapped_nothing old)
 
 -- so also in those that a job may read
-if_cut : (job : Job) (P : Option ℕ → Sieve → Type 0) → ((wanted : Option ℕ) (sieve : Sieve) → P wanted sieve) → IfCut job P
-if_cut (Pack options) P p = tt
-if_cut Unpack P p = tt
-if_cut (Cut wanted sieve) P p = p wanted sieve
-if_cut Verify P p = tt
-if_cut ListHdus P p = tt
-if_cut (Drill rows) P p = tt
-
 unread : (held : Option (List ℕ)) (old new : Option (List (ℕ × ℕ))) (ranges : List ℕ → List (ℕ × ℕ)) → new ≡ old → IfSome held (λ file. LogsIn (ranges file) old new)
 unread None old new ranges same = tt
 unread (Some file) old new ranges same = subst (λ (r : Option (List (ℕ × ℕ))). LogsIn (ranges file) old r) (sym same) (none_logged (ranges file) old)
 
 pub nothing_read : (job : Job) (held : Option (List ℕ)) (old new : Option (List (ℕ × ℕ))) → new ≡ old → ReadsTouched job held old new
-nothing_read job held old new same = if_cut job (λ wanted sieve. IfSome held (λ file. LogsIn (touched wanted sieve file) old new)) (λ wanted sieve. unread held old new (touched wanted sieve) same)
+nothing_read (Pack options) held old new same = tt
+nothing_read Unpack held old new same = tt
+nothing_read (Cut wanted sieve) held old new same = unread held old new (touched wanted sieve) same
+nothing_read Verify held old new same = tt
+nothing_read ListHdus held old new same = unread held old new (header_ranges ListHdus) same
+nothing_read (Drill rows) held old new same = tt
 
 module _ (wanted : Option ℕ) (sieve : Sieve) (W memory : ℕ) (input output : List ℕ) (old new : Ends) where
   abbrev pub asked : Asked

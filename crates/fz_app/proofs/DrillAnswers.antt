@@ -1,10 +1,11 @@
 -- What is promised of the answer of `drill`, beside what its contract says: source and sink are as they were, since it is given neither.
 use Rattle.std.proofs.Common.{◌≡◌, ℕ, ◌≤◌, max, List, [], refl, subst, sym, arith, inl, inr}
-use Rattle.std.specs.Prelude.{◌⊎◌, min, Option, Some, None, IfSome, Result, Ok, Err, IsErrOf}
+use Rattle.std.specs.Prelude.{◌⊎◌, min, Option, Some, None, IfSome, Result, Ok, Err, IsErrOf, OnOk}
 use Rattle.fz_base.specs.Counts.{Rose, Tally}
 use Rattle.fz_base.specs.Meter.{Gauge}
 use Rattle.fz_base.specs.Sink.{MayAppend, appended}
 use Rattle.fz_base.specs.Stop.{IsRefused}
+use Rattle.fz_base.specs.Takings.{highest}
 use Rattle.fz_base.specs.Told.{StaysTold}
 use Rattle.fz_base.specs.declared.fault.Fault.{Fault}
 use Rattle.fz_base.specs.declared.failure.Stop.{Stop}
@@ -14,7 +15,7 @@ use Rattle.fz_files.specs.FirstFault.{IsFirstFault}
 use Rattle.fz_files.specs.Lines.{report_lines}
 use Rattle.fz_files.specs.Walks.{header_fault, job_walk}
 use Rattle.fz_files.specs.declared.job.Job.TheVariants.{Drill}
-use Rattle.fz_drill.specs.Bound.{drill_bound}
+use Rattle.fz_drill.specs.Bound.{drill_bound, takings_of}
 use Rattle.fz_drill.specs.Clauses.{Answers as DrillAnswers, HasDrillCause, IsDone, IsSilent, PrintsLines as PrintsDrill}
 use Rattle.fz_job.specs.Clauses.{IsAnswer, IsUnmade, TellsFirstFault}
 use Rattle.fz_verify.specs.Clauses.{PrintsLines}
@@ -48,10 +49,11 @@ pub record DrillSays (rows limit : ℕ) (text text' : TextIs) (meter : Gauge) (a
   pub lines : PrintsDrill rows text.contents text'.contents answer
   pub answered : DrillAnswers rows text.tally text'.tally limit answer
   pub cause : HasDrillCause rows text.tally text'.tally limit answer
-  pub silent : IsSilent text.contents text'.contents text.tally text'.tally answer
+  pub silent : IsSilent rows limit text.contents text'.contents text.tally text'.tally answer
   pub live : meter.live ≡ 0
   pub limit_is : meter.limit ≡ limit
   pub peak : meter.peak ≤ max 0 (drill_bound rows)
+  pub exact : OnOk answer (meter.peak ≡ max 0 (highest (takings_of rows)))
   pub told : StaysTold text.contents text'.contents
 
 answer_of : (r : Result (Unit {0}) Stop) → IsDone r → IsAnswer r
@@ -107,13 +109,13 @@ module _ (rows limit : ℕ) (text text' : TextIs) where
   lines_of (Err StopMemory) c p = λ fault is. subst (λ (l : List ℕ). MayAppend l text.contents text'.contents) (sym (reported rows [] fault)) p
 
   -- nothing is printed where a buffer passes the limit; the rest says of no header and no refusal
-  silent_of : (r : Result (Unit {0}) Stop) → Cause r → IsSilent text.contents text'.contents text.tally text'.tally r → IsUnmade (Drill rows) (Some []) ((text'.contents ≡ text.contents) × (text'.tally ≡ text.tally)) r
-  silent_of (Ok done) c p = record { faulty = λ fault. absurd (fault (no_fault rows [])); over_limit = tt; refused = tt }
-  silent_of (Err (StopRefused x)) c p = absurd c.stop
-  silent_of (Err StopRead) c p = absurd c.stop
-  silent_of (Err StopWrite) c p = record { faulty = λ fault. absurd (fault (no_fault rows [])); over_limit = tt; refused = tt }
-  silent_of (Err (StopLimit live asked told)) c p = record { faulty = λ fault. absurd (fault (no_fault rows [])); over_limit = p; refused = tt }
-  silent_of (Err StopMemory) c p = record { faulty = λ fault. absurd (fault (no_fault rows [])); over_limit = tt; refused = tt }
+  silent_of : (W : ℕ) (r : Result (Unit {0}) Stop) → Cause r → IsSilent rows limit text.contents text'.contents text.tally text'.tally r → IsUnmade (Drill rows) (Some []) limit W ((text'.contents ≡ text.contents) × (text'.tally ≡ text.tally)) r
+  silent_of W (Ok done) c p = record { faulty = λ fault. absurd (fault (no_fault rows [])); past = p.past; over_limit = tt; refused = tt }
+  silent_of W (Err (StopRefused x)) c p = absurd c.stop
+  silent_of W (Err StopRead) c p = absurd c.stop
+  silent_of W (Err StopWrite) c p = record { faulty = λ fault. absurd (fault (no_fault rows [])); past = p.past; over_limit = tt; refused = tt }
+  silent_of W (Err (StopLimit live asked told)) c p = record { faulty = λ fault. absurd (fault (no_fault rows [])); past = p.past; over_limit = p.over_limit; refused = tt }
+  silent_of W (Err StopMemory) c p = record { faulty = λ fault. absurd (fault (no_fault rows [])); past = p.past; over_limit = tt; refused = tt }
 
   block_of : (r : Result (Unit {0}) Stop) → IsErrOf r (StopLimit 0 2880 limit) ⊎ IsErrOf r StopMemory → IsErrOf r (StopLimit 0 2880 limit) ⊎ (IsErrOf r StopRead ⊎ IsErrOf r StopMemory)
   block_of r (inl is) = inl is
@@ -135,6 +137,7 @@ drilled rows W memory input output held ranges source sink text text' meter mete
   live = s.live;
   limit = s.limit_is;
   peak = from_none meter'.peak (drill_bound rows) s.peak;
+  exact = on_ok answer (meter'.peak ≡ max 0 (highest (takings_of rows))) (meter'.peak ≡ highest (takings_of rows)) (λ reached. omega (arith, reached)) s.exact;
   done = on_ok answer (text'.tally ≡ text.tally) _ (λ same. (refl, refl, same)) s.cause.done;
   refused = λ is. absurd (never_refused rows (min meter.limit memory) text text' answer s.cause is);
   read_fault = λ is. absurd (never_read rows (min meter.limit memory) text text' answer s.cause is);
@@ -143,7 +146,8 @@ drilled rows W memory input output held ranges source sink text text' meter mete
   told_limit = s.cause.over_limit;
   first_past = s.cause.first_past;
   block = λ less. block_of rows (min meter.limit memory) text text' answer (s.cause.block less);
-  unmade = same_sink (Drill rows) held (IsSameSink sink sink) answer (refl, refl);
+  unread = λ low. refl;
+  unmade = same_sink (Drill rows) held (min meter.limit memory) W (IsSameSink sink sink) answer (refl, refl);
   held_is = refl;
   touched = tt;
   told_ranges = λ told. told;
@@ -153,7 +157,7 @@ drilled rows W memory input output held ranges source sink text text' meter mete
   text_counts = s.cause.kept;
   printed = record {
     lines = lines_of rows (min meter.limit memory) text text' answer s.cause s.lines;
-    silent = silent_of rows (min meter.limit memory) text text' answer s.cause s.silent;
+    silent = silent_of rows (min meter.limit memory) text text' W answer s.cause s.silent;
     done = s.cause.done;
     refused = λ is. absurd (never_refused rows (min meter.limit memory) text text' answer s.cause is);
     write_fault = write_rose rows (min meter.limit memory) text text' answer s.cause;

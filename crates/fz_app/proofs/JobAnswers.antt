@@ -4,10 +4,11 @@ use Rattle.std.specs.Prelude.{◌⊎◌, max, Option, Some, None, IfSome, Result
 use Rattle.fz_base.specs.Counts.{CountsKept}
 use Rattle.fz_base.specs.FirstByte.{IsShut}
 use Rattle.fz_base.specs.Stop.{TellsLimit}
+use Rattle.fz_base.specs.Takings.{highest}
 use Rattle.fz_base.specs.Told.{StaysTold}
 use Rattle.fz_base.specs.declared.failure.Stop.{Stop}
 use Rattle.fz_base.specs.declared.failure.Stop.TheVariants.{ReadFault as StopRead, WriteFault as StopWrite, OverLimit as StopLimit, NoMemory as StopMemory}
-use Rattle.fz_files.specs.Buffers.{IsOfFile, job_bound}
+use Rattle.fz_files.specs.Buffers.{IsOfFile, job_bound, job_takings}
 use Rattle.fz_files.specs.FirstFault.{IsFirstFault}
 use Rattle.fz_files.specs.declared.job.Job.{Job}
 use Rattle.fz_files.specs.declared.job.Job.TheVariants.{Pack, Unpack, Cut, Verify, List as ListHdus, Drill}
@@ -45,10 +46,12 @@ pub record JobSays (asked : Asked) (old new : Ends) (answer : Result (Unit {0}) 
   pub answered : Answers asked.job (given asked.job old.held) old.source new.source (counts_written asked.job old) (counts_written asked.job new) (limit_of asked old.meter.limit) asked.workers answer
   pub cause : HasJobCause asked.job (given asked.job old.held) old.source new.source (counts_written asked.job old) (counts_written asked.job new) (limit_of asked old.meter.limit) asked.workers answer
   pub first_byte : IsShutOrWhole new.sink.contents (HoldsJobOutput asked.job old.held new.sink.contents) answer
-  pub unmade : IsUnmade asked.job old.held (IsSameSink old.sink new.sink) answer
+  pub unread : limit_of asked old.meter.limit < 2880 → new.ranges ≡ old.ranges
+  pub unmade : IsUnmade asked.job old.held (limit_of asked old.meter.limit) asked.workers (IsSameSink old.sink new.sink) answer
   pub live : new.meter.live ≡ 0
   pub limit : new.meter.limit ≡ limit_of asked old.meter.limit
   pub peak : IfSome (given asked.job old.held) (λ file. new.meter.peak ≤ max 0 (job_bound asked.job file asked.workers))
+  pub exact : OnOk answer (IfSome (given asked.job old.held) (λ file. new.meter.peak ≡ max 0 (highest (job_takings asked.job file asked.workers))))
   pub most : new.meter.peak ≤ max 0 (greatest_bound asked.job asked.workers)
   pub held_is : new.held ≡ old.held
   pub touched : ReadsTouched asked.job old.held old.ranges new.ranges
@@ -57,7 +60,7 @@ pub record JobSays (asked : Asked) (old new : Ends) (answer : Result (Unit {0}) 
   pub source_counts : CountsKept old.source new.source
   pub sink_counts : CountsKept old.sink.tally new.sink.tally
   pub text_counts : CountsKept old.text.tally new.text.tally
-  pub printed : JobPrinted asked.job (given asked.job old.held) old.text new.text answer
+  pub printed : JobPrinted asked.job (given asked.job old.held) (limit_of asked old.meter.limit) asked.workers old.text new.text answer
   pub one_written : counts_written asked.job new ≡ counts_written asked.job old → (new.sink.tally ≡ old.sink.tally) × (new.text.tally ≡ old.text.tally)
 
 -- the bound of a job on a file, whatever the file
@@ -89,6 +92,10 @@ module _ (asked : Asked) (old new : Ends) where
   peak_of None p = tt
   peak_of (Some file) p = omega (arith, p)
 
+  exact_of : (held : Option (List ℕ)) → IfSome held (λ file. new.meter.peak ≡ max 0 (highest (job_takings asked.job file asked.workers))) → IfSome held (λ file. new.meter.peak ≡ highest (job_takings asked.job file asked.workers))
+  exact_of None p = tt
+  exact_of (Some file) p = omega (arith, p)
+
   -- where the counts of the source and of what is written stay, all stay
   all_counts : (counts_written asked.job new ≡ counts_written asked.job old → (new.sink.tally ≡ old.sink.tally) × (new.text.tally ≡ old.text.tally)) →
       (new.source ≡ old.source) × (counts_written asked.job new ≡ counts_written asked.job old) → (new.source ≡ old.source) × (new.sink.tally ≡ old.sink.tally) × (new.text.tally ≡ old.text.tally)
@@ -111,6 +118,7 @@ module _ (asked : Asked) (old new : Ends) where
     live = s.live;
     limit = s.limit;
     peak = peak_of (given asked.job old.held) s.peak;
+    exact = on_ok answer _ _ (exact_of (given asked.job old.held)) s.exact;
     done = on_ok answer ((new.source ≡ old.source) × (counts_written asked.job new ≡ counts_written asked.job old)) ((new.source ≡ old.source) × (new.sink.tally ≡ old.sink.tally) × (new.text.tally ≡ old.text.tally)) (all_counts s.one_written) s.cause.done;
     refused = λ is. (s.of_file, all_counts s.one_written (s.cause.refused is));
     read_fault = λ is. (s.of_file, s.cause.read_fault is);
@@ -119,6 +127,7 @@ module _ (asked : Asked) (old new : Ends) where
     told_limit = subst (λ (m : ℕ). TellsLimit (limit_of asked old.meter.limit) m answer) (most_is asked.job asked.workers s.of_file) s.cause.over_limit;
     first_past = s.cause.first_past;
     block = block_of answer s.cause.block;
+    unread = s.unread;
     unmade = s.unmade;
     held_is = s.held_is;
     touched = s.touched;

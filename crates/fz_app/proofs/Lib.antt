@@ -3,6 +3,7 @@ mod Complete
 mod CutAnswers
 mod DrillAnswers
 mod FirstBytes
+mod Fronts
 mod JobAnswers
 mod Limits
 mod PackAnswers

@@ -17,6 +17,7 @@ use Rattle.fz_app.specs.Ends.{Ends}
 use Rattle.fz_app.specs.Promised.{IsPromised}
 use Rattle.fz_app.specs.declared.status.Status.{Status}
 use Rattle.fz_app.proofs.Answered.{of_promise}
+use Rattle.fz_app.proofs.RunPromises.{asked_fact}
 
 some_is : (a b : ℕ × ℕ) → ◌≡◌ {A = Option (ℕ × ℕ)} (Some a) (Some b) → a ≡ b
 some_is a b e = cc
@@ -61,11 +62,12 @@ within_held bounded ListHdus W held limit r tells past = on_file bounded ListHdu
 within_held bounded (Drill rows) W held limit r tells past = tells
 
 -- which taking passed the limit
-pub over_limit : AreBounded → (words : List (List ℕ)) (old new : Ends) (status : Status) → IsPromisedTo (job_of words) status (λ (a : Asked). IsPromised a old new) → OverLimitHasCause words old.held old.meter.limit status
+pub over_limit : AreBounded → (words : List (List ℕ)) (old new : Ends) (status : Status) → IsPromisedTo (job_of words) status (λ (a : Asked). IsPromised a old new) → OverLimitHasCause words old.held old.meter.limit old.ranges new.ranges status
 over_limit bounded words old new status promise = record {
   told = of_promise (job_of words) status (λ (a : Asked). IsPromised a old new) (λ a r. TellsLimit (limit_of a old.meter.limit) (most_bound a.job a.workers) r) (λ a r p. p.told_limit) promise;
   first_past = of_promise (job_of words) status (λ (a : Asked). IsPromised a old new) (λ a r. IfSome (given a.job old.held) (λ file. TellsFirstPast (limit_of a old.meter.limit) (job_takings a.job file a.workers) r)) (λ a r p. p.first_past) promise;
   within = of_promise (job_of words) status (λ (a : Asked). IsPromised a old new) (λ a r. IfSome (given a.job old.held) (λ file. TellsLimit (limit_of a old.meter.limit) (job_bound a.job file a.workers) r))
       (λ a r p. within_held bounded a.job a.workers old.held (limit_of a old.meter.limit) r p.told_limit p.first_past) promise;
   block = of_promise (job_of words) status (λ (a : Asked). IsPromised a old new) (λ a r. limit_of a old.meter.limit < 2880 → IsErrOf r (StopLimit 0 2880 (limit_of a old.meter.limit)) ⊎ (IsErrOf r StopRead ⊎ IsErrOf r StopMemory)) (λ a r p. p.block) promise;
+  unread = asked_fact (job_of words) status (λ (a : Asked). IsPromised a old new) (λ a. limit_of a old.meter.limit < 2880 → new.ranges ≡ old.ranges) (λ a r p. p.unread) promise;
 }

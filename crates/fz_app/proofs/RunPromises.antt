@@ -4,15 +4,13 @@ use Rattle.std.proofs.Common.{◌≡◌, ℕ, ◌≤◌, List, refl, subst}
 use Rattle.std.specs.Prelude.{◌≢◌, Option, Some, None, IfSome, Result, Ok, Err, OnOk, IsErrOf}
 use Rattle.fz_base.specs.Counts.{CountsKept, Rose, Tally}
 use Rattle.fz_base.specs.Stop.{IsRefused}
-use Rattle.fz_base.specs.declared.fault.Fault.{Fault}
 use Rattle.fz_base.specs.declared.failure.Stop.{Stop}
 use Rattle.fz_base.specs.declared.failure.Stop.TheVariants.{Refused as StopRefused, ReadFault as StopRead, WriteFault as StopWrite, OverLimit as StopLimit, NoMemory as StopMemory}
 use Rattle.fz_files.specs.Buffers.{IsOfFile, job_bound}
-use Rattle.fz_files.specs.FirstFault.{IsFirstFault}
-use Rattle.fz_files.specs.Laws.{HasOneFirstFault}
 use Rattle.fz_files.specs.declared.job.Job.{Job}
 use Rattle.fz_files.specs.declared.job.Job.TheVariants.{Pack, Unpack, Cut, Verify, List as ListHdus, Drill}
-use Rattle.fz_round_trip.specs.RoundTrip.{ComesBack}
+use Rattle.fz_round_trip.specs.Decided.{first_fault}
+use Rattle.fz_round_trip.specs.RoundTrip.{ComesBack, HasNoOtherFault}
 use Rattle.fz_job.specs.Clauses.{IsAnswer, TellsFirstFault}
 use Rattle.fz_words.specs.Jobs.{Asked, job_of}
 use Rattle.fz_app.specs.Answer.{IfAnswer, IsEnd, IsPromisedTo}
@@ -42,7 +40,7 @@ any_answer stat.WriteFault P Q f u p = f (Err StopWrite) p
 any_answer (stat.OverLimit live asked limit) P Q f u p = f (Err (StopLimit live asked limit)) p
 any_answer stat.NoMemory P Q f u p = f (Err StopMemory) p
 
-asked_fact : (asked : Option Asked) (status : Status) (P : Asked → Result (Unit {0}) Stop → Type 0) (Q : Asked → Type 0) → ((a : Asked) (r : Result (Unit {0}) Stop) → P a r → Q a) → IsPromisedTo asked status P → IfSome asked Q
+pub asked_fact : (asked : Option Asked) (status : Status) (P : Asked → Result (Unit {0}) Stop → Type 0) (Q : Asked → Type 0) → ((a : Asked) (r : Result (Unit {0}) Stop) → P a r → Q a) → IsPromisedTo asked status P → IfSome asked Q
 asked_fact None status P Q f p = tt
 asked_fact (Some a) status P Q f p = any_answer status (P a) (Q a) (f a) p.1 p.0
 
@@ -76,18 +74,18 @@ with_file : (held : Option (List ℕ)) (status : Status) (B : List ℕ → Type 
 with_file None status B F p = tt
 with_file (Some file) status B F p = λ b. of_answer status (λ r. B file → F file r) (F file) (λ r f. f b) p
 
-module _ (one : HasOneFirstFault) (old new : Ends) where
+module _ (one : HasNoOtherFault) (old new : Ends) where
   decided : (a : Asked) (status : Status) → IfAnswer status (IsPromised a old new) × (status ≢ Usage) → IsEnd a.job (given a.job old.held) status → (IsOfFile a.job → ¬ Rose old.source.faults new.source.faults) → ¬ Rose (counts_written a.job old).faults (counts_written a.job new).faults →
-      IfSome (given a.job old.held) (λ file. job_bound a.job file a.workers ≤ limit_of a old.meter.limit → (fault : Option Fault) → IsFirstFault a.job file fault → IsAnswerTo a.job file fault status)
+      IfSome (given a.job old.held) (λ file. job_bound a.job file a.workers ≤ limit_of a old.meter.limit → IsAnswerTo a.job file (first_fault a.job file) status)
   decided a status p end s k =
-      if_end (given a.job old.held) a.job status (λ file. job_bound a.job file a.workers ≤ limit_of a old.meter.limit → IfAnswer status (λ r. IsAnswer r × TellsFirstFault a.job (Some file) r)) (λ file. job_bound a.job file a.workers ≤ limit_of a old.meter.limit → (fault : Option Fault) → IsFirstFault a.job file fault → IsAnswerTo a.job file fault status)
-      (λ file e f b fault is. decides one a.job file status (f b) p.1 e fault is) end
+      if_end (given a.job old.held) a.job status (λ file. job_bound a.job file a.workers ≤ limit_of a old.meter.limit → IfAnswer status (λ r. IsAnswer r × TellsFirstFault a.job (Some file) r)) (λ file. job_bound a.job file a.workers ≤ limit_of a old.meter.limit → IsAnswerTo a.job file (first_fault a.job file) status)
+      (λ file e f b. decides one a.job file status (f b) p.1 e) end
       (with_file (given a.job old.held) status (λ file. job_bound a.job file a.workers ≤ limit_of a old.meter.limit) (λ file r. IsAnswer r × TellsFirstFault a.job (Some file) r)
       (of_answer status (IsPromised a old new) (λ r. IfSome (given a.job old.held) (λ file. job_bound a.job file a.workers ≤ limit_of a old.meter.limit → IsAnswer r × TellsFirstFault a.job (Some file) r))
       (λ r q. answers_to a (given a.job old.held) (limit_of a old.meter.limit) r (q.answered s k) q.first_fault) p.0))
 
   asked_decided : (asked : Option Asked) (status : Status) (now : Tally) → CountsKept new.text.tally now → IsPromisedTo asked status (λ (a : Asked). IsPromised a old new) → IfSome asked (λ a. IsEnd a.job (given a.job old.held) status) →
-      IfSome asked (λ a. (IsOfFile a.job → ¬ Rose old.source.faults new.source.faults) → ¬ Rose (written_counts a.job old.sink.tally old.text.tally).faults (written_counts a.job new.sink.tally now).faults → IfSome (given a.job old.held) (λ file. job_bound a.job file a.workers ≤ limit_of a old.meter.limit → (fault : Option Fault) → IsFirstFault a.job file fault → IsAnswerTo a.job file fault status))
+      IfSome asked (λ a. (IsOfFile a.job → ¬ Rose old.source.faults new.source.faults) → ¬ Rose (written_counts a.job old.sink.tally old.text.tally).faults (written_counts a.job new.sink.tally now).faults → IfSome (given a.job old.held) (λ file. job_bound a.job file a.workers ≤ limit_of a old.meter.limit → IsAnswerTo a.job file (first_fault a.job file) status))
   asked_decided None status now kept p e = tt
   asked_decided (Some a) status now kept p e = λ s k. decided a status p e s (λ r. k (risen a.job old.sink.tally new.sink.tally old.text.tally new.text.tally now kept r))
 
@@ -127,9 +125,9 @@ module _ (one : HasOneFirstFault) (old new : Ends) where
   refused asked status = of_promise asked status (λ (a : Asked). IsPromised a old new) (λ a r. IsRefused r → IsOfFile a.job × (new.source ≡ old.source) × (new.sink.tally ≡ old.sink.tally)) (λ a r p is. ((p.refused is).0, (p.refused is).1.0, (p.refused is).1.1))
 
   -- what the job printed
-  pub lines : (asked : Option Asked) (status : Status) → IsPromisedTo asked status (λ (a : Asked). IsPromised a old new) → (status ≡ Usage → new.text ≡ old.text) → IsPrinted asked old.held old.text new.text status
+  pub lines : (asked : Option Asked) (status : Status) → IsPromisedTo asked status (λ (a : Asked). IsPromised a old new) → (status ≡ Usage → new.text ≡ old.text) → IsPrinted asked old.held old.meter.limit old.text new.text status
   lines None status p same = same p
-  lines (Some a) status p same = of_answer status (IsPromised a old new) (JobPrinted a.job (given a.job old.held) old.text new.text) (λ r q. q.printed) p.0
+  lines (Some a) status p same = of_answer status (IsPromised a old new) (JobPrinted a.job (given a.job old.held) (limit_of a old.meter.limit) a.workers old.text new.text) (λ r q. q.printed) p.0
 
 pub counts : (asked : Option Asked) (old new : Ends) (status : Status) → IsPromisedTo asked status (λ (a : Asked). IsPromised a old new) → (status ≡ Usage → CountsKept old.source new.source) → (status ≡ Usage → CountsKept old.sink.tally new.sink.tally) → (status ≡ Usage → CountsKept old.text.tally new.text.tally) →
     (now : Tally) → CountsKept new.text.tally now → AreCountsKept old.source new.source old.sink.tally new.sink.tally old.text.tally now

@@ -1,9 +1,9 @@
 -- What is promised of the answer of a job that prints lines, beside what its contract says: the sink is as it was.
-use Rattle.std.proofs.Common.{◌≡◌, ℕ, ◌≤◌, List, [], refl, sym, ap, subst, ◌∙◌, inl}
+use Rattle.std.proofs.Common.{◌≡◌, ℕ, ◌≤◌, ◌<◌, List, [], refl, sym, ap, subst, ◌∙◌, inl}
 use Rattle.std.specs.Prelude.{◌⊎◌, max, Bool, Option, Some, None, IfSome, IsSome, Result, Ok, Err, IsErrOf, OnOk, OnErr, ⊤}
 use Rattle.fz_base.specs.Counts.{CountsKept, Tally}
 use Rattle.fz_base.specs.Stop.{IfRefused, IsRefused, TellsLimit}
-use Rattle.fz_base.specs.Takings.{TellsFirstPast}
+use Rattle.fz_base.specs.Takings.{TellsFirstPast, first_past, highest}
 use Rattle.fz_base.specs.Told.{StaysTold}
 use Rattle.fz_base.specs.declared.fault.Fault.{Fault}
 use Rattle.fz_base.specs.declared.failure.Stop.{Stop}
@@ -19,7 +19,7 @@ use Rattle.fz_words.specs.Jobs.{Asked}
 use Rattle.fz_app.specs.Answer.{done_of}
 use Rattle.fz_app.specs.Asked.{given, limit_of}
 use Rattle.fz_app.specs.Ends.{Ends, IsSameSink, SinkIs, TextIs, counts_written, written_counts}
-use Rattle.fz_app.specs.Outputs.{HoldsJobOutput, IfCut, IsFinished, IsOutput, JobRestores, Restores}
+use Rattle.fz_app.specs.Outputs.{HoldsJobOutput, IfCut, IsFinished, IsOutput, JobRestores, ReadsTouched, Restores}
 use Rattle.fz_app.specs.Printed.{HasPrinted, JobPrinted}
 use Rattle.fz_app.specs.Promised.{IsPromised}
 use Rattle.fz_app.proofs.JobAnswers.{always_ok, promised}
@@ -112,6 +112,18 @@ module _ {X : Type 0} where
   past_held r None limit takings others same p = tt
   past_held r (Some file) limit takings others same p = subst (λ (ts : List (ℕ × ℕ)). TellsFirstPast limit ts (done_of r)) (sym (same file)) (past_done r limit (takings file) p)
 
+-- the same of takings that are equal
+past_workers : (held : Option (List ℕ)) (limit : ℕ) (takings others : List ℕ → List (ℕ × ℕ)) (Same : Type 0) → ((file : List ℕ) → others file ≡ takings file) →
+    IfSome held (λ file. IsSome (first_past limit (takings file)) → Same) → IfSome held (λ file. IsSome (first_past limit (others file)) → Same)
+past_workers None limit takings others Same equal p = tt
+past_workers (Some file) limit takings others Same equal p = λ some. p (subst (λ (ts : List (ℕ × ℕ)). IsSome (first_past limit ts)) (equal file) some)
+
+exact_workers : {X : Type 0} → (r : Result X Stop) (held : Option (List ℕ)) (peak : ℕ) (takings others : List ℕ → List (ℕ × ℕ)) → ((file : List ℕ) → others file ≡ takings file) →
+    OnOk r (IfSome held (λ file. peak ≡ max 0 (highest (takings file)))) → OnOk (done_of r) (IfSome held (λ file. peak ≡ max 0 (highest (others file))))
+exact_workers (Ok x) None peak takings others equal p = tt
+exact_workers (Ok x) (Some file) peak takings others equal p = subst (λ (ts : List (ℕ × ℕ)). peak ≡ max 0 (highest ts)) (sym (equal file)) p
+exact_workers (Err stop) held peak takings others equal p = tt
+
 -- the second of two facts of an answer Ok
 on_second : {X : Type 0} → (r : Result X Stop) (P Q : Type 0) → OnOk r (P × Q) → OnOk r Q
 on_second (Ok x) P Q p = p.1
@@ -124,22 +136,26 @@ pub record TextSays {X : Type 0} (job : Job) (held : Option (List ℕ)) (limit W
   pub first_fault : TellsFirstFault job held answer
   pub answered : Answers job held old.source new.source old.text.tally new.text.tally limit W answer
   pub cause : HasJobCause job held old.source new.source old.text.tally new.text.tally limit 1 answer
-  pub silent : IsUnmade job held ((new.text.contents ≡ old.text.contents) × (new.text.tally ≡ old.text.tally)) answer
+  pub silent : IsUnmade job held limit 1 ((new.text.contents ≡ old.text.contents) × (new.text.tally ≡ old.text.tally)) answer
   pub live : new.meter.live ≡ 0
   pub limit_is : new.meter.limit ≡ limit
   pub peak : IfSome held (λ file. new.meter.peak ≤ max 0 (job_bound job file W))
+  pub exact : OnOk answer (IfSome held (λ file. new.meter.peak ≡ max 0 (highest (job_takings job file 1))))
+  pub unread : limit < 2880 → new.ranges ≡ old.ranges
   pub most : new.meter.peak ≤ max 0 (greatest_bound job W)
   pub held_is : new.held ≡ old.held
+  pub touched : ReadsTouched job old.held old.ranges new.ranges
   pub told_ranges : StaysTold old.ranges new.ranges
   pub told : StaysTold old.text.contents new.text.contents
   pub source_counts : CountsKept old.source new.source
   pub text_counts : CountsKept old.text.tally new.text.tally
 
 -- what was printed, of the answer without its value
-printed : {X : Type 0} → (job : Job) (held : Option (List ℕ)) (limit W : ℕ) (old new : Ends) (answer : Result X Stop) → TextSays job held limit W old new answer → HasPrinted job held old.text new.text (done_of answer)
-printed job held limit W old new answer s = record {
+printed : {X : Type 0} → (job : Job) (held : Option (List ℕ)) (limit W : ℕ) (old new : Ends) (answer : Result X Stop) → ((file : List ℕ) → job_takings job file W ≡ job_takings job file 1) → TextSays job held limit W old new answer →
+    HasPrinted job held limit W old.text new.text (done_of answer)
+printed job held limit W old new answer same s = record {
   lines = lines_done answer job held old.text.contents new.text.contents s.lines;
-  silent = record { faulty = s.silent.faulty; over_limit = over_done answer _ s.silent.over_limit; refused = if_refused_done answer _ s.silent.refused };
+  silent = record { faulty = s.silent.faulty; past = past_workers held limit (λ file. job_takings job file 1) (λ file. job_takings job file W) _ same s.silent.past; over_limit = over_done answer _ s.silent.over_limit; refused = if_refused_done answer _ s.silent.refused };
   done = ok_done answer (new.text.tally ≡ old.text.tally) (on_second answer _ _ s.cause.done);
   refused = λ is. (s.cause.refused (refused_done answer is)).1;
   write_fault = λ is. s.cause.write_fault (error_done answer StopWrite is);
@@ -177,9 +193,10 @@ same_held None P p = tt
 same_held (Some file) P p = p file
 
 -- a sink that is as it was is so by every answer
-pub same_sink : (job : Job) (held : Option (List ℕ)) (Same : Type 0) (answer : Result (Unit {0}) Stop) → Same → IsUnmade job held Same answer
-same_sink job held Same answer same = record {
+pub same_sink : (job : Job) (held : Option (List ℕ)) (limit W : ℕ) (Same : Type 0) (answer : Result (Unit {0}) Stop) → Same → IsUnmade job held limit W Same answer
+same_sink job held limit W Same answer same = record {
   faulty = same_held held (λ file. ¬ (header_fault job file ≡ None) → Same) (λ file n. same);
+  past = same_held held (λ file. IsSome (first_past limit (job_takings job file W)) → Same) (λ file some. same);
   over_limit = over_limit_same answer Same same;
   refused = refused_same answer (λ x. Same ⊎ ComesLate job x) (λ x. inl same);
 }
@@ -194,16 +211,16 @@ pub record IsPrinter (job : Job) : Type 1 where
   pub counts : (sink text : Tally) → written_counts job sink text ≡ text
   pub most : (W : ℕ) → greatest_bound job W ≡ greatest_bound job 1
   pub takings : (W : ℕ) (file : List ℕ) → job_takings job file W ≡ job_takings job file 1
-  pub printed : (held : Option (List ℕ)) (old new : TextIs) (answer : Result (Unit {0}) Stop) → HasPrinted job held old new answer → JobPrinted job held old new answer
+  pub printed : (held : Option (List ℕ)) (limit W : ℕ) (old new : TextIs) (answer : Result (Unit {0}) Stop) → HasPrinted job held limit W old new answer → JobPrinted job held limit W old new answer
 
 pub verifies : IsPrinter Verify
-verifies = record { output = λ file. refl; finished = λ is. tt; restores = λ file bytes. tt; no_cut = λ P. tt; counts = λ sink text. refl; most = λ W. refl; takings = λ W file. refl; printed = λ held old new answer p. p }
+verifies = record { output = λ file. refl; finished = λ is. tt; restores = λ file bytes. tt; no_cut = λ P. tt; counts = λ sink text. refl; most = λ W. refl; takings = λ W file. refl; printed = λ held limit W old new answer p. p }
 
 pub lists : IsPrinter ListHdus
-lists = record { output = λ file. refl; finished = λ is. tt; restores = λ file bytes. tt; no_cut = λ P. tt; counts = λ sink text. refl; most = λ W. refl; takings = λ W file. refl; printed = λ held old new answer p. p }
+lists = record { output = λ file. refl; finished = λ is. tt; restores = λ file bytes. tt; no_cut = λ P. tt; counts = λ sink text. refl; most = λ W. refl; takings = λ W file. refl; printed = λ held limit W old new answer p. p }
 
 pub drills : (rows : ℕ) → IsPrinter (Drill rows)
-drills rows = record { output = λ file. refl; finished = λ is. tt; restores = λ file bytes. tt; no_cut = λ P. tt; counts = λ sink text. refl; most = λ W. refl; takings = λ W file. refl; printed = λ held old new answer p. p }
+drills rows = record { output = λ file. refl; finished = λ is. tt; restores = λ file bytes. tt; no_cut = λ P. tt; counts = λ sink text. refl; most = λ W. refl; takings = λ W file. refl; printed = λ held limit W old new answer p. p }
 
 module _ (job : Job) (is : IsPrinter job) where
   pub empty_output : (held contents : Option (List ℕ)) → IfSome contents (λ c. c ≡ []) → HoldsJobOutput job held contents
@@ -249,19 +266,21 @@ module _ (job : Job) (is : IsPrinter job) (W memory : ℕ) (input output : List 
         answered = of_text (λ t t'. Answers job (given job old.held) old.source new.source t t' limit W (done_of answer)) (λ a b. answers_done answer (given job old.held) (λ file. job_bound job file W ≤ limit) (s.answered a b));
         cause = of_text (λ t t'. HasJobCause job (given job old.held) old.source new.source t t' limit W (done_of answer)) (text_cause answer s);
         first_byte = always_err (done_of answer) _ (inl (empty_is_shut new.sink.contents empty));
-        unmade = same_sink job old.held (IsSameSink old.sink new.sink) (done_of answer) (ap (λ (k : SinkIs). k.created) same, ap (λ (k : SinkIs). k.contents) same);
+        unread = s.unread;
+        unmade = same_sink job old.held limit W (IsSameSink old.sink new.sink) (done_of answer) (ap (λ (k : SinkIs). k.created) same, ap (λ (k : SinkIs). k.contents) same);
         live = s.live;
         limit = s.limit_is;
         peak = s.peak;
+        exact = exact_workers answer (given job old.held) new.meter.peak (λ file. job_takings job file 1) (λ file. job_takings job file W) (is.takings W) s.exact;
         most = s.most;
         held_is = s.held_is;
-        touched = is.no_cut _;
+        touched = s.touched;
         told_ranges = s.told_ranges;
         told_contents = λ told. subst (λ (k : SinkIs). IsSome k.contents) (sym same) told;
         source_counts = s.source_counts;
         sink_counts = kept_by old.sink.tally new.sink.tally (ap (λ (k : SinkIs). k.tally) same);
         text_counts = s.text_counts;
-        printed = is.printed (given job old.held) old.text new.text (done_of answer) (printed job (given job old.held) limit W old new answer s);
+        printed = is.printed (given job old.held) limit W old.text new.text (done_of answer) (printed job (given job old.held) limit W old new answer (is.takings W) s);
         one_written = λ e. (ap (λ (k : SinkIs). k.tally) same, sym (is.counts new.sink.tally new.text.tally) ∙ e ∙ is.counts old.sink.tally old.text.tally);
       })
       (λ whole. inl (empty_is_shut new.sink.contents empty)) (always_ok (done_of answer) _ (none_restored job is old.held new.sink.contents)) (always_ok (done_of answer) _ (is.no_cut _))

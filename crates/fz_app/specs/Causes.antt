@@ -52,17 +52,18 @@ WriteFaultHasCause words sink sink' text text' status =
 -- Over limit: comes exactly where a taking of the job passes the limit, and tells the first. A read fault or want of memory may come in
 -- its place. What passes it, with what is live, is never more than the bound of the job on the file that it is given, of `drill` than the one
 -- bound that it has, and whatever the file than the greatest bound: so a limit of at least the bound is never passed. The first taking of all
--- jobs is one block.
-pub record OverLimitHasCause (words : List (List ℕ)) (held : Option (List ℕ)) (limit : ℕ) (status : Status) : Type 0 where
+-- jobs is one block: below that nothing is read of the file, whatever the answer.
+pub record OverLimitHasCause (words : List (List ℕ)) (held : Option (List ℕ)) (limit : ℕ) (ranges ranges' : Option (List (ℕ × ℕ))) (status : Status) : Type 0 where
   pub told : IfRan words status (λ asked answer. TellsLimit (limit_of asked limit) (most_bound asked.job asked.workers) answer)
   pub first_past : IfRan words status (λ asked answer. IfSome (given asked.job held) (λ file. TellsFirstPast (limit_of asked limit) (job_takings asked.job file asked.workers) answer))
   pub within : IfRan words status (λ asked answer. IfSome (given asked.job held) (λ file. TellsLimit (limit_of asked limit) (job_bound asked.job file asked.workers) answer))
   pub block : IfRan words status (λ asked answer. limit_of asked limit < 2880 → IsErrOf answer (StopLimit 0 2880 (limit_of asked limit)) ⊎ (IsErrOf answer StopRead ⊎ IsErrOf answer StopMemory))
+  pub unread : IfAsked words (λ asked. limit_of asked limit < 2880 → ranges' ≡ ranges)
 
--- Unmade: the sink is as before where a header of the file is refused, whatever the answer, where a buffer passes the limit, and after
+-- Unmade: the sink is as before if a header of the file is refused or a taking of the job passes the limit, whatever the answer, and after
 -- every refusal but that of an HDU which changed between two readings and, of a job that reads rows, that of a row.
-abbrev pub IsUnmadeFor : List (List ℕ) → Option (List ℕ) → Type 0 → Status → Type 0
-IsUnmadeFor words held Same status = IfRan words status (λ asked answer. IsUnmade asked.job held Same answer)
+abbrev pub IsUnmadeFor : List (List ℕ) → Option (List ℕ) → ℕ → Type 0 → Status → Type 0
+IsUnmadeFor words held limit Same status = IfRan words status (λ asked answer. IsUnmade asked.job held (limit_of asked limit) asked.workers Same answer)
 
 -- no count falls
 pub record AreCountsKept (source source' sink sink' text text' : Tally) : Type 0 where

@@ -7,6 +7,7 @@ use Rattle.fz_files.specs.Cutout.{touched}
 use Rattle.fz_files.specs.CutoutBytes.{IsCutout}
 use Rattle.fz_files.specs.FirstFault.{IsFirstFault}
 use Rattle.fz_files.specs.Packed.{IsPackedFile}
+use Rattle.fz_files.specs.Reads.{header_ranges}
 use Rattle.fz_files.specs.StandsFor.{IsProfileFile, StandsFor}
 use Rattle.fz_files.specs.declared.job.Job.{Job}
 use Rattle.fz_files.specs.declared.job.Job.TheVariants.{Pack, Unpack, Cut, Verify, List as ListHdus, Drill}
@@ -95,7 +96,12 @@ IfCut (Drill rows) P = ⊤
 abbrev pub HoldsJobSlice : Job → Option (List ℕ) → Option (List ℕ) → Type 0
 HoldsJobSlice job held contents = IfCut job (λ wanted sieve. HoldsSlice wanted sieve held contents)
 
--- every byte of the ranges that `cut` reads lies in the header of an HDU that its checks come to, or, where no header is refused, in the
--- row or the record of a tile that holds a pick
+-- Every byte that `cut` reads lies in the header of an HDU that its checks come to, or, if no header is refused, in the row or the record
+-- of a tile that holds a pick; and every byte that `list` reads lies in the header of an HDU that its checks come to.
 abbrev pub ReadsTouched : Job → Option (List ℕ) → Option (List (ℕ × ℕ)) → Option (List (ℕ × ℕ)) → Type 0
-ReadsTouched job held old new = IfCut job (λ wanted sieve. IfSome held (λ file. LogsIn (touched wanted sieve file) old new))
+ReadsTouched (Pack options) held old new = ⊤
+ReadsTouched Unpack held old new = ⊤
+ReadsTouched (Cut wanted sieve) held old new = IfSome held (λ file. LogsIn (touched wanted sieve file) old new)
+ReadsTouched Verify held old new = ⊤
+ReadsTouched ListHdus held old new = IfSome held (λ file. LogsIn (header_ranges ListHdus file) old new)
+ReadsTouched (Drill rows) held old new = ⊤

@@ -4,7 +4,7 @@ use Rattle.fz_base.specs.Counts.{Rose, CountsKept}
 use Rattle.fz_base.specs.FirstByte.{IsShut}
 use Rattle.fz_base.specs.Stop.{IsRefused, TellsLimit}
 use Rattle.fz_base.specs.Told.{StaysTold}
-use Rattle.fz_base.specs.Takings.{TellsFirstPast}
+use Rattle.fz_base.specs.Takings.{TellsFirstPast, highest}
 use Rattle.fz_base.specs.declared.failure.Stop.{Stop}
 use Rattle.fz_base.specs.declared.failure.Stop.TheVariants.{ReadFault as StopRead, WriteFault as StopWrite, OverLimit as StopLimit, NoMemory as StopMemory}
 use Rattle.fz_files.specs.Buffers.{IsOfFile, job_bound, job_takings}
@@ -27,6 +27,7 @@ pub record IsPromised (asked : Asked) (old new : Ends) (answer : Result ⊤ Stop
   pub live : new.meter.live ≡ 0
   pub limit : new.meter.limit ≡ limit_of asked old.meter.limit
   pub peak : IfSome (given asked.job old.held) (λ file. new.meter.peak ≤ job_bound asked.job file asked.workers)
+  pub exact : OnOk answer (IfSome (given asked.job old.held) (λ file. new.meter.peak ≡ highest (job_takings asked.job file asked.workers)))
   pub done : OnOk answer ((new.source ≡ old.source) × (new.sink.tally ≡ old.sink.tally) × (new.text.tally ≡ old.text.tally))
   pub refused : IsRefused answer → IsOfFile asked.job × ((new.source ≡ old.source) × (new.sink.tally ≡ old.sink.tally) × (new.text.tally ≡ old.text.tally))
   pub read_fault : IsErrOf answer StopRead → IsOfFile asked.job × Rose old.source.faults new.source.faults
@@ -35,7 +36,8 @@ pub record IsPromised (asked : Asked) (old new : Ends) (answer : Result ⊤ Stop
   pub told_limit : TellsLimit (limit_of asked old.meter.limit) (most_bound asked.job asked.workers) answer
   pub first_past : IfSome (given asked.job old.held) (λ file. TellsFirstPast (limit_of asked old.meter.limit) (job_takings asked.job file asked.workers) answer)
   pub block : limit_of asked old.meter.limit < 2880 → IsErrOf answer (StopLimit 0 2880 (limit_of asked old.meter.limit)) ⊎ (IsErrOf answer StopRead ⊎ IsErrOf answer StopMemory)
-  pub unmade : IsUnmade asked.job old.held (IsSameSink old.sink new.sink) answer
+  pub unread : limit_of asked old.meter.limit < 2880 → new.ranges ≡ old.ranges
+  pub unmade : IsUnmade asked.job old.held (limit_of asked old.meter.limit) asked.workers (IsSameSink old.sink new.sink) answer
   pub held_is : new.held ≡ old.held
   pub touched : ReadsTouched asked.job old.held old.ranges new.ranges
   pub told_ranges : StaysTold old.ranges new.ranges
@@ -43,4 +45,4 @@ pub record IsPromised (asked : Asked) (old new : Ends) (answer : Result ⊤ Stop
   pub source_counts : CountsKept old.source new.source
   pub sink_counts : CountsKept old.sink.tally new.sink.tally
   pub text_counts : CountsKept old.text.tally new.text.tally
-  pub printed : JobPrinted asked.job (given asked.job old.held) old.text new.text answer
+  pub printed : JobPrinted asked.job (given asked.job old.held) (limit_of asked old.meter.limit) asked.workers old.text new.text answer

@@ -3,10 +3,15 @@ use Rattle.std.specs.Prelude.{ℕ, ◌≡◌, ◌≢◌, ◌⊎◌, ◌≤◌, B
 use Rattle.fz_base.specs.Counts.{Rose, Tally}
 use Rattle.fz_base.specs.FirstByte.{IsShut}
 use Rattle.fz_base.specs.Meter.{Gauge}
+use Rattle.fz_base.specs.Sink.{MayAppend}
+use Rattle.fz_base.specs.Takings.{highest}
 use Rattle.fz_base.specs.declared.fault.Fault.{Fault}
-use Rattle.fz_files.specs.Buffers.{IsOfFile, job_bound}
+use Rattle.fz_files.specs.Buffers.{IsOfFile, job_bound, job_takings}
 use Rattle.fz_files.specs.FirstFault.{IsFirstFault}
+use Rattle.fz_files.specs.Lines.{report_lines}
 use Rattle.fz_files.specs.declared.job.Job.{Job}
+use Rattle.fz_tile.specs.Plain.{AreBytes}
+use Rattle.fz_round_trip.specs.Decided.{first_fault}
 use Rattle.fz_job.specs.Clauses.{TellsFirstFault}
 use Rattle.fz_words.specs.Jobs.{job_of}
 use Rattle.fz_app.specs.Answer.{IfRan, end_of}
@@ -14,7 +19,7 @@ use Rattle.fz_app.specs.Asked.{IfAsked, given, limit_of, most_bound}
 use Rattle.fz_app.specs.Ends.{TextIs, written_counts}
 use Rattle.fz_app.specs.Lines.{status_line, GotLine}
 use Rattle.fz_app.specs.Outputs.{HoldsJobOutput, HoldsJobSlice, JobRestores, IsFinished, IsWhole, PackedIsSound, ReadsTouched}
-use Rattle.fz_app.specs.Printed.{IsPrinted}
+use Rattle.fz_app.specs.Printed.{IsPrinted, IsReported}
 use Rattle.fz_app.specs.declared.status.Status.{Status}
 use Rattle.fz_app.specs.declared.status.Status.TheVariants.{Done, Refused, WriteFault, NoMemory}
 
@@ -38,18 +43,20 @@ HasFirstFault words held status = IfRan words status (λ asked answer. TellsFirs
 abbrev pub HasSlice : List (List ℕ) → Option (List ℕ) → Option (List ℕ) → Status → Type 0
 HasSlice words held contents status = IfRan words status (λ asked answer. OnOk answer (HoldsJobSlice asked.job held contents))
 
--- Touched: whatever the answer, every byte that `cut` read lies in the ranges that it may read.
+-- Touched: whatever the answer, every byte that `cut` or `list` read lies in the ranges that it may read.
 abbrev pub ReadsWithin : List (List ℕ) → Option (List ℕ) → Option (List (ℕ × ℕ)) → Option (List (ℕ × ℕ)) → Type 0
 ReadsWithin words held old new = IfAsked words (λ asked. ReadsTouched asked.job held old new)
 
 -- Buffers: nothing is live, the limit is that of the meter or of the words, and the peak is at most that and at most the
--- bound of the job.
-pub record BuffersAreBounded (words : List (List ℕ)) (held : Option (List ℕ)) (old new : Gauge) : Type 0 where
+-- bound of the job. After a job that was done the peak is exactly the greatest sum of its takings, for as many workers as were asked for: so
+-- another meter or fewer workers are noticed if they change this sum.
+pub record BuffersAreBounded (words : List (List ℕ)) (held : Option (List ℕ)) (old new : Gauge) (status : Status) : Type 0 where
   pub live : new.live ≡ 0
   pub within : new.peak ≤ new.limit
   pub limit : IfAsked words (λ asked. new.limit ≡ limit_of asked old.limit)
   pub peak : IfAsked words (λ asked. IfSome (given asked.job held) (λ file. new.peak ≤ job_bound asked.job file asked.workers))
   pub most : IfAsked words (λ asked. new.peak ≤ most_bound asked.job asked.workers)
+  pub exact : IfRan words status (λ asked answer. OnOk answer (IfSome (given asked.job held) (λ file. new.peak ≡ highest (job_takings asked.job file asked.workers))))
 
 -- First byte: after another status than Done the contents are empty or begin with another byte than S, or they are the whole
 -- output of the job on a file without a fault, and then the status is WriteFault or NoMemory.
@@ -57,10 +64,15 @@ abbrev pub HasFirstByteLast : List (List ℕ) → Option (List ℕ) → Option (
 HasFirstByteLast words held contents status =
     status ≢ Done → IsShut contents ⊎ (IfAsked words (λ asked. IsWhole asked.job held contents) × ((status ≡ WriteFault) ⊎ (status ≡ NoMemory)))
 
--- Text: it got the lines of the job, and behind them the line of the status. Between them it stood as the job left it.
-pub record GotText (words : List (List ℕ)) (held : Option (List ℕ)) (old new : TextIs) (status : Status) : Type 0 where
+-- Text: it got the lines of the job, and after them the line of the status. Between them it was as the job left it: with a beginning of the
+-- lines that the first fault of the file decides, whatever the status (of bytes: a list with other numbers may have no first fault); and, whatever the source tells, if `verify` was done, with lines in which
+-- no sum is reported as wrong, or one is if the status is Different.
+pub record GotText (words : List (List ℕ)) (held : Option (List ℕ)) (limit : ℕ) (old new : TextIs) (status : Status) : Type 0 where
   pub between : TextIs
-  pub lines : IsPrinted (job_of words) held old between status
+  pub lines : IsPrinted (job_of words) held limit old between status
+  pub front : IfAsked words (λ asked. IfSome (given asked.job held) (λ file. AreBytes file →
+      MayAppend (report_lines asked.job file (first_fault asked.job file)) old.contents between.contents))
+  pub reported : IsReported (job_of words) old.contents between.contents status
   pub line : GotLine (status_line status) between.contents new.contents between.tally new.tally
 
 -- The answers to a file with this first fault, or none: it is refused for it, or the job is done. Want of memory may stop that.
@@ -68,11 +80,11 @@ abbrev pub IsAnswerTo : Job → List ℕ → Option Fault → Status → Type 0
 IsAnswerTo job file None status = (status ≡ end_of job file) ⊎ (status ≡ NoMemory)
 IsAnswerTo job file (Some x) status = (status ≡ Refused x) ⊎ (status ≡ NoMemory)
 
--- Completeness: where no count of faults rose, of the source of a job that is given a file, and of what the job writes to, and the limit is at
+-- Completeness: if no count of faults rose, of the source of a job that is given a file, and of what the job writes to, and the limit is at
 -- least the bound of the job, the first fault of the file alone decides.
 abbrev pub IsComplete : List (List ℕ) → Option (List ℕ) → Tally → Tally → Tally → Tally → Tally → Tally → ℕ → Status → Type 0
 IsComplete words held source source' sink sink' text text' limit status =
     IfAsked words (λ asked. (IsOfFile asked.job → ¬ Rose source.faults source'.faults)
     → ¬ Rose (written_counts asked.job sink text).faults (written_counts asked.job sink' text').faults
     → IfSome (given asked.job held) (λ file. job_bound asked.job file asked.workers ≤ limit_of asked limit
-    → (fault : Option Fault) → IsFirstFault asked.job file fault → IsAnswerTo asked.job file fault status))
+    → IsAnswerTo asked.job file (first_fault asked.job file) status))

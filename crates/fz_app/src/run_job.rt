@@ -3,7 +3,8 @@ ghost use Rattle.std.specs.Prelude.{◌≡◌, ◌≤◌, ◌^◌, ℕ, List, []
 ghost use Rattle.fz_files.specs.declared.job.Job.TheVariants.{Cut, Drill, List as ListHdus, Pack, Unpack, Verify};
 ghost use Rattle.fz_head.specs.Planned.{AreOptions};
 ghost use Rattle.fz_words.specs.Jobs.{job_of};
-ghost use Rattle.fz_words.specs.Lawful.{IsBox, IsLawful};
+ghost use Rattle.fz_files.specs.Picks.{HasPicks};
+ghost use Rattle.fz_words.specs.Lawful.{IsLawful};
 ghost use Rattle.fz_words.specs.Parts.{texts_of};
 ghost use Rattle.fz_words.specs.Seen.{asked_of};
 ghost use Rattle.fz_base.specs.Counts.{CountsKept, Tally};
@@ -12,12 +13,14 @@ ghost use Rattle.fz_base.specs.Source.{HoldsLength};
 ghost use Rattle.fz_base.specs.Stop.{Codes};
 ghost use Rattle.fz_base.specs.Told.{StaysTold};
 ghost use Rattle.fz_verify.specs.Clauses.{IsRightAsSaid};
+ghost use Rattle.fz_verify.specs.Reported.{Reports};
 ghost use Rattle.fz_app.specs.Answer.{IsEnd, IsPromisedTo, done_of};
 ghost use Rattle.fz_app.specs.Asked.{given};
 ghost use Rattle.fz_app.specs.Causes.{AreCountsKept, DoneHasCause, IsDifferent, IsUnmadeFor, IsUntouched, IsUsage, OverLimitHasCause, ReadFaultHasCause, RefusedHasCause, WriteFaultHasCause};
 ghost use Rattle.fz_app.specs.Ends.{SinkIs, TextIs, ends, sink_is, text_is};
 ghost use Rattle.fz_app.specs.Lines.{status_line, GotLine};
 ghost use Rattle.fz_app.specs.Outputs.{LeavesSink, LeavesSource};
+ghost use Rattle.fz_app.specs.Printed.{IsReported};
 ghost use Rattle.fz_app.specs.Promised.{IsPromised};
 ghost use Rattle.fz_app.specs.Promises.{BuffersAreBounded, GotText, HasFirstByteLast, HasFirstFault, HasOutput, HasSlice, IsComplete, IsRestored, ReadsWithin};
 ghost use Rattle.fz_app.specs.declared.status.Status.TheVariants.{Usage as IsUsageStatus};
@@ -27,12 +30,12 @@ use crate::status::{Status, ended, verified};
 use fz_base::{Gate, Meter, Sink, Source, Stop, Text};
 use fz_cut::{cut, slice_law};
 use fz_drill::drill;
-use fz_files::{Job, buffers_law, one_file_law, one_first_fault_law};
+use fz_files::{Job, buffers_law, one_file_law};
 use fz_grid::Sieve;
 use fz_head::PackOptions;
 use fz_pack::pack;
 use fz_pool::Window;
-use fz_round_trip::round_trip_law;
+use fz_round_trip::{first_fault_law, round_trip_law};
 use fz_unpack::unpack;
 use fz_verify::{list, verify};
 use fz_words::{Request, Usage, read_words};
@@ -64,9 +67,9 @@ pub fn run<R: Threads + Sync, S: Source, K: Sink, T: Text, G: Gate>(
     ensures first_fault { HasFirstFault (texts_of words.now) (S.held source.old) result }
     ensures slice { HasSlice (texts_of words.now) (S.held source.old) (K.contents sink.new) result }
     ensures touched { ReadsWithin (texts_of words.now) (S.held source.old) (S.ranges source.old) (S.ranges source.new) }
-    ensures buffers { BuffersAreBounded (texts_of words.now) (S.held source.old) meter.old meter.new }
+    ensures buffers { BuffersAreBounded (texts_of words.now) (S.held source.old) meter.old meter.new result }
     ensures first_byte { HasFirstByteLast (texts_of words.now) (S.held source.old) (K.contents sink.new) result }
-    ensures text { GotText (texts_of words.now) (S.held source.old) (text_is (T.contents text.old) (T.tally text.old)) (text_is (T.contents text.new) (T.tally text.new)) result }
+    ensures text { GotText (texts_of words.now) (S.held source.old) meter.old.limit (text_is (T.contents text.old) (T.tally text.old)) (text_is (T.contents text.new) (T.tally text.new)) result }
     ensures complete { IsComplete (texts_of words.now) (S.held source.old) (S.tally source.old) (S.tally source.new) (K.tally sink.old) (K.tally sink.new) (T.tally text.old) (T.tally text.new) meter.old.limit result }
 
     ensures different { IsDifferent (texts_of words.now) (S.held source.old) result }
@@ -76,15 +79,16 @@ pub fn run<R: Threads + Sync, S: Source, K: Sink, T: Text, G: Gate>(
     ensures refused { RefusedHasCause (texts_of words.now) (S.tally source.old) (S.tally source.new) (K.tally sink.old) (K.tally sink.new) result }
     ensures read_fault { ReadFaultHasCause (texts_of words.now) (S.tally source.old) (S.tally source.new) result }
     ensures write_fault { WriteFaultHasCause (texts_of words.now) (K.tally sink.old) (K.tally sink.new) (T.tally text.old) (T.tally text.new) result }
-    ensures over_limit { OverLimitHasCause (texts_of words.now) (S.held source.old) meter.old.limit result }
-    ensures unmade { IsUnmadeFor (texts_of words.now) (S.held source.old) ((K.created sink.new ≡ K.created sink.old) × (K.contents sink.new ≡ K.contents sink.old)) result }
+    ensures over_limit { OverLimitHasCause (texts_of words.now) (S.held source.old) meter.old.limit (S.ranges source.old) (S.ranges source.new) result }
+    ensures unmade { IsUnmadeFor (texts_of words.now) (S.held source.old) meter.old.limit ((K.created sink.new ≡ K.created sink.old) × (K.contents sink.new ≡ K.contents sink.old)) result }
 
     ensures held { S.held source.new ≡ S.held source.old }
     ensures told_ranges { StaysTold (S.ranges source.old) (S.ranges source.new) }
     ensures told_contents { StaysTold (K.contents sink.old) (K.contents sink.new) }
     ensures counts { AreCountsKept (S.tally source.old) (S.tally source.new) (K.tally sink.old) (K.tally sink.new) (T.tally text.old) (T.tally text.new) }
 {
-    one_first_fault_law();
+    // Every file has a first fault or none, and no other.
+    first_fault_law();
     // A packed file has no fault.
     round_trip_law();
     // No taking passes the bound.
@@ -116,6 +120,7 @@ fn answer_to<R: Threads + Sync, S: Source, K: Sink, T: Text, G: Gate>(
     ensures ended { IfSome (job_of (texts_of words.now)) (λ asked. IsEnd asked.job (given asked.job (S.held source.old)) result) }
     ensures left { IfSome (job_of (texts_of words.now)) (λ asked. LeavesSink asked.job (sink.new ≡ sink.old)) }
     ensures unread { IfSome (job_of (texts_of words.now)) (λ asked. LeavesSource asked.job (source.new ≡ source.old)) }
+    ensures reported { IsReported (job_of (texts_of words.now)) (T.contents text.old) (T.contents text.new) result }
 {
     match read_words(words) {
         Ok(request) => run_request(rt, alloc, &request, source, sink, text, gate, meter),
@@ -144,6 +149,7 @@ fn run_request<R: Threads + Sync, S: Source, K: Sink, T: Text, G: Gate>(
     ensures ended { IfSome (Some (asked_of request.now)) (λ asked. IsEnd asked.job (given asked.job (S.held source.old)) result) }
     ensures left { IfSome (Some (asked_of request.now)) (λ asked. LeavesSink asked.job (sink.new ≡ sink.old)) }
     ensures unread { IfSome (Some (asked_of request.now)) (λ asked. LeavesSource asked.job (source.new ≡ source.old)) }
+    ensures reported { IsReported (Some (asked_of request.now)) (T.contents text.old) (T.contents text.new) result }
 {
     match &request.job {
         Job::Pack(options) => ended(run_pack(
@@ -236,7 +242,7 @@ fn run_cut<R: Threads + Sync, S: Source, K: Sink, G: Gate>(
     meter: &mut Meter,
 ) -> Result<(), Stop>
     requires job { request.now.job ≡ Cut hdu sieve.now }
-    requires sieve { IsBox sieve.now }
+    requires sieve { HasPicks sieve.now }
     requires workers { (1 ≤ request.now.workers) × (request.now.workers ≤ 64) }
     requires empty { IfSome (K.contents sink.old) (λ c. c ≡ []) }
     requires unused { (meter.old.live ≡ 0) × (meter.old.peak ≡ 0) }
@@ -278,12 +284,14 @@ fn run_verify<R: Threads + Sync, S: Source, T: Text, G: Gate>(
         (ends (S.held source.old) (S.ranges source.old) (S.tally source.old) sink (text_is (T.contents text.old) (T.tally text.old)) meter.old)
         (ends (S.held source.new) (S.ranges source.new) (S.tally source.new) sink (text_is (T.contents text.new) (T.tally text.new)) meter.new) (done_of result) }
     ensures right { IfOk result (λ right. IfSome (S.held source.old) (IsRightAsSaid right)) }
+    ensures reported { IfOk result (Reports (T.contents text.old) (T.contents text.new)) }
 {
     let (length, mut window) = begin(alloc, request, 1, source, meter)?;
     verify(rt, source, length, text, meter, &mut window, gate)
 }
 
 // Lists the HDUs of the file IN.
+#[tactic(auto, using(crate::proofs::CutAnswers::nothing_read))]
 fn run_list<S: Source, T: Text>(
     request: &Request<'_>,
     source: &mut S,

@@ -1,4 +1,5 @@
 //! Limits on memory.
+use fz_app::Status;
 use fz_base::FreeGate;
 use fz_cases::files::file_of;
 use fz_cases::runs::{Conditions, FREE, outcome_of, words_for};
@@ -95,6 +96,33 @@ fn block_is_taken_before_anything_is_read(rt: HostRuntime) -> Result<(), Fail> {
         assert_eq!(rt;
             outcome.text.contents(),
             b"over limit: live 0 asked 2880 limit 1\n".as_slice()
+        );
+    }
+    Ok(())
+}
+
+// Before the limit decides, the file is attached: if that fails, it is a read fault.
+#[test]
+fn file_is_attached_before_the_block_is_taken(rt: HostRuntime) -> Result<(), Fail> {
+    let rows: [&[&str]; 5] = [
+        &["pack", "--memory", "1", "IN", "OUT"],
+        &["unpack", "--memory", "1", "IN", "OUT"],
+        &["cut", "--box=1:1", "--memory", "1", "IN", "OUT"],
+        &["verify", "--memory", "1", "IN"],
+        &["list", "IN"],
+    ];
+    for words in rows {
+        let on = Conditions {
+            source: 0,
+            limit: 1,
+            ..FREE
+        };
+        let outcome = outcome_of(&rt, words, &[], on, &FreeGate)?;
+        assert_eq!(rt; outcome.status, Status::ReadFault, "{words:?}");
+        assert_eq!(rt;
+            outcome.text.contents(),
+            b"read fault\n".as_slice(),
+            "{words:?}"
         );
     }
     Ok(())

@@ -1,10 +1,11 @@
 -- What the job promises where the first look knows the file, by what the work behind it says.
 use Rattle.std.proofs.Common.{◌≡◌, ◌⊎◌, inl, inr, ℕ, List, [], ◌++◌, append-nil, sym, ◌∙◌, subst}
-use Rattle.std.specs.Prelude.{Option, Some, None, IfSome, Result, Ok, Err, OnOk, IsErrOf}
+use Rattle.std.specs.Prelude.{Option, Some, None, IfSome, Result, Ok, Err, OnOk, IsErrOf, IsSome}
 use Rattle.std.specs.List.{flat_map}
 use Rattle.fz_base.specs.Ranges.{LiesIn, LogsIn}
 use Rattle.fz_base.specs.FirstByte.{IsShut}
 use Rattle.fz_base.specs.Stop.{IfRefused}
+use Rattle.fz_base.specs.Takings.{first_past}
 use Rattle.fz_base.specs.declared.fault.Fault.{Fault}
 use Rattle.fz_base.specs.declared.failure.Stop.{Stop}
 use Rattle.fz_base.specs.declared.failure.Stop.TheVariants.{Refused, ReadFault, WriteFault, OverLimit, NoMemory}
@@ -18,7 +19,7 @@ use Rattle.fz_files.specs.declared.job.Job.TheVariants.{Cut}
 use Rattle.fz_survey.specs.Surveys.{cut_surveyed}
 use Rattle.fz_survey.specs.declared.survey.Survey.{Survey}
 use Rattle.fz_cut.specs.Output.{HoldsCutout}
-use Rattle.fz_job.specs.Clauses.{ComesLate, IfOverLimit, IsShutOrWhole, IsUnmade, TellsFirstFault}
+use Rattle.fz_job.specs.Clauses.{ComesLate, IfOverLimit, IsShutOrWhole, StaysUnmade, TellsFirstFault}
 use Rattle.fz_stages.specs.Stages.{HasLargest}
 use Rattle.fz_cut.specs.Known.{IsKnown, SurveysKnow}
 use Rattle.fz_cut.specs.Written.{FinishesSeen, IsPart, IsShutOrPart, work_ranges}
@@ -128,8 +129,9 @@ module _ (know : SurveysKnow) (want : Option ℕ) (sieve : Sieve) (s : Survey) w
         subst (λ (h : Header). (byte : ℕ) → LiesIn (work_ranges g sieve h) byte → LiesIn (touched want sieve g) byte) (same_from g known) (touch want sieve g s known) in
         wider (work_ranges g sieve from) (touched want sieve g) old new mine (reads (seen_from g known))
 
-  pub work_unmade : {X : Type 0} (held : Option (List ℕ)) (Same : Type 0) (r : Result X Stop) → IfSome held (Knows want sieve s) → IfOverLimit r Same → IfRefused r (ComesLate (Cut want sieve)) → IsUnmade (Cut want sieve) held Same r
-  work_unmade held Same r exact over late = record { faulty = by_held held exact; over_limit = over; refused = refused_weaker r (λ x is. inr is) late }
+  pub work_unmade : {X : Type 0} (held : Option (List ℕ)) (limit : ℕ) (takings : List ℕ → List (ℕ × ℕ)) (Same : Type 0) (r : Result X Stop) → IfSome held (Knows want sieve s) → IfSome held (λ file. IsSome (first_past limit (takings file)) → Same) →
+      IfOverLimit r Same → IfRefused r (ComesLate (Cut want sieve)) → StaysUnmade (Cut want sieve) held limit takings Same r
+  work_unmade held limit takings Same r exact past over late = record { faulty = by_held held exact; past = past; over_limit = over; refused = refused_weaker r (λ x is. inr is) late }
     where
       by_held : (told : Option (List ℕ)) → IfSome told (Knows want sieve s) → IfSome told (λ file. ¬ (header_fault (Cut want sieve) file ≡ None) → Same)
       by_held None is = tt

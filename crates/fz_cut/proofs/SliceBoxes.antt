@@ -22,7 +22,7 @@ use Rattle.fz_head.specs.PlainHeader.{axis_count}
 use Rattle.fz_head.specs.TableChecks.{compressed_table, repeated_table_names}
 use Rattle.fz_parts.specs.Cutout.{Sifts}
 use Rattle.fz_files.specs.Walks.{box_of}
-use Rattle.fz_cut.specs.Output.{HasPicks}
+use Rattle.fz_files.specs.Picks.{HasPicks}
 use Rattle.fz_cut.proofs.Standing.{back_passed}
 use Rattle.fz_cut.proofs.Within.{box_length}
 

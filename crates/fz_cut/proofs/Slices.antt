@@ -21,7 +21,7 @@ use Rattle.fz_files.specs.StandsFor.{StandsFor}
 use Rattle.fz_files.specs.Walks.{box_of, cut_end_fault, fault_of_walk, found_headers, header_fault, headers_for, job_walk, last_of, missing_of}
 use Rattle.fz_files.specs.declared.job.Job.{Job}
 use Rattle.fz_files.specs.declared.job.Job.TheVariants.{Cut, Unpack}
-use Rattle.fz_cut.specs.Output.{HasPicks}
+use Rattle.fz_files.specs.Picks.{HasPicks}
 use Rattle.fz_cut.specs.Slices.{CutoutsAreSlices, HasImage, IsSliceOf, SinksHoldSlices}
 use Rattle.fz_cut.proofs.Known.{job_is, stops_at}
 use Rattle.fz_cut.proofs.SliceBoxes.{box_sifts, is_packed_one}

@@ -8,7 +8,7 @@ use Rattle.fz_grid.specs.Sieve.{IsSieveOf, pick_count, pick_counts, sieve_hi, si
 use Rattle.fz_grid.specs.declared.sieve.Sieve.{Sieve}
 use Rattle.fz_files.specs.CutoutBytes.{picked_region}
 use Rattle.fz_files.specs.Walks.{box_of, lengths_between}
-use Rattle.fz_cut.specs.Output.{HasPicks}
+use Rattle.fz_files.specs.Picks.{HasPicks}
 
 counts_at : (los his steps : List ℕ) (i : ℕ) → i < length los → i < length his → i < length steps → slice_index (pick_counts los his steps) i ≡ pick_count (slice_index los i) (slice_index his i) (slice_index steps i)
 counts_at [] his steps i a b c = absurd (omega (arith, a))

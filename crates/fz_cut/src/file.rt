@@ -21,7 +21,7 @@ ghost use Rattle.fz_job.specs.Behind.{HoldsBytes};
 ghost use Rattle.fz_job.specs.Clauses.{ComesLate, IsOfSomeRow};
 ghost use Rattle.fz_job.specs.Keeps.{Rewrites, SinkStays, SourceStays, WindowStays};
 ghost use Rattle.fz_cut.specs.Again.{IsAgain, WasSeen};
-ghost use Rattle.fz_cut.specs.Output.{HasPicks};
+ghost use Rattle.fz_files.specs.Picks.{HasPicks};
 ghost use Rattle.fz_cut.specs.Part.{HoldsPart, IsPickFault};
 ghost use Rattle.fz_cut.specs.Picks.{picked_ranges};
 ghost use Rattle.fz_cut.specs.Written.{FinishesSeen, IsShutOrPart, work_ranges};

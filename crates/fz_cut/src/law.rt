@@ -1,6 +1,6 @@
 //! What the first look says of a file, what a cut reads of it, and what a cutout is: no code runs.
 ghost use Rattle.fz_cut.specs.Laws.{LooksAreTouched, PartsBegin, WorkIsTouched};
-ghost use Rattle.fz_cut.specs.Output.{HasPicks};
+ghost use Rattle.fz_files.specs.Picks.{HasPicks};
 ghost use Rattle.fz_cut.specs.Slices.{CutoutsAreSlices, SinksHoldSlices};
 ghost use Rattle.fz_cut.specs.Known.{SurveysKnow, SurveysRefuse};
 

@@ -5,7 +5,7 @@ ghost use Rattle.fz_card.specs.Naming.{number_behind, up_to};
 ghost use Rattle.fz_block.specs.Cards.{card_at};
 ghost use Rattle.fz_block.specs.Hdus.{header_bytes};
 ghost use Rattle.fz_files.specs.CutoutBytes.{moved_card, shift_along, shift_if};
-ghost use Rattle.fz_cut.specs.Output.{HasPicks};
+ghost use Rattle.fz_files.specs.Picks.{HasPicks};
 ghost use Rattle.fz_cut.specs.Moved.{AreCards};
 
 use fz_block::card;

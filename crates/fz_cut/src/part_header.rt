@@ -6,7 +6,7 @@ ghost use Rattle.fz_files.specs.CutoutBytes.{cutout_cards};
 ghost use Rattle.fz_files.specs.Walks.{box_of};
 ghost use Rattle.fz_grid.specs.Region.{IsWithin};
 ghost use Rattle.fz_head.specs.Conditions.{IsPackedPlan};
-ghost use Rattle.fz_cut.specs.Output.{HasPicks};
+ghost use Rattle.fz_files.specs.Picks.{HasPicks};
 
 use crate::boxes::{picked_region, tables_law};
 use crate::moved::move_pixels;

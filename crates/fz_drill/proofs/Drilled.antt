@@ -1,14 +1,16 @@
 -- How `drill` ends, by how its parts do.
-use Rattle.std.specs.Prelude.{Option, Some, None, Result, Ok, Err}
-use Rattle.std.proofs.Common.{◌≡◌, ◌⊎◌, inl, inr, ℕ, ◌<◌, List, ◌++◌, append-nil, append_assoc, codes, decimal, length, refl, sym, ap, ◌∙◌, arith}
+use Rattle.std.specs.Prelude.{Option, Some, None, IsSome, Result, Ok, Err}
+use Rattle.std.proofs.Common.{◌≡◌, ◌⊎◌, inl, inr, ℕ, ◌<◌, List, ◌++◌, append-nil, append_assoc, codes, decimal, length, refl, sym, ap, ◌∙◌, subst, arith}
 use Rattle.fz_base.specs.Counts.{CountsKept, HasCause, Tally}
 use Rattle.fz_base.specs.Sink.{MayAppend}
 use Rattle.fz_base.specs.Stop.{stop_of_write}
+use Rattle.fz_base.specs.Takings.{first_past}
 use Rattle.fz_base.specs.declared.failure.Failed.{Failed}
 use Rattle.fz_base.specs.declared.failure.Failed.TheVariants.{Fault, NoMemory as NoRoom}
 use Rattle.fz_base.specs.declared.failure.Stop.{Stop}
 use Rattle.fz_base.specs.declared.failure.Stop.TheVariants.{Refused, ReadFault, WriteFault, OverLimit, NoMemory}
 use Rattle.fz_head.specs.declared.options.CodecWord.{CodecWord}
+use Rattle.fz_job.specs.Clauses.{IfOverLimit}
 use Rattle.fz_files.specs.Drill.{drill_line, drill_lines, drill_packed}
 use Rattle.fz_drill.specs.Bound.{drill_bound, takings_of}
 use Rattle.fz_drill.specs.Clauses.{Answers, HasDrillCause, IsSilent}
@@ -70,12 +72,15 @@ stopped_answers X Y rows limit t WriteFault s = absurd s.stop
 stopped_answers X Y rows limit t (OverLimit live asked told) s = λ quiet room. let low : limit < drill_bound rows = s.stop in omega (arith, low, room)
 stopped_answers X Y rows limit t NoMemory s = λ quiet room. tt
 
-pub stopped_silent : (Y : Type 0) (old : Option (List ℕ)) (t : Tally) (stop : Stop) → IsSilent {X = Y} old old t t (Err stop)
-stopped_silent Y old t (Refused x) = tt
-stopped_silent Y old t ReadFault = tt
-stopped_silent Y old t WriteFault = tt
-stopped_silent Y old t (OverLimit live asked limit) = (refl, refl)
-stopped_silent Y old t NoMemory = tt
+stopped_over : (Y : Type 0) (P : Type 0) (stop : Stop) → P → IfOverLimit {X = Y} (Err stop) P
+stopped_over Y P (Refused x) is = tt
+stopped_over Y P ReadFault is = tt
+stopped_over Y P WriteFault is = tt
+stopped_over Y P (OverLimit live asked limit) is = is
+stopped_over Y P NoMemory is = tt
+
+pub stopped_silent : (Y : Type 0) (rows limit : ℕ) (old : Option (List ℕ)) (t : Tally) (stop : Stop) → IsSilent {X = Y} rows limit old old t t (Err stop)
+stopped_silent Y rows limit old t stop = record { past = λ some. (refl, refl); over_limit = stopped_over Y ((old ≡ old) × (t ≡ t)) stop (refl, refl) }
 
 -- ---- where all jobs were done, and the lines were put
 
@@ -85,6 +90,17 @@ no_block {X} limit done block low = by_case (block low)
     by_case : (◌≡◌ {A = Result X Stop} (Ok done) (Err (OverLimit 0 2880 limit))) ⊎ (◌≡◌ {A = Result X Stop} (Ok done) (Err NoMemory)) → ⊥
     by_case (inl is) = absurd cc
     by_case (inr is) = absurd cc
+
+none_past : (P : Type 0) (first : Option (ℕ × ℕ)) → first ≡ None → IsSome first → P
+none_past P first none some = let never : IsSome {T = ℕ × ℕ} None = subst IsSome none some in absurd cc
+
+pub done_silent : {X Y : Type 0} (rows limit : ℕ) (old new : Option (List ℕ)) (t t' : Tally) (done : X) (all : Y) → Stops rows (takings_of rows) limit (Ok done) → IsSilent rows limit old new t t' (Ok all)
+done_silent rows limit old new t t' done all s = record { past = none_past _ (first_past limit (takings_of rows)) s.first_past; over_limit = tt }
+
+pub put_silent : {X : Type 0} (Y : Type 0) (rows limit : ℕ) (old new : Option (List ℕ)) (t t' : Tally) (done : X) (failed : Failed) → Stops rows (takings_of rows) limit (Ok done) →
+    IsSilent {X = Y} rows limit old new t t' (Err (stop_of_write failed))
+put_silent Y rows limit old new t t' done Fault s = record { past = none_past _ (first_past limit (takings_of rows)) s.first_past; over_limit = tt }
+put_silent Y rows limit old new t t' done NoRoom s = record { past = none_past _ (first_past limit (takings_of rows)) s.first_past; over_limit = tt }
 
 pub done_cause : {X Y : Type 0} (rows limit : ℕ) (t t' : Tally) (done : X) (all : Y) → Stops rows (takings_of rows) limit (Ok done) → BlockDecides limit (Ok done) → CountsKept t t' → t' ≡ t → HasDrillCause rows t t' limit (Ok all)
 done_cause rows limit t t' done all s block kept same = record {

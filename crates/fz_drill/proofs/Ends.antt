@@ -1,9 +1,9 @@
 -- How a job on files in memory ends of which it refuses nothing.
-use Rattle.std.specs.Prelude.{Option, Some, None, Result, Ok, Err}
+use Rattle.std.specs.Prelude.{Option, Some, None, Result, Ok, Err, OnOk}
 use Rattle.std.proofs.Common.{◌≡◌, inl, ℕ, ◌+◌, ◌<◌, ◌≤◌, max, List, refl, sym, ap, ◌∙◌, subst, arith}
 use Rattle.fz_base.specs.Counts.{Tally, uncounted}
 use Rattle.fz_base.specs.Meter.{Gauge}
-use Rattle.fz_base.specs.Takings.{first_past}
+use Rattle.fz_base.specs.Takings.{first_past, highest}
 use Rattle.fz_base.specs.declared.fault.Fault.{Fault}
 use Rattle.fz_base.specs.declared.failure.Stop.{Stop}
 use Rattle.fz_base.specs.declared.failure.Stop.TheVariants.{Refused, ReadFault, WriteFault, OverLimit, NoMemory}
@@ -65,6 +65,14 @@ keeps_all job file rows old new window window' safe empty four keeps =
       peak = omega (arith, peak, safe.bound);
       window_is = keeps.window_is ∙ ap (λ s. record { slots = s; workers = window.workers }) (sym empty);
     }
+
+-- the same of the peak of a job that is done
+pub peak_from : (job : Job) (file items : List ℕ) (w old new : ℕ) → items ≡ file → w ≡ 4 → new ≡ max old (highest (job_takings job items w)) → new ≡ max old (highest (job_takings job file 4))
+peak_from job file items w old new same four reached = reached ∙ (λ i. max old (highest (job_takings job (same i) (four i))))
+
+pub ok_always : {X : Type 0} (r : Result X Stop) (P : Type 0) → P → OnOk r P
+ok_always (Ok x) P is = is
+ok_always (Err stop) P is = tt
 
 -- the first taking decides where it passes the limit
 pub block_by : (X Y : Type 0) (job : Job) (file : List ℕ) (limit : ℕ) (sink sink' : Tally) (stop : Stop) →

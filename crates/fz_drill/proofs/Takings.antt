@@ -1,8 +1,8 @@
 -- What the jobs take of the meter, one after another.
 use Rattle.std.specs.Prelude.{Option, Some, None, Result, Ok, Err, if◌then◌else◌}
-use Rattle.std.proofs.Common.{◌≡◌, ℕ, ◌+◌, ◌≤◌, true, false, nat_lt, Bool, List, [], ◌∷◌, ◌++◌, refl, ap, ◌∙◌, subst, arith}
+use Rattle.std.proofs.Common.{◌≡◌, ℕ, ◌+◌, ◌≤◌, max, true, false, nat_lt, Bool, List, [], ◌∷◌, ◌++◌, refl, ap, ◌∙◌, subst, arith}
 use Rattle.std.proofs.lemmas.Bool.Decides.{nat_tests}
-use Rattle.fz_base.specs.Takings.{TellsFirstPast, first_past}
+use Rattle.fz_base.specs.Takings.{TellsFirstPast, first_past, highest}
 use Rattle.fz_base.specs.declared.failure.Stop.{Stop}
 use Rattle.fz_base.specs.declared.failure.Stop.TheVariants.{Refused, ReadFault, WriteFault, OverLimit, NoMemory}
 use Rattle.fz_head.specs.declared.options.CodecWord.{CodecWord}
@@ -34,6 +34,18 @@ past_none limit [] ys none = refl
 past_none limit ((live, asked) ∷ xs) ys none =
     let parts : (nat_lt limit (live + asked) ≡ false) × (first_past limit xs ≡ None) = on_bool (nat_lt limit (live + asked)) (live, asked) (first_past limit xs) none in
     ap (λ c. if c then Some (live, asked) else first_past limit (xs ++ ys)) parts.0 ∙ past_none limit xs ys parts.1
+
+-- the most that is live after one of them
+pub highest_both : (xs ys : List (ℕ × ℕ)) → highest (xs ++ ys) ≡ max (highest xs) (highest ys)
+highest_both [] ys = omega arith
+highest_both ((live, asked) ∷ xs) ys = let more = highest_both xs ys in omega (arith, more)
+
+-- after three jobs, one after another
+pub peak_of_three : (xs ys zs : List (ℕ × ℕ)) (old first second last : ℕ) → first ≡ max old (highest xs) → second ≡ max first (highest ys) → last ≡ max second (highest zs) → last ≡ max old (highest (xs ++ (ys ++ zs)))
+peak_of_three xs ys zs old first second last one two three =
+    let all = highest_both xs (ys ++ zs) in
+    let later = highest_both ys zs in
+    omega (arith, one, two, three, all, later)
 
 -- one of those before passes it
 pub past_some : (limit : ℕ) (xs ys : List (ℕ × ℕ)) (t : ℕ × ℕ) → first_past limit xs ≡ Some t → first_past limit (xs ++ ys) ≡ Some t

@@ -1,10 +1,10 @@
 -- What `drill` promises. It reads no source and writes no sink that it is given, so it refuses nothing, and reads nothing that fails.
-use Rattle.std.specs.Prelude.{ℕ, ◌≡◌, ◌⊎◌, ◌<◌, ◌≤◌, max, List, Option, Result, Ok, Err, OnOk, IfErr, IsErrOf, ⊤}
+use Rattle.std.specs.Prelude.{ℕ, ◌≡◌, ◌⊎◌, ◌<◌, ◌≤◌, max, List, Option, IsSome, Result, Ok, Err, OnOk, IfErr, IsErrOf, ⊤}
 use Rattle.fz_base.specs.Counts.{Rose, Tally, CountsKept}
 use Rattle.fz_base.specs.Meter.{Gauge}
 use Rattle.fz_base.specs.Sink.{MayAppend, appended}
 use Rattle.fz_base.specs.Stop.{TellsLimit}
-use Rattle.fz_base.specs.Takings.{TellsFirstPast}
+use Rattle.fz_base.specs.Takings.{TellsFirstPast, first_past}
 use Rattle.fz_base.specs.declared.failure.Stop.{Stop}
 use Rattle.fz_base.specs.declared.failure.Stop.TheVariants.{Refused, ReadFault, WriteFault, OverLimit, NoMemory}
 use Rattle.fz_files.specs.Drill.{drill_lines}
@@ -47,9 +47,10 @@ pub record HasDrillCause {X : Type 0} (rows : ℕ) (text text' : Tally) (limit :
   pub first_past : TellsFirstPast limit (takings_of rows) result
   pub block : limit < 2880 → IsErrOf result (OverLimit 0 2880 limit) ⊎ IsErrOf result NoMemory
 
--- nothing is printed where a buffer passes the limit
-abbrev pub IsSilent : {X : Type 0} → Option (List ℕ) → Option (List ℕ) → Tally → Tally → Result X Stop → Type 0
-IsSilent old new text text' result = IfOverLimit result ((new ≡ old) × (text' ≡ text))
+-- nothing is printed if one of the takings passes the limit, whatever the answer, and so not after OverLimit
+pub record IsSilent {X : Type 0} (rows limit : ℕ) (old new : Option (List ℕ)) (text text' : Tally) (result : Result X Stop) : Type 0 where
+  pub past : IsSome (first_past limit (takings_of rows)) → (new ≡ old) × (text' ≡ text)
+  pub over_limit : IfOverLimit result ((new ≡ old) × (text' ≡ text))
 
 -- nothing is live, the limit stays, and the peak is at most that before or the bound
 pub record KeepsMeter (rows : ℕ) (old new : Gauge) : Type 0 where

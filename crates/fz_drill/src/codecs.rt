@@ -1,5 +1,6 @@
 //! Each codec in turn.
-ghost use Rattle.std.specs.Prelude.{◌≡◌, ◌++◌, IfOk};
+ghost use Rattle.std.specs.Prelude.{◌≡◌, ◌++◌, max, IfOk, OnOk};
+ghost use Rattle.fz_base.specs.Takings.{highest};
 ghost use Rattle.fz_pool.specs.Window.{IsEmpty};
 ghost use Rattle.fz_files.specs.Buffers.{drill_takings};
 ghost use Rattle.fz_drill.specs.Bound.{takings_of};
@@ -32,6 +33,7 @@ pub(crate) fn try_codecs<R: Threads + Sync, G: Gate>(
     ensures stops { Stops rows (takings_of rows) meter.old.limit result }
     ensures block { BlockDecides meter.old.limit result }
     ensures kept { KeepsAll rows meter.old meter.new window.old window.new }
+    ensures exact_peak { OnOk result (meter.new.peak ≡ max meter.old.peak (highest (takings_of rows))) }
 {
     let files = make_files(alloc, rows).map_err(no_memory)?;
     let rice = try_codec(rt, alloc, &files, CodecWord::Rice, meter, window, gate)?;
@@ -62,6 +64,7 @@ fn try_codec<R: Threads + Sync, G: Gate>(
     ensures stops { Stops files.now.rows (drill_takings files.now.rows codec) meter.old.limit result }
     ensures block { BlockDecides meter.old.limit result }
     ensures kept { KeepsAll files.now.rows meter.old meter.new window.old window.new }
+    ensures exact_peak { OnOk result (meter.new.peak ≡ max meter.old.peak (highest (drill_takings files.now.rows codec))) }
 {
     let packed = packed_by(rt, alloc, files, codec, meter, window, gate)?;
     let unpacked = unpacks_to_file(rt, alloc, files, &packed, meter, window, gate)?;

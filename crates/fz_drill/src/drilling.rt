@@ -1,6 +1,8 @@
 //! The job: work in memory, and then print.
-ghost use Rattle.std.specs.Prelude.{◌≡◌};
+ghost use Rattle.std.specs.Prelude.{◌≡◌, max, OnOk};
+ghost use Rattle.fz_base.specs.Takings.{highest};
 ghost use Rattle.fz_base.specs.Told.{StaysTold};
+ghost use Rattle.fz_drill.specs.Bound.{takings_of};
 ghost use Rattle.fz_drill.specs.Clauses.{Answers, HasDrillCause, IsSilent, KeepsMeter, PrintsLines};
 ghost use Rattle.fz_drill.specs.Files.{IsRows};
 
@@ -32,8 +34,10 @@ pub fn drill<R: Threads + Sync, T: Text, G: Gate>(
     ensures answered { Answers rows (T.tally text.old) (T.tally text.new) meter.old.limit result }
     ensures cause { HasDrillCause rows (T.tally text.old) (T.tally text.new) meter.old.limit result }
     // Nothing is printed where a buffer passes the limit.
-    ensures silent { IsSilent (T.contents text.old) (T.contents text.new) (T.tally text.old) (T.tally text.new) result }
+    ensures silent { IsSilent rows meter.old.limit (T.contents text.old) (T.contents text.new) (T.tally text.old) (T.tally text.new) result }
     ensures buffers { KeepsMeter rows meter.old meter.new }
+    // The peak after all is done is what the takings of all nine jobs come to.
+    ensures exact_peak { OnOk result (meter.new.peak ≡ max meter.old.peak (highest (takings_of rows))) }
     ensures told_contents { StaysTold (T.contents text.old) (T.contents text.new) }
 {
     let mut window = Window::new(alloc, WORKERS).map_err(|_| Stop::NoMemory)?;

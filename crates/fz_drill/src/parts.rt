@@ -1,5 +1,6 @@
 //! The three jobs, on files in memory.
-ghost use Rattle.std.specs.Prelude.{◌≡◌, true, None, IfOk};
+ghost use Rattle.std.specs.Prelude.{◌≡◌, max, true, None, IfOk, OnOk};
+ghost use Rattle.fz_base.specs.Takings.{highest};
 ghost use Rattle.fz_pool.specs.Window.{IsEmpty};
 ghost use Rattle.fz_files.specs.Buffers.{file_takings};
 ghost use Rattle.fz_files.specs.Drill.{drill_file, drill_options, drill_packed, drill_sieve};
@@ -45,6 +46,7 @@ pub(crate) fn packed_by<R: Threads + Sync, G: Gate>(
     ensures stops { Stops files.now.rows (file_takings (Pack (drill_options codec)) (drill_file files.now.rows) 4) meter.old.limit result }
     ensures block { BlockDecides meter.old.limit result }
     ensures kept { KeepsAll files.now.rows meter.old meter.new window.old window.new }
+    ensures exact_peak { OnOk result (meter.new.peak ≡ max meter.old.peak (highest (file_takings (Pack (drill_options codec)) (drill_file files.now.rows) 4))) }
 {
     // Nothing is refused of the file, and it has one packed file.
     packs_law();
@@ -92,6 +94,7 @@ pub(crate) fn unpacks_to_file<R: Threads + Sync, G: Gate>(
     ensures same { IfOk result (λ same. same ≡ true) }
     ensures stops { Stops files.now.rows (file_takings Unpack packed.now 4) meter.old.limit result }
     ensures kept { KeepsAll files.now.rows meter.old meter.new window.old window.new }
+    ensures exact_peak { OnOk result (meter.new.peak ≡ max meter.old.peak (highest (file_takings Unpack packed.now 4))) }
 {
     // Nothing is refused of it, and it stands for one file.
     unpacks_law();
@@ -132,6 +135,7 @@ pub(crate) fn cuts_to_part<R: Threads + Sync, G: Gate>(
     ensures same { IfOk result (λ same. same ≡ true) }
     ensures stops { Stops files.now.rows (file_takings (Cut None (drill_sieve files.now.rows)) packed.now 4) meter.old.limit result }
     ensures kept { KeepsAll files.now.rows meter.old meter.new window.old window.new }
+    ensures exact_peak { OnOk result (meter.new.peak ≡ max meter.old.peak (highest (file_takings (Cut None (drill_sieve files.now.rows)) packed.now 4))) }
 {
     // Nothing is refused of it, and one part is cut from it.
     cuts_law();

@@ -1,5 +1,6 @@
 -- The takings of a job stay within its bound.
 use Rattle.std.proofs.Common.{◌≡◌, ℕ, zero, suc, ◌+◌, ◌*◌, ◌≤◌, ◌==◌, true, false, nat_lt, Bool, List, [], ◌∷◌, ◌++◌, length, map, max, Option, Some, None, Result, Ok, Err, refl, ◌∙◌, ap, arith, if◌then◌else◌}
+use Rattle.std.proofs.Math.Nat.{mul-le-mul_left, mul-le-mul_right}
 use Rattle.std.proofs.lemmas.Bool.Decides.{nat_tests}
 use Rattle.fz_base.specs.Takings.{piled, first_past}
 use Rattle.fz_base.specs.declared.fault.Fault.{Fault}
@@ -8,10 +9,14 @@ use Rattle.fz_block.specs.Header.{next_start_of}
 use Rattle.fz_block.specs.Takings.{header_taking, where_going_on, for_those_after, walk_takings}
 use Rattle.fz_block.specs.declared.header.Header.{Header}
 use Rattle.fz_head.specs.Greatest.{greatest}
+use Rattle.fz_head.specs.declared.options.CodecWord.{CodecWord}
+use Rattle.fz_head.specs.declared.options.CodecWord.TheVariants as word
 use Rattle.fz_files.specs.declared.job.Job.{Job}
 use Rattle.fz_files.specs.declared.job.Job.TheVariants.{Pack, Unpack, Cut, Verify, List as ListHdus, Drill}
 use Rattle.fz_base.specs.JobBuffers.{buffer_bound, slots_buffers}
-use Rattle.fz_files.specs.Buffers.{found_len, header_len, job_buffers, longest_header, largest_tile, header_takings, work_takings, file_takings, job_bound, job_takings, IsOfFile}
+use Rattle.fz_files.specs.Buffers.{found_len, header_len, job_buffers, longest_header, largest_tile, header_takings, work_takings, file_takings, drill_takings, job_bound, job_takings, IsOfFile}
+use Rattle.fz_files.specs.Drill.{drill_file, drill_options, drill_packed, drill_sieve}
+use Rattle.fz_files.specs.Laws.{AreWithinDrill}
 use Rattle.fz_files.specs.Walks.{reached_behind, reached_after, reached_from, reached_by, header_fault}
 
 one_within : (b live asked : ℕ) (ts : List (ℕ × ℕ)) → live + asked ≤ b → first_past b ts ≡ None → first_past b ((live, asked) ∷ ts) ≡ None
@@ -148,3 +153,38 @@ all_within (Cut wanted sieve) file asked of = file_within (Cut wanted sieve) fil
 all_within Verify file asked of = file_within Verify file 1
 all_within ListHdus file asked of = file_within ListHdus file 1
 all_within (Drill rows) file asked of = absurd of
+
+-- ---- greater bounds
+
+pub bound_rises : (H H' n n' W W' : ℕ) → H ≤ H' → n ≤ n' → W ≤ W' → buffer_bound H n W ≤ buffer_bound H' n' W'
+unfolding buffer_bound
+bound_rises H H' n n' W W' longer larger more =
+    let slots : 2 * W * (16 * n + 64) ≤ 2 * W * (16 * n' + 64) = mul-le-mul_left (2 * W) (omega (arith, larger)) in
+    let workers : 2 * W * (16 * n' + 64) ≤ 2 * W' * (16 * n' + 64) = mul-le-mul_right (16 * n' + 64) (omega (arith, more)) in
+    omega (arith, longer, slots, workers)
+
+-- what stays within a bound stays within a greater one
+grown : (b c : ℕ) (ts : List (ℕ × ℕ)) → b ≤ c → first_past b ts ≡ None → first_past c ts ≡ None
+grown b c [] most none = refl
+grown b c ((live, asked) ∷ ts) most none = by_test (λ rest. grown b c ts most rest) (nat_lt b (live + asked)) refl none
+  where
+    by_test : (first_past b ts ≡ None → first_past c ts ≡ None) → (past : Bool) → nat_lt b (live + asked) ≡ past → (if past then Some (live, asked) else first_past b ts) ≡ None →
+        first_past c ((live, asked) ∷ ts) ≡ None
+    by_test later true is none = absurd cc
+    by_test later false is none = one_within c live asked ts (grind (arith, nat_tests, is, most)) (later none)
+
+codec_within : (rows : ℕ) (codec : CodecWord) → AreWithinDrill rows codec → first_past (job_bound (Drill rows) [] 4) (drill_takings rows codec) ≡ None
+codec_within rows codec are =
+    let bound : ℕ = job_bound (Drill rows) [] 4 in
+    both_within bound (file_takings (Pack (drill_options codec)) (drill_file rows) 4) (file_takings Unpack (drill_packed rows codec) 4 ++ file_takings (Cut None (drill_sieve rows)) (drill_packed rows codec) 4)
+    (grown (job_bound (Pack (drill_options codec)) (drill_file rows) 4) bound (file_takings (Pack (drill_options codec)) (drill_file rows) 4) are.packs (file_within (Pack (drill_options codec)) (drill_file rows) 4))
+    (both_within bound (file_takings Unpack (drill_packed rows codec) 4) (file_takings (Cut None (drill_sieve rows)) (drill_packed rows codec) 4)
+    (grown (job_bound Unpack (drill_packed rows codec) 4) bound (file_takings Unpack (drill_packed rows codec) 4) are.unpacks (file_within Unpack (drill_packed rows codec) 4))
+    (grown (job_bound (Cut None (drill_sieve rows)) (drill_packed rows codec) 4) bound (file_takings (Cut None (drill_sieve rows)) (drill_packed rows codec) 4) are.cuts
+    (file_within (Cut None (drill_sieve rows)) (drill_packed rows codec) 4)))
+
+pub drill_within : (rows : ℕ) (file : List ℕ) (asked : ℕ) → ((codec : CodecWord) → AreWithinDrill rows codec) → first_past (job_bound (Drill rows) file asked) (job_takings (Drill rows) file asked) ≡ None
+drill_within rows file asked are =
+    let bound : ℕ = job_bound (Drill rows) [] 4 in
+    both_within bound (drill_takings rows word.Rice) (drill_takings rows word.Plio ++ drill_takings rows word.None) (codec_within rows word.Rice (are word.Rice))
+    (both_within bound (drill_takings rows word.Plio) (drill_takings rows word.None) (codec_within rows word.Plio (are word.Plio)) (codec_within rows word.None (are word.None)))

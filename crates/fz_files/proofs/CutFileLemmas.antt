@@ -110,7 +110,7 @@ pub packed : is_packed (block_of plain_cards) table_facts ≡ true
 unfolding is_packed end_among logical_of
 packed = refl
 
-card_checks_none : first_refusal (packed_card_checks table_facts (block_of plain_cards)) ≡ None
+pub card_checks_none : first_refusal (packed_card_checks table_facts (block_of plain_cards)) ≡ None
 unfolding is_packed end_among logical_of number_behind numbered_name digits
 card_checks_none = refl
 
@@ -134,11 +134,11 @@ checks_none sieve box =
 
 -- ---- the walk
 
-passes_first : (sieve : Sieve) → cut_judge None (box_of sieve) plain_file first_facts ≡ Ok false
+pub passes_first : (sieve : Sieve) → cut_judge None (box_of sieve) plain_file first_facts ≡ Ok false
 unfolding is_packed
 passes_first sieve = refl
 
-stops_behind : (sieve : Sieve) → box_none sieve → cut_judge None (box_of sieve) plain_file table_facts ≡ Ok true
+pub stops_behind : (sieve : Sieve) → box_none sieve → cut_judge None (box_of sieve) plain_file table_facts ≡ Ok true
 stops_behind sieve box =
     ap (λ b. if b then unless_refused true (first_refusal (cut_hdu_checks plain_file (box_of sieve) table_facts)) else Ok false) packed
     ∙ ap (unless_refused true) (checks_none sieve box)
@@ -163,7 +163,7 @@ no_fault sieve box =
 -- ---- what is read
 
 -- what the rows of some tiles touch, by the plan and the table
-abbrev ranges_of : Plan → Table → List ℕ → List (ℕ × ℕ)
+abbrev pub ranges_of : Plan → Table → List ℕ → List (ℕ × ℕ)
 ranges_of p t rows = flat_map (λ row. tile_ranges plain_file 1 t row (tile_of p row)) rows
 
 headers_touched : (header_range plain_file (record { hdu = 0; start = 0 }) ∷ header_range plain_file (record { hdu = 1; start = 2880 }) ∷ []) ≡ (0, 2880) ∷ (2880, 2880) ∷ []

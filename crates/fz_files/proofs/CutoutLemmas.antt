@@ -11,7 +11,7 @@ use Rattle.fz_wcs.specs.Reading.{decimal_of, shifted}
 use Rattle.fz_wcs.specs.Scans.{decimal_in}
 use Rattle.fz_head.specs.PlainHeader.{cutout_header}
 use Rattle.fz_files.specs.declared.job.Job.TheVariants.{Cut}
-use Rattle.fz_files.specs.CutFile.{table_facts, box_sieve, box_numbers, box_file, reference_cards, moved_cards, second_sieve, kept_cards}
+use Rattle.fz_files.specs.CutFile.{table_facts, box_sieve, box_numbers, box_file, reference_cards, moved_cards, second_sieve, kept_cards, mixed_cards, third_sieve, unmixed_cards}
 use Rattle.fz_files.specs.CutoutBytes.{IsCutout, cutout_bytes, cutout_cards}
 use Rattle.fz_files.specs.FirstFault.{IsFirstFault, IsFaultBehind, IsFirstRowFault}
 use Rattle.fz_files.specs.PlainFile.{plain_cards, plain_file, plain_plan}
@@ -52,3 +52,7 @@ moved_are = refl
 pub kept_are : cutout_cards second_sieve reference_cards ≡ kept_cards
 unfolding cutout_header plain_name is_dropped renamings packed_names own_names number_behind numbered_name digits int_card_bytes logical_card_bytes integer_of text_of quoted
 kept_are = refl
+
+pub unmixed_are : cutout_cards third_sieve mixed_cards ≡ unmixed_cards
+unfolding cutout_header plain_name is_dropped renamings packed_names own_names number_behind numbered_name digits int_card_bytes logical_card_bytes integer_of text_of quoted shifted decimal_of decimal_in
+unmixed_are = refl

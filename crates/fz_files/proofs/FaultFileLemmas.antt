@@ -27,11 +27,11 @@ use Rattle.fz_files.specs.Walks.{header_fault, job_walk, fault_of_walk}
 use Rattle.fz_files.proofs.WorkedWalks.{refused_at_hdu, refused_by_job, goes_on}
 
 -- a fault of the headers is the first
-is_first : (job : Job) (file : List ℕ) (found : Fault) → header_fault job file ≡ Some found → IsFirstFault job file (Some found)
+pub is_first : (job : Job) (file : List ℕ) (found : Fault) → header_fault job file ≡ Some found → IsFirstFault job file (Some found)
 is_first job file found is = subst (λ r. IsFaultBehind r job file (Some found)) (sym is) refl
 
 -- the first HDU of both files
-abbrev small_facts : ℕ → Header
+abbrev pub small_facts : ℕ → Header
 small_facts cards = record {
   hdu = 0;
   start = 0;

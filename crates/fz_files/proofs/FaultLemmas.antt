@@ -2,7 +2,7 @@
 use Rattle.std.specs.Prelude.{⊤}
 use Rattle.std.proofs.Common.{◌≡◌, ℕ, ◌<◌, ◌≤◌, inl, inr, Bool, true, false, ℤ, pos, unsigned_abs, List, [], ◌∷◌, ◌++◌, length, map, Option, Some, None, Result, Ok, Err, if◌then◌else◌, cond, refl, sym, subst, ◌∙◌, ap}
 use Rattle.std.specs.List.{filter, flat_map, range_with_len}
-use Rattle.fz_base.specs.Refusal.{refusal}
+use Rattle.fz_base.specs.Refusal.{first_refusal, refusal}
 use Rattle.fz_base.specs.declared.fault.Fault.{Fault}
 use Rattle.fz_base.specs.declared.fault.Place.TheVariants.{Row as AtRow}
 use Rattle.fz_block.specs.Checks.{Judge, walk_of}
@@ -16,7 +16,7 @@ use Rattle.fz_tile.specs.Laws.{StandsUnrefused, IsRefusedOnce}
 use Rattle.fz_tile.specs.Pixels.{IsBitpix}
 use Rattle.fz_tile.specs.Refusals.{IsFault}
 use Rattle.fz_tile.specs.declared.codec.Codec.{Codec}
-use Rattle.fz_head.specs.JobChecks.{missing_hdu}
+use Rattle.fz_head.specs.JobChecks.{cut_hdu_checks, missing_hdu}
 use Rattle.fz_head.specs.Judges.{unpack_judge, cut_judge}
 use Rattle.fz_head.specs.TileKinds.{kind_of_tile}
 use Rattle.fz_head.specs.declared.plan.Plan.{Plan}
@@ -26,7 +26,7 @@ use Rattle.fz_files.specs.FirstFault.{ImageRow, IsRowFault, IsRowSound, IsFirstR
 use Rattle.fz_files.specs.Packed.{pixel_bits, tiles_in}
 use Rattle.fz_files.specs.Restored.{is_image, pixels_of, place_in, plan_in}
 use Rattle.fz_files.specs.Walks.{header_fault, headers_for, found_headers, job_walk, fault_of_walk, cut_end_fault, missing_of, last_of, box_of}
-use Rattle.fz_files.proofs.ImageLemmas.{UnpackFindsImage, CutFindsImage, EachIs, IsReadable, ReadableIf, cut_from_readable, unpacked_readable}
+use Rattle.fz_files.proofs.ImageLemmas.{UnpackFindsImage, CutFindsImage, EachIs, IsReadable, ReadableIf, cut_from_passed, cut_from_readable, unpacked_readable}
 
 -- what a walk that answers says of its headers
 abbrev pub WalkFindsHeaders : Type 0
@@ -168,6 +168,15 @@ cut_header finds law wanted sieve file none =
     let walk = finds (cut_judge wanted (box_of sieve) file) 65536 file found.0 found.1 in
     subst (λ r. EachIs (IsReadable file) (last_of (found_headers r))) (sym found.1)
     (cut_from_readable law wanted sieve 65536 0 0 walk.3.0 file found.0 walk.3.2 found.1 (stops_if wanted (cut_judge wanted (box_of sieve) file) file found.0 found.2))
+
+-- no check of `cut` refuses the HDU that is cut from
+pub cut_passed : (wanted : Option ℕ) (sieve : Sieve) (file : List ℕ) → header_fault (Cut wanted sieve) file ≡ None →
+    EachIs (λ h. first_refusal (cut_hdu_checks file (box_of sieve) h) ≡ None) (last_of (headers_for (Cut wanted sieve) file))
+unfolding job_walk
+cut_passed wanted sieve file none =
+    let found = found_walk (Cut wanted sieve) file (walk_of (cut_judge wanted (box_of sieve) file) 65536 file) none in
+    subst (λ r. EachIs (λ h. first_refusal (cut_hdu_checks file (box_of sieve) h) ≡ None) (last_of (found_headers r))) (sym found.1)
+    (cut_from_passed wanted sieve 65536 0 0 file found.0 found.1 (stops_if wanted (cut_judge wanted (box_of sieve) file) file found.0 found.2))
 
 rows_readable : WalkFindsHeaders → UnpackFindsImage → CutFindsImage → (job : Job) (file : List ℕ) → header_fault job file ≡ None → AreReadable file (rows_for job file (headers_for job file))
 unfolding job_walk

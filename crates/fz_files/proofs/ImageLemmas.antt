@@ -133,3 +133,15 @@ pub cut_from_readable : CutFindsImage → (wanted : Option ℕ) (sieve : Sieve) 
 cut_from_readable law wanted sieve most k start end file hs are is stop =
     both_are law wanted sieve file (last_of hs) (last_is (λ h. IsHeaderOf (header_in file h) h) hs (are_headers k start end file hs are))
     (last_stops (cut_judge wanted (box_of sieve) file) most k start file hs is stop)
+
+-- and no check of `cut` refuses it
+passed_are : (wanted : Option ℕ) (sieve : Sieve) (file : List ℕ) (hs : List Header) → EachIs (λ h. cut_judge wanted (box_of sieve) file h ≡ Ok true) hs →
+    EachIs (λ h. first_refusal (cut_hdu_checks file (box_of sieve) h) ≡ None) hs
+passed_are wanted sieve file [] stop = tt
+passed_are wanted sieve file (h ∷ hs) stop =
+    (cut_none (is_wanted wanted (header_in file h) h) (first_refusal (cut_hdu_checks file (box_of sieve) h)) stop.0, passed_are wanted sieve file hs stop.1)
+
+pub cut_from_passed : (wanted : Option ℕ) (sieve : Sieve) (most k start : ℕ) (file : List ℕ) (hs : List Header) → walk_from (cut_judge wanted (box_of sieve) file) most k start file ≡ Ok hs →
+    stops (cut_judge wanted (box_of sieve) file) hs ≡ true → EachIs (λ h. first_refusal (cut_hdu_checks file (box_of sieve) h) ≡ None) (last_of hs)
+cut_from_passed wanted sieve most k start file hs is stop =
+    passed_are wanted sieve file (last_of hs) (last_stops (cut_judge wanted (box_of sieve) file) most k start file hs is stop)

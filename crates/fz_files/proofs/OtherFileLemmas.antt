@@ -52,7 +52,7 @@ use Rattle.fz_files.proofs.WorkedWalks.{goes_on, ends_with}
 -- ---- the headers
 
 -- the header of the primary, and that of the table
-abbrev first_facts : Header
+abbrev pub first_facts : Header
 first_facts = record {
   hdu = 0;
   start = 0;
@@ -168,7 +168,7 @@ headers_are = ap found_headers walk_is
 abbrev block_bits : List Bool
 block_bits = false ∷ false ∷ false ∷ false ∷ true ∷ true ∷ true ∷ false ∷ false ∷ false ∷ false ∷ false ∷ false ∷ true ∷ []
 
-numbers_16 : All (IsNumber 16) image_numbers
+pub numbers_16 : All (IsNumber 16) image_numbers
 numbers_16 =
     All-cons (IsNumber 16) (pos 1000) (pos 1000 ∷ pos 1003 ∷ []) (omega arith)
     (All-cons (IsNumber 16) (pos 1000) (pos 1003 ∷ []) (omega arith) (All-cons (IsNumber 16) (pos 1003) [] (omega arith) (All-nil (IsNumber 16))))
@@ -179,7 +179,7 @@ numbers_32 =
     (All-cons (IsNumber 32) (pos 1000) (pos 1003 ∷ []) (omega arith) (All-cons (IsNumber 32) (pos 1003) [] (omega arith) (All-nil (IsNumber 32))))
 
 -- behind the code two bits fill
-means : Means (codec.Rice 32 4) 16 place.Coded 6 other_heap image_numbers
+pub means : Means (codec.Rice 32 4) 16 place.Coded 6 other_heap image_numbers
 unfolding number_bits bits_of
 means = (
   6,

@@ -40,11 +40,11 @@ unfolding is_packed end_among logical_of number_behind numbered_name digits
 card_checks_none = refl
 
 -- the empty primary is no packed image
-not_packed : is_image plain_file first_facts ≡ false
+pub not_packed : is_image plain_file first_facts ≡ false
 unfolding is_packed
 not_packed = refl
 
-passes_first : unpack_judge plain_file first_facts ≡ Ok false
+pub passes_first : unpack_judge plain_file first_facts ≡ Ok false
 unfolding is_packed
 passes_first = refl
 
@@ -55,7 +55,7 @@ checks_none =
     (ap (λ b. first_refusal (if b then image_checks table_facts (block_of plain_cards) true else [])) packed
     ∙ both_none (table_checks (block_of plain_cards) table_facts) (packed_checks 1 (block_of plain_cards) true) table_checks_none plan_checks_none)
 
-passes_table : unpack_judge plain_file table_facts ≡ Ok false
+pub passes_table : unpack_judge plain_file table_facts ≡ Ok false
 passes_table = ap (unless_refused false) checks_none
 
 walk_is : walk_of (unpack_judge plain_file) 65536 plain_file ≡ Ok (first_facts ∷ table_facts ∷ [])
@@ -63,11 +63,11 @@ walk_is =
     goes_on (unpack_judge plain_file) 65535 0 0 plain_file first_facts (Ok (table_facts ∷ [])) first_at passes_first refl
     (ends_with (unpack_judge plain_file) 65534 1 2880 plain_file table_facts table_at passes_table refl)
 
-no_fault : header_fault Unpack plain_file ≡ None
+pub no_fault : header_fault Unpack plain_file ≡ None
 unfolding job_walk
 no_fault = ap (fault_of_walk Unpack plain_file) walk_is
 
-headers_are : headers_for Unpack plain_file ≡ first_facts ∷ table_facts ∷ []
+pub headers_are : headers_for Unpack plain_file ≡ first_facts ∷ table_facts ∷ []
 unfolding job_walk
 headers_are = ap found_headers walk_is
 

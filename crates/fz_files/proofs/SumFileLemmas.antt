@@ -1,6 +1,6 @@
 -- The file with sums by the definitions.
-use Rattle.std.proofs.Common.{◌≡◌, ℕ, ◌+◌, ◌/◌, ◌%◌, ◌^◌, ◌<◌, ◌≤◌, List, [], ◌∷◌, ◌++◌, true, codes, decimal, append-nil, refl, sym, ◌∙◌, ap, arith}
-use Rattle.std.proofs.lemmas.Fmt.{decimal_step, decimal-digits_of}
+use Rattle.std.proofs.Common.{◌≡◌, [], ◌∷◌, ◌++◌, true, codes, decimal, append-nil, refl, sym, ◌∙◌, ap, arith}
+use Rattle.std.proofs.lemmas.Fmt.{decimal-digits_of}
 use Rattle.fz_card.specs.Made.{text_card_bytes}
 use Rattle.fz_card.specs.Reading.{integer_of}
 use Rattle.fz_block.specs.Facts.{facts_of}
@@ -14,15 +14,12 @@ use Rattle.fz_files.specs.Packed.{IsPackedFile, packed_file, packed_from, packed
 use Rattle.fz_files.specs.PlainFile.{grid_cards, grid_hdu, grid_file, plain_plan, plain_tiles, plain_data, plain_cards}
 use Rattle.fz_files.specs.SumFile.{sum_options, sum_file_cards, blank_sum, sum_file}
 use Rattle.fz_files.proofs.PlainFileLemmas.{tiles_are, packable, cards_before, is_alone, cards_are, data_are}
-use Rattle.fz_files.proofs.WorkedCards.{empty_is}
+use Rattle.fz_files.proofs.WorkedCards.{empty_is, last_digit}
 
 -- DATASUM
 data_sum : ones_sum plain_data ≡ 371075163
 unfolding ones_sum word_total carried
 data_sum = refl
-
-last_digit : (n : ℕ) (front : List ℕ) → 10 ≤ n → n < 2 ^ 64 → decimal (n / 10) ≡ front → decimal n ≡ front ++ (48 + n % 10) ∷ []
-last_digit n front more small e = decimal_step n more small ∙ ap (λ d. d ++ (48 + n % 10) ∷ []) e
 
 decimal_sum : decimal 371075163 ≡ codes "371075163"
 decimal_sum =

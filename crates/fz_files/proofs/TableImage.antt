@@ -355,7 +355,7 @@ pub record IsTableSaid (o : PackOptions) (source : List ℕ) (from : Header) (fi
 payload_bytes : (file : List ℕ) (h : Header) → AreBytes file → AreBytes (hdu_of file h).payload
 payload_bytes file h bytes = All-take (λ b. b < 256) (whole_blocks_of h.data_len) (drop (data_start_of h) file) (All-drop (λ b. b < 256) (data_start_of h) file bytes)
 
-numbered_from_1 : (n : ℕ) → 0 < n → (k : ℕ) × (n ≡ suc k)
+pub numbered_from_1 : (n : ℕ) → 0 < n → (k : ℕ) × (n ≡ suc k)
 numbered_from_1 zero some = absurd omega (arith, some)
 numbered_from_1 (suc k) some = (k, refl)
 
@@ -366,7 +366,7 @@ sums_from o source from =
     let es = codes_from o source from in
     sums_of o.sums (packed_header (cards_of (hdu_of source from).header) p (totals_of p es)) (packed_data p es)
 
-packing_is : TableLaws → (o : PackOptions) (source : List ℕ) (from : Header) → IsTaken o source from → IsPacking (hdu_of source from).header from (pack_plan_of o from) (totals_from o source from) (sums_from o source from)
+pub packing_is : TableLaws → (o : PackOptions) (source : List ℕ) (from : Header) → IsTaken o source from → IsPacking (hdu_of source from).header from (pack_plan_of o from) (totals_from o source from) (sums_from o source from)
 packing_is l o source from is =
     let p : Plan = pack_plan_of o from in
     let cs : List (List ℕ) = cards_of (hdu_of source from).header in

@@ -1,6 +1,6 @@
 -- Cards as they are made, for the worked files.
-use Rattle.std.proofs.Common.{◌≡◌, ℕ, ◌+◌, ◌<◌, List, [], ◌∷◌, ◌++◌, false, pos, codes, decimal, refl, ap, arith}
-use Rattle.std.proofs.lemmas.Fmt.{decimal_digit, decimal-digits_of}
+use Rattle.std.proofs.Common.{◌≡◌, ℕ, ◌+◌, ◌/◌, ◌%◌, ◌^◌, ◌<◌, ◌≤◌, List, [], ◌∷◌, ◌++◌, false, pos, codes, decimal, refl, ◌∙◌, ap, arith}
+use Rattle.std.proofs.lemmas.Fmt.{decimal_digit, decimal_step, decimal-digits_of}
 use Rattle.fz_card.specs.Layout.{padded}
 use Rattle.fz_card.specs.Made.{numbered_name, int_card_bytes, logical_card_bytes, text_card_bytes, value_card, right_aligned}
 use Rattle.fz_card.specs.Naming.{number_behind, packed_name}
@@ -18,6 +18,16 @@ decimal_16 = decimal-digits_of 16 (omega arith) (omega arith)
 
 pub decimal_32 : decimal 32 ≡ codes "32"
 decimal_32 = decimal-digits_of 32 (omega arith) (omega arith)
+
+-- a digit more
+pub last_digit : (n : ℕ) (front : List ℕ) → 10 ≤ n → n < 2 ^ 64 → decimal (n / 10) ≡ front → decimal n ≡ front ++ (48 + n % 10) ∷ []
+last_digit n front more small e = decimal_step n more small ∙ ap (λ d. d ++ (48 + n % 10) ∷ []) e
+
+pub decimal_2880 : decimal 2880 ≡ codes "2880"
+decimal_2880 =
+    last_digit 2880 (codes "288") (omega arith) (omega arith)
+    (last_digit 288 (codes "28") (omega arith) (omega arith)
+    (decimal-digits_of 28 (omega arith) (omega arith)))
 
 -- a number with these digits as the value of a card
 pub value_is : (name digits : List ℕ) (v : ℕ) → decimal v ≡ digits → int_card_bytes name (pos v) ≡ value_card name (right_aligned 20 digits)

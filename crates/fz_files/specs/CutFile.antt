@@ -4,6 +4,7 @@ use Rattle.std.specs.Prelude.{ℕ, pos, ℤ, List, [], ◌∷◌, ◌++◌, code
 use Rattle.fz_block.specs.declared.header.Header.{Header}
 use Rattle.fz_block.specs.declared.header.Sort.TheVariants.{BinTable}
 use Rattle.fz_grid.specs.declared.sieve.Sieve.{Sieve}
+use Rattle.fz_files.specs.ExtensionFile.{image_table_cards}
 use Rattle.fz_files.specs.HandMade.{block_of, card_of}
 use Rattle.fz_files.specs.PlainFile.{plain_cards}
 
@@ -114,4 +115,41 @@ kept_cards =
     ∷ card_of (codes "NAXIS2  =                    3")
     ∷ card_of (codes "CRPIX1  =                  3.0")
     ∷ card_of (codes "CRPIX2  =                  2.5")
+    ∷ []
+
+-- the cards of a table of an image in an extension, and after them cards that belong to its packed form, and others of the image
+abbrev pub mixed_cards : List (List ℕ)
+mixed_cards =
+    image_table_cards
+    ++ card_of (codes "ZEXTEND =                    T")
+    ∷ card_of (codes "INHERIT =                    T")
+    ∷ card_of (codes "CRPIX1  =                  3.0")
+    ∷ card_of (codes "CRPIX2  =  2.5E0 / centre")
+    ∷ card_of (codes "CRPIX3  =                  4.0")
+    ∷ card_of (codes "ZHECKSUM= 'KgTAMeS5KeSAKeS3'")
+    ∷ card_of (codes "ZDATASUM= '0       '")
+    ∷ card_of (codes "OBJECT  = 'M31     '")
+    ∷ []
+
+-- columns 2 to 4 of both rows, counted from 1, by a sieve that says numbers of a third axis too
+abbrev pub third_sieve : Sieve
+third_sieve = record {
+  n = 2;
+  lo = 1 ∷ 0 ∷ 1 ∷ 0 ∷ 0 ∷ 0 ∷ 0 ∷ 0 ∷ 0 ∷ [];
+  hi = 3 ∷ 1 ∷ 1 ∷ 0 ∷ 0 ∷ 0 ∷ 0 ∷ 0 ∷ 0 ∷ [];
+  step = 1 ∷ 1 ∷ 1 ∷ 0 ∷ 0 ∷ 0 ∷ 0 ∷ 0 ∷ 0 ∷ [];
+}
+
+-- the cards of its cutout: a primary image, whose reference pixels move along axis 1 only
+abbrev pub unmixed_cards : List (List ℕ)
+unmixed_cards =
+    card_of (codes "SIMPLE  =                    T")
+    ∷ card_of (codes "BITPIX  =                   16")
+    ∷ card_of (codes "NAXIS   =                    2")
+    ∷ card_of (codes "NAXIS1  =                    3")
+    ∷ card_of (codes "NAXIS2  =                    2")
+    ∷ card_of (codes "CRPIX1  =                  2.0")
+    ∷ card_of (codes "CRPIX2  =  2.5E0 / centre")
+    ∷ card_of (codes "CRPIX3  =                  4.0")
+    ∷ card_of (codes "OBJECT  = 'M31     '")
     ∷ []

@@ -1,6 +1,11 @@
 -- What the definitions promise, for every file.
-use Rattle.std.specs.Prelude.{ℕ, suc, ◌≡◌, ◌+◌, ◌^◌, ◌<◌, ◌≤◌, true, List, [], ◌∷◌, ◌++◌, length, codes, Option, if◌then◌else◌}
+use Rattle.std.specs.Prelude.{ℕ, suc, ◌≡◌, ◌↔◌, ◌+◌, ◌^◌, ◌<◌, ◌≤◌, true, All, List, [], ◌∷◌, ◌++◌, length, map, codes, Option, None, Err, if◌then◌else◌}
+use Rattle.fz_base.specs.JobBuffers.{buffer_bound}
+use Rattle.fz_base.specs.Refusal.{refusal}
+use Rattle.fz_base.specs.Takings.{first_past}
 use Rattle.fz_base.specs.declared.fault.Fault.{Fault}
+use Rattle.fz_base.specs.declared.fault.Place.TheVariants.{Card}
+use Rattle.fz_base.specs.declared.kind.Kind.TheVariants.{AlreadyPacked}
 use Rattle.fz_block.specs.Cards.{card_at}
 use Rattle.fz_block.specs.Checks.{is_set}
 use Rattle.fz_block.specs.Facts.{IsHeaderOf, facts_of}
@@ -15,23 +20,63 @@ use Rattle.fz_tile.specs.Plain.{AreBytes}
 use Rattle.fz_tile.specs.TileCode.{TileCode}
 use Rattle.fz_head.specs.Accepted.{IsAccepted}
 use Rattle.fz_head.specs.JobChecks.{IsImageToPack}
+use Rattle.fz_head.specs.Judges.{pack_judge}
 use Rattle.fz_head.specs.EmptyPrimary.{empty_primary}
 use Rattle.fz_head.specs.Packable.{is_packable, is_primary}
 use Rattle.fz_head.specs.Planned.{pack_plan_of}
+use Rattle.fz_head.specs.declared.options.CodecWord.{CodecWord}
 use Rattle.fz_head.specs.declared.options.PackOptions.{PackOptions}
 use Rattle.fz_head.specs.declared.totals.Totals.{Totals}
 use Rattle.fz_files.specs.declared.job.Job.{Job}
-use Rattle.fz_files.specs.declared.job.Job.TheVariants.{Cut}
+use Rattle.fz_files.specs.declared.job.Job.TheVariants.{Pack, Unpack, Cut, Verify, List as ListHdus, Drill}
+use Rattle.fz_files.specs.Buffers.{job_bound, job_takings}
+use Rattle.fz_files.specs.Cutout.{header_range}
 use Rattle.fz_files.specs.CutoutBytes.{IsCutout}
+use Rattle.fz_files.specs.Drill.{drill_file, drill_options, drill_packed, drill_sieve}
 use Rattle.fz_files.specs.FirstFault.{IsFirstFault}
 use Rattle.fz_files.specs.Packed.{array_of, before_table, packed_data, packed_hdu, packed_image, table_header, tile_codes, totals_of, with_sums}
+use Rattle.fz_files.specs.Picks.{HasNinePlaces, HasPicks}
 use Rattle.fz_files.specs.Restored.{HduStandsFor, is_packed_primary, plan_in}
 use Rattle.fz_files.specs.StandsFor.{StandsFor}
-use Rattle.fz_files.specs.Walks.{headers_for, last_of}
+use Rattle.fz_files.specs.Walks.{Reached, header_fault, headers_for, last_of, reached_by}
 
 -- a file has at most one first fault for a job; it has none, or this one
 abbrev pub HasOneFirstFault : Type 0
 HasOneFirstFault = (job : Job) (file : List ℕ) (found other : Option Fault) → IsFirstFault job file found → IsFirstFault job file other → found ≡ other
+
+-- `verify` refuses a file for the first fault of `unpack`, and none that `unpack` takes
+abbrev pub VerifyRefusesAsUnpack : Type 0
+VerifyRefusesAsUnpack = (file : List ℕ) (fault : Option Fault) → IsFirstFault Verify file fault ↔ IsFirstFault Unpack file fault
+
+-- `list` refuses it for the first fault that the headers have for `unpack`, and looks at no row
+abbrev pub ListRefusesHeaders : Type 0
+ListRefusesHeaders = (file : List ℕ) (fault : Option Fault) → IsFirstFault ListHdus file fault ↔ (fault ≡ header_fault Unpack file)
+
+-- the number of an HDU, and the byte at which it begins
+abbrev pub place_of : Header → Reached
+place_of h = record { hdu = h.hdu; start = h.start }
+
+-- if no header is refused, the HDUs that the checks of a job come to are those whose headers it looks at, in their order
+abbrev pub ReachedAreFound : Type 0
+ReachedAreFound = (job : Job) (file : List ℕ) → header_fault job file ≡ None → reached_by job file ≡ map place_of (headers_for job file)
+
+-- what is read of the headers of the HDUs that they come to lies within the file
+abbrev pub ReachedLieWithin : Type 0
+ReachedLieWithin = (job : Job) (file : List ℕ) → All (λ r. (header_range file r).0 + (header_range file r).1 ≤ length file) (reached_by job file)
+
+-- the bound on buffers rises with the longest header, the largest tile and the workers
+abbrev pub BoundRises : Type 0
+BoundRises = (H H' n n' W W' : ℕ) → H ≤ H' → n ≤ n' → W ≤ W' → buffer_bound H n W ≤ buffer_bound H' n' W'
+
+-- The jobs that `drill` runs on its files for a codec have bounds within its own.
+pub record AreWithinDrill (rows : ℕ) (codec : CodecWord) : Type 0 where
+  pub packs : job_bound (Pack (drill_options codec)) (drill_file rows) 4 ≤ job_bound (Drill rows) [] 4
+  pub unpacks : job_bound Unpack (drill_packed rows codec) 4 ≤ job_bound (Drill rows) [] 4
+  pub cuts : job_bound (Cut None (drill_sieve rows)) (drill_packed rows codec) 4 ≤ job_bound (Drill rows) [] 4
+
+-- then every taking of `drill` stays within its bound
+abbrev pub DrillIsBounded : Type 0
+DrillIsBounded = (rows : ℕ) (file : List ℕ) (asked : ℕ) → ((codec : CodecWord) → AreWithinDrill rows codec) → first_past (job_bound (Drill rows) file asked) (job_takings (Drill rows) file asked) ≡ None
 
 -- a packed file stands for at most one file
 abbrev pub StandsForOneFile : Type 0
@@ -42,6 +87,11 @@ abbrev pub CutsOutOneFile : Type 0
 CutsOutOneFile =
     (wanted : Option ℕ) (sieve : Sieve) (file part other : List ℕ) (h : Header) → last_of (headers_for (Cut wanted sieve) file) ≡ h ∷ [] → Sifts (lengths_of (plan_in file h).shape) sieve →
     IsCutout wanted sieve file part → IsCutout wanted sieve file other → part ≡ other
+
+-- the same of every sieve that a cut may be asked for, with no premise on the file
+abbrev pub PicksCutOneFile : Type 0
+PicksCutOneFile =
+    (wanted : Option ℕ) (sieve : Sieve) (file part other : List ℕ) → HasNinePlaces sieve → HasPicks sieve → IsCutout wanted sieve file part → IsCutout wanted sieve file other → part ≡ other
 
 -- what is written for the tiles of an image that `pack` takes
 abbrev pub codes_from : PackOptions → List ℕ → Header → List TileCode
@@ -90,6 +140,11 @@ TablesStandForImages = (o : PackOptions) (source : List ℕ) (from : Header) (fi
 
 abbrev pub TablesWerePrimary : Type 0
 TablesWerePrimary = (o : PackOptions) (source : List ℕ) (from : Header) (file : List ℕ) (h : Header) → IsTableOf o source from file h → is_packed_primary file h ≡ is_primary from.sort
+
+-- `pack` refuses it, whatever the options: it is packed already, as its card 12 says, which is ZIMAGE
+abbrev pub TablesAreRefused : Type 0
+TablesAreRefused =
+    (o again : PackOptions) (source : List ℕ) (from : Header) (file : List ℕ) (h : Header) → IsTableOf o source from file h → pack_judge again file h ≡ Err (refusal h.hdu (Card 12) AlreadyPacked)
 
 -- What an HDU becomes in a packed file, by the facts at its own place: the table of an image that can be packed, or its own bytes.
 abbrev pub HdusArePacked : Type 0

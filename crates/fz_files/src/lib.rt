@@ -7,9 +7,11 @@ mod worked;
 
 pub use job::Job;
 pub use law::{
-    buffers_law, one_cutout_law, one_file_law, one_first_fault_law, packed_hdu_law, table_law,
+    buffers_law, one_cutout_law, one_file_law, one_first_fault_law, one_picked_file_law,
+    packed_hdu_law, reached_law, same_faults_law, table_law,
 };
 pub use worked::{
-    cut_file_law, extension_file_law, fault_file_law, long_file_law, other_file_law,
-    plain_file_law, rice_file_law, sum_file_law,
+    buffer_file_law, cut_ends_law, cut_file_law, extension_file_law, fault_file_law,
+    fault_places_law, lines_file_law, long_file_law, other_file_law, plain_file_law,
+    plan_facts_law, plio_file_law, rice_file_law, sum_file_law, wide_file_law,
 };

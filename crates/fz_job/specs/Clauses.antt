@@ -1,12 +1,12 @@
 -- What a job promises that writes a sink, in the same words for all such jobs.
-use Rattle.std.specs.Prelude.{ℕ, ◌≡◌, ◌⊎◌, ◌<◌, ◌≤◌, ◌^◌, max, List, [], Option, Some, None, IfSome, Result, Ok, Err, OnOk, OnErr, IsErrOf, ⊤}
+use Rattle.std.specs.Prelude.{ℕ, ◌≡◌, ◌⊎◌, ◌<◌, ◌≤◌, ◌^◌, max, List, [], Option, Some, None, IfSome, IsSome, Result, Ok, Err, OnOk, OnErr, IsErrOf, ⊤}
 use Rattle.fz_base.specs.Counts.{Rose, Tally, CountsKept}
 use Rattle.fz_base.specs.FirstByte.{IsShut}
 use Rattle.fz_base.specs.Meter.{Gauge}
 use Rattle.fz_base.specs.Refusal.{refusal}
 use Rattle.fz_base.specs.JobBuffers.{buffer_bound}
 use Rattle.fz_base.specs.Stop.{IfRefused, IsRefused, TellsLimit}
-use Rattle.fz_base.specs.Takings.{TellsFirstPast}
+use Rattle.fz_base.specs.Takings.{TellsFirstPast, first_past}
 use Rattle.fz_base.specs.declared.failure.Stop.{Stop}
 use Rattle.fz_base.specs.declared.fault.Fault.{Fault}
 use Rattle.fz_base.specs.declared.fault.Place.TheVariants.{Card, Row}
@@ -47,9 +47,18 @@ Answers job held source source' sink sink' limit workers result =
     ¬ Rose source.faults source'.faults → ¬ Rose sink.faults sink'.faults
     → IfSome held (λ file. job_bound job file workers ≤ limit → IsAnswer result)
 
--- the greatest bound that a job has, whatever the file: no header is longer than 256 blocks, and no tile has more than 2^26 pixels
+-- the most pixels that a tile has that a job on a file works on, for `drill` the same; `list` works on no tiles
+abbrev pub greatest_tile : Job → ℕ
+greatest_tile (Pack o) = 2 ^ 26
+greatest_tile Unpack = 2 ^ 26
+greatest_tile (Cut wanted sieve) = 2 ^ 26
+greatest_tile Verify = 2 ^ 26
+greatest_tile ListHdus = 0
+greatest_tile (Drill rows) = 2 ^ 26
+
+-- the greatest bound that a job has, whatever the file: no header is longer than 256 blocks
 abbrev pub greatest_bound : Job → ℕ → ℕ
-greatest_bound job asked = buffer_bound 737280 (2 ^ 26) (workers_of job asked)
+greatest_bound job asked = buffer_bound 737280 (greatest_tile job) (workers_of job asked)
 
 -- Why a job ended as it did: after Ok and after Refused no count rose; the two faults come only where that of the source or of the sink
 -- rose; OverLimit tells the limit and what passes it, which is never
@@ -96,12 +105,17 @@ ComesLate Verify x = IsChanged x ⊎ IsOfSomeRow x
 ComesLate ListHdus x = IsChanged x
 ComesLate (Drill rows) x = ⊥
 
--- The sink is not made where a header of the file is refused, whatever the answer, and where a buffer passes the limit. A refusal leaves it
--- unmade too, but one that comes behind the first look.
-pub record IsUnmade {X : Type 0} (job : Job) (held : Option (List ℕ)) (Same : Type 0) (result : Result X Stop) : Type 0 where
+-- The sink is not made if a header of the file is refused or one of these takings passes the limit, whatever the answer, nor after OverLimit.
+-- A refusal leaves it unmade too, except one that comes after the first look.
+pub record StaysUnmade {X : Type 0} (job : Job) (held : Option (List ℕ)) (limit : ℕ) (takings : List ℕ → List (ℕ × ℕ)) (Same : Type 0) (result : Result X Stop) : Type 0 where
   pub faulty : IfSome held (λ file. ¬ (header_fault job file ≡ None) → Same)
+  pub past : IfSome held (λ file. IsSome (first_past limit (takings file)) → Same)
   pub over_limit : IfOverLimit result Same
   pub refused : IfRefused result (λ x. Same ⊎ ComesLate job x)
+
+-- the same of all takings of a job that is asked for so many workers
+abbrev pub IsUnmade : {X : Type 0} → Job → Option (List ℕ) → ℕ → ℕ → Type 0 → Result X Stop → Type 0
+IsUnmade job held limit asked Same result = StaysUnmade job held limit (λ file. job_takings job file asked) Same result
 
 -- Nothing is live, the limit stays, the peak is at most that before or the bound of the job, and the window is empty. Of a file that does
 -- not tell its bytes the greatest bound is said.

@@ -1,8 +1,9 @@
 -- What the job promises where the first look knows the file, by what the work behind it says.
 use Rattle.std.proofs.Common.{◌≡◌, ◌⊎◌, inl, inr, ℕ, List, map, sym, subst}
-use Rattle.std.specs.Prelude.{Option, Some, None, IfSome, Result, Ok, Err, OnOk, IsErrOf}
+use Rattle.std.specs.Prelude.{Option, Some, None, IfSome, Result, Ok, Err, OnOk, IsErrOf, IsSome}
 use Rattle.fz_base.specs.FirstByte.{IsShut}
 use Rattle.fz_base.specs.Stop.{IfRefused}
+use Rattle.fz_base.specs.Takings.{first_past}
 use Rattle.fz_base.specs.declared.fault.Fault.{Fault}
 use Rattle.fz_base.specs.declared.failure.Stop.{Stop}
 use Rattle.fz_base.specs.declared.failure.Stop.TheVariants.{Refused, ReadFault, WriteFault, OverLimit, NoMemory}
@@ -17,7 +18,7 @@ use Rattle.fz_survey.specs.Surveys.{surveyed}
 use Rattle.fz_survey.specs.declared.checks.JobChecks.TheVariants.{Pack as PackChecks}
 use Rattle.fz_survey.specs.declared.survey.Survey.{Survey}
 use Rattle.fz_pack.specs.Output.{HoldsPacked}
-use Rattle.fz_job.specs.Clauses.{IfOverLimit, IsChanged, IsShutOrWhole, IsUnmade, TellsFirstFault}
+use Rattle.fz_job.specs.Clauses.{IfOverLimit, IsChanged, IsShutOrWhole, StaysUnmade, TellsFirstFault}
 use Rattle.fz_stages.specs.Stages.{HasLargest}
 use Rattle.fz_pack.specs.Known.{IsKnown, SurveysKnow}
 use Rattle.fz_pack.specs.Written.{ArePacked, AreShutOrWhole, FinishesSeen, IsList}
@@ -58,8 +59,9 @@ module _ (know : SurveysKnow) (o : PackOptions) (s : Survey) where
   work_faulty held now (Err (OverLimit live asked limit)) exact written = tt
   work_faulty held now (Err NoMemory) exact written = tt
 
-  pub work_unmade : {X : Type 0} (held : Option (List ℕ)) (Same : Type 0) (r : Result X Stop) → IfSome held (Knows o s) → IfOverLimit r Same → IfRefused r IsChanged → IsUnmade (Pack o) held Same r
-  work_unmade held Same r exact over changed = record { faulty = by_held held exact; over_limit = over; refused = refused_weaker r (λ x is. inr is) changed }
+  pub work_unmade : {X : Type 0} (held : Option (List ℕ)) (limit : ℕ) (takings : List ℕ → List (ℕ × ℕ)) (Same : Type 0) (r : Result X Stop) → IfSome held (Knows o s) → IfSome held (λ file. IsSome (first_past limit (takings file)) → Same) →
+      IfOverLimit r Same → IfRefused r IsChanged → StaysUnmade (Pack o) held limit takings Same r
+  work_unmade held limit takings Same r exact past over changed = record { faulty = by_held held exact; past = past; over_limit = over; refused = refused_weaker r (λ x is. inr is) changed }
     where
       by_held : (told : Option (List ℕ)) → IfSome told (Knows o s) → IfSome told (λ file. ¬ (header_fault (Pack o) file ≡ None) → Same)
       by_held None is = tt

@@ -1,15 +1,15 @@
 //! The job: look at all headers, take all buffers, and then write.
-ghost use Rattle.std.specs.Prelude.{◌≡◌, ◌+◌, ◌<◌, ◌≤◌, max, true, Some, [], length as len, sum, OnOk, IfSome};
+ghost use Rattle.std.specs.Prelude.{◌≡◌, ◌+◌, ◌<◌, ◌≤◌, max, true, Some, [], length as len, sum, OnOk, IfSome, IsSome};
 ghost use Rattle.fz_base.specs.Stop.{IfRefused, TellsLimit};
 ghost use Rattle.fz_base.specs.Told.{StaysTold};
-ghost use Rattle.fz_base.specs.Takings.{TellsFirstPast, piled};
+ghost use Rattle.fz_base.specs.Takings.{TellsFirstPast, first_past, highest, piled};
 ghost use Rattle.fz_head.specs.Planned.{AreOptions};
 ghost use Rattle.fz_pool.specs.Window.{IsEmpty};
 ghost use Rattle.fz_survey.specs.Workspace.{wanted_buffers};
-ghost use Rattle.fz_files.specs.Buffers.{job_bound};
+ghost use Rattle.fz_files.specs.Buffers.{job_bound, job_takings};
 ghost use Rattle.fz_files.specs.declared.job.Job.TheVariants.{Pack};
 ghost use Rattle.fz_pack.specs.Output.{HoldsPacked};
-ghost use Rattle.fz_job.specs.Clauses.{Answers, HasJobCause, IfOverLimit, IsChanged, IsShutOrWhole, IsUnmade, KeepsBuffers, KeepsSource, TellsFirstFault, greatest_bound};
+ghost use Rattle.fz_job.specs.Clauses.{Answers, HasJobCause, IfOverLimit, IsChanged, IsShutOrWhole, IsUnmade, KeepsBuffers, KeepsSource, StaysUnmade, TellsFirstFault, greatest_bound};
 ghost use Rattle.fz_job.specs.Keeps.{SourceStays};
 ghost use Rattle.fz_stages.specs.Stages.{Works, later_takings, wants_for};
 ghost use Rattle.fz_pack.specs.Written.{AreShutOrWhole, FinishesSeen};
@@ -54,8 +54,13 @@ pub fn pack<R: Threads + Sync, S: Source, K: Sink, G: Gate>(
     ensures cause { HasJobCause (Pack options.now) (S.held source.old) (S.tally source.old) (S.tally source.new) (K.tally sink.old) (K.tally sink.new) meter.old.limit window.old.workers result }
     // What was cut short does not begin with the S of a FITS file.
     ensures first_byte { IsShutOrWhole (K.contents sink.new) (HoldsPacked options.now (S.held source.old) (K.contents sink.new)) result }
-    ensures unmade { IsUnmade (Pack options.now) (S.held source.old) ((K.created sink.new ≡ K.created sink.old) × (K.contents sink.new ≡ K.contents sink.old)) result }
+    ensures unmade { IsUnmade (Pack options.now) (S.held source.old) meter.old.limit window.old.workers
+        ((K.created sink.new ≡ K.created sink.old) × (K.contents sink.new ≡ K.contents sink.old)) result }
     ensures buffers { KeepsBuffers (Pack options.now) (S.held source.old) meter.old meter.new window.old window.new }
+    // After a job that is done the peak is exactly the greatest sum of its takings, for so many workers.
+    ensures exact_peak { OnOk result (IfSome (S.held source.old) (λ g. meter.new.peak ≡ max meter.old.peak (highest (job_takings (Pack options.now) g window.old.workers)))) }
+    // The first block is taken before anything is read.
+    ensures unread { meter.old.limit < 2880 → S.ranges source.new ≡ S.ranges source.old }
     ensures kept { KeepsSource (S.held source.old) (S.held source.new) (S.attached source.old) (S.attached source.new) (S.tally source.old) (S.tally source.new) (K.tally sink.old) (K.tally sink.new) }
     ensures told_ranges { StaysTold (S.ranges source.old) (S.ranges source.new) }
     ensures told_contents { StaysTold (K.contents sink.old) (K.contents sink.new) }
@@ -102,9 +107,11 @@ fn with_block<R: Threads + Sync, S: Source, K: Sink, G: Gate>(
     ensures finished { OnOk result (K.finished sink.new ≡ true) }
     ensures first_fault { TellsFirstFault (Pack options.now) (S.held source.old) result }
     ensures first_byte { IsShutOrWhole (K.contents sink.new) (HoldsPacked options.now (S.held source.old) (K.contents sink.new)) result }
-    ensures unmade { IsUnmade (Pack options.now) (S.held source.old) ((K.created sink.new ≡ K.created sink.old) × (K.contents sink.new ≡ K.contents sink.old)) result }
+    ensures unmade { StaysUnmade (Pack options.now) (S.held source.old) meter.old.limit (λ g. later_takings (Pack options.now) g window.old.workers)
+        ((K.created sink.new ≡ K.created sink.old) × (K.contents sink.new ≡ K.contents sink.old)) result }
     ensures first_past { IfSome (S.held source.old) (λ g. TellsFirstPast meter.old.limit (later_takings (Pack options.now) g window.old.workers) result) }
     ensures peak { IfSome (S.held source.old) (λ g. meter.new.peak ≤ max meter.old.peak (job_bound (Pack options.now) g window.old.workers)) }
+    ensures exact_peak { OnOk result (IfSome (S.held source.old) (λ g. meter.new.peak ≡ max meter.old.peak (highest (later_takings (Pack options.now) g window.old.workers)))) }
     ensures most { TellsLimit meter.old.limit (greatest_bound (Pack options.now) window.old.workers) result }
     ensures peak_most { meter.new.peak ≤ max meter.old.peak (greatest_bound (Pack options.now) window.old.workers) }
     ensures live { meter.new.live ≡ meter.old.live }
@@ -150,7 +157,10 @@ fn work<R: Threads + Sync, S: Source, K: Sink, G: Gate>(
     ensures shut { AreShutOrWhole options.now survey.now (S.held source.old) (K.contents sink.new) result }
     ensures unmade { IfOverLimit result ((K.created sink.new ≡ K.created sink.old) × (K.contents sink.new ≡ K.contents sink.old)) }
     ensures first_past { TellsFirstPast meter.old.limit (piled meter.old.live (wanted_buffers (wants_for (Pack options.now) survey.now) window.old.workers)) result }
+    ensures past { IsSome (first_past meter.old.limit (piled meter.old.live (wanted_buffers (wants_for (Pack options.now) survey.now) window.old.workers)))
+        → (K.created sink.new ≡ K.created sink.old) × (K.contents sink.new ≡ K.contents sink.old) }
     ensures peak { meter.new.peak ≤ max meter.old.peak (meter.old.live + sum (wanted_buffers (wants_for (Pack options.now) survey.now) window.old.workers)) }
+    ensures exact_peak { OnOk result (meter.new.peak ≡ max meter.old.peak (meter.old.live + sum (wanted_buffers (wants_for (Pack options.now) survey.now) window.old.workers))) }
     ensures live { meter.new.live ≡ meter.old.live }
     ensures limit { meter.new.limit ≡ meter.old.limit }
     ensures emptied { window.new ≡ record { slots = []; workers = window.old.workers } }

@@ -168,7 +168,7 @@ none_refused : {A : Type 0} (answer found : A) (refused : Option Fault) → unle
 none_refused answer found None e = refl
 none_refused answer found (Some fault) e = absurd cc
 
-table_none : (header : List ℕ) (h : Header) (t : Table) → table_of header h ≡ Ok t → first_refusal (table_checks header h) ≡ None
+pub table_none : (header : List ℕ) (h : Header) (t : Table) → table_of header h ≡ Ok t → first_refusal (table_checks header h) ≡ None
 unfolding table_of
 table_none header h t is = none_refused (table_in header h) t (first_refusal (table_checks header h)) is
 

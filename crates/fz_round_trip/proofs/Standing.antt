@@ -65,7 +65,7 @@ unfolding pack_plan_of
 plan_primary o h = refl
 
 -- no card of one that is copied says that it is packed
-copied_facts : (o : PackOptions) (file bytes : List ℕ) (k j start : ℕ) (h f : Header) → IsSource o file (suc k) h → IsOut bytes j start (hdu_of file h) f →
+pub copied_facts : (o : PackOptions) (file bytes : List ℕ) (k j start : ℕ) (h f : Header) → IsSource o file (suc k) h → IsOut bytes j start (hdu_of file h) f →
     (is_table f.sort && list_any says_packed (cards_of (hdu_of bytes f).header)) ≡ false
 copied_facts o file bytes k j start h f s out =
     let sort : f.sort ≡ h.sort = ap (λ (g : Header). g.sort) out.facts ∙ sym (sort_is o file (suc k) h s) in
@@ -128,10 +128,10 @@ later_primary l o file bytes k j start h f options all s out = by_test (is_packa
 head_same : (x y : Hdu) (xs ys : List Hdu) → x ∷ xs ≡ y ∷ ys → x ≡ y
 head_same x y xs ys e = cc
 
-tail_same : (x y : Hdu) (xs ys : List Hdu) → x ∷ xs ≡ y ∷ ys → xs ≡ ys
+pub tail_same : (x y : Hdu) (xs ys : List Hdu) → x ∷ xs ≡ y ∷ ys → xs ≡ ys
 tail_same x y xs ys e = cc
 
-out_here : (bytes : List ℕ) (j start : ℕ) (d : Hdu) (xs ys : List Hdu) → hdu_of bytes (facts_of (suc j) start d.header) ∷ xs ≡ d ∷ ys → IsOut bytes j start d (facts_of (suc j) start d.header)
+pub out_here : (bytes : List ℕ) (j start : ℕ) (d : Hdu) (xs ys : List Hdu) → hdu_of bytes (facts_of (suc j) start d.header) ∷ xs ≡ d ∷ ys → IsOut bytes j start d (facts_of (suc j) start d.header)
 out_here bytes j start d xs ys e = record { facts = refl; here = head_same (hdu_of bytes (facts_of (suc j) start d.header)) d xs ys e }
 
 later_judged : TableLaws → (o : PackOptions) (file bytes : List ℕ) (k j start : ℕ) (hs : List Header) → AreOptions o → AreBytes file → AreSources o file (suc k) hs →
@@ -182,7 +182,7 @@ sound_rows bytes (f ∷ fs) x (front, back, parts, here, rest) = by_packed (is_i
 -- ---- the file
 
 -- a primary is no packed image
-primary_image : (bytes : List ℕ) (f : Header) → f.sort ≡ Primary → is_image bytes f ≡ false
+pub primary_image : (bytes : List ℕ) (f : Header) → f.sort ≡ Primary → is_image bytes f ≡ false
 unfolding is_packed
 primary_image bytes f is = ap (λ s. is_table s && list_any (is_set (codes "ZIMAGE")) (cards_of (header_in bytes f))) is
 

@@ -41,11 +41,11 @@ pub record StoodLaws : Type 0 where
 
 -- ---- rows of which none is refused
 
-sound_front : (file : List ℕ) (xs ys : List ImageRow) → IsFirstRowFault file (xs ++ ys) None → IsFirstRowFault file xs None
+pub sound_front : (file : List ℕ) (xs ys : List ImageRow) → IsFirstRowFault file (xs ++ ys) None → IsFirstRowFault file xs None
 sound_front file [] ys sound = tt
 sound_front file (r ∷ xs) ys sound = (sound.0, sound_front file xs ys sound.1)
 
-sound_back : (file : List ℕ) (xs ys : List ImageRow) → IsFirstRowFault file (xs ++ ys) None → IsFirstRowFault file ys None
+pub sound_back : (file : List ℕ) (xs ys : List ImageRow) → IsFirstRowFault file (xs ++ ys) None → IsFirstRowFault file ys None
 sound_back file [] ys sound = sound
 sound_back file (r ∷ xs) ys sound = sound_back file xs ys sound.1
 
@@ -67,7 +67,7 @@ module _ (file : List ℕ) (h : Header) where
       let at : a + 1 + i ≡ a + suc i = omega arith in
       subst (λ t. RowStandsFor file h t (slice_index_or (tiles_from (a + 1) n sound.1) i [])) at (tile_stands (a + 1) n i sound.1 (omega (arith, less)))
 
-joined_lengths : (array tile : List ℕ) (tiles : List (List ℤ)) → (joined array tile tiles).lengths ≡ array
+pub joined_lengths : (array tile : List ℕ) (tiles : List (List ℤ)) → (joined array tile tiles).lengths ≡ array
 unfolding joined
 joined_lengths array tile tiles = refl
 

@@ -18,6 +18,7 @@ use Rattle.fz_files.specs.Packed.{IsPackedFile, packed_file}
 use Rattle.fz_files.specs.Restored.{HdusStandFor, standing}
 use Rattle.fz_files.specs.StandsFor.{IsProfileFile, StandsFor}
 use Rattle.fz_files.specs.Walks.{fault_of_walk, found_headers, header_fault, job_walk}
+use Rattle.fz_round_trip.specs.RoundTrip.{PackedIsFound}
 use Rattle.fz_round_trip.proofs.Outs.{empty_hdu, out_of, outs, outs_are}
 use Rattle.fz_round_trip.proofs.Passing.{PassingLaws, outs_pass}
 use Rattle.fz_round_trip.proofs.Sources.{AreSources, never_stops, sources}
@@ -74,10 +75,17 @@ stands_by bytes file fs walk stands =
       parts = subst (λ r. HdusStandFor bytes (standing bytes (found_headers r)) file) (sym walk) stands.parts;
     }
 
-comes_back_from : PassingLaws → TableLaws → WalkLaws → (o : PackOptions) (file bytes : List ℕ) (hs : List Header) → IsProfileFile o file → walk_of (pack_judge o file) 65535 file ≡ Ok hs →
-    bytes ≡ packed_file o (map (hdu_of file) hs) → flat_map hdu_bytes (map (hdu_of file) hs) ≡ file → length bytes ≤ 2 ^ 62 → StandsFor bytes file
-comes_back_from p l w o file bytes [] is walk made parts few = let some : 0 < 0 = (w.headers (pack_judge o file) 65535 file [] walk).0 in absurd omega (arith, some)
-comes_back_from p l w o file bytes (h ∷ hs) is walk made parts few =
+-- what is known of the HDUs of the packed file
+pub record AreFound (o : PackOptions) (file bytes : List ℕ) (h : Header) (hs : List Header) : Type 0 where
+  pub sources : AreSources o file 0 (h ∷ hs)
+  pub here : map (hdu_of bytes) (facts_from 0 0 (outs o file h hs)) ≡ outs o file h hs
+  pub all : headers_of 65536 bytes ≡ Ok (facts_from 0 0 (outs o file h hs))
+  pub walk : walk_of (unpack_judge bytes) 65536 bytes ≡ Ok (facts_from 0 0 (outs o file h hs))
+  pub stands : Stands bytes (flat_map hdu_bytes (map (hdu_of file) (h ∷ hs))) (facts_from 0 0 (outs o file h hs))
+
+pub are_found : PassingLaws → TableLaws → WalkLaws → (o : PackOptions) (file bytes : List ℕ) (h : Header) (hs : List Header) → IsProfileFile o file →
+    walk_of (pack_judge o file) 65535 file ≡ Ok (h ∷ hs) → bytes ≡ packed_file o (map (hdu_of file) (h ∷ hs)) → length bytes ≤ 2 ^ 62 → AreFound o file bytes h hs
+are_found p l w o file bytes h hs is walk made few =
     let found = w.headers (pack_judge o file) 65535 file (h ∷ hs) walk in
     let are : AreSources o file 0 (h ∷ hs) = sources o file 0 0 found.3.0 0 (h ∷ hs) found.3.2 (w.pass (pack_judge o file) 65535 file (h ∷ hs) walk) found.2 in
     let same : flat_map hdu_bytes (outs o file h hs) ≡ bytes = sym (outs_are o file h hs are) ∙ sym made in
@@ -87,12 +95,23 @@ comes_back_from p l w o file bytes (h ∷ hs) is walk made parts few =
     let pass : PassFrom 0 0 (length bytes) (outs o file h hs) = outs_pass p o file (length bytes) h hs is.options is.bytes are number within few in
     let again = w.walk 65536 bytes (outs o file h hs) same count.0 (omega (arith, count.1, number)) pass in
     let stands : Stands bytes (flat_map hdu_bytes (map (hdu_of file) (h ∷ hs))) (facts_from 0 0 (outs o file h hs)) = outs_stand l o file bytes h hs is.options is.bytes are (sym same) again.1 in
-    subst (λ f. StandsFor bytes f) parts
-    (stands_by bytes (flat_map hdu_bytes (map (hdu_of file) (h ∷ hs))) (facts_from 0 0 (outs o file h hs))
-    (w.judged (unpack_judge bytes) 65536 bytes (facts_from 0 0 (outs o file h hs)) again.0 stands.none (unpack_never_stops bytes (facts_from 0 0 (outs o file h hs)))) stands)
+    record {
+      sources = are;
+      here = again.1;
+      all = again.0;
+      walk = w.judged (unpack_judge bytes) 65536 bytes (facts_from 0 0 (outs o file h hs)) again.0 stands.none (unpack_never_stops bytes (facts_from 0 0 (outs o file h hs)));
+      stands = stands;
+    }
   where
     le_self : (n : ℕ) → n ≤ n
     le_self n = omega arith
+
+comes_back_from : PassingLaws → TableLaws → WalkLaws → (o : PackOptions) (file bytes : List ℕ) (hs : List Header) → IsProfileFile o file → walk_of (pack_judge o file) 65535 file ≡ Ok hs →
+    bytes ≡ packed_file o (map (hdu_of file) hs) → flat_map hdu_bytes (map (hdu_of file) hs) ≡ file → length bytes ≤ 2 ^ 62 → StandsFor bytes file
+comes_back_from p l w o file bytes [] is walk made parts few = let some : 0 < 0 = (w.headers (pack_judge o file) 65535 file [] walk).0 in absurd omega (arith, some)
+comes_back_from p l w o file bytes (h ∷ hs) is walk made parts few =
+    let found = are_found p l w o file bytes h hs is walk made few in
+    subst (λ f. StandsFor bytes f) parts (stands_by bytes (flat_map hdu_bytes (map (hdu_of file) (h ∷ hs))) (facts_from 0 0 (outs o file h hs)) found.walk found.stands)
 
 pub comes_back : PassingLaws → TableLaws → WalkLaws → (o : PackOptions) (file bytes : List ℕ) → IsProfileFile o file → IsPackedFile o file bytes → length bytes ≤ 2 ^ 62 → StandsFor bytes file
 comes_back p l w o file bytes is packed few =
@@ -100,3 +119,15 @@ comes_back p l w o file bytes is packed few =
     let whole : headers_of 65535 file ≡ Ok walk.0 = w.whole (pack_judge o file) 65535 file walk.0 walk.1 (never_stops o file walk.0) in
     let same : packed.hdus ≡ map (hdu_of file) walk.0 = w.converse 65535 file walk.0 packed.hdus whole packed.parts in
     comes_back_from p l w o file bytes walk.0 is walk.1 (packed.packed ∙ ap (packed_file o) same) (ap (flat_map hdu_bytes) (sym same) ∙ packed.parts.parts) few
+
+found_from : PassingLaws → TableLaws → WalkLaws → (o : PackOptions) (file bytes : List ℕ) (hs : List Header) → IsProfileFile o file → walk_of (pack_judge o file) 65535 file ≡ Ok hs →
+    bytes ≡ packed_file o (map (hdu_of file) hs) → length bytes ≤ 2 ^ 62 → (fs : List Header) × (headers_of 65536 bytes ≡ Ok fs)
+found_from p l w o file bytes [] is walk made few = let some : 0 < 0 = (w.headers (pack_judge o file) 65535 file [] walk).0 in absurd omega (arith, some)
+found_from p l w o file bytes (h ∷ hs) is walk made few = (facts_from 0 0 (outs o file h hs), (are_found p l w o file bytes h hs is walk made few).all)
+
+pub packed_is_found : PassingLaws → TableLaws → WalkLaws → PackedIsFound
+packed_is_found p l w o file bytes is =
+    let walk = pack_walk o file (no_header_fault (header_fault (Pack o) file) (Pack o) file is.taken.sound) in
+    let whole : headers_of 65535 file ≡ Ok walk.0 = w.whole (pack_judge o file) 65535 file walk.0 walk.1 (never_stops o file walk.0) in
+    let same : is.packed.hdus ≡ map (hdu_of file) walk.0 = w.converse 65535 file walk.0 is.packed.hdus whole is.packed.parts in
+    found_from p l w o file bytes walk.0 is.taken walk.1 (is.packed.packed ∙ ap (packed_file o) same) is.few

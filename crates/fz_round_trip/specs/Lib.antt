@@ -1,1 +1,4 @@
+pub mod Pixels
+pub mod Decided
+pub mod RestoredFile
 pub mod RoundTrip

@@ -1,26 +1,73 @@
-//! The laws of the packed file, and of both ways: no code runs.
-ghost use Rattle.fz_round_trip.specs.RoundTrip.{ComesBack, HasOnePackedFile, HasPackedFile, HasRestoredFile};
+//! The laws of first faults, of the packed file, and of both ways: no code runs.
+ghost use Rattle.fz_files.specs.Laws.{PicksCutOneFile};
+ghost use Rattle.fz_round_trip.specs.RoundTrip.{ComesBack, OnlyTheFileComesBack, HasCutout, HasFirstFault, HasNoOtherFault, HasOnePackedFile, HasPackedFile, HasRestoredFile, LosesNothing, OptionsDoNotMatter, PackCopies, StandsForNoOther, StandsForRestored, SumsAreRight, UnpackCopies, WorkersDoNotMatter, PackedIsFound, StandsForExactly};
 
-use fz_block::{found_hdus_law, hdu_list_law, passing_law, start_law, walk_law};
-use fz_files::table_law;
+use fz_block::{cards_law, found_hdus_law, hdu_list_law, passing_law, start_law, walk_law};
+use fz_card::card_laws;
+use fz_files::{one_file_law, one_picked_file_law, table_law};
 use fz_grid::{shape_law, tiles_law};
-use fz_head::packed_image_law;
+use fz_head::{image_to_pack_law, packed_image_law, sum_cards_law, whole_cards_law};
+use fz_sum::{all_ones_law, characters_law, datasum_law, sum_law, verdicts_law};
+use fz_tile::{one_fault_law, one_record_law, plain_law};
 
-/// A file in which `pack` finds no fault has a packed file, and every file has at most one: so what `pack` writes is
-/// known by the file and the options alone.
-pub fn packed_file_law()
-    ensures some { HasPackedFile }
-    ensures one { HasOnePackedFile }
+/// Every file of bytes has a first fault or none for a job, which a plain function of its bytes says, and no file has
+/// another.
+pub fn first_fault_law()
+    ensures some { HasFirstFault }
+    ensures only { HasNoOtherFault }
 {
-    hdu_list_law();
+    found_hdus_law();
+    one_fault_law();
+    one_record_law();
+    packed_image_law();
+    plain_law();
     walk_law();
 }
 
-/// A packed file in which `unpack` finds no fault stands for a file, and by `one_file_law` for no other.
-pub fn restored_file_law()
-    ensures { HasRestoredFile }
+/// A file in which `pack` finds no fault has a packed file, and every file has at most one: so what `pack` writes is
+/// known by the file and the options only. It does not depend on the number of workers, and a file of which no HDU
+/// can be packed is its own packed file. Every HDU of one of at most 2^62 bytes passes the checks of every job.
+pub fn packed_file_law()
+    ensures some { HasPackedFile }
+    ensures one { HasOnePackedFile }
+    ensures workers { WorkersDoNotMatter }
+    ensures copies { PackCopies }
+    ensures found { PackedIsFound }
 {
+    found_hdus_law();
+    hdu_list_law();
+    passing_law();
+    start_law();
+    table_law();
+    walk_law();
+}
+
+/// A packed file in which `unpack` finds no fault stands for a file, and by `one_file_law` for no other. A file
+/// without a packed image stands for itself.
+pub fn restored_file_law()
+    ensures some { HasRestoredFile }
+    ensures copies { UnpackCopies }
+{
+    hdu_list_law();
     packed_image_law();
+    shape_law();
+    tiles_law();
+    walk_law();
+}
+
+/// The file that a packed file stands for is a plain function of its bytes; and whether it stands for one is known by
+/// `first_fault`.
+pub fn restored_law()
+    ensures stands { StandsForRestored }
+    ensures only { StandsForNoOther }
+    ensures exactly { StandsForExactly }
+{
+    found_hdus_law();
+    one_fault_law();
+    one_file_law();
+    one_record_law();
+    packed_image_law();
+    plain_law();
     shape_law();
     tiles_law();
     walk_law();
@@ -37,4 +84,52 @@ pub fn round_trip_law()
     start_law();
     table_law();
     walk_law();
+}
+
+/// Nothing is lost on the way there: what the packed file stands for is the file, and two files with one packed file
+/// are one file. So the options do not matter to what comes back.
+pub fn lossless_law()
+    ensures same { OnlyTheFileComesBack }
+    ensures one { LosesNothing }
+    ensures options { OptionsDoNotMatter }
+{
+    one_file_law();
+    round_trip_law();
+}
+
+/// A packed file in which `cut` finds no fault has a cutout, and by a sieve with picks no other.
+pub fn cutout_file_law()
+    ensures some { HasCutout }
+    ensures one { PicksCutOneFile }
+{
+    found_hdus_law();
+    one_picked_file_law();
+    packed_image_law();
+    plain_law();
+    shape_law();
+    tiles_law();
+    walk_law();
+}
+
+/// If the options ask for sums, `verify` finds DATASUM and CHECKSUM of each table of the packed file right; a packed
+/// file has at most 2^62 bytes.
+pub fn sums_file_law()
+    ensures { SumsAreRight }
+{
+    all_ones_law();
+    card_laws();
+    cards_law();
+    characters_law();
+    datasum_law();
+    found_hdus_law();
+    hdu_list_law();
+    image_to_pack_law();
+    passing_law();
+    start_law();
+    sum_cards_law();
+    sum_law();
+    table_law();
+    verdicts_law();
+    walk_law();
+    whole_cards_law();
 }

@@ -3,4 +3,7 @@
 
 mod laws;
 
-pub use laws::{packed_file_law, restored_file_law, round_trip_law};
+pub use laws::{
+    cutout_file_law, first_fault_law, lossless_law, packed_file_law, restored_file_law,
+    restored_law, round_trip_law, sums_file_law,
+};

@@ -6,7 +6,7 @@ use Rattle.fz_base.specs.Counts.{Tally}
 use Rattle.fz_base.specs.JobBuffers.{buffer_bound}
 use Rattle.fz_base.specs.Meter.{Gauge, RefusedFor}
 use Rattle.fz_base.specs.Stop.{IsRefused, TellsLimit, stop_of_short}
-use Rattle.fz_base.specs.Takings.{TellsFirstPast, first_past}
+use Rattle.fz_base.specs.Takings.{TellsFirstPast, first_past, highest}
 use Rattle.fz_base.specs.declared.failure.Short.{Short}
 use Rattle.fz_base.specs.declared.failure.Short.TheVariants.{NoMemory as NoRoom, OverLimit as PastLimit}
 use Rattle.fz_base.specs.declared.failure.Stop.{Stop}
@@ -44,6 +44,10 @@ module _ (job : Job) (own : IsOfFile job) (file : List ℕ) (workers limit : ℕ
       let test : nat_lt limit (0 + 2880) ≡ false = grind (arith, nat_tests, room) in
       ap (first_past limit) (takings_of_file job file workers own)
       ∙ ap (λ b. if b then Some (0, 2880) else first_past limit (later_takings job file (workers_of job workers))) test
+
+pub passes_behind : (job : Job) (held : Option (List ℕ)) (limit workers : ℕ) → IsOfFile job → 2880 ≤ limit →
+    IfSome held (λ file. first_past limit (job_takings job file workers) ≡ first_past limit (later_takings job file (workers_of job workers)))
+passes_behind job held limit workers own room = always held (λ file. first_past limit (job_takings job file workers) ≡ first_past limit (later_takings job file (workers_of job workers))) (λ g. behind_block job own g workers limit room)
 
 -- ---- why the job ended
 
@@ -120,6 +124,13 @@ module _ (bounded : AreBounded) (job : Job) (own : IsOfFile job) where
   has_answer held source source' sink sink' limit workers (Err NoMemory) cause = λ calm quiet. always held (λ file. job_bound job file workers ≤ limit → ⊤) (λ file room. tt)
 
 -- ---- the peak
+
+pub block_reached : (job : Job) (held : Option (List ℕ)) (workers old mid new : ℕ) → IsOfFile job → mid ≡ max old 2880 → IfSome held (λ file. new ≡ max mid (highest (later_takings job file (workers_of job workers)))) →
+    IfSome held (λ file. new ≡ max old (highest (job_takings job file workers)))
+block_reached job None workers old mid new own begun reached = tt
+block_reached job (Some g) workers old mid new own begun reached =
+    let all : highest (job_takings job g workers) ≡ max 2880 (highest (later_takings job g (workers_of job workers))) = ap highest (takings_of_file job g workers own) in
+    omega (arith, begun, reached, all)
 
 pub block_peak : (job : Job) (held : Option (List ℕ)) (workers old mid new : ℕ) → mid ≤ max old 2880 → IfSome held (λ file. new ≤ max mid (job_bound job file workers)) → IfSome held (λ file. new ≤ max old (job_bound job file workers))
 block_peak job None workers old mid new begun low = tt

@@ -1,5 +1,5 @@
 -- What each job takes and wants.
-use Rattle.std.proofs.Common.{◌≡◌, ℕ, ◌+◌, ◌≤◌, List, refl, ap, ◌∙◌, arith}
+use Rattle.std.proofs.Common.{◌≡◌, ℕ, ◌+◌, ◌≤◌, ◌^◌, List, ◌∷◌, drop, refl, ap, ◌∙◌, arith}
 use Rattle.std.specs.Prelude.{Option, sum}
 use Rattle.fz_base.specs.Takings.{piled}
 use Rattle.fz_base.specs.declared.fault.Fault.{Fault}
@@ -12,6 +12,7 @@ use Rattle.fz_files.specs.Buffers.{IsOfFile, file_takings, header_takings, job_b
 use Rattle.fz_files.specs.Walks.{box_of, header_fault}
 use Rattle.fz_files.specs.declared.job.Job.{Job}
 use Rattle.fz_files.specs.declared.job.Job.TheVariants.{Pack, Unpack, Cut, Verify, List as ListHdus, Drill}
+use Rattle.fz_job.specs.Clauses.{greatest_tile}
 use Rattle.fz_survey.specs.Judges.{judge_of}
 use Rattle.fz_survey.specs.Surveys.{survey_takings}
 use Rattle.fz_survey.specs.Workspace.{BoundGrows, StaysInBound, pixels_of, wanted_buffers}
@@ -92,6 +93,24 @@ wants_pixels (Cut wanted sieve) H n = omega arith
 wants_pixels Verify H n = omega arith
 wants_pixels ListHdus H n = omega arith
 wants_pixels (Drill rows) H n = omega arith
+
+-- they are of no larger tile than the job works on
+pub wants_fit : (job : Job) (H n : ℕ) → n ≤ 2 ^ 26 → pixels_of (wants_of job H n).tile ≤ greatest_tile job
+wants_fit (Pack o) H n few = few
+wants_fit Unpack H n few = few
+wants_fit (Cut wanted sieve) H n few = few
+wants_fit Verify H n few = few
+wants_fit ListHdus H n few = omega arith
+wants_fit (Drill rows) H n few = omega arith
+
+-- and the longest header is the first of them
+pub header_first : (job : Job) (H n W : ℕ) → wanted_buffers (wants_of job H n) W ≡ H ∷ drop 1 (wanted_buffers (wants_of job H n) W)
+header_first (Pack o) H n W = refl
+header_first Unpack H n W = refl
+header_first (Cut wanted sieve) H n W = refl
+header_first Verify H n W = refl
+header_first ListHdus H n W = refl
+header_first (Drill rows) H n W = refl
 
 module _ (job : Job) (own : IsOfFile job) (file : List ℕ) (H n : ℕ) (learnt : HasLargest job H n file) where
   pub takings_of_work : (W : ℕ) → work_takings (header_fault job file) job file W ≡ piled 2880 (wanted_buffers (wants_of job H n) W)

@@ -1,5 +1,5 @@
 -- The look at the headers ended the job.
-use Rattle.std.proofs.Common.{◌≡◌, ◌^◌, ℕ, ◌+◌, ◌≤◌, max, false, List, refl, sym, ap, ◌∙◌, subst, arith}
+use Rattle.std.proofs.Common.{◌≡◌, ℕ, ◌+◌, ◌≤◌, max, false, List, refl, sym, ap, ◌∙◌, subst, arith}
 use Rattle.std.specs.Prelude.{Option, Some, None, IfSome, Err}
 use Rattle.fz_base.specs.Counts.{Tally, CountsKept}
 use Rattle.fz_base.specs.Stop.{ReadsAndTakes, StoppedTaking, TellsLimit}
@@ -11,7 +11,7 @@ use Rattle.fz_files.specs.Buffers.{AreBounded, file_takings, header_takings, job
 use Rattle.fz_files.specs.FirstFault.{IsFaultBehind}
 use Rattle.fz_files.specs.Walks.{header_fault}
 use Rattle.fz_files.specs.declared.job.Job.{Job}
-use Rattle.fz_job.specs.Clauses.{TellsFirstFault, greatest_bound}
+use Rattle.fz_job.specs.Clauses.{TellsFirstFault, greatest_bound, greatest_tile}
 use Rattle.fz_survey.specs.Surveys.{survey_takings}
 use Rattle.fz_survey.specs.Workspace.{BoundGrows, StaysInBound}
 use Rattle.fz_survey.specs.declared.checks.JobChecks.{JobChecks}
@@ -83,7 +83,7 @@ pub look_most : StaysInBound → BoundGrows → (job : Job) (workers : ℕ) → 
 look_most stays grows job workers =
     let wants : Wants = record { header_len = 737280; translates = false; tile = None } in
     let one = stays wants (workers_of job workers) in
-    let more = grows 737280 737280 0 (2 ^ 26) (workers_of job workers) (omega arith) (omega arith) in
+    let more = grows 737280 737280 0 (greatest_tile job) (workers_of job workers) (omega arith) (omega arith) in
     omega (arith, one, more)
 
 pub tells_most : (X : Type 0) (limit most more : ℕ) (stop : Stop) → most ≤ more → TellsLimit {X = Survey} limit most (Err stop) → TellsLimit {X = X} limit more (Err stop)

@@ -1,8 +1,9 @@
 -- Takings one after another: the first of them that passes a limit, and the most that is live.
-use Rattle.std.proofs.Common.{◌≡◌, ℕ, ◌+◌, ◌≤◌, true, false, nat_lt, Bool, List, [], ◌∷◌, ◌++◌, refl, ap, ◌∙◌, arith}
+use Rattle.std.proofs.Common.{◌≡◌, ℕ, ◌+◌, ◌≤◌, max, true, false, nat_lt, Bool, List, [], ◌∷◌, ◌++◌, sum, refl, ap, ◌∙◌, arith}
 use Rattle.std.specs.Prelude.{Option, Some, None, Result, Ok, Err, if◌then◌else◌}
 use Rattle.std.proofs.lemmas.Bool.Decides.{nat_tests}
-use Rattle.fz_base.specs.Takings.{TellsFirstPast, first_past, highest}
+use Rattle.std.proofs.lemmas.List.Sums.{sum_by-cons}
+use Rattle.fz_base.specs.Takings.{TellsFirstPast, first_past, highest, piled}
 use Rattle.fz_base.specs.declared.failure.Stop.{Stop}
 use Rattle.fz_base.specs.declared.failure.Stop.TheVariants.{Refused, ReadFault, WriteFault, OverLimit, NoMemory}
 
@@ -28,6 +29,18 @@ past_some limit found ((live, asked) ∷ first) second e =
 pub highest_first : (first second : List (ℕ × ℕ)) → highest first ≤ highest (first ++ second)
 highest_first [] second = omega arith
 highest_first ((live, asked) ∷ first) second = let more = highest_first first second in omega (arith, more)
+
+pub highest_both : (first second : List (ℕ × ℕ)) → highest (first ++ second) ≡ max (highest first) (highest second)
+highest_both [] second = omega arith
+highest_both ((live, asked) ∷ first) second = let more = highest_both first second in omega (arith, more)
+
+-- buffers that are taken one after another are all live after the last
+pub highest_piled : (live n : ℕ) (ns : List ℕ) → highest (piled live (n ∷ ns)) ≡ live + sum (n ∷ ns)
+highest_piled live n [] = let first : sum (n ∷ []) ≡ n + 0 = sum_by-cons (λ x. x) n [] in omega (arith, first)
+highest_piled live n (m ∷ ms) =
+    let first : sum (n ∷ m ∷ ms) ≡ n + sum (m ∷ ms) = sum_by-cons (λ x. x) n (m ∷ ms) in
+    let rest : highest (piled (live + n) (m ∷ ms)) ≡ live + n + sum (m ∷ ms) = highest_piled (live + n) m ms in
+    omega (arith, first, rest)
 
 -- a limit that no taking passes is at least the most that is live, and no larger one is passed
 pub highest_within : (limit : ℕ) (ts : List (ℕ × ℕ)) → first_past limit ts ≡ None → highest ts ≤ limit

@@ -1,5 +1,5 @@
 -- The look learnt what the work wants; the buffers for it were not given, or they were, and the work took no others.
-use Rattle.std.proofs.Common.{◌≡◌, ◌^◌, ℕ, ◌+◌, ◌≤◌, max, List, sym, ap, ◌∙◌, arith}
+use Rattle.std.proofs.Common.{◌≡◌, ◌^◌, ℕ, ◌+◌, ◌≤◌, max, List, drop, sym, ap, ◌∙◌, arith}
 use Rattle.std.specs.Prelude.{Option, Some, None, IfSome, IfErr, Result, Ok, Err, sum}
 use Rattle.fz_base.specs.Counts.{Tally}
 use Rattle.fz_base.specs.Stop.{TellsLimit, stop_of_short}
@@ -11,7 +11,7 @@ use Rattle.fz_base.specs.declared.failure.Stop.TheVariants.{Refused, ReadFault, 
 use Rattle.fz_files.specs.Buffers.{AreBounded, IsOfFile, header_takings, job_bound, work_takings, workers_of}
 use Rattle.fz_files.specs.Walks.{header_fault}
 use Rattle.fz_files.specs.declared.job.Job.{Job}
-use Rattle.fz_job.specs.Clauses.{greatest_bound}
+use Rattle.fz_job.specs.Clauses.{greatest_bound, greatest_tile}
 use Rattle.fz_job.specs.Keeps.{Rewrites, StoppedRewriting}
 use Rattle.fz_survey.specs.Surveys.{survey_takings}
 use Rattle.fz_survey.specs.Takes.{TellsTheLimit}
@@ -20,9 +20,9 @@ use Rattle.fz_survey.specs.declared.checks.JobChecks.{JobChecks}
 use Rattle.fz_survey.specs.declared.workspace.Wants.{Wants}
 use Rattle.fz_survey.specs.declared.workspace.Workspace.{Workspace}
 use Rattle.fz_stages.specs.Stages.{HasLargest, MakesChecks, StoppedWorking, Works, later_takings, wants_of}
-use Rattle.fz_stages.proofs.Jobs.{of_file, takings_of_headers, takings_of_work, wants_header, wants_pixels, work_within}
+use Rattle.fz_stages.proofs.Jobs.{header_first, of_file, takings_of_headers, takings_of_work, wants_fit, wants_header, work_within}
 use Rattle.fz_stages.proofs.Look.{headers_within, kept_same}
-use Rattle.fz_stages.proofs.Takings.{past_none, tells_same}
+use Rattle.fz_stages.proofs.Takings.{highest_both, highest_piled, past_none, tells_same}
 
 -- ---- buffers that were not given
 
@@ -66,14 +66,40 @@ module _ {X : Type 0} (source source' sink sink' : Tally) (limit : ℕ) where
 
 -- ---- what the look learnt says of the work
 
+module _ (job : Job) (checks : JobChecks) (file : List ℕ) (W live H n : ℕ) (makes : MakesChecks job checks) (one : live ≡ 2880) (learnt : HasLargest job H n file) where
+  work_is : work_takings (header_fault job file) job file W ≡ piled live (wanted_buffers (wants_of job H n) W)
+  work_is = takings_of_work job (of_file job checks makes) file H n learnt W ∙ ap (λ l. piled l (wanted_buffers (wants_of job H n) W)) (sym one)
+
+  -- after headers that pass no limit the work decides
+  passes_work : (limit : ℕ) → first_past limit (survey_takings checks live file) ≡ None → first_past limit (later_takings job file W) ≡ first_past limit (piled live (wanted_buffers (wants_of job H n) W))
+  passes_work limit none =
+      let first : first_past limit (header_takings job file) ≡ None = ap (first_past limit) (sym (takings_of_headers job checks file live makes one)) ∙ none in
+      past_none limit (header_takings job file) (work_takings (header_fault job file) job file W) first ∙ ap (first_past limit) work_is
+
+  -- the most that is live after one of them
+  highest_later : highest (later_takings job file W) ≡ max (highest (survey_takings checks live file)) (live + sum (wanted_buffers (wants_of job H n) W))
+  highest_later =
+      let both = highest_both (header_takings job file) (work_takings (header_fault job file) job file W) in
+      let headers : highest (survey_takings checks live file) ≡ highest (header_takings job file) = ap highest (takings_of_headers job checks file live makes one) in
+      let wanted : List ℕ = wanted_buffers (wants_of job H n) W in
+      let work : highest (work_takings (header_fault job file) job file W) ≡ live + sum wanted =
+      ap highest work_is ∙ (ap (λ ns. highest (piled live ns)) (header_first job H n W) ∙ (highest_piled live H (drop 1 wanted) ∙ ap (λ ns. live + sum ns) (sym (header_first job H n W)))) in
+      omega (arith, both, headers, work)
+
 past_learnt : {X : Type 0} (job : Job) (checks : JobChecks) (file : List ℕ) (W live limit H n : ℕ) (r : Result X Stop) → MakesChecks job checks → live ≡ 2880 → HasLargest job H n file →
     first_past limit (survey_takings checks live file) ≡ None → TellsFirstPast limit (piled live (wanted_buffers (wants_of job H n) W)) r → TellsFirstPast limit (later_takings job file W) r
 past_learnt job checks file W live limit H n r makes one learnt none tells =
-    let first : first_past limit (header_takings job file) ≡ None = ap (first_past limit) (sym (takings_of_headers job checks file live makes one)) ∙ none in
-    let work : work_takings (header_fault job file) job file W ≡ piled live (wanted_buffers (wants_of job H n) W) =
-    takings_of_work job (of_file job checks makes) file H n learnt W ∙ ap (λ l. piled l (wanted_buffers (wants_of job H n) W)) (sym one) in
-    tells_same limit (piled live (wanted_buffers (wants_of job H n) W)) (later_takings job file W) r
-    (past_none limit (header_takings job file) (work_takings (header_fault job file) job file W) first ∙ ap (first_past limit) work) tells
+    tells_same limit (piled live (wanted_buffers (wants_of job H n) W)) (later_takings job file W) r (passes_work job checks file W live H n makes one learnt limit none) tells
+
+pub passes_look : (job : Job) (checks : JobChecks) (held : Option (List ℕ)) (W live limit H n : ℕ) → MakesChecks job checks → live ≡ 2880 → IfSome held (HasLargest job H n) →
+    IfSome held (λ file. first_past limit (survey_takings checks live file) ≡ None) → IfSome held (λ file. first_past limit (later_takings job file W) ≡ first_past limit (piled live (wanted_buffers (wants_of job H n) W)))
+passes_look job checks None W live limit H n makes one learnt none = tt
+passes_look job checks (Some g) W live limit H n makes one learnt none = passes_work job checks g W live H n makes one learnt limit none
+
+pub work_reached : (job : Job) (checks : JobChecks) (held : Option (List ℕ)) (W live old mid new H n : ℕ) → MakesChecks job checks → live ≡ 2880 → IfSome held (HasLargest job H n) →
+    IfSome held (λ file. mid ≡ max old (highest (survey_takings checks live file))) → new ≡ max mid (live + sum (wanted_buffers (wants_of job H n) W)) → IfSome held (λ file. new ≡ max old (highest (later_takings job file W)))
+work_reached job checks None W live old mid new H n makes one learnt look work = tt
+work_reached job checks (Some g) W live old mid new H n makes one learnt look work = let all = highest_later job checks g W live H n makes one learnt in omega (arith, look, work, all)
 
 pub work_past : {X : Type 0} (job : Job) (checks : JobChecks) (held : Option (List ℕ)) (W live limit H n : ℕ) (r : Result X Stop) → MakesChecks job checks → live ≡ 2880 → IfSome held (HasLargest job H n) →
     IfSome held (λ file. first_past limit (survey_takings checks live file) ≡ None) → TellsFirstPast limit (piled live (wanted_buffers (wants_of job H n) W)) r → IfSome held (λ file. TellsFirstPast limit (later_takings job file W) r)
@@ -85,9 +111,9 @@ module _ (stays : StaysInBound) (grows : BoundGrows) where
   work_most job workers H n own header tile =
       let wants : Wants = wants_of job H n in
       let long : wants.header_len ≤ 737280 = omega (arith, wants_header job H n, header) in
-      let large : pixels_of wants.tile ≤ 2 ^ 26 = omega (arith, wants_pixels job H n, tile) in
+      let large : pixels_of wants.tile ≤ greatest_tile job = wants_fit job H n tile in
       let one = stays wants (workers_of job workers) in
-      let more = grows wants.header_len 737280 (pixels_of wants.tile) (2 ^ 26) (workers_of job workers) long large in
+      let more = grows wants.header_len 737280 (pixels_of wants.tile) (greatest_tile job) (workers_of job workers) long large in
       omega (arith, one, more)
 
   pub work_peak : AreBounded → (job : Job) (checks : JobChecks) (held : Option (List ℕ)) (workers live old mid new H n : ℕ) → MakesChecks job checks → live ≡ 2880 → IfSome held (HasLargest job H n) →

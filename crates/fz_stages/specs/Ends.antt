@@ -6,7 +6,7 @@ use Rattle.fz_base.specs.Stop.{ReadsAndTakes, StoppedTaking, TellsLimit, stop_of
 use Rattle.fz_base.specs.Takings.{TellsFirstPast, TellsShort, first_past, highest, piled}
 use Rattle.fz_base.specs.declared.failure.Short.{Short}
 use Rattle.fz_base.specs.declared.failure.Stop.{Stop}
-use Rattle.fz_files.specs.Buffers.{IsOfFile, job_bound, job_buffers, workers_of}
+use Rattle.fz_files.specs.Buffers.{IsOfFile, job_bound, job_buffers, job_takings, workers_of}
 use Rattle.fz_files.specs.declared.job.Job.{Job}
 use Rattle.fz_pool.specs.Window.{Pool}
 use Rattle.fz_job.specs.Clauses.{Answers, HasJobCause, TellsFirstFault, greatest_bound}
@@ -75,6 +75,27 @@ pub record PeaksStayWithin : Type 0 where
       IfSome held (λ file. mid ≤ max old (highest (survey_takings checks live file))) → new ≤ max mid (live + sum (wanted_buffers (wants_of job H n) (workers_of job workers))) →
       IfSome held (λ file. new ≤ max old (job_bound job file workers))
 
+-- Where the bytes of the file are told, the peak after a job that is done is the greater of that before the job and of the greatest sum of its
+-- takings.
+pub record PeaksAreReached : Type 0 where
+  -- with the block, if it is so after the block
+  pub block : (job : Job) (held : Option (List ℕ)) (workers old mid new : ℕ) → IsOfFile job → mid ≡ max old 2880 → IfSome held (λ file. new ≡ max mid (highest (later_takings job file (workers_of job workers)))) →
+      IfSome held (λ file. new ≡ max old (highest (job_takings job file workers)))
+  -- and after the work
+  pub work : (job : Job) (checks : JobChecks) (held : Option (List ℕ)) (W live old mid new H n : ℕ) → MakesChecks job checks → live ≡ 2880 → IfSome held (HasLargest job H n) →
+      IfSome held (λ file. mid ≡ max old (highest (survey_takings checks live file))) → new ≡ max mid (live + sum (wanted_buffers (wants_of job H n) W)) →
+      IfSome held (λ file. new ≡ max old (highest (later_takings job file W)))
+
+-- Which taking passes the limit first is decided by the later stages, if none of the stages so far did.
+pub record PassesLater : Type 0 where
+  -- after the block
+  pub block : (job : Job) (held : Option (List ℕ)) (limit workers : ℕ) → IsOfFile job → 2880 ≤ limit →
+      IfSome held (λ file. first_past limit (job_takings job file workers) ≡ first_past limit (later_takings job file (workers_of job workers)))
+  -- after the look
+  pub look : (job : Job) (checks : JobChecks) (held : Option (List ℕ)) (W live limit H n : ℕ) → MakesChecks job checks → live ≡ 2880 → IfSome held (HasLargest job H n) →
+      IfSome held (λ file. first_past limit (survey_takings checks live file) ≡ None) →
+      IfSome held (λ file. first_past limit (later_takings job file W) ≡ first_past limit (piled live (wanted_buffers (wants_of job H n) W)))
+
 -- What the stages take, with the block: headers of at most 256 blocks and tiles of at most 2^26 pixels, which are the most that this program takes,
 -- fit the greatest bound; and what is wanted is what the definition of the job's buffers says.
 pub record SizesFit : Type 0 where
@@ -83,7 +104,7 @@ pub record SizesFit : Type 0 where
   pub wanted : (job : Job) (H n W : ℕ) → IsOfFile job → job_buffers job H n W ≡ wanted_buffers (wants_of job H n) W
 
 -- Buffers that were taken are as many bytes as were taken, as long as none of them changes its length; and a meter that was handed back as many bytes
--- as it gave has as many live as before, the same limit, and a peak that is by so many bytes higher at most.
+-- as it gave has as many live as before, the same limit, and as its peak the greater of that before and of what was live with them.
 pub record BuffersComeBack : Type 0 where
   pub kept : (wants : Wants) (w w' : Workspace) (W : ℕ) (pool pool' : Pool) → HasLengths wants w → SpaceStays w w' → pool ≡ window_for W wants.tile → WindowStays pool pool' → held_bytes w' pool' ≡ sum (wanted_buffers wants W)
-  pub given : (old mid new : Gauge) (total bytes : ℕ) → mid ≡ taken old total → bytes ≡ total → new ≡ handed_back mid bytes → (new.live ≡ old.live) × (new.limit ≡ old.limit) × (new.peak ≤ max old.peak (old.live + total))
+  pub given : (old mid new : Gauge) (total bytes : ℕ) → mid ≡ taken old total → bytes ≡ total → new ≡ handed_back mid bytes → (new.live ≡ old.live) × (new.limit ≡ old.limit) × (new.peak ≡ max old.peak (old.live + total))

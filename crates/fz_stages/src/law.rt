@@ -1,5 +1,5 @@
 //! How the promises of a job follow from its stages: no code runs.
-ghost use Rattle.fz_stages.specs.Ends.{BlockEnds, BuffersComeBack, CausesAnswer, LookEnds, PeaksStayWithin, SizesFit, WorkEnds};
+ghost use Rattle.fz_stages.specs.Ends.{BlockEnds, BuffersComeBack, CausesAnswer, LookEnds, PassesLater, PeaksAreReached, PeaksStayWithin, SizesFit, WorkEnds};
 
 use fz_files::buffers_law;
 use fz_survey::workspace_law;
@@ -14,6 +14,8 @@ pub fn stages_law<T>()
     ensures work { WorkEnds T }
     ensures answers { CausesAnswer T }
     ensures peaks { PeaksStayWithin }
+    ensures reached { PeaksAreReached }
+    ensures passes { PassesLater }
     ensures sizes { SizesFit }
     ensures back { BuffersComeBack }
 {

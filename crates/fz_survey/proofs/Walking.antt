@@ -45,7 +45,7 @@ pub record IsAt (b : Begun) (k start peak : ℕ) (ranges : Option (List (ℕ × 
   pub learnt : survey_of b.checks g before ≡ seen
   pub walk : headers_seen b.checks g ≡ with_those before (walk_from (judge_of b.checks g) left k start g)
   pub past : first_past b.limit (survey_takings b.checks b.live g) ≡ first_past b.limit (walk_takings (judge_of b.checks g) b.live left k start g)
-  pub peaks : max peak (highest (walk_takings (judge_of b.checks g) b.live left k start g)) ≤ max b.peak (highest (survey_takings b.checks b.live g))
+  pub peaks : max peak (highest (walk_takings (judge_of b.checks g) b.live left k start g)) ≡ max b.peak (highest (survey_takings b.checks b.live g))
   pub places : (r : ℕ × ℕ) → IsWithinOne (places_from b.checks left k start g) r → IsWithinOne (survey_places b.checks g) r
   pub logs : LogsOnly (IsWithinOne (survey_places b.checks g)) b.ranges ranges
 
@@ -60,7 +60,7 @@ at_first b g = record {
   learnt = refl;
   walk = with_none (headers_seen b.checks g);
   past = refl;
-  peaks = omega arith;
+  peaks = refl;
   places = λ r is. is;
   logs = logs_none (IsWithinOne (survey_places b.checks g)) b.ranges;
 }
@@ -188,11 +188,25 @@ module _ (b : Begun) (k start peak : ℕ) (ranges : Option (List (ℕ × ℕ))) 
       let ended : (x.look.stop || next_start_of x.header == length g) ≡ true = subst (λ (n : ℕ). (x.look.stop || next_start_of x.header == n) ≡ true) (sym told) last in
       past_here g at more.0 more.1 (none_after_last b.checks k start g (rest_takings b more.0 k g) x parts ended) fits
 
+  pub peak_ends : (held : Option (List ℕ)) (len : ℕ) (x : Looked) (new : ℕ) → HoldsLength held len → IfSome held (IsAt b k start peak ranges seen) → k < most_hdus b.checks →
+      IfSome held (λ g. looked b.checks k start g ≡ Ok x) → (x.look.stop || next_start_of x.header == len) ≡ true → IfSome held (λ g. new ≡ max peak (highest (own_taking b k start g))) →
+      IfSome held (λ g. new ≡ max b.peak (highest (survey_takings b.checks b.live g)))
+  peak_ends None len x new told at few is last reached = tt
+  peak_ends (Some g) len x new told at few is last reached =
+      let more = one_left b k at.left at.count few in
+      let parts = parts_of b.checks k start g x is in
+      let ended : (x.look.stop || next_start_of x.header == length g) ≡ true = subst (λ (n : ℕ). (x.look.stop || next_start_of x.header == n) ≡ true) (sym told) last in
+      let behind : List (ℕ × ℕ) = for_those_after g (judge_of b.checks g) (rest_takings b more.0 k g) (hdu_at k start g) in
+      let none : highest behind ≡ 0 = ap highest (none_after_last b.checks k start g (rest_takings b more.0 k g) x parts ended) in
+      let apart : highest (walk_takings (judge_of b.checks g) b.live at.left k start g) ≡ max (highest (own_taking b k start g)) (highest behind) =
+      ap highest (ap (λ n. walk_takings (judge_of b.checks g) b.live n k start g) more.1 ∙ takings_apart b more.0 k start g) ∙ highest_both (own_taking b k start g) behind in
+      omega (arith, at.peaks, apart, none, reached)
+
   -- others follow
   on_here : (g : List ℕ) (x : Looked) (new : ℕ) (log : Option (List (ℕ × ℕ))) (m : ℕ) (at : IsAt b k start peak ranges seen g) → at.left ≡ suc m → k < most_hdus b.checks → seen.stopped ≡ None →
-      AreParts b.checks k start g x → (x.look.stop || next_start_of x.header == length g) ≡ false → first_past b.limit (own_taking b k start g) ≡ None → new ≤ max peak (highest (own_taking b k start g)) →
+      AreParts b.checks k start g x → (x.look.stop || next_start_of x.header == length g) ≡ false → first_past b.limit (own_taking b k start g) ≡ None → new ≡ max peak (highest (own_taking b k start g)) →
       LogsOnly (IsWithinOne (hdu_places b.checks k start g)) ranges log → IsAt b (k + 1) (next_start_of x.header) new log (joined seen x) g
-  on_here g x new log m at one few going parts on fits low logs =
+  on_here g x new log m at one few going parts on fits reached logs =
       let next : suc k ≡ k + 1 = omega arith in
       let after = those_after b.checks k start g (rest_takings b m k g) x parts on in
       let takings : walk_takings (judge_of b.checks g) b.live at.left k start g ≡ own_taking b k start g ++ walk_takings (judge_of b.checks g) b.live m (k + 1) (next_start_of x.header) g =
@@ -211,7 +225,7 @@ module _ (b : Begun) (k start peak : ℕ) (ranges : Option (List (ℕ × ℕ))) 
             ∙ with_next at.before x.header (walk_from (judge_of b.checks g) m (suc k) (next_start_of x.header) g)
             ∙ ap (λ n. with_those (at.before ++ x.header ∷ []) (walk_from (judge_of b.checks g) m n (next_start_of x.header) g)) next;
         past = at.past ∙ ap (first_past b.limit) takings ∙ past_none b.limit (own_taking b k start g) (walk_takings (judge_of b.checks g) b.live m (k + 1) (next_start_of x.header) g) fits;
-        peaks = omega (arith, at.peaks, both, low);
+        peaks = omega (arith, at.peaks, both, reached);
         places = λ r is. at.places r (subst (λ (ps : List (ℕ × ℕ)). IsWithinOne ps r) (sym behind)
             (is.0, Contains-append_right (hdu_places b.checks k start g) (places_from b.checks m (k + 1) (next_start_of x.header) g) is.0 is.1, is.2));
         logs = logs_more g log at few logs;
@@ -219,12 +233,12 @@ module _ (b : Begun) (k start peak : ℕ) (ranges : Option (List (ℕ × ℕ))) 
 
   pub walk_next : (held : Option (List ℕ)) (len : ℕ) (x : Looked) (new : ℕ) (log : Option (List (ℕ × ℕ))) → HoldsLength held len → IfSome held (IsAt b k start peak ranges seen) → k < most_hdus b.checks → seen.stopped ≡ None →
       IfSome held (λ g. looked b.checks k start g ≡ Ok x) → (x.look.stop || next_start_of x.header == len) ≡ false → IfSome held (λ g. first_past b.limit (own_taking b k start g) ≡ None) →
-      IfSome held (λ g. new ≤ max peak (highest (own_taking b k start g))) → IfSome held (λ g. LogsOnly (IsWithinOne (hdu_places b.checks k start g)) ranges log) →
+      IfSome held (λ g. new ≡ max peak (highest (own_taking b k start g))) → IfSome held (λ g. LogsOnly (IsWithinOne (hdu_places b.checks k start g)) ranges log) →
       IfSome held (IsAt b (k + 1) (next_start_of x.header) new log (joined seen x))
-  walk_next None len x new log told at few going is on fits low logs = tt
-  walk_next (Some g) len x new log told at few going is on fits low logs =
+  walk_next None len x new log told at few going is on fits reached logs = tt
+  walk_next (Some g) len x new log told at few going is on fits reached logs =
       let more = one_left b k at.left at.count few in
-      on_here g x new log more.0 at more.1 few going (parts_of b.checks k start g x is) (subst (λ (n : ℕ). (x.look.stop || next_start_of x.header == n) ≡ false) (sym told) on) fits low logs
+      on_here g x new log more.0 at more.1 few going (parts_of b.checks k start g x is) (subst (λ (n : ℕ). (x.look.stop || next_start_of x.header == n) ≡ false) (sym told) on) fits reached logs
 
   -- no HDU more may follow
   pub exact_too_long : (held : Option (List ℕ)) → IfSome held (IsAt b k start peak ranges seen) → k ≡ most_hdus b.checks → IfSome held (λ g. surveyed b.checks g ≡ Err (refusal k (Byte start) Limit))

@@ -1,5 +1,5 @@
 //! The walk over the HDUs of a file, with the checks of a job, and what it learns.
-ghost use Rattle.std.specs.Prelude.{◌≡◌, ◌⊎◌, ◌==◌, ◌&&◌, ◌||◌, ◌+◌, ◌^◌, ◌<◌, ◌≤◌, max, Some, length as len, IfOk, IfSome};
+ghost use Rattle.std.specs.Prelude.{◌≡◌, ◌⊎◌, ◌==◌, ◌&&◌, ◌||◌, ◌+◌, ◌^◌, ◌<◌, ◌≤◌, max, Some, length as len, IfOk, IfSome, OnOk};
 ghost use Rattle.fz_base.specs.Source.{LogsOnly};
 ghost use Rattle.fz_base.specs.Stop.{ReadsAndTakes, IsDefined, TellsLimit};
 ghost use Rattle.fz_base.specs.Takings.{TellsFirstPast, highest};
@@ -16,7 +16,7 @@ ghost use Rattle.fz_survey.specs.Surveys.{IsSurvey, hdu_places, surveyed, survey
 use crate::JobChecks;
 use crate::look::{Looked, check_hdu};
 use fz_base::{Fault, Kind, Meter, Place, Source, Stop};
-use fz_block::{BLOCK_LEN, Header, header_at, next_start};
+use fz_block::{BLOCK_LEN, Header, hdu_at_law, header_at, next_start};
 
 /// What the first look of a job learns of a file.
 #[derive(Clone, Copy, Debug, PartialEq, Eq)]
@@ -54,6 +54,7 @@ pub fn survey_headers<S: Source>(
     ensures risen { meter.old.peak ≤ meter.new.peak }
     ensures first_past { IfSome (S.held source.old) (λ g. TellsFirstPast meter.old.limit (survey_takings checks.now meter.old.live g) result) }
     ensures peak { IfSome (S.held source.old) (λ g. meter.new.peak ≤ max meter.old.peak (highest (survey_takings checks.now meter.old.live g))) }
+    ensures exact_peak { OnOk result (IfSome (S.held source.old) (λ g. meter.new.peak ≡ max meter.old.peak (highest (survey_takings checks.now meter.old.live g)))) }
     ensures most { TellsLimit meter.old.limit (meter.old.live + 737280) result }
     ensures peak_most { meter.new.peak ≤ max meter.old.peak (meter.old.live + 737280) }
     ensures touched { IfSome (S.held source.old) (λ g. LogsOnly (IsWithinOne (survey_places checks.now g)) (S.ranges source.old) (S.ranges source.new)) }
@@ -137,6 +138,7 @@ fn look_at<S: Source>(
     ensures risen { meter.old.peak ≤ meter.new.peak }
     ensures first_past { IfSome (S.held source.old) (λ g. TellsFirstPast meter.old.limit (header_taking meter.old.live (header_blocks_of hdu start g)) result) }
     ensures peak { IfSome (S.held source.old) (λ g. meter.new.peak ≤ max meter.old.peak (highest (header_taking meter.old.live (header_blocks_of hdu start g)))) }
+    ensures exact_peak { OnOk result (IfSome (S.held source.old) (λ g. meter.new.peak ≡ max meter.old.peak (highest (header_taking meter.old.live (header_blocks_of hdu start g))))) }
     ensures most { TellsLimit meter.old.limit (meter.old.live + 737280) result }
     ensures peak_most { meter.new.peak ≤ max meter.old.peak (meter.old.live + 737280) }
     ensures touched { IfSome (S.held source.old) (λ g. LogsOnly (IsWithinOne (hdu_places checks.now hdu start g)) (S.ranges source.old) (S.ranges source.new)) }
@@ -145,6 +147,8 @@ fn look_at<S: Source>(
     ensures attached { S.attached source.new ≡ S.attached source.old }
     ensures cause { ReadsAndTakes (S.tally source.old) (S.tally source.new) meter.old.limit result }
 {
+    // The header that was read has the blocks that were searched for its taking.
+    hdu_at_law();
     let read = header_at(source, length, hdu, start, meter, block)?;
     let header = read.facts;
     let buf = read.bytes.as_slice();

@@ -1,5 +1,5 @@
 //! The first look of each job.
-ghost use Rattle.std.specs.Prelude.{◌≡◌, ◌+◌, ◌≤◌, max, Some, length as len, IfOk, IfSome, IsSome};
+ghost use Rattle.std.specs.Prelude.{◌≡◌, ◌+◌, ◌≤◌, max, Some, length as len, IfOk, IfSome, IsSome, OnOk};
 ghost use Rattle.fz_base.specs.Source.{LogsOnly};
 ghost use Rattle.fz_base.specs.Stop.{ReadsAndTakes, IsDefined, TellsLimit};
 ghost use Rattle.fz_base.specs.Takings.{TellsFirstPast, highest};
@@ -36,6 +36,7 @@ pub fn survey_to_pack<S: Source>(
     ensures risen { meter.old.peak ≤ meter.new.peak }
     ensures first_past { IfSome (S.held source.old) (λ g. TellsFirstPast meter.old.limit (survey_takings (Pack options.now) meter.old.live g) result) }
     ensures peak { IfSome (S.held source.old) (λ g. meter.new.peak ≤ max meter.old.peak (highest (survey_takings (Pack options.now) meter.old.live g))) }
+    ensures exact_peak { OnOk result (IfSome (S.held source.old) (λ g. meter.new.peak ≡ max meter.old.peak (highest (survey_takings (Pack options.now) meter.old.live g)))) }
     ensures most { TellsLimit meter.old.limit (meter.old.live + 737280) result }
     ensures peak_most { meter.new.peak ≤ max meter.old.peak (meter.old.live + 737280) }
     ensures touched { IfSome (S.held source.old) (λ g. LogsOnly (IsWithinOne (survey_places (Pack options.now) g)) (S.ranges source.old) (S.ranges source.new)) }
@@ -65,6 +66,7 @@ pub fn survey_to_unpack<S: Source>(
     ensures risen { meter.old.peak ≤ meter.new.peak }
     ensures first_past { IfSome (S.held source.old) (λ g. TellsFirstPast meter.old.limit (survey_takings Unpack meter.old.live g) result) }
     ensures peak { IfSome (S.held source.old) (λ g. meter.new.peak ≤ max meter.old.peak (highest (survey_takings Unpack meter.old.live g))) }
+    ensures exact_peak { OnOk result (IfSome (S.held source.old) (λ g. meter.new.peak ≡ max meter.old.peak (highest (survey_takings Unpack meter.old.live g)))) }
     ensures most { TellsLimit meter.old.limit (meter.old.live + 737280) result }
     ensures peak_most { meter.new.peak ≤ max meter.old.peak (meter.old.live + 737280) }
     ensures touched { IfSome (S.held source.old) (λ g. LogsOnly (IsWithinOne (survey_places Unpack g)) (S.ranges source.old) (S.ranges source.new)) }
@@ -100,6 +102,7 @@ pub fn survey_to_cut<S: Source>(
     ensures risen { meter.old.peak ≤ meter.new.peak }
     ensures first_past { IfSome (S.held source.old) (λ g. TellsFirstPast meter.old.limit (survey_takings (Cut wanted region.now) meter.old.live g) result) }
     ensures peak { IfSome (S.held source.old) (λ g. meter.new.peak ≤ max meter.old.peak (highest (survey_takings (Cut wanted region.now) meter.old.live g))) }
+    ensures exact_peak { OnOk result (IfSome (S.held source.old) (λ g. meter.new.peak ≡ max meter.old.peak (highest (survey_takings (Cut wanted region.now) meter.old.live g)))) }
     ensures most { TellsLimit meter.old.limit (meter.old.live + 737280) result }
     ensures peak_most { meter.new.peak ≤ max meter.old.peak (meter.old.live + 737280) }
     ensures touched { IfSome (S.held source.old) (λ g. LogsOnly (IsWithinOne (survey_places (Cut wanted region.now) g)) (S.ranges source.old) (S.ranges source.new)) }

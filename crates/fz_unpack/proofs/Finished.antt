@@ -1,8 +1,9 @@
 -- What the job promises where the first look knows the file, by what the work behind it says.
 use Rattle.std.proofs.Common.{◌≡◌, ◌⊎◌, inl, inr, ℕ, List, sym, subst}
-use Rattle.std.specs.Prelude.{Option, Some, None, IfSome, Result, Ok, Err, OnOk, IsErrOf}
+use Rattle.std.specs.Prelude.{Option, Some, None, IfSome, Result, Ok, Err, OnOk, IsErrOf, IsSome}
 use Rattle.fz_base.specs.FirstByte.{IsShut}
 use Rattle.fz_base.specs.Stop.{IfRefused}
+use Rattle.fz_base.specs.Takings.{first_past}
 use Rattle.fz_base.specs.declared.fault.Fault.{Fault}
 use Rattle.fz_base.specs.declared.failure.Stop.{Stop}
 use Rattle.fz_base.specs.declared.failure.Stop.TheVariants.{Refused, ReadFault, WriteFault, OverLimit, NoMemory}
@@ -16,7 +17,7 @@ use Rattle.fz_survey.specs.Surveys.{surveyed}
 use Rattle.fz_survey.specs.declared.checks.JobChecks.TheVariants.{Unpack as UnpackChecks}
 use Rattle.fz_survey.specs.declared.survey.Survey.{Survey}
 use Rattle.fz_unpack.specs.Output.{HoldsRestored}
-use Rattle.fz_job.specs.Clauses.{ComesLate, IfOverLimit, IsShutOrWhole, IsUnmade, TellsFirstFault}
+use Rattle.fz_job.specs.Clauses.{ComesLate, IfOverLimit, IsShutOrWhole, StaysUnmade, TellsFirstFault}
 use Rattle.fz_stages.specs.Stages.{HasLargest}
 use Rattle.fz_again.specs.Known.{IsKnown, IsList, SurveysKnow}
 use Rattle.fz_unpack.specs.Written.{AreRestored, AreShutOrWhole, FinishesSeen}
@@ -71,8 +72,9 @@ module _ (know : SurveysKnow Unpack) (s : Survey) where
   work_faulty held now (Err (OverLimit live asked limit)) exact written = tt
   work_faulty held now (Err NoMemory) exact written = tt
 
-  pub work_unmade : {X : Type 0} (held : Option (List ℕ)) (Same : Type 0) (r : Result X Stop) → IfSome held (Knows s) → IfOverLimit r Same → IfRefused r (ComesLate Unpack) → IsUnmade Unpack held Same r
-  work_unmade held Same r exact over late = record { faulty = by_held held exact; over_limit = over; refused = refused_weaker r (λ x is. inr is) late }
+  pub work_unmade : {X : Type 0} (held : Option (List ℕ)) (limit : ℕ) (takings : List ℕ → List (ℕ × ℕ)) (Same : Type 0) (r : Result X Stop) → IfSome held (Knows s) → IfSome held (λ file. IsSome (first_past limit (takings file)) → Same) →
+      IfOverLimit r Same → IfRefused r (ComesLate Unpack) → StaysUnmade Unpack held limit takings Same r
+  work_unmade held limit takings Same r exact past over late = record { faulty = by_held held exact; past = past; over_limit = over; refused = refused_weaker r (λ x is. inr is) late }
     where
       by_held : (told : Option (List ℕ)) → IfSome told (Knows s) → IfSome told (λ file. ¬ (header_fault Unpack file ≡ None) → Same)
       by_held None is = tt

@@ -1,9 +1,10 @@
 -- What the job promises that does not touch its sink, and what the look at the headers tells of its end.
-use Rattle.std.proofs.Common.{◌≡◌, ◌⊎◌, inl, ℕ, ◌≤◌, max, List, [], ◌∷◌, arith}
-use Rattle.std.specs.Prelude.{Option, Some, None, IfErr, IfSome, Result, Ok, Err}
+use Rattle.std.proofs.Common.{◌≡◌, ◌⊎◌, inl, ℕ, ◌≤◌, max, List, [], ◌∷◌, arith, subst, sym}
+use Rattle.std.specs.Prelude.{Option, Some, None, IfErr, IfSome, Result, Ok, Err, IsSome, OnOk}
 use Rattle.fz_base.specs.Counts.{Tally, CountsKept}
 use Rattle.fz_base.specs.FirstByte.{IsShut}
 use Rattle.fz_base.specs.Stop.{IfRefused, IsDefined, stop_of_short}
+use Rattle.fz_base.specs.Takings.{first_past, piled}
 use Rattle.fz_base.specs.declared.fault.Fault.{Fault}
 use Rattle.fz_base.specs.declared.failure.Short.{Short}
 use Rattle.fz_base.specs.declared.failure.Short.TheVariants.{NoMemory as NoRoom, OverLimit as PastLimit}
@@ -15,7 +16,7 @@ use Rattle.fz_files.specs.declared.job.Job.TheVariants.{Unpack}
 use Rattle.fz_survey.specs.Surveys.{surveyed}
 use Rattle.fz_survey.specs.declared.checks.JobChecks.TheVariants.{Unpack as UnpackChecks}
 use Rattle.fz_survey.specs.declared.survey.Survey.{Survey}
-use Rattle.fz_job.specs.Clauses.{IfOverLimit, ComesLate, IsShutOrWhole, IsUnmade, TellsFirstFault}
+use Rattle.fz_job.specs.Clauses.{ComesLate, IfOverLimit, IsShutOrWhole, StaysUnmade, TellsFirstFault}
 use Rattle.fz_job.specs.Keeps.{StoppedRewriting}
 use Rattle.fz_stages.specs.Stages.{TellsHeaderFault}
 use Rattle.fz_again.specs.Known.{SurveysRefuse}
@@ -65,6 +66,41 @@ stop_weaker X Y WriteFault weaker is = tt
 stop_weaker X Y (OverLimit live asked limit) weaker is = tt
 stop_weaker X Y NoMemory weaker is = tt
 
+pub ok_always : {X : Type 0} (r : Result X Stop) (P : Type 0) → P → OnOk r P
+ok_always (Ok x) P is = is
+ok_always (Err stop) P is = tt
+
+pub ok_weaker : {X : Type 0} (r : Result X Stop) {P Q : Type 0} → (P → Q) → OnOk r P → OnOk r Q
+ok_weaker (Ok x) weaker is = weaker is
+ok_weaker (Err stop) weaker is = tt
+
+-- buffers that were all given pass no limit
+pub none_passed : (P : Type 0) (first : Option (ℕ × ℕ)) → first ≡ None → IsSome first → P
+none_passed P first none some = let never : IsSome {T = ℕ × ℕ} None = subst IsSome none some in absurd cc
+
+-- the same limit, and as many bytes that are live
+pub past_at : (limit limit' live live' : ℕ) (buffers : List ℕ) (Same : Type 0) → limit ≡ limit' → live ≡ live' → (IsSome (first_past limit (piled live buffers)) → Same) → IsSome (first_past limit' (piled live' buffers)) → Same
+past_at limit limit' live live' buffers Same one two is = λ some.
+    is (subst (λ (n : ℕ). IsSome (first_past n (piled live buffers))) (sym one) (subst (λ (n : ℕ). IsSome (first_past limit' (piled n buffers))) (sym two) some))
+
+-- what holds if one of the last takings passes the limit holds if one of all does
+pub past_by : (held : Option (List ℕ)) (first : List ℕ → Option (ℕ × ℕ)) (last : Option (ℕ × ℕ)) (Same : Type 0) → IfSome held (λ g. first g ≡ last) → (IsSome last → Same) → IfSome held (λ g. IsSome (first g) → Same)
+past_by None first last Same passes is = tt
+past_by (Some g) first last Same passes is = λ some. is (subst IsSome passes some)
+
+past_same : (held : Option (List ℕ)) (first last : List ℕ → Option (ℕ × ℕ)) (Same : Type 0) → IfSome held (λ g. first g ≡ last g) → IfSome held (λ g. IsSome (last g) → Same) → IfSome held (λ g. IsSome (first g) → Same)
+past_same None first last Same passes is = tt
+past_same (Some g) first last Same passes is = λ some. is (subst IsSome passes some)
+
+pub all_unmade : {X : Type 0} (job : Job) (held : Option (List ℕ)) (limit : ℕ) (all later : List ℕ → List (ℕ × ℕ)) (Same : Type 0) (r : Result X Stop) → IfSome held (λ g. first_past limit (all g) ≡ first_past limit (later g)) →
+    StaysUnmade job held limit later Same r → StaysUnmade job held limit all Same r
+all_unmade job held limit all later Same r passes is = record {
+  faulty = is.faulty;
+  past = past_same held (λ g. first_past limit (all g)) (λ g. first_past limit (later g)) Same passes is.past;
+  over_limit = is.over_limit;
+  refused = is.refused;
+}
+
 -- what takes no buffers passes no limit
 pub rewrite_over : {X : Type 0} (source source' sink sink' : Tally) (r : Result X Stop) (P : Type 0) → IfErr r (StoppedRewriting source source' sink sink') → IfOverLimit r P
 rewrite_over source source' sink sink' (Ok x) P why = tt
@@ -85,9 +121,10 @@ pub untouched_shut : {X : Type 0} (contents : Option (List ℕ)) (Whole : Type 0
 untouched_shut contents Whole (Ok x) empty = tt
 untouched_shut contents Whole (Err stop) empty = inl (shut_empty contents empty)
 
-pub untouched_unmade : {X : Type 0} (job : Job) (held : Option (List ℕ)) (Same : Type 0) (r : Result X Stop) → Same → IsUnmade job held Same r
-untouched_unmade job held Same r is = record {
+pub untouched_unmade : {X : Type 0} (job : Job) (held : Option (List ℕ)) (limit : ℕ) (takings : List ℕ → List (ℕ × ℕ)) (Same : Type 0) (r : Result X Stop) → Same → StaysUnmade job held limit takings Same r
+untouched_unmade job held limit takings Same r is = record {
   faulty = always held (λ file. ¬ (header_fault job file ≡ None) → Same) (λ g faulty. is);
+  past = always held (λ file. IsSome (first_past limit (takings file)) → Same) (λ g some. is);
   over_limit = if_over r Same is;
   refused = if_refused r (λ x. Same ⊎ ComesLate job x) (λ x. inl is);
 }

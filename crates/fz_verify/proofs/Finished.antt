@@ -1,9 +1,10 @@
 -- What a job promises where the first look knows the file, by what the work behind it says.
 use Rattle.std.proofs.Common.{◌≡◌, inr, ℕ, Bool, List, map, sym, ap, ◌∙◌, subst}
-use Rattle.std.specs.Prelude.{Option, Some, None, IfSome, IfOk, Result, Ok, Err, not}
+use Rattle.std.specs.Prelude.{Option, Some, None, IfSome, IfOk, Result, Ok, Err, not, IsSome}
 use Rattle.std.specs.List.{list_any}
 use Rattle.fz_base.specs.Sink.{MayAppend, appended}
 use Rattle.fz_base.specs.Stop.{IfRefused}
+use Rattle.fz_base.specs.Takings.{first_past}
 use Rattle.fz_base.specs.declared.fault.Fault.{Fault}
 use Rattle.fz_base.specs.declared.failure.Stop.{Stop}
 use Rattle.fz_base.specs.declared.failure.Stop.TheVariants.{Refused, ReadFault, WriteFault, OverLimit, NoMemory}
@@ -19,7 +20,7 @@ use Rattle.fz_files.specs.declared.job.Job.TheVariants.{Verify, List as ListHdus
 use Rattle.fz_survey.specs.Surveys.{surveyed}
 use Rattle.fz_survey.specs.declared.checks.JobChecks.TheVariants.{Unpack as UnpackChecks}
 use Rattle.fz_survey.specs.declared.survey.Survey.{Survey}
-use Rattle.fz_job.specs.Clauses.{ComesLate, IfOverLimit, IsUnmade, TellsFirstFault}
+use Rattle.fz_job.specs.Clauses.{ComesLate, IfOverLimit, StaysUnmade, TellsFirstFault}
 use Rattle.fz_verify.specs.Clauses.{GotFront, IsRightAsSaid, PrintsLines}
 use Rattle.fz_verify.specs.Printed.{GotSome, GotVerified, ListsSeen, VerifiesSeen, list_lines, verify_lines}
 use Rattle.fz_again.specs.Known.{IsKnown, SurveysKnow}
@@ -33,8 +34,9 @@ Knows s g = surveyed UnpackChecks g ≡ Ok s
 -- ---- what both jobs promise
 
 module _ (job : Job) (know : SurveysKnow job) (s : Survey) where
-  pub work_silent : {X : Type 0} (held : Option (List ℕ)) (Same : Type 0) (r : Result X Stop) → IfSome held (Knows s) → IfOverLimit r Same → IfRefused r (ComesLate job) → IsUnmade job held Same r
-  work_silent held Same r exact over late = record { faulty = by_held held exact; over_limit = over; refused = refused_weaker r (λ x is. inr is) late }
+  pub work_silent : {X : Type 0} (held : Option (List ℕ)) (limit : ℕ) (takings : List ℕ → List (ℕ × ℕ)) (Same : Type 0) (r : Result X Stop) → IfSome held (Knows s) → IfSome held (λ file. IsSome (first_past limit (takings file)) → Same) →
+      IfOverLimit r Same → IfRefused r (ComesLate job) → StaysUnmade job held limit takings Same r
+  work_silent held limit takings Same r exact past over late = record { faulty = by_held held exact; past = past; over_limit = over; refused = refused_weaker r (λ x is. inr is) late }
     where
       by_held : (told : Option (List ℕ)) → IfSome told (Knows s) → IfSome told (λ file. ¬ (header_fault job file ≡ None) → Same)
       by_held None is = tt

@@ -4,6 +4,7 @@ pub mod Ends
 pub mod Few
 pub mod Finished
 pub mod Flags
+pub mod HeaderReads
 pub mod Held
 pub mod Judged
 pub mod Lengths
@@ -11,6 +12,7 @@ pub mod ListedHdus
 pub mod One
 pub mod Outcomes
 pub mod Parts
+pub mod Reports
 pub mod Rounds
 pub mod Rows
 pub mod Said

@@ -1,5 +1,5 @@
 //! The HDUs of a file, verified one after another.
-ghost use Rattle.std.specs.Prelude.{ℕ, ◌≡◌, ◌+◌, ◌*◌, ◌≤◌, ◌<◌, ◌^◌, Some, length as len, replicate, IfSome};
+ghost use Rattle.std.specs.Prelude.{ℕ, ◌≡◌, ◌+◌, ◌*◌, ◌≤◌, ◌<◌, ◌^◌, Some, length as len, replicate, IfOk, IfSome};
 ghost use Rattle.fz_base.specs.Stop.{IfRefused};
 ghost use Rattle.fz_base.specs.Told.{StaysTold};
 ghost use Rattle.fz_files.specs.Restored.{pixels_of};
@@ -9,6 +9,7 @@ ghost use Rattle.fz_survey.specs.Workspace.{SpaceStays};
 ghost use Rattle.fz_job.specs.Clauses.{ComesLate, IsOfSomeRow};
 ghost use Rattle.fz_job.specs.Keeps.{Rewrites, SourceStays, WindowStays};
 ghost use Rattle.fz_again.specs.Again.{IsAgain};
+ghost use Rattle.fz_verify.specs.Reported.{Grew, Reports};
 ghost use Rattle.fz_verify.specs.Printed.{ChecksHdu, VerifiesSeen};
 
 use crate::hdu::verify_hdu;
@@ -41,6 +42,8 @@ pub(crate) fn verify_hdus<R: Threads + Sync, S: Source, T: Text, G: Gate>(
     requires copy { 4096 ≤ len space.old.copy }
     requires block { len block.old ≡ 2880 }
     ensures verified { IfSome (S.held source.old) (λ g. VerifiesSeen g survey.now (T.contents text.old) (T.contents text.new) result) }
+    ensures reported { IfOk result (Reports (T.contents text.old) (T.contents text.new)) }
+    ensures grown { Grew (T.contents text.old) (T.contents text.new) }
     ensures late { IfRefused result (ComesLate Verify) }
     ensures block { len block.new ≡ 2880 }
     ensures space { SpaceStays space.old space.new }
@@ -91,6 +94,8 @@ fn print_verified<R: Threads + Sync, S: Source, T: Text, G: Gate>(
     requires window { IfSome again.now.image (λ i. HasSlotsFor (pixels_of i.plan 0) window.old) }
     requires copy { 4096 ≤ len space.old.copy }
     ensures checked { IfSome (S.held source.old) (λ g. ChecksHdu g again.now.header (T.contents text.old) (T.contents text.new) result) }
+    ensures reported { IfOk result (Reports (T.contents text.old) (T.contents text.new)) }
+    ensures grown { Grew (T.contents text.old) (T.contents text.new) }
     ensures row { IfRefused result IsOfSomeRow }
     ensures space { SpaceStays space.old space.new }
     ensures window { WindowStays window.old window.new }

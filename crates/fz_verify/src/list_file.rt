@@ -1,20 +1,24 @@
 //! The job `list`: look at all headers, take a buffer for the longest, and print.
-ghost use Rattle.std.specs.Prelude.{◌≡◌, ◌+◌, ◌<◌, ◌≤◌, max, Some, length as len, sum, IfSome};
+ghost use Rattle.std.specs.Prelude.{◌≡◌, ◌+◌, ◌<◌, ◌≤◌, max, Some, length as len, sum, IfSome, IsSome, OnOk};
+ghost use Rattle.fz_base.specs.Ranges.{LogsIn};
 ghost use Rattle.fz_base.specs.Stop.{IfRefused, TellsLimit};
-ghost use Rattle.fz_base.specs.Takings.{TellsFirstPast, piled};
+ghost use Rattle.fz_base.specs.Takings.{TellsFirstPast, first_past, highest, piled};
 ghost use Rattle.fz_base.specs.Told.{StaysTold};
-ghost use Rattle.fz_files.specs.Buffers.{job_bound};
+ghost use Rattle.fz_files.specs.Buffers.{job_bound, job_takings};
+ghost use Rattle.fz_files.specs.Reads.{header_ranges};
 ghost use Rattle.fz_files.specs.declared.job.Job.TheVariants.{List as ListHdus};
 ghost use Rattle.fz_survey.specs.Workspace.{wanted_buffers};
-ghost use Rattle.fz_job.specs.Clauses.{Answers, HasJobCause, IfOverLimit, IsChanged, IsUnmade, KeepsSource, TellsFirstFault, greatest_bound};
+ghost use Rattle.fz_job.specs.Clauses.{Answers, HasJobCause, IfOverLimit, IsChanged, IsUnmade, KeepsSource, StaysUnmade, TellsFirstFault, greatest_bound};
 ghost use Rattle.fz_job.specs.Keeps.{SourceStays};
 ghost use Rattle.fz_verify.specs.Clauses.{KeepsMeter, PrintsLines};
 ghost use Rattle.fz_verify.specs.Printed.{ListsSeen};
+ghost use Rattle.fz_verify.specs.Reported.{Grew};
+ghost use Rattle.fz_verify.specs.Reads.{ReadsHeaders};
 ghost use Rattle.fz_stages.specs.Stages.{Works, later_takings, wants_for};
 
 use crate::listing::list_hdus;
-use fz_again::known_law;
-use fz_base::{Meter, Source, Stop, Text};
+use fz_again::{headers_law, known_law};
+use fz_base::{Meter, Source, Stop, Text, ranges_law};
 use fz_block::BLOCK_LEN;
 use fz_stages::stages_law;
 use fz_survey::{Survey, survey_to_unpack};
@@ -33,13 +37,22 @@ pub fn list<S: Source, T: Text>(
     requires nothing_live { meter.old.live ≡ 0 }
 
     ensures lines { PrintsLines ListHdus (S.held source.old) (T.contents text.old) (T.contents text.new) result }
+    // Of every source: nothing that was printed is taken back.
+    ensures grown { Grew (T.contents text.old) (T.contents text.new) }
     ensures first_fault { TellsFirstFault ListHdus (S.held source.old) result }
     // Where no count of faults rose and the limit is at least the bound, the first fault alone decides.
     ensures answered { Answers ListHdus (S.held source.old) (S.tally source.old) (S.tally source.new) (T.tally text.old) (T.tally text.new) meter.old.limit 1 result }
     ensures cause { HasJobCause ListHdus (S.held source.old) (S.tally source.old) (S.tally source.new) (T.tally text.old) (T.tally text.new) meter.old.limit 1 result }
     // Nothing is printed where a header is refused.
-    ensures silent { IsUnmade ListHdus (S.held source.old) ((T.contents text.new ≡ T.contents text.old) × (T.tally text.new ≡ T.tally text.old)) result }
+    ensures silent { IsUnmade ListHdus (S.held source.old) meter.old.limit 1
+        ((T.contents text.new ≡ T.contents text.old) × (T.tally text.new ≡ T.tally text.old)) result }
     ensures buffers { KeepsMeter ListHdus (S.held source.old) meter.old meter.new }
+    // No data are read.
+    ensures touched { IfSome (S.held source.old) (λ g. LogsIn (header_ranges ListHdus g) (S.ranges source.old) (S.ranges source.new)) }
+    // After a job that is done the peak is exactly the greatest sum of its takings, for so many workers.
+    ensures exact_peak { OnOk result (IfSome (S.held source.old) (λ g. meter.new.peak ≡ max meter.old.peak (highest (job_takings ListHdus g 1)))) }
+    // The first block is taken before anything is read.
+    ensures unread { meter.old.limit < 2880 → S.ranges source.new ≡ S.ranges source.old }
     ensures kept { KeepsSource (S.held source.old) (S.held source.new) (S.attached source.old) (S.attached source.new) (S.tally source.old) (S.tally source.new) (T.tally text.old) (T.tally text.new) }
     ensures told_ranges { StaysTold (S.ranges source.old) (S.ranges source.new) }
     ensures told_contents { StaysTold (T.contents text.old) (T.contents text.new) }
@@ -64,10 +77,13 @@ fn list_with_block<S: Source, T: Text>(
     requires one_block { meter.old.live ≡ 2880 }
     requires block { len block.old ≡ 2880 }
     ensures lines { PrintsLines ListHdus (S.held source.old) (T.contents text.old) (T.contents text.new) result }
+    ensures grown { Grew (T.contents text.old) (T.contents text.new) }
     ensures first_fault { TellsFirstFault ListHdus (S.held source.old) result }
-    ensures silent { IsUnmade ListHdus (S.held source.old) ((T.contents text.new ≡ T.contents text.old) × (T.tally text.new ≡ T.tally text.old)) result }
+    ensures silent { StaysUnmade ListHdus (S.held source.old) meter.old.limit (λ g. later_takings ListHdus g 1)
+        ((T.contents text.new ≡ T.contents text.old) × (T.tally text.new ≡ T.tally text.old)) result }
     ensures first_past { IfSome (S.held source.old) (λ g. TellsFirstPast meter.old.limit (later_takings ListHdus g 1) result) }
     ensures peak { IfSome (S.held source.old) (λ g. meter.new.peak ≤ max meter.old.peak (job_bound ListHdus g 1)) }
+    ensures exact_peak { OnOk result (IfSome (S.held source.old) (λ g. meter.new.peak ≡ max meter.old.peak (highest (later_takings ListHdus g 1)))) }
     ensures most { TellsLimit meter.old.limit (greatest_bound ListHdus 1) result }
     ensures peak_most { meter.new.peak ≤ max meter.old.peak (greatest_bound ListHdus 1) }
     ensures live { meter.new.live ≡ meter.old.live }
@@ -76,9 +92,12 @@ fn list_with_block<S: Source, T: Text>(
     ensures told_ranges { StaysTold (S.ranges source.old) (S.ranges source.new) }
     ensures told_contents { StaysTold (T.contents text.old) (T.contents text.new) }
     ensures cause { Works (S.tally source.old) (S.tally source.new) (T.tally text.old) (T.tally text.new) meter.old.limit result }
+    ensures touched { IfSome (S.held source.old) (λ g. LogsIn (header_ranges ListHdus g) (S.ranges source.old) (S.ranges source.new)) }
 {
-    // What the survey says of the file, and what follows from it for the job.
+    // What the survey reads and says of the file, and what follows from it for the job.
+    headers_law();
     known_law();
+    ranges_law();
     stages_law::<()>();
     let survey = survey_to_unpack(source, length, meter, block)?;
     list_seen(source, length, text, meter, &survey, block)
@@ -98,12 +117,17 @@ fn list_seen<S: Source, T: Text>(
     requires few { survey.now.hdus ≤ 65536 }
     requires block { len block.old ≡ 2880 }
     ensures listed { IfSome (S.held source.old) (λ g. ListsSeen g survey.now (T.contents text.old) (T.contents text.new) result) }
+    ensures grown { Grew (T.contents text.old) (T.contents text.new) }
     ensures silent { IfOverLimit result ((T.contents text.new ≡ T.contents text.old) × (T.tally text.new ≡ T.tally text.old)) }
     ensures first_past { TellsFirstPast meter.old.limit (piled meter.old.live (wanted_buffers (wants_for ListHdus survey.now) 1)) result }
+    ensures past { IsSome (first_past meter.old.limit (piled meter.old.live (wanted_buffers (wants_for ListHdus survey.now) 1)))
+        → (T.contents text.new ≡ T.contents text.old) × (T.tally text.new ≡ T.tally text.old) }
     ensures peak { meter.new.peak ≤ max meter.old.peak (meter.old.live + sum (wanted_buffers (wants_for ListHdus survey.now) 1)) }
+    ensures exact_peak { OnOk result (meter.new.peak ≡ max meter.old.peak (meter.old.live + sum (wanted_buffers (wants_for ListHdus survey.now) 1))) }
     ensures live { meter.new.live ≡ meter.old.live }
     ensures limit { meter.new.limit ≡ meter.old.limit }
     ensures changed { IfRefused result IsChanged }
+    ensures read { IfSome (S.held source.old) (λ g. ReadsHeaders g survey.now (S.ranges source.old) (S.ranges source.new)) }
     ensures source { SourceStays (S.held source.old) (S.held source.new) (S.attached source.old) (S.attached source.new) }
     ensures told_ranges { StaysTold (S.ranges source.old) (S.ranges source.new) }
     ensures told_contents { StaysTold (T.contents text.old) (T.contents text.new) }

@@ -8,10 +8,12 @@ ghost use Rattle.fz_job.specs.Keeps.{Rewrites, SourceStays};
 ghost use Rattle.fz_again.specs.Again.{IsAgain};
 ghost use Rattle.fz_verify.specs.Lines.{listed_text};
 ghost use Rattle.fz_verify.specs.Printed.{ListsSeen};
+ghost use Rattle.fz_verify.specs.Reported.{Grew};
+ghost use Rattle.fz_verify.specs.Reads.{ReadsHeaders};
 
 use crate::lines::{list_line, print};
 use fz_again::{ReadHdu, read_again};
-use fz_base::{Source, Stop, Text};
+use fz_base::{Source, Stop, Text, ranges_law};
 use fz_block::next_start;
 use fz_survey::Survey;
 
@@ -30,7 +32,9 @@ pub(crate) fn list_hdus<S: Source, T: Text>(
     requires block { len block.old ≡ 2880 }
     requires buf { len buf.old ≡ survey.now.header_len }
     ensures listed { IfSome (S.held source.old) (λ g. ListsSeen g survey.now (T.contents text.old) (T.contents text.new) result) }
+    ensures grown { Grew (T.contents text.old) (T.contents text.new) }
     ensures changed { IfRefused result IsChanged }
+    ensures read { IfSome (S.held source.old) (λ g. ReadsHeaders g survey.now (S.ranges source.old) (S.ranges source.new)) }
     ensures block { len block.new ≡ 2880 }
     ensures buf { len buf.new ≡ len buf.old }
     ensures source { SourceStays (S.held source.old) (S.held source.new) (S.attached source.old) (S.attached source.new) }
@@ -38,6 +42,7 @@ pub(crate) fn list_hdus<S: Source, T: Text>(
     ensures told_contents { StaysTold (T.contents text.old) (T.contents text.new) }
     ensures cause { Rewrites (S.tally source.old) (S.tally source.new) (T.tally text.old) (T.tally text.new) result }
 {
+    ranges_law();
     let mut start = 0;
     let mut after_empty = false;
     for hdu in 0..survey.hdus {

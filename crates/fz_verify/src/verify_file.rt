@@ -1,15 +1,16 @@
 //! The job `verify`: look at all headers, take all buffers, and then decode, judge and print.
-ghost use Rattle.std.specs.Prelude.{◌≡◌, ◌+◌, ◌<◌, ◌≤◌, max, [], Some, length as len, sum, IfOk, IfSome};
+ghost use Rattle.std.specs.Prelude.{◌≡◌, ◌+◌, ◌<◌, ◌≤◌, max, [], Some, length as len, sum, IfOk, IfSome, IsSome, OnOk};
 ghost use Rattle.fz_base.specs.Stop.{IfRefused, TellsLimit};
-ghost use Rattle.fz_base.specs.Takings.{TellsFirstPast, piled};
+ghost use Rattle.fz_base.specs.Takings.{TellsFirstPast, first_past, highest, piled};
 ghost use Rattle.fz_base.specs.Told.{StaysTold};
-ghost use Rattle.fz_files.specs.Buffers.{job_bound};
+ghost use Rattle.fz_files.specs.Buffers.{job_bound, job_takings};
 ghost use Rattle.fz_files.specs.declared.job.Job.TheVariants.{Verify};
 ghost use Rattle.fz_pool.specs.Window.{IsEmpty};
 ghost use Rattle.fz_survey.specs.Workspace.{wanted_buffers};
-ghost use Rattle.fz_job.specs.Clauses.{Answers, ComesLate, HasJobCause, IfOverLimit, IsUnmade, KeepsBuffers, KeepsSource, TellsFirstFault, greatest_bound};
+ghost use Rattle.fz_job.specs.Clauses.{Answers, ComesLate, HasJobCause, IfOverLimit, IsUnmade, KeepsBuffers, KeepsSource, StaysUnmade, TellsFirstFault, greatest_bound};
 ghost use Rattle.fz_job.specs.Keeps.{SourceStays};
 ghost use Rattle.fz_verify.specs.Clauses.{IsRightAsSaid, PrintsLines};
+ghost use Rattle.fz_verify.specs.Reported.{Grew, Reports};
 ghost use Rattle.fz_verify.specs.Printed.{VerifiesSeen};
 ghost use Rattle.fz_stages.specs.Stages.{Works, later_takings, wants_for};
 
@@ -45,13 +46,21 @@ pub fn verify<R: Threads + Sync, S: Source, T: Text, G: Gate>(
 
     ensures lines { PrintsLines Verify (S.held source.old) (T.contents text.old) (T.contents text.new) result }
     ensures right { IfOk result (λ right. IfSome (S.held source.old) (IsRightAsSaid right)) }
+    // Of every source: the answer says what the lines say, and nothing that was printed is taken back.
+    ensures reported { IfOk result (Reports (T.contents text.old) (T.contents text.new)) }
+    ensures grown { Grew (T.contents text.old) (T.contents text.new) }
     ensures first_fault { TellsFirstFault Verify (S.held source.old) result }
     // Where no count of faults rose and the limit is at least the bound, the first fault alone decides.
     ensures answered { Answers Verify (S.held source.old) (S.tally source.old) (S.tally source.new) (T.tally text.old) (T.tally text.new) meter.old.limit 1 result }
     ensures cause { HasJobCause Verify (S.held source.old) (S.tally source.old) (S.tally source.new) (T.tally text.old) (T.tally text.new) meter.old.limit 1 result }
     // Nothing is printed where a header is refused.
-    ensures silent { IsUnmade Verify (S.held source.old) ((T.contents text.new ≡ T.contents text.old) × (T.tally text.new ≡ T.tally text.old)) result }
+    ensures silent { IsUnmade Verify (S.held source.old) meter.old.limit 1
+        ((T.contents text.new ≡ T.contents text.old) × (T.tally text.new ≡ T.tally text.old)) result }
     ensures buffers { KeepsBuffers Verify (S.held source.old) meter.old meter.new window.old window.new }
+    // After a job that is done the peak is exactly the greatest sum of its takings, for so many workers.
+    ensures exact_peak { OnOk result (IfSome (S.held source.old) (λ g. meter.new.peak ≡ max meter.old.peak (highest (job_takings Verify g 1)))) }
+    // The first block is taken before anything is read.
+    ensures unread { meter.old.limit < 2880 → S.ranges source.new ≡ S.ranges source.old }
     ensures kept { KeepsSource (S.held source.old) (S.held source.new) (S.attached source.old) (S.attached source.new) (S.tally source.old) (S.tally source.new) (T.tally text.old) (T.tally text.new) }
     ensures told_ranges { StaysTold (S.ranges source.old) (S.ranges source.new) }
     ensures told_contents { StaysTold (T.contents text.old) (T.contents text.new) }
@@ -91,10 +100,14 @@ fn verify_with_block<R: Threads + Sync, S: Source, T: Text, G: Gate>(
     requires block { len block.old ≡ 2880 }
     ensures lines { PrintsLines Verify (S.held source.old) (T.contents text.old) (T.contents text.new) result }
     ensures right { IfOk result (λ right. IfSome (S.held source.old) (IsRightAsSaid right)) }
+    ensures reported { IfOk result (Reports (T.contents text.old) (T.contents text.new)) }
+    ensures grown { Grew (T.contents text.old) (T.contents text.new) }
     ensures first_fault { TellsFirstFault Verify (S.held source.old) result }
-    ensures silent { IsUnmade Verify (S.held source.old) ((T.contents text.new ≡ T.contents text.old) × (T.tally text.new ≡ T.tally text.old)) result }
+    ensures silent { StaysUnmade Verify (S.held source.old) meter.old.limit (λ g. later_takings Verify g 1)
+        ((T.contents text.new ≡ T.contents text.old) × (T.tally text.new ≡ T.tally text.old)) result }
     ensures first_past { IfSome (S.held source.old) (λ g. TellsFirstPast meter.old.limit (later_takings Verify g 1) result) }
     ensures peak { IfSome (S.held source.old) (λ g. meter.new.peak ≤ max meter.old.peak (job_bound Verify g 1)) }
+    ensures exact_peak { OnOk result (IfSome (S.held source.old) (λ g. meter.new.peak ≡ max meter.old.peak (highest (later_takings Verify g 1)))) }
     ensures most { TellsLimit meter.old.limit (greatest_bound Verify 1) result }
     ensures peak_most { meter.new.peak ≤ max meter.old.peak (greatest_bound Verify 1) }
     ensures live { meter.new.live ≡ meter.old.live }
@@ -132,9 +145,14 @@ fn verify_seen<R: Threads + Sync, S: Source, T: Text, G: Gate>(
     requires few { survey.now.hdus ≤ 65536 }
     requires block { len block.old ≡ 2880 }
     ensures verified { IfSome (S.held source.old) (λ g. VerifiesSeen g survey.now (T.contents text.old) (T.contents text.new) result) }
+    ensures reported { IfOk result (Reports (T.contents text.old) (T.contents text.new)) }
+    ensures grown { Grew (T.contents text.old) (T.contents text.new) }
     ensures silent { IfOverLimit result ((T.contents text.new ≡ T.contents text.old) × (T.tally text.new ≡ T.tally text.old)) }
     ensures first_past { TellsFirstPast meter.old.limit (piled meter.old.live (wanted_buffers (wants_for Verify survey.now) window.old.workers)) result }
+    ensures past { IsSome (first_past meter.old.limit (piled meter.old.live (wanted_buffers (wants_for Verify survey.now) window.old.workers)))
+        → (T.contents text.new ≡ T.contents text.old) × (T.tally text.new ≡ T.tally text.old) }
     ensures peak { meter.new.peak ≤ max meter.old.peak (meter.old.live + sum (wanted_buffers (wants_for Verify survey.now) window.old.workers)) }
+    ensures exact_peak { OnOk result (meter.new.peak ≡ max meter.old.peak (meter.old.live + sum (wanted_buffers (wants_for Verify survey.now) window.old.workers))) }
     ensures live { meter.new.live ≡ meter.old.live }
     ensures limit { meter.new.limit ≡ meter.old.limit }
     ensures emptied { window.new ≡ record { slots = []; workers = window.old.workers } }

@@ -1,24 +1,16 @@
 -- What holds of all that words can ask for: the conditions under which the jobs take it.
-use Rattle.std.specs.Prelude.{ℕ, ◌≡◌, ◌+◌, ◌<◌, ◌≤◌, ◌^◌, slice_index, Option, Some, None, IfSome, ⊤}
+use Rattle.std.specs.Prelude.{ℕ, ◌≡◌, ◌<◌, ◌≤◌, ◌^◌, IfSome, ⊤}
 use Rattle.fz_files.specs.declared.job.Job.{Job}
 use Rattle.fz_files.specs.declared.job.Job.TheVariants.{Pack, Unpack, Cut, Verify, List as ListHdus, Drill}
-use Rattle.fz_grid.specs.declared.sieve.Sieve.{Sieve}
+use Rattle.fz_files.specs.Picks.{HasPicks}
 use Rattle.fz_head.specs.Planned.{AreOptions}
 use Rattle.fz_words.specs.declared.request.Request.{Request}
-
--- the box of a cutout: 1 to 9 axes, and on each a pick and a step
-pub record IsBox (sieve : Sieve) : Type 0 where
-  pub some : 1 ≤ sieve.n
-  pub axes : sieve.n ≤ 9
-  pub ordered : (i : ℕ) → i < sieve.n → slice_index sieve.lo i ≤ slice_index sieve.hi i
-  pub inside : (i : ℕ) → i < sieve.n → slice_index sieve.hi i + 1 < 2 ^ 31
-  pub positive : (i : ℕ) → i < sieve.n → 1 ≤ slice_index sieve.step i
 
 -- the options of a job that so many workers do
 abbrev pub IsLawfulJob : Job → ℕ → Type 0
 IsLawfulJob (Pack options) workers = AreOptions options × (options.workers ≡ workers)
 IsLawfulJob Unpack workers = ⊤
-IsLawfulJob (Cut hdu sieve) workers = IsBox sieve × IfSome hdu (λ h. h < 2 ^ 16)
+IsLawfulJob (Cut hdu sieve) workers = HasPicks sieve × IfSome hdu (λ h. h < 2 ^ 16)
 IsLawfulJob Verify workers = ⊤
 IsLawfulJob ListHdus workers = ⊤
 IsLawfulJob (Drill rows) workers = (1 ≤ rows) × (rows ≤ 16384)

@@ -2,7 +2,7 @@
 ghost use Rattle.std.specs.Prelude.{◌≡◌, ◌≤◌, ◌<◌, ◌^◌, IfSome, Some};
 ghost use Rattle.std.specs.Option.{option_copied, option_map};
 ghost use Rattle.fz_head.specs.Planned.{IsTile};
-ghost use Rattle.fz_words.specs.Lawful.{IsBox};
+ghost use Rattle.fz_files.specs.Picks.{HasPicks};
 ghost use Rattle.fz_words.specs.Seen.{seen_range};
 ghost use Rattle.fz_words.specs.Values.{box_in, lengths_in, range_in, step_in};
 
@@ -45,7 +45,7 @@ pub(crate) struct Range {
 /// 1 to 9 ranges, joined by commas: the sieve is counted from 0.
 pub(crate) fn box_in(text: &str) -> Option<Sieve>
     ensures value { result ≡ box_in text.now }
-    ensures lawful { IfSome result IsBox }
+    ensures lawful { IfSome result HasPicks }
 {
     let mut sieve = Sieve {
         n: 0,

@@ -3,7 +3,7 @@ ghost use Rattle.std.specs.Prelude.{◌≡◌, ◌≤◌, ◌<◌, ◌^◌, IfOk
 ghost use Rattle.std.specs.Result.{result_ok};
 ghost use Rattle.fz_head.specs.Planned.{IsTile};
 ghost use Rattle.fz_words.specs.Jobs.{block_of, box_of, codec_of, hdu_of, memory_of, sums_of, tile_of, workers_of};
-ghost use Rattle.fz_words.specs.Lawful.{IsBox};
+ghost use Rattle.fz_files.specs.Picks.{HasPicks};
 ghost use Rattle.fz_words.specs.Seen.{seen_line};
 ghost use Rattle.fz_words.specs.Values.{codec_in};
 
@@ -106,7 +106,7 @@ pub(crate) fn hdu_of(line: &Line<'_>) -> Result<Option<u32>, Usage>
 /// The box, which has to be given.
 pub(crate) fn box_of(line: &Line<'_>) -> Result<Sieve, Usage>
     ensures value { result_ok result ≡ box_of (seen_line line.now) }
-    ensures lawful { IfOk result IsBox }
+    ensures lawful { IfOk result HasPicks }
 {
     let text = line.value(OptionName::Box)?.ok_or(Usage)?;
     box_in(text).ok_or(Usage)

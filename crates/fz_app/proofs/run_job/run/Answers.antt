@@ -3,6 +3,7 @@ use Rattle.std.proofs.Common.{◌≡◌, ap}
 use Rattle.fz_words.specs.Jobs.{job_of}
 use Rattle.fz_words.specs.Parts.{texts_of}
 use Rattle.fz_app.proofs.FirstBytes.{first_byte}
+use Rattle.fz_app.proofs.Fronts.{front}
 use Rattle.fz_app.proofs.Limits.{over_limit}
 use Rattle.fz_app.proofs.RunPromises.{complete, counts, done, lines, refused, restored, usage_line, write_fault}
 use Rattle.fz_app.proofs.Tallies.{kept_by}
@@ -14,21 +15,23 @@ returns-clause-restored g c = restored c.round_trip_law.ensures (texts_of c.args
 pub returns-clause-text : goal.returns-clause-text
 returns-clause-text g c = record {
   between = record { contents = g.T.Text.contents c.answer_to-status.new.text; tally = g.T.Text.tally c.answer_to-status.new.text };
-  lines = lines c.one_first_fault_law.ensures _ _ (job_of (texts_of c.args.words.now)) c.answer_to-status.result c.answer_to-status.ensures.promised (λ e. ap (λ x. record { contents = g.T.Text.contents x; tally = g.T.Text.tally x }) (c.answer_to-status.ensures.untouched e).2);
+  lines = lines c.first_fault_law.ensures.only _ _ (job_of (texts_of c.args.words.now)) c.answer_to-status.result c.answer_to-status.ensures.promised (λ e. ap (λ x. record { contents = g.T.Text.contents x; tally = g.T.Text.tally x }) (c.answer_to-status.ensures.untouched e).2);
+  front = front c.first_fault_law.ensures.some c.first_fault_law.ensures.only (job_of (texts_of c.args.words.now)) _ _ c.answer_to-status.result c.answer_to-status.ensures.promised;
+  reported = c.answer_to-status.ensures.reported;
   line = c.report.ensures.line;
 }
 
 pub returns-clause-complete : goal.returns-clause-complete
-returns-clause-complete g c = complete c.one_first_fault_law.ensures _ _ (texts_of c.args.words.now) c.answer_to-status.result (g.T.Text.tally c.report.new.text) c.report.ensures.counts c.answer_to-status.ensures.promised c.answer_to-status.ensures.ended
+returns-clause-complete g c = complete c.first_fault_law.ensures.only _ _ (texts_of c.args.words.now) c.answer_to-status.result (g.T.Text.tally c.report.new.text) c.report.ensures.counts c.answer_to-status.ensures.promised c.answer_to-status.ensures.ended
 
 pub returns-clause-done : goal.returns-clause-done
-returns-clause-done g c = done c.one_first_fault_law.ensures _ _ (job_of (texts_of c.args.words.now)) c.answer_to-status.result _ _ (g.T.Text.tally c.report.new.text) c.report.ensures.line c.answer_to-status.ensures.promised
+returns-clause-done g c = done c.first_fault_law.ensures.only _ _ (job_of (texts_of c.args.words.now)) c.answer_to-status.result _ _ (g.T.Text.tally c.report.new.text) c.report.ensures.line c.answer_to-status.ensures.promised
 
 pub returns-clause-refused : goal.returns-clause-refused
-returns-clause-refused g c = refused c.one_first_fault_law.ensures _ _ (job_of (texts_of c.args.words.now)) c.answer_to-status.result c.answer_to-status.ensures.promised
+returns-clause-refused g c = refused c.first_fault_law.ensures.only _ _ (job_of (texts_of c.args.words.now)) c.answer_to-status.result c.answer_to-status.ensures.promised
 
 pub returns-clause-write_fault : goal.returns-clause-write_fault
-returns-clause-write_fault g c = write_fault c.one_first_fault_law.ensures _ _ (job_of (texts_of c.args.words.now)) c.answer_to-status.result (g.T.Text.tally c.report.new.text) c.report.ensures.counts c.answer_to-status.ensures.promised
+returns-clause-write_fault g c = write_fault c.first_fault_law.ensures.only _ _ (job_of (texts_of c.args.words.now)) c.answer_to-status.result (g.T.Text.tally c.report.new.text) c.report.ensures.counts c.answer_to-status.ensures.promised
 
 pub returns-clause-counts : goal.returns-clause-counts
 returns-clause-counts g c =

@@ -23,10 +23,11 @@ returns g c = record {
         lines = c.drill.ensures.lines;
         answered = rw limit at c.drill.ensures.answered;
         cause = rw limit at c.drill.ensures.cause;
-        silent = c.drill.ensures.silent;
+        silent = rw limit at c.drill.ensures.silent;
         live = c.drill.ensures.buffers.live;
         limit_is = rw limit at c.drill.ensures.buffers.limit;
         peak = rw none at c.drill.ensures.buffers.peak;
+        exact = rw none at c.drill.ensures.exact_peak;
         told = c.drill.ensures.told_contents;
       }));
 }

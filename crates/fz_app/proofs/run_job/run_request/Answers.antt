@@ -1,6 +1,6 @@
 -- A job that writes a file leaves the text, one that prints leaves the sink, and `drill` the source too.
 use Rattle.fz_words.specs.Seen.{asked_of}
-use Rattle.fz_app.proofs.RequestAnswers.{ran, verified}
+use Rattle.fz_app.proofs.RequestAnswers.{ran, reports, verified}
 use Rattle.fz_app.proofs.run_job.run_request.Goals as goal
 
 pub returns-in-Pack-clause-promised : goal.returns-in-Pack-clause-promised
@@ -20,3 +20,6 @@ returns-in-List-clause-promised g c = ran (asked_of c.args.request.now) _ _ c.en
 
 pub returns-in-Drill-clause-promised : goal.returns-in-Drill-clause-promised
 returns-in-Drill-clause-promised g c = ran (asked_of c.args.request.now) _ _ c.ended-in-Drill.result c.run_drill.result c.ended-in-Drill.ensures (c.run_drill.ensures.promised (g.S.Source.held c.args.source.now) (g.S.Source.ranges c.args.source.now) (g.S.Source.tally c.args.source.now) (record { contents = g.K.Sink.contents c.args.sink.now; created = g.K.Sink.created c.args.sink.now; finished = g.K.Sink.finished c.args.sink.now; tally = g.K.Sink.tally c.args.sink.now }) c.requires.empty)
+
+pub returns-in-Verify-clause-reported : goal.returns-in-Verify-clause-reported
+returns-in-Verify-clause-reported g c = reports c.args.request.now.job c.verified.result c.run_verify.result (g.T.Text.contents c.args.text.now) (g.T.Text.contents c.run_verify.new.text) c.verified.ensures c.run_verify.ensures.reported

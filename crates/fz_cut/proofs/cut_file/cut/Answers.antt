@@ -1,18 +1,19 @@
 -- With the first block.
-use Rattle.std.proofs.Common.{◌≡◌, ℕ, ◌+◌, ◌-◌, ◌≤◌, max, List, Option, IfSome, Result, Err, length, refl, sym, ap, ◌∙◌, subst, arith, rules}
+use Rattle.std.proofs.Common.{◌≡◌, ℕ, ◌+◌, ◌-◌, ◌≤◌, max, List, Option, IfSome, Result, Err, length, refl, sym, ap, ◌∙◌, subst, arith, rules, ◌<◌}
+use Rattle.std.specs.Prelude.{OnOk}
 use Rattle.std.proofs.lemmas.List.{length-replicate}
 use Rattle.fz_base.specs.Buffer.{refilled}
 use Rattle.fz_base.specs.Counts.{Tally}
 use Rattle.fz_base.specs.Meter.{Gauge}
 use Rattle.fz_base.specs.Stop.{TellsLimit, stop_of_short}
-use Rattle.fz_base.specs.Takings.{TellsFirstPast}
+use Rattle.fz_base.specs.Takings.{TellsFirstPast, highest}
 use Rattle.fz_base.specs.declared.failure.Stop.{Stop}
-use Rattle.fz_files.specs.Buffers.{job_bound}
+use Rattle.fz_files.specs.Buffers.{job_bound, job_takings}
 use Rattle.fz_files.specs.declared.job.Job.TheVariants.{Cut}
-use Rattle.fz_job.specs.Clauses.{HasJobCause, TellsFirstFault, greatest_bound}
+use Rattle.fz_job.specs.Clauses.{HasJobCause, StaysUnmade, TellsFirstFault, greatest_bound}
 use Rattle.fz_stages.specs.Stages.{Works, later_takings}
 use Rattle.fz_cut.proofs.Held.{refilled_len}
-use Rattle.fz_cut.proofs.Outcomes.{kept_same, peak_stays, short_untold, untouched_shut, untouched_unmade}
+use Rattle.fz_cut.proofs.Outcomes.{all_unmade, kept_same, ok_weaker, peak_stays, short_untold, untouched_shut, untouched_unmade}
 use Rattle.fz_cut.proofs.cut_file.cut.Goals as goal
 
 pub returns-in_err-block-clause-first_fault : goal.returns-in_err-block-clause-first_fault
@@ -25,7 +26,7 @@ pub returns-in_err-block-clause-first_byte : goal.returns-in_err-block-clause-fi
 returns-in_err-block-clause-first_byte g c = untouched_shut (g.K.Sink.contents c.args.sink.now) _ c.from_residual.result c.requires.empty
 
 pub returns-in_err-block-clause-unmade : goal.returns-in_err-block-clause-unmade
-returns-in_err-block-clause-unmade g c = untouched_unmade (Cut c.args.hdu c.args.sieve.now) (g.S.Source.held c.args.source.now) _ c.from_residual.result (refl, refl)
+returns-in_err-block-clause-unmade g c = untouched_unmade (Cut c.args.hdu c.args.sieve.now) (g.S.Source.held c.args.source.now) c.args.meter.now.limit (λ file. job_takings (Cut c.args.hdu c.args.sieve.now) file c.args.window.now.workers) _ c.from_residual.result (refl, refl)
 
 pub returns-in_err-block-clause-cause : goal.returns-in_err-block-clause-cause
 returns-in_err-block-clause-cause g c =
@@ -97,3 +98,29 @@ returns-clause-buffers g c =
       most = omega (arith, back, begun, c.requires.nothing_live, c.with_block-answer.ensures.peak_most, c.stages_law.ensures.sizes.look (Cut c.args.hdu c.args.sieve.now) W);
       window_is = c.with_block-answer.ensures.emptied;
     }
+
+pub returns-clause-unmade : goal.returns-clause-unmade
+returns-clause-unmade g c =
+    let held : Option (List ℕ) = g.S.Source.held c.args.source.now in
+    let limit : ℕ = c.args.meter.now.limit in
+    let W : ℕ = c.args.window.now.workers in
+    let same : c.bytes.new.self.limit ≡ limit = ap (λ (m : Gauge). m.limit) c.in_ok-block.ensures.taken.1 in
+    let room : 2880 ≤ limit = omega (arith, c.in_ok-block.ensures.taken.0, c.requires.nothing_live) in
+    let later : StaysUnmade (Cut c.args.hdu c.args.sieve.now) held limit (λ file. later_takings (Cut c.args.hdu c.args.sieve.now) file W) ((g.K.Sink.created c.with_block-answer.new.sink ≡ g.K.Sink.created c.args.sink.now) × (g.K.Sink.contents c.with_block-answer.new.sink ≡ g.K.Sink.contents c.args.sink.now)) c.with_block-answer.result = rw same at c.with_block-answer.ensures.unmade in
+    all_unmade (Cut c.args.hdu c.args.sieve.now) held limit (λ file. job_takings (Cut c.args.hdu c.args.sieve.now) file W) (λ file. later_takings (Cut c.args.hdu c.args.sieve.now) file W) _ c.with_block-answer.result (c.stages_law.ensures.passes.block (Cut c.args.hdu c.args.sieve.now) held limit W tt room) later
+
+pub returns-clause-exact_peak : goal.returns-clause-exact_peak
+returns-clause-exact_peak g c =
+    let held : Option (List ℕ) = g.S.Source.held c.args.source.now in
+    let W : ℕ = c.args.window.now.workers in
+    let begun : c.bytes.new.self.peak ≡ max c.args.meter.now.peak (c.args.meter.now.live + 2880) = ap (λ (m : Gauge). m.peak) c.in_ok-block.ensures.taken.1 in
+    let first : c.bytes.new.self.peak ≡ max c.args.meter.now.peak 2880 = omega (arith, begun, c.requires.nothing_live) in
+    let back : c.give_bytes.new.self.peak ≡ c.with_block-answer.new.meter.peak = ap (λ (m : Gauge). m.peak) c.give_bytes.ensures in
+    let later : OnOk c.with_block-answer.result (IfSome held (λ file. c.with_block-answer.new.meter.peak ≡ max c.bytes.new.self.peak (highest (later_takings (Cut c.args.hdu c.args.sieve.now) file W)))) = c.with_block-answer.ensures.exact_peak in
+    rw back (ok_weaker c.with_block-answer.result (λ reached. c.stages_law.ensures.reached.block (Cut c.args.hdu c.args.sieve.now) held W c.args.meter.now.peak c.bytes.new.self.peak c.with_block-answer.new.meter.peak tt first reached) later)
+
+pub returns-in_err-block-clause-unread : goal.returns-in_err-block-clause-unread
+returns-in_err-block-clause-unread g c = λ low. refl
+
+pub returns-clause-unread : goal.returns-clause-unread
+returns-clause-unread g c = λ low. absurd (omega (arith, low, c.in_ok-block.ensures.taken.0, c.requires.nothing_live))

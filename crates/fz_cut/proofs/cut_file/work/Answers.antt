@@ -1,7 +1,7 @@
 -- What is held is what was taken; and the work stops by its buffers, or by what is written behind that.
 use Rattle.std.proofs.Common.{◌≡◌, ℕ, ◌+◌, ◌≤◌, List, [], Option, None, IfSome, Result, Err, sum, refl, sym, ap, ◌∙◌, subst, arith, rules}
 use Rattle.fz_base.specs.Stop.{stop_of_short}
-use Rattle.fz_base.specs.Takings.{TellsFirstPast, piled}
+use Rattle.fz_base.specs.Takings.{TellsFirstPast, first_past, piled}
 use Rattle.fz_base.specs.declared.failure.Stop.{Stop}
 use Rattle.fz_pool.specs.Window.{HasSlotsFor, Pool}
 use Rattle.fz_survey.specs.Workspace.{held_bytes, wanted_buffers}
@@ -14,7 +14,7 @@ use Rattle.fz_cut.specs.Again.{WasSeen}
 use Rattle.fz_cut.specs.Written.{FinishesSeen, IsShutOrPart, work_ranges}
 use Rattle.fz_cut.proofs.Logs.{unread}
 use Rattle.fz_cut.proofs.Held.{filled_sizes, sum_one}
-use Rattle.fz_cut.proofs.Outcomes.{if_over, rewrite_over, short_shut, short_unwritten}
+use Rattle.fz_cut.proofs.Outcomes.{if_over, none_passed, ok_always, rewrite_over, short_shut, short_unwritten}
 use Rattle.fz_cut.proofs.cut_file.work.Goals as goal
 
 pub returns-in_err-space-clause-written : goal.returns-in_err-space-clause-written
@@ -109,6 +109,16 @@ returns-clause-peak g c =
     let wants : Wants = wants_for (Cut None c.args.sieve.now) c.args.survey.now in
     let held = c.stages_law.ensures.back.kept wants c.in_ok-space.space c.write_file-answer.new.space c.args.window.now.workers c.take.new.window c.write_file-answer.new.window
     c.in_ok-space.ensures.lengths c.write_file-answer.ensures.space c.in_ok-space.ensures.filled c.write_file-answer.ensures.window in
+    let reached = (c.stages_law.ensures.back.given c.args.meter.now c.take.new.meter c.give_back.new.meter (sum (wanted_buffers wants c.args.window.now.workers)) (held_bytes c.write_file-answer.new.space c.write_file-answer.new.window)
+    c.in_ok-space.ensures.takings.all.1 held c.give_back.ensures.given).2 in
+    omega (arith, reached)
+
+pub returns-clause-exact_peak : goal.returns-clause-exact_peak
+returns-clause-exact_peak g c =
+    let wants : Wants = wants_for (Cut None c.args.sieve.now) c.args.survey.now in
+    let held = c.stages_law.ensures.back.kept wants c.in_ok-space.space c.write_file-answer.new.space c.args.window.now.workers c.take.new.window c.write_file-answer.new.window
+    c.in_ok-space.ensures.lengths c.write_file-answer.ensures.space c.in_ok-space.ensures.filled c.write_file-answer.ensures.window in
+    ok_always c.write_file-answer.result _
     (c.stages_law.ensures.back.given c.args.meter.now c.take.new.meter c.give_back.new.meter (sum (wanted_buffers wants c.args.window.now.workers)) (held_bytes c.write_file-answer.new.space c.write_file-answer.new.window)
     c.in_ok-space.ensures.takings.all.1 held c.give_back.ensures.given).2
 
@@ -135,3 +145,9 @@ returns-clause-emptied g c =
 
 pub returns-clause-cause : goal.returns-clause-cause
 returns-clause-cause g c = c.stages_law.ensures.work.works _ _ _ _ c.args.meter.now.limit c.write_file-answer.result c.write_file-answer.ensures.cause
+
+pub returns-in_err-space-clause-past : goal.returns-in_err-space-clause-past
+returns-in_err-space-clause-past g c = λ some. (refl, refl)
+
+pub returns-clause-past : goal.returns-clause-past
+returns-clause-past g c = none_passed _ (first_past c.args.meter.now.limit (piled c.args.meter.now.live (wanted_buffers (wants_for (Cut None c.args.sieve.now) c.args.survey.now) c.args.window.now.workers))) c.in_ok-space.ensures.takings.first_past

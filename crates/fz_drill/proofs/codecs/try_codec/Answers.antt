@@ -1,12 +1,13 @@
 -- One job after another.
-use Rattle.std.proofs.Common.{◌≡◌, ℕ, List, ◌++◌, sym, ◌∙◌, subst, rules}
+use Rattle.std.proofs.Common.{◌≡◌, ℕ, max, List, ◌++◌, sym, ◌∙◌, subst, rules}
 use Rattle.std.specs.Prelude.{None, Err}
+use Rattle.fz_base.specs.Takings.{highest}
 use Rattle.fz_base.specs.declared.failure.Stop.{Stop}
 use Rattle.fz_files.specs.Buffers.{drill_takings, file_takings}
 use Rattle.fz_files.specs.Drill.{drill_file, drill_options, drill_packed, drill_sieve}
 use Rattle.fz_files.specs.declared.job.Job.TheVariants.{Cut, Pack, Unpack}
 use Rattle.fz_drill.specs.Outcomes.{Stops}
-use Rattle.fz_drill.proofs.Takings.{at_limit, of_file, stops_first, stops_later, stops_none}
+use Rattle.fz_drill.proofs.Takings.{at_limit, of_file, peak_of_three, stops_first, stops_later, stops_none}
 use Rattle.fz_drill.proofs.codecs.try_codec.Goals as goal
 
 pub returns-in_err-packed-clause-stops : goal.returns-in_err-packed-clause-stops
@@ -63,3 +64,15 @@ returns-clause-stops g c =
     (stops_none rows limit (file_takings Unpack packed 4) (file_takings (Cut None (drill_sieve rows)) packed 4) _ _ (Unit {0}) _ _ tt
     (at_limit rows (file_takings Unpack packed 4) same (of_file rows (λ f. file_takings Unpack f 4) file c.in_ok-unpacked.ensures.stops))
     (at_limit rows (file_takings (Cut None (drill_sieve rows)) packed 4) also (of_file rows (λ f. file_takings (Cut None (drill_sieve rows)) f 4) again c.in_ok-cut.ensures.stops)))
+
+pub returns-clause-exact_peak : goal.returns-clause-exact_peak
+returns-clause-exact_peak g c =
+    let rows : ℕ = c.args.files.now.rows in
+    let packed : List ℕ = drill_packed rows c.args.codec in
+    let file : c.deref.result.now ≡ packed = search rules in
+    let again : c.deref-2.result.now ≡ packed = search rules in
+    let second : c.unpacks_to_file.new.meter.peak ≡ max c.packed_by.new.meter.peak (highest (file_takings Unpack packed 4)) =
+    subst (λ f. c.unpacks_to_file.new.meter.peak ≡ max c.packed_by.new.meter.peak (highest (file_takings Unpack f 4))) file c.in_ok-unpacked.ensures.exact_peak in
+    let third : c.cuts_to_part.new.meter.peak ≡ max c.unpacks_to_file.new.meter.peak (highest (file_takings (Cut None (drill_sieve rows)) packed 4)) =
+    subst (λ f. c.cuts_to_part.new.meter.peak ≡ max c.unpacks_to_file.new.meter.peak (highest (file_takings (Cut None (drill_sieve rows)) f 4))) again c.in_ok-cut.ensures.exact_peak in
+    peak_of_three (file_takings (Pack (drill_options c.args.codec)) (drill_file rows) 4) (file_takings Unpack packed 4) (file_takings (Cut None (drill_sieve rows)) packed 4) _ _ _ _ c.in_ok-packed.ensures.exact_peak second third

@@ -1,12 +1,13 @@
 -- One codec after another.
-use Rattle.std.proofs.Common.{◌≡◌, ℕ, List, ◌++◌, refl, sym, ◌∙◌, subst, rules}
+use Rattle.std.proofs.Common.{◌≡◌, ℕ, max, List, ◌++◌, refl, sym, ◌∙◌, subst, rules}
 use Rattle.std.specs.Prelude.{Err}
+use Rattle.fz_base.specs.Takings.{highest}
 use Rattle.fz_base.specs.declared.failure.Stop.{Stop}
 use Rattle.fz_head.specs.declared.options.CodecWord.TheVariants as word
 use Rattle.fz_files.specs.Buffers.{drill_takings}
 use Rattle.fz_drill.specs.Bound.{takings_of}
 use Rattle.fz_drill.specs.Outcomes.{Stops}
-use Rattle.fz_drill.proofs.Takings.{at_limit, of_rows, stops_first, stops_later, stops_none}
+use Rattle.fz_drill.proofs.Takings.{at_limit, of_rows, peak_of_three, stops_first, stops_later, stops_none}
 use Rattle.fz_drill.proofs.codecs.try_codecs.Goals as goal
 
 pub returns-in_err-rice-clause-stops : goal.returns-in_err-rice-clause-stops
@@ -57,3 +58,15 @@ returns-clause-stops g c =
     let none : List (ℕ × ℕ) = drill_takings rows word.None in
     let same : c.in_ok-files.files.rows ≡ rows = search rules in
     stops_none rows limit rice (plio ++ none) _ _ _ _ _ _ (at_limit rows rice refl (of_rows word.Rice same c.in_ok-rice.ensures.stops)) (stops_none rows limit plio none _ _ (Unit {0}) _ _ tt (at_limit rows plio c.in_ok-rice.ensures.kept.limit (of_rows word.Plio same c.in_ok-plio.ensures.stops)) (at_limit rows none (c.in_ok-plio.ensures.kept.limit ∙ c.in_ok-rice.ensures.kept.limit) (of_rows word.None same c.in_ok-none.ensures.stops)))
+
+pub returns-clause-exact_peak : goal.returns-clause-exact_peak
+returns-clause-exact_peak g c =
+    let rows : ℕ = c.args.rows in
+    let same : c.in_ok-files.files.rows ≡ rows = search rules in
+    let first : c.try_codec.new.meter.peak ≡ max c.args.meter.now.peak (highest (drill_takings rows word.Rice)) =
+    subst (λ n. c.try_codec.new.meter.peak ≡ max c.args.meter.now.peak (highest (drill_takings n word.Rice))) same c.in_ok-rice.ensures.exact_peak in
+    let second : c.try_codec-2.new.meter.peak ≡ max c.try_codec.new.meter.peak (highest (drill_takings rows word.Plio)) =
+    subst (λ n. c.try_codec-2.new.meter.peak ≡ max c.try_codec.new.meter.peak (highest (drill_takings n word.Plio))) same c.in_ok-plio.ensures.exact_peak in
+    let third : c.try_codec-3.new.meter.peak ≡ max c.try_codec-2.new.meter.peak (highest (drill_takings rows word.None)) =
+    subst (λ n. c.try_codec-3.new.meter.peak ≡ max c.try_codec-2.new.meter.peak (highest (drill_takings n word.None))) same c.in_ok-none.ensures.exact_peak in
+    peak_of_three (drill_takings rows word.Rice) (drill_takings rows word.Plio) (drill_takings rows word.None) _ _ _ _ first second third

@@ -1,6 +1,7 @@
 -- The header, the rows and the pixels, there and back.
 use Rattle.fz_files.proofs.TableImage.{TableLaws, accepted_is, table_stands, table_was_primary}
 use Rattle.fz_files.proofs.TablePasses.{table_passes}
+use Rattle.fz_files.proofs.TableRefused.{table_refused}
 use Rattle.fz_files.proofs.law.table_law.Goals as goal
 
 pub returns : goal.returns
@@ -35,4 +36,4 @@ returns c =
       bytes = c.cards_law.ensures.bytes;
       cards = c.cards_law.ensures.cards;
     } in
-    record { passes = table_passes c.found_law.ensures.blocks laws; accepted = accepted_is laws; stands = table_stands laws; primary = table_was_primary laws }
+    record { passes = table_passes c.found_law.ensures.blocks laws; accepted = accepted_is laws; stands = table_stands laws; primary = table_was_primary laws; refused = table_refused laws }

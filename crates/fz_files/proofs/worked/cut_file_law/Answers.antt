@@ -1,5 +1,5 @@
 -- The law, by computing.
-use Rattle.fz_files.proofs.CutoutLemmas.{cutout_is, moved_are, kept_are}
+use Rattle.fz_files.proofs.CutoutLemmas.{cutout_is, moved_are, kept_are, unmixed_are}
 use Rattle.fz_files.proofs.CutFileLemmas.{steps_are, box_touches, ends_touch}
 use Rattle.fz_files.proofs.worked.cut_file_law.Goals as goal
 
@@ -20,3 +20,6 @@ returns-clause-touched c = box_touches
 
 pub returns-clause-gaps : goal.returns-clause-gaps
 returns-clause-gaps c = ends_touch
+
+pub returns-clause-cards : goal.returns-clause-cards
+returns-clause-cards c = unmixed_are

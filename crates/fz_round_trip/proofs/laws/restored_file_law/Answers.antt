@@ -1,4 +1,5 @@
 -- HDU by HDU, and in each image tile by tile.
+use Rattle.fz_round_trip.proofs.Copies.{CopyLaws, unpack_copies}
 use Rattle.fz_round_trip.proofs.Stood.{StoodLaws, stands_for_some}
 use Rattle.fz_round_trip.proofs.laws.restored_file_law.Goals as goal
 
@@ -12,4 +13,5 @@ returns c =
       whole = c.tiles_law.ensures.whole;
       tiles = c.tiles_law.ensures.joined;
     } in
-    stands_for_some laws
+    let copies : CopyLaws = record { whole = c.walk_law.ensures.whole; walk = c.hdu_list_law.ensures.walk } in
+    record { some = stands_for_some laws; copies = unpack_copies copies }

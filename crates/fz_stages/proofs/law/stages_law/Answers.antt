@@ -1,10 +1,10 @@
 -- Stage by stage.
 use Rattle.std.proofs.Common.{◌+◌, arith}
 use Rattle.fz_stages.proofs.Back.{meter_back, still_held}
-use Rattle.fz_stages.proofs.Behind.{behind_cause, block_peak, has_answer, short_cause}
+use Rattle.fz_stages.proofs.Behind.{behind_cause, block_peak, block_reached, has_answer, passes_behind, short_cause}
 use Rattle.fz_stages.proofs.Jobs.{wanted_are}
 use Rattle.fz_stages.proofs.Look.{look_faulty, look_most, look_past, look_peak, look_works, tells_most}
-use Rattle.fz_stages.proofs.Work.{rewrite_past, rewrite_works, short_past, short_works, work_most, work_past, work_peak, work_tells}
+use Rattle.fz_stages.proofs.Work.{rewrite_past, rewrite_works, short_past, short_works, passes_look, work_most, work_past, work_peak, work_reached, work_tells}
 use Rattle.fz_stages.proofs.law.stages_law.Goals as goal
 
 pub returns : goal.returns
@@ -36,6 +36,14 @@ returns g c = record {
     look = λ job checks held workers live old new makes one low. look_peak c.buffers_law.ensures.bounded job checks held workers live old new makes one low;
     work = λ job checks held workers live old mid new H n makes one learnt low high.
         work_peak c.workspace_law.ensures.bound c.workspace_law.ensures.grows c.buffers_law.ensures.bounded job checks held workers live old mid new H n makes one learnt low high;
+  };
+  reached = record {
+    block = block_reached;
+    work = λ job checks held W live old mid new H n makes one learnt look work. work_reached job checks held W live old mid new H n makes one learnt look work;
+  };
+  passes = record {
+    block = passes_behind;
+    look = λ job checks held W live limit H n makes one learnt none. passes_look job checks held W live limit H n makes one learnt none;
   };
   sizes = record {
     look = λ job workers. look_most c.workspace_law.ensures.bound c.workspace_law.ensures.grows job workers;

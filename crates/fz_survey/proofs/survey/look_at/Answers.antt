@@ -1,5 +1,5 @@
 -- The header of the HDU, and then what the job says of it.
-use Rattle.std.proofs.Common.{◌≡◌, ℕ, ◌+◌, ◌≤◌, max, List, Option, Result, Err, IfSome, sym, ap, subst, rules}
+use Rattle.std.proofs.Common.{◌≡◌, ℕ, ◌+◌, ◌≤◌, max, List, Option, Result, Err, IfSome, sym, ap, ◌∙◌, subst, rules}
 use Rattle.fz_base.specs.Meter.{Gauge}
 use Rattle.fz_base.specs.Stop.{IsDefined, TellsLimit}
 use Rattle.fz_base.specs.Takings.{highest}
@@ -12,7 +12,7 @@ use Rattle.fz_survey.specs.declared.look.Look.{Look}
 use Rattle.fz_survey.specs.declared.look.Looked.{Looked}
 use Rattle.fz_survey.proofs.Here.{first_axes}
 use Rattle.fz_survey.proofs.Kept.{more_told, both_told}
-use Rattle.fz_survey.proofs.Looked.{answered_look, looked_after, reading_tells, reading_passes_none, limit_told, header_places, both_places, after_by_number}
+use Rattle.fz_survey.proofs.Looked.{answered_look, looked_after, reading_tells, reading_passes_none, limit_told, own_peak, header_places, both_places, after_by_number}
 use Rattle.fz_survey.proofs.survey.look_at.Goals as goal
 
 pub returns-in_err-read-clause-touched : goal.returns-in_err-read-clause-touched
@@ -53,6 +53,11 @@ pub returns-in-Ok-clause-peak : goal.returns-in-Ok-clause-peak
 returns-in-Ok-clause-peak g c =
     subst (λ (n : ℕ). IfSome (g.S.Source.held c.args.source.now) (λ f. n ≤ max c.args.meter.now.peak (highest (header_taking c.args.meter.now.live (header_blocks_of c.args.hdu c.args.start f)))))
     (sym (ap (λ (m : Gauge). m.peak) c.give_bytes.ensures)) c.header_at.ensures.peak
+
+pub returns-in-Ok-clause-exact_peak : goal.returns-in-Ok-clause-exact_peak
+returns-in-Ok-clause-exact_peak g c =
+    own_peak c.hdu_at_law.ensures.blocks (g.S.Source.held c.args.source.now) c.args.hdu c.args.start c.args.meter.now.live c.args.meter.now.peak _ c.in_ok-read.read.bytes c.in_ok-read.read.facts
+    c.in_ok-read.ensures.facts.0 c.in_ok-read.ensures.exact (ap (λ (m : Gauge). m.peak) c.give_bytes.ensures ∙ ap (λ (m : Gauge). m.peak) c.in_ok-read.ensures.taken.1)
 
 pub returns-in-Ok-clause-touched : goal.returns-in-Ok-clause-touched
 returns-in-Ok-clause-touched g c =

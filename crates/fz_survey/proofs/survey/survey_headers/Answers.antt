@@ -20,7 +20,7 @@ use Rattle.fz_survey.specs.declared.look.Looked.{Looked}
 use Rattle.fz_survey.specs.declared.survey.Survey.{Survey}
 use Rattle.fz_survey.proofs.Kept.{both_told}
 use Rattle.fz_survey.proofs.Looked.{limit_told}
-use Rattle.fz_survey.proofs.Walking.{Begun, IsAt, walk_begins, touched_more, peak_more, exact_stops, past_stops, exact_ends, past_ends, walk_next, exact_too_long, past_too_long, moved, empty_first, empty_next, not_at_end, not_stopped}
+use Rattle.fz_survey.proofs.Walking.{Begun, IsAt, walk_begins, touched_more, peak_more, peak_ends, exact_stops, past_stops, exact_ends, past_ends, walk_next, exact_too_long, past_too_long, moved, empty_first, empty_next, not_at_end, not_stopped}
 use Rattle.fz_survey.proofs.survey.survey_headers.Goals as goal
 
 pub loop-hdu-init : goal.loop-hdu-init
@@ -162,6 +162,19 @@ returns-then-is_last-clause-first_past g c =
     c.args.meter.now.limit c.loop-hdu.meter.limit c.args.meter.now.live c.loop-hdu.meter.live c.loop-hdu.invariant.held c.loop-hdu.invariant.limit c.loop-hdu.invariant.live c.in_ok-found.ensures.first_past in
     past_ends b c.loop-hdu.hdu c.loop-hdu.start c.loop-hdu.meter.peak (g.S.Source.ranges c.loop-hdu.source) c.loop-hdu.seen held c.args.length c.in_ok-found.found told c.loop-hdu.invariant.walked few says (sym c.is_last.ensures ∙ c.if-is_last.true) fits
 
+pub returns-then-is_last-clause-exact_peak : goal.returns-then-is_last-clause-exact_peak
+returns-then-is_last-clause-exact_peak g c =
+    let held : Option (List ℕ) = g.S.Source.held c.args.source.now in
+    let b : Begun = record { checks = c.args.checks.now; limit = c.args.meter.now.limit; live = c.args.meter.now.live; peak = c.args.meter.now.peak; ranges = g.S.Source.ranges c.args.source.now } in
+    let few : c.loop-hdu.hdu < most_hdus c.args.checks.now = omega (arith, c.most_hdus-most.ensures) in
+    let told : HoldsLength held c.args.length = g.met.S.Source.agrees c.args.source.now c.args.length c.requires.attached in
+    let says : IfSome held (λ f. looked c.args.checks.now c.loop-hdu.hdu c.loop-hdu.start f ≡ Ok c.in_ok-found.found) =
+    subst (λ (h : Option (List ℕ)). IfSome h (λ f. looked c.args.checks.now c.loop-hdu.hdu c.loop-hdu.start f ≡ Ok c.in_ok-found.found)) c.loop-hdu.invariant.held c.in_ok-found.ensures.exact in
+    let reached : IfSome held (λ f. c.look_at.new.meter.peak ≡ max c.loop-hdu.meter.peak (highest (header_taking c.args.meter.now.live (header_blocks_of c.loop-hdu.hdu c.loop-hdu.start f)))) =
+    moved (λ f limit live. c.look_at.new.meter.peak ≡ max c.loop-hdu.meter.peak (highest (header_taking live (header_blocks_of c.loop-hdu.hdu c.loop-hdu.start f)))) held (g.S.Source.held c.loop-hdu.source)
+    c.args.meter.now.limit c.loop-hdu.meter.limit c.args.meter.now.live c.loop-hdu.meter.live c.loop-hdu.invariant.held c.loop-hdu.invariant.limit c.loop-hdu.invariant.live c.in_ok-found.ensures.exact_peak in
+    peak_ends b c.loop-hdu.hdu c.loop-hdu.start c.loop-hdu.meter.peak (g.S.Source.ranges c.loop-hdu.source) c.loop-hdu.seen held c.args.length c.in_ok-found.found c.look_at.new.meter.peak told c.loop-hdu.invariant.walked few says (sym c.is_last.ensures ∙ c.if-is_last.true) reached
+
 pub loop-hdu-preserved : goal.loop-hdu-preserved
 loop-hdu-preserved g c =
     let held : Option (List ℕ) = g.S.Source.held c.args.source.now in
@@ -173,9 +186,9 @@ loop-hdu-preserved g c =
     let fits : IfSome held (λ f. first_past c.args.meter.now.limit (header_taking c.args.meter.now.live (header_blocks_of c.loop-hdu.hdu c.loop-hdu.start f)) ≡ None) =
     moved (λ f limit live. first_past limit (header_taking live (header_blocks_of c.loop-hdu.hdu c.loop-hdu.start f)) ≡ None) held (g.S.Source.held c.loop-hdu.source)
     c.args.meter.now.limit c.loop-hdu.meter.limit c.args.meter.now.live c.loop-hdu.meter.live c.loop-hdu.invariant.held c.loop-hdu.invariant.limit c.loop-hdu.invariant.live c.in_ok-found.ensures.first_past in
-    let low : IfSome held (λ f. c.look_at.new.meter.peak ≤ max c.loop-hdu.meter.peak (highest (header_taking c.args.meter.now.live (header_blocks_of c.loop-hdu.hdu c.loop-hdu.start f)))) =
-    moved (λ f limit live. c.look_at.new.meter.peak ≤ max c.loop-hdu.meter.peak (highest (header_taking live (header_blocks_of c.loop-hdu.hdu c.loop-hdu.start f)))) held (g.S.Source.held c.loop-hdu.source)
-    c.args.meter.now.limit c.loop-hdu.meter.limit c.args.meter.now.live c.loop-hdu.meter.live c.loop-hdu.invariant.held c.loop-hdu.invariant.limit c.loop-hdu.invariant.live c.look_at.ensures.peak in
+    let reached : IfSome held (λ f. c.look_at.new.meter.peak ≡ max c.loop-hdu.meter.peak (highest (header_taking c.args.meter.now.live (header_blocks_of c.loop-hdu.hdu c.loop-hdu.start f)))) =
+    moved (λ f limit live. c.look_at.new.meter.peak ≡ max c.loop-hdu.meter.peak (highest (header_taking live (header_blocks_of c.loop-hdu.hdu c.loop-hdu.start f)))) held (g.S.Source.held c.loop-hdu.source)
+    c.args.meter.now.limit c.loop-hdu.meter.limit c.args.meter.now.live c.loop-hdu.meter.live c.loop-hdu.invariant.held c.loop-hdu.invariant.limit c.loop-hdu.invariant.live c.in_ok-found.ensures.exact_peak in
     let logs : IfSome held (λ f. LogsOnly (IsWithinOne (hdu_places c.args.checks.now c.loop-hdu.hdu c.loop-hdu.start f)) (g.S.Source.ranges c.loop-hdu.source) (g.S.Source.ranges c.look_at.new.source)) =
     subst (λ (h : Option (List ℕ)). IfSome h (λ f. LogsOnly (IsWithinOne (hdu_places c.args.checks.now c.loop-hdu.hdu c.loop-hdu.start f)) (g.S.Source.ranges c.loop-hdu.source) (g.S.Source.ranges c.look_at.new.source)))
     c.loop-hdu.invariant.held c.look_at.ensures.touched in
@@ -202,7 +215,7 @@ loop-hdu-preserved g c =
       stopped = ap (λ (s : Survey). s.stopped) c.with_hdu-seen.ensures ∙ not_stopped c.in_ok-found.found.look.stop c.in_ok-found.found.header (next_start_of c.in_ok-found.found.header) c.args.length on;
       walked = subst (λ (n : ℕ). IfSome held (IsAt b (c.loop-hdu.hdu + 1) n c.look_at.new.meter.peak (g.S.Source.ranges c.look_at.new.source) c.with_hdu-seen.result)) (sym c.next_start-start.ensures)
           (subst (λ (s : Survey). IfSome held (IsAt b (c.loop-hdu.hdu + 1) (next_start_of c.in_ok-found.found.header) c.look_at.new.meter.peak (g.S.Source.ranges c.look_at.new.source) s)) (sym c.with_hdu-seen.ensures)
-          (walk_next b c.loop-hdu.hdu c.loop-hdu.start c.loop-hdu.meter.peak (g.S.Source.ranges c.loop-hdu.source) c.loop-hdu.seen held c.args.length c.in_ok-found.found c.look_at.new.meter.peak (g.S.Source.ranges c.look_at.new.source) told c.loop-hdu.invariant.walked few c.loop-hdu.invariant.stopped says on fits low logs));
+          (walk_next b c.loop-hdu.hdu c.loop-hdu.start c.loop-hdu.meter.peak (g.S.Source.ranges c.loop-hdu.source) c.loop-hdu.seen held c.args.length c.in_ok-found.found c.look_at.new.meter.peak (g.S.Source.ranges c.look_at.new.source) told c.loop-hdu.invariant.walked few c.loop-hdu.invariant.stopped says on fits reached logs));
     }
 
 pub returns-clause-exact : goal.returns-clause-exact

@@ -1,6 +1,7 @@
 -- The first look stops, or knows the file, and then the work says the rest.
 use Rattle.std.proofs.Common.{◌≡◌, ℕ, ◌+◌, ◌≤◌, max, List, Option, None, IfSome, Result, Err, sum, refl, sym, ◌∙◌, subst, rules, arith}
-use Rattle.fz_base.specs.Takings.{TellsFirstPast, first_past, piled}
+use Rattle.std.specs.Prelude.{IsSome, OnOk}
+use Rattle.fz_base.specs.Takings.{TellsFirstPast, first_past, highest, piled}
 use Rattle.fz_base.specs.declared.failure.Stop.{Stop}
 use Rattle.fz_files.specs.declared.job.Job.TheVariants.{Unpack}
 use Rattle.fz_survey.specs.Surveys.{survey_takings}
@@ -11,7 +12,7 @@ use Rattle.fz_job.specs.Clauses.{TellsFirstFault, greatest_bound}
 use Rattle.fz_stages.specs.Stages.{Works, later_takings, wants_for}
 use Rattle.fz_unpack.specs.Written.{AreShutOrWhole, FinishesSeen}
 use Rattle.fz_unpack.proofs.Finished.{Knows, learnt, work_faulty, work_output, work_shut, work_unmade}
-use Rattle.fz_unpack.proofs.Outcomes.{look_refused, untouched_shut, untouched_unmade}
+use Rattle.fz_unpack.proofs.Outcomes.{look_refused, ok_weaker, past_at, past_by, untouched_shut, untouched_unmade}
 use Rattle.fz_unpack.proofs.unpack_file.with_block.Goals as goal
 
 pub returns-in_err-survey-clause-first_fault : goal.returns-in_err-survey-clause-first_fault
@@ -25,7 +26,7 @@ pub returns-in_err-survey-clause-first_byte : goal.returns-in_err-survey-clause-
 returns-in_err-survey-clause-first_byte g c = untouched_shut (g.K.Sink.contents c.args.sink.now) _ c.from_residual.result c.requires.empty
 
 pub returns-in_err-survey-clause-unmade : goal.returns-in_err-survey-clause-unmade
-returns-in_err-survey-clause-unmade g c = untouched_unmade Unpack (g.S.Source.held c.args.source.now) _ c.from_residual.result (refl, refl)
+returns-in_err-survey-clause-unmade g c = untouched_unmade Unpack (g.S.Source.held c.args.source.now) c.args.meter.now.limit (λ file. later_takings Unpack file c.args.window.now.workers) _ c.from_residual.result (refl, refl)
 
 pub returns-in_err-survey-clause-first_past : goal.returns-in_err-survey-clause-first_past
 returns-in_err-survey-clause-first_past g c =
@@ -84,8 +85,28 @@ returns-clause-first_byte g c =
 pub returns-clause-unmade : goal.returns-clause-unmade
 returns-clause-unmade g c =
     let held : Option (List ℕ) = g.S.Source.held c.args.source.now in
-    let exact : IfSome held (Knows c.in_ok-survey.survey) = c.in_ok-survey.ensures.exact in
-    work_unmade (c.known_law.ensures.know Unpack tt) c.in_ok-survey.survey held _ c.work.result exact c.work.ensures.unmade c.work.ensures.late
+    let meter = c.args.meter.now in
+    let W : ℕ = c.args.window.now.workers in
+    let s = c.in_ok-survey.survey in
+    let exact : IfSome held (Knows s) = c.in_ok-survey.ensures.exact in
+    let none : IfSome held (λ file. first_past meter.limit (survey_takings UnpackChecks meter.live file) ≡ None) = c.in_ok-survey.ensures.first_past in
+    let past : IsSome (first_past meter.limit (piled meter.live (wanted_buffers (wants_for Unpack s) W))) → (g.K.Sink.created c.work.new.sink ≡ g.K.Sink.created c.args.sink.now) × (g.K.Sink.contents c.work.new.sink ≡ g.K.Sink.contents c.args.sink.now) =
+    past_at c.survey_to_unpack.new.meter.limit meter.limit c.survey_to_unpack.new.meter.live meter.live (wanted_buffers (wants_for Unpack s) W) _ c.in_ok-survey.ensures.limit c.in_ok-survey.ensures.live c.work.ensures.past in
+    let passes = c.stages_law.ensures.passes.look Unpack UnpackChecks held W meter.live meter.limit s.header_len s.tile refl c.requires.one_block (learnt (c.known_law.ensures.know Unpack tt) s held exact) none in
+    work_unmade (c.known_law.ensures.know Unpack tt) s held meter.limit (λ file. later_takings Unpack file W) _ c.work.result exact
+    (past_by held (λ file. first_past meter.limit (later_takings Unpack file W)) (first_past meter.limit (piled meter.live (wanted_buffers (wants_for Unpack s) W))) _ passes past) c.work.ensures.unmade c.work.ensures.late
+
+pub returns-clause-exact_peak : goal.returns-clause-exact_peak
+returns-clause-exact_peak g c =
+    let held : Option (List ℕ) = g.S.Source.held c.args.source.now in
+    let meter = c.args.meter.now in
+    let W : ℕ = c.args.window.now.workers in
+    let s = c.in_ok-survey.survey in
+    let exact : IfSome held (Knows s) = c.in_ok-survey.ensures.exact in
+    let look : IfSome held (λ file. c.survey_to_unpack.new.meter.peak ≡ max meter.peak (highest (survey_takings UnpackChecks meter.live file))) = c.in_ok-survey.ensures.exact_peak in
+    let reached : OnOk c.work.result (c.work.new.meter.peak ≡ max c.survey_to_unpack.new.meter.peak (meter.live + sum (wanted_buffers (wants_for Unpack s) W))) = rw c.in_ok-survey.ensures.live at c.work.ensures.exact_peak in
+    ok_weaker c.work.result
+    (λ work. c.stages_law.ensures.reached.work Unpack UnpackChecks held W meter.live meter.peak c.survey_to_unpack.new.meter.peak c.work.new.meter.peak s.header_len s.tile refl c.requires.one_block (learnt (c.known_law.ensures.know Unpack tt) s held exact) look work) reached
 
 pub returns-clause-first_past : goal.returns-clause-first_past
 returns-clause-first_past g c =

@@ -4,6 +4,7 @@ use Rattle.fz_base.specs.Sink.{MayAppend, appended}
 use Rattle.fz_base.specs.declared.failure.Stop.{Stop}
 use Rattle.fz_verify.specs.Printed.{ChecksHdu}
 use Rattle.fz_verify.proofs.Checks.{checked_front, checked_line, unchecked}
+use Rattle.fz_verify.proofs.Reports.{grew_front, grew_line, grew_not, one_reported}
 use Rattle.fz_verify.proofs.checking.print_verified.Goals as goal
 
 pub returns-in_err-verdicts-clause-checked : goal.returns-in_err-verdicts-clause-checked
@@ -34,3 +35,18 @@ returns-clause-checked g c =
     let now : Option (List ℕ) = g.T.Text.contents c.print.new.text in
     checked_line held c.requires.again.0 c.args.space.now.header a c.requires.again.3 c.in_ok-verdicts.verdicts c.are_right.result old now c.are_right.ensures c.in_ok-verdicts.ensures.verdicts
     (subst (λ l. now ≡ appended l old) c.verify_line.ensures c.in_ok-print.ensures.all)
+
+pub returns-clause-reported : goal.returns-clause-reported
+returns-clause-reported g c =
+    let old : Option (List ℕ) = g.T.Text.contents c.args.text.now in
+    let now : Option (List ℕ) = g.T.Text.contents c.print.new.text in
+    one_reported c.args.again.now.header.hdu c.args.again.now.image c.in_ok-verdicts.verdicts c.are_right.result old now c.are_right.ensures (subst (λ l. now ≡ appended l old) c.verify_line.ensures c.in_ok-print.ensures.all)
+
+pub returns-clause-grown : goal.returns-clause-grown
+returns-clause-grown g c = grew_line _ (g.T.Text.contents c.args.text.now) (g.T.Text.contents c.print.new.text) c.in_ok-print.ensures.all
+
+pub returns-in_err-print-clause-grown : goal.returns-in_err-print-clause-grown
+returns-in_err-print-clause-grown g c = grew_front _ (g.T.Text.contents c.args.text.now) (g.T.Text.contents c.print.new.text) c.in_err-print.ensures.front
+
+pub returns-in_err-verdicts-clause-grown : goal.returns-in_err-verdicts-clause-grown
+returns-in_err-verdicts-clause-grown g c = grew_not (g.T.Text.contents c.args.text.now)

@@ -7,6 +7,7 @@ use Rattle.fz_block.specs.Header.{next_start_of}
 use Rattle.fz_again.specs.Again.{ReadsAsSeen, is_empty_primary}
 use Rattle.fz_verify.specs.Printed.{ChecksHdu, IsChecking, VerifiesSeen}
 use Rattle.fz_verify.proofs.CheckedHdus.{ends_with_file, more_checked, none_checked, stops_checking, stops_reading}
+use Rattle.fz_verify.proofs.Reports.{both_reported, grew_both, grew_by, none_reported}
 use Rattle.fz_verify.proofs.checking.verify_hdus.Goals as goal
 
 pub loop-hdu-init : goal.loop-hdu-init
@@ -23,6 +24,7 @@ loop-hdu-init g c = record {
   within = inr (refl, refl);
   early = omega arith;
   checked = none_checked c.none_refused_law.ensures c.args.survey.now (g.T.Text.contents c.args.text.now) (g.S.Source.held c.args.source.now);
+  reported = none_reported (g.T.Text.contents c.args.text.now);
 }
 
 pub returns-in_err-again-clause-verified : goal.returns-in_err-again-clause-verified
@@ -141,4 +143,25 @@ loop-hdu-preserved g c =
       early = omega (arith, next, early);
       checked = subst (λ b. IfSome held (IsChecking s (k + 1) c.next_start-start.result b (right && sound) before now)) (sym says)
           (subst (λ n. IfSome held (IsChecking s (k + 1) n (is_empty_primary a.header) (right && sound) before now)) (sym next) more);
+      reported = both_reported before mid now right sound old.reported c.in_ok-sound.ensures.reported;
     }
+
+pub returns-in_err-again-clause-grown : goal.returns-in_err-again-clause-grown
+returns-in_err-again-clause-grown g c = grew_by (g.T.Text.contents c.args.text.now) (g.T.Text.contents c.loop-hdu.text) c.loop-hdu.right c.loop-hdu.invariant.reported
+
+pub returns-in_err-sound-clause-grown : goal.returns-in_err-sound-clause-grown
+returns-in_err-sound-clause-grown g c =
+    let before : Option (List ℕ) = g.T.Text.contents c.args.text.now in
+    let mid : Option (List ℕ) = g.T.Text.contents c.loop-hdu.text in
+    grew_both before mid (g.T.Text.contents c.print_verified.new.text) (grew_by before mid c.loop-hdu.right c.loop-hdu.invariant.reported) c.in_err-sound.ensures.grown
+
+pub returns-then-start-length-clause-reported : goal.returns-then-start-length-clause-reported
+returns-then-start-length-clause-reported g c =
+    let before : Option (List ℕ) = g.T.Text.contents c.args.text.now in
+    both_reported before (g.T.Text.contents c.loop-hdu.text) (g.T.Text.contents c.print_verified.new.text) c.loop-hdu.right c.in_ok-sound.sound c.loop-hdu.invariant.reported c.in_ok-sound.ensures.reported
+
+pub returns-then-start-length-clause-grown : goal.returns-then-start-length-clause-grown
+returns-then-start-length-clause-grown g c = grew_by _ _ _ (returns-then-start-length-clause-reported g c)
+
+pub returns-clause-grown : goal.returns-clause-grown
+returns-clause-grown g c = grew_by (g.T.Text.contents c.args.text.now) (g.T.Text.contents c.loop-hdu.text) c.loop-hdu.right c.loop-hdu.invariant.reported

@@ -4,6 +4,7 @@ use Rattle.fz_base.specs.Told.{StaysTold}
 use Rattle.fz_survey.specs.Workspace.{SpaceStays}
 use Rattle.fz_job.specs.Keeps.{WindowStays}
 use Rattle.fz_verify.specs.Printed.{IsChecking}
+use Rattle.fz_verify.specs.Reported.{Reports}
 use Rattle.fz_verify.proofs.checking.verify_hdus.Given as goal
 
 abbrev pub invariant-loop-hdu : goal.invariant-loop-hdu
@@ -20,4 +21,5 @@ invariant-loop-hdu g l = record {
   within : (l.start < l.length) ⊎ ((l.hdu ≡ 0) × (l.start ≡ 0));
   early : l.start ≤ 2 ^ 62;
   checked : IfSome (g.S.Source.held l.fn.source) (IsChecking l.survey l.hdu l.start l.after_empty l.right (g.T.Text.contents l.fn.text) (g.T.Text.contents l.text));
+  reported : Reports (g.T.Text.contents l.fn.text) (g.T.Text.contents l.text) l.right;
 }

@@ -1,19 +1,23 @@
 -- With the first block.
-use Rattle.std.proofs.Common.{◌≡◌, ℕ, ◌+◌, ◌-◌, ◌≤◌, max, List, Option, IfSome, Result, Err, length, refl, sym, ap, ◌∙◌, subst, arith, rules}
+use Rattle.std.proofs.Common.{◌≡◌, ℕ, ◌+◌, ◌-◌, ◌≤◌, max, List, Option, IfSome, Result, Err, length, refl, sym, ap, ◌∙◌, subst, arith, rules, ◌<◌}
+use Rattle.std.specs.Prelude.{OnOk}
 use Rattle.std.proofs.lemmas.List.{length-replicate}
 use Rattle.fz_base.specs.Buffer.{refilled}
 use Rattle.fz_base.specs.Counts.{Tally}
 use Rattle.fz_base.specs.Meter.{Gauge}
 use Rattle.fz_base.specs.Stop.{TellsLimit, stop_of_short}
-use Rattle.fz_base.specs.Takings.{TellsFirstPast}
+use Rattle.fz_base.specs.Takings.{TellsFirstPast, highest}
 use Rattle.fz_base.specs.declared.failure.Stop.{Stop}
-use Rattle.fz_files.specs.Buffers.{job_bound}
+use Rattle.fz_files.specs.Buffers.{job_bound, job_takings}
+use Rattle.fz_files.specs.Reads.{header_ranges}
 use Rattle.fz_files.specs.declared.job.Job.TheVariants.{List as ListHdus}
-use Rattle.fz_job.specs.Clauses.{HasJobCause, TellsFirstFault, greatest_bound}
+use Rattle.fz_job.specs.Clauses.{HasJobCause, StaysUnmade, TellsFirstFault, greatest_bound}
 use Rattle.fz_verify.specs.Clauses.{PrintsLines}
 use Rattle.fz_stages.specs.Stages.{Works, later_takings}
 use Rattle.fz_verify.proofs.Held.{refilled_len}
-use Rattle.fz_verify.proofs.Outcomes.{kept_same, peak_stays, short_unprinted, short_untold, untouched_silent}
+use Rattle.fz_verify.proofs.Outcomes.{kept_same, peak_stays, short_unprinted, short_untold, untouched_silent, all_unmade, ok_weaker}
+use Rattle.fz_verify.proofs.HeaderReads.{unread}
+use Rattle.fz_verify.proofs.Reports.{grew_not}
 use Rattle.fz_verify.proofs.list_file.list.Goals as goal
 
 pub returns-in_err-block-clause-lines : goal.returns-in_err-block-clause-lines
@@ -30,7 +34,7 @@ returns-in_err-block-clause-first_fault g c =
     subst (λ (r : Result (Unit {0}) Stop). TellsFirstFault ListHdus held r) (sym stopped) (short_untold (Unit {0}) ListHdus held c.in_err-block.field-0.0)
 
 pub returns-in_err-block-clause-silent : goal.returns-in_err-block-clause-silent
-returns-in_err-block-clause-silent g c = untouched_silent ListHdus (g.S.Source.held c.args.source.now) _ c.from_residual.result (refl, refl)
+returns-in_err-block-clause-silent g c = untouched_silent ListHdus (g.S.Source.held c.args.source.now) c.args.meter.now.limit (λ file. job_takings ListHdus file 1) _ c.from_residual.result (refl, refl)
 
 pub returns-in_err-block-clause-cause : goal.returns-in_err-block-clause-cause
 returns-in_err-block-clause-cause g c =
@@ -99,3 +103,35 @@ returns-clause-buffers g c =
       peak = rw back (c.stages_law.ensures.peaks.block ListHdus held 1 c.args.meter.now.peak c.bytes.new.self.peak c.list_with_block-answer.new.meter.peak first low);
       most = omega (arith, back, first, c.list_with_block-answer.ensures.peak_most, c.stages_law.ensures.sizes.look ListHdus 1);
     }
+
+pub returns-in_err-block-clause-touched : goal.returns-in_err-block-clause-touched
+returns-in_err-block-clause-touched g c = unread (g.S.Source.held c.args.source.now) (header_ranges ListHdus) (g.S.Source.ranges c.args.source.now)
+
+pub returns-in_err-block-clause-grown : goal.returns-in_err-block-clause-grown
+returns-in_err-block-clause-grown g c = grew_not (g.T.Text.contents c.args.text.now)
+
+pub returns-clause-silent : goal.returns-clause-silent
+returns-clause-silent g c =
+    let held : Option (List ℕ) = g.S.Source.held c.args.source.now in
+    let limit : ℕ = c.args.meter.now.limit in
+    let W : ℕ = 1 in
+    let same : c.bytes.new.self.limit ≡ limit = ap (λ (m : Gauge). m.limit) c.in_ok-block.ensures.taken.1 in
+    let room : 2880 ≤ limit = omega (arith, c.in_ok-block.ensures.taken.0, c.requires.nothing_live) in
+    let later : StaysUnmade ListHdus held limit (λ file. later_takings ListHdus file W) ((g.T.Text.contents c.list_with_block-answer.new.text ≡ g.T.Text.contents c.args.text.now) × (g.T.Text.tally c.list_with_block-answer.new.text ≡ g.T.Text.tally c.args.text.now)) c.list_with_block-answer.result = rw same at c.list_with_block-answer.ensures.silent in
+    all_unmade ListHdus held limit (λ file. job_takings ListHdus file W) (λ file. later_takings ListHdus file W) _ c.list_with_block-answer.result (c.stages_law.ensures.passes.block ListHdus held limit W tt room) later
+
+pub returns-clause-exact_peak : goal.returns-clause-exact_peak
+returns-clause-exact_peak g c =
+    let held : Option (List ℕ) = g.S.Source.held c.args.source.now in
+    let W : ℕ = 1 in
+    let begun : c.bytes.new.self.peak ≡ max c.args.meter.now.peak (c.args.meter.now.live + 2880) = ap (λ (m : Gauge). m.peak) c.in_ok-block.ensures.taken.1 in
+    let first : c.bytes.new.self.peak ≡ max c.args.meter.now.peak 2880 = omega (arith, begun, c.requires.nothing_live) in
+    let back : c.give_bytes.new.self.peak ≡ c.list_with_block-answer.new.meter.peak = ap (λ (m : Gauge). m.peak) c.give_bytes.ensures in
+    let later : OnOk c.list_with_block-answer.result (IfSome held (λ file. c.list_with_block-answer.new.meter.peak ≡ max c.bytes.new.self.peak (highest (later_takings ListHdus file W)))) = c.list_with_block-answer.ensures.exact_peak in
+    rw back (ok_weaker c.list_with_block-answer.result (λ reached. c.stages_law.ensures.reached.block ListHdus held W c.args.meter.now.peak c.bytes.new.self.peak c.list_with_block-answer.new.meter.peak tt first reached) later)
+
+pub returns-in_err-block-clause-unread : goal.returns-in_err-block-clause-unread
+returns-in_err-block-clause-unread g c = λ low. refl
+
+pub returns-clause-unread : goal.returns-clause-unread
+returns-clause-unread g c = λ low. absurd (omega (arith, low, c.in_ok-block.ensures.taken.0, c.requires.nothing_live))

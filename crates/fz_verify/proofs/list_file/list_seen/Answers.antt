@@ -1,5 +1,5 @@
 -- The buffer for the longest header is taken and handed back; and the work stops by it, or by what is printed behind that.
-use Rattle.std.proofs.Common.{◌≡◌, ℕ, ◌+◌, max, List, Option, None, IfSome, Result, Err, length, refl, sym, ap, ◌∙◌, subst, arith, rules}
+use Rattle.std.proofs.Common.{◌≡◌, ℕ, ◌+◌, max, List, sum, Option, None, IfSome, Result, Err, length, refl, sym, ap, ◌∙◌, subst, arith, rules}
 use Rattle.std.proofs.lemmas.List.{length-replicate}
 use Rattle.fz_base.specs.Meter.{Gauge}
 use Rattle.fz_base.specs.Stop.{stop_of_short}
@@ -10,8 +10,10 @@ use Rattle.fz_verify.specs.Printed.{ListsSeen}
 use Rattle.fz_files.specs.declared.job.Job.TheVariants.{List as ListHdus}
 use Rattle.fz_stages.specs.Stages.{Works, wants_for}
 use Rattle.fz_verify.proofs.Held.{refilled_len}
-use Rattle.fz_verify.proofs.Outcomes.{if_over, rewrite_over}
+use Rattle.fz_verify.proofs.Outcomes.{if_over, none_passed, ok_always, rewrite_over}
 use Rattle.fz_verify.proofs.One.{one_given, one_short_takes, one_works, short_listed, sum_of_one}
+use Rattle.fz_verify.proofs.HeaderReads.{none_read}
+use Rattle.fz_verify.proofs.Reports.{grew_not}
 use Rattle.fz_verify.proofs.list_file.list_seen.Goals as goal
 
 pub returns-in_err-header-clause-listed : goal.returns-in_err-header-clause-listed
@@ -66,6 +68,15 @@ returns-clause-peak g c =
     let back : c.give_bytes.new.self.peak ≡ c.bytes.new.self.peak = ap (λ (m : Gauge). m.peak) c.give_bytes.ensures in
     omega (arith, took, back, is, sum_of_one c.args.survey.now)
 
+pub returns-clause-exact_peak : goal.returns-clause-exact_peak
+returns-clause-exact_peak g c =
+    let is : c.from.result ≡ c.args.survey.now.header_len = search rules in
+    let n : ℕ = c.from.result in
+    let took : c.bytes.new.self.peak ≡ max c.args.meter.now.peak (c.args.meter.now.live + n) = ap (λ (m : Gauge). m.peak) c.in_ok-header.ensures.taken.1 in
+    let back : c.give_bytes.new.self.peak ≡ c.bytes.new.self.peak = ap (λ (m : Gauge). m.peak) c.give_bytes.ensures in
+    let reached : c.give_bytes.new.self.peak ≡ max c.args.meter.now.peak (c.args.meter.now.live + sum (wanted_buffers (wants_for ListHdus c.args.survey.now) 1)) = omega (arith, took, back, is, sum_of_one c.args.survey.now) in
+    ok_always c.list_hdus-answer.result _ reached
+
 pub returns-clause-live : goal.returns-clause-live
 returns-clause-live g c =
     let is : c.from.result ≡ c.args.survey.now.header_len = search rules in
@@ -82,3 +93,18 @@ returns-clause-limit g c = ap (λ (m : Gauge). m.limit) c.give_bytes.ensures ∙
 
 pub returns-clause-cause : goal.returns-clause-cause
 returns-clause-cause g c = c.stages_law.ensures.work.works _ _ _ _ c.args.meter.now.limit c.list_hdus-answer.result c.list_hdus-answer.ensures.cause
+
+pub returns-in_err-header-clause-read : goal.returns-in_err-header-clause-read
+returns-in_err-header-clause-read g c = none_read c.args.survey.now (g.S.Source.ranges c.args.source.now) (g.S.Source.held c.args.source.now)
+
+pub returns-in_err-header-clause-grown : goal.returns-in_err-header-clause-grown
+returns-in_err-header-clause-grown g c = grew_not (g.T.Text.contents c.args.text.now)
+
+pub returns-in_err-header-clause-past : goal.returns-in_err-header-clause-past
+returns-in_err-header-clause-past g c = λ some. (refl, refl)
+
+pub returns-clause-past : goal.returns-clause-past
+returns-clause-past g c =
+    let meter = c.args.meter.now in
+    let is : c.from.result ≡ c.args.survey.now.header_len = search rules in
+    none_passed _ (first_past meter.limit (piled meter.live (wanted_buffers (wants_for ListHdus c.args.survey.now) 1))) (one_given meter c.args.survey.now.header_len (omega (arith, c.in_ok-header.ensures.taken.0, is)))

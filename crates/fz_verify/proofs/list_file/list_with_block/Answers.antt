@@ -1,7 +1,8 @@
 -- The first look stops, or knows the file, and then the work says the rest.
 use Rattle.std.proofs.Common.{◌≡◌, ℕ, ◌+◌, ◌≤◌, max, List, Option, None, IfSome, Result, Err, sum, refl, sym, ◌∙◌, subst, rules, arith}
+use Rattle.std.specs.Prelude.{IsSome, OnOk}
 use Rattle.fz_base.specs.Stop.{TellsLimit}
-use Rattle.fz_base.specs.Takings.{TellsFirstPast, first_past, piled}
+use Rattle.fz_base.specs.Takings.{TellsFirstPast, first_past, highest, piled}
 use Rattle.fz_base.specs.declared.failure.Stop.{Stop}
 use Rattle.fz_files.specs.declared.job.Job.TheVariants.{List as ListHdus}
 use Rattle.fz_survey.specs.Surveys.{survey_takings}
@@ -10,9 +11,12 @@ use Rattle.fz_survey.specs.declared.checks.JobChecks.TheVariants.{Unpack as Unpa
 use Rattle.fz_job.specs.Clauses.{TellsFirstFault, greatest_bound}
 use Rattle.fz_verify.specs.Clauses.{PrintsLines}
 use Rattle.fz_verify.specs.Printed.{ListsSeen}
+use Rattle.fz_verify.specs.Reads.{ReadsHeaders}
 use Rattle.fz_stages.specs.Stages.{Works, later_takings, wants_for}
 use Rattle.fz_verify.proofs.Finished.{Knows, list_faulty, list_learnt, list_prints, work_silent}
-use Rattle.fz_verify.proofs.Outcomes.{look_refused, look_unprinted, untouched_silent}
+use Rattle.fz_verify.proofs.Outcomes.{look_refused, look_unprinted, untouched_silent, ok_weaker, past_by, past_at}
+use Rattle.fz_verify.proofs.HeaderReads.{both_read, look_reads}
+use Rattle.fz_verify.proofs.Reports.{grew_not}
 use Rattle.fz_verify.proofs.list_file.list_with_block.Goals as goal
 
 pub returns-in_err-survey-clause-lines : goal.returns-in_err-survey-clause-lines
@@ -31,7 +35,7 @@ returns-in_err-survey-clause-first_fault g c =
     (c.stages_law.ensures.look.fault ListHdus held c.in_err-survey.field-0.0 (look_refused ListHdus held (c.known_law.ensures.refuse ListHdus tt) c.in_err-survey.field-0.0 c.in_err-survey.ensures.exact))
 
 pub returns-in_err-survey-clause-silent : goal.returns-in_err-survey-clause-silent
-returns-in_err-survey-clause-silent g c = untouched_silent ListHdus (g.S.Source.held c.args.source.now) _ c.from_residual.result (refl, refl)
+returns-in_err-survey-clause-silent g c = untouched_silent ListHdus (g.S.Source.held c.args.source.now) c.args.meter.now.limit (λ file. later_takings ListHdus file 1) _ c.from_residual.result (refl, refl)
 
 pub returns-in_err-survey-clause-first_past : goal.returns-in_err-survey-clause-first_past
 returns-in_err-survey-clause-first_past g c =
@@ -89,8 +93,28 @@ returns-clause-first_fault g c =
 pub returns-clause-silent : goal.returns-clause-silent
 returns-clause-silent g c =
     let held : Option (List ℕ) = g.S.Source.held c.args.source.now in
-    let exact : IfSome held (Knows c.in_ok-survey.survey) = c.in_ok-survey.ensures.exact in
-    work_silent ListHdus (c.known_law.ensures.know ListHdus tt) c.in_ok-survey.survey held _ c.list_seen.result exact c.list_seen.ensures.silent c.list_seen.ensures.changed
+    let meter = c.args.meter.now in
+    let W : ℕ = 1 in
+    let s = c.in_ok-survey.survey in
+    let exact : IfSome held (Knows s) = c.in_ok-survey.ensures.exact in
+    let none : IfSome held (λ file. first_past meter.limit (survey_takings UnpackChecks meter.live file) ≡ None) = c.in_ok-survey.ensures.first_past in
+    let past : IsSome (first_past meter.limit (piled meter.live (wanted_buffers (wants_for ListHdus s) W))) → (g.T.Text.contents c.list_seen.new.text ≡ g.T.Text.contents c.args.text.now) × (g.T.Text.tally c.list_seen.new.text ≡ g.T.Text.tally c.args.text.now) =
+    past_at c.survey_to_unpack.new.meter.limit meter.limit c.survey_to_unpack.new.meter.live meter.live (wanted_buffers (wants_for ListHdus s) W) _ c.in_ok-survey.ensures.limit c.in_ok-survey.ensures.live c.list_seen.ensures.past in
+    let passes = c.stages_law.ensures.passes.look ListHdus UnpackChecks held W meter.live meter.limit s.header_len 0 refl c.requires.one_block (list_learnt (c.known_law.ensures.know ListHdus tt) s held exact) none in
+    work_silent ListHdus (c.known_law.ensures.know ListHdus tt) s held meter.limit (λ file. later_takings ListHdus file W) _ c.list_seen.result exact
+    (past_by held (λ file. first_past meter.limit (later_takings ListHdus file W)) (first_past meter.limit (piled meter.live (wanted_buffers (wants_for ListHdus s) W))) _ passes past) c.list_seen.ensures.silent c.list_seen.ensures.changed
+
+pub returns-clause-exact_peak : goal.returns-clause-exact_peak
+returns-clause-exact_peak g c =
+    let held : Option (List ℕ) = g.S.Source.held c.args.source.now in
+    let meter = c.args.meter.now in
+    let W : ℕ = 1 in
+    let s = c.in_ok-survey.survey in
+    let exact : IfSome held (Knows s) = c.in_ok-survey.ensures.exact in
+    let look : IfSome held (λ file. c.survey_to_unpack.new.meter.peak ≡ max meter.peak (highest (survey_takings UnpackChecks meter.live file))) = c.in_ok-survey.ensures.exact_peak in
+    let reached : OnOk c.list_seen.result (c.list_seen.new.meter.peak ≡ max c.survey_to_unpack.new.meter.peak (meter.live + sum (wanted_buffers (wants_for ListHdus s) W))) = rw c.in_ok-survey.ensures.live at c.list_seen.ensures.exact_peak in
+    ok_weaker c.list_seen.result
+    (λ work. c.stages_law.ensures.reached.work ListHdus UnpackChecks held W meter.live meter.peak c.survey_to_unpack.new.meter.peak c.list_seen.new.meter.peak s.header_len 0 refl c.requires.one_block (list_learnt (c.known_law.ensures.know ListHdus tt) s held exact) look work) reached
 
 pub returns-clause-first_past : goal.returns-clause-first_past
 returns-clause-first_past g c =
@@ -132,3 +156,23 @@ returns-clause-peak_most g c =
 
 pub returns-clause-cause : goal.returns-clause-cause
 returns-clause-cause g c = rw (c.in_ok-survey.ensures.cause.ok, c.in_ok-survey.ensures.limit) at c.list_seen.ensures.cause
+
+pub returns-in_err-survey-clause-touched : goal.returns-in_err-survey-clause-touched
+returns-in_err-survey-clause-touched g c =
+    look_reads ListHdus (g.S.Source.held c.args.source.now) (g.S.Source.ranges c.args.source.now) (g.S.Source.ranges c.survey_to_unpack.new.source) (g.S.Source.ranges c.survey_to_unpack.new.source)
+    (c.headers_law.ensures.look ListHdus tt) c.in_err-survey.ensures.touched
+
+pub returns-clause-touched : goal.returns-clause-touched
+returns-clause-touched g c =
+    let held : Option (List ℕ) = g.S.Source.held c.args.source.now in
+    let same : g.S.Source.held c.survey_to_unpack.new.source ≡ held = search rules in
+    let old : Option (List (ℕ × ℕ)) = g.S.Source.ranges c.args.source.now in
+    let mid : Option (List (ℕ × ℕ)) = g.S.Source.ranges c.survey_to_unpack.new.source in
+    let new : Option (List (ℕ × ℕ)) = g.S.Source.ranges c.list_seen.new.source in
+    let exact : IfSome held (Knows c.in_ok-survey.survey) = c.in_ok-survey.ensures.exact in
+    let reads : IfSome held (λ file. ReadsHeaders file c.in_ok-survey.survey mid new) = rw same at c.list_seen.ensures.read in
+    both_read ListHdus held old mid new c.ranges_law.ensures.join (c.known_law.ensures.know ListHdus tt) (c.headers_law.ensures.seen ListHdus tt) c.in_ok-survey.survey exact
+    (look_reads ListHdus held old mid new (c.headers_law.ensures.look ListHdus tt) c.in_ok-survey.ensures.touched) reads
+
+pub returns-in_err-survey-clause-grown : goal.returns-in_err-survey-clause-grown
+returns-in_err-survey-clause-grown g c = grew_not (g.T.Text.contents c.args.text.now)

@@ -1,14 +1,17 @@
 -- One HDU after another.
 use Rattle.std.proofs.Common.{◌≡◌, ℕ, ◌+◌, ◌<◌, ◌≤◌, ◌^◌, Bool, List, length, Option, IfSome, Result, Ok, Err, refl, sym, ◌∙◌, subst, inl, inr, arith, rules}
 use Rattle.fz_base.specs.Sink.{MayAppend, appended}
-use Rattle.fz_base.specs.Source.{HoldsLength}
+use Rattle.fz_base.specs.Source.{HoldsLength, LogsWithin}
 use Rattle.fz_base.specs.declared.failure.Stop.{Stop}
+use Rattle.fz_block.specs.Checks.{header_touched}
 use Rattle.fz_block.specs.Header.{next_start_of}
 use Rattle.fz_files.specs.Lines.{list_line}
 use Rattle.fz_again.specs.Again.{ReadsAsSeen, is_empty_primary}
 use Rattle.fz_verify.specs.Printed.{IsListing, ListsSeen}
 use Rattle.fz_verify.proofs.ListedHdus.{ends_with_file, more_listed, none_listed, stops_printing, stops_reading}
 use Rattle.fz_verify.proofs.Said.{front_listed, got_listed}
+use Rattle.fz_verify.proofs.HeaderReads.{none_read, one_read}
+use Rattle.fz_verify.proofs.Reports.{grew_both, grew_front, grew_line, grew_not}
 use Rattle.fz_verify.proofs.listing.list_hdus.Goals as goal
 
 pub loop-hdu-init : goal.loop-hdu-init
@@ -24,7 +27,13 @@ loop-hdu-init g c = record {
   within = inr (refl, refl);
   early = omega arith;
   listed = none_listed c.args.survey.now (g.T.Text.contents c.args.text.now) (g.S.Source.held c.args.source.now);
+  read = none_read c.args.survey.now (g.S.Source.ranges c.args.source.now) (g.S.Source.held c.args.source.now);
+  grown = grew_not (g.T.Text.contents c.args.text.now);
 }
+
+-- the header of the HDU was read
+one_more : (held now : Option (List ℕ)) (start : ℕ) (k : ℕ) (mid new : Option (List (ℕ × ℕ))) → now ≡ held → IfSome now (λ f. LogsWithin start (header_touched k start f) mid new) → IfSome held (λ f. LogsWithin start (header_touched k start f) mid new)
+one_more held now start k mid new same reads = subst (λ (h : Option (List ℕ)). IfSome h (λ f. LogsWithin start (header_touched k start f) mid new)) same reads
 
 pub returns-in_err-again-clause-listed : goal.returns-in_err-again-clause-listed
 returns-in_err-again-clause-listed g c =
@@ -134,4 +143,55 @@ loop-hdu-preserved g c =
       early = omega (arith, next, early);
       listed = subst (λ b. IfSome held (IsListing s (k + 1) c.next_start-start.result b before now)) (sym says)
           (subst (λ n. IfSome held (IsListing s (k + 1) n (is_empty_primary a.header) before now)) (sym next) more);
+      read = one_read s (g.S.Source.ranges c.args.source.now) c.ranges_law.ensures.within c.ranges_law.ensures.join held k start flag before mid (g.S.Source.ranges c.loop-hdu.source) (g.S.Source.ranges c.read_again.new.source) few old.listed
+          (one_more held (g.S.Source.held c.loop-hdu.source) start k (g.S.Source.ranges c.loop-hdu.source) (g.S.Source.ranges c.read_again.new.source) old.held c.in_ok-again.ensures.read) old.read;
+      grown = grew_both before mid now old.grown (grew_line _ mid now c.in_ok-print_listed.ensures.all);
     }
+
+pub returns-in_err-again-clause-read : goal.returns-in_err-again-clause-read
+returns-in_err-again-clause-read g c =
+    let s = c.args.survey.now in
+    let k : ℕ = c.loop-hdu.hdu in
+    let held : Option (List ℕ) = g.S.Source.held c.args.source.now in
+    let mid : Option (List (ℕ × ℕ)) = g.S.Source.ranges c.loop-hdu.source in
+    let new : Option (List (ℕ × ℕ)) = g.S.Source.ranges c.read_again.new.source in
+    let old = c.loop-hdu.invariant in
+    let few : k < s.hdus = omega arith in
+    one_read s (g.S.Source.ranges c.args.source.now) c.ranges_law.ensures.within c.ranges_law.ensures.join held k c.loop-hdu.start c.loop-hdu.after_empty (g.T.Text.contents c.args.text.now) (g.T.Text.contents c.loop-hdu.text) mid new few old.listed
+    (one_more held (g.S.Source.held c.loop-hdu.source) c.loop-hdu.start k mid new old.held c.in_err-again.ensures.read) old.read
+
+pub returns-in_err-print_listed-clause-read : goal.returns-in_err-print_listed-clause-read
+returns-in_err-print_listed-clause-read g c =
+    let s = c.args.survey.now in
+    let k : ℕ = c.loop-hdu.hdu in
+    let held : Option (List ℕ) = g.S.Source.held c.args.source.now in
+    let mid : Option (List (ℕ × ℕ)) = g.S.Source.ranges c.loop-hdu.source in
+    let new : Option (List (ℕ × ℕ)) = g.S.Source.ranges c.read_again.new.source in
+    let old = c.loop-hdu.invariant in
+    let few : k < s.hdus = omega arith in
+    one_read s (g.S.Source.ranges c.args.source.now) c.ranges_law.ensures.within c.ranges_law.ensures.join held k c.loop-hdu.start c.loop-hdu.after_empty (g.T.Text.contents c.args.text.now) (g.T.Text.contents c.loop-hdu.text) mid new few old.listed
+    (one_more held (g.S.Source.held c.loop-hdu.source) c.loop-hdu.start k mid new old.held c.in_ok-again.ensures.read) old.read
+
+pub returns-then-start-length-clause-read : goal.returns-then-start-length-clause-read
+returns-then-start-length-clause-read g c =
+    let s = c.args.survey.now in
+    let k : ℕ = c.loop-hdu.hdu in
+    let held : Option (List ℕ) = g.S.Source.held c.args.source.now in
+    let mid : Option (List (ℕ × ℕ)) = g.S.Source.ranges c.loop-hdu.source in
+    let new : Option (List (ℕ × ℕ)) = g.S.Source.ranges c.read_again.new.source in
+    let old = c.loop-hdu.invariant in
+    let few : k < s.hdus = omega arith in
+    one_read s (g.S.Source.ranges c.args.source.now) c.ranges_law.ensures.within c.ranges_law.ensures.join held k c.loop-hdu.start c.loop-hdu.after_empty (g.T.Text.contents c.args.text.now) (g.T.Text.contents c.loop-hdu.text) mid new few old.listed
+    (one_more held (g.S.Source.held c.loop-hdu.source) c.loop-hdu.start k mid new old.held c.in_ok-again.ensures.read) old.read
+
+pub returns-in_err-print_listed-clause-grown : goal.returns-in_err-print_listed-clause-grown
+returns-in_err-print_listed-clause-grown g c =
+    let mid : Option (List ℕ) = g.T.Text.contents c.loop-hdu.text in
+    let now : Option (List ℕ) = g.T.Text.contents c.print_listed.new.text in
+    grew_both (g.T.Text.contents c.args.text.now) mid now c.loop-hdu.invariant.grown (grew_front _ mid now c.in_err-print_listed.ensures.front)
+
+pub returns-then-start-length-clause-grown : goal.returns-then-start-length-clause-grown
+returns-then-start-length-clause-grown g c =
+    let mid : Option (List ℕ) = g.T.Text.contents c.loop-hdu.text in
+    let now : Option (List ℕ) = g.T.Text.contents c.print_listed.new.text in
+    grew_both (g.T.Text.contents c.args.text.now) mid now c.loop-hdu.invariant.grown (grew_line _ mid now c.in_ok-print_listed.ensures.all)

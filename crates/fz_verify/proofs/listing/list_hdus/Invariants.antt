@@ -2,6 +2,8 @@
 use Rattle.std.proofs.Common.{◌≡◌, ◌^◌, ◌<◌, ◌≤◌, ◌⊎◌, length, IfSome}
 use Rattle.fz_base.specs.Told.{StaysTold}
 use Rattle.fz_verify.specs.Printed.{IsListing}
+use Rattle.fz_verify.specs.Reads.{ReadsHeaders}
+use Rattle.fz_verify.specs.Reported.{Grew}
 use Rattle.fz_verify.proofs.listing.list_hdus.Given as goal
 
 abbrev pub invariant-loop-hdu : goal.invariant-loop-hdu
@@ -17,4 +19,6 @@ invariant-loop-hdu g l = record {
   within : (l.start < l.length) ⊎ ((l.hdu ≡ 0) × (l.start ≡ 0));
   early : l.start ≤ 2 ^ 62;
   listed : IfSome (g.S.Source.held l.fn.source) (IsListing l.survey l.hdu l.start l.after_empty (g.T.Text.contents l.fn.text) (g.T.Text.contents l.text));
+  read : IfSome (g.S.Source.held l.fn.source) (λ f. ReadsHeaders f l.survey (g.S.Source.ranges l.fn.source) (g.S.Source.ranges l.source));
+  grown : Grew (g.T.Text.contents l.fn.text) (g.T.Text.contents l.text);
 }

@@ -1,7 +1,7 @@
 -- What is held is what was taken; and the work stops by its buffers, or by what is written behind that.
 use Rattle.std.proofs.Common.{◌≡◌, ℕ, Bool, List, [], Option, IfSome, Result, Err, sum, refl, sym, ap, ◌∙◌, subst, arith, rules}
 use Rattle.fz_base.specs.Stop.{stop_of_short}
-use Rattle.fz_base.specs.Takings.{TellsFirstPast, piled}
+use Rattle.fz_base.specs.Takings.{TellsFirstPast, first_past, piled}
 use Rattle.fz_base.specs.declared.failure.Stop.{Stop}
 use Rattle.fz_pool.specs.Window.{Pool}
 use Rattle.fz_survey.specs.Workspace.{held_bytes, wanted_buffers}
@@ -9,7 +9,8 @@ use Rattle.fz_survey.specs.declared.workspace.Wants.{Wants}
 use Rattle.fz_files.specs.declared.job.Job.TheVariants.{Verify}
 use Rattle.fz_stages.specs.Stages.{Works, wants_for}
 use Rattle.fz_verify.specs.Printed.{VerifiesSeen}
-use Rattle.fz_verify.proofs.Outcomes.{if_over, rewrite_over, short_verified}
+use Rattle.fz_verify.proofs.Outcomes.{if_over, rewrite_over, short_verified, none_passed, ok_always}
+use Rattle.fz_verify.proofs.Reports.{grew_not}
 use Rattle.fz_verify.proofs.verify_file.verify_seen.Goals as goal
 
 pub returns-in_err-space-clause-verified : goal.returns-in_err-space-clause-verified
@@ -63,6 +64,16 @@ returns-clause-peak g c =
     let wants : Wants = wants_for Verify c.args.survey.now in
     let held = c.stages_law.ensures.back.kept wants c.in_ok-space.space c.verify_hdus-answer.new.space c.args.window.now.workers c.take.new.window c.verify_hdus-answer.new.window
     c.in_ok-space.ensures.lengths c.verify_hdus-answer.ensures.space c.in_ok-space.ensures.filled c.verify_hdus-answer.ensures.window in
+    let reached = (c.stages_law.ensures.back.given c.args.meter.now c.take.new.meter c.give_back.new.meter (sum (wanted_buffers wants c.args.window.now.workers)) (held_bytes c.verify_hdus-answer.new.space c.verify_hdus-answer.new.window)
+    c.in_ok-space.ensures.takings.all.1 held c.give_back.ensures.given).2 in
+    omega (arith, reached)
+
+pub returns-clause-exact_peak : goal.returns-clause-exact_peak
+returns-clause-exact_peak g c =
+    let wants : Wants = wants_for Verify c.args.survey.now in
+    let held = c.stages_law.ensures.back.kept wants c.in_ok-space.space c.verify_hdus-answer.new.space c.args.window.now.workers c.take.new.window c.verify_hdus-answer.new.window
+    c.in_ok-space.ensures.lengths c.verify_hdus-answer.ensures.space c.in_ok-space.ensures.filled c.verify_hdus-answer.ensures.window in
+    ok_always c.verify_hdus-answer.result _
     (c.stages_law.ensures.back.given c.args.meter.now c.take.new.meter c.give_back.new.meter (sum (wanted_buffers wants c.args.window.now.workers)) (held_bytes c.verify_hdus-answer.new.space c.verify_hdus-answer.new.window)
     c.in_ok-space.ensures.takings.all.1 held c.give_back.ensures.given).2
 
@@ -89,3 +100,12 @@ returns-clause-emptied g c =
 
 pub returns-clause-cause : goal.returns-clause-cause
 returns-clause-cause g c = c.stages_law.ensures.work.works _ _ _ _ c.args.meter.now.limit c.verify_hdus-answer.result c.verify_hdus-answer.ensures.cause
+
+pub returns-in_err-space-clause-grown : goal.returns-in_err-space-clause-grown
+returns-in_err-space-clause-grown g c = grew_not (g.T.Text.contents c.args.text.now)
+
+pub returns-in_err-space-clause-past : goal.returns-in_err-space-clause-past
+returns-in_err-space-clause-past g c = λ some. (refl, refl)
+
+pub returns-clause-past : goal.returns-clause-past
+returns-clause-past g c = none_passed _ (first_past c.args.meter.now.limit (piled c.args.meter.now.live (wanted_buffers (wants_for Verify c.args.survey.now) c.args.window.now.workers))) c.in_ok-space.ensures.takings.first_past

@@ -1,7 +1,8 @@
 -- The first look stops, or knows the file, and then the work says the rest.
 use Rattle.std.proofs.Common.{◌≡◌, ℕ, ◌+◌, ◌≤◌, max, Bool, List, Option, None, IfSome, Result, Err, sum, refl, sym, ◌∙◌, subst, rules, arith}
+use Rattle.std.specs.Prelude.{IsSome, OnOk}
 use Rattle.fz_base.specs.Stop.{TellsLimit}
-use Rattle.fz_base.specs.Takings.{TellsFirstPast, first_past, piled}
+use Rattle.fz_base.specs.Takings.{TellsFirstPast, first_past, highest, piled}
 use Rattle.fz_base.specs.declared.failure.Stop.{Stop}
 use Rattle.fz_files.specs.declared.job.Job.TheVariants.{Verify}
 use Rattle.fz_survey.specs.Surveys.{survey_takings}
@@ -12,7 +13,8 @@ use Rattle.fz_verify.specs.Clauses.{PrintsLines}
 use Rattle.fz_verify.specs.Printed.{VerifiesSeen}
 use Rattle.fz_stages.specs.Stages.{Works, later_takings, wants_for}
 use Rattle.fz_verify.proofs.Finished.{Knows, verify_faulty, verify_learnt, verify_prints, verify_right, work_silent}
-use Rattle.fz_verify.proofs.Outcomes.{look_refused, look_unprinted, untouched_silent}
+use Rattle.fz_verify.proofs.Outcomes.{look_refused, look_unprinted, untouched_silent, ok_weaker, past_by, past_at}
+use Rattle.fz_verify.proofs.Reports.{grew_not}
 use Rattle.fz_verify.proofs.verify_file.verify_with_block.Goals as goal
 
 pub returns-in_err-survey-clause-lines : goal.returns-in_err-survey-clause-lines
@@ -31,7 +33,7 @@ returns-in_err-survey-clause-first_fault g c =
     (c.stages_law.ensures.look.fault Verify held c.in_err-survey.field-0.0 (look_refused Verify held (c.known_law.ensures.refuse Verify tt) c.in_err-survey.field-0.0 c.in_err-survey.ensures.exact))
 
 pub returns-in_err-survey-clause-silent : goal.returns-in_err-survey-clause-silent
-returns-in_err-survey-clause-silent g c = untouched_silent Verify (g.S.Source.held c.args.source.now) _ c.from_residual.result (refl, refl)
+returns-in_err-survey-clause-silent g c = untouched_silent Verify (g.S.Source.held c.args.source.now) c.args.meter.now.limit (λ file. later_takings Verify file 1) _ c.from_residual.result (refl, refl)
 
 pub returns-in_err-survey-clause-first_past : goal.returns-in_err-survey-clause-first_past
 returns-in_err-survey-clause-first_past g c =
@@ -102,8 +104,30 @@ returns-clause-first_fault g c =
 pub returns-clause-silent : goal.returns-clause-silent
 returns-clause-silent g c =
     let held : Option (List ℕ) = g.S.Source.held c.args.source.now in
-    let exact : IfSome held (Knows c.in_ok-survey.survey) = c.in_ok-survey.ensures.exact in
-    work_silent Verify (c.known_law.ensures.know Verify tt) c.in_ok-survey.survey held _ c.verify_seen.result exact c.verify_seen.ensures.silent c.verify_seen.ensures.late
+    let meter = c.args.meter.now in
+    let W : ℕ = 1 in
+    let s = c.in_ok-survey.survey in
+    let exact : IfSome held (Knows s) = c.in_ok-survey.ensures.exact in
+    let none : IfSome held (λ file. first_past meter.limit (survey_takings UnpackChecks meter.live file) ≡ None) = c.in_ok-survey.ensures.first_past in
+    let at_workers : IsSome (first_past meter.limit (piled meter.live (wanted_buffers (wants_for Verify s) c.args.window.now.workers))) → (g.T.Text.contents c.verify_seen.new.text ≡ g.T.Text.contents c.args.text.now) × (g.T.Text.tally c.verify_seen.new.text ≡ g.T.Text.tally c.args.text.now) =
+    past_at c.survey_to_unpack.new.meter.limit meter.limit c.survey_to_unpack.new.meter.live meter.live (wanted_buffers (wants_for Verify s) c.args.window.now.workers) _ c.in_ok-survey.ensures.limit c.in_ok-survey.ensures.live c.verify_seen.ensures.past in
+    let past : IsSome (first_past meter.limit (piled meter.live (wanted_buffers (wants_for Verify s) W))) → (g.T.Text.contents c.verify_seen.new.text ≡ g.T.Text.contents c.args.text.now) × (g.T.Text.tally c.verify_seen.new.text ≡ g.T.Text.tally c.args.text.now) =
+    subst (λ (n : ℕ). IsSome (first_past meter.limit (piled meter.live (wanted_buffers (wants_for Verify s) n))) → (g.T.Text.contents c.verify_seen.new.text ≡ g.T.Text.contents c.args.text.now) × (g.T.Text.tally c.verify_seen.new.text ≡ g.T.Text.tally c.args.text.now)) c.requires.one_worker at_workers in
+    let passes = c.stages_law.ensures.passes.look Verify UnpackChecks held W meter.live meter.limit s.header_len s.tile refl c.requires.one_block (verify_learnt (c.known_law.ensures.know Verify tt) s held exact) none in
+    work_silent Verify (c.known_law.ensures.know Verify tt) s held meter.limit (λ file. later_takings Verify file W) _ c.verify_seen.result exact
+    (past_by held (λ file. first_past meter.limit (later_takings Verify file W)) (first_past meter.limit (piled meter.live (wanted_buffers (wants_for Verify s) W))) _ passes past) c.verify_seen.ensures.silent c.verify_seen.ensures.late
+
+pub returns-clause-exact_peak : goal.returns-clause-exact_peak
+returns-clause-exact_peak g c =
+    let held : Option (List ℕ) = g.S.Source.held c.args.source.now in
+    let meter = c.args.meter.now in
+    let W : ℕ = 1 in
+    let s = c.in_ok-survey.survey in
+    let exact : IfSome held (Knows s) = c.in_ok-survey.ensures.exact in
+    let look : IfSome held (λ file. c.survey_to_unpack.new.meter.peak ≡ max meter.peak (highest (survey_takings UnpackChecks meter.live file))) = c.in_ok-survey.ensures.exact_peak in
+    let reached : OnOk c.verify_seen.result (c.verify_seen.new.meter.peak ≡ max c.survey_to_unpack.new.meter.peak (meter.live + sum (wanted_buffers (wants_for Verify s) W))) = rw (c.in_ok-survey.ensures.live, c.requires.one_worker) at c.verify_seen.ensures.exact_peak in
+    ok_weaker c.verify_seen.result
+    (λ work. c.stages_law.ensures.reached.work Verify UnpackChecks held W meter.live meter.peak c.survey_to_unpack.new.meter.peak c.verify_seen.new.meter.peak s.header_len s.tile refl c.requires.one_block (verify_learnt (c.known_law.ensures.know Verify tt) s held exact) look work) reached
 
 pub returns-clause-first_past : goal.returns-clause-first_past
 returns-clause-first_past g c =
@@ -146,3 +170,6 @@ returns-clause-peak_most g c =
 
 pub returns-clause-cause : goal.returns-clause-cause
 returns-clause-cause g c = rw (c.in_ok-survey.ensures.cause.ok, c.in_ok-survey.ensures.limit) at c.verify_seen.ensures.cause
+
+pub returns-in_err-survey-clause-grown : goal.returns-in_err-survey-clause-grown
+returns-in_err-survey-clause-grown g c = grew_not (g.T.Text.contents c.args.text.now)

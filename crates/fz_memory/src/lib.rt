@@ -1,0 +1,8 @@
+//! The top call over bytes in memory: how a program packs and unpacks with no file on a disk, and the promise of the whole in
+//! one line. Read `files`, and then `between`.
+#![tactic(auto)]
+
+mod between;
+mod files;
+
+pub use files::{pack_and_unpack, pack_bytes, unpack_bytes};

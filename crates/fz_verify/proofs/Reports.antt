@@ -1,0 +1,71 @@
+-- The lines that were printed are those of the HDUs that were reported, one after another.
+use Rattle.std.proofs.Common.{◌≡◌, ℕ, ◌&&◌, Bool, true, false, List, [], ◌∷◌, ◌++◌, refl, sym, ap, ◌∙◌}
+use Rattle.std.specs.Prelude.{Option, Some, None}
+use Rattle.std.specs.List.{flat_map, list_all}
+use Rattle.std.proofs.lemmas.Grind.{flat_map-append}
+use Rattle.std.proofs.lemmas.List.{append-nil}
+use Rattle.fz_base.specs.Sink.{MayAppend, appended}
+use Rattle.fz_head.specs.declared.job_checks.PackedImage.{PackedImage}
+use Rattle.fz_files.specs.Packed.{tiles_in}
+use Rattle.fz_verify.specs.Lines.{verdicts_text}
+use Rattle.fz_verify.specs.Reported.{Grew, Reported, Reports, is_right, reported_line}
+use Rattle.fz_verify.specs.Sums.{are_right}
+use Rattle.fz_verify.specs.declared.sums.Verdicts.{Verdicts}
+use Rattle.fz_verify.proofs.Texts.{appended_none, got_both}
+
+-- ---- a text that grew
+
+pub grew_not : (old : Option (List ℕ)) → Grew old old
+grew_not old = ([], appended_none old)
+
+pub grew_front : (line : List ℕ) (old new : Option (List ℕ)) → MayAppend line old new → Grew old new
+grew_front line old new (n, is) = (_, is)
+
+pub grew_line : (line : List ℕ) (old new : Option (List ℕ)) → new ≡ appended line old → Grew old new
+grew_line line old new is = (line, is)
+
+pub grew_both : (old mid new : Option (List ℕ)) → Grew old mid → Grew mid new → Grew old new
+grew_both old mid new (a, first) (b, next) = (a ++ b, got_both a b old mid new first next)
+
+pub grew_by : (old new : Option (List ℕ)) (right : Bool) → Reports old new right → Grew old new
+grew_by old new right r = (flat_map reported_line r.0, r.1)
+
+-- ---- what was reported
+
+abbrev tiles_of : Option PackedImage → Option ℕ
+tiles_of None = None
+tiles_of (Some i) = Some (tiles_in i.plan)
+
+abbrev reported_as : ℕ → Option PackedImage → Verdicts → Reported
+reported_as k image v = record { hdu = k; datasum = v.datasum; checksum = v.checksum; tiles = tiles_of image }
+
+line_is : (k : ℕ) (image : Option PackedImage) (v : Verdicts) → verdicts_text k image v ≡ reported_line (reported_as k image v)
+line_is k None v = refl
+line_is k (Some i) v = refl
+
+and_true : (a : Bool) → a ≡ (a && true)
+and_true true = refl
+and_true false = refl
+
+pub one_reported : (k : ℕ) (image : Option PackedImage) (v : Verdicts) (right : Bool) (old new : Option (List ℕ)) → right ≡ are_right v → new ≡ appended (verdicts_text k image v) old → Reports old new right
+one_reported k image v right old new says is =
+    let r = reported_as k image v in
+    (r ∷ [], is ∙ ap (λ l. appended l old) (line_is k image v ∙ sym (append-nil (reported_line r))), says ∙ and_true (are_right v))
+
+pub none_reported : (old : Option (List ℕ)) → Reports old old true
+none_reported old = ([], appended_none old, refl)
+
+and_assoc : (a b c : Bool) → (a && (b && c)) ≡ ((a && b) && c)
+and_assoc true b c = refl
+and_assoc false b c = refl
+
+all_both : (xs ys : List Reported) → (list_all is_right xs && list_all is_right ys) ≡ list_all is_right (xs ++ ys)
+all_both [] ys = refl
+all_both (x ∷ xs) ys = sym (and_assoc (is_right x) (list_all is_right xs) (list_all is_right ys)) ∙ ap (λ b. is_right x && b) (all_both xs ys)
+
+pub both_reported : (old mid new : Option (List ℕ)) (first next : Bool) → Reports old mid first → Reports mid new next → Reports old new (first && next)
+both_reported old mid new first next (xs, is, says) (ys, are, say) = (
+  xs ++ ys,
+  got_both (flat_map reported_line xs) (flat_map reported_line ys) old mid new is are ∙ ap (λ l. appended l old) (sym (flat_map-append reported_line xs ys)),
+  (λ i. says i && say i) ∙ all_both xs ys,
+)
