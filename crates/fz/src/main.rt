@@ -1,25 +1,57 @@
 //! The program: it makes the real source, sink, text, gate and meter, and calls `run`.
 #![tactic(auto)]
 
+ghost use Rattle.std.specs.Prelude.{◌≡◌, ◌^◌};
+
+mod settled_sink;
+
 use fz_app::{Status, run};
-use fz_base::{FileSink, FileSource, FreeGate, Meter, StdText};
+use fz_base::{FileSource, FreeGate, Meter, StdText};
+use settled_sink::SettledSink;
 use std::alloc::AllocError;
-use std::env;
 use std::fs::File;
 use std::io::ErrorKind;
+use std::os::fd::AsFd;
 use std::process::ExitCode;
 use std::rt::Files;
 use std::thread::Threads;
-
-/// The most bytes of buffers.
-const LIMIT: u64 = 1 << 40;
+use std::{env, io};
 
 fn main(rt: HostRuntime) -> ExitCode {
-    let status = match words_of(&rt) {
-        Ok(words) => run_with(&rt, &words).unwrap_or(Status::NoMemory),
-        Err(_) => Status::NoMemory,
+    let answer = match keep_standard(&rt) {
+        Ok(_kept) => match words_of(&rt) {
+            Ok(words) => run_with(&rt, &words),
+            Err(error) => Err(error),
+        },
+        Err(error) => without_standard(&rt, &error),
+    };
+    let status = match answer {
+        Ok(status) => status,
+        Err(AllocError) => without_memory(&rt),
     };
     ExitCode::from(status.number() as u8)
+}
+
+/// The most bytes of buffers.
+fn limit() -> u64
+    ensures { result ≡ 2 ^ 40 }
+{
+    1 << 40
+}
+
+// Prints the line of NoMemory, a constant that takes no memory: `run`, which prints it otherwise, was not reached.
+fn without_memory(rt: &HostRuntime) -> Status {
+    let _ = rt.print("no memory\n");
+    Status::NoMemory
+}
+
+// How the program ends if a standard stream is closed and nothing could be opened in its place.
+fn without_standard(rt: &HostRuntime, error: &io::Error) -> Result<Status, AllocError> {
+    if error.kind() == ErrorKind::OutOfMemory {
+        return Err(AllocError);
+    }
+    let _ = rt.print("write fault\n");
+    Ok(Status::WriteFault)
 }
 
 // Runs the program over real files and standard output.
@@ -28,9 +60,9 @@ where
     R: Files<File = File> + Print + AllocGlobal + Threads + Sync + Clone + Drop,
 {
     let mut source = FileSource::new(rt.clone()?);
-    let mut sink = FileSink::new(rt.clone()?);
+    let mut sink = SettledSink::new(rt.clone()?);
     let mut text = StdText::new(rt.clone()?);
-    let mut meter = Meter::new(rt.alloc(), LIMIT);
+    let mut meter = Meter::new(rt.alloc(), limit());
     Ok(run(
         rt,
         rt.alloc(),
@@ -50,5 +82,33 @@ fn words_of(rt: &HostRuntime) -> Result<Vec<String>, AllocError> {
         Ok(args) => args.skip(1).collect(rt.alloc()),
         Err(error) if error.kind() == ErrorKind::OutOfMemory => Err(AllocError),
         Err(_) => Ok(Vec::new(rt.alloc())),
+    }
+}
+
+// What was opened in the place of standard streams that were closed when the program started.
+#[derive(Drop)]
+struct Kept {
+    _input: Option<File>,
+    _output: Option<File>,
+    _errors: Option<File>,
+}
+
+// Opens each standard stream that is closed. Otherwise IN or OUT would get its number, and a line that is printed would
+// go into OUT.
+fn keep_standard(rt: &HostRuntime) -> io::Result<Kept> {
+    Ok(Kept {
+        _input: stand_in(rt, &rt.stdin())?,
+        _output: stand_in(rt, &rt.stdout())?,
+        _errors: stand_in(rt, &rt.stderr())?,
+    })
+}
+
+// A file in the place of a stream that cannot be duplicated, so is closed. The file gets the lowest number that is free,
+// and that is the number of the stream if those before it are open. It is open for reading only, so a line that is
+// printed there is a write fault, as before.
+fn stand_in<S: AsFd>(rt: &HostRuntime, stream: &S) -> io::Result<Option<File>> {
+    match stream.as_fd().try_clone_to_owned() {
+        Ok(_) => Ok(None),
+        Err(_) => Ok(Some(File::open(rt, "/dev/null")?)),
     }
 }

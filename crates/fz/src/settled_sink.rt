@@ -1,0 +1,60 @@
+//! The sink of the program: OUT, of which the disk has all other bytes before its first byte is written.
+ghost use Rattle.std.specs.Prelude.{◌≡◌, None, false};
+ghost use Rattle.fz_base.specs.Counts.{uncounted};
+
+use fz_base::{Failed, FileSink, Sink};
+use std::fs::File;
+use std::rt::Files;
+
+/// A sink over a file that waits for the disk before it writes byte 0. A disk may keep writes in another order than they were made
+/// in; so after a loss of power a file that has its first byte has all others too, if byte 0 is written last.
+#[derive(Drop)]
+pub struct SettledSink<R: Files<File = File>> {
+    file: FileSink<R>,
+    finished: bool,
+}
+
+impl<R: Files<File = File>> SettledSink<R> {
+    /// A sink that has made no file yet.
+    pub fn new(rt: R) -> SettledSink<R>
+        ensures contents { ⟦<SettledSink<R> as Sink>⟧.contents result ≡ None }
+        ensures created { ⟦<SettledSink<R> as Sink>⟧.created result ≡ false }
+        ensures finished { ⟦<SettledSink<R> as Sink>⟧.finished result ≡ false }
+        ensures tally { ⟦<SettledSink<R> as Sink>⟧.tally result ≡ uncounted }
+    {
+        SettledSink {
+            file: FileSink::new(rt),
+            finished: false,
+        }
+    }
+}
+
+impl<R: Files<File = File>> Sink for SettledSink<R> {
+    ghost contents = { λ _. None };
+
+    ghost created = { λ s. ⟦<FileSink<R> as Sink>⟧.created s.file };
+
+    ghost finished = { λ s. s.finished };
+
+    ghost tally = { λ s. ⟦<FileSink<R> as Sink>⟧.tally s.file };
+
+    fn create(&mut self, name: &str) -> Result<(), Failed> {
+        self.file.create(name)?;
+        self.finished = false;
+        Ok(())
+    }
+
+    fn write_at(&mut self, at: u64, bytes: &[u8]) -> Result<(), Failed> {
+        self.finished = false;
+        if at == 0 {
+            self.file.finish()?;
+        }
+        self.file.write_at(at, bytes)
+    }
+
+    fn finish(&mut self) -> Result<(), Failed> {
+        self.file.finish()?;
+        self.finished = true;
+        Ok(())
+    }
+}
