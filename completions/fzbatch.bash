@@ -1,0 +1,38 @@
+# Completion of fzbatch for bash.
+_fzbatch() {
+    local word=${COMP_WORDS[COMP_CWORD]} before=${COMP_WORDS[COMP_CWORD-1]} command=${COMP_WORDS[1]} options
+    local every='--jobs --memory --fz --engine --sshlogin --sshloginfile --scheduler --all --allow-empty'
+    COMPREPLY=()
+    if [ "$COMP_CWORD" -eq 1 ]; then
+        mapfile -t COMPREPLY < <(compgen -W 'pack verify compare restore status missing forget collect share report look' -- "$word")
+        return
+    fi
+    case $command in
+        pack) options="$every --codec --tile --block --workers --no-sums --compare --update --retry --take-wrong-sums --skip-links" ;;
+        verify) options="$every --sha256-only" ;;
+        compare | restore) options=$every ;;
+        status) options='--all --json' ;;
+        missing) options='--null' ;;
+        forget) options='--name' ;;
+        collect) options='--drop --all' ;;
+        report) options='--out' ;;
+        look) options='--hdu --box --size --no-grid --fz --out' ;;
+        *) options= ;;
+    esac
+    [ "$before" != = ] || before=${COMP_WORDS[COMP_CWORD-2]}
+    case $before in
+        --codec) mapfile -t COMPREPLY < <(compgen -W 'rice plio none' -- "${word#=}"); return ;;
+        --engine) mapfile -t COMPREPLY < <(compgen -W 'local parallel slurm dask' -- "${word#=}"); return ;;
+        --jobs | --memory | --sshlogin | --scheduler | --tile | --block | --workers | --name | --hdu | --box | --size) return ;;
+    esac
+    compopt -o filenames 2> /dev/null
+    case $word in
+        -*) mapfile -t COMPREPLY < <(compgen -W "$options" -- "$word") ;;
+        *) if [ "$command" = look ] || [[ $before = --fz || $before = --out || $before = -o || $before = --sshloginfile ]]; then
+            mapfile -t COMPREPLY < <(compgen -f -- "$word")
+        else
+            mapfile -t COMPREPLY < <(compgen -d -- "$word")
+        fi ;;
+    esac
+}
+complete -F _fzbatch fzbatch

@@ -1,0 +1,28 @@
+"""Pack, restore, cut and verify integer images in FITS files with the program fz.
+
+    >>> import fzfits                                                            # doctest: +SKIP
+    >>> fzfits.pack("night/a.fits", "packed/a.fits.fz", tile=(64, 64), sums=True)  # doctest: +SKIP
+    >>> fzfits.verify("packed/a.fits.fz").is_right                                # doctest: +SKIP
+    True
+    >>> fzfits.section("packed/a.fits.fz", "SCI", np.s_[100:200, ::4]).shape      # doctest: +SKIP
+    (100, 1024)
+
+Every packed, restored or cut byte is made by the program; this package finds it (`fzfits.program`), calls it, and turns what it
+prints into results (`Hdu`, `Verdict`, `Report`, `Made`) and errors (`FzError` and its subclasses) that say what to do. It needs
+nothing but Python; `section` gives arrays and HDUs if numpy and astropy are installed.
+"""
+from .commands import cut, drill, list, pack, patch, retile, unpack, verify  # noqa: F401  # pylint: disable=redefined-builtin
+from .errors import FzError, Killed, NoMemory, NoProgram, NoSuchHdu, OverLimit, ReadFault, Refused, Unexpected, Usage, WriteFault
+from .mend import Change, Mended, mend
+from .readers import Readable, readable, stored_tiles
+from .results import Drill, Hdu, Made, Place, Report, Verdict
+from .section import section, section_cfitsio
+
+__version__ = "1.0.0"
+
+# `list` is left out, so that `from fzfits import *` does not hide the one of Python.
+__all__ = [
+    "Change", "Drill", "FzError", "Hdu", "Killed", "Made", "Mended", "NoMemory", "NoProgram", "NoSuchHdu", "OverLimit", "Place",
+    "ReadFault", "Readable", "Refused", "Report", "Unexpected", "Usage", "Verdict", "WriteFault", "cut", "drill", "mend", "pack",
+    "patch", "readable", "retile", "section", "section_cfitsio", "stored_tiles", "unpack", "verify",
+]

@@ -1,0 +1,88 @@
+"""What to do about a file that was not done: one short text for each cause."""
+from __future__ import annotations
+
+import contextlib
+import errno
+
+from .. import diagnose, refusals
+from ..errors import OverLimit, Refused
+from ..program import Outcome
+
+ANOTHER_COPY = "fetch the packed file from another copy; or, if the plain file is still there, remove the packed file and run fzbatch pack again"
+
+UPDATE = "fzbatch pack --update packs the plain file again, in the place of the packed file that changed"
+
+STATUSES = {
+    1: "a checksum of the plain file is wrong before it is packed: fetch it again, or have the tool that wrote it set the sums right; "
+    "--take-wrong-sums packs it as it is",
+    2: "correct the options of fz pack that were given to fzbatch",
+    4: "run fzbatch again when the disk or the network is well; look whether the file is still there",
+    5: "make room on the disk, or allow writing, and run fzbatch again",
+    6: "run fzbatch again with a larger --memory, or with smaller tiles (--tile)",
+    7: "run fzbatch again with fewer --jobs",
+}
+
+ERRNOS = {
+    errno.ENOENT: "the file or its folder went away while fzbatch ran: run it again",
+    errno.EACCES: "allow it to be read or written, and run fzbatch again",
+    errno.EPERM: "allow it to be read or written, and run fzbatch again",
+    errno.EIO: "the disk reports an error: copy what can be read to another disk, and fetch the file from another copy",
+    errno.ENOSPC: "make room on the disk, and run fzbatch again",
+    errno.EDQUOT: "make room below the quota, and run fzbatch again",
+    errno.EFBIG: "raise the limit on the size of files (ulimit -f), and run fzbatch again",
+    errno.EROFS: "the disk is mounted read-only: mount it so that it can be written, and run fzbatch again",
+    errno.ENAMETOOLONG: "the name has no room for .fz: give the file a shorter name",
+    errno.ENOTDIR: "a file has the name that a folder needs: rename one of them",
+    errno.EISDIR: "a folder has the name that a file needs: rename one of them",
+    errno.ESTALE: "the network disk was mounted again: run fzbatch again",
+}
+
+
+def of_errno(number: int) -> str:
+    """What to do after a call of the system failed."""
+    return ERRNOS.get(number, "see what the system says, and run fzbatch again")
+
+
+def of_signal(name: str) -> str:
+    """What to do after the program was ended by a signal."""
+    if name == "SIGXFSZ":
+        return ERRNOS[errno.EFBIG]
+    if name in ("SIGKILL", "SIGTERM"):
+        return "it was killed, perhaps for want of memory: run fzbatch again, with fewer --jobs if it happens again"
+    return "run fzbatch again; if it happens again, report it with the file"
+
+
+def of_outcome(ended: Outcome) -> str:
+    """What to do after the program ended with another status than 0."""
+    if ended.status < 0:
+        return of_signal(ended.signal or "")
+    if ended.status == 3:
+        return of_refusal(ended.line)
+    return STATUSES.get(ended.status, "report it with the file: fz has no such status")
+
+
+def hint(ended: Outcome, verb: str, path: bytes) -> str:
+    """What the file itself says more about an outcome: its card at the place, and what is special about it."""
+    with contextlib.suppress(OSError):
+        error = diagnose.error_of(ended, diagnose.Call(verb, path))
+        if isinstance(error, Refused):
+            about = [f"card {error.card}"] if error.card else []
+            return "; ".join([*about, *error.advice.split("\n")] if error.advice else about)
+        if isinstance(error, OverLimit) and error.enough:
+            return f"--memory {error.enough} is enough"
+    return ""
+
+
+def kind_of(line: str) -> tuple[int, str]:
+    """Number and name of the kind in a line `refused: 2 Truncated hdu 0 byte 5759`."""
+    words = line.split()
+    if len(words) >= 3 and words[0] == "refused:" and words[1].isdigit():
+        return int(words[1]), words[2]
+    return 0, "unknown"
+
+
+def of_refusal(line: str) -> str:
+    """What to do about a file that was refused."""
+    number, name = kind_of(line)
+    found = refusals.kind(number)
+    return found.text.rstrip(".") if found else f"docs/REFUSALS.md says what to do about {number} {name}"

@@ -1,0 +1,415 @@
+"""The parts of fzbatch that need no program: names, the look at a folder, the manifest, counts, plans, pictures and the sky."""
+from __future__ import annotations
+
+import io
+import math
+import os
+import random
+import sqlite3
+import struct
+import sys
+import tempfile
+import unittest
+import zlib
+from array import array
+from collections import Counter
+from pathlib import Path
+
+sys.path.insert(0, str(Path(__file__).resolve().parents[2]))
+
+from fzfits.batch import advice, files, grid, lock, look, manifest, names, picture, plan, progress, run, scan, sky, slurm, svg, tally, work  # noqa: E402
+from fzfits.headers import Header, card_of  # noqa: E402
+from fzfits.program import Outcome  # noqa: E402
+
+
+class InAFolder(unittest.TestCase):
+    """Tests that work in a folder of their own."""
+
+    def setUp(self) -> None:
+        room = tempfile.TemporaryDirectory()
+        self.addCleanup(room.cleanup)
+        self.folder = os.fsencode(room.name)
+
+    def path(self, *parts: bytes) -> bytes:
+        return os.path.join(self.folder, *parts)
+
+    def write(self, path: bytes, data: bytes = b"x") -> bytes:
+        os.makedirs(os.path.dirname(self.path(path)), exist_ok=True)
+        with open(self.path(path), "wb") as it:
+            it.write(data)
+        return self.path(path)
+
+
+class Names(unittest.TestCase):
+    def test_which_files_are_fits(self) -> None:
+        for name in (b"a.fits", b"A.FITS", b"b.fit", b"c.fts", b"a.fits.fz", b".fits"):
+            self.assertTrue(names.is_fits(name), name)
+        for name in (b"a.txt", b"a.fits.gz", b"fits", b"a.fz"):
+            self.assertFalse(names.is_fits(name), name)
+
+    def test_two_files_have_two_packed_names(self) -> None:
+        self.assertNotEqual(names.packed_name(b"a.fits"), names.packed_name(b"a.fits.fz"))
+
+    def test_names_on_one_line(self) -> None:
+        self.assertEqual(names.shown("Göttingen 1.fits".encode()), "Göttingen 1.fits")
+        self.assertEqual(names.shown(b"a\nb'\xff.fits"), "$'a\\nb\\'\\xff.fits'")
+        # a name that looks as if it were escaped is escaped itself
+        self.assertEqual(names.shown(b"$'a'"), "$'$\\'a\\''")
+
+    def test_only_parts_of_these_runs(self) -> None:
+        self.assertTrue(names.is_part_of(names.part_name("0123", 7), {"0123"}))
+        for name in (b".fzbatch-4567-7.part", b"obs.unfinished.run.2.fits", b".fzbatch-0123.part", b".fzbatch-0123-7.fits"):
+            self.assertFalse(names.is_part_of(name, {"0123"}), name)
+
+    def test_suffixes(self) -> None:
+        self.assertEqual([names.suffix_of(it) for it in (b"a.FITS.gz", b"b.txt", b"c", b"x.gz")], [".fits.gz", ".txt", "no suffix", ".gz"])
+
+
+class Scan(InAFolder):
+    def test_a_folder_with_all_sorts(self) -> None:
+        for path in (b"a.fits", b"n/b.FIT", b"n/\xff\n.fits", b"n/notes.txt"):
+            self.write(path)
+        os.symlink(b"a.fits", self.path(b"l.fits"))
+        os.symlink(b"nowhere", self.path(b"dead.fits"))
+        os.symlink(b"n", self.path(b"folder"))
+        os.symlink(b"n/notes.txt", self.path(b"text"))
+        os.mkfifo(self.path(b"p.fits"))
+        found = scan.scan(self.folder)
+        self.assertEqual(list(found.files), [b"a.fits", b"n/b.FIT", b"n/\xff\n.fits"])
+        self.assertEqual([it.path for it in found.left], [b"dead.fits", b"folder", b"l.fits", b"p.fits"])
+        self.assertEqual(found.others, Counter({".txt": 1}))
+        self.assertTrue(found.whole)
+
+    def test_no_folder(self) -> None:
+        with self.assertRaises(scan.NoSource):
+            scan.scan(self.path(b"nowhere"))
+
+    def test_a_folder_that_cannot_be_read_is_named(self) -> None:
+        self.write(b"closed/a.fits")
+        os.chmod(self.path(b"closed"), 0)
+        self.addCleanup(os.chmod, self.path(b"closed"), 0o700)
+        try:
+            os.listdir(self.path(b"closed"))
+            self.skipTest("this user may read every folder")
+        except PermissionError:
+            found = scan.scan(self.folder)
+        self.assertFalse(found.whole)
+        self.assertEqual([(it.path, it.why) for it in found.left], [(b"closed", "cannot be read: Permission denied")])
+
+
+class Files(InAFolder):
+    def test_a_name_is_given_once(self) -> None:
+        part, name = self.write(b"part", b"new"), self.write(b"name", b"old")
+        self.assertFalse(files.give_name(part, name))
+        self.assertEqual(Path(os.fsdecode(name)).read_bytes(), b"old")
+        self.assertTrue(files.give_name(part, self.path(b"other")))
+        self.assertFalse(files.there(part))
+
+    def test_only_files_of_its_own_sort_are_written_over(self) -> None:
+        path = self.write(b"a", b"SIMPLE  =")
+        self.assertFalse(files.write_over_own(path, b"<html> new", 6))
+        self.assertEqual(Path(os.fsdecode(path)).read_bytes(), b"SIMPLE  =")
+        self.assertTrue(files.write_over_own(self.write(b"b", b"<html> old"), b"<html> new", 6))
+
+    def test_a_link_is_not_read(self) -> None:
+        self.write(b"a")
+        os.symlink(b"a", self.path(b"l"))
+        with self.assertRaises(OSError):
+            files.look(self.path(b"l"))
+
+    def test_a_file_that_changes_is_noticed(self) -> None:
+        path = self.write(b"a", b"one")
+        before = files.look(path)
+        self.assertTrue(before.is_still(path))
+        self.write(b"a", b"two!")
+        self.assertFalse(before.is_still(path))
+
+    def test_a_file_in_the_place_of_a_folder(self) -> None:
+        self.write(b"a")
+        with self.assertRaises(NotADirectoryError):
+            files.make_folders(self.path(b"a", b"b"))
+
+    def test_the_lock_is_held_once(self) -> None:
+        with lock.held(self.path(b"lock")):
+            with self.assertRaisesRegex(lock.Locked, f"process {os.getpid()}"):
+                with lock.held(self.path(b"lock")):
+                    pass
+        with lock.held(self.path(b"lock"), shared=True), lock.held(self.path(b"lock"), shared=True):
+            pass
+
+
+ROW = manifest.Row(b"a\xff.fits", 10, 1, "s", 5, 2, "p", "packed", program="i", options="--sums")
+
+
+class InTheManifest(InAFolder):
+    def test_rows_come_back(self) -> None:
+        with manifest.Manifest(self.path(b"m")) as it:
+            it.put(ROW)
+            it.begin("t", "pack", "here", 1)
+        with manifest.Manifest(self.path(b"m"), writes=False) as it:
+            self.assertEqual(list(it.rows()), [ROW])
+            self.assertIsNone(it.runs()[0][5])
+
+    def test_what_is_no_manifest(self) -> None:
+        self.write(b"m", b"no database" * 100)
+        with self.assertRaises(manifest.BadManifest):
+            manifest.Manifest(self.path(b"m"))
+
+    def test_another_version(self) -> None:
+        manifest.Manifest(self.path(b"m")).close()
+        with sqlite3.connect(self.path(b"m")) as sql:
+            sql.execute("UPDATE facts SET value = 99 WHERE name = 'version'")
+        sql.close()
+        with self.assertRaisesRegex(manifest.BadManifest, "version 99"):
+            manifest.Manifest(self.path(b"m"))
+
+    def test_no_room_for_the_manifest(self) -> None:
+        with manifest.Manifest(self.path(b"m")) as it:
+            it.put(ROW)
+            it.save()
+            it._sql.execute("PRAGMA max_page_count = 1")
+            with self.assertRaisesRegex(manifest.BadManifest, "full"):
+                for number in range(1000):
+                    it.put(manifest.Row(b"%d" % number, status="packed"))
+            it.give_up()
+        with manifest.Manifest(self.path(b"m"), writes=False) as it:
+            self.assertEqual(list(it.rows()), [ROW])
+
+    def test_a_copy_in_memory(self) -> None:
+        with manifest.Manifest(self.path(b"m")) as it:
+            it.put(ROW)
+        before = files.look(self.path(b"m"))
+        with manifest.Manifest.copy_of(self.path(b"m")) as it:
+            self.assertEqual(list(it.rows()), [ROW])
+            it.put(manifest.Row(b"b", status="packed"))
+            it.begin("t", "verify", "here", 1)
+            it.end("t", "said")
+            self.assertEqual(len(list(it.rows())), 2)
+        self.assertEqual(files.look(self.path(b"m")).sha256, before.sha256)
+
+    def test_a_failure_does_not_forget_what_was_packed(self) -> None:
+        with manifest.Manifest(self.path(b"m")) as it:
+            bad = work.Result(ROW.path, "verify", "damaged", "packed file changed", "line", "advice")
+            row = run.record(it, manifest.Row(**vars(ROW)), bad, "i", "")
+            self.assertEqual((row.status, row.fault, row.sha256, row.packed_sha256), ("packed", "damaged", "s", "p"))
+            row = run.record(it, row, work.Result(ROW.path, "verify", "right"), "i", "")
+            self.assertEqual((row.fault, row.line, row.check_line), ("", "", "right"))
+
+
+class Plans(InAFolder):
+    def found(self, **more: int) -> scan.Scan:
+        return scan.Scan(self.folder, {ROW.path: scan.Found(ROW.path, more.get("size", 10), more.get("mtime", 1))})
+
+    def packed(self) -> manifest.Row:
+        it = os.stat(self.write(names.packed_name(ROW.path), b"12345"))
+        return manifest.Row(**{**vars(ROW), "packed_mtime": it.st_mtime_ns})
+
+    def plan(self, found: scan.Scan, row: manifest.Row, retry: bool = False) -> plan.Plan:
+        return plan.to_pack(found, {row.path: row}, self.folder, "i", "--sums", retry)
+
+    def test_what_is_there_needs_no_task(self) -> None:
+        row = self.packed()
+        self.assertEqual(self.plan(self.found(), row).there, [row])
+
+    def test_what_looks_otherwise_has_a_task(self) -> None:
+        row = self.packed()
+        for found in (self.found(size=11), self.found(mtime=2)):
+            self.assertEqual(len(self.plan(found, row).tasks), 1)
+        self.write(names.packed_name(ROW.path), b"1234567")
+        self.assertEqual(len(self.plan(self.found(), row).tasks), 1)
+        os.unlink(self.path(names.packed_name(ROW.path)))
+        self.assertEqual(len(self.plan(self.found(), row).tasks), 1)
+
+    def test_what_was_refused_is_tried_again_only_if_something_changed(self) -> None:
+        row = manifest.Row(ROW.path, 10, 1, "s", status="refused", program="i", options="--sums")
+        self.assertEqual(self.plan(self.found(), row).refused, [row])
+        self.assertEqual(len(self.plan(self.found(), row, retry=True).tasks), 1)
+        self.assertEqual(len(self.plan(self.found(mtime=9), row).tasks), 1)
+        self.assertEqual(len(plan.to_pack(self.found(), {row.path: row}, self.folder, "other", "--sums", False).tasks), 1)
+
+    def test_what_is_gone(self) -> None:
+        empty, refused = scan.Scan(self.folder), manifest.Row(b"r", status="refused")
+        self.assertEqual(self.plan(empty, ROW).gone, [ROW])
+        self.assertEqual(self.plan(empty, refused).never_packed, [refused])
+        # what is in a folder that cannot be read is not gone
+        unread = scan.Scan(self.folder, left=[scan.Left(b"n", "cannot be read: no", "")])
+        self.assertEqual(self.plan(unread, manifest.Row(b"n/a.fits", status="packed")).gone, [])
+
+    def test_missing(self) -> None:
+        lacking = plan.missing(self.found(), {}, self.folder)
+        self.assertEqual(lacking, [(ROW.path, "was not packed yet")])
+        lacking = plan.missing(None, {ROW.path: ROW}, self.folder)
+        self.assertEqual(lacking, [(ROW.path, "its packed file is not there, and neither is the plain file")])
+        self.assertEqual(plan.missing(self.found(), {ROW.path: self.packed()}, self.folder), [])
+
+
+class Words(unittest.TestCase):
+    def test_messages_come_back(self) -> None:
+        task = work.Task(b"a\xff\n.fits", 3, "s", None, 5)
+        self.assertEqual(work.Task.of(task.word()), task)
+        result = work.Result(b"\xff", "pack", "refused", line="refused: 2 Truncated", kind=2)
+        self.assertEqual(work.Result.of(result.word()), result)
+        settings = work.Settings("pack", b"/p", b"/q", "t", "/fz", "i")
+        self.assertEqual(work.Settings.of(settings.word()), settings)
+
+    def test_what_to_do(self) -> None:
+        self.assertIn("--memory", advice.of_outcome(Outcome(6, ("over limit: live 0 asked 1 limit 1",))))
+        self.assertIn("ulimit -f", advice.of_outcome(Outcome(-25)))
+        self.assertIn("Fetch", advice.of_outcome(Outcome(3, ("refused: 2 Truncated hdu 0 byte 3000",))))
+        self.assertEqual(advice.kind_of("refused: 12 Groups hdu 0 card 5"), (12, "Groups"))
+
+    def test_shares_of_an_array(self) -> None:
+        variables = {"SLURM_ARRAY_TASK_ID": "7", "SLURM_ARRAY_TASK_MIN": "3", "SLURM_ARRAY_TASK_STEP": "2", "SLURM_ARRAY_TASK_COUNT": "4", "SLURM_CPUS_PER_TASK": "8"}
+        self.assertEqual(slurm.Share.of(variables), slurm.Share(2, 4, 8))
+        self.assertEqual(slurm.Share.of({}), slurm.Share(0, 1, 1))
+
+    def test_the_summary(self) -> None:
+        told = tally.Tally("pack", others={".txt": 2})
+        told.good("packed", 100, 50)
+        told.good("copied", 10, 10)
+        for number in range(7):
+            told.bad(b"%d.fits" % number, "2 Truncated", "line", "do this")
+        told.left.append(scan.Left(b"l", "is a link", "do that"))
+        to = io.StringIO()
+        told.print(to)
+        self.assertIn("7 files: 2 Truncated\n    What to do: do this.", to.getvalue())
+        self.assertIn("and 2 more", to.getvalue())
+        self.assertIn("1 file had nothing to pack", to.getvalue())
+        self.assertIn("2 files with other names were left alone: .txt 2.", to.getvalue())
+        self.assertEqual(to.getvalue().splitlines()[-1], "pack: 9 files, 2 done (1 copied, 1 packed), 7 not done, 1 left out")
+        self.assertFalse(told.whole)
+
+    def test_a_line_each_minute(self) -> None:
+        to = io.StringIO()
+        bar = progress.Lines("pack", 3, 300, to, every=0)
+        bar.step(100)
+        self.assertRegex(to.getvalue(), r"^pack: 1 of 3 files, 100 bytes of 300 bytes, .*/s, about .* left\n$")
+        self.assertEqual([progress.length(it) for it in (5, 184, 3720)], ["5 s", "3 min 04 s", "1 h 02 min"])
+        self.assertIsInstance(progress.progress("pack", 1, 1, io.StringIO()), progress.Lines)
+
+
+class Bars(unittest.TestCase):
+    """The bars of the libraries that are installed, on something that says that it is a terminal."""
+
+    def shows(self, module: str, bar: type) -> None:
+        try:
+            __import__(module)
+        except ImportError:
+            self.skipTest(f"{module} is not installed")
+        to = io.StringIO()
+        to.isatty = lambda: True  # type: ignore[method-assign]
+        made = progress.Tqdm(__import__("tqdm"), "pack", 2, 20, to) if bar is progress.Tqdm else progress.Rich(__import__("rich.progress").progress, "pack", 20, to)
+        made.step(10)
+        made.tell("$'odd\\n name': [red] refused")
+        made.step(10)
+        made.close()
+        self.assertIn("$'odd\\n name': [red] refused", to.getvalue())
+        self.assertIn("pack", to.getvalue())
+
+    def test_tqdm(self) -> None:
+        self.shows("tqdm", progress.Tqdm)
+
+    def test_rich(self) -> None:
+        self.shows("rich.progress", progress.Rich)
+
+
+def header(**values: object) -> Header:
+    """A header with these cards."""
+    texts = [f"{name:<8}= {chr(39) + it + chr(39) if isinstance(it, str) else it}" for name, it in values.items()]
+    return Header(0, 0, b"", tuple(card_of(number, it.ljust(80).encode()) for number, it in enumerate(texts)))
+
+
+def tangent(projection: str = "TAN", **more: object) -> Header:
+    cards = {"CTYPE1": f"RA---{projection}", "CTYPE2": f"DEC--{projection}", "CRPIX1": 512.5, "CRPIX2": 400.0, "CRVAL1": 10.68, "CRVAL2": 41.27}
+    return header(**{**cards, "CD1_1": -0.0004, "CD1_2": 0.0001, "CD2_1": 0.0001, "CD2_2": 0.0004, **more})
+
+
+class Sky(unittest.TestCase):
+    def test_there_and_back(self) -> None:
+        for projection in sky.OUTWARDS:
+            simple = sky.sky_of(tangent(projection))
+            for x, y in ((1.0, 1.0), (512.5, 400.0), (1024.0, 37.0)):
+                found = simple.world(x, y)
+                assert found is not None
+                back = simple.place(*found)
+                assert back is not None
+                self.assertAlmostEqual(math.dist(back, (x, y)), 0, 6)
+
+    def test_as_astropy(self) -> None:
+        try:
+            from astropy.wcs import WCS
+        except ImportError:
+            self.skipTest("astropy is not installed")
+        for projection in sky.OUTWARDS:
+            head = tangent(projection)
+            other = WCS({it.keyword: it.value for it in head.cards})
+            for x, y in ((1.0, 1.0), (900.0, 37.0)):
+                found, wanted = sky.sky_of(head).world(x, y), other.wcs_pix2world([[x, y]], 1)[0]
+                assert found is not None
+                self.assertAlmostEqual(found[0], wanted[0], 8)
+                self.assertAlmostEqual(found[1], wanted[1], 8)
+
+    def test_what_is_not_simple_has_a_reason(self) -> None:
+        for more, reason in ((dict(CTYPE1="RA---TAN-SIP"), "CTYPE1"), (dict(CTYPE1="RA---AIT", CTYPE2="DEC--AIT"), "AIT"), (dict(PV2_1=0.1), "PV2_1"), (dict(LONPOLE=90.0), "LONPOLE"), (dict(CD1_1=0, CD1_2=0, CD2_1=0, CD2_2=0), "no inverse")):
+            with self.assertRaisesRegex(sky.NoSky, reason):
+                sky.sky_of(tangent(**more))
+        with self.assertRaisesRegex(sky.NoSky, "there are no world coordinates"):
+            sky.sky_of(header(CRPIX1=1))
+
+    def test_a_grid_is_drawn(self) -> None:
+        view = look.View((1, 1), 4, 256, 200)
+        drawn = picture.Picture(256, 200, bytes(256 * 200))
+        self.assertTrue(grid.draw(drawn, sky.sky_of(tangent()), view.place, view.pixel))
+        self.assertGreater(sum(1 for it in drawn.pixels if it), 1000)
+        self.assertEqual(view.place(*view.pixel(10, 20)), (10, 20))
+
+
+class Pictures(unittest.TestCase):
+    def test_png(self) -> None:
+        made = picture.png(3, 2, bytes(range(6)))
+        self.assertEqual(made[:8], b"\x89PNG\r\n\x1a\n")
+        self.assertEqual(struct.unpack(">II", made[16:24]), (3, 2))
+        start = made.index(b"IDAT")
+        length = struct.unpack(">I", made[start - 4 : start])[0]
+        self.assertEqual(zlib.decompress(made[start + 4 : start + 4 + length]), b"\0\0\1\2\0\3\4\5")
+
+    def test_zscale_is_near_the_sky(self) -> None:
+        rng = random.Random(1)
+        values = [rng.gauss(1000, 10) for _ in range(1900)] + [rng.uniform(2000, 60000) for _ in range(100)]
+        low, high = picture.zscale(values)
+        self.assertTrue(900 < low < 1000 < high < 1200, (low, high))
+        self.assertEqual(picture.zscale([7.0] * 100), (7.0, 8.0))
+        self.assertEqual(picture.zscale([]), (0.0, 1.0))
+
+    def test_rows_from_the_top_and_blanks(self) -> None:
+        _, _, grey = look.greys([1, 2, 3, 4, -9, 6], -9, look.View((1, 1), 1, 3, 2))
+        self.assertEqual(grey[1], 0)
+        self.assertEqual(sorted(grey[3:]), list(grey[3:]))
+
+    def test_a_large_picture_has_the_same_greys(self) -> None:
+        rng = random.Random(2)
+        for sort, first, last in (("B", 0, 255), ("h", -32768, 32767), ("h", -3, 300)):
+            for blank in (None, first, last, 0, 100000):
+                values = array(sort, (rng.randint(first, last) for _ in range(70200)))
+                view = look.View((1, 1), 1, 270, 260)
+                self.assertEqual(look.greys(values, blank, view), look.greys(list(values), blank, view), (sort, first, last, blank))
+
+    def test_boxes(self) -> None:
+        cube = header(NAXIS=3, NAXIS1=100, NAXIS2=60, NAXIS3=5)
+        self.assertEqual(look._pieces(cube, "", 50)[0], [(1, 100, 2), (1, 60, 2), (1, 1, 1)])
+        pieces, view = look._pieces(cube, "11:20,1:60,4:5", 30)
+        self.assertEqual((pieces, view), ([(11, 20, 2), (1, 60, 2), (4, 4, 1)], look.View((11, 1), 2, 5, 30)))
+        for box in ("1:101,1:1", "5:4,1:1", "x", "1:1,1:1,1:1,1:1"):
+            with self.assertRaises(look.NoPicture):
+                look._pieces(cube, box, 50)
+
+    def test_plots_are_xml(self) -> None:
+        from xml.etree import ElementTree
+
+        for made in (svg.strip([("packed", 3), ("<a>", 1)]), svg.bars([("a&b", 2.0, "2")]), svg.histogram([1.0, 2.0, 2.0], "x"), svg.curve([(0, 0), (1, 2)], "x", "y")):
+            self.assertTrue(ElementTree.fromstring(made).tag.endswith("svg"))
+        self.assertEqual(svg.histogram([], "x"), "")
+
+
+if __name__ == "__main__":
+    unittest.main()
