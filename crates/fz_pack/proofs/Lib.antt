@@ -1,3 +1,4 @@
+pub mod Ends
 pub mod Finished
 pub mod Hdus
 pub mod Held

@@ -2,6 +2,8 @@
 use Rattle.std.proofs.Common.{◌≡◌, ℕ, suc, ◌+◌, ◌<◌, Bool, true, false, List, [], ◌∷◌, ◌++◌, length, map, Option, Some, None, IfSome, Result, Ok, Err, refl, sym, ap, subst, ◌∙◌, add-one, arith}
 use Rattle.std.proofs.lemmas.List.{append-nil, append_assoc, length-append, map-append}
 use Rattle.std.proofs.lemmas.Bool.Decides.{nat_tests}
+use Rattle.std.proofs.Math.Bool.{beq}
+use Rattle.std.proofs.Math.Dec.{eqb}
 use Rattle.std.specs.Prelude.{◌&&◌, not, nat_le, nat_lt, bytes_eq, codes, take, drop}
 use Rattle.fz_base.specs.Counts.{Tally}
 use Rattle.fz_base.specs.Refusal.{first_refusal, refusal}
@@ -24,6 +26,7 @@ use Rattle.fz_pack.specs.Again.{ReadsAsSeen, WereSeen}
 use Rattle.fz_job.specs.Behind.{written_behind}
 use Rattle.fz_pack.specs.Behind.{AreWritten, HoldsHdu, IsUnderway, RewritesSeen}
 use Rattle.fz_pack.specs.declared.again.Again.{Again}
+use Rattle.fz_pack.proofs.Ends.{tests_agree, tests_differ}
 use Rattle.fz_pack.proofs.Hdus.{AreOneWrite, both_behind, none_behind}
 
 -- ---- one more HDU of the packed file
@@ -172,20 +175,6 @@ module _ (o : PackOptions) (header_len tile hdus : ℕ) (before : Option (List �
       now ≡ written_behind 0 (out o g hs) before
   written_all g hs k start at now w none = w.contents ∙ ap (λ (l : List Header). written_behind 0 (out o g l) before) (sym (all_done hs w.done w.rest w.parts none))
 
-  no_more : (g : List ℕ) (k : ℕ) (rest : List Header) → WereSeen o g header_len tile k (length g) rest → rest ≡ []
-  no_more g k [] seen = refl
-  no_more g k (h ∷ rest) seen = absurd (none_there k g h seen.0.found)
-
-  pub ends_with_file : {X : Type 0} (x : X) (held : Option (List ℕ)) (len k start at : ℕ) (now : Option (List ℕ)) → HoldsLength held len → start ≡ len →
-      IfSome held (IsUnderway o header_len tile hdus k start at before now) → IfSome held (λ g. RewritesSeen o g header_len tile hdus before now (Ok x))
-  ends_with_file x None len k start at now told ends was = tt
-  ends_with_file x (Some g) len k start at now told ends was =
-      let place : start ≡ length g = omega (arith, told, ends) in
-      let all : (hs : List Header) → WereSeen o g header_len tile 0 0 hs → length hs ≡ hdus → now ≡ written_behind 0 (out o g hs) before = λ hs seen count.
-      let w = was hs seen count in
-      written_all g hs k start at now w (no_more g k w.rest (subst (λ n. WereSeen o g header_len tile k n w.rest) place w.seen)) in
-      whole_file x g now all
-
   pub ends_with_last : {X : Type 0} (x : X) (held : Option (List ℕ)) (k start at : ℕ) (now : Option (List ℕ)) → k ≡ hdus →
       IfSome held (IsUnderway o header_len tile hdus k start at before now) → IfSome held (λ g. RewritesSeen o g header_len tile hdus before now (Ok x))
   ends_with_last x None k start at now last was = tt
@@ -194,6 +183,25 @@ module _ (o : PackOptions) (header_len tile hdus : ℕ) (before : Option (List �
       let w = was hs seen count in
       written_all g hs k start at now w (none_left hs w.done w.rest k w.parts w.count (last ∙ sym count)) in
       whole_file x g now all
+
+  -- an HDU that was seen ends the file exactly if it is the last
+  ends_if_last : (g : List ℕ) (hs done rest : List Header) (k start : ℕ) → hs ≡ done ++ rest → length done ≡ k → length hs ≡ hdus → WereSeen o g header_len tile k start rest → eqb start (length g) ≡ eqb k hdus
+  ends_if_last g hs done [] k start parts count all seen =
+      let sum : length hs ≡ length done + 0 = ap length parts ∙ length-append done [] in
+      tests_agree start (length g) k hdus (λ e. omega (arith, sum, count, all)) (λ e. seen)
+  ends_if_last g hs done (h ∷ rest) k start parts count all seen =
+      let sum : length hs ≡ length done + length (h ∷ rest) = ap length parts ∙ length-append done (h ∷ rest) in
+      tests_agree start (length g) k hdus (λ e. absurd (none_there k g h (subst (λ n. hdu_at k n g ≡ Ok h) e seen.0.found))) (λ e. absurd (omega (arith, sum, count, all, e)))
+
+  -- so the file of which it is not so was not seen, and all may be said of it
+  pub stops_changed : (X : Type 0) (held : Option (List ℕ)) (len k start at : ℕ) (now : Option (List ℕ)) (result : Result X Stop) → HoldsLength held len → not (beq (eqb start len) (eqb k hdus)) ≡ true →
+      IfSome held (IsUnderway o header_len tile hdus k start at before now) → IfSome held (λ g. RewritesSeen {X = X} o g header_len tile hdus before now result)
+  stops_changed X None len k start at now result told differ was = tt
+  stops_changed X (Some g) len k start at now result told differ was =
+      let never : (hs : List Header) → WereSeen o g header_len tile 0 0 hs → length hs ≡ hdus → ⊥ = λ hs seen count.
+      let w = was hs seen count in
+      tests_differ (eqb start len) (eqb k hdus) differ (ap (eqb start) (sym told) ∙ ends_if_last g hs w.done w.rest k start w.parts w.count count w.seen) in
+      record { packed = λ hs seen count. absurd (never hs seen count); as_seen = λ hs seen count. absurd (never hs seen count) }
 
   -- the next was refused only if it was not seen
   next_seen : (g : List ℕ) (hs done rest : List Header) (k start : ℕ) (stop : Stop) → hs ≡ done ++ rest → length done ≡ k → k < length hs → WereSeen o g header_len tile k start rest →

@@ -118,8 +118,8 @@ fn begins_file(hdu: u32, buf: &[u8]) -> bool
     hdu > 0 || (first.name() == Name::SIMPLE && first.logical().unwrap_or(false))
 }
 
-// The source gave other bytes than before.
-fn changed(hdu: u32) -> Stop
+/// The source gave other bytes than before.
+pub(crate) fn changed(hdu: u32) -> Stop
     ensures { result ≡ Refused (refusal hdu (AtCard 0) BadCard) }
 {
     Stop::Refused(Fault {

@@ -12,7 +12,7 @@ ghost use Rattle.fz_pack.specs.Written.{AreShutOrWhole, FinishesSeen};
 ghost use Rattle.fz_survey.specs.Workspace.{SpaceStays};
 ghost use Rattle.fz_job.specs.Keeps.{Rewrites, SinkStays, SourceStays, WindowStays};
 
-use crate::again::read_again;
+use crate::again::{changed, read_again};
 use crate::hdu::write_hdu;
 use fz_base::{Gate, Sink, Source, Stop, output_law, seal};
 use fz_block::next_start;
@@ -108,8 +108,9 @@ fn write_hdus<R: Threads + Sync, S: Source, K: Sink, G: Gate>(
             rt, source, sink, window, gate, options, &again, at, space, block,
         )?;
         start = next_start(&again.header);
-        if start == length {
-            return Ok(());
+        // An HDU ends the file exactly if it is the last.
+        if (start == length) != (hdu + 1 == survey.hdus) {
+            return Err(changed(hdu));
         }
     }
     Ok(())

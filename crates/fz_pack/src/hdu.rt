@@ -72,7 +72,17 @@ pub(crate) fn write_hdu<R: Threads + Sync, S: Source, K: Sink, G: Gate>(
                 space,
             )
         }
-        None => copy_hdu(source, &again.header, sink, at, space.copy.as_mut_slice()),
+        None => {
+            let buf = &space.header.as_slice()[..BLOCK_LEN * again.header.blocks as usize];
+            copy_hdu(
+                source,
+                &again.header,
+                buf,
+                sink,
+                at,
+                space.copy.as_mut_slice(),
+            )
+        }
     }
 }
 

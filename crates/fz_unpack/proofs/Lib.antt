@@ -1,3 +1,4 @@
+pub mod AsSeen
 pub mod Begun
 pub mod Finished
 pub mod Hdus

@@ -68,7 +68,7 @@ none_there k file h found =
 all_done : (hs done rest : List Header) → hs ≡ done ++ rest → rest ≡ [] → hs ≡ done
 all_done hs done rest parts none = parts ∙ ap (λ l. done ++ l) none ∙ append-nil done
 
-none_left : (n k : ℕ) (rest : List Header) → n ≡ k + length rest → n ≤ k → rest ≡ []
+pub none_left : (n k : ℕ) (rest : List Header) → n ≡ k + length rest → n ≤ k → rest ≡ []
 none_left n k [] count all = refl
 none_left n k (h ∷ rest) count all = absurd (omega (arith, count, all))
 
@@ -148,19 +148,9 @@ module _ (header_len tile hdus : ℕ) (before : Option (List ℕ)) where
     contents = w.contents;
   }
 
-  no_more : (g : List ℕ) (k : ℕ) (rest : List Header) → WereSeen g header_len tile k (length g) rest → rest ≡ []
+  pub no_more : (g : List ℕ) (k : ℕ) (rest : List Header) → WereSeen g header_len tile k (length g) rest → rest ≡ []
   no_more g k [] seen = refl
   no_more g k (h ∷ rest) seen = absurd (none_there k g h seen.0.found)
-
-  pub ends_with_file : {X : Type 0} (x : X) (held : Option (List ℕ)) (len k start at : ℕ) (flag : Bool) (now : Option (List ℕ)) → HoldsLength held len → start ≡ len →
-      IfSome held (IsUnderway header_len tile hdus k start at flag before now) → IfSome held (λ g. RestoresSeen g header_len tile hdus before now (Ok x))
-  ends_with_file x None len k start at flag now told ends was = tt
-  ends_with_file x (Some g) len k start at flag now told ends was =
-      let place : start ≡ length g = omega (arith, told, ends) in
-      let all : (hs : List Header) → WereSeen g header_len tile 0 0 hs → length hs ≡ hdus → HoldsHdus g hs before now = λ hs seen count.
-      let w = was hs seen count in
-      written_all g hs k start at flag now w (no_more g k w.rest (subst (λ n. WereSeen g header_len tile k n w.rest) place w.seen)) in
-      whole_file x g now all
 
   pub ends_with_last : {X : Type 0} (x : X) (held : Option (List ℕ)) (k start at : ℕ) (flag : Bool) (now : Option (List ℕ)) → hdus ≤ k →
       IfSome held (IsUnderway header_len tile hdus k start at flag before now) → IfSome held (λ g. RestoresSeen g header_len tile hdus before now (Ok x))

@@ -14,6 +14,7 @@ ghost use Rattle.fz_unpack.specs.Written.{AreShutOrWhole, FinishesSeen};
 use crate::first::first_standing;
 use crate::hdu::write_hdu;
 use crate::law::primary_law;
+use crate::seen::{changed, is_last_as_seen, is_primary_as_found};
 use fz_again::read_again;
 use fz_base::{Gate, Sink, Source, Stop, output_law, seal};
 use fz_block::next_start;
@@ -63,6 +64,8 @@ pub(crate) fn write_file<R: Threads + Sync, S: Source, K: Sink, G: Gate>(
 }
 
 // Writes what the HDUs stand for, without byte 0.
+//
+// Refused: for a row that stands for no pixels, and if the source gives other bytes than at the first look.
 fn write_hdus<R: Threads + Sync, S: Source, K: Sink, G: Gate>(
     rt: &R,
     source: &mut S,
@@ -96,6 +99,9 @@ fn write_hdus<R: Threads + Sync, S: Source, K: Sink, G: Gate>(
 {
     output_law();
     let first = first_standing(source, length, survey, space.header.as_mut_slice(), block)?;
+    if first.hdu >= survey.hdus {
+        return Err(changed(first.hdu));
+    }
     let mut start = first.start;
     let mut after_empty = first.after_empty;
     let mut at = 0;
@@ -111,10 +117,13 @@ fn write_hdus<R: Threads + Sync, S: Source, K: Sink, G: Gate>(
             block,
             buf,
         )?;
+        if !is_primary_as_found(&first, after_empty, &again) {
+            return Err(changed(hdu));
+        }
         at = write_hdu(rt, source, sink, window, gate, &again, at, space)?;
         start = next_start(&again.header);
-        if start == length {
-            return Ok(());
+        if !is_last_as_seen(hdu, survey.hdus, start, length) {
+            return Err(changed(hdu));
         }
         after_empty = again.is_empty_primary();
     }

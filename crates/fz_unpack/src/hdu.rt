@@ -14,6 +14,7 @@ ghost use Rattle.fz_job.specs.Keeps.{Rewrites, SinkStays, SourceStays, WindowSta
 use crate::image::write_image;
 use fz_again::ReadHdu;
 use fz_base::{Gate, Sink, Source, Stop};
+use fz_block::BLOCK_LEN;
 use fz_job::copy_hdu;
 use fz_pool::Window;
 use fz_survey::Workspace;
@@ -61,6 +62,16 @@ pub(crate) fn write_hdu<R: Threads + Sync, S: Source, K: Sink, G: Gate>(
             at,
             space,
         ),
-        None => copy_hdu(source, &again.header, sink, at, space.copy.as_mut_slice()),
+        None => {
+            let buf = &space.header.as_slice()[..BLOCK_LEN * again.header.blocks as usize];
+            copy_hdu(
+                source,
+                &again.header,
+                buf,
+                sink,
+                at,
+                space.copy.as_mut_slice(),
+            )
+        }
     }
 }

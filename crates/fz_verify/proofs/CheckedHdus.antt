@@ -1,10 +1,12 @@
 -- The HDUs that were verified so far, where the source tells its bytes, and one more.
 use Rattle.std.proofs.Common.{◌≡◌, ℕ, ◌+◌, ◌<◌, ◌≤◌, inl, inr, Bool, true, false, List, [], ◌∷◌, ◌++◌, length, refl, sym, ap, ◌∙◌, subst, arith}
-use Rattle.std.specs.Prelude.{Option, Some, None, IfSome, Ok, Err, not, nat_lt, ◌&&◌, ◌||◌}
+use Rattle.std.specs.Prelude.{Option, Some, None, IfSome, Result, Ok, Err, not, nat_lt, ◌&&◌, ◌||◌}
 use Rattle.std.specs.List.{filter, list_any}
 use Rattle.std.proofs.lemmas.Grind.{flat_map-append}
 use Rattle.std.proofs.lemmas.List.{append-nil, append_assoc}
 use Rattle.std.proofs.lemmas.List.Folds.{list_any-append}
+use Rattle.std.proofs.Math.Bool.{beq}
+use Rattle.std.proofs.Math.Dec.{eqb}
 use Rattle.fz_base.specs.Sink.{MayAppend, appended}
 use Rattle.fz_base.specs.Source.{HoldsLength}
 use Rattle.fz_base.specs.Stop.{IfRefused}
@@ -21,7 +23,7 @@ use Rattle.fz_again.specs.Known.{IsList}
 use Rattle.fz_verify.specs.Printed.{AreChecked, AreVerified, ChecksHdu, GotBefore, GotLineFront, GotSome, GotVerified, IsChecking, IsPart, VerifiesSeen, verify_lines}
 use Rattle.fz_verify.specs.Rows.{IsHduFault, IsHduSound, SoundRowsAreNotRefused}
 use Rattle.fz_again.specs.declared.again.ReadHdu.{ReadHdu}
-use Rattle.fz_verify.proofs.Parts.{all_by_count, all_by_end, never_refused, none_done, one_done}
+use Rattle.fz_verify.proofs.Parts.{all_by_count, never_changed, never_refused, none_done, one_done}
 use Rattle.fz_verify.proofs.Rows.{Numbered, fault_among, fault_later, front_kept, hdu_number, none_kept, numbered, numbers_behind, sound_joined}
 use Rattle.fz_verify.proofs.Texts.{appended_none, front_all, front_behind, front_wider, got_both}
 
@@ -126,20 +128,20 @@ module _ (law : SoundRowsAreNotRefused) (s : Survey) (old : Option (List ℕ)) w
       (subst (λ l. AreVerified g l right) (sym all) w.verified, w.contents ∙ ap (λ l. appended (verify_lines g l) old) (sym all))
 
   -- all are verified
-  pub ends_with_file : (held : Option (List ℕ)) (len k start : ℕ) (flag right : Bool) (now : Option (List ℕ)) → HoldsLength held len → start ≡ len →
-      IfSome held (IsChecking s k start flag right old now) → IfSome held (λ g. VerifiesSeen g s old now (Ok right))
-  ends_with_file None len k start flag right now told ends was = tt
-  ends_with_file (Some g) len k start flag right now told ends was = λ hs list.
-      let place : start ≡ length g = omega (arith, told, ends) in
-      let w = was hs list in
-      all_verified g hs k start flag right now w (all_by_end g s hs w.done k flag (subst (λ n. IsPart g s hs w.done k n flag) place w.part))
-
   pub ends_with_last : (held : Option (List ℕ)) (k start : ℕ) (flag right : Bool) (now : Option (List ℕ)) → s.hdus ≤ k →
       IfSome held (IsChecking s k start flag right old now) → IfSome held (λ g. VerifiesSeen g s old now (Ok right))
   ends_with_last None k start flag right now last was = tt
   ends_with_last (Some g) k start flag right now last was = λ hs list.
       let w = was hs list in
       all_verified g hs k start flag right now w (all_by_count g s hs w.done k start flag w.part (omega (arith, last, list.count)))
+
+  -- a file was not seen if another HDU than the last ends it, or the last does not
+  pub stops_changed : (held : Option (List ℕ)) (len k start : ℕ) (flag right : Bool) (now : Option (List ℕ)) (result : Result Bool Stop) → HoldsLength held len → not (beq (eqb start len) (eqb k s.hdus)) ≡ true →
+      IfSome held (IsChecking s k start flag right old now) → IfSome held (λ g. VerifiesSeen g s old now result)
+  stops_changed None len k start flag right now result told differ was = tt
+  stops_changed (Some g) len k start flag right now result told differ was = λ hs list.
+      let w = was hs list in
+      absurd (never_changed g s hs list w.done len k start flag w.part told differ)
 
   -- the header of the next was not read
   pub stops_reading : (held : Option (List ℕ)) (stop : Stop) (k start : ℕ) (flag right : Bool) (now : Option (List ℕ)) → k < s.hdus → IfSome held (IsChecking s k start flag right old now) →

@@ -1,8 +1,10 @@
 -- The lines of `list` so far, where the source tells its bytes, and one more.
-use Rattle.std.proofs.Common.{◌≡◌, ℕ, ◌+◌, ◌<◌, ◌≤◌, Bool, false, List, [], ◌∷◌, ◌++◌, length, refl, sym, ap, ◌∙◌, subst, arith}
-use Rattle.std.specs.Prelude.{Option, Some, None, IfSome, Ok, Err}
+use Rattle.std.proofs.Common.{◌≡◌, ℕ, ◌+◌, ◌<◌, ◌≤◌, Bool, true, false, List, [], ◌∷◌, ◌++◌, length, refl, sym, ap, ◌∙◌, subst, arith}
+use Rattle.std.specs.Prelude.{Option, Some, None, IfSome, Result, Ok, Err, not}
 use Rattle.std.proofs.lemmas.Grind.{flat_map-append}
 use Rattle.std.proofs.lemmas.List.{append-nil}
+use Rattle.std.proofs.Math.Bool.{beq}
+use Rattle.std.proofs.Math.Dec.{eqb}
 use Rattle.fz_base.specs.Sink.{MayAppend, appended}
 use Rattle.fz_base.specs.Source.{HoldsLength}
 use Rattle.fz_base.specs.Stop.{IfRefused, StoppedByWrite}
@@ -14,9 +16,9 @@ use Rattle.fz_block.specs.declared.header.Header.{Header}
 use Rattle.fz_files.specs.Lines.{list_line}
 use Rattle.fz_survey.specs.declared.survey.Survey.{Survey}
 use Rattle.fz_again.specs.Again.{ReadsAsSeen, is_empty_primary}
-use Rattle.fz_verify.specs.Printed.{GotListed, IsListing, IsPart, ListsSeen, list_lines}
+use Rattle.fz_verify.specs.Printed.{GotListed, IsListing, ListsSeen, list_lines}
 use Rattle.fz_again.specs.declared.again.ReadHdu.{ReadHdu}
-use Rattle.fz_verify.proofs.Parts.{all_by_count, all_by_end, never_refused, none_done, one_done}
+use Rattle.fz_verify.proofs.Parts.{all_by_count, never_changed, never_refused, none_done, one_done}
 use Rattle.fz_verify.proofs.Texts.{appended_none, front_all, front_behind, front_wider, got_both}
 
 -- a line behind others
@@ -58,15 +60,6 @@ module _ (s : Survey) (old : Option (List ℕ)) where
       }
 
   -- all are printed
-  pub ends_with_file : (X : Type 0) (x : X) (held : Option (List ℕ)) (len k start : ℕ) (flag : Bool) (now : Option (List ℕ)) → HoldsLength held len → start ≡ len →
-      IfSome held (IsListing s k start flag old now) → IfSome held (λ g. ListsSeen {X = X} g s old now (Ok x))
-  ends_with_file X x None len k start flag now told ends was = tt
-  ends_with_file X x (Some g) len k start flag now told ends was = λ hs list.
-      let place : start ≡ length g = omega (arith, told, ends) in
-      let w = was hs list in
-      let all = all_by_end g s hs w.done k flag (subst (λ n. IsPart g s hs w.done k n flag) place w.part) in
-      w.contents ∙ ap (λ l. appended (list_lines g l) old) (sym all)
-
   pub ends_with_last : (X : Type 0) (x : X) (held : Option (List ℕ)) (k start : ℕ) (flag : Bool) (now : Option (List ℕ)) → s.hdus ≤ k →
       IfSome held (IsListing s k start flag old now) → IfSome held (λ g. ListsSeen {X = X} g s old now (Ok x))
   ends_with_last X x None k start flag now last was = tt
@@ -74,6 +67,14 @@ module _ (s : Survey) (old : Option (List ℕ)) where
       let w = was hs list in
       let all = all_by_count g s hs w.done k start flag w.part (omega (arith, last, list.count)) in
       w.contents ∙ ap (λ l. appended (list_lines g l) old) (sym all)
+
+  -- a file was not seen if another HDU than the last ends it, or the last does not
+  pub stops_changed : (X : Type 0) (held : Option (List ℕ)) (len k start : ℕ) (flag : Bool) (now : Option (List ℕ)) (result : Result X Stop) → HoldsLength held len → not (beq (eqb start len) (eqb k s.hdus)) ≡ true →
+      IfSome held (IsListing s k start flag old now) → IfSome held (λ g. ListsSeen {X = X} g s old now result)
+  stops_changed X None len k start flag now result told differ was = tt
+  stops_changed X (Some g) len k start flag now result told differ was = λ hs list.
+      let w = was hs list in
+      absurd (never_changed g s hs list w.done len k start flag w.part told differ)
 
   -- the header of the next was not read
   pub stops_reading : (X : Type 0) (held : Option (List ℕ)) (stop : Stop) (k start : ℕ) (flag : Bool) (now : Option (List ℕ)) → k < s.hdus → IfSome held (IsListing s k start flag old now) →

@@ -1,9 +1,12 @@
 -- The HDUs so far, and one more (FITS 4.0, section 3.1).
-use Rattle.std.proofs.Common.{◌≡◌, ℕ, suc, ◌+◌, ◌<◌, ◌≤◌, Bool, false, List, [], ◌∷◌, ◌++◌, length, refl, sym, ap, ◌∙◌, add-one, subst, arith}
+use Rattle.std.proofs.Common.{◌≡◌, ℕ, suc, ◌+◌, ◌<◌, ◌≤◌, not, Bool, true, false, List, [], ◌∷◌, ◌++◌, length, refl, sym, ap, ◌∙◌, add-one, subst, arith}
 use Rattle.std.specs.Prelude.{Ok, Err}
 use Rattle.std.proofs.lemmas.List.{append-nil, append_assoc, length-append}
+use Rattle.std.proofs.Math.Bool.{beq}
+use Rattle.std.proofs.Math.Dec.{eqb}
 use Rattle.fz_base.specs.Stop.{IfRefused}
 use Rattle.fz_base.specs.declared.failure.Stop.{Stop}
+use Rattle.fz_block.specs.Checks.{hdu_at}
 use Rattle.fz_block.specs.Header.{next_start_of}
 use Rattle.fz_block.specs.declared.header.Header.{Header}
 use Rattle.fz_survey.specs.declared.survey.Survey.{Survey}
@@ -11,7 +14,7 @@ use Rattle.fz_again.specs.Again.{ReadsAsSeen, WasSeen, WereSeen, is_empty_primar
 use Rattle.fz_again.specs.Known.{IsList}
 use Rattle.fz_verify.specs.Printed.{IsPart, SaysBehind}
 use Rattle.fz_again.specs.declared.again.ReadHdu.{ReadHdu}
-use Rattle.fz_verify.proofs.Ends.{no_more}
+use Rattle.fz_verify.proofs.Ends.{none_there, tests_agree, tests_differ}
 use Rattle.fz_verify.proofs.Flags.{first_flag, next_flag}
 
 pub next_in : (done rest : List Header) (k : ℕ) → length done ≡ k → k < length (done ++ rest) → (h : Header) × ((more : List Header) × (rest ≡ h ∷ more))
@@ -30,10 +33,21 @@ module _ (file : List ℕ) (s : Survey) (hs : List Header) where
     first = λ e. refl;
   }
 
-  -- all are done where the file ends, or where there are no more
-  pub all_by_end : (done : List Header) (k : ℕ) (flag : Bool) → IsPart file s hs done k (length file) flag → hs ≡ done
-  all_by_end done k flag p = p.parts ∙ ap (λ l. done ++ l) (no_more file s.header_len s.tile k p.rest p.seen) ∙ append-nil done
+  -- an HDU that was seen ends the file exactly if it is the last
+  ends_if_last : (done rest : List Header) (k start : ℕ) → hs ≡ done ++ rest → length done ≡ k → length hs ≡ s.hdus → WereSeen file s.header_len s.tile k start rest → eqb start (length file) ≡ eqb k s.hdus
+  ends_if_last done [] k start parts count all seen =
+      let sum : length hs ≡ length done + 0 = ap length parts ∙ length-append done [] in
+      tests_agree start (length file) k s.hdus (λ e. omega (arith, sum, count, all)) (λ e. seen)
+  ends_if_last done (h ∷ rest) k start parts count all seen =
+      let sum : length hs ≡ length done + length (h ∷ rest) = ap length parts ∙ length-append done (h ∷ rest) in
+      tests_agree start (length file) k s.hdus (λ e. absurd (none_there k file h (subst (λ n. hdu_at k n file ≡ Ok h) e seen.0.found))) (λ e. absurd (omega (arith, sum, count, all, e)))
 
+  -- so a file of which it is not so was not seen
+  pub never_changed : IsList file s hs → (done : List Header) (len k start : ℕ) (flag : Bool) → IsPart file s hs done k start flag → length file ≡ len → not (beq (eqb start len) (eqb k s.hdus)) ≡ true → ⊥
+  never_changed list done len k start flag p told differ =
+      tests_differ (eqb start len) (eqb k s.hdus) differ (ap (eqb start) (sym told) ∙ ends_if_last done p.rest k start p.parts p.count list.count p.seen)
+
+  -- all are done where there are no more
   none_left : (rest : List Header) (n k : ℕ) → n ≡ k + length rest → n ≤ k → rest ≡ []
   none_left [] n k count all = refl
   none_left (h ∷ rest) n k count all = absurd (omega (arith, count, all))

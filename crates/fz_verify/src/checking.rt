@@ -12,6 +12,7 @@ ghost use Rattle.fz_again.specs.Again.{IsAgain};
 ghost use Rattle.fz_verify.specs.Reported.{Grew, Reports};
 ghost use Rattle.fz_verify.specs.Printed.{ChecksHdu, VerifiesSeen};
 
+use crate::changed::changed;
 use crate::hdu::verify_hdu;
 use crate::law::none_refused_law;
 use crate::lines::{print, verify_line};
@@ -72,8 +73,9 @@ pub(crate) fn verify_hdus<R: Threads + Sync, S: Source, T: Text, G: Gate>(
         let sound = print_verified(rt, source, text, window, gate, &again, space)?;
         right = right & sound;
         start = next_start(&again.header);
-        if start == length {
-            return Ok(right);
+        // An HDU ends the file exactly if it is the last.
+        if (start == length) != (hdu + 1 == survey.hdus) {
+            return Err(changed(hdu));
         }
         after_empty = again.is_empty_primary();
     }

@@ -11,6 +11,7 @@ ghost use Rattle.fz_verify.specs.Printed.{ListsSeen};
 ghost use Rattle.fz_verify.specs.Reported.{Grew};
 ghost use Rattle.fz_verify.specs.Reads.{ReadsHeaders};
 
+use crate::changed::changed;
 use crate::lines::{list_line, print};
 use fz_again::{ReadHdu, read_again};
 use fz_base::{Source, Stop, Text, ranges_law};
@@ -58,8 +59,9 @@ pub(crate) fn list_hdus<S: Source, T: Text>(
         )?;
         print_listed(text, &again)?;
         start = next_start(&again.header);
-        if start == length {
-            return Ok(());
+        // An HDU ends the file exactly if it is the last.
+        if (start == length) != (hdu + 1 == survey.hdus) {
+            return Err(changed(hdu));
         }
         after_empty = again.is_empty_primary();
     }

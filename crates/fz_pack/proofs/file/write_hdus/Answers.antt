@@ -1,12 +1,15 @@
 -- One HDU after another.
-use Rattle.std.proofs.Common.{◌≡◌, ℕ, ◌+◌, ◌<◌, ◌≤◌, ◌^◌, List, length, Option, IfSome, Result, Ok, Err, refl, sym, ap, ◌∙◌, subst, inl, inr, arith, rules}
+use Rattle.std.proofs.Common.{◌≡◌, ℕ, ◌+◌, ◌<◌, ◌≤◌, ◌^◌, not, true, List, length, Option, IfSome, Result, Ok, Err, refl, sym, ap, ◌∙◌, subst, inl, inr, arith, rules}
 use Rattle.std.proofs.lemmas.List.{length-append, length-drop, length-take}
+use Rattle.std.proofs.Math.Bool.{beq}
+use Rattle.std.proofs.Math.Dec.{eqb}
 use Rattle.fz_base.specs.Source.{HoldsLength}
 use Rattle.fz_base.specs.declared.failure.Stop.{Stop}
 use Rattle.fz_block.specs.Header.{next_start_of}
 use Rattle.fz_pack.specs.Again.{ReadsAsSeen}
 use Rattle.fz_pack.specs.Behind.{HoldsHdu, IsUnderway, RewritesSeen}
-use Rattle.fz_pack.proofs.Underway.{ends_with_file, more_written, none_written, stops_reading, stops_writing}
+use Rattle.fz_pack.proofs.Ends.{not_at_end}
+use Rattle.fz_pack.proofs.Underway.{more_written, none_written, stops_changed, stops_reading, stops_writing}
 use Rattle.fz_pack.proofs.file.write_hdus.Goals as goal
 
 pub loop-hdu-init : goal.loop-hdu-init
@@ -22,7 +25,7 @@ loop-hdu-init g c = record {
   space = record { header = refl; translated = refl; copy = refl };
   window = record { sizes = refl; workers = refl };
   block = c.requires.block;
-  within = inr (refl, refl);
+  within = λ more. inr (refl, refl);
   first = λ e. refl;
   behind = λ some. absurd (omega arith);
   early = omega arith;
@@ -82,8 +85,9 @@ returns-then-start-length-clause-written g c =
     let more : IfSome held (IsUnderway o s.header_len s.tile s.hdus (k + 1) (next_start_of a.header) end before now) =
     more_written o s.header_len s.tile s.hdus before c.output_law.ensures.next held k start at end mid now a few c.loop-hdu.invariant.written seen c.in_ok-again.ensures.place.0 holds in
     let told : HoldsLength held c.args.length = g.met.S.Source.agrees c.args.source.now c.args.length c.requires.attached in
-    let ends : next_start_of a.header ≡ c.args.length = omega (arith, c.next_start-start.ensures) in
-    ends_with_file o s.header_len s.tile s.hdus before tt held c.args.length (k + 1) (next_start_of a.header) end now told ends more
+    let differ : not (beq (eqb (next_start_of a.header) c.args.length) (eqb (k + 1) s.hdus)) ≡ true =
+    subst (λ n. not (beq (eqb n c.args.length) (eqb (k + 1) s.hdus)) ≡ true) c.next_start-start.ensures c.if-start-length.true in
+    stops_changed o s.header_len s.tile s.hdus before (Unit {0}) held c.args.length (k + 1) (next_start_of a.header) end now (Err c.changed.result) told differ more
 
 pub loop-hdu-preserved : goal.loop-hdu-preserved
 loop-hdu-preserved g c =
@@ -129,7 +133,7 @@ loop-hdu-preserved g c =
       };
       window = record { sizes = c.in_ok-at.ensures.window.sizes ∙ old.window.sizes; workers = c.in_ok-at.ensures.window.workers ∙ old.window.workers };
       block = c.in_ok-at.ensures.block;
-      within = inl (omega (arith, next, inside));
+      within = λ left. inl (not_at_end c.next_start-start.result c.args.length (k + 1) s.hdus c.if-start-length.false left (omega (arith, next, inside)));
       first = λ e. absurd (omega (arith, e));
       behind = λ some. c.in_ok-at.ensures.end.some;
       early = omega (arith, next, early);

@@ -20,7 +20,7 @@ invariant-loop-hdu g l = record {
   space : SpaceStays l.fn.space l.space;
   window : WindowStays l.fn.window l.window;
   block : length l.block ≡ 2880;
-  within : (l.start < l.length) ⊎ ((l.hdu ≡ 0) × (l.start ≡ 0));
+  within : l.hdu < l.survey.hdus → (l.start < l.length) ⊎ ((l.hdu ≡ 0) × (l.start ≡ 0));
   first : l.hdu ≡ 0 → l.at ≡ 0;
   behind : 0 < l.hdu → 0 < l.at;
   early : l.start ≤ 2 ^ 62;

@@ -1,13 +1,14 @@
 -- One HDU after another.
-use Rattle.std.proofs.Common.{◌≡◌, ℕ, ◌+◌, ◌<◌, ◌≤◌, ◌^◌, Bool, List, length, Option, IfSome, Result, Ok, Err, refl, sym, ap, ◌∙◌, subst, inl, arith, rules}
+use Rattle.std.proofs.Common.{◌≡◌, ◌==◌, true, ℕ, ◌+◌, ◌<◌, ◌≤◌, ◌^◌, ◌↔◌, Bool, List, length, Option, IfSome, Result, Ok, Err, refl, sym, ap, ◌∙◌, subst, inl, arith, rules}
 use Rattle.std.proofs.lemmas.List.{length-append, length-drop, length-take}
 use Rattle.fz_base.specs.Source.{HoldsLength}
 use Rattle.fz_base.specs.Stop.{IfRefused}
 use Rattle.fz_base.specs.declared.failure.Stop.{Stop}
 use Rattle.fz_block.specs.Header.{next_start_of}
-use Rattle.fz_again.specs.Again.{ReadsAsSeen, is_empty_primary}
+use Rattle.fz_again.specs.Again.{IsAgain, ReadsAsSeen, is_empty_primary, was_primary_image}
 use Rattle.fz_unpack.specs.Behind.{HoldsHdu, IsHduFault, IsUnderway, RestoresSeen}
-use Rattle.fz_unpack.proofs.Underway.{ends_with_file, more_written, none_written, stops_reading, stops_searching, stops_writing}
+use Rattle.fz_unpack.proofs.Underway.{more_written, none_written, stops_reading, stops_searching, stops_writing}
+use Rattle.fz_unpack.proofs.AsSeen.{first_as_seen, last_as_seen, not_at_end, primary_as_seen, told_false}
 use Rattle.fz_unpack.proofs.file.write_hdus.Goals as goal
 
 pub returns-in_err-first-clause-written : goal.returns-in_err-first-clause-written
@@ -40,7 +41,7 @@ loop-hdu-init g c =
       };
       window = record { sizes = refl; workers = refl };
       block = c.in_ok-first.ensures.block;
-      within = c.in_ok-first.ensures.within.place;
+      within = λ more. c.in_ok-first.ensures.within.place;
       early = c.in_ok-first.ensures.within.near;
       near = omega arith;
       written = none_written s.header_len s.tile s.hdus before c.requires.some held c.in_ok-first.first c.in_ok-first.ensures.first;
@@ -89,8 +90,38 @@ returns-in_err-at-clause-written g c =
     subst (λ (r : Result (Unit {0}) Stop). IfSome held (λ f. RestoresSeen f s.header_len s.tile s.hdus before now r)) (sym stopped)
     (stops_writing s.header_len s.tile s.hdus before (Unit {0}) held c.in_err-at.field-0.0 k start at flag mid now a few old.written seen fault)
 
-pub returns-then-start-length-clause-written : goal.returns-then-start-length-clause-written
-returns-then-start-length-clause-written g c =
+pub returns-then-first-survey-clause-written : goal.returns-then-first-survey-clause-written
+returns-then-first-survey-clause-written g c =
+    let s = c.args.survey.now in
+    let held : Option (List ℕ) = g.S.Source.held c.args.source.now in
+    let before : Option (List ℕ) = g.K.Sink.contents c.args.sink.now in
+    let past : s.hdus ≤ c.in_ok-first.first.hdu = omega arith in
+    first_as_seen s.header_len s.tile s.hdus before c.requires.some (Unit {0}) held c.changed.result before c.in_ok-first.first past c.in_ok-first.ensures.first
+
+pub returns-then-not-is_primary_as_found-clause-written : goal.returns-then-not-is_primary_as_found-clause-written
+returns-then-not-is_primary_as_found-clause-written g c =
+    let s = c.args.survey.now in
+    let k : ℕ = c.loop-hdu.hdu in
+    let start : ℕ = c.loop-hdu.start in
+    let flag : Bool = c.loop-hdu.after_empty in
+    let held : Option (List ℕ) = g.S.Source.held c.args.source.now in
+    let before : Option (List ℕ) = g.K.Sink.contents c.args.sink.now in
+    let mid : Option (List ℕ) = g.K.Sink.contents c.loop-hdu.sink in
+    let old = c.loop-hdu.invariant in
+    let few : k < s.hdus = omega arith in
+    let a = c.in_ok-again.again in
+    let buf : List ℕ = c.read_again.new.buf in
+    let long : length c.as_mut_slice-buf.result.now ≡ s.header_len = ap length c.as_mut_slice-buf.ensures.value ∙ old.space.header ∙ c.requires.header in
+    let seen : IfSome held (λ f. ReadsAsSeen f k start flag s.header_len s.tile (Ok a)) =
+    subst (λ n. IfSome held (λ f. ReadsAsSeen f k start flag n s.tile (Ok a))) long
+    (subst (λ (h : Option (List ℕ)). IfSome h (λ f. ReadsAsSeen f k start flag (length c.as_mut_slice-buf.result.now) s.tile (Ok a))) old.held c.in_ok-again.ensures.as_seen) in
+    let usable : IsAgain held c.args.length buf a = subst (λ (h : Option (List ℕ)). IsAgain h c.args.length buf a) old.held c.in_ok-again.ensures.again in
+    let never : (flag ≡ true → was_primary_image a.image ≡ (c.in_ok-first.first.hdu == 1)) → ⊥ = λ so. told_false c.is_primary_as_found.result (search rules) (c.is_primary_as_found.ensures.exact.1 so) in
+    primary_as_seen s.header_len s.tile s.hdus before c.requires.some (Unit {0}) held c.changed-then-not-is_primary_as_found.result k start c.loop-hdu.at flag mid mid c.in_ok-first.first c.args.length buf a few
+    old.written c.in_ok-first.ensures.first seen usable never
+
+pub returns-then-not-is_last_as_seen-clause-written : goal.returns-then-not-is_last_as_seen-clause-written
+returns-then-not-is_last_as_seen-clause-written g c =
     let s = c.args.survey.now in
     let k : ℕ = c.loop-hdu.hdu in
     let start : ℕ = c.loop-hdu.start in
@@ -113,8 +144,10 @@ returns-then-start-length-clause-written g c =
     let more : IfSome held (IsUnderway s.header_len s.tile s.hdus (k + 1) (next_start_of a.header) end (is_empty_primary a.header) before now) =
     more_written s.header_len s.tile s.hdus before c.output_law.ensures.next held k start at end flag (is_empty_primary a.header) mid now a few old.written seen holds refl in
     let told : HoldsLength held c.args.length = g.met.S.Source.agrees c.args.source.now c.args.length c.requires.attached in
-    let ends : next_start_of a.header ≡ c.args.length = omega (arith, c.next_start-start.ensures) in
-    ends_with_file s.header_len s.tile s.hdus before tt held c.args.length (k + 1) (next_start_of a.header) end (is_empty_primary a.header) now told ends more
+    let next : c.next_start-start.result ≡ next_start_of a.header = c.next_start-start.ensures in
+    let never : ((next_start_of a.header ≡ c.args.length) ↔ (k + 1 ≡ s.hdus)) → ⊥ =
+    λ so. told_false c.is_last_as_seen.result (search rules) (c.is_last_as_seen.ensures.exact.1 (subst (λ n. (n ≡ c.args.length) ↔ (k + 1 ≡ s.hdus)) (sym next) so)) in
+    last_as_seen s.header_len s.tile s.hdus before (Unit {0}) held c.changed-then-not-is_last_as_seen.result c.args.length (k + 1) (next_start_of a.header) end (is_empty_primary a.header) now told more never
 
 pub loop-hdu-preserved : goal.loop-hdu-preserved
 loop-hdu-preserved g c =
@@ -145,6 +178,7 @@ loop-hdu-preserved g c =
     let inside : next_start_of a.header ≤ c.args.length = c.in_ok-again.ensures.again.inside in
     let early : next_start_of a.header ≤ 2 ^ 62 = c.in_ok-again.ensures.again.near in
     let near : end + a.header.start ≤ at + 2 ^ 46 + next_start_of a.header = c.in_ok-at.ensures.end.near in
+    let last : (c.next_start-start.result ≡ c.args.length) ↔ (k + 1 ≡ s.hdus) = c.is_last_as_seen.ensures.exact.0 (search rules) in
     record {
       held = search rules;
       attached = search rules;
@@ -161,7 +195,7 @@ loop-hdu-preserved g c =
       };
       window = record { sizes = c.in_ok-at.ensures.window.sizes ∙ old.window.sizes; workers = c.in_ok-at.ensures.window.workers ∙ old.window.workers };
       block = c.in_ok-again.ensures.block;
-      within = inl (omega (arith, next, inside));
+      within = λ more. inl (not_at_end c.next_start-start.result c.args.length (k + 1) s.hdus (omega (arith, next, inside)) last more);
       early = omega (arith, next, early);
       near = omega (arith, next, near, place, old.near);
       written = subst (λ b. IfSome held (IsUnderway s.header_len s.tile s.hdus (k + 1) c.next_start-start.result end b before now)) (sym says)

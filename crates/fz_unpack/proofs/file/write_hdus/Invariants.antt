@@ -20,7 +20,7 @@ invariant-loop-hdu g l = record {
   space : SpaceStays l.fn.space l.space;
   window : WindowStays l.fn.window l.window;
   block : length l.block ≡ 2880;
-  within : (l.start < l.length) ⊎ ((l.hdu ≡ 0) × (l.start ≡ 0));
+  within : l.hdu < l.survey.hdus → (l.start < l.length) ⊎ ((l.hdu ≡ 0) × (l.start ≡ 0));
   early : l.start ≤ 2 ^ 62;
   near : l.at ≤ l.start + l.hdu * 2 ^ 46;
   written : IfSome (g.S.Source.held l.fn.source) (IsUnderway l.survey.header_len l.survey.tile l.survey.hdus l.hdu l.start l.at l.after_empty (g.K.Sink.contents l.fn.sink) (g.K.Sink.contents l.sink));

@@ -1,12 +1,15 @@
 -- One HDU after another.
-use Rattle.std.proofs.Common.{◌≡◌, ℕ, ◌+◌, ◌<◌, ◌≤◌, ◌^◌, ◌&&◌, Bool, List, length, Option, IfSome, Result, Ok, Err, refl, sym, ap, ◌∙◌, subst, inl, inr, arith, rules}
+use Rattle.std.proofs.Common.{◌≡◌, ℕ, ◌+◌, ◌<◌, ◌≤◌, ◌^◌, ◌&&◌, not, Bool, true, List, length, Option, IfSome, Result, Ok, Err, refl, sym, ap, ◌∙◌, subst, inl, inr, arith, rules}
 use Rattle.std.proofs.lemmas.List.{length-append, length-drop, length-take}
+use Rattle.std.proofs.Math.Bool.{beq}
+use Rattle.std.proofs.Math.Dec.{eqb}
 use Rattle.fz_base.specs.Source.{HoldsLength}
 use Rattle.fz_base.specs.declared.failure.Stop.{Stop}
 use Rattle.fz_block.specs.Header.{next_start_of}
 use Rattle.fz_again.specs.Again.{ReadsAsSeen, is_empty_primary}
 use Rattle.fz_verify.specs.Printed.{ChecksHdu, IsChecking, VerifiesSeen}
-use Rattle.fz_verify.proofs.CheckedHdus.{ends_with_file, more_checked, none_checked, stops_checking, stops_reading}
+use Rattle.fz_verify.proofs.CheckedHdus.{more_checked, none_checked, stops_changed, stops_checking, stops_reading}
+use Rattle.fz_verify.proofs.Ends.{not_at_end}
 use Rattle.fz_verify.proofs.Reports.{both_reported, grew_both, grew_by, none_reported}
 use Rattle.fz_verify.proofs.checking.verify_hdus.Goals as goal
 
@@ -21,7 +24,7 @@ loop-hdu-init g c = record {
   block = c.requires.block;
   space = record { header = refl; translated = refl; copy = refl };
   window = record { sizes = refl; workers = refl };
-  within = inr (refl, refl);
+  within = λ more. inr (refl, refl);
   early = omega arith;
   checked = none_checked c.none_refused_law.ensures c.args.survey.now (g.T.Text.contents c.args.text.now) (g.S.Source.held c.args.source.now);
   reported = none_reported (g.T.Text.contents c.args.text.now);
@@ -95,8 +98,9 @@ returns-then-start-length-clause-verified g c =
     let more : IfSome held (IsChecking s (k + 1) (next_start_of a.header) (is_empty_primary a.header) (right && sound) before now) =
     more_checked c.none_refused_law.ensures s before held k start flag (is_empty_primary a.header) right sound mid now a few old.checked seen checked refl in
     let told : HoldsLength held c.args.length = g.met.S.Source.agrees c.args.source.now c.args.length c.requires.attached in
-    let ends : next_start_of a.header ≡ c.args.length = omega (arith, c.next_start-start.ensures) in
-    ends_with_file c.none_refused_law.ensures s before held c.args.length (k + 1) (next_start_of a.header) (is_empty_primary a.header) (right && sound) now told ends more
+    let differ : not (beq (eqb (next_start_of a.header) c.args.length) (eqb (k + 1) s.hdus)) ≡ true =
+    subst (λ n. not (beq (eqb n c.args.length) (eqb (k + 1) s.hdus)) ≡ true) c.next_start-start.ensures c.if-start-length.true in
+    stops_changed c.none_refused_law.ensures s before held c.args.length (k + 1) (next_start_of a.header) (is_empty_primary a.header) (right && sound) now (Err c.changed.result) told differ more
 
 pub loop-hdu-preserved : goal.loop-hdu-preserved
 loop-hdu-preserved g c =
@@ -139,7 +143,7 @@ loop-hdu-preserved g c =
         copy = c.in_ok-sound.ensures.space.copy ∙ old.space.copy;
       };
       window = record { sizes = c.in_ok-sound.ensures.window.sizes ∙ old.window.sizes; workers = c.in_ok-sound.ensures.window.workers ∙ old.window.workers };
-      within = inl (omega (arith, next, inside));
+      within = λ left. inl (not_at_end c.next_start-start.result c.args.length (k + 1) s.hdus c.if-start-length.false left (omega (arith, next, inside)));
       early = omega (arith, next, early);
       checked = subst (λ b. IfSome held (IsChecking s (k + 1) c.next_start-start.result b (right && sound) before now)) (sym says)
           (subst (λ n. IfSome held (IsChecking s (k + 1) n (is_empty_primary a.header) (right && sound) before now)) (sym next) more);
@@ -155,13 +159,14 @@ returns-in_err-sound-clause-grown g c =
     let mid : Option (List ℕ) = g.T.Text.contents c.loop-hdu.text in
     grew_both before mid (g.T.Text.contents c.print_verified.new.text) (grew_by before mid c.loop-hdu.right c.loop-hdu.invariant.reported) c.in_err-sound.ensures.grown
 
-pub returns-then-start-length-clause-reported : goal.returns-then-start-length-clause-reported
-returns-then-start-length-clause-reported g c =
-    let before : Option (List ℕ) = g.T.Text.contents c.args.text.now in
-    both_reported before (g.T.Text.contents c.loop-hdu.text) (g.T.Text.contents c.print_verified.new.text) c.loop-hdu.right c.in_ok-sound.sound c.loop-hdu.invariant.reported c.in_ok-sound.ensures.reported
-
 pub returns-then-start-length-clause-grown : goal.returns-then-start-length-clause-grown
-returns-then-start-length-clause-grown g c = grew_by _ _ _ (returns-then-start-length-clause-reported g c)
+returns-then-start-length-clause-grown g c =
+    let before : Option (List ℕ) = g.T.Text.contents c.args.text.now in
+    let mid : Option (List ℕ) = g.T.Text.contents c.loop-hdu.text in
+    let now : Option (List ℕ) = g.T.Text.contents c.print_verified.new.text in
+    let right : Bool = c.loop-hdu.right in
+    let sound : Bool = c.in_ok-sound.sound in
+    grew_by before now (right && sound) (both_reported before mid now right sound c.loop-hdu.invariant.reported c.in_ok-sound.ensures.reported)
 
 pub returns-clause-grown : goal.returns-clause-grown
 returns-clause-grown g c = grew_by (g.T.Text.contents c.args.text.now) (g.T.Text.contents c.loop-hdu.text) c.loop-hdu.right c.loop-hdu.invariant.reported

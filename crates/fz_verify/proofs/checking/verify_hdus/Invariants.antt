@@ -18,7 +18,7 @@ invariant-loop-hdu g l = record {
   block : length l.block ≡ 2880;
   space : SpaceStays l.fn.space l.space;
   window : WindowStays l.fn.window l.window;
-  within : (l.start < l.length) ⊎ ((l.hdu ≡ 0) × (l.start ≡ 0));
+  within : l.hdu < l.survey.hdus → (l.start < l.length) ⊎ ((l.hdu ≡ 0) × (l.start ≡ 0));
   early : l.start ≤ 2 ^ 62;
   checked : IfSome (g.S.Source.held l.fn.source) (IsChecking l.survey l.hdu l.start l.after_empty l.right (g.T.Text.contents l.fn.text) (g.T.Text.contents l.text));
   reported : Reports (g.T.Text.contents l.fn.text) (g.T.Text.contents l.text) l.right;

@@ -1,5 +1,7 @@
 -- One HDU after another.
-use Rattle.std.proofs.Common.{◌≡◌, ℕ, ◌+◌, ◌<◌, ◌≤◌, ◌^◌, Bool, List, length, Option, IfSome, Result, Ok, Err, refl, sym, ◌∙◌, subst, inl, inr, arith, rules}
+use Rattle.std.proofs.Common.{◌≡◌, ℕ, ◌+◌, ◌<◌, ◌≤◌, ◌^◌, not, Bool, true, List, length, Option, IfSome, Result, Ok, Err, refl, sym, ◌∙◌, subst, inl, inr, arith, rules}
+use Rattle.std.proofs.Math.Bool.{beq}
+use Rattle.std.proofs.Math.Dec.{eqb}
 use Rattle.fz_base.specs.Sink.{MayAppend, appended}
 use Rattle.fz_base.specs.Source.{HoldsLength, LogsWithin}
 use Rattle.fz_base.specs.declared.failure.Stop.{Stop}
@@ -8,7 +10,8 @@ use Rattle.fz_block.specs.Header.{next_start_of}
 use Rattle.fz_files.specs.Lines.{list_line}
 use Rattle.fz_again.specs.Again.{ReadsAsSeen, is_empty_primary}
 use Rattle.fz_verify.specs.Printed.{IsListing, ListsSeen}
-use Rattle.fz_verify.proofs.ListedHdus.{ends_with_file, more_listed, none_listed, stops_printing, stops_reading}
+use Rattle.fz_verify.proofs.ListedHdus.{more_listed, none_listed, stops_changed, stops_printing, stops_reading}
+use Rattle.fz_verify.proofs.Ends.{not_at_end}
 use Rattle.fz_verify.proofs.Said.{front_listed, got_listed}
 use Rattle.fz_verify.proofs.HeaderReads.{none_read, one_read}
 use Rattle.fz_verify.proofs.Reports.{grew_both, grew_front, grew_line, grew_not}
@@ -24,7 +27,7 @@ loop-hdu-init g c = record {
   told_contents = λ told. told;
   block = c.requires.block;
   buf = refl;
-  within = inr (refl, refl);
+  within = λ more. inr (refl, refl);
   early = omega arith;
   listed = none_listed c.args.survey.now (g.T.Text.contents c.args.text.now) (g.S.Source.held c.args.source.now);
   read = none_read c.args.survey.now (g.S.Source.ranges c.args.source.now) (g.S.Source.held c.args.source.now);
@@ -101,8 +104,9 @@ returns-then-start-length-clause-listed g c =
     let more : IfSome held (IsListing s (k + 1) (next_start_of a.header) (is_empty_primary a.header) before now) =
     more_listed s before held k start flag (is_empty_primary a.header) mid now a few old.listed seen got refl in
     let told : HoldsLength held c.args.length = g.met.S.Source.agrees c.args.source.now c.args.length c.requires.attached in
-    let ends : next_start_of a.header ≡ c.args.length = omega (arith, c.next_start-start.ensures) in
-    ends_with_file s before (Unit {0}) (tt {0}) held c.args.length (k + 1) (next_start_of a.header) (is_empty_primary a.header) now told ends more
+    let differ : not (beq (eqb (next_start_of a.header) c.args.length) (eqb (k + 1) s.hdus)) ≡ true =
+    subst (λ n. not (beq (eqb n c.args.length) (eqb (k + 1) s.hdus)) ≡ true) c.next_start-start.ensures c.if-start-length.true in
+    stops_changed s before (Unit {0}) held c.args.length (k + 1) (next_start_of a.header) (is_empty_primary a.header) now (Err c.changed.result) told differ more
 
 pub loop-hdu-preserved : goal.loop-hdu-preserved
 loop-hdu-preserved g c =
@@ -139,7 +143,7 @@ loop-hdu-preserved g c =
       told_contents = λ told. c.in_ok-print_listed.ensures.told (old.told_contents told);
       block = c.in_ok-again.ensures.block;
       buf = c.in_ok-again.ensures.buf ∙ old.buf;
-      within = inl (omega (arith, next, inside));
+      within = λ left. inl (not_at_end c.next_start-start.result c.args.length (k + 1) s.hdus c.if-start-length.false left (omega (arith, next, inside)));
       early = omega (arith, next, early);
       listed = subst (λ b. IfSome held (IsListing s (k + 1) c.next_start-start.result b before now)) (sym says)
           (subst (λ n. IfSome held (IsListing s (k + 1) n (is_empty_primary a.header) before now)) (sym next) more);

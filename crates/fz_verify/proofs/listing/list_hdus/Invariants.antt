@@ -16,7 +16,7 @@ invariant-loop-hdu g l = record {
   told_contents : StaysTold (g.T.Text.contents l.fn.text) (g.T.Text.contents l.text);
   block : length l.block ≡ 2880;
   buf : length l.buf ≡ length l.fn.buf;
-  within : (l.start < l.length) ⊎ ((l.hdu ≡ 0) × (l.start ≡ 0));
+  within : l.hdu < l.survey.hdus → (l.start < l.length) ⊎ ((l.hdu ≡ 0) × (l.start ≡ 0));
   early : l.start ≤ 2 ^ 62;
   listed : IfSome (g.S.Source.held l.fn.source) (IsListing l.survey l.hdu l.start l.after_empty (g.T.Text.contents l.fn.text) (g.T.Text.contents l.text));
   read : IfSome (g.S.Source.held l.fn.source) (λ f. ReadsHeaders f l.survey (g.S.Source.ranges l.fn.source) (g.S.Source.ranges l.source));
