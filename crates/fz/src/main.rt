@@ -2,6 +2,8 @@
 #![tactic(auto)]
 
 ghost use Rattle.std.specs.Prelude.{◌≡◌, ◌^◌};
+ghost use Rattle.fz_app.specs.Lines.{status_line};
+ghost use Rattle.fz_app.specs.declared.status.Status.TheVariants.{NoMemory, WriteFault};
 
 mod settled_sink;
 
@@ -39,9 +41,23 @@ fn limit() -> u64
     1 << 40
 }
 
+/// The line of NoMemory.
+fn no_memory_line() -> &'static str
+    ensures { result.now ≡ status_line NoMemory }
+{
+    "no memory\n"
+}
+
+/// The line of WriteFault.
+fn write_fault_line() -> &'static str
+    ensures { result.now ≡ status_line WriteFault }
+{
+    "write fault\n"
+}
+
 // Prints the line of NoMemory, a constant that takes no memory: `run`, which prints it otherwise, was not reached.
 fn without_memory(rt: &HostRuntime) -> Status {
-    let _ = rt.print("no memory\n");
+    let _ = rt.print(no_memory_line());
     Status::NoMemory
 }
 
@@ -50,7 +66,7 @@ fn without_standard(rt: &HostRuntime, error: &io::Error) -> Result<Status, Alloc
     if error.kind() == ErrorKind::OutOfMemory {
         return Err(AllocError);
     }
-    let _ = rt.print("write fault\n");
+    let _ = rt.print(write_fault_line());
     Ok(Status::WriteFault)
 }
 

@@ -1,6 +1,6 @@
 //! The sink of the program: OUT, of which the disk has all other bytes before its first byte is written.
-ghost use Rattle.std.specs.Prelude.{◌≡◌, None, false};
-ghost use Rattle.fz_base.specs.Counts.{uncounted};
+ghost use Rattle.std.specs.Prelude.{◌≡◌, ◌<◌, IsTrue, length as len, None, false};
+ghost use Rattle.fz_base.specs.Counts.{HasCause, uncounted};
 
 use fz_base::{Failed, FileSink, Sink};
 use std::fs::File;
@@ -46,10 +46,12 @@ impl<R: Files<File = File>> Sink for SettledSink<R> {
 
     fn write_at(&mut self, at: u64, bytes: &[u8]) -> Result<(), Failed> {
         self.finished = false;
-        if at == 0 {
-            self.file.finish()?;
+        if at > 0 {
+            return self.file.write_at(at, bytes);
         }
-        self.file.write_at(at, bytes)
+        let file = &mut self.file;
+        file.finish()?;
+        write_first(file, bytes)
     }
 
     fn finish(&mut self) -> Result<(), Failed> {
@@ -57,4 +59,15 @@ impl<R: Files<File = File>> Sink for SettledSink<R> {
         self.finished = true;
         Ok(())
     }
+}
+
+// Writes from byte 0 on. The file has to be finished, so that the disk has all that was written before.
+fn write_first<R: Files<File = File>>(file: &mut FileSink<R>, bytes: &[u8]) -> Result<(), Failed>
+    requires settled { IsTrue (⟦<FileSink<R> as Sink>⟧.finished file.old) }
+    requires created { IsTrue (⟦<FileSink<R> as Sink>⟧.created file.old) }
+    requires some { 0 < len bytes.now }
+    ensures created { ⟦<FileSink<R> as Sink>⟧.created file.new ≡ ⟦<FileSink<R> as Sink>⟧.created file.old }
+    ensures cause { HasCause (⟦<FileSink<R> as Sink>⟧.tally file.old) (⟦<FileSink<R> as Sink>⟧.tally file.new) result }
+{
+    file.write_at(0, bytes)
 }
