@@ -1,7 +1,7 @@
 //! Runs of the program as tests over objects in memory: words, calls that fail, limits on memory, names of files, a file of
-//! ordinary size and images that are too large to be held, and workers side by side.
+//! ordinary size and images that are too large to be held, workers side by side, and files in memory.
 //!
-//! Reading order: `words`, `stops`, `limits`, `ordinary`, `large`, `gates`.
+//! Reading order: `words`, `stops`, `limits`, `ordinary`, `large`, `gates`, `memory`.
 #![tactic(auto)]
 
 #[cfg(test)]
@@ -10,6 +10,8 @@ mod gates;
 mod large;
 #[cfg(test)]
 mod limits;
+#[cfg(test)]
+mod memory;
 #[cfg(test)]
 mod ordinary;
 #[cfg(test)]

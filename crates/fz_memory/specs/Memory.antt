@@ -1,10 +1,16 @@
--- What is packed and unpacked in memory (FITS 4.0, section 10.1).
-use Rattle.std.specs.Prelude.{ℕ, List, [], ◌∷◌, codes, false, Some, None, IfSome, Result, Ok, Err, ⊤}
+-- What is packed and unpacked in memory (FITS 4.0, section 10.1), and why that fails.
+use Rattle.std.specs.Prelude.{ℕ, ◌≡◌, ◌⊎◌, ◌^◌, List, [], ◌∷◌, codes, false, Option, Some, None, ⊤}
+use Rattle.fz_base.specs.Counts.{Tally}
+use Rattle.fz_base.specs.Takings.{first_past}
 use Rattle.fz_base.specs.declared.fault.Fault.{Fault}
+use Rattle.fz_files.specs.Buffers.{job_takings}
 use Rattle.fz_files.specs.FirstFault.{IsFirstFault}
+use Rattle.fz_files.specs.Packed.{IsPackedFile}
+use Rattle.fz_files.specs.declared.job.Job.{Job}
+use Rattle.fz_files.specs.declared.job.Job.TheVariants.{Pack, Unpack, Cut, Verify, List as ListHdus, Drill}
 use Rattle.fz_head.specs.declared.options.CodecWord.TheVariants as word
 use Rattle.fz_head.specs.declared.options.PackOptions.{PackOptions}
-use Rattle.fz_app.specs.Asked.{IfAsked, given}
+use Rattle.fz_words.specs.Jobs.{job_of}
 use Rattle.fz_app.specs.Outputs.{IsOutput}
 use Rattle.fz_app.specs.declared.status.Status.{Status}
 use Rattle.fz_app.specs.declared.status.Status.TheVariants.{Done, Different, Usage, Refused, ReadFault, WriteFault, OverLimit, NoMemory}
@@ -17,26 +23,58 @@ words_for command = command ∷ codes "IN" ∷ codes "OUT" ∷ []
 abbrev pub default_options : PackOptions
 default_options = record { codec = word.Rice; tile = None; block = 32; sums = false; workers = 1 }
 
--- a fact of the fault of a status that refuses a file
-abbrev pub IfRefusedBy : Status → (Fault → Type 0) → Type 0
-IfRefusedBy Done P = ⊤
-IfRefusedBy Different P = ⊤
-IfRefusedBy Usage P = ⊤
-IfRefusedBy (Refused x) P = P x
-IfRefusedBy ReadFault P = ⊤
-IfRefusedBy WriteFault P = ⊤
-IfRefusedBy (OverLimit live asked limit) P = ⊤
-IfRefusedBy NoMemory P = ⊤
+-- a job that writes a file of the whole file that it is given
+abbrev pub IsWhole : Job → Type 0
+IsWhole (Pack options) = ⊤
+IsWhole Unpack = ⊤
+IsWhole (Cut wanted sieve) = ⊥
+IsWhole Verify = ⊥
+IsWhole ListHdus = ⊥
+IsWhole (Drill rows) = ⊥
 
--- a fact of the fault for which a file was refused, if it was
-abbrev pub IfRefused : {X : Type 0} → Result X Status → (Fault → Type 0) → Type 0
-IfRefused (Ok x) P = ⊤
-IfRefused (Err status) P = IfRefusedBy status P
+-- the words ask for such a job, with one worker and within 4 GiB
+pub record AsksFor (words : List (List ℕ)) (job : Job) : Type 0 where
+  pub asked : job_of words ≡ Some (record { job = job; workers = 1; memory = 2 ^ 32; input = codes "IN"; output = codes "OUT" })
+  pub whole : IsWhole job
 
--- the job of the words finds no fault in the file, and writes these bytes for it
-abbrev pub Writes : List (List ℕ) → List ℕ → List ℕ → Type 0
-Writes words file bytes = IfAsked words (λ asked. IfSome (given asked.job (Some file)) (λ f. IsFirstFault asked.job f None) × IsOutput asked.job file bytes)
+-- the first buffer of the job on the file that would pass 4 GiB: what is in use before, what is asked for, and the limit
+pub record IsPast (job : Job) (file : List ℕ) (live asked limit : ℕ) : Type 0 where
+  pub first : first_past (2 ^ 32) (job_takings job file 1) ≡ Some (live, asked)
+  pub of_all : limit ≡ 2 ^ 32
 
--- the first fault that the job of the words finds in the file is this one
-abbrev pub IsRefusedFor : List (List ℕ) → List ℕ → Fault → Type 0
-IsRefusedFor words file x = IfAsked words (λ asked. IfSome (given asked.job (Some file)) (λ f. IsFirstFault asked.job f (Some x)))
+-- Why a job on a file in memory fails: the file has a first fault, a buffer would pass 4 GiB, or there is no memory. No other error comes.
+abbrev pub IsCause : Job → List ℕ → Status → Type 0
+IsCause job file Done = ⊥
+IsCause job file Different = ⊥
+IsCause job file Usage = ⊥
+IsCause job file (Refused x) = IsFirstFault job file (Some x)
+IsCause job file ReadFault = ⊥
+IsCause job file WriteFault = ⊥
+IsCause job file (OverLimit live asked limit) = IsPast job file live asked limit
+IsCause job file NoMemory = ⊤
+
+-- a buffer would pass 4 GiB while the file is packed, or while a packed file of it is unpacked
+abbrev pub IsPastOfBoth : List ℕ → ℕ → ℕ → ℕ → Type 0
+IsPastOfBoth file live asked limit =
+    IsPast (Pack default_options) file live asked limit
+    ⊎ ((packed : List ℕ) × IsPackedFile default_options file packed × IsPast Unpack packed live asked limit)
+
+-- why packing and then unpacking a file fails: only packing finds a fault
+abbrev pub IsCauseOfBoth : List ℕ → Status → Type 0
+IsCauseOfBoth file Done = ⊥
+IsCauseOfBoth file Different = ⊥
+IsCauseOfBoth file Usage = ⊥
+IsCauseOfBoth file (Refused x) = IsFirstFault (Pack default_options) file (Some x)
+IsCauseOfBoth file ReadFault = ⊥
+IsCauseOfBoth file WriteFault = ⊥
+IsCauseOfBoth file (OverLimit live asked limit) = IsPastOfBoth file live asked limit
+IsCauseOfBoth file NoMemory = ⊤
+
+-- what the job makes of a file in which it finds no fault
+pub record Makes (job : Job) (file bytes : List ℕ) : Type 0 where
+  pub sound : IsFirstFault job file None
+  pub output : IsOutput job file bytes
+
+-- the counts of an object none of whose calls has a fault
+abbrev pub without_faults : Tally → Tally
+without_faults tally = record { faults = 0; wants = tally.wants }

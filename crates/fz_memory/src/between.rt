@@ -1,18 +1,20 @@
 //! One run of the program from bytes in memory to others.
-ghost use Rattle.std.specs.Prelude.{◌≡◌, ◌≤◌, ◌^◌, length as len, Some, IfOk};
+ghost use Rattle.std.specs.Prelude.{◌≡◌, ◌≤◌, ◌^◌, length as len, Some, IfOk, IfErr};
+ghost use Rattle.fz_files.specs.declared.job.Job.{Job};
 ghost use Rattle.fz_words.specs.Parts.{texts_of};
 ghost use Rattle.fz_app.specs.declared.status.Status.TheVariants.{NoMemory};
-ghost use Rattle.fz_memory.specs.Memory.{IfRefused, IsRefusedFor, Writes, words_for};
+ghost use Rattle.fz_memory.specs.Memory.{AsksFor, IsCause, Makes, words_for};
 
+use crate::fixed_sink::FixedSink;
 use fz_app::{Status, run};
-use fz_base::{FixedSource, FreeGate, MemSink, MemText, Meter, Sink, Source};
+use fz_base::{FixedSource, FreeGate, MemText, Meter, Sink, Source};
 use std::alloc::{AllocError, Global};
 use std::thread::Threads;
 
 // More than `run` may use: it keeps within 4 GiB unless its words say otherwise.
 const LIMIT: u64 = 1 << 40;
 
-/// What a command without options writes for a file of at most 2^62 bytes, or the status of the run.
+/// What a command without options writes for a file of at most 2^62 bytes, or the status of the run and its cause.
 pub(crate) fn run_between<R: Threads + Sync>(
     rt: &R,
     alloc: Global,
@@ -20,12 +22,12 @@ pub(crate) fn run_between<R: Threads + Sync>(
     file: &[u8],
 ) -> Result<Vec<u8>, Status>
     requires short { len file.now ≤ 2 ^ 62 }
-    ensures writes { IfOk result (λ bytes. Writes (words_for command.now) file.now bytes.items) }
-    ensures refused { IfRefused result (IsRefusedFor (words_for command.now) file.now) }
+    ensures makes { IfOk result (λ bytes. (job : Job) → AsksFor (words_for command.now) job → Makes job file.now bytes.items) }
+    ensures cause { IfErr result (λ status. (job : Job) → AsksFor (words_for command.now) job → IsCause job file.now status) }
 {
     let words = words_of(alloc, command).map_err(no_memory)?;
     let mut source = source_of(alloc, file).map_err(no_memory)?;
-    let mut sink = MemSink::new(alloc, Vec::new(alloc), 0);
+    let mut sink = FixedSink::new(alloc);
     let mut text = MemText::new(alloc, Vec::new(alloc));
     let mut meter = Meter::new(alloc, LIMIT);
     let status = run(
@@ -62,8 +64,8 @@ fn source_of(alloc: Global, file: &[u8]) -> Result<FixedSource, AllocError>
     Ok(FixedSource::new(file.to_vec(alloc)?))
 }
 
-fn contents_of(alloc: Global, sink: &MemSink) -> Result<Vec<u8>, AllocError>
-    ensures { IfOk result (λ bytes. ⟦<MemSink as Sink>⟧.contents sink.now ≡ Some bytes.items) }
+fn contents_of(alloc: Global, sink: &FixedSink) -> Result<Vec<u8>, AllocError>
+    ensures { IfOk result (λ bytes. ⟦<FixedSink as Sink>⟧.contents sink.now ≡ Some bytes.items) }
 {
     sink.contents().to_vec(alloc)
 }

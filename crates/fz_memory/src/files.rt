@@ -1,11 +1,10 @@
 //! A file in memory, packed and unpacked.
-ghost use Rattle.std.specs.Prelude.{◌≡◌, ◌≤◌, ◌^◌, length as len, Some, IfOk};
+ghost use Rattle.std.specs.Prelude.{◌≡◌, ◌≤◌, ◌^◌, length as len, IfOk, IfErr};
 ghost use Rattle.fz_tile.specs.Plain.{AreBytes};
-ghost use Rattle.fz_files.specs.FirstFault.{IsFirstFault};
 ghost use Rattle.fz_files.specs.Packed.{IsPackedFile};
 ghost use Rattle.fz_files.specs.StandsFor.{IsProfileFile, StandsFor};
 ghost use Rattle.fz_files.specs.declared.job.Job.TheVariants.{Pack, Unpack};
-ghost use Rattle.fz_memory.specs.Memory.{IfRefused, default_options};
+ghost use Rattle.fz_memory.specs.Memory.{IsCause, IsCauseOfBoth, default_options};
 
 use crate::between::run_between;
 use fz_app::Status;
@@ -17,13 +16,13 @@ use std::thread::Threads;
 /// The packed file of a file of at most 2^62 bytes, by the options that `fz pack` has if none is given (FITS 4.0, section
 /// 10.1).
 ///
-/// An error is the status of the run: Refused for the first fault of the file; OverLimit if its buffers would pass 4 GiB;
-/// NoMemory.
+/// An error is the status of the run: Refused for the first fault of the file; OverLimit for the first buffer that would pass
+/// 4 GiB; NoMemory. No other comes.
 pub fn pack_bytes<R: Threads + Sync>(rt: &R, alloc: Global, file: &[u8]) -> Result<Vec<u8>, Status>
     requires short { len file.now ≤ 2 ^ 62 }
     ensures packed { IfOk result (λ packed. IsPackedFile default_options file.now packed.items) }
     ensures taken { IfOk result (λ packed. IsProfileFile default_options file.now) }
-    ensures refused { IfRefused result (λ x. IsFirstFault (Pack default_options) file.now (Some x)) }
+    ensures cause { IfErr result (IsCause (Pack default_options) file.now) }
 {
     bytes_law(file);
     run_between(rt, alloc, "pack", file)
@@ -39,7 +38,7 @@ pub fn unpack_bytes<R: Threads + Sync>(
 ) -> Result<Vec<u8>, Status>
     requires short { len packed.now ≤ 2 ^ 62 }
     ensures restored { IfOk result (λ file. StandsFor packed.now file.items) }
-    ensures refused { IfRefused result (λ x. IsFirstFault Unpack packed.now (Some x)) }
+    ensures cause { IfErr result (IsCause Unpack packed.now) }
 {
     run_between(rt, alloc, "unpack", packed)
 }
@@ -57,7 +56,7 @@ pub fn pack_and_unpack<R: Threads + Sync>(
     requires short { len file.now ≤ 2 ^ 62 }
     ensures same { IfOk result (λ bytes. bytes.items ≡ file.now) }
     ensures taken { IfOk result (λ bytes. IsProfileFile default_options file.now) }
-    ensures refused { IfRefused result (λ x. IsFirstFault (Pack default_options) file.now (Some x)) }
+    ensures cause { IfErr result (IsCauseOfBoth file.now) }
 {
     // The packed file has no fault, and stands for the file and for no other.
     round_trip_law();
