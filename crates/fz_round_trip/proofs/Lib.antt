@@ -1,3 +1,4 @@
+pub mod Becoming
 pub mod CodesRead
 pub mod Copies
 pub mod CutOut
@@ -24,5 +25,6 @@ pub mod Stood
 pub mod SumCards
 pub mod Sums
 pub mod SumsRight
+pub mod TableSums
 pub mod Tests
 pub mod Way

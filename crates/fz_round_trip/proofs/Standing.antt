@@ -54,7 +54,7 @@ named_no_primary (Some text) = by_tests (bytes_eq text (codes "IMAGE")) (bytes_e
     by_tests false true = refl
     by_tests false false = refl
 
-sort_is : (o : PackOptions) (file : List ℕ) (k : ℕ) (h : Header) → IsSource o file k h → h.sort ≡ sort_of k (hdu_of file h).header
+pub sort_is : (o : PackOptions) (file : List ℕ) (k : ℕ) (h : Header) → IsSource o file k h → h.sort ≡ sort_of k (hdu_of file h).header
 sort_is o file k h s = ap (λ (f : Header). f.sort) s.is_header.facts ∙ ap (λ n. sort_of n (hdu_of file h).header) s.number
 
 later_no_primary : (o : PackOptions) (file : List ℕ) (k : ℕ) (h : Header) → IsSource o file (suc k) h → is_primary h.sort ≡ false
@@ -94,7 +94,7 @@ later_judge l o file bytes k j start h f options all s out = by_test (is_packabl
     by_test false is out = ok_none (first_refusal (unpack_hdu_checks bytes f)) (copied_none (hdu_of bytes f).header f (is_after_empty bytes f) (copied_facts o file bytes k j start h f s out))
 
 -- what it stands for
-table_of_image : (o : PackOptions) (file bytes : List ℕ) (j start : ℕ) (h f : Header) → IsTaken o file h → IsOut bytes j start (table_hdu o file h) f → IsTableOf o file h bytes f
+pub table_of_image : (o : PackOptions) (file bytes : List ℕ) (j start : ℕ) (h f : Header) → IsTaken o file h → IsOut bytes j start (table_hdu o file h) f → IsTableOf o file h bytes f
 table_of_image o file bytes j start h f is out =
     let number : f.hdu ≡ suc j = ap (λ (g : Header). g.hdu) out.facts in
     let first : f.start ≡ start = ap (λ (g : Header). g.start) out.facts in
@@ -115,7 +115,7 @@ later_stands l o file bytes k j start h f options all s out = by_test (is_packab
         subst (λ b. StandsForAs b bytes f (hdu_bytes (hdu_of file h))) (sym (copied_packed (hdu_of bytes f).header f (copied_facts o file bytes k j start h f s out))) (ap hdu_bytes (sym out.here))
 
 -- it is no packed primary
-later_primary : TableLaws → (o : PackOptions) (file bytes : List ℕ) (k j start : ℕ) (h f : Header) → AreOptions o → AreBytes file → IsSource o file (suc k) h → IsOut bytes j start (out_of o file h) f →
+pub later_primary : TableLaws → (o : PackOptions) (file bytes : List ℕ) (k j start : ℕ) (h f : Header) → AreOptions o → AreBytes file → IsSource o file (suc k) h → IsOut bytes j start (out_of o file h) f →
     is_packed_primary bytes f ≡ false
 later_primary l o file bytes k j start h f options all s out = by_test (is_packable h) refl out
   where
@@ -125,7 +125,7 @@ later_primary l o file bytes k j start h f options all s out = by_test (is_packa
 
 -- ---- those behind the first
 
-head_same : (x y : Hdu) (xs ys : List Hdu) → x ∷ xs ≡ y ∷ ys → x ≡ y
+pub head_same : (x y : Hdu) (xs ys : List Hdu) → x ∷ xs ≡ y ∷ ys → x ≡ y
 head_same x y xs ys e = cc
 
 pub tail_same : (x y : Hdu) (xs ys : List Hdu) → x ∷ xs ≡ y ∷ ys → xs ≡ ys

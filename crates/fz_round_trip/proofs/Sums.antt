@@ -134,11 +134,11 @@ checksum_tells laws sum = record {
   some = λ none. let zero : length (characters sum) ≡ 0 = ap length none in absurd (omega (arith, zero, characters_len sum));
 }
 
-checksum_named : SumLaws → (sum : ℕ) → card_name (checksum_card sum) ≡ checksum_name
+pub checksum_named : SumLaws → (sum : ℕ) → card_name (checksum_card sum) ≡ checksum_name
 unfolding checksum_card
 checksum_named laws sum = laws.cards.made.text_name checksum_name (characters sum) refl
 
-datasum_named : SumLaws → (sum : ℕ) → card_name (datasum_card sum) ≡ datasum_name
+pub datasum_named : SumLaws → (sum : ℕ) → card_name (datasum_card sum) ≡ datasum_name
 unfolding datasum_card
 datasum_named laws sum = laws.cards.made.text_name datasum_name (decimal sum) refl
 
@@ -151,11 +151,11 @@ front_each : (xs ys : List (List ℕ)) → AllByRecursion IsCardBeforeEnd (xs ++
 front_each [] ys each = tt
 front_each (x ∷ xs) ys each = (each.0, front_each xs ys each.1)
 
-no_datasum : (xs : List (List ℕ)) → AreOthers xs → AreNamedElse datasum_name xs
+pub no_datasum : (xs : List (List ℕ)) → AreOthers xs → AreNamedElse datasum_name xs
 no_datasum [] others = tt
 no_datasum (x ∷ xs) others = (others.0.0, no_datasum xs others.1)
 
-no_checksum : (xs : List (List ℕ)) → AreOthers xs → AreNamedElse checksum_name xs
+pub no_checksum : (xs : List (List ℕ)) → AreOthers xs → AreNamedElse checksum_name xs
 no_checksum [] others = tt
 no_checksum (x ∷ xs) others = (others.0.1, no_checksum xs others.1)
 
@@ -163,7 +163,7 @@ else_append : (name : List ℕ) (xs ys : List (List ℕ)) → AreNamedElse name 
 else_append name [] ys a b = b
 else_append name (x ∷ xs) ys a b = (a.0, else_append name xs ys a.1 b)
 
-header_others : CardLaws → (cards : List (List ℕ)) (p : Plan) (t : Totals) → t.sums ≡ false → AreOthers (packed_header cards p t)
+pub header_others : CardLaws → (cards : List (List ℕ)) (p : Plan) (t : Totals) → t.sums ≡ false → AreOthers (packed_header cards p t)
 unfolding packed_header
 header_others laws cards p t none =
     subst (λ b. AreOthers (packed_with cards p t (sum_cards b))) (sym none)
@@ -221,7 +221,7 @@ hdu_right laws front header payload is =
 
 -- ---- the table of an image
 
-totals_short : SumLaws → (o : PackOptions) (source : List ℕ) (from : Header) → IsTaken o source from → AreShort (totals_from o source from)
+pub totals_short : SumLaws → (o : PackOptions) (source : List ℕ) (from : Header) → IsTaken o source from → AreShort (totals_from o source from)
 totals_short laws o source from is =
     let p : Plan = pack_plan_of o from in
     let d : Hdu = table_hdu o source from in

@@ -1,5 +1,6 @@
 //! The laws of first faults, of the packed file, and of both ways: no code runs.
 ghost use Rattle.fz_files.specs.Laws.{PicksCutOneFile};
+ghost use Rattle.fz_round_trip.specs.PackedHdus.{HdusBecome, TablesHaveSums};
 ghost use Rattle.fz_round_trip.specs.RoundTrip.{ComesBack, OnlyTheFileComesBack, HasCutout, HasFirstFault, HasNoOtherFault, HasOnePackedFile, HasPackedFile, HasRestoredFile, LosesNothing, OptionsDoNotMatter, PackCopies, StandsForNoOther, StandsForRestored, SumsAreRight, UnpackCopies, WorkersDoNotMatter, PackedIsFound, StandsForExactly};
 
 use fz_block::{cards_law, found_hdus_law, hdu_list_law, passing_law, start_law, walk_law};
@@ -84,6 +85,31 @@ pub fn round_trip_law()
     start_law();
     table_law();
     walk_law();
+}
+
+/// What becomes of each HDU of a file that `pack` takes, in its packed file: the table of an image that can be packed,
+/// or the same bytes. These are all HDUs of the packed file but for the primary before a packed primary. The table has
+/// the cards DATASUM and CHECKSUM if the options ask for sums, and else neither.
+pub fn packed_hdus_law()
+    ensures each { HdusBecome }
+    ensures sums { TablesHaveSums }
+{
+    all_ones_law();
+    card_laws();
+    cards_law();
+    characters_law();
+    datasum_law();
+    found_hdus_law();
+    hdu_list_law();
+    image_to_pack_law();
+    passing_law();
+    start_law();
+    sum_cards_law();
+    sum_law();
+    table_law();
+    verdicts_law();
+    walk_law();
+    whole_cards_law();
 }
 
 /// Nothing is lost on the way there: what the packed file stands for is the file, and two files with one packed file

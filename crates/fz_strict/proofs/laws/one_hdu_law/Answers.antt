@@ -1,0 +1,36 @@
+-- Tile by tile, and by the first END.
+use Rattle.fz_strict.proofs.Bytes.{restored_are_bytes}
+use Rattle.fz_strict.proofs.Fill.{FillLaws}
+use Rattle.fz_strict.proofs.OneHdu.{HeaderLaws, ImageLaws, hdus_stand_for_one}
+use Rattle.fz_strict.proofs.Packs.{PackLaws, images_pack_again}
+use Rattle.fz_strict.proofs.Same.{WalkLaws}
+use Rattle.fz_strict.proofs.Split.{one_split}
+use Rattle.fz_strict.proofs.laws.one_hdu_law.Goals as goal
+
+pub returns : goal.returns
+returns c =
+    let walks : WalkLaws =
+    record {
+      headers = c.walk_law.ensures.headers;
+      whole = c.walk_law.ensures.whole;
+      pass = c.found_hdus_law.ensures.pass;
+      parts = c.hdu_list_law.ensures.walk;
+      converse = c.hdu_list_law.ensures.converse;
+      judged = c.passing_law.ensures.judged;
+      packed = c.packed_hdu_law.ensures.packed;
+    } in
+    let headers : HeaderLaws = record { read = c.whole_cards_law.ensures.read; plain = c.whole_cards_law.ensures.plain; made = c.cards_law.ensures.header } in
+    let images : ImageLaws = record { record_ = c.one_record_law.ensures; arrays = c.tiles_law.ensures.same; tiles = c.shape_law.ensures.tiles; images = c.packed_image_law.ensures.unpack; headers = headers } in
+    let fill : FillLaws = record { headers = headers; len = c.plain_law.ensures.len } in
+    let packs : PackLaws =
+    record {
+      walks = walks;
+      images = images;
+      fill = fill;
+      numbers = c.one_tile_law.ensures.numbers;
+      places = c.tiles_law.ensures.places;
+      pixels = c.plain_law.ensures.pixels;
+      slices = c.slice_law.ensures.pixels;
+      cards = c.cards_law.ensures.cards;
+    } in
+    record { packs = images_pack_again packs; one = hdus_stand_for_one walks images; split = one_split; bytes = restored_are_bytes c.card_laws.ensures }

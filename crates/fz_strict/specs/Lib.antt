@@ -1,0 +1,5 @@
+pub mod FoundOptions
+pub mod Laws
+pub mod SameHdus
+pub mod Strict
+pub mod Worked

@@ -1,0 +1,74 @@
+//! The laws of strict files: no code runs.
+ghost use Rattle.fz_strict.specs.Laws.{BytesHaveOneHeader, FoundOptionsAreAllowed, FoundOptionsDo, FoundOptionsDoForEach, HdusStandForOne, ImagesPackAgain, RestoredAreBytes, StrictImagesAgree, StrictIsHduByHdu};
+
+use fz_block::{cards_law, found_hdus_law, hdu_list_law, passing_law, walk_law};
+use fz_card::card_laws;
+use fz_files::{packed_hdu_law, table_law};
+use fz_grid::{one_tile_law, shape_law, tiles_law};
+use fz_head::{packed_image_law, whole_cards_law};
+use fz_round_trip::packed_hdus_law;
+use fz_tile::{one_record_law, plain_law, slice_law};
+
+/// The options by which a strict file was packed, or others with which `pack` writes the same, are those that its
+/// headers say: no others need to be tried. `pack` takes these options, whatever the file, and all packed images of a
+/// strict file agree on them.
+pub fn options_law()
+    ensures allowed { FoundOptionsAreAllowed }
+    ensures found { FoundOptionsDo }
+    ensures agree { StrictImagesAgree }
+{
+    found_hdus_law();
+    hdu_list_law();
+    packed_hdu_law();
+    packed_hdus_law();
+    packed_image_law();
+    passing_law();
+    shape_law();
+    table_law();
+    walk_law();
+}
+
+/// A file is what `pack` writes by some options if and only if every HDU of it is what `pack` makes, by these options,
+/// of what it stands for; and it is strict if and only if that is so by the options that its headers say.
+pub fn same_hdus_law()
+    ensures each { StrictIsHduByHdu }
+    ensures found { FoundOptionsDoForEach }
+{
+    cards_law();
+    found_hdus_law();
+    hdu_list_law();
+    packed_hdu_law();
+    packed_hdus_law();
+    packed_image_law();
+    passing_law();
+    plain_law();
+    shape_law();
+    table_law();
+    walk_law();
+    whole_cards_law();
+}
+
+/// Each HDU of a packed file stands for one HDU only: whoever makes that HDU knows what the HDUs are of which
+/// [`same_hdus_law`] speaks, and what `pack` makes of an image. What a file of bytes stands for are bytes.
+pub fn one_hdu_law()
+    ensures one { HdusStandForOne }
+    ensures packs { ImagesPackAgain }
+    ensures split { BytesHaveOneHeader }
+    ensures bytes { RestoredAreBytes }
+{
+    card_laws();
+    cards_law();
+    found_hdus_law();
+    hdu_list_law();
+    one_record_law();
+    one_tile_law();
+    packed_hdu_law();
+    packed_image_law();
+    passing_law();
+    plain_law();
+    shape_law();
+    slice_law();
+    tiles_law();
+    walk_law();
+    whole_cards_law();
+}
