@@ -16,16 +16,16 @@ BASH = $(SHARE)/bash-completion/completions
 ZSH = $(SHARE)/zsh/site-functions
 FISH = $(SHARE)/fish/vendor_completions.d
 MODULES = $(patsubst python/%,%,$(wildcard python/fzfits/*.py python/fzfits/py.typed python/fzfits/batch/*.py))
-PAGES = $(wildcard README.md CHANGELOG.md CONTRIBUTING.md LICENSE docs/*.md docs/*.svg)
+PAGES = $(wildcard README.md CHANGELOG.md CONTRIBUTING.md LICENSE docs/*.md docs/*.svg python/README.md bench/jobs/README.md)
 
 help:
 	@echo 'make demo       compile fz without proving it, and pack, list, verify, cut and unpack samples/star_field.fits: a minute'
-	@echo 'make check      compile fz without proving it and run the checks of tools/ on it: about two minutes, nothing proved'
+	@echo 'make check      compile fz without proving it and run the checks of tools/ on it: about five minutes, nothing proved'
 	@echo 'make fz         prove and build the program: crates/fz/out/fz'
 	@echo 'make test       what the gate runs: every proof, must-fail edit, test and program: an hour and a half or more'
 	@echo 'make samples    write samples/ again'
 	@echo 'make install    put the program that was built, fzbatch, the manual, the documents and the completions under PREFIX (/usr/local)'
-	@echo 'make uninstall  take them away again'
+	@echo 'make uninstall  remove them again'
 	@echo 'make dist       the sources of the last commit and their SHA-256: out/fz-$(VERSION).tar.gz'
 	@echo 'make deb        a Debian package of the program that was built: out/fz_$(VERSION)_ARCHITECTURE.deb'
 
@@ -40,7 +40,7 @@ fz:
 	@cd crates/fz && rt run -- list ../../samples/small.fits
 
 test:
-	@echo 'The whole gate, which proves everything from nothing: an hour and a half or more on 4 processors; seconds if all was.'
+	@echo 'The whole gate: an hour and a half or more on 4 processors if nothing was proved yet, minutes if all was.'
 	@bash .ci/run
 
 samples:

@@ -1,5 +1,7 @@
-"""What tools/faults, tools/kill, tools/changing and tools/power have in common: the program, the runs that they disturb, and how
-a run may end. Python's standard library alone."""
+"""What tools/faults, tools/kill, tools/changing, tools/power, tools/races and tools/large have in common: the program, the runs that
+they disturb, and how a run may end. It needs only Python's standard library."""
+from __future__ import annotations
+
 import hashlib
 import mmap
 import os
@@ -80,7 +82,10 @@ def commands_of(fz):
     """The commands that the program has."""
     with tempfile.TemporaryDirectory() as folder:
         asked = {it: subprocess.run([fz, it, *words], cwd=folder, capture_output=True, check=False) for it, words in ASKED.items()}
-    return {it for it, told in asked.items() if told.returncode != 2}
+    found = {it for it, told in asked.items() if told.returncode != 2}
+    if not found:
+        sys.exit(f"{fz} has none of the commands {', '.join(ASKED)}")
+    return found
 
 
 class Room:

@@ -1,6 +1,6 @@
 """What to do about this very file, where its bytes say more than the kind of the refusal.
 
-docs/REFUSALS.md says what to do about each kind; here stands only what depends on the file: how many bytes are missing, which
+docs/REFUSALS.md says what to do about each kind; this module has only what depends on the file: how many bytes are missing, which
 command mends it, which card is repeated, which limit is exceeded, which HDUs are packed.
 """
 from __future__ import annotations
@@ -17,9 +17,9 @@ from .errors import Refused, shown
 from .headers import Card, Header, Name, headers
 
 OF_READING = {
-    errno.ENOENT: "Look whether the name is right and the disk is mounted.",
+    errno.ENOENT: "Check that the name is right and the disk is mounted.",
     errno.EISDIR: "It is a folder: name a file in it.",
-    errno.EACCES: "Ask for leave to read it.",
+    errno.EACCES: "Ask for permission to read it.",
     errno.EIO: "The disk reports an error: try another copy.",
     errno.ELOOP: "Its symbolic links go round in a circle.",
 }
@@ -56,12 +56,12 @@ def sort_of(path: Name) -> str:
         return "It is empty: fetch it again."
     for magic, sort, tool in SORTS:
         if start.startswith(magic):
-            return f"It is {sort}." + (f" Undo that first: {tool} {shlex.quote(shown(path))}" if tool else "")
+            return f"It is {sort}." + (f" Decompress it first: {tool} {shlex.quote(shown(path))}" if tool else "")
     lowered = start.lstrip().lower()
     if lowered.startswith((b"<!doctype", b"<html", b"<?xml")):
         return "It is a web page: often a server answered with an error or asked for a login. Fetch it again."
     if not start.startswith((b"SIMPLE  ", b"XTENSION")) and all(it in b"\t\n\r\f" or 32 <= it for it in start):
-        return "It is a text, not a FITS file."
+        return "It is a text file, not a FITS file."
     return ""
 
 
@@ -89,14 +89,6 @@ def of_usage(asked: str) -> str:
 def of_not_fits(error: Refused, path: Name, _header: Optional[Header]) -> None:
     """A file that does not begin as a FITS file."""
     error.advice = sort_of(path)
-
-
-def last_header(path: Name) -> Optional[Header]:
-    """The last header that can be followed."""
-    last = None
-    for last in headers(path):
-        pass
-    return last
 
 
 def of_truncated(error: Refused, path: Name, header: Optional[Header]) -> None:

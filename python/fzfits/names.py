@@ -2,7 +2,7 @@
 
 The program takes names in UTF-8 only. A name that is other bytes gets a second one: a symbolic link in a folder of its own under
 the folder for temporary files, which is removed after the call. Blanks, line feeds and a leading dash need nothing, since all
-names stand after the argument `--`.
+names follow the argument `--`.
 
 An output is written under a name of its own in the folder where it belongs, `.fz-<random>.unfinished`, and gets its own name by a
 hard link after the program has ended with status 0: so there is never a part of a file under its name, another file of that name
@@ -56,7 +56,7 @@ CAUSES = {
 CURES = {
     "exists": "Give another name, or remove it first.",
     "no folder": "Make the folder first.",
-    "not allowed": "Write into another folder, or ask for leave to write there.",
+    "not allowed": "Write into another folder, or ask for permission to write there.",
     "no room": "Make room, or write to another disk.",
     "read-only": "Write to another disk.",
 }

@@ -91,7 +91,7 @@ def run(words: Sequence[Word], *, program: Optional[Word] = None, timeout: Optio
     path = find(program)
     line = tuple(encoded(it) for it in words)
     try:
-        # Standard input is empty, and the two others are pipes: the program must not run with descriptors 0 to 2 closed.
+        # Standard input is empty, and the two others are pipes.
         ended = subprocess.run([os.fsencode(path), *line], stdin=subprocess.DEVNULL, capture_output=True, timeout=timeout, cwd=cwd, check=False)  # type: ignore[arg-type]
     except OSError as error:
         raise NoProgram(f"{path} could not be started: {error}") from error

@@ -61,7 +61,7 @@ def unread_of(header: Header, tiles: Tiles) -> Dict[str, str]:
     if len(header.axes) > 3:
         found += [(it, "it reads packed images of 1 to 3 axes only") for it in ("imcopy", "fitsio", "astropy 5")]
     if stored and scaled:
-        found.append(("fitsio", "cfitsio does not apply BZERO and BSCALE to stored tiles: it fails, or gives other pixels without a word"))
+        found.append(("fitsio", "cfitsio does not apply BZERO and BSCALE to stored tiles: it fails, or gives other pixels with no error"))
     if codec == "NOCOMPRESS":
         found += [(it, "it does not read NOCOMPRESS") for it in ("astropy 5", "astropy 7")]
     if stored:

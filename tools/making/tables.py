@@ -7,12 +7,11 @@ from .fits import card, filled, header, highest, lowest, plain_bytes, words
 from .plain import further_cards, image, other_hdu
 from .tiles import places_of, tile_for, tiles_of
 
-LETTERS = {8: "B", 16: "I", 32: "J", 64: "K"}
 UNITS = {"B": 1, "I": 2, "J": 4, "K": 8}
 
 
 def suited(rng, codec):
-    """An image, the bytes of a number in its codes, and the codec that has them."""
+    """An image whose numbers the codec can write, and the bytes of a number in its codes."""
     found = image(rng, None if codec == "NOCOMPRESS" else rng.choice((8, 16, 32)))
     bytepix = found.bitpix // 8
     if codec == "RICE_1" and rng.random() < 0.5:

@@ -13,10 +13,10 @@ ANOTHER_COPY = "fetch the packed file from another copy; or, if the plain file i
 UPDATE = "fzbatch pack --update packs the plain file again, in the place of the packed file that changed"
 
 STATUSES = {
-    1: "a checksum of the plain file is wrong before it is packed: fetch it again, or have the tool that wrote it set the sums right; "
+    1: "a checksum of the plain file is wrong before it is packed: fetch it again, or correct its checksums with the tool that wrote it; "
     "--take-wrong-sums packs it as it is",
     2: "correct the options of fz pack that were given to fzbatch",
-    4: "run fzbatch again when the disk or the network is well; look whether the file is still there",
+    4: "check that the file still exists and that the disk or the network works, and run fzbatch again",
     5: "make room on the disk, or allow writing, and run fzbatch again",
     6: "run fzbatch again with a larger --memory, or with smaller tiles (--tile)",
     7: "run fzbatch again with fewer --jobs",
@@ -40,7 +40,7 @@ ERRNOS = {
 
 def of_errno(number: int) -> str:
     """What to do after a call of the system failed."""
-    return ERRNOS.get(number, "see what the system says, and run fzbatch again")
+    return ERRNOS.get(number, "read the message of the system, and run fzbatch again")
 
 
 def of_signal(name: str) -> str:
@@ -48,7 +48,7 @@ def of_signal(name: str) -> str:
     if name == "SIGXFSZ":
         return ERRNOS[errno.EFBIG]
     if name in ("SIGKILL", "SIGTERM"):
-        return "it was killed, perhaps for want of memory: run fzbatch again, with fewer --jobs if it happens again"
+        return "it was killed, perhaps because memory ran out: run fzbatch again, with fewer --jobs if it happens again"
     return "run fzbatch again; if it happens again, report it with the file"
 
 

@@ -18,9 +18,9 @@ from .tally import Tally
 PROGRAM = "fzbatch"
 VERBS = {
     "pack": "pack each FITS file of DIR that is not packed yet into PACKED, and verify it",
-    "verify": "look whether each packed file is the one that was made, decode its tiles, and compare its checksums",
+    "verify": "check that each packed file is the one that was made, decode its tiles, and verify its checksums",
     "compare": "unpack each packed file, compare it with the plain file, and keep nothing",
-    "restore": "make the plain files again that are not in DIR; a plain file that is there is not touched",
+    "restore": "restore the plain files that are not in DIR; existing plain files are not touched",
 }
 
 
@@ -59,7 +59,7 @@ def _parser() -> argparse.ArgumentParser:
     status.add_argument("--json", action="store_true", help="print each row of the manifest as a line of JSON")
     lacks = _verb(verbs, "missing", "name each file that has no packed file, and why; status 1 if there is one", _missing)
     lacks.add_argument("-0", "--null", action="store_true", help="print names only, as they are, with a null byte after each")
-    forget = _verb(verbs, "forget", "take files out of the manifest that were never packed or whose packed file is gone", _forget)
+    forget = _verb(verbs, "forget", "remove files from the manifest that were never packed or whose packed file is gone", _forget)
     forget.add_argument("--name", action="append", required=True, metavar="NAME", help="a name as fzbatch status prints it, without $'..'")
     collect = _verb(verbs, "collect", "read the results of a Slurm array into the manifest", _collect)
     collect.add_argument("--drop", action="store_true", help="drop the tasks that have no result")
@@ -96,26 +96,26 @@ def _run_words(made: argparse.ArgumentParser, verb: str) -> None:
     made.add_argument("--jobs", type=int, default=os.cpu_count() or 1, metavar="N", help="how many files at once (as many as processors)")
     made.add_argument("--memory", type=int, default=0, metavar="BYTES", help="the limit on the buffers of each fz")
     made.add_argument("--fz", metavar="PROGRAM", help="the program fz, if it is not in PATH and not named by the variable FZ")
-    made.add_argument("--engine", choices=("local", "parallel", "slurm", "dask"), default="local", help="who does the files (local)")
-    made.add_argument("--sshlogin", action="append", default=[], metavar="MACHINES", help="of GNU parallel: machines, such as 8/node1,4/:")
-    made.add_argument("--sshloginfile", metavar="FILE", help="of GNU parallel: a file with the machines")
-    made.add_argument("--scheduler", default="", metavar="ADDRESS", help="of dask: the scheduler; without it, workers of this machine")
+    made.add_argument("--engine", choices=("local", "parallel", "slurm", "dask"), default="local", help="what runs fz on the files (local)")
+    made.add_argument("--sshlogin", action="append", default=[], metavar="MACHINES", help="for GNU parallel: machines, such as 8/node1,4/:")
+    made.add_argument("--sshloginfile", metavar="FILE", help="for GNU parallel: a file with the machines")
+    made.add_argument("--scheduler", default="", metavar="ADDRESS", help="for dask: the scheduler; without it, workers of this machine")
     made.add_argument("--all", action="store_true", help="name all files in the summary, not only the first five of each cause")
     made.add_argument("--allow-empty", action="store_true", help="the source may be empty, or have none of the files of the manifest")
     if verb == "verify":
-        made.add_argument("--sha256-only", action="store_true", help="compare SHA-256 only, and do not decode tiles")
+        made.add_argument("--sha256-only", action="store_true", help="only compare SHA-256, and do not decode tiles")
     if verb != "pack":
         return
-    made.add_argument("--codec", choices=("rice", "plio", "none"), help="as of fz pack")
-    made.add_argument("--tile", metavar="A,B,..", help="as of fz pack")
-    made.add_argument("--block", metavar="N", help="as of fz pack")
-    made.add_argument("--workers", metavar="N", help="as of fz pack; for many files more --jobs are better")
+    made.add_argument("--codec", choices=("rice", "plio", "none"), help="as for fz pack")
+    made.add_argument("--tile", metavar="A,B,..", help="as for fz pack")
+    made.add_argument("--block", metavar="N", help="as for fz pack")
+    made.add_argument("--workers", metavar="N", help="as for fz pack; for many files more --jobs are better")
     made.add_argument("--no-sums", action="store_true", help="add no DATASUM and CHECKSUM to the packed tables")
     made.add_argument("--compare", action="store_true", help="also unpack each packed file and compare it with the plain file")
-    made.add_argument("--update", action="store_true", help="pack again, in the place of the packed file, if the plain or the packed file has changed")
-    made.add_argument("--retry", action="store_true", help="try files again that were refused and have not changed since")
+    made.add_argument("--update", action="store_true", help="if the plain or the packed file has changed, pack again and replace the packed file")
+    made.add_argument("--retry", action="store_true", help="try again files that were rejected and have not changed since")
     made.add_argument("--take-wrong-sums", action="store_true", help="pack files with a wrong checksum too, as they are")
-    made.add_argument("--skip-links", action="store_true", help="symbolic links may be left out")
+    made.add_argument("--skip-links", action="store_true", help="leave out symbolic links; they do not make the status 1")
 
 
 def _folders(asked: argparse.Namespace) -> tuple[bytes, bytes]:

@@ -17,6 +17,8 @@ from typing import Callable, Iterator, Sequence
 
 from . import work
 
+# What a line with a result begins with: a remote machine may print other lines before it.
+RESULT = "fzbatch-result "
 # So many tasks are one job of GNU parallel: starting Python takes about as long as packing a small file.
 TASKS_OF_A_JOB = 8
 PACKAGE = str(Path(__file__).resolve().parents[2])
@@ -61,7 +63,11 @@ def parallel(settings: work.Settings, tasks: Sequence[work.Task], options: Seque
         threading.Thread(target=_feed, args=(it, [task.word() for task in tasks]), daemon=True).start()
         assert it.stdout is not None
         for line in it.stdout:
-            yield work.Result.of(line)
+            if line.startswith(RESULT):
+                yield work.Result.of(line.removeprefix(RESULT))
+            else:
+                # a banner of the machine, say
+                sys.stderr.write(line)
             if stopped():
                 it.terminate()
 
@@ -109,7 +115,7 @@ def main(words: Sequence[str]) -> int:
     """A job of GNU parallel: settings and tasks as words; a line with the result of each."""
     settings = work.Settings.of(words[0])
     for word in words[1:]:
-        print(work.do(settings, work.Task.of(word)).word(), flush=True)
+        print(RESULT + work.do(settings, work.Task.of(word)).word(), flush=True)
     return 0
 
 

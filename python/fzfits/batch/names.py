@@ -7,9 +7,8 @@ PLAIN = (b".fits", b".fit", b".fts")
 SUFFIXES = PLAIN + tuple(it + b".fz" for it in PLAIN)
 PACKED = b".fz"
 PART = b".part"
-# The files of fzbatch in a folder of packed files.
+# The manifest in a folder of packed files.
 MANIFEST = b"fzbatch.sqlite"
-OWN = (MANIFEST, MANIFEST + b"-journal", b"fzbatch.lock", b"fzbatch.tasks", b"fzbatch.results")
 
 
 def is_fits(name: bytes) -> bool:

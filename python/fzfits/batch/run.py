@@ -12,7 +12,7 @@ import signal
 import socket
 import time
 from dataclasses import dataclass, field
-from typing import Callable, Iterator, Optional, Sequence, TextIO
+from typing import Callable, Iterator, Optional, TextIO
 
 from .. import program
 from ..errors import NoProgram
@@ -121,7 +121,7 @@ class _Run:
         """The manifest for a run that needs not write it."""
         if lock.is_writable(self.wanted.packed):
             return open_manifest(self.wanted.packed)
-        self.tally.notes.append(f"{names.shown(self.wanted.packed)} cannot be written, so the manifest does not get to know of this run.")
+        self.tally.notes.append(f"{names.shown(self.wanted.packed)} cannot be written, so the manifest does not record this run.")
         return Manifest.copy_of(path)
 
     def _source(self) -> Optional[Scan]:
@@ -323,14 +323,14 @@ def record(manifest: Manifest, old: Optional[Row], result: work.Result, identity
 
 
 def collect(packed: bytes, out: TextIO, drop: bool = False, all_names: bool = False) -> int:
-    """Reads the results of a Slurm array into the manifest. Tasks without a result are told, and stay unless they are dropped."""
+    """Reads the results of a Slurm array into the manifest. Tasks without a result are counted, and stay unless they are dropped."""
     if not files.there(slurm.tasks_file(packed)):
         raise Refuse(f"no tasks of a Slurm array wait in {names.shown(packed)}")
     with lock.held(os.path.join(packed, b"fzbatch.lock")), open_manifest(packed) as manifest:
         settings, tasks = slurm.read(packed)
         rows = {it.path: it for it in manifest.rows()}
         tally = Tally(settings.verb)
-        results = {it.path: it for it in slurm.results(settings)}
+        results = slurm.result_of_each(settings)
         for result in results.values():
             row = record(manifest, rows.get(result.path), result, settings.identity, " ".join(settings.options))
             if result.good:

@@ -80,7 +80,7 @@ def _look(found: Scan, path: bytes, entry: os.DirEntry[bytes], wanted) -> Option
     elif stat.S_ISLNK(it.st_mode):
         _link(found, path, entry, wanted)
     elif wanted(entry.name):
-        found.left.append(Left(path, "is no file, but a pipe, a socket or a device", "give its bytes a file"))
+        found.left.append(Left(path, "is no file, but a pipe, a socket or a device", "copy it to a file"))
     return None
 
 
@@ -92,7 +92,7 @@ def _link(found: Scan, path: bytes, entry: os.DirEntry[bytes], wanted) -> None:
         folder = False
     if folder or wanted(entry.name):
         target = names.shown(os.readlink(os.path.join(found.root, path)))
-        advice = "pack the folder or file that it leads to, or put a file in its place; --skip-links says that links may be left out"
+        advice = "pack the folder or file that it leads to, or replace it by a file; with --skip-links links are left out"
         found.left.append(Left(path, f"is a symbolic link to {target}", advice))
 
 

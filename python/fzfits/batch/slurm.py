@@ -61,8 +61,17 @@ def read(packed: bytes) -> tuple[work.Settings, list[work.Task]]:
     return work.Settings.of(head), [work.Task.of(line) for line in lines]
 
 
+def result_of_each(settings: work.Settings) -> dict[bytes, work.Result]:
+    """One result for each file that has any: a good one if there is one, since a task that was stopped may have run again."""
+    found: dict[bytes, work.Result] = {}
+    for it in results(settings):
+        if it.good or it.path not in found or not found[it.path].good:
+            found[it.path] = it
+    return found
+
+
 def results(settings: work.Settings) -> Iterator[work.Result]:
-    """The results that are there. A line that was cut short by a kill is none."""
+    """The results that are there, in no order of time. A line that was cut short by a kill is none."""
     folder = results_folder(settings.packed)
     for name in sorted(os.listdir(folder)):
         if name.startswith(settings.token.encode()):

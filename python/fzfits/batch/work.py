@@ -36,7 +36,7 @@ class Message:
     """Something that goes to another process as a word or a line of text."""
 
     def word(self) -> str:
-        """As one word of letters and digits, which no shell reads otherwise."""
+        """As one word of letters and digits, which no shell changes."""
         text = json.dumps({name: _plainly(it) for name, it in asdict(self).items()})  # type: ignore[call-overload]
         return base64.urlsafe_b64encode(text.encode()).decode()
 
@@ -126,7 +126,7 @@ def do(settings: Settings, task: Task) -> Result:
     except Stop as stop:
         result.outcome, result.cause, result.line, result.advice, result.kind = stop.outcome, stop.cause, stop.line, stop.what, stop.kind
     except NoProgram as error:
-        result.cause, result.line, result.advice = NO_PROGRAM, str(error), "look whether the program is still there, and whether there are too many processes"
+        result.cause, result.line, result.advice = NO_PROGRAM, str(error), "check that the program still exists, and that there are not too many processes"
     except OSError as error:
         said = error.strerror or str(error)
         result.outcome, result.cause, result.line, result.advice = "failed", said, said, advice.of_errno(error.errno or 0)
@@ -249,7 +249,7 @@ class _Work:
                 self._make_packed(before, replace=True)
                 return
             said = f"{names.shown(names.packed_name(self.task.path))} is there and is not this file packed ({stop.line})"
-            raise Stop("failed", "packed name is taken", said, "look what it is; move it away, or let fzbatch pack --update replace it") from stop
+            raise Stop("failed", "packed name is taken", said, "find out what it is; move it away, or let fzbatch pack --update replace it") from stop
         self._note_packed(after, before)
 
     def _packed_is_as_it_was(self) -> None:

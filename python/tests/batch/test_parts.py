@@ -196,6 +196,24 @@ class InTheManifest(InAFolder):
             self.assertEqual((row.fault, row.line, row.check_line), ("", "", "right"))
 
 
+class Arrays(InAFolder):
+    def test_a_task_that_is_queued_again_counts_by_its_good_result(self) -> None:
+        settings = work.Settings("pack", self.path(b"plain"), self.path(b"packed"), "t", "/fz", "i")
+        os.mkdir(self.path(b"packed"))
+        with manifest.Manifest(self.path(b"packed", names.MANIFEST)) as made:
+            made.begin("t", "pack", "host", 1)
+        slurm.write(settings, [work.Task(b"a.fits", 0)])
+        failed = work.Result(b"a.fits", "pack", "failed", "Input/output error", "Input/output error", "run it again")
+        packed = work.Result(b"a.fits", "pack", "packed", size=1, mtime=2, sha256="s", packed_size=3, packed_mtime=4, packed_sha256="p")
+        # the name of a file of results has the machine in it, so the order of the names is not that of time
+        self.write(b"packed/fzbatch.results/t.0.node1.7", packed.word().encode() + b"\n")
+        self.write(b"packed/fzbatch.results/t.0.node2.5", failed.word().encode() + b"\n")
+        to = io.StringIO()
+        self.assertEqual(run.collect(self.path(b"packed"), to), run.DONE, to.getvalue())
+        with run.open_manifest(self.path(b"packed"), writes=False) as made:
+            self.assertEqual([(it.path, it.status, it.fault) for it in made.rows()], [(b"a.fits", "packed", "")])
+
+
 class Plans(InAFolder):
     def found(self, **more: int) -> scan.Scan:
         return scan.Scan(self.folder, {ROW.path: scan.Found(ROW.path, more.get("size", 10), more.get("mtime", 1))})
