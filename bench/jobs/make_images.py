@@ -7,7 +7,6 @@ bits. holes.fits is a file of 10 GB whose data are holes: a primary without data
 16 bits. It takes no room on most disks.
 """
 import random
-import struct
 import sys
 from array import array
 from pathlib import Path
