@@ -1,5 +1,6 @@
--- Counts of faults and of wants. They never fall, and stand still at 2 ^ 64 - 1.
-use Rattle.std.specs.Prelude.{ℕ, ◌≡◌, ◌+◌, ◌-◌, ◌^◌, ◌≤◌, min, List, Contains, Result, OnOk, IsErrOf}
+-- Counts of faults and of wants. They never fall, and stand still at 2 ^ 64 - 1. Beside them is what else every call keeps that does
+-- not say otherwise: the names that were opened or made, and what was written in place.
+use Rattle.std.specs.Prelude.{ℕ, ◌≡◌, ◌+◌, ◌-◌, ◌^◌, ◌≤◌, min, List, Option, None, Contains, Result, OnOk, IsErrOf}
 use Rattle.fz_base.specs.declared.calls.Counts.{Counts}
 use Rattle.fz_base.specs.declared.failure.Failed.{Failed}
 use Rattle.fz_base.specs.declared.failure.Failed.TheVariants.{Fault, NoMemory}
@@ -8,25 +9,48 @@ use Rattle.fz_base.specs.declared.failure.Failed.TheVariants.{Fault, NoMemory}
 abbrev pub Rose : ℕ → ℕ → Type 0
 Rose before now = min (before + 1) (2 ^ 64 - 1) ≤ now
 
--- how often the calls of an object failed, and how often one found no memory
+-- one write in place: the byte at which it begins, and its bytes
+pub record Amend : Type 0 where
+  pub at : ℕ
+  pub bytes : List ℕ
+
+-- what was written in place in an object: the writes, one after another, if it tells them, and how often one failed
+pub record Amended : Type 0 where
+  pub writes : Option (List Amend)
+  pub faults : ℕ
+
+-- of an object in which nothing is written in place
+abbrev pub unamended : Amended
+unamended = record { writes = None; faults = 0 }
+
+-- How often the calls of an object failed, and how often one found no memory; the names by which it was opened or made, one after
+-- another, if it tells them; and what was written in place.
 pub record Tally : Type 0 where
   pub faults : ℕ
   pub wants : ℕ
+  pub names : Option (List (List ℕ))
+  pub amended : Amended
 
--- before the first call
+-- before the first call, of an object that does not tell names
 abbrev pub uncounted : Tally
-uncounted = record { faults = 0; wants = 0 }
+uncounted = record { faults = 0; wants = 0; names = None; amended = unamended }
 
--- the tally that an object keeps
+-- the tally that an object keeps which does not tell names
 abbrev pub tally_of : Counts → Tally
-tally_of counts = record { faults = counts.faults; wants = counts.wants }
+tally_of counts = record { faults = counts.faults; wants = counts.wants; names = None; amended = unamended }
 
--- counts never fall, and one that reached the end of its range stays there
+-- a tally without its names: the counts alone are said of a call that may open or make
+abbrev pub nameless : Tally → Tally
+nameless t = record { faults = t.faults; wants = t.wants; names = None; amended = t.amended }
+
+-- Counts never fall, and one that reached the end of its range stays there. Nothing was opened or made, and nothing was written in place.
 pub record CountsKept (before now : Tally) : Type 0 where
   pub faults_kept : before.faults ≤ now.faults
   pub wants_kept : before.wants ≤ now.wants
   pub faults_stay : before.faults ≡ 2 ^ 64 - 1 → now.faults ≡ 2 ^ 64 - 1
   pub wants_stay : before.wants ≡ 2 ^ 64 - 1 → now.wants ≡ 2 ^ 64 - 1
+  pub names_kept : now.names ≡ before.names
+  pub not_amended : now.amended ≡ before.amended
 
 -- a call of an object changed its counts as its answer says
 pub record HasCause {T : Type 0} (before now : Tally) (result : Result T Failed) : Type 0 where

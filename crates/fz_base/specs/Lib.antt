@@ -8,6 +8,7 @@ pub mod MemSink
 pub mod MemSource
 pub mod MemText
 pub mod Meter
+pub mod Names
 pub mod Ranges
 pub mod Refusal
 pub mod Sink

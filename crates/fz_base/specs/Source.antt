@@ -30,6 +30,10 @@ LogsWithin from to old new = LogsOnly (IsRangeBetween from to) old new
 abbrev pub HoldsLength : Option (List ℕ) → ℕ → Type 0
 HoldsLength held count = IfSome held (λ bytes. length bytes ≡ count)
 
+-- where the bytes are told, each is below 256
+abbrev pub HoldsOctets : Option (List ℕ) → Type 0
+HoldsOctets held = IfSome held (All (λ byte. byte < 256))
+
 -- the attached length after a call of `attach`: what it answered, or as before
 abbrev pub attached_by : {E : Type 0} → Result ℕ E → Option ℕ → Option ℕ
 attached_by (Ok count) before = Some count

@@ -1,5 +1,5 @@
 //! A source over a file of the system.
-ghost use Rattle.std.specs.Prelude.{◌≡◌, ◌^◌, ◌≤◌, None, IfOk};
+ghost use Rattle.std.specs.Prelude.{◌≡◌, ◌^◌, ◌≤◌, None};
 ghost use Rattle.std.specs.Option.{option_map};
 ghost use Rattle.fz_base.specs.Counts.{tally_of, uncounted};
 
@@ -18,6 +18,7 @@ const MAX_LEN: u64 = 1 << 62;
 struct Opened {
     file: File,
     size: u64,
+    ghost near: { size ≤ 2 ^ 62 },
 }
 
 /// A source over a file, which it opens for reading. It tells neither its bytes nor its ranges: that
@@ -45,9 +46,7 @@ impl<R: Files<File = File>> FileSource<R> {
     }
 }
 
-fn open<R: Files<File = File>>(rt: &R, name: &str) -> io::Result<Opened>
-    ensures { IfOk result (λ o. o.size ≤ 2 ^ 62) }
-{
+fn open<R: Files<File = File>>(rt: &R, name: &str) -> io::Result<Opened> {
     let file = File::open(rt, name)?;
     let size = file.metadata()?.len();
     if size > MAX_LEN {
@@ -57,6 +56,8 @@ fn open<R: Files<File = File>>(rt: &R, name: &str) -> io::Result<Opened>
 }
 
 impl<R: Files<File = File>> Source for FileSource<R> {
+    ghost use Rattle.fz_base.specs.Agreement.{near_of};
+
     ghost held = { λ _. None };
 
     ghost ranges = { λ _. None };
@@ -80,4 +81,8 @@ impl<R: Files<File = File>> Source for FileSource<R> {
     }
 
     ghost agrees = { λ _ _ _. tt };
+
+    ghost near = { λ s n e. near_of (λ o. o.size) s.opened n (λ o. o.near) e };
+
+    ghost octets = { λ _. tt };
 }

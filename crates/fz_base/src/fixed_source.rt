@@ -1,5 +1,5 @@
 //! A source in memory that never fails.
-ghost use Rattle.std.specs.Prelude.{◌≡◌, ◌^◌, ◌≤◌, length as len, vec_len, Some, None};
+ghost use Rattle.std.specs.Prelude.{◌≡◌, ◌^◌, ◌≤◌, ◌<◌, All, length as len, vec_len, Some, None};
 ghost use Rattle.std.specs.Option.{ForSome};
 ghost use Rattle.fz_base.specs.Counts.{uncounted};
 
@@ -13,6 +13,8 @@ pub struct FixedSource {
     size: Option<u64>,
     ghost short: { vec_len bytes ≤ 2 ^ 62 },
     ghost whole: { ForSome size (λ n. n ≡ len bytes.items) },
+    ghost near: { ForSome size (λ n. n ≤ 2 ^ 62) },
+    ghost octets: { All (λ byte. byte < 256) bytes.items },
 }
 
 impl FixedSource {
@@ -53,4 +55,8 @@ impl Source for FixedSource {
     }
 
     ghost agrees = { λ s n e. agrees_of s.size (len s.bytes.items) n s.whole e };
+
+    ghost near = { λ s n e. s.near n e };
+
+    ghost octets = { λ s. s.octets };
 }

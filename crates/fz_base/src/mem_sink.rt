@@ -1,6 +1,7 @@
 //! A sink in memory, whose calls can be told to fail.
 ghost use Rattle.std.specs.Prelude.{◌≡◌, ◌+◌, ◌-◌, ◌^◌, ◌<◌, ◌≤◌, ◌||◌, ◌↔◌, ◌++◌, IsTrue, length as len, take, drop, replicate, Some, [], false, OnOk, OnErr, IsErr, IsErrOf, Contains, min, is_ok, if◌then◌else◌};
-ghost use Rattle.fz_base.specs.Counts.{HasCause, CountsFault, tally_of, uncounted, Rose};
+ghost use Rattle.fz_base.specs.Counts.{HasCause, CountsFault, nameless, tally_of, uncounted, Rose};
+ghost use Rattle.fz_base.specs.Names.{names_by};
 ghost use Rattle.fz_base.specs.Sink.{overwrite, written, MayWrite, emptied, KeepsFront};
 ghost use Rattle.fz_base.specs.declared.failure.Failed.TheVariants.{Fault, NoMemory};
 
@@ -115,11 +116,12 @@ impl Sink for MemSink {
 
     ghost tally = { λ s. tally_of s.calls.counts };
 
-    fn create(&mut self, _name: &str) -> Result<(), Failed>
+    fn create(&mut self, name: &str) -> Result<(), Failed>
         ensures contents { Some self.new.data.items ≡ (if is_ok result then emptied (Some self.old.data.items) else Some self.old.data.items) }
         ensures created { self.new.created ≡ (is_ok result || self.old.created) }
         ensures finished { self.new.finished ≡ (if is_ok result then false else self.old.finished) }
-        ensures cause { HasCause (tally_of self.old.calls.counts) (tally_of self.new.calls.counts) result }
+        ensures names { (tally_of self.new.calls.counts).names ≡ names_by name.now result (tally_of self.old.calls.counts).names }
+        ensures cause { HasCause (nameless (tally_of self.old.calls.counts)) (nameless (tally_of self.new.calls.counts)) result }
 
         ensures only_faults { IsErr result → IsErrOf result Fault }
         ensures exact { IsErrOf result Fault ↔ Contains (sink_failing self.old) (sink_calls self.old) }

@@ -1,7 +1,8 @@
 //! A source in memory, whose calls can be told to fail.
-ghost use Rattle.std.specs.Prelude.{ℕ, ◌≡◌, ◌+◌, ◌-◌, ◌^◌, ◌≤◌, ◌<◌, ◌↔◌, length as len, vec_len, Some, None, [], IfOk, OnOk, OnErr, IsErr, IsErrOf, Contains, min};
+ghost use Rattle.std.specs.Prelude.{ℕ, All, ◌≡◌, ◌+◌, ◌-◌, ◌^◌, ◌≤◌, ◌<◌, ◌↔◌, length as len, vec_len, Some, None, [], IfOk, OnOk, OnErr, IsErr, IsErrOf, Contains, min};
 ghost use Rattle.std.specs.Option.{ForSome};
-ghost use Rattle.fz_base.specs.Counts.{HasCause, CountsFault, tally_of, uncounted};
+ghost use Rattle.fz_base.specs.Counts.{HasCause, CountsFault, nameless, tally_of, uncounted};
+ghost use Rattle.fz_base.specs.Names.{names_by};
 ghost use Rattle.fz_base.specs.Source.{Reads, logged, MayLog, HoldsLength, attached_by};
 ghost use Rattle.fz_base.specs.declared.failure.Failed.TheVariants.{Fault};
 
@@ -19,6 +20,8 @@ pub struct MemSource {
     calls: Calls,
     ghost short: { vec_len bytes ≤ 2 ^ 62 },
     ghost whole: { ForSome size (λ n. n ≡ len bytes.items) },
+    ghost near: { ForSome size (λ n. n ≤ 2 ^ 62) },
+    ghost octets: { All (λ byte. byte < 256) bytes.items },
 }
 
 impl MemSource {
@@ -69,13 +72,14 @@ impl Source for MemSource {
 
     ghost tally = { λ s. tally_of s.calls.counts };
 
-    fn attach(&mut self, _name: &str) -> Result<u64, Failed>
+    fn attach(&mut self, name: &str) -> Result<u64, Failed>
         ensures attached { self.new.size ≡ attached_by result self.old.size }
         ensures limit { IfOk result (λ n. n ≤ 2 ^ 62) }
         ensures told { IfOk result (HoldsLength (Some self.old.bytes.items)) }
         ensures held { Some self.new.bytes.items ≡ Some self.old.bytes.items }
         ensures ranges { Some self.new.ranges.items ≡ Some self.old.ranges.items }
-        ensures cause { HasCause (tally_of self.old.calls.counts) (tally_of self.new.calls.counts) result }
+        ensures names { (tally_of self.new.calls.counts).names ≡ names_by name.now result (tally_of self.old.calls.counts).names }
+        ensures cause { HasCause (nameless (tally_of self.old.calls.counts)) (nameless (tally_of self.new.calls.counts)) result }
 
         ensures only_faults { IsErr result → IsErrOf result Fault }
         ensures exact { IsErrOf result Fault ↔ Contains (source_failing self.old) (source_calls self.old) }
@@ -117,4 +121,8 @@ impl Source for MemSource {
     }
 
     ghost agrees = { λ s n e. agrees_of s.size (len s.bytes.items) n s.whole e };
+
+    ghost near = { λ s n e. s.near n e };
+
+    ghost octets = { λ s. s.octets };
 }

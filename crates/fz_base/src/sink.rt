@@ -1,6 +1,7 @@
 //! Where a job writes to: bytes at places.
 ghost use Rattle.std.specs.Prelude.{ℕ, ◌≡◌, ◌<◌, ◌||◌, Bool, IsTrue, List, length as len, Option, OnOk, OnErr, is_ok, false, if◌then◌else◌};
-ghost use Rattle.fz_base.specs.Counts.{HasCause, Tally};
+ghost use Rattle.fz_base.specs.Counts.{HasCause, Tally, nameless};
+ghost use Rattle.fz_base.specs.Names.{names_by};
 ghost use Rattle.fz_base.specs.Sink.{written, MayWrite, emptied};
 
 use crate::Failed;
@@ -16,7 +17,8 @@ pub trait Sink {
     /// Whether `finish` has succeeded, and nothing was made or written since.
     ghost finished: { Self → Bool };
 
-    /// How often a call failed, and how often one found no memory.
+    /// How often a call failed, and how often one found no memory; and the names by which an output
+    /// was made, where they are told.
     ghost tally: { Self → Tally };
 
     /// Makes the output by its name, empty.
@@ -24,7 +26,8 @@ pub trait Sink {
         ensures contents { contents self.new ≡ (if is_ok result then emptied (contents self.old) else contents self.old) }
         ensures created { created self.new ≡ (is_ok result || created self.old) }
         ensures finished { finished self.new ≡ (if is_ok result then false else finished self.old) }
-        ensures cause { HasCause (tally self.old) (tally self.new) result };
+        ensures names { (tally self.new).names ≡ names_by name.now result (tally self.old).names }
+        ensures cause { HasCause (nameless (tally self.old)) (nameless (tally self.new)) result };
 
     /// Writes all bytes from `at` on. A gap between the old end and `at` reads as 0.
     fn write_at(&mut self, at: u64, bytes: &[u8]) -> Result<(), Failed>

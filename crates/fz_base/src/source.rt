@@ -1,7 +1,8 @@
 //! Where a job reads from: bytes at places.
 ghost use Rattle.std.specs.Prelude.{ℕ, ◌≡◌, ◌+◌, ◌^◌, ◌≤◌, ◌<◌, List, length as len, Option, Some, IfOk, OnOk, OnErr};
-ghost use Rattle.fz_base.specs.Counts.{HasCause, Tally};
-ghost use Rattle.fz_base.specs.Source.{Reads, logged, MayLog, HoldsLength, attached_by};
+ghost use Rattle.fz_base.specs.Counts.{HasCause, Tally, nameless};
+ghost use Rattle.fz_base.specs.Names.{names_by};
+ghost use Rattle.fz_base.specs.Source.{Reads, logged, MayLog, HoldsOctets, HoldsLength, attached_by};
 
 use crate::Failed;
 
@@ -17,7 +18,8 @@ pub trait Source {
     /// The attached length, or none before the first `attach` that succeeded.
     ghost attached: { Self → Option ℕ };
 
-    /// How often a call failed, and how often one found no memory.
+    /// How often a call failed, and how often one found no memory; and the names by which the source
+    /// was opened, where they are told.
     ghost tally: { Self → Tally };
 
     /// Opens the source by its name and answers its length in bytes.
@@ -27,7 +29,8 @@ pub trait Source {
         ensures told { IfOk result (HoldsLength (held self.old)) }
         ensures held { held self.new ≡ held self.old }
         ensures ranges { ranges self.new ≡ ranges self.old }
-        ensures cause { HasCause (tally self.old) (tally self.new) result };
+        ensures names { (tally self.new).names ≡ names_by name.now result (tally self.old).names }
+        ensures cause { HasCause (nameless (tally self.old)) (nameless (tally self.new)) result };
 
     /// Reads the bytes from `at` on into the whole of `into`.
     fn read_at(&mut self, at: u64, into: &mut [u8]) -> Result<(), Failed>
@@ -42,4 +45,10 @@ pub trait Source {
 
     /// A source that is attached and tells its bytes tells as many as its attached length.
     ghost agrees: { (s : Self) (n : ℕ) → attached s ≡ Some n → HoldsLength (held s) n };
+
+    /// No attached length is more than 2^62.
+    ghost near: { (s : Self) (n : ℕ) → attached s ≡ Some n → n ≤ 2 ^ 62 };
+
+    /// Bytes that are told are below 256.
+    ghost octets: { (s : Self) → HoldsOctets (held s) };
 }

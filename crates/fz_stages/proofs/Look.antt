@@ -22,7 +22,7 @@ use Rattle.fz_stages.proofs.Jobs.{of_file, takings_of_file, takings_of_headers}
 use Rattle.fz_stages.proofs.Takings.{highest_first, highest_within, past_none, past_some}
 
 pub kept_same : (t : Tally) → CountsKept t t
-kept_same t = record { faults_kept = omega arith; wants_kept = omega arith; faults_stay = λ end. end; wants_stay = λ end. end }
+kept_same t = record { faults_kept = omega arith; wants_kept = omega arith; faults_stay = λ end. end; wants_stay = λ end. end; names_kept = refl; not_amended = refl }
 
 -- ---- the fault that it tells
 

@@ -1,5 +1,6 @@
 //! How the promises of a job follow from its stages: no code runs.
-ghost use Rattle.fz_stages.specs.Ends.{BlockEnds, BuffersComeBack, CausesAnswer, LookEnds, PassesLater, PeaksAreReached, PeaksStayWithin, SizesFit, WorkEnds};
+ghost use Rattle.fz_stages.specs.Ends.{BlockEnds, BuffersComeBack, CausesAnswer, LookEnds, PassesLater, PeaksAreReached};
+ghost use Rattle.fz_stages.specs.Ends.{PeaksStayWithin, SizesFit, WorkEnds};
 
 use fz_files::buffers_law;
 use fz_survey::workspace_law;

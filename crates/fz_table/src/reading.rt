@@ -26,7 +26,7 @@ pub fn find_record<S: Source>(
 ) -> Result<Record, Stop>
     requires table { IsTable table.now }
     requires row { row < table.now.rows }
-    requires within { (n : ℕ) × (n < 2 ^ 64) × (S.attached source.old ≡ Some n) × (table.now.heap_at + table.now.heap_len ≤ n) }
+    requires within { (n : ℕ) × (S.attached source.old ≡ Some n) × (table.now.heap_at + table.now.heap_len ≤ n) }
     ensures exact { IfSome (S.held source.old) (λ g. IsDefined (record_at g hdu table.now row tile.now) result) }
     ensures row { IfAnswered result ((says : RowSays) × IsRowOf table.now says × IsDefined (record_of hdu row table.now says tile.now) result) }
     ensures within { IfOk result (StandsInHeap table.now tile.now) }
@@ -48,7 +48,7 @@ pub fn find_record<S: Source>(
 pub fn read_row<S: Source>(source: &mut S, table: &Table, row: u32) -> Result<Row, Stop>
     requires table { IsTable table.now }
     requires row { row < table.now.rows }
-    requires within { (n : ℕ) × (n < 2 ^ 64) × (S.attached source.old ≡ Some n) × (table.now.heap_at + table.now.heap_len ≤ n) }
+    requires within { (n : ℕ) × (S.attached source.old ≡ Some n) × (table.now.heap_at + table.now.heap_len ≤ n) }
     ensures exact { IfOk result (λ r. IfSome (S.held source.old) (λ g. r ≡ row_at g table.now row)) }
     ensures row { IfOk result (IsRowOf table.now) }
     ensures read { Logs (row_reads table.now row) result (S.ranges source.old) (S.ranges source.new) }
@@ -74,7 +74,7 @@ fn read_tile_columns<S: Source>(
 ) -> Result<(Descriptor, Descriptor), Stop>
     requires table { IsTable table.now }
     requires row { row < table.now.rows }
-    requires within { (n : ℕ) × (n < 2 ^ 64) × (S.attached source.old ≡ Some n) × (table.now.heap_at + table.now.heap_len ≤ n) }
+    requires within { (n : ℕ) × (S.attached source.old ≡ Some n) × (table.now.heap_at + table.now.heap_len ≤ n) }
     ensures exact { IfOk result (λ p. IfSome (S.held source.old) (λ g.
         (p.0 ≡ described_at g table.now table.now.coded row) × (p.1 ≡ described_at g table.now table.now.stored row))) }
     ensures none { IfOk result (λ p. (IfNone table.now.coded (p.0.count ≡ 0)) × (IfNone table.now.stored (p.1.count ≡ 0))) }
@@ -100,7 +100,7 @@ fn read_if<S: Source>(
 ) -> Result<Descriptor, Stop>
     requires table { IsTable table.now }
     requires row { row < table.now.rows }
-    requires within { (n : ℕ) × (n < 2 ^ 64) × (S.attached source.old ≡ Some n) × (table.now.heap_at + table.now.heap_len ≤ n) }
+    requires within { (n : ℕ) × (S.attached source.old ≡ Some n) × (table.now.heap_at + table.now.heap_len ≤ n) }
     requires column { IfSome column (StandsInRow table.now) }
     ensures exact { IfOk result (λ d. IfSome (S.held source.old) (λ g. d ≡ described_at g table.now column row)) }
     ensures none { IfOk result (λ d. IfNone column (d.count ≡ 0)) }
@@ -126,7 +126,7 @@ fn read_two<S: Source>(
 ) -> Result<(Descriptor, Descriptor), Stop>
     requires table { IsTable table.now }
     requires row { row < table.now.rows }
-    requires within { (n : ℕ) × (n < 2 ^ 64) × (S.attached source.old ≡ Some n) × (table.now.heap_at + table.now.heap_len ≤ n) }
+    requires within { (n : ℕ) × (S.attached source.old ≡ Some n) × (table.now.heap_at + table.now.heap_len ≤ n) }
     requires first { StandsInRow table.now first.now }
     requires second { StandsInRow table.now second.now }
     ensures exact { IfOk result (λ p. IfSome (S.held source.old) (λ g.
@@ -166,7 +166,7 @@ fn read_pair<S: Source>(
 ) -> Result<(Descriptor, Descriptor), Stop>
     requires table { IsTable table.now }
     requires row { row < table.now.rows }
-    requires within { (n : ℕ) × (n < 2 ^ 64) × (S.attached source.old ≡ Some n) × (table.now.heap_at + table.now.heap_len ≤ n) }
+    requires within { (n : ℕ) × (S.attached source.old ≡ Some n) × (table.now.heap_at + table.now.heap_len ≤ n) }
     requires first { StandsInRow table.now first.now }
     requires second { StandsInRow table.now second.now }
     requires together { first.now.at + descriptor_len first.now.wide ≡ second.now.at }

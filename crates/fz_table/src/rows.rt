@@ -26,7 +26,7 @@ pub fn descriptor<S: Source>(
     row: u32,
 ) -> Result<Descriptor, Stop>
     requires row { row < table.now.rows }
-    requires rows { (n : ℕ) × (n < 2 ^ 64) × (S.attached source.old ≡ Some n) × (table.now.rows_at + table.now.row_bytes * table.now.rows ≤ n) }
+    requires rows { (n : ℕ) × (S.attached source.old ≡ Some n) × (table.now.rows_at + table.now.row_bytes * table.now.rows ≤ n) }
     requires column { column.now.at + descriptor_len column.now.wide ≤ table.now.row_bytes }
     ensures exact { IfOk result (λ d. IfSome (S.held source.old) (λ g. d ≡ descriptor_at g table.now column.now row)) }
     ensures read { OnOk result (S.ranges source.new ≡ logged (descriptor_start table.now column.now row) (descriptor_len column.now.wide) (S.ranges source.old)) }
