@@ -44,7 +44,7 @@ none_printed lines (Some text) = (0, ap Some (sym (append-nil text)))
 -- ---- where a job stopped
 
 same_kept : (t : Tally) → CountsKept t t
-same_kept t = record { faults_kept = omega arith; wants_kept = omega arith; faults_stay = λ e. e; wants_stay = λ e. e }
+same_kept t = record { faults_kept = omega arith; wants_kept = omega arith; faults_stay = λ e. e; wants_stay = λ e. e; names_kept = refl; not_amended = refl }
 
 pub stopped_cause : (X Y : Type 0) (rows limit : ℕ) (t : Tally) (stop : Stop) → Stops {X = X} rows (takings_of rows) limit (Err stop) → BlockDecides {X = X} limit (Err stop) → HasDrillCause {X = Y} rows t t limit (Err stop)
 stopped_cause X Y rows limit t (Refused x) s block = absurd s.stop

@@ -1,3 +1,4 @@
+pub mod Bytes
 pub mod Cards
 pub mod CutFile
 pub mod Cutting
@@ -7,6 +8,7 @@ pub mod Ends
 pub mod MadeFiles
 pub mod Packable
 pub mod PackedFile
+pub mod PackedLengths
 pub mod Packing
 pub mod PartHeader
 pub mod PartPixels

@@ -2,5 +2,6 @@ pub mod Bound
 pub mod Clauses
 pub mod Files
 pub mod Jobs
+pub mod Lengths
 pub mod Outcomes
 pub mod Said

@@ -46,7 +46,8 @@ pub(crate) fn packed_by<R: Threads + Sync, G: Gate>(
     ensures stops { Stops files.now.rows (file_takings (Pack (drill_options codec)) (drill_file files.now.rows) 4) meter.old.limit result }
     ensures block { BlockDecides meter.old.limit result }
     ensures kept { KeepsAll files.now.rows meter.old meter.new window.old window.new }
-    ensures exact_peak { OnOk result (meter.new.peak ≡ max meter.old.peak (highest (file_takings (Pack (drill_options codec)) (drill_file files.now.rows) 4))) }
+    ensures exact_peak { OnOk result (meter.new.peak ≡ max meter.old.peak
+        (highest (file_takings (Pack (drill_options codec)) (drill_file files.now.rows) 4))) }
 {
     // Nothing is refused of the file, and it has one packed file.
     packs_law();
@@ -135,7 +136,8 @@ pub(crate) fn cuts_to_part<R: Threads + Sync, G: Gate>(
     ensures same { IfOk result (λ same. same ≡ true) }
     ensures stops { Stops files.now.rows (file_takings (Cut None (drill_sieve files.now.rows)) packed.now 4) meter.old.limit result }
     ensures kept { KeepsAll files.now.rows meter.old meter.new window.old window.new }
-    ensures exact_peak { OnOk result (meter.new.peak ≡ max meter.old.peak (highest (file_takings (Cut None (drill_sieve files.now.rows)) packed.now 4))) }
+    ensures exact_peak { OnOk result (meter.new.peak ≡ max meter.old.peak
+        (highest (file_takings (Cut None (drill_sieve files.now.rows)) packed.now 4))) }
 {
     // Nothing is refused of it, and one part is cut from it.
     cuts_law();

@@ -4,12 +4,16 @@ pub mod BufferLemmas
 pub mod CutEndsLemmas
 pub mod CutFileLemmas
 pub mod CutoutLemmas
+pub mod DrillLemmas
+pub mod EndLemmas
 pub mod ExtensionFileLemmas
 pub mod FaultFileLemmas
+pub mod FaultHduLemmas
 pub mod FaultLemmas
 pub mod FaultPlaceLemmas
 pub mod FaultRowLemmas
 pub mod ImageLemmas
+pub mod LimitLemmas
 pub mod LinesFileLemmas
 pub mod LinesPastLemmas
 pub mod LongFileLemmas
@@ -33,6 +37,8 @@ pub mod TablePasses
 pub mod TablePlaces
 pub mod TableRefused
 pub mod TableRows
+pub mod TableStandsLemmas
+pub mod TouchedLemmas
 pub mod WideFileLemmas
 pub mod WorkedCards
 pub mod WorkedWalks

@@ -27,10 +27,10 @@ HeaderIsFound = (k start : ℕ) (file : List ℕ) (h : Header) → hdu_at k star
 -- ---- what is reached is what is found
 
 -- the HDUs from one on
-abbrev ReachesFrom : Judge → ℕ → ℕ → ℕ → List ℕ → Type 0
+abbrev pub ReachesFrom : Judge → ℕ → ℕ → ℕ → List ℕ → Type 0
 ReachesFrom judge more k start file = (hs : List Header) → walk_from judge more k start file ≡ Ok hs → reached_from judge more k start file ≡ map place_of hs
 
-reaches_from : HeaderIsFound → (judge : Judge) (more k start : ℕ) (file : List ℕ) → ReachesFrom judge more k start file
+pub reaches_from : HeaderIsFound → (judge : Judge) (more k start : ℕ) (file : List ℕ) → ReachesFrom judge more k start file
 unfolding walk_from reached_from
 reaches_from find judge zero k start file hs is = absurd cc
 reaches_from find judge (suc more) k start file hs is = by_here (λ h. reaches_from find judge more (suc k) (next_start_of h) file) (hdu_at k start file) refl is
@@ -127,7 +127,7 @@ header_end k start len header h is = by_found (first_refusal (header_checks k st
         let end : hdu_end k start header ≤ len = checks_end k start len header none in
         subst (λ f. next_start_of f ≤ len) same (omega (arith, end))
 
-within : (k start : ℕ) (file : List ℕ) (h : Header) → hdu_at k start file ≡ Ok h → next_start_of h ≤ length file
+pub within : (k start : ℕ) (file : List ℕ) (h : Header) → hdu_at k start file ≡ Ok h → next_start_of h ≤ length file
 unfolding hdu_at
 within k start file h is = by_blocks (header_blocks_of k start file) is
   where

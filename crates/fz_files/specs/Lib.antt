@@ -5,6 +5,8 @@ pub mod CutFile
 pub mod Cutout
 pub mod CutoutBytes
 pub mod Drill
+pub mod DrillRows
+pub mod Ends
 pub mod ExtensionFile
 pub mod FaultFile
 pub mod FaultPlaces
@@ -25,5 +27,6 @@ pub mod PlioFile
 pub mod RiceFile
 pub mod StandsFor
 pub mod SumFile
+pub mod Touched
 pub mod Walks
 pub mod WideFile

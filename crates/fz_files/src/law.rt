@@ -1,6 +1,9 @@
 //! The laws of the definitions: no code runs.
 ghost use Rattle.fz_files.specs.Buffers.{AreBounded};
-ghost use Rattle.fz_files.specs.Laws.{BoundRises, CutsOutOneFile, DrillIsBounded, HasOneFirstFault, HdusArePacked, ListRefusesHeaders, PicksCutOneFile, PrimariesStandFirst, ReachedAreFound, ReachedLieWithin, StandsForOneFile, TablesAreHdus, TablesAreAccepted, TablesAreRefused, TablesPass, TablesStandForImages, TablesWerePrimary, VerifyRefusesAsUnpack};
+ghost use Rattle.fz_files.specs.Laws.{BoundRises, CutsOutOneFile, DrillIsBounded, HasOneFirstFault, HdusArePacked};
+ghost use Rattle.fz_files.specs.Laws.{ListRefusesHeaders, PicksCutOneFile, PrimariesStandFirst, ReachedAreFound};
+ghost use Rattle.fz_files.specs.Laws.{ReachedLieWithin, StandsForOneFile, TablesAreHdus, TablesAreAccepted, TablesAreRefused};
+ghost use Rattle.fz_files.specs.Laws.{TablesPass, TablesStandForImages, TablesWerePrimary, VerifyRefusesAsUnpack};
 
 use fz_block::{cards_law, found_law, hdu_at_law, walk_law};
 use fz_grid::{shape_law, tile_pixels_law, tiles_law};

@@ -1,10 +1,14 @@
 //! What files are: packed files, the files that they stand for, cutouts, first faults, report lines and the bound on buffers.
 #![tactic(auto)]
 
+mod drilled;
+mod ends;
 mod job;
 mod law;
 mod worked;
 
+pub use drilled::drill_rows_law;
+pub use ends::{cut_reads_law, limits_law, walk_end_law};
 pub use job::Job;
 pub use law::{
     buffers_law, one_cutout_law, one_file_law, one_first_fault_law, one_picked_file_law,

@@ -40,8 +40,10 @@ fn check_ends(buf: &[u8], header: &Header, shape: &Axes, region: &Region) -> Res
     requires header { IsHeaderOf buf.now header.now }
     requires shape { shape.now ≡ nine_axes (said_axes (cards_of buf.now)) }
     requires few { shape.now.n ≤ 9 }
-    ensures exact { IsFirstOf (flat_map (λ k. axis_inside header.now.hdu (cards_of buf.now) region.now k ∷ []) (range_with_len 0 shape.now.n)) result }
-    ensures inside { OnOk result ((k : ℕ) → k < shape.now.n → slice_index region.now.lo k + slice_index region.now.len k ≤ slice_index shape.now.len k) }
+    ensures exact { IsFirstOf (flat_map (λ k. axis_inside header.now.hdu (cards_of buf.now) region.now k ∷ [])
+        (range_with_len 0 shape.now.n)) result }
+    ensures inside { OnOk result ((k : ℕ) → k < shape.now.n
+        → slice_index region.now.lo k + slice_index region.now.len k ≤ slice_index shape.now.len k) }
 {
     for i in 0..shape.n {
         check_end(buf, header, region, i, shape.len[i as usize])?;

@@ -11,7 +11,8 @@ ghost use Rattle.fz_tile.specs.Codecs.{CanWrite};
 ghost use Rattle.fz_head.specs.declared.job_checks.PackedImage.{PackedImage};
 ghost use Rattle.fz_head.specs.declared.options.PackOptions.{PackOptions};
 ghost use Rattle.fz_head.specs.declared.plan.Plan.{Plan};
-ghost use Rattle.fz_head.specs.JobChecks.{IsImageOf, IsImageToPack, cut_checks, data_fill, fill_in, image_checks, image_in, image_to_unpack, plan_to_pack, unpack_checks};
+ghost use Rattle.fz_head.specs.JobChecks.{IsImageOf, IsImageToPack, cut_checks, data_fill, fill_in, image_checks, image_in};
+ghost use Rattle.fz_head.specs.JobChecks.{image_to_unpack, plan_to_pack, unpack_checks};
 ghost use Rattle.fz_head.specs.Packable.{is_packable, is_packed, is_primary};
 ghost use Rattle.fz_head.specs.PackChecks.{name_checks, pack_answer};
 ghost use Rattle.fz_head.specs.PackedChecks.{plan_answer};
@@ -20,9 +21,11 @@ ghost use Rattle.fz_head.specs.Planned.{AreOptions, pack_plan_of};
 
 /// The plan of an image that is to be packed divides it into tiles, which its codec can write.
 pub fn pack_plan_law()
-    ensures divided { (o : PackOptions) (h : Header) (header : List ℕ) (p : Plan) → AreOptions o → IsHeaderOf header h → is_packable h ≡ true → pack_answer o h header ≡ Ok p
+    ensures divided { (o : PackOptions) (h : Header) (header : List ℕ) (p : Plan) → AreOptions o → IsHeaderOf header h
+        → is_packable h ≡ true → pack_answer o h header ≡ Ok p
         → IsDivided p.shape p.tile }
-    ensures writable { (o : PackOptions) (h : Header) (header : List ℕ) (p : Plan) → AreOptions o → is_packable h ≡ true → pack_answer o h header ≡ Ok p
+    ensures writable { (o : PackOptions) (h : Header) (header : List ℕ) (p : Plan) → AreOptions o → is_packable h ≡ true
+        → pack_answer o h header ≡ Ok p
         → CanWrite p.codec p.bitpix }
 {}
 
@@ -36,21 +39,28 @@ pub fn fill_law()
 /// An image of a file of which no check of `pack` refuses anything has a plan, which divides it into tiles that its
 /// codec can write; blanks alone stand behind END of its header, and zeros behind its data.
 pub fn image_to_pack_law()
-    ensures plan { (o : PackOptions) (file : List ℕ) (h : Header) → IsImageToPack o file h → pack_answer o h (hdu_of file h).header ≡ Ok (pack_plan_of o h) }
-    ensures divided { (o : PackOptions) (file : List ℕ) (h : Header) → IsImageToPack o file h → IsDivided (pack_plan_of o h).shape (pack_plan_of o h).tile }
-    ensures writable { (o : PackOptions) (file : List ℕ) (h : Header) → IsImageToPack o file h → CanWrite (pack_plan_of o h).codec (pack_plan_of o h).bitpix }
+    ensures plan { (o : PackOptions) (file : List ℕ) (h : Header) → IsImageToPack o file h
+        → pack_answer o h (hdu_of file h).header ≡ Ok (pack_plan_of o h) }
+    ensures divided { (o : PackOptions) (file : List ℕ) (h : Header) → IsImageToPack o file h
+        → IsDivided (pack_plan_of o h).shape (pack_plan_of o h).tile }
+    ensures writable { (o : PackOptions) (file : List ℕ) (h : Header) → IsImageToPack o file h
+        → CanWrite (pack_plan_of o h).codec (pack_plan_of o h).bitpix }
     ensures header_fill { (o : PackOptions) (file : List ℕ) (h : Header) → IsImageToPack o file h → HasBlankFill (hdu_of file h).header }
-    ensures data_fill { (o : PackOptions) (file : List ℕ) (h : Header) → IsImageToPack o file h → fill_in file h ≡ replicate (length (fill_in file h)) 0 }
+    ensures data_fill { (o : PackOptions) (file : List ℕ) (h : Header) → IsImageToPack o file h
+        → fill_in file h ≡ replicate (length (fill_in file h)) 0 }
 {}
 
 /// A packed HDU of which the checks of its table and its plan refuse nothing is the image that its header says; so
 /// is one of which `unpack` or `cut` refuses nothing.
 pub fn packed_image_law()
-    ensures checks { (h : Header) (header : List ℕ) (after_empty : Bool) → IsHeaderOf header h → first_refusal (image_checks h header after_empty) ≡ None
+    ensures checks { (h : Header) (header : List ℕ) (after_empty : Bool) → IsHeaderOf header h
+        → first_refusal (image_checks h header after_empty) ≡ None
         → IsImageOf header h (image_in h header) }
-    ensures unpack { (h : Header) (header : List ℕ) (after_empty : Bool) → IsHeaderOf header h → is_packed header h ≡ true → first_refusal (unpack_checks h header after_empty) ≡ None
+    ensures unpack { (h : Header) (header : List ℕ) (after_empty : Bool) → IsHeaderOf header h → is_packed header h ≡ true
+        → first_refusal (unpack_checks h header after_empty) ≡ None
         → IsImageOf header h (image_in h header) }
-    ensures cut { (h : Header) (header : List ℕ) (after_empty : Bool) (region : Region) → IsHeaderOf header h → first_refusal (cut_checks h header after_empty region) ≡ None
+    ensures cut { (h : Header) (header : List ℕ) (after_empty : Bool) (region : Region) → IsHeaderOf header h
+        → first_refusal (cut_checks h header after_empty region) ≡ None
         → IsImageOf header h (image_in h header) }
 {}
 
@@ -64,8 +74,10 @@ pub fn primary_law()
 /// What `pack` answers for an HDU of which it refuses nothing: the plan that the options make where it can be
 /// packed, and none where it can not. Neither depends on the byte at which the HDU begins.
 pub fn plan_to_pack_law()
-    ensures answer { (o : PackOptions) (h : Header) (header : List ℕ) (r : Option Plan) → plan_to_pack o h header ≡ Ok r → r ≡ (if is_packable h then Some (pack_plan_of o h) else None) }
-    ensures planned { (o : PackOptions) (h : Header) (header : List ℕ) (p : Plan) → plan_to_pack o h header ≡ Ok (Some p) → (is_packable h ≡ true) × (p ≡ pack_plan_of o h) }
+    ensures answer { (o : PackOptions) (h : Header) (header : List ℕ) (r : Option Plan) → plan_to_pack o h header ≡ Ok r
+        → r ≡ (if is_packable h then Some (pack_plan_of o h) else None) }
+    ensures planned { (o : PackOptions) (h : Header) (header : List ℕ) (p : Plan) → plan_to_pack o h header ≡ Ok (Some p)
+        → (is_packable h ≡ true) × (p ≡ pack_plan_of o h) }
     ensures copied { (o : PackOptions) (h : Header) (header : List ℕ) → plan_to_pack o h header ≡ Ok None → is_packable h ≡ false }
     ensures packable { (start : ℕ) (h : Header) → is_packable (begun_at start h) ≡ is_packable h }
     ensures plan { (o : PackOptions) (start : ℕ) (h : Header) → pack_plan_of o (begun_at start h) ≡ pack_plan_of o h }
@@ -74,8 +86,11 @@ pub fn plan_to_pack_law()
 /// A packed image that was a primary is answered only where its HDU stands after an empty primary; and the header
 /// of the image then begins with the S of SIMPLE.
 pub fn packed_primary_law()
-    ensures plan { (k : ℕ) (header : List ℕ) (after_empty : Bool) (p : Plan) → plan_answer k header after_empty ≡ Ok p → p.primary ≡ true → after_empty ≡ true }
-    ensures unpack { (h : Header) (header : List ℕ) (after_empty : Bool) (i : PackedImage) → image_to_unpack h header after_empty ≡ Ok (Some i) → i.plan.primary ≡ true → after_empty ≡ true }
-    ensures begins { (h : Header) (header : List ℕ) (after_empty : Bool) (i : PackedImage) → image_to_unpack h header after_empty ≡ Ok (Some i) → i.plan.primary ≡ true
+    ensures plan { (k : ℕ) (header : List ℕ) (after_empty : Bool) (p : Plan) → plan_answer k header after_empty ≡ Ok p
+        → p.primary ≡ true → after_empty ≡ true }
+    ensures unpack { (h : Header) (header : List ℕ) (after_empty : Bool) (i : PackedImage)
+        → image_to_unpack h header after_empty ≡ Ok (Some i) → i.plan.primary ≡ true → after_empty ≡ true }
+    ensures begins { (h : Header) (header : List ℕ) (after_empty : Bool) (i : PackedImage)
+        → image_to_unpack h header after_empty ≡ Ok (Some i) → i.plan.primary ≡ true
         → header_bytes (plain_header (cards_of header)) ≡ 83 ∷ drop 1 (header_bytes (plain_header (cards_of header))) }
 {}

@@ -6,7 +6,11 @@ ghost use Rattle.fz_block.specs.Facts.{IsHeaderOf};
 ghost use Rattle.fz_block.specs.Hdus.{cards_of, header_bytes};
 ghost use Rattle.fz_grid.specs.Region.{IsDivided};
 ghost use Rattle.fz_head.specs.Conditions.{AreShort, IsPackPlan};
-ghost use Rattle.fz_head.specs.PackedHeader.{packed_header, packed_card as packed_card_of, table_cards as table_cards_of, column_cards as column_cards_of, tile_cards as tile_cards_of, parameter_cards as parameter_cards_of, sum_cards as sum_cards_of, descriptor_form, coded_letter as coded_letter_of, stored_letter as stored_letter_of, codec_name as codec_name_of, word_card, numbered_word_card};
+ghost use Rattle.fz_head.specs.PackedHeader.{packed_header, packed_card as packed_card_of, table_cards as table_cards_of};
+ghost use Rattle.fz_head.specs.PackedHeader.{column_cards as column_cards_of, tile_cards as tile_cards_of};
+ghost use Rattle.fz_head.specs.PackedHeader.{parameter_cards as parameter_cards_of, sum_cards as sum_cards_of, descriptor_form};
+ghost use Rattle.fz_head.specs.PackedHeader.{coded_letter as coded_letter_of, stored_letter as stored_letter_of};
+ghost use Rattle.fz_head.specs.PackedHeader.{codec_name as codec_name_of, word_card, numbered_word_card};
 ghost use Rattle.fz_head.specs.Written.{Adds, card_list, first_cards};
 
 use crate::written::{finish, length_card, put, put_all};

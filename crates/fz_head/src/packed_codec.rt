@@ -1,10 +1,13 @@
 //! The checks of what a packed header says of scaling, of the codec and of the pixels.
-ghost use Rattle.std.specs.Prelude.{◌≡◌, ◌+◌, ◌*◌, ◌<◌, ◌≤◌, ◌^◌, ◌||◌, ◌&&◌, not, true, [], ◌∷◌, None, Some, pos, negsuc, codes, position, unwrap_or, IfOk, length as len};
+ghost use Rattle.std.specs.Prelude.{◌≡◌, ◌+◌, ◌*◌, ◌<◌, ◌≤◌, ◌^◌, ◌||◌, ◌&&◌, not, true, [], ◌∷◌, None, Some, pos, negsuc, codes};
+ghost use Rattle.std.specs.Prelude.{position, unwrap_or, IfOk, length as len};
 ghost use Rattle.fz_base.specs.Refusal.{IsFirstOf};
 ghost use Rattle.fz_card.specs.Reading.{text_of};
 ghost use Rattle.fz_block.specs.Facts.{IsHeaderOf};
 ghost use Rattle.fz_block.specs.Hdus.{cards_of};
-ghost use Rattle.fz_head.specs.PackedChecks.{bitpix_checks, codec_checks, column_count as column_count_of, is_integer, is_integer_size as is_integer_size_of, is_scaling as is_scaling_of, names_scaling as names_scaling_of, scaling_check};
+ghost use Rattle.fz_head.specs.PackedChecks.{bitpix_checks, codec_checks, column_count as column_count_of, is_integer};
+ghost use Rattle.fz_head.specs.PackedChecks.{is_integer_size as is_integer_size_of, is_scaling as is_scaling_of};
+ghost use Rattle.fz_head.specs.PackedChecks.{names_scaling as names_scaling_of, scaling_check};
 ghost use Rattle.fz_head.specs.PackedPlan.{is_codec_name, is_plain_name, is_plio_name, is_rice_name, said_bitpix, said_codec};
 ghost use Rattle.fz_head.specs.Written.{first_cards};
 

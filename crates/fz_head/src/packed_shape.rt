@@ -1,5 +1,6 @@
 //! The checks of the axes and tiles that a packed header says.
-ghost use Rattle.std.specs.Prelude.{ℕ, ◌≡◌, ◌-◌, ◌<◌, ◌≤◌, ◌^◌, ◌||◌, min, nat_lt, [], ◌∷◌, ◌++◌, None, Some, codes, map, replicate, slice_index, if◌then◌else◌, IfOk};
+ghost use Rattle.std.specs.Prelude.{ℕ, ◌≡◌, ◌-◌, ◌<◌, ◌≤◌, ◌^◌, ◌||◌, min, nat_lt, [], ◌∷◌, ◌++◌, None, Some, codes, map};
+ghost use Rattle.std.specs.Prelude.{replicate, slice_index, if◌then◌else◌, IfOk};
 ghost use Rattle.std.specs.List.{flat_map, range_with_len};
 ghost use Rattle.fz_base.specs.Refusal.{IsFirstOf};
 ghost use Rattle.fz_block.specs.Facts.{IsHeaderOf, nine_axes};
@@ -77,7 +78,8 @@ fn axis_lengths(buf: &[u8], header: &Header, n: u32) -> Result<[u32; MAX_AXES], 
     requires header { IsHeaderOf buf.now header.now }
     requires few { n ≤ 9 }
     ensures exact { IsFirstOf (flat_map (axis_checks header.now.hdu (cards_of buf.now)) (range_with_len 1 n)) result }
-    ensures value { IfOk result (λ a. a ≡ map (λ i. size_of (numbered_in (codes "ZNAXIS") i (cards_of buf.now))) (range_with_len 1 n) ++ replicate (9 - n) 0) }
+    ensures value { IfOk result (λ a. a ≡ map (λ i. size_of (numbered_in (codes "ZNAXIS") i (cards_of buf.now)))
+        (range_with_len 1 n) ++ replicate (9 - n) 0) }
     ensures some { IfOk result (λ a. (i : ℕ) → i < n → 1 ≤ slice_index a i) }
 {
     let mut lengths = [0; MAX_AXES];

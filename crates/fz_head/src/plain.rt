@@ -10,7 +10,10 @@ ghost use Rattle.fz_block.specs.Hdus.{cards_of, header_bytes};
 ghost use Rattle.fz_grid.specs.Region.{IsWithin};
 ghost use Rattle.fz_head.specs.Conditions.{IsPackedPlan};
 ghost use Rattle.fz_head.specs.PackedHeader.{numbered_number_card};
-ghost use Rattle.fz_head.specs.PlainHeader.{axis_card, count_cards_of, count_names, cutout_header, front_names, is_front as is_front_of, is_kept as is_kept_of, is_table_card as is_table_card_of, leading_card, or_card, other_cards_of, part_cards_of, plain_card as plain_card_of, plain_header, says_what as says_what_of, size_cards, whole_names};
+ghost use Rattle.fz_head.specs.PlainHeader.{axis_card, count_cards_of, count_names, cutout_header, front_names};
+ghost use Rattle.fz_head.specs.PlainHeader.{is_front as is_front_of, is_kept as is_kept_of, is_table_card as is_table_card_of};
+ghost use Rattle.fz_head.specs.PlainHeader.{leading_card, or_card, other_cards_of, part_cards_of, plain_card as plain_card_of};
+ghost use Rattle.fz_head.specs.PlainHeader.{plain_header, says_what as says_what_of, size_cards, whole_names};
 ghost use Rattle.fz_head.specs.Written.{Adds, first_cards, found_cards};
 
 use crate::Plan;
@@ -293,7 +296,8 @@ fn put_part_cards(buf: &[u8], header: &Header, plan: &Plan, count: usize, out: &
 fn put_region_cards(region: &Region, count: usize, out: &mut [u8]) -> usize
     requires few { region.now.n ≤ 9 }
     requires room { 80 * (count + region.now.n) ≤ len out.old }
-    ensures written { Adds (map (λ i. numbered_number_card (codes "NAXIS") i (slice_index region.now.len (i - 1))) (range_with_len 1 region.now.n)) count out.old result out.new }
+    ensures written { Adds (map (λ i. numbered_number_card (codes "NAXIS") i (slice_index region.now.len (i - 1)))
+        (range_with_len 1 region.now.n)) count out.old result out.new }
     ensures number { result ≡ count + region.now.n }
 {
     let mut written = count;

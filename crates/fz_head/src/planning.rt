@@ -1,5 +1,6 @@
 //! The plan of an image that is to be packed, and the checks that it has to pass.
-ghost use Rattle.std.specs.Prelude.{ℕ, ◌≡◌, ◌==◌, ◌+◌, ◌*◌, ◌<◌, ◌≤◌, ◌^◌, true, false, not, List, [], ◌∷◌, None, Some, position, slice_index, IfOk, IfSome, length as len};
+ghost use Rattle.std.specs.Prelude.{ℕ, ◌≡◌, ◌==◌, ◌+◌, ◌*◌, ◌<◌, ◌≤◌, ◌^◌, true, false, not, List, [], ◌∷◌, None, Some, position};
+ghost use Rattle.std.specs.Prelude.{slice_index, IfOk, IfSome, length as len};
 ghost use Rattle.std.specs.Option.{ForSome};
 ghost use Rattle.fz_base.specs.Refusal.{IsFirstOf};
 ghost use Rattle.fz_block.specs.Facts.{IsHeaderOf};
@@ -8,7 +9,9 @@ ghost use Rattle.fz_block.specs.Hdus.{cards_of};
 ghost use Rattle.fz_grid.specs.Region.{IsDivided, lengths_of};
 ghost use Rattle.fz_tile.specs.Codecs.{CanWrite};
 ghost use Rattle.fz_head.specs.Packable.{has_integers, is_packable, is_primary};
-ghost use Rattle.fz_head.specs.PackChecks.{name_checks, limit_checks, offset_check as offset_check_of, header_fill, is_plio, no_totals, is_axis_above, is_of_other_sort, is_reserved_card as is_reserved_card_of, is_table_name as is_table_name_of, pack_answer, reserved_index};
+ghost use Rattle.fz_head.specs.PackChecks.{name_checks, limit_checks, offset_check as offset_check_of, header_fill, is_plio};
+ghost use Rattle.fz_head.specs.PackChecks.{no_totals, is_axis_above, is_of_other_sort, is_reserved_card as is_reserved_card_of};
+ghost use Rattle.fz_head.specs.PackChecks.{is_table_name as is_table_name_of, pack_answer, reserved_index};
 ghost use Rattle.fz_head.specs.Planned.{AreOptions, codec_for as codec_for_of, is_wide as is_wide_of, pack_plan_of};
 ghost use Rattle.fz_head.specs.PackedHeader.{packed_header, parameter_cards, sum_cards};
 ghost use Rattle.fz_head.specs.Written.{first_cards};

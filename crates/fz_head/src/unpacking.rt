@@ -103,7 +103,8 @@ fn was_primary(buf: &[u8], header: &Header) -> bool
 // Whether the first card of this name stands and says another number.
 fn says_other(buf: &[u8], header: &Header, name: &Name, value: i64) -> bool
     requires { IsHeaderOf buf.now header.now }
-    ensures { result ≡ (is_some (index_of name.now.bytes (cards_of buf.now)) && not (is_integer_of value (integer_of (the_card name.now.bytes (cards_of buf.now))))) }
+    ensures { result ≡ (is_some (index_of name.now.bytes (cards_of buf.now)) && not
+        (is_integer_of value (integer_of (the_card name.now.bytes (cards_of buf.now))))) }
 {
     stands(buf, header, name) && !is_integer(integer_said(buf, header, name), value)
 }
@@ -111,7 +112,9 @@ fn says_other(buf: &[u8], header: &Header, name: &Name, value: i64) -> bool
 // Whether the image is an extension, of which this card says another number.
 fn is_other_count(buf: &[u8], header: &Header, name: &Name, value: i64) -> bool
     requires { IsHeaderOf buf.now header.now }
-    ensures { result ≡ (not (has_word (codes "ZSIMPLE") (cards_of buf.now)) && (is_some (index_of name.now.bytes (cards_of buf.now)) && not (is_integer_of value (integer_of (the_card name.now.bytes (cards_of buf.now)))))) }
+    ensures { result ≡ (not (has_word (codes "ZSIMPLE") (cards_of buf.now)) &&
+        (is_some (index_of name.now.bytes (cards_of buf.now)) && not
+        (is_integer_of value (integer_of (the_card name.now.bytes (cards_of buf.now)))))) }
 {
     !stands(buf, header, &Name::ZSIMPLE) && says_other(buf, header, name, value)
 }
@@ -137,7 +140,8 @@ fn check_gcount(buf: &[u8], header: &Header) -> Result<(), Fault>
 // Whether ZSIMPLE stands and is not T.
 fn is_untrue(buf: &[u8], header: &Header) -> bool
     requires { IsHeaderOf buf.now header.now }
-    ensures { result ≡ (has_word (codes "ZSIMPLE") (cards_of buf.now) && not (unwrap_or (logical_of (word_in (codes "ZSIMPLE") (cards_of buf.now))) false)) }
+    ensures { result ≡ (has_word (codes "ZSIMPLE") (cards_of buf.now) && not
+        (unwrap_or (logical_of (word_in (codes "ZSIMPLE") (cards_of buf.now))) false)) }
 {
     stands(buf, header, &Name::ZSIMPLE) && !is_true(buf, header, &Name::ZSIMPLE)
 }
@@ -145,7 +149,8 @@ fn is_untrue(buf: &[u8], header: &Header) -> bool
 // Whether ZTENSION stands and is not IMAGE.
 fn is_no_image(buf: &[u8], header: &Header) -> bool
     requires { IsHeaderOf buf.now header.now }
-    ensures { result ≡ (has_word (codes "ZTENSION") (cards_of buf.now) && not (is_text_of (codes "IMAGE") (text_of (word_in (codes "ZTENSION") (cards_of buf.now))))) }
+    ensures { result ≡ (has_word (codes "ZTENSION") (cards_of buf.now) && not
+        (is_text_of (codes "IMAGE") (text_of (word_in (codes "ZTENSION") (cards_of buf.now))))) }
 {
     stands(buf, header, &Name::ZTENSION) && !is_text(buf, header, &Name::ZTENSION, b"IMAGE")
 }
@@ -198,7 +203,11 @@ fn check_line_list(buf: &[u8], header: &Header) -> Result<(), Fault>
 // The table has a row for each tile.
 fn check_rows(header: &Header, table: &Table, shape: &Axes, tile: &Axes) -> Result<(), Fault>
     requires divided { IsDivided shape.now tile.now }
-    ensures { IsFirstOf ((not (table.now.rows == tile_count (lengths_of shape.now) (lengths_of tile.now)), refusal header.now.hdu (AtCard 4) RowCount) ∷ []) result }
+    ensures { IsFirstOf ((
+      not (table.now.rows == tile_count (lengths_of shape.now) (lengths_of tile.now)),
+      refusal header.now.hdu
+          (AtCard 4) RowCount,
+    ) ∷ []) result }
 {
     let tiles = Grid::new(*shape, *tile).tile_count();
     refuse_if(header, table.rows != tiles, 4, Kind::RowCount)

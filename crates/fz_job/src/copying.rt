@@ -30,7 +30,8 @@ pub fn copy_hdu<S: Source, K: Sink>(
     requires near { at ≤ 2 ^ 63 }
     requires buffer { 0 < len buffer.old }
     requires created { IsTrue (K.created sink.old) }
-    ensures copied { IfOk result (λ end. IfSome (S.held source.old) (λ g. HoldsCopy header.now g at end (K.contents sink.old) (K.contents sink.new))) }
+    ensures copied { IfOk result (λ end. IfSome (S.held source.old)
+        (λ g. HoldsCopy header.now g at end (K.contents sink.old) (K.contents sink.new))) }
     ensures end { IfOk result (λ end. (at < end) × (end + header.now.start ≡ at + next_start_of header.now)) }
     ensures len { len buffer.new ≡ len buffer.old }
     ensures source { SourceStays (S.held source.old) (S.held source.new) (S.attached source.old) (S.attached source.new) }

@@ -21,7 +21,8 @@ pub fn write_fill<K: Sink>(
     requires behind { 0 < data_at }
     requires near { data_at + data_len + 2880 ≤ 2 ^ 63 }
     requires room { 2880 ≤ len zeros.old }
-    ensures filled { OnOk result (K.contents sink.new ≡ written (data_at + data_len) (replicate (whole_blocks_of data_len - data_len) 0) (K.contents sink.old)) }
+    ensures filled { OnOk result (K.contents sink.new ≡ written (data_at + data_len)
+        (replicate (whole_blocks_of data_len - data_len) 0) (K.contents sink.old)) }
     ensures end { IfOk result (λ end. end ≡ data_at + whole_blocks_of data_len) }
     ensures shut { StaysShut (K.contents sink.old) (K.contents sink.new) }
     ensures told_contents { StaysTold (K.contents sink.old) (K.contents sink.new) }

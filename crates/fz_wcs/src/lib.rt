@@ -8,4 +8,4 @@ mod shifting;
 mod writing;
 
 pub use decimal::Decimal;
-pub use shifting::{decimal_law, shift};
+pub use shifting::{decimal_law, shift, shifted_card_law};

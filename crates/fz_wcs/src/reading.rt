@@ -3,7 +3,8 @@ ghost use Rattle.std.specs.Prelude.{◌≡◌, ◌≤◌, ◌^◌, IfSome, lengt
 ghost use Rattle.std.specs.Str.{all_ascii_digits};
 ghost use Rattle.std.specs.Str.Parse.{without_leading_sign};
 ghost use Rattle.fz_card.specs.Zeros.{skip_point};
-ghost use Rattle.fz_wcs.specs.Scans.{before, behind, is_letter, is_point, exponent_in as exponent_of, small_integer_in, joined_integer as joined_integer_of, decimal_in as decimal_of};
+ghost use Rattle.fz_wcs.specs.Scans.{before, behind, is_letter, is_point, exponent_in as exponent_of, small_integer_in};
+ghost use Rattle.fz_wcs.specs.Scans.{joined_integer as joined_integer_of, decimal_in as decimal_of};
 
 use crate::decimal::{Decimal, scaled};
 use fz_card::{Line, integer};

@@ -6,12 +6,12 @@ ghost use Rattle.fz_card.specs.Layout.{card_name};
 ghost use Rattle.fz_card.specs.Made.{value_card, right_aligned};
 ghost use Rattle.fz_wcs.specs.Decimals.{HasDecimal, IsShifted, decimal_text};
 ghost use Rattle.fz_wcs.specs.Reading.{decimal_of, shifted};
-ghost use Rattle.fz_wcs.specs.Laws.{DecimalLaws};
+ghost use Rattle.fz_wcs.specs.Laws.{DecimalLaws, ShiftedIsCard};
 
 use crate::decimal::{Decimal, less};
 use crate::reading::decimal_in;
 use crate::writing::decimal_line;
-use fz_card::{Card, integer_text_law, number_card, value_text_law};
+use fz_card::{Card, integer_text_law, made_cards_law, number_card, value_text_law};
 
 /// The card with its decimal less this whole number, and `None` exactly where its value is no decimal: a sign, 1 to 18
 /// digits with at most one point and an exponent from -9 to 9, of which the sign, the point and the exponent may be
@@ -51,4 +51,12 @@ pub fn decimal_law()
 {
     integer_text_law();
     value_text_law();
+}
+
+/// The card with its decimal less a whole number is a card of 80 bytes, with the same name.
+pub fn shifted_card_law()
+    ensures { ShiftedIsCard }
+{
+    decimal_law();
+    made_cards_law();
 }
