@@ -1,3 +1,4 @@
+pub mod Hdus
 pub mod Headers
 pub mod Jobs
 pub mod Known

@@ -1,3 +1,4 @@
 pub mod Again
+pub mod Hdus
 pub mod Headers
 pub mod Known

@@ -1,8 +1,10 @@
 //! What the first look says of a file: no code runs.
 ghost use Rattle.fz_files.specs.declared.job.Job.{Job};
+ghost use Rattle.fz_again.specs.Hdus.{UnpacksWithin, VerifiesWithin, DataAreOfHdus, HeaderIsOfHdus, KnownAreTouched, TilesAreOfImage};
 ghost use Rattle.fz_again.specs.Headers.{HeadersAreSeen, LooksReadHeaders};
 ghost use Rattle.fz_again.specs.Known.{ChecksAsUnpack, SurveysKnow, SurveysRefuse};
 
+use fz_base::ranges_law;
 use fz_block::{found_hdus_law, found_law, hdu_law, walk_law};
 use fz_files::reached_law;
 
@@ -25,4 +27,18 @@ pub fn headers_law()
     ensures seen { (job : Job) → ChecksAsUnpack job → HeadersAreSeen job }
 {
     reached_law();
+}
+
+/// What is read of one of the HDUs of a file, behind the first look, is what the job reads of all of them; and if the
+/// file is known, that is what the job reads of the file.
+pub fn hdus_law()
+    ensures header { (job : Job) → HeaderIsOfHdus job }
+    ensures payload { (job : Job) → DataAreOfHdus job }
+    ensures tiles { TilesAreOfImage }
+    ensures unpacked { UnpacksWithin }
+    ensures verified { VerifiesWithin }
+    ensures known { (job : Job) → ChecksAsUnpack job → KnownAreTouched job }
+{
+    headers_law();
+    ranges_law();
 }

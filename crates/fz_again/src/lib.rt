@@ -8,4 +8,4 @@ mod again;
 mod law;
 
 pub use again::{ReadHdu, read_again};
-pub use law::{headers_law, known_law};
+pub use law::{hdus_law, headers_law, known_law};

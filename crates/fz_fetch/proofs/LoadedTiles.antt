@@ -1,10 +1,11 @@
 -- Tiles that are loaded one after another, and the ranges that are read for them.
-use Rattle.std.proofs.Common.{◌≡◌, ℕ, zero, suc, ◌+◌, ◌<◌, ◌⊎◌, inl, inr, ⊎_elim, List, [], ◌∷◌, ◌++◌, length, slice_index, slice_index_or, Option, Some, None, IfSome, refl, sym, ap, ◌∙◌, subst, arith}
+use Rattle.std.proofs.Common.{◌≡◌, ℕ, zero, suc, ◌+◌, ◌<◌, ◌≤◌, ◌⊎◌, inl, inr, ⊎_elim, List, [], ◌∷◌, ◌++◌, length, slice_index, slice_index_or, Option, Some, None, IfSome, refl, sym, ap, ◌∙◌, subst, arith}
 use Rattle.fz_base.specs.Ranges.{LiesIn, LogsIn, LogsAllLaw, LogsJoinLaw}
 use Rattle.fz_table.specs.Reads.{record_ranges, row_ranges, tile_ranges}
 use Rattle.fz_table.specs.Records.{record_at}
 use Rattle.fz_head.specs.declared.job_checks.PackedImage.{PackedImage}
 use Rattle.fz_files.specs.Restored.{tile_of}
+use Rattle.fz_pool.specs.Calls.{AreSameFrom}
 use Rattle.fz_pool.specs.Window.{IsPut, Pool}
 use Rattle.fz_pool.specs.declared.slot.Slot.{Slot}
 use Rattle.fz_fetch.specs.Loaded.{AreLoaded, IsLoaded, tiles_ranges}
@@ -35,6 +36,16 @@ loaded_more held hdu image tiles i old new x put now before k d near = here (bel
     here (inr same) =
         let slot : slice_index_or new.slots k d ≡ x = ap (λ n. slice_index_or new.slots n d) same ∙ put.here d in
         subst (λ (y : Slot). IsLoaded held hdu image (slice_index tiles k) y) (sym slot) (subst (λ (n : ℕ). IsLoaded held hdu image (slice_index tiles n) x) (sym same) now)
+
+-- ---- the other slots
+
+-- those after a slot that is put are as before
+pub put_alone : (i : ℕ) (old new : Pool) (x : Slot) → IsPut old i x new → AreSameFrom (i + 1) old.slots new.slots
+put_alone i old new x put k d later = put.others k d (λ same. absurd (omega (arith, later, same)))
+
+-- what stays in two steps stays in both
+pub same_then : (a b n : ℕ) (old mid new : List Slot) → a ≤ n → b ≤ n → AreSameFrom a old mid → AreSameFrom b mid new → AreSameFrom n old new
+same_then a b n old mid new first second before now k d later = now k d (omega (arith, second, later)) ∙ before k d (omega (arith, first, later))
 
 -- ---- ranges
 

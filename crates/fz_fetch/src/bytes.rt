@@ -35,10 +35,12 @@ pub(crate) fn place_count(bitpix: i32, pixels: u64) -> u64
 pub(crate) fn put_tile(bitpix: i32, pixels: u32, numbers: &[i32], code: &mut [u8])
     requires size { IsBitpix bitpix }
     requires few { pixels ≤ 2 ^ 26 }
-    requires pixels { (xs : List ℤ) × (len xs ≡ pixels) × HoldPixels (unsigned_abs bitpix) (take (place_count_of (unsigned_abs bitpix) pixels) numbers.now) xs }
+    requires pixels { (xs : List ℤ) × (len xs ≡ pixels)
+        × HoldPixels (unsigned_abs bitpix) (take (place_count_of (unsigned_abs bitpix) pixels) numbers.now) xs }
     requires numbers { 2 * pixels ≤ len numbers.now }
     requires room { 8 * pixels ≤ len code.old }
-    ensures bytes { (xs : List ℤ) → len xs ≡ pixels → HoldPixels (unsigned_abs bitpix) (take (place_count_of (unsigned_abs bitpix) pixels) numbers.now) xs
+    ensures bytes { (xs : List ℤ) → len xs ≡ pixels → HoldPixels (unsigned_abs bitpix)
+        (take (place_count_of (unsigned_abs bitpix) pixels) numbers.now) xs
         → take (unsigned_abs bitpix / 8 * pixels) code.new ≡ plain_bytes (unsigned_abs bitpix) xs }
     ensures len { len code.new ≡ len code.old }
 {
@@ -61,7 +63,8 @@ pub(crate) fn put_pixels(
     requires pixels { (xs : List ℤ) × HoldPixels (unsigned_abs bitpix) numbers.now xs × (from + count ≤ len xs) }
     requires room { at + unsigned_abs bitpix / 8 * count ≤ len code.old }
     ensures bytes { (xs : List ℤ) → HoldPixels (unsigned_abs bitpix) numbers.now xs → from + count ≤ len xs
-        → code.new ≡ take at code.old ++ (plain_bytes (unsigned_abs bitpix) (take count (drop from xs)) ++ drop (at + unsigned_abs bitpix / 8 * count) code.old) }
+        → code.new ≡ take at code.old ++ (plain_bytes (unsigned_abs bitpix) (take count (drop from xs)) ++ drop
+        (at + unsigned_abs bitpix / 8 * count) code.old) }
     ensures len { len code.new ≡ len code.old }
 {
     slice_law();
@@ -83,7 +86,8 @@ pub(crate) fn put_picks(bitpix: i32, numbers: &[i32], lines: Lines, code: &mut [
         × ((cutout : ℕ) × AllByRecursion (IsLineWithin (len xs) cutout) (lines_left lines)) }
     requires room { unsigned_abs bitpix / 8 * len (lines_in_tile (lines_left lines)) ≤ len code.old }
     ensures bytes { (xs : List ℤ) → HoldPixels (unsigned_abs bitpix) numbers.now xs
-        → take (unsigned_abs bitpix / 8 * len (lines_in_tile (lines_left lines))) code.new ≡ plain_bytes (unsigned_abs bitpix) (numbers_at xs (lines_in_tile (lines_left lines))) }
+        → take (unsigned_abs bitpix / 8 * len (lines_in_tile (lines_left lines))) code.new ≡ plain_bytes (unsigned_abs bitpix)
+        (numbers_at xs (lines_in_tile (lines_left lines))) }
     ensures count { result ≡ unsigned_abs bitpix / 8 * len (lines_in_tile (lines_left lines)) }
     ensures len { len code.new ≡ len code.old }
 {
@@ -99,10 +103,12 @@ pub(crate) fn put_picks(bitpix: i32, numbers: &[i32], lines: Lines, code: &mut [
 // Writes the plain bytes of the picks of a line to a place of the code.
 fn put_line(bitpix: i32, numbers: &[i32], line: &Line, code: &mut [u8], at: u64)
     requires size { IsBitpix bitpix }
-    requires pixels { (xs : List ℤ) × HoldPixels (unsigned_abs bitpix) numbers.now xs × (len xs ≤ 2 ^ 26) × ((cutout : ℕ) × IsLineWithin (len xs) cutout line.now) }
+    requires pixels { (xs : List ℤ) × HoldPixels (unsigned_abs bitpix) numbers.now xs × (len xs ≤ 2 ^ 26)
+        × ((cutout : ℕ) × IsLineWithin (len xs) cutout line.now) }
     requires room { at + unsigned_abs bitpix / 8 * line.now.count ≤ len code.old }
     ensures bytes { (xs : List ℤ) → HoldPixels (unsigned_abs bitpix) numbers.now xs
-        → code.new ≡ take at code.old ++ (plain_bytes (unsigned_abs bitpix) (numbers_at xs (line_in_tile line.now)) ++ drop (at + unsigned_abs bitpix / 8 * line.now.count) code.old) }
+        → code.new ≡ take at code.old ++ (plain_bytes (unsigned_abs bitpix) (numbers_at xs (line_in_tile line.now)) ++ drop
+        (at + unsigned_abs bitpix / 8 * line.now.count) code.old) }
     ensures len { len code.new ≡ len code.old }
 {
     if line.step == 1 {
@@ -132,10 +138,12 @@ fn put_line(bitpix: i32, numbers: &[i32], line: &Line, code: &mut [u8], at: u64)
 // The same where the picks do not stand together in the tile, and a pixel has two places: one at a time.
 fn put_apart(bitpix: i32, numbers: &[i32], line: &Line, code: &mut [u8], at: u64)
     requires size { IsBitpix bitpix }
-    requires pixels { (xs : List ℤ) × HoldPixels (unsigned_abs bitpix) numbers.now xs × (len xs ≤ 2 ^ 26) × ((cutout : ℕ) × IsLineWithin (len xs) cutout line.now) }
+    requires pixels { (xs : List ℤ) × HoldPixels (unsigned_abs bitpix) numbers.now xs × (len xs ≤ 2 ^ 26)
+        × ((cutout : ℕ) × IsLineWithin (len xs) cutout line.now) }
     requires room { at + unsigned_abs bitpix / 8 * line.now.count ≤ len code.old }
     ensures bytes { (xs : List ℤ) → HoldPixels (unsigned_abs bitpix) numbers.now xs
-        → code.new ≡ take at code.old ++ (plain_bytes (unsigned_abs bitpix) (numbers_at xs (line_in_tile line.now)) ++ drop (at + unsigned_abs bitpix / 8 * line.now.count) code.old) }
+        → code.new ≡ take at code.old ++ (plain_bytes (unsigned_abs bitpix) (numbers_at xs (line_in_tile line.now)) ++ drop
+        (at + unsigned_abs bitpix / 8 * line.now.count) code.old) }
     ensures len { len code.new ≡ len code.old }
 {
     plain_law();

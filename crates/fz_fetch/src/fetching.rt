@@ -7,6 +7,7 @@ ghost use Rattle.fz_base.specs.Told.{StaysTold};
 ghost use Rattle.fz_base.specs.declared.failure.Stop.TheVariants.{Refused};
 ghost use Rattle.fz_base.specs.declared.fault.Place.TheVariants.{Row as AtRow};
 ghost use Rattle.fz_head.specs.TileKinds.{kind_of_tile};
+ghost use Rattle.fz_pool.specs.Calls.{AreSameFrom};
 ghost use Rattle.fz_pool.specs.Window.{slot_sizes};
 ghost use Rattle.fz_fetch.specs.Fetched.{AreFetched, IsOfRowAmong, TellsRowFault, fetched_ranges};
 ghost use Rattle.fz_fetch.specs.Images.{AreTilesOf, HaveRoom, IsReadable, IsSaid};
@@ -23,7 +24,8 @@ use std::thread::Threads;
 
 /// Reads these tiles of the packed image in the HDU with this header into the first slots of the window, and decodes
 /// them by its workers. `rows` has room for the rows of a round; the slots of the window are those of a tile of the
-/// image or of a larger one. Its buffers stay the window's, and keep their lengths.
+/// image or of a larger one. Its buffers stay the window's, and keep their lengths;
+/// the slots after those of these tiles are as before.
 ///
 /// Refused: the lowest of these rows that is faulty, in the order in which they are given: its record is not found
 /// (GzipTile, TileMissing, DescriptorRange, TileSize), or stands for no pixels (CodeShort, CodeValue, LineList,
@@ -52,6 +54,7 @@ pub fn fetch_tiles<R: Threads + Sync, S: Source, G: Gate>(
     ensures read { IfSome (S.held source.old) (λ g. LogsIn (fetched_ranges g header.now tiles.now) (S.ranges source.old) (S.ranges source.new)) }
     ensures told_ranges { StaysTold (S.ranges source.old) (S.ranges source.new) }
     ensures rows { len rows.new ≡ len rows.old }
+    ensures others { AreSameFrom (len tiles.now) window.old.slots window.new.slots }
     ensures sizes { slot_sizes window.new.slots ≡ slot_sizes window.old.slots }
     ensures workers { window.new.workers ≡ window.old.workers }
     ensures held { S.held source.new ≡ S.held source.old }
@@ -102,6 +105,7 @@ pub fn fetch_beside<R: Threads + Sync, S: Source, G: Gate, J: FnMut() -> B, B>(
     ensures read { IfSome (S.held source.old) (λ g. LogsIn (fetched_ranges g header.now tiles.now) (S.ranges source.old) (S.ranges source.new)) }
     ensures told_ranges { StaysTold (S.ranges source.old) (S.ranges source.new) }
     ensures rows { len rows.new ≡ len rows.old }
+    ensures others { AreSameFrom (len tiles.now) window.old.slots window.new.slots }
     ensures sizes { slot_sizes window.new.slots ≡ slot_sizes window.old.slots }
     ensures workers { window.new.workers ≡ window.old.workers }
     ensures held { S.held source.new ≡ S.held source.old }

@@ -12,7 +12,8 @@ use fz_parts::Line;
 pub(crate) fn gather(bitpix: i32, numbers: &[i32], line: &Line, out: &mut [u8])
     requires size { IsBitpix bitpix }
     requires one { bitpix ≢ pos 64 }
-    requires pixels { (xs : List ℤ) × HoldPixels (unsigned_abs bitpix) numbers.now xs × (len xs ≤ 2 ^ 26) × ((cutout : ℕ) × IsLineWithin (len xs) cutout line.now) }
+    requires pixels { (xs : List ℤ) × HoldPixels (unsigned_abs bitpix) numbers.now xs × (len xs ≤ 2 ^ 26)
+        × ((cutout : ℕ) × IsLineWithin (len xs) cutout line.now) }
     requires room { len out.old ≡ unsigned_abs bitpix / 8 * line.now.count }
     ensures { (xs : List ℤ) → HoldPixels (unsigned_abs bitpix) numbers.now xs
         → out.new ≡ plain_bytes (unsigned_abs bitpix) (numbers_at xs (line_in_tile line.now)) }

@@ -9,6 +9,7 @@ ghost use Rattle.fz_table.specs.Records.{IsOfRow, StandsInHeap, record_bytes};
 ghost use Rattle.fz_tile.specs.Codecs.{CanRead};
 ghost use Rattle.fz_files.specs.Packed.{tiles_in};
 ghost use Rattle.fz_files.specs.Restored.{pixels_of, tile_of};
+ghost use Rattle.fz_pool.specs.Calls.{AreSameFrom};
 ghost use Rattle.fz_pool.specs.Slots.{IsForDecoding, record_of as record_in_slot};
 ghost use Rattle.fz_pool.specs.Window.{IsPut, slot_size, slot_sizes};
 ghost use Rattle.fz_pool.specs.declared.slot.Slot.{Slot as SlotOf};
@@ -49,6 +50,7 @@ pub(crate) fn load_round<S: Source>(
     requires window { HaveRoom image.now window.old }
     requires near { len tiles.now ≤ 2 * window.old.workers }
     ensures loaded { IfOk result (LoadsTiles (S.held source.old) hdu image.now tiles.now window.new.slots) }
+    ensures others { AreSameFrom (len tiles.now) window.old.slots window.new.slots }
     ensures read { IfSome (S.held source.old) (λ g. LogsIn (tiles_ranges g hdu image.now tiles.now) (S.ranges source.old) (S.ranges source.new)) }
     ensures told_ranges { StaysTold (S.ranges source.old) (S.ranges source.new) }
     ensures rows { len rows.new ≡ len rows.old }
@@ -86,6 +88,7 @@ fn load_tiles<S: Source>(
     requires window { HaveRoom image.now window.old }
     requires near { len tiles.now ≤ 2 * window.old.workers }
     ensures loaded { IfOk result (LoadsTiles (S.held source.old) hdu image.now tiles.now window.new.slots) }
+    ensures others { AreSameFrom (len tiles.now) window.old.slots window.new.slots }
     ensures read { IfSome (S.held source.old) (λ g. LogsIn (tiles_ranges g hdu image.now tiles.now) (S.ranges source.old) (S.ranges source.new)) }
     ensures told_ranges { StaysTold (S.ranges source.old) (S.ranges source.new) }
     ensures sizes { slot_sizes window.new.slots ≡ slot_sizes window.old.slots }
@@ -143,10 +146,12 @@ fn load_next<S: Source>(
     requires window { HaveRoom image.now window.old }
     requires near { i < 2 * window.old.workers }
     ensures put { OnOk result ((x : SlotOf) × IsPut window.old i x window.new × IsLoaded (S.held source.old) hdu image.now tile x) }
+    ensures others { AreSameFrom (i + 1) window.old.slots window.new.slots }
     ensures place { IfRefused result (IsOfRow hdu tile) }
     ensures refused { IfRefused result (λ x. IfSome (S.held source.old) (λ g. IsRefusedIn g hdu image.now tile x)) }
     ensures same { IsRefused result → window.new ≡ window.old }
-    ensures read { IfSome (S.held source.old) (λ g. LogsIn (tile_ranges g hdu image.now.table tile (tile_of image.now.plan tile)) (S.ranges source.old) (S.ranges source.new)) }
+    ensures read { IfSome (S.held source.old) (λ g. LogsIn (tile_ranges g hdu image.now.table tile (tile_of image.now.plan tile))
+        (S.ranges source.old) (S.ranges source.new)) }
     ensures told_ranges { StaysTold (S.ranges source.old) (S.ranges source.new) }
     ensures sizes { slot_sizes window.new.slots ≡ slot_sizes window.old.slots }
     ensures workers { window.new.workers ≡ window.old.workers }

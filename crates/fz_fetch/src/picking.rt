@@ -11,6 +11,7 @@ ghost use Rattle.fz_parts.specs.Cutout.{part_lengths};
 ghost use Rattle.fz_tile.specs.Pixels.{IsBitpix};
 ghost use Rattle.fz_files.specs.Packed.{pixel_bits, tiles_in};
 ghost use Rattle.fz_files.specs.Restored.{pixels_of};
+ghost use Rattle.fz_pool.specs.Calls.{AreSameFrom};
 ghost use Rattle.fz_pool.specs.Window.{HasSlotsFor, slot_size, slot_sizes};
 ghost use Rattle.fz_pool.specs.declared.slot.Slot.{Slot as SlotOf};
 ghost use Rattle.fz_fetch.specs.Fetched.{HasTile, HaveTiles, HoldsPixels};
@@ -45,10 +46,12 @@ pub fn scatter_picks<K: Sink>(
     requires few { len tiles.now ≤ 2 * window.old.workers }
     requires window { HasSlotsFor (pixels_of plan.now 0) window.old }
     requires tiles { (i : ℕ) → i < len tiles.now → slice_index tiles.now i < tiles_in plan.now }
-    requires picked { (i : ℕ) → i < len tiles.now → IsTrue (has_pixel (part_lengths (lengths_of plan.now.shape) (lengths_of plan.now.tile) sieve.now (slice_index tiles.now i))) }
+    requires picked { (i : ℕ) → i < len tiles.now → IsTrue
+        (has_pixel (part_lengths (lengths_of plan.now.shape) (lengths_of plan.now.tile) sieve.now (slice_index tiles.now i))) }
     requires pixels { (pixels : List (List ℤ)) × HaveTiles plan.now tiles.now window.old.slots pixels }
     ensures written { OnOk result ((pixels : List (List ℤ)) → HaveTiles plan.now tiles.now window.old.slots pixels
         → K.contents sink.new ≡ parts_written plan.now sieve.now data_at tiles.now pixels (K.contents sink.old)) }
+    ensures others { AreSameFrom (len tiles.now) window.old.slots window.new.slots }
     ensures shut { StaysShut (K.contents sink.old) (K.contents sink.new) }
     ensures told { StaysTold (K.contents sink.old) (K.contents sink.new) }
     ensures sizes { slot_sizes window.new.slots ≡ slot_sizes window.old.slots }
@@ -120,7 +123,8 @@ fn scatter_part<K: Sink>(
     requires picked { IsTrue (has_pixel (part_lengths (lengths_of plan.now.shape) (lengths_of plan.now.tile) sieve.now tile)) }
     requires room { HasSlotFor (pixels_of plan.now 0) (slot_size slot.old) }
     requires pixels { (xs : List ℤ) × HasTile plan.now tile slot.old xs }
-    ensures written { OnOk result ((xs : List ℤ) → HasTile plan.now tile slot.old xs → K.contents sink.new ≡ part_written plan.now sieve.now data_at tile xs (K.contents sink.old)) }
+    ensures written { OnOk result ((xs : List ℤ) → HasTile plan.now tile slot.old xs
+        → K.contents sink.new ≡ part_written plan.now sieve.now data_at tile xs (K.contents sink.old)) }
     ensures shut { StaysShut (K.contents sink.old) (K.contents sink.new) }
     ensures told { StaysTold (K.contents sink.old) (K.contents sink.new) }
     ensures size { slot_size slot.new ≡ slot_size slot.old }
@@ -163,7 +167,8 @@ fn write_part<K: Sink>(
     requires numbers { 2 * pixels_of plan.now tile ≤ len numbers.now }
     requires code { 8 * pixels_of plan.now tile ≤ len code.old }
     requires pixels { (xs : List ℤ) × HoldsPixels plan.now tile numbers.now xs }
-    ensures written { OnOk result ((xs : List ℤ) → HoldsPixels plan.now tile numbers.now xs → K.contents sink.new ≡ part_written plan.now sieve.now data_at tile xs (K.contents sink.old)) }
+    ensures written { OnOk result ((xs : List ℤ) → HoldsPixels plan.now tile numbers.now xs
+        → K.contents sink.new ≡ part_written plan.now sieve.now data_at tile xs (K.contents sink.old)) }
     ensures shut { StaysShut (K.contents sink.old) (K.contents sink.new) }
     ensures told { StaysTold (K.contents sink.old) (K.contents sink.new) }
     ensures len { len code.new ≡ len code.old }

@@ -32,7 +32,8 @@ pub(crate) fn write_region<K: Sink>(
     requires region { IsWithin shape.now region.now }
     requires bytes { len bytes.now ≡ pixel_len * product (region_lengths region.now) }
     ensures written { OnOk result (K.contents sink.new
-        ≡ pieces_written pixel_len data_at (places_of (lengths_of shape.now) (region_corner region.now) (region_lengths region.now)) bytes.now (K.contents sink.old)) }
+        ≡ pieces_written pixel_len data_at (places_of (lengths_of shape.now) (region_corner region.now) (region_lengths region.now))
+        bytes.now (K.contents sink.old)) }
     ensures shut { StaysShut (K.contents sink.old) (K.contents sink.new) }
     ensures told { StaysTold (K.contents sink.old) (K.contents sink.new) }
     ensures created { K.created sink.new ≡ K.created sink.old }
@@ -61,9 +62,11 @@ pub(crate) fn write_lines<K: Sink>(
     requires created { IsTrue (K.created sink.old) }
     requires behind { 0 < data_at }
     requires some { 1 ≤ pixel_len }
-    requires within { (tile : ℕ) × ((cutout : ℕ) × AllByRecursion (IsLineWithin tile cutout) (lines_left lines) × (data_at + pixel_len * cutout < 2 ^ 64)) }
+    requires within { (tile : ℕ) × ((cutout : ℕ) × AllByRecursion (IsLineWithin tile cutout) (lines_left lines)
+        × (data_at + pixel_len * cutout < 2 ^ 64)) }
     requires bytes { len bytes.now ≡ pixel_len * len (lines_in_cutout (lines_left lines)) }
-    ensures written { OnOk result (K.contents sink.new ≡ pieces_written pixel_len data_at (lines_in_cutout (lines_left lines)) bytes.now (K.contents sink.old)) }
+    ensures written { OnOk result (K.contents sink.new ≡ pieces_written pixel_len data_at (lines_in_cutout (lines_left lines))
+        bytes.now (K.contents sink.old)) }
     ensures shut { StaysShut (K.contents sink.old) (K.contents sink.new) }
     ensures told { StaysTold (K.contents sink.old) (K.contents sink.new) }
     ensures created { K.created sink.new ≡ K.created sink.old }

@@ -8,6 +8,7 @@ ghost use Rattle.fz_grid.specs.Region.{IsDivided, lengths_of};
 ghost use Rattle.fz_tile.specs.Pixels.{IsBitpix};
 ghost use Rattle.fz_files.specs.Packed.{pixel_bits, tiles_in};
 ghost use Rattle.fz_files.specs.Restored.{pixels_of};
+ghost use Rattle.fz_pool.specs.Calls.{AreSameFrom};
 ghost use Rattle.fz_pool.specs.Window.{HasSlotsFor, slot_size, slot_sizes};
 ghost use Rattle.fz_pool.specs.declared.slot.Slot.{Slot as SlotOf};
 ghost use Rattle.fz_fetch.specs.Fetched.{HasTile, HaveTiles, HoldsPixels};
@@ -41,6 +42,7 @@ pub fn scatter_tiles<K: Sink>(
     requires pixels { (pixels : List (List ℤ)) × HaveTiles plan.now tiles.now window.old.slots pixels }
     ensures written { OnOk result ((pixels : List (List ℤ)) → HaveTiles plan.now tiles.now window.old.slots pixels
         → K.contents sink.new ≡ tiles_written plan.now data_at tiles.now pixels (K.contents sink.old)) }
+    ensures others { AreSameFrom (len tiles.now) window.old.slots window.new.slots }
     ensures shut { StaysShut (K.contents sink.old) (K.contents sink.new) }
     ensures told { StaysTold (K.contents sink.old) (K.contents sink.new) }
     ensures sizes { slot_sizes window.new.slots ≡ slot_sizes window.old.slots }
@@ -106,7 +108,8 @@ fn scatter_tile<K: Sink>(
     requires tile { tile < tiles_in plan.now }
     requires room { HasSlotFor (pixels_of plan.now 0) (slot_size slot.old) }
     requires pixels { (xs : List ℤ) × HasTile plan.now tile slot.old xs }
-    ensures written { OnOk result ((xs : List ℤ) → HasTile plan.now tile slot.old xs → K.contents sink.new ≡ tile_written plan.now data_at tile xs (K.contents sink.old)) }
+    ensures written { OnOk result ((xs : List ℤ) → HasTile plan.now tile slot.old xs
+        → K.contents sink.new ≡ tile_written plan.now data_at tile xs (K.contents sink.old)) }
     ensures shut { StaysShut (K.contents sink.old) (K.contents sink.new) }
     ensures told { StaysTold (K.contents sink.old) (K.contents sink.new) }
     ensures size { slot_size slot.new ≡ slot_size slot.old }
@@ -138,7 +141,8 @@ fn write_tile<K: Sink>(
     requires numbers { 2 * pixels_of plan.now tile ≤ len numbers.now }
     requires code { 8 * pixels_of plan.now tile ≤ len code.old }
     requires pixels { (xs : List ℤ) × HoldsPixels plan.now tile numbers.now xs }
-    ensures written { OnOk result ((xs : List ℤ) → HoldsPixels plan.now tile numbers.now xs → K.contents sink.new ≡ tile_written plan.now data_at tile xs (K.contents sink.old)) }
+    ensures written { OnOk result ((xs : List ℤ) → HoldsPixels plan.now tile numbers.now xs
+        → K.contents sink.new ≡ tile_written plan.now data_at tile xs (K.contents sink.old)) }
     ensures len { len code.new ≡ len code.old }
     ensures shut { StaysShut (K.contents sink.old) (K.contents sink.new) }
     ensures told { StaysTold (K.contents sink.old) (K.contents sink.new) }

@@ -12,3 +12,4 @@ pub mod TableSums
 pub mod WholeTables
 pub mod ImageData
 pub mod WholeImages
+pub mod TableLaws

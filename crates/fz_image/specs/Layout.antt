@@ -1,5 +1,6 @@
 -- Where the parts of an image and of its table stand (FITS 4.0, sections 3.3.2, 7.3 and 10.1).
-use Rattle.std.specs.Prelude.{ℕ, ◌≡◌, ◌+◌, ◌*◌, ◌^◌, ◌<◌, ◌≤◌, Option, Some}
+use Rattle.std.specs.Prelude.{ℕ, ◌≡◌, ◌+◌, ◌*◌, ◌^◌, ◌<◌, ◌≤◌, List, Option, Some}
+use Rattle.fz_base.specs.Source.{LogsWithin}
 use Rattle.fz_block.specs.Header.{data_start_of}
 use Rattle.fz_block.specs.declared.header.Header.{Header}
 use Rattle.fz_grid.specs.Arrays.{product}
@@ -53,3 +54,7 @@ pub record IsLayout (l : Layout) : Type 0 where
 -- the pixels stand within what is attached
 abbrev pub HasPixels : Option ℕ → Layout → Type 0
 HasPixels attached l = (n : ℕ) × (attached ≡ Some n) × (l.pixels_at + pixel_bytes_of l ≤ n)
+
+-- bytes of the pixels were read, and no others
+abbrev pub ReadsPixels : Layout → Option (List (ℕ × ℕ)) → Option (List (ℕ × ℕ)) → Type 0
+ReadsPixels l old new = LogsWithin l.pixels_at (l.pixels_at + pixel_bytes_of l) old new

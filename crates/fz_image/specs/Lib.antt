@@ -1,5 +1,6 @@
 pub mod Held
 pub mod Image
+pub mod Laws
 pub mod Layout
 pub mod Progress
 pub mod Tiles

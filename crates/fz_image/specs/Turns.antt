@@ -8,7 +8,7 @@ use Rattle.fz_base.specs.Stop.{ReadsAndWrites}
 use Rattle.fz_pool.specs.Round.{coded_tiles}
 use Rattle.fz_pool.specs.Window.{Pool, slot_sizes}
 use Rattle.fz_image.specs.Held.{AreLast, heap_caught_up}
-use Rattle.fz_image.specs.Layout.{HasPixels, IsLayout}
+use Rattle.fz_image.specs.Layout.{HasPixels, IsLayout, ReadsPixels}
 use Rattle.fz_image.specs.Progress.{AreNext, tiles_written, with_tiles}
 use Rattle.fz_image.specs.Tiles.{AreEncodedTiles, AreLoaded, HaveRoom, pixels_of}
 use Rattle.fz_image.specs.declared.layout.Layout.{Layout}
@@ -71,6 +71,7 @@ pub record HasMoved {X : Type 0} (l : Layout) (e e' : Ends) (w w' : Progress) (p
   pub last : OnOk result (AreLast n' bytes' w')
   pub loaded : OnOk result (AreLoaded l e.held next more pool')
   pub ends : EndsStay e e'
+  pub log : ReadsPixels l e.ranges e'.ranges
   pub rows_len : length rows' ≡ length rows
   pub room : length bytes' ≡ length bytes
   pub sizes : slot_sizes pool'.slots ≡ slot_sizes pool.slots

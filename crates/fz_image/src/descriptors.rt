@@ -76,7 +76,7 @@ fn put_row(layout: &Layout, slot: &Slot, offset: u64, into: &mut [u8])
 
 /// Writes the rows of the tiles in the first slots, whose bytes stand one after another from this byte of the
 /// heap on.
-pub(crate) fn put_rows(layout: &Layout, window: &Window, count: u32, offset: u64, into: &mut [u8])
+pub fn put_rows(layout: &Layout, window: &Window, count: u32, offset: u64, into: &mut [u8])
     requires layout { IsLayout layout.now }
     requires next { AreNext layout.now offset count window.now }
     requires room { len into.old ≡ layout.now.row_len * count }

@@ -1,5 +1,6 @@
 //! The pixels of a tile, read from the image.
 ghost use Rattle.std.specs.Prelude.{ℕ, ◌≡◌, ◌+◌, ◌*◌, ◌<◌, ◌≤◌, ◌^◌, ◌++◌, Some, take, drop, length as len, OnOk, IfSome};
+ghost use Rattle.fz_base.specs.Source.{LogsWithin};
 ghost use Rattle.fz_base.specs.Stop.{OnlyReads};
 ghost use Rattle.fz_base.specs.Told.{StaysTold};
 ghost use Rattle.fz_grid.specs.Arrays.{product};
@@ -26,14 +27,19 @@ pub(crate) fn read_region<S: Source>(
     requires shape { IsShape shape.now }
     requires region { IsWithin shape.now region.now }
     requires room { len into.old ≡ pixel_len * product (region_lengths region.now) }
-    ensures pixels { OnOk result (IfSome (S.held source.old) (λ g. into.new ≡ pixels_at_places pixel_len (drop pixels_at g) (places_of (lengths_of shape.now) (region_corner region.now) (region_lengths region.now)))) }
-    ensures below { AreBelow (product (lengths_of shape.now)) (places_of (lengths_of shape.now) (region_corner region.now) (region_lengths region.now)) }
+    ensures pixels { OnOk result (IfSome (S.held source.old)
+        (λ g. into.new ≡ pixels_at_places pixel_len (drop pixels_at g)
+        (places_of (lengths_of shape.now) (region_corner region.now) (region_lengths region.now)))) }
+    ensures below { AreBelow (product (lengths_of shape.now))
+        (places_of (lengths_of shape.now) (region_corner region.now) (region_lengths region.now)) }
     ensures len { len into.new ≡ len into.old }
     ensures held { S.held source.new ≡ S.held source.old }
+    ensures log { LogsWithin pixels_at (pixels_at + pixel_len * product (lengths_of shape.now)) (S.ranges source.old) (S.ranges source.new) }
     ensures told_ranges { StaysTold (S.ranges source.old) (S.ranges source.new) }
     ensures attached { S.attached source.new ≡ S.attached source.old }
     ensures cause { OnlyReads (S.tally source.old) (S.tally source.new) result }
 {
+    log_law();
     let mut done = 0u64;
     for (first, count) in runs(shape, region) {
         let len = u64::from(pixel_len) * count;
@@ -58,6 +64,7 @@ fn read_part<S: Source>(
     ensures part { OnOk result (IfSome (S.held source.old) (λ g. take (at + count) into.new ≡ take at into.old ++ take count (drop from g))) }
     ensures len { len into.new ≡ len into.old }
     ensures held { S.held source.new ≡ S.held source.old }
+    ensures log { LogsWithin from (from + count) (S.ranges source.old) (S.ranges source.new) }
     ensures told_ranges { StaysTold (S.ranges source.old) (S.ranges source.new) }
     ensures attached { S.attached source.new ≡ S.attached source.old }
     ensures cause { OnlyReads (S.tally source.old) (S.tally source.new) result }

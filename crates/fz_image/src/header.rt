@@ -24,7 +24,7 @@ use fz_sum::{Sum, checksum_card, datasum_card, sum_law};
 use fz_tile::Codec;
 
 /// Makes the header of a table that was written, and answers its length in bytes.
-pub(crate) fn make_header(
+pub fn make_header(
     buf: &[u8],
     header: &Header,
     plan: &Plan,
@@ -35,11 +35,14 @@ pub(crate) fn make_header(
     requires header { IsHeaderOf buf.now header.now }
     requires simple { header.now.hdu ≡ 0 → is_set (codes "SIMPLE") (card_at buf.now 0) ≡ true }
     requires plan { IsPackPlan buf.now header.now sums plan.now }
-    requires codes { (l : LayoutOf) × (codes : List TileCode) × IsLayout l × (l.plan ≡ plan.now) × AreCodesFrom l 0 codes × (len codes ≡ l.tiles) × (progress ≡ with_tiles l no_progress codes) }
+    requires codes { (l : LayoutOf) × (codes : List TileCode) × IsLayout l × (l.plan ≡ plan.now) × AreCodesFrom l 0 codes
+        × (len codes ≡ l.tiles) × (progress ≡ with_tiles l no_progress codes) }
     requires room { len buf.now + 2880 ≤ len made.old }
-    ensures header { (l : LayoutOf) (codes : List TileCode) → IsLayout l → l.plan ≡ plan.now → AreCodesFrom l 0 codes → len codes ≡ l.tiles → progress ≡ with_tiles l no_progress codes
+    ensures header { (l : LayoutOf) (codes : List TileCode) → IsLayout l → l.plan ≡ plan.now → AreCodesFrom l 0 codes
+        → len codes ≡ l.tiles → progress ≡ with_tiles l no_progress codes
         → take result made.new ≡ header_bytes (with_sums sums (table_header plan.now (cards_of buf.now) codes) (packed_data plan.now codes)) }
-    ensures long { (n : ℕ) → ((s : Totals) → s.sums ≡ sums → AreShort s → n ≡ len (header_bytes (packed_header (cards_of buf.now) plan.now s))) → result ≡ n }
+    ensures long { (n : ℕ) → ((s : Totals) → s.sums ≡ sums → AreShort s
+        → n ≡ len (header_bytes (packed_header (cards_of buf.now) plan.now s))) → result ≡ n }
     ensures within { result ≤ len made.new }
     ensures len { len made.new ≡ len made.old }
 {

@@ -20,7 +20,8 @@ pub(crate) fn hold_back<K: Sink>(
     requires created { IsTrue (K.created sink.old) }
     requires within { count.old ≤ len held.old }
     requires behind { count.old < at }
-    ensures written { OnOk result (caught_up (at + len bytes.now) count.new held.new (K.contents sink.new) ≡ written at bytes.now (caught_up at count.old held.old (K.contents sink.old))) }
+    ensures written { OnOk result (caught_up (at + len bytes.now) count.new held.new (K.contents sink.new) ≡ written at bytes.now
+        (caught_up at count.old held.old (K.contents sink.old))) }
     ensures within { OnOk result (count.new ≤ len held.new) }
     ensures few { OnOk result (count.new ≤ count.old + len bytes.now) }
     ensures len { len held.new ≡ len held.old }
@@ -47,7 +48,8 @@ fn write_first<K: Sink>(
     requires created { IsTrue (K.created sink.old) }
     requires within { count.old ≤ len held.old }
     requires behind { count.old < at }
-    ensures written { OnOk result (caught_up (at + len bytes.now) count.new held.new (K.contents sink.new) ≡ written at bytes.now (caught_up at count.old held.old (K.contents sink.old))) }
+    ensures written { OnOk result (caught_up (at + len bytes.now) count.new held.new (K.contents sink.new) ≡ written at bytes.now
+        (caught_up at count.old held.old (K.contents sink.old))) }
     ensures within { OnOk result (count.new ≤ len held.new) }
     ensures few { OnOk result (count.new ≤ len bytes.now) }
     ensures len { len held.new ≡ len held.old }
@@ -72,7 +74,8 @@ fn begin<K: Sink>(
     requires created { IsTrue (K.created sink.old) }
     requires none { count.old ≡ 0 }
     requires behind { 0 < at }
-    ensures written { OnOk result (caught_up (at + len bytes.now) count.new held.new (K.contents sink.new) ≡ written at bytes.now (K.contents sink.old)) }
+    ensures written { OnOk result (caught_up (at + len bytes.now) count.new held.new (K.contents sink.new) ≡ written at bytes.now
+        (K.contents sink.old)) }
     ensures within { OnOk result (count.new ≤ len held.new) }
     ensures few { OnOk result (count.new ≤ len bytes.now) }
     ensures len { len held.new ≡ len held.old }
@@ -91,7 +94,9 @@ fn begin<K: Sink>(
 // Holds back more bytes, behind those that are held back.
 fn keep(bytes: &[u8], held: &mut [u8], count: &mut usize)
     requires room { count.old + len bytes.now ≤ len held.old }
-    ensures later { (at : ℕ) (contents : Option (List ℕ)) → count.old ≤ at → caught_up (at + len bytes.now) count.new held.new contents ≡ written at bytes.now (caught_up at count.old held.old contents) }
+    ensures later { (at : ℕ) (contents : Option (List ℕ)) → count.old ≤ at
+        → caught_up (at + len bytes.now) count.new held.new contents ≡ written at bytes.now
+        (caught_up at count.old held.old contents) }
     ensures count { count.new ≡ count.old + len bytes.now }
     ensures len { len held.new ≡ len held.old }
 {

@@ -2,14 +2,14 @@
 ghost use Rattle.std.specs.Prelude.{ℕ, ◌≡◌, ◌+◌, ◌-◌, ◌*◌, ◌<◌, ◌≤◌, ◌^◌, IsTrue, true, codes, Some, IfOk, IfSome, OnOk, replicate, length as len};
 ghost use Rattle.fz_base.specs.FirstByte.{StaysShut};
 ghost use Rattle.fz_base.specs.Sink.{written};
-ghost use Rattle.fz_base.specs.Source.{Reads};
+ghost use Rattle.fz_base.specs.Source.{LogsWithin, Reads};
 ghost use Rattle.fz_base.specs.Stop.{CodesAndWrites, Writes};
 ghost use Rattle.fz_base.specs.Told.{StaysTold};
 ghost use Rattle.fz_block.specs.Cards.{card_at};
 ghost use Rattle.fz_block.specs.Checks.{is_set};
 ghost use Rattle.fz_block.specs.Facts.{IsHeaderOf};
 ghost use Rattle.fz_block.specs.Hdus.{cards_of, header_bytes};
-ghost use Rattle.fz_block.specs.Header.{next_start_of, whole_blocks_of};
+ghost use Rattle.fz_block.specs.Header.{data_start_of, next_start_of, whole_blocks_of};
 ghost use Rattle.fz_grid.specs.Arrays.{product};
 ghost use Rattle.fz_grid.specs.Grid.{tile_lengths};
 ghost use Rattle.fz_grid.specs.Region.{lengths_of};
@@ -19,7 +19,7 @@ ghost use Rattle.fz_head.specs.declared.totals.Totals.{Totals as TotalsOf};
 ghost use Rattle.fz_pool.specs.Window.{HasSlotsFor, slot_sizes};
 ghost use Rattle.fz_image.specs.Held.{AreLast, heap_caught_up};
 ghost use Rattle.fz_image.specs.Image.{HoldsCodes, HoldsTable};
-ghost use Rattle.fz_image.specs.Layout.{HasPixels, IsLayout};
+ghost use Rattle.fz_image.specs.Layout.{HasPixels, IsLayout, ReadsPixels};
 ghost use Rattle.fz_image.specs.Progress.{IsWritten};
 ghost use Rattle.fz_image.specs.Tiles.{HaveRoom, codes_from};
 
@@ -29,7 +29,7 @@ use crate::layout::Layout;
 use crate::progress::Progress;
 use crate::round::write_round;
 use crate::turns::write_by_turns;
-use fz_base::{Gate, Sink, Source, Stop, output_law, write_behind};
+use fz_base::{Gate, Sink, Source, Stop, log_law, output_law, write_behind};
 use fz_block::{Header, cards_law};
 use fz_head::{Plan, Totals, pack_plan_law, sizes_law, sum_cards_law, to_packed, whole_cards_law};
 use fz_job::write_fill;
@@ -71,7 +71,8 @@ pub fn write_image<R: Threads + Sync, S: Source, K: Sink, G: Gate>(
     requires made { len buf.now + 2880 ≤ len made.old }
     requires copy { 4096 ≤ len copy.old }
     requires window { HasSlotsFor (product (tile_lengths (lengths_of plan.now.shape) (lengths_of plan.now.tile) 0)) window.old }
-    ensures table { IfOk result (λ end. IfSome (S.held source.old) (λ g. HoldsTable sums plan.now header.now g at end (K.contents sink.old) (K.contents sink.new))) }
+    ensures table { IfOk result (λ end. IfSome (S.held source.old)
+        (λ g. HoldsTable sums plan.now header.now g at end (K.contents sink.old) (K.contents sink.new))) }
     ensures end { IfOk result (λ end. (at ≤ end) × (end ≤ at + 2 ^ 45)) }
     ensures shut { StaysShut (K.contents sink.old) (K.contents sink.new) }
     ensures told_contents { StaysTold (K.contents sink.old) (K.contents sink.new) }
@@ -80,11 +81,13 @@ pub fn write_image<R: Threads + Sync, S: Source, K: Sink, G: Gate>(
     ensures sizes { slot_sizes window.new.slots ≡ slot_sizes window.old.slots }
     ensures workers { window.new.workers ≡ window.old.workers }
     ensures held { S.held source.new ≡ S.held source.old }
+    ensures log { LogsWithin (data_start_of header.now) (next_start_of header.now) (S.ranges source.old) (S.ranges source.new) }
     ensures told_ranges { StaysTold (S.ranges source.old) (S.ranges source.new) }
     ensures attached { S.attached source.new ≡ S.attached source.old }
     ensures created { K.created sink.new ≡ K.created sink.old }
     ensures cause { CodesAndWrites (S.tally source.old) (S.tally source.new) (K.tally sink.old) (K.tally sink.new) result }
 {
+    log_law();
     pack_plan_law();
     slice_law();
     let rows_at = at + header_len(buf, header, plan, sums, made);
@@ -119,11 +122,14 @@ fn write_table<R: Threads + Sync, S: Source, K: Sink, G: Gate>(
     requires created { IsTrue (K.created sink.old) }
     requires at { 0 < at }
     requires near { layout.now.rows_at + 2 ^ 44 ≤ 2 ^ 63 }
-    requires place { (s : TotalsOf) → s.sums ≡ sums → AreShort s → layout.now.rows_at ≡ at + len (header_bytes (packed_header (cards_of buf.now) plan.now s)) }
+    requires place { (s : TotalsOf) → s.sums ≡ sums → AreShort s
+        → layout.now.rows_at ≡ at + len (header_bytes (packed_header (cards_of buf.now) plan.now s)) }
     requires made { len buf.now + 2880 ≤ len made.old }
     requires copy { 4096 ≤ len copy.old }
     requires window { HaveRoom layout.now window.old }
-    ensures table { IfOk result (λ end. IfSome (S.held source.old) (λ g. HoldsCodes sums layout.now (cards_of buf.now) (codes_from layout.now g 0 layout.now.tiles) at end (K.contents sink.old) (K.contents sink.new))) }
+    ensures table { IfOk result (λ end. IfSome (S.held source.old)
+        (λ g. HoldsCodes sums layout.now (cards_of buf.now) (codes_from layout.now g 0 layout.now.tiles) at end
+        (K.contents sink.old) (K.contents sink.new))) }
     ensures end { IfOk result (λ end. (layout.now.rows_at ≤ end) × (end ≤ layout.now.rows_at + 2 ^ 44)) }
     ensures shut { StaysShut (K.contents sink.old) (K.contents sink.new) }
     ensures told_contents { StaysTold (K.contents sink.old) (K.contents sink.new) }
@@ -132,6 +138,7 @@ fn write_table<R: Threads + Sync, S: Source, K: Sink, G: Gate>(
     ensures sizes { slot_sizes window.new.slots ≡ slot_sizes window.old.slots }
     ensures workers { window.new.workers ≡ window.old.workers }
     ensures held { S.held source.new ≡ S.held source.old }
+    ensures log { ReadsPixels layout.now (S.ranges source.old) (S.ranges source.new) }
     ensures told_ranges { StaysTold (S.ranges source.old) (S.ranges source.new) }
     ensures attached { S.attached source.new ≡ S.attached source.old }
     ensures created { K.created sink.new ≡ K.created sink.old }
@@ -161,13 +168,15 @@ fn write_tiles<R: Threads + Sync, S: Source, K: Sink, G: Gate>(
     requires created { IsTrue (K.created sink.old) }
     requires window { HaveRoom layout.now window.old }
     requires copy { 4096 ≤ len copy.old }
-    ensures written { IfOk result (λ w. IsWritten layout.now (S.held source.old) (K.contents sink.old) (K.contents sink.new) w × (w.tiles ≡ layout.now.tiles)) }
+    ensures written { IfOk result (λ w. IsWritten layout.now (S.held source.old) (K.contents sink.old) (K.contents sink.new) w
+        × (w.tiles ≡ layout.now.tiles)) }
     ensures shut { StaysShut (K.contents sink.old) (K.contents sink.new) }
     ensures told_contents { StaysTold (K.contents sink.old) (K.contents sink.new) }
     ensures copy { len copy.new ≡ len copy.old }
     ensures sizes { slot_sizes window.new.slots ≡ slot_sizes window.old.slots }
     ensures workers { window.new.workers ≡ window.old.workers }
     ensures held { S.held source.new ≡ S.held source.old }
+    ensures log { ReadsPixels layout.now (S.ranges source.old) (S.ranges source.new) }
     ensures told_ranges { StaysTold (S.ranges source.old) (S.ranges source.new) }
     ensures attached { S.attached source.new ≡ S.attached source.old }
     ensures created { K.created sink.new ≡ K.created sink.old }
@@ -200,7 +209,8 @@ fn write_rounds<R: Threads + Sync, S: Source, K: Sink, G: Gate>(
     requires window { HaveRoom layout.now window.old }
     requires rows { 4096 ≤ len rows.old }
     requires none { count.old ≡ 0 }
-    ensures written { IfOk result (λ w. IsWritten layout.now (S.held source.old) (K.contents sink.old) (heap_caught_up layout.now w count.new held.new (K.contents sink.new)) w × (w.tiles ≡ layout.now.tiles)) }
+    ensures written { IfOk result (λ w. IsWritten layout.now (S.held source.old) (K.contents sink.old)
+        (heap_caught_up layout.now w count.new held.new (K.contents sink.new)) w × (w.tiles ≡ layout.now.tiles)) }
     ensures last { IfOk result (λ w. AreLast count.new held.new w) }
     ensures shut { StaysShut (K.contents sink.old) (K.contents sink.new) }
     ensures told_contents { StaysTold (K.contents sink.old) (K.contents sink.new) }
@@ -209,6 +219,7 @@ fn write_rounds<R: Threads + Sync, S: Source, K: Sink, G: Gate>(
     ensures sizes { slot_sizes window.new.slots ≡ slot_sizes window.old.slots }
     ensures workers { window.new.workers ≡ window.old.workers }
     ensures source { S.held source.new ≡ S.held source.old }
+    ensures log { ReadsPixels layout.now (S.ranges source.old) (S.ranges source.new) }
     ensures told_ranges { StaysTold (S.ranges source.old) (S.ranges source.new) }
     ensures attached { S.attached source.new ≡ S.attached source.old }
     ensures created { K.created sink.new ≡ K.created sink.old }
@@ -238,7 +249,8 @@ fn write_whole_rounds<R: Threads + Sync, S: Source, K: Sink, G: Gate>(
     requires window { HaveRoom layout.now window.old }
     requires rows { 4096 ≤ len rows.old }
     requires none { count.old ≡ 0 }
-    ensures written { IfOk result (λ w. IsWritten layout.now (S.held source.old) (K.contents sink.old) (heap_caught_up layout.now w count.new held.new (K.contents sink.new)) w × (w.tiles ≡ layout.now.tiles)) }
+    ensures written { IfOk result (λ w. IsWritten layout.now (S.held source.old) (K.contents sink.old)
+        (heap_caught_up layout.now w count.new held.new (K.contents sink.new)) w × (w.tiles ≡ layout.now.tiles)) }
     ensures last { IfOk result (λ w. AreLast count.new held.new w) }
     ensures shut { StaysShut (K.contents sink.old) (K.contents sink.new) }
     ensures told_contents { StaysTold (K.contents sink.old) (K.contents sink.new) }
@@ -247,11 +259,13 @@ fn write_whole_rounds<R: Threads + Sync, S: Source, K: Sink, G: Gate>(
     ensures sizes { slot_sizes window.new.slots ≡ slot_sizes window.old.slots }
     ensures workers { window.new.workers ≡ window.old.workers }
     ensures source { S.held source.new ≡ S.held source.old }
+    ensures log { ReadsPixels layout.now (S.ranges source.old) (S.ranges source.new) }
     ensures told_ranges { StaysTold (S.ranges source.old) (S.ranges source.new) }
     ensures attached { S.attached source.new ≡ S.attached source.old }
     ensures created { K.created sink.new ≡ K.created sink.old }
     ensures cause { CodesAndWrites (S.tally source.old) (S.tally source.new) (K.tally sink.old) (K.tally sink.new) result }
 {
+    log_law();
     let mut progress = Progress::new();
     while progress.tiles < layout.tiles {
         write_round(

@@ -10,24 +10,24 @@ use fz_tile::plain_len;
 
 /// An image, and the table that it becomes, by their places in the file that is read and in that which is written.
 #[derive(Clone, Copy, Debug)]
-pub(crate) struct Layout {
+pub struct Layout {
     /// How the image is packed.
-    pub(crate) plan: Plan,
+    pub plan: Plan,
     /// The tiles of the image, of which each has a row.
-    pub(crate) tiles: u32,
+    pub tiles: u32,
     /// The bytes of a pixel.
-    pub(crate) pixel_len: u32,
+    pub pixel_len: u32,
     /// The byte of the file at which the pixels begin.
-    pub(crate) pixels_at: u64,
+    pub pixels_at: u64,
     /// The bytes of a row.
-    pub(crate) row_len: u32,
+    pub row_len: u32,
     /// The byte of the packed file at which the rows begin.
-    pub(crate) rows_at: u64,
+    pub rows_at: u64,
 }
 
 impl Layout {
     /// The layout of an image whose table has its rows from this byte on.
-    pub(crate) fn of(header: &Header, plan: &Plan, rows_at: u64) -> Layout
+    pub fn of(header: &Header, plan: &Plan, rows_at: u64) -> Layout
         requires plan { IsPlan plan.now }
         requires end { next_start_of header.now ≤ 2 ^ 62 }
         ensures { result ≡ layout_of header.now plan.now rows_at }
@@ -43,7 +43,7 @@ impl Layout {
     }
 
     /// The tiles of the image.
-    pub(crate) fn grid(&self) -> Grid
+    pub fn grid(&self) -> Grid
         requires { IsPlan self.now.plan }
         ensures shape { result.shape ≡ self.now.plan.shape }
         ensures tile { result.tile ≡ self.now.plan.tile }
@@ -52,14 +52,14 @@ impl Layout {
     }
 
     /// The bytes of all rows.
-    pub(crate) fn rows_len(&self) -> u64
+    pub fn rows_len(&self) -> u64
         ensures { result ≡ rows_len_of self.now }
     {
         u64::from(self.row_len) * u64::from(self.tiles)
     }
 
     /// The byte of the packed file at which the heap begins.
-    pub(crate) fn heap_at(&self) -> u64
+    pub fn heap_at(&self) -> u64
         requires { IsLayout self.now }
         ensures { result ≡ heap_at_of self.now }
     {

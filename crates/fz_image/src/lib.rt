@@ -10,10 +10,18 @@ mod gather;
 mod header;
 mod held;
 mod image;
+mod law;
 mod layout;
 mod loading;
 mod progress;
 mod round;
 mod turns;
 
+pub use descriptors::put_rows;
+pub use header::make_header;
 pub use image::write_image;
+pub use law::table_law;
+pub use layout::Layout;
+pub use loading::{job_of, tile_pixels};
+pub use progress::{Progress, code_of};
+pub use round::encode_loaded;

@@ -7,12 +7,12 @@ ghost use Rattle.fz_pool.specs.declared.slot.Slot.{Slot as SlotOf};
 ghost use Rattle.fz_tile.specs.Pixels.{HoldPixels, IsBitpix, place_count as place_count_of};
 ghost use Rattle.fz_tile.specs.Plain.{stored_pixels};
 ghost use Rattle.fz_tile.specs.declared.coded.Place2.TheVariants.{Stored};
-ghost use Rattle.fz_image.specs.Layout.{HasPixels, IsLayout};
+ghost use Rattle.fz_image.specs.Layout.{HasPixels, IsLayout, ReadsPixels};
 ghost use Rattle.fz_image.specs.Tiles.{AreLoaded, HasRoom, HaveRoom, HoldTile, IsLoaded, pixels_of};
 
 use crate::gather::read_region;
 use crate::layout::Layout;
-use fz_base::{Source, Stop};
+use fz_base::{Source, Stop, log_law};
 use fz_grid::{place_law, tiles_law};
 use fz_pool::{Job, Slot, Window, put_law, sizes_law};
 use fz_tile::{Place2, read_plain};
@@ -34,10 +34,12 @@ pub(crate) fn load_round<S: Source>(
     ensures sizes { slot_sizes window.new.slots ≡ slot_sizes window.old.slots }
     ensures workers { window.new.workers ≡ window.old.workers }
     ensures held { S.held source.new ≡ S.held source.old }
+    ensures log { ReadsPixels layout.now (S.ranges source.old) (S.ranges source.new) }
     ensures told_ranges { StaysTold (S.ranges source.old) (S.ranges source.new) }
     ensures attached { S.attached source.new ≡ S.attached source.old }
     ensures cause { OnlyReads (S.tally source.old) (S.tally source.new) result }
 {
+    log_law();
     put_law();
     for i in 0..count {
         load_next(source, layout, first + i, window, i)?;
@@ -62,6 +64,7 @@ fn load_next<S: Source>(
     ensures sizes { slot_sizes window.new.slots ≡ slot_sizes window.old.slots }
     ensures workers { window.new.workers ≡ window.old.workers }
     ensures held { S.held source.new ≡ S.held source.old }
+    ensures log { ReadsPixels layout.now (S.ranges source.old) (S.ranges source.new) }
     ensures told_ranges { StaysTold (S.ranges source.old) (S.ranges source.new) }
     ensures attached { S.attached source.new ≡ S.attached source.old }
     ensures cause { OnlyReads (S.tally source.old) (S.tally source.new) result }
@@ -85,6 +88,7 @@ fn load_slot<S: Source>(
     ensures loaded { OnOk result (IsLoaded layout.now (S.held source.old) tile slot.new) }
     ensures size { slot_size slot.new ≡ slot_size slot.old }
     ensures held { S.held source.new ≡ S.held source.old }
+    ensures log { ReadsPixels layout.now (S.ranges source.old) (S.ranges source.new) }
     ensures told_ranges { StaysTold (S.ranges source.old) (S.ranges source.new) }
     ensures attached { S.attached source.new ≡ S.attached source.old }
     ensures cause { OnlyReads (S.tally source.old) (S.tally source.new) result }
@@ -111,6 +115,7 @@ fn load_tile<S: Source>(
     ensures numbers { len numbers.new ≡ len numbers.old }
     ensures code { len code.new ≡ len code.old }
     ensures held { S.held source.new ≡ S.held source.old }
+    ensures log { ReadsPixels layout.now (S.ranges source.old) (S.ranges source.new) }
     ensures told_ranges { StaysTold (S.ranges source.old) (S.ranges source.new) }
     ensures attached { S.attached source.new ≡ S.attached source.old }
     ensures cause { OnlyReads (S.tally source.old) (S.tally source.new) result }
@@ -137,15 +142,16 @@ fn read_front(bitpix: i32, pixels: u32, bytes: &[u8], numbers: &mut [i32])
     requires size { IsBitpix bitpix }
     requires bytes { len bytes.now ≡ unsigned_abs bitpix / 8 * pixels }
     requires room { 2 * pixels ≤ len numbers.old }
-    ensures pixels { HoldPixels (unsigned_abs bitpix) (take (place_count_of (unsigned_abs bitpix) pixels) numbers.new) (stored_pixels (unsigned_abs bitpix) pixels bytes.now) }
+    ensures pixels { HoldPixels (unsigned_abs bitpix) (take (place_count_of (unsigned_abs bitpix) pixels) numbers.new)
+        (stored_pixels (unsigned_abs bitpix) pixels bytes.now) }
     ensures len { len numbers.new ≡ len numbers.old }
 {
     let places = place_count(bitpix, pixels);
     read_plain(bitpix, bytes, &mut numbers[..places]);
 }
 
-// How many pixels a tile has.
-fn tile_pixels(layout: &Layout, tile: u32) -> u32
+/// How many pixels a tile has.
+pub fn tile_pixels(layout: &Layout, tile: u32) -> u32
     requires layout { IsLayout layout.now }
     requires tile { tile < layout.now.tiles }
     ensures pixels { result ≡ pixels_of layout.now tile }
@@ -159,9 +165,18 @@ fn tile_pixels(layout: &Layout, tile: u32) -> u32
     grid.tile_box(tile).pixels() as u32
 }
 
-// The job of a slot whose tile is to be encoded.
-fn job_of(layout: &Layout, tile: u32, pixels: u32) -> Job
-    ensures { result ≡ record { tile = tile; pixels = pixels; codec = layout.now.plan.codec; bitpix = layout.now.plan.bitpix; place = Stored; len = 0; total = 0 } }
+/// The job of a slot whose tile is to be encoded.
+pub fn job_of(layout: &Layout, tile: u32, pixels: u32) -> Job
+    ensures { result ≡ record {
+      tile = tile;
+      pixels = pixels;
+      codec = layout.now.plan.codec;
+      bitpix = layout.now.plan.bitpix;
+      place
+          = Stored;
+      len = 0;
+      total = 0;
+    } }
 {
     Job {
         tile,

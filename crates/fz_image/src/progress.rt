@@ -12,22 +12,22 @@ use fz_sum::Sum;
 
 /// What was written of a table, and what its header tells of that.
 #[derive(Drop)]
-pub(crate) struct Progress {
+pub struct Progress {
     /// How many tiles.
-    pub(crate) tiles: u32,
+    pub tiles: u32,
     /// The bytes of the heap.
-    pub(crate) heap: u64,
+    pub heap: u64,
     /// The greatest count of elements of a coded tile.
-    pub(crate) coded: u64,
+    pub coded: u64,
     /// The greatest count of pixels of a stored tile.
-    pub(crate) stored: u64,
+    pub stored: u64,
     /// The sum of the rows and the heap.
-    pub(crate) sum: Sum,
+    pub sum: Sum,
 }
 
 impl Progress {
     /// Nothing was written.
-    pub(crate) fn new() -> Progress
+    pub fn new() -> Progress
         ensures { result ≡ no_progress }
     {
         Progress {
@@ -40,7 +40,7 @@ impl Progress {
     }
 
     /// What the header tells of the heap.
-    pub(crate) fn totals(&self, sums: bool) -> Totals
+    pub fn totals(&self, sums: bool) -> Totals
         ensures { result ≡ record { heap = self.now.heap; emax_coded = self.now.coded; emax_stored = self.now.stored; sums = sums } }
     {
         Totals {
@@ -51,7 +51,7 @@ impl Progress {
         }
     }
     /// Counts the rows of so many tiles more, which stand behind the rows.
-    pub(crate) fn add_rows(&mut self, layout: &Layout, count: u32, rows: &[u8])
+    pub fn add_rows(&mut self, layout: &Layout, count: u32, rows: &[u8])
         requires tiles { self.old.tiles + count ≤ layout.now.tiles }
         requires summed { self.old.sum.count + len rows.now < 2 ^ 63 }
         ensures { self.new ≡ with_row_bytes layout.now self.old count rows.now }
@@ -62,7 +62,7 @@ impl Progress {
     }
 
     /// Counts the bytes of one tile more, which stand behind the heap.
-    pub(crate) fn add_tile(&mut self, layout: &Layout, slot: &Slot)
+    pub fn add_tile(&mut self, layout: &Layout, slot: &Slot)
         requires layout { IsLayout layout.now }
         requires within { slot.now.job.len ≤ len slot.now.code }
         requires near { self.old.heap + slot.now.job.len ≤ 2 ^ 43 }
@@ -77,7 +77,7 @@ impl Progress {
 }
 
 /// The bytes of the slot's tile, which was encoded.
-pub(crate) fn code_of(slot: &Slot) -> &[u8]
+pub fn code_of(slot: &Slot) -> &[u8]
     requires { slot.now.job.len ≤ len slot.now.code }
     ensures bytes { result.now ≡ (coded_tile slot.now).bytes }
     ensures size { len result.now ≡ slot.now.job.len }

@@ -1,5 +1,6 @@
 //! A round of tiles: read, encoded, and written.
-ghost use Rattle.std.specs.Prelude.{ℕ, ◌≡◌, ◌+◌, ◌*◌, ◌^◌, ◌<◌, ◌≤◌, IsTrue, List, Option, length as len, OnOk};
+ghost use Rattle.std.specs.Prelude.{ℕ, ◌≡◌, ◌+◌, ◌*◌, ◌^◌, ◌<◌, ◌≤◌, Err, IsTrue, List, Option, length as len, OnErr, OnOk};
+ghost use Rattle.fz_base.specs.declared.failure.Stop.TheVariants.{NoMemory};
 ghost use Rattle.fz_base.specs.FirstByte.{StaysShut};
 ghost use Rattle.fz_base.specs.Sink.{written};
 ghost use Rattle.fz_base.specs.Stop.{Codes, CodesAndWrites, Writes};
@@ -8,9 +9,9 @@ ghost use Rattle.fz_files.specs.Packed.{heap_of};
 ghost use Rattle.fz_pool.specs.Round.{coded_tiles};
 ghost use Rattle.fz_pool.specs.Window.{slot_sizes};
 ghost use Rattle.fz_image.specs.Held.{AreLast, heap_caught_up};
-ghost use Rattle.fz_image.specs.Layout.{HasPixels, IsLayout, heap_at_of};
+ghost use Rattle.fz_image.specs.Layout.{HasPixels, IsLayout, ReadsPixels, heap_at_of};
 ghost use Rattle.fz_image.specs.Progress.{AreNext, IsWritten, tiles_written, with_heap, with_tiles};
-ghost use Rattle.fz_image.specs.Tiles.{AreEncodedTiles, HaveRoom};
+ghost use Rattle.fz_image.specs.Tiles.{AreEncodedTiles, AreLoaded, HaveRoom};
 
 use crate::descriptors::put_rows;
 use crate::held::hold_back;
@@ -43,10 +44,14 @@ pub(crate) fn write_round<R: Threads + Sync, S: Source, K: Sink, G: Gate>(
     requires window { HaveRoom layout.now window.old }
     requires rows { 4096 ≤ len rows.old }
     requires held { AreLast count.old held.old progress.old }
-    requires so_far { (before : Option (List ℕ)) × IsWritten layout.now (S.held source.old) before (heap_caught_up layout.now progress.old count.old held.old (K.contents sink.old)) progress.old }
+    requires so_far { (before : Option (List ℕ)) × IsWritten layout.now (S.held source.old) before
+        (heap_caught_up layout.now progress.old count.old held.old (K.contents sink.old)) progress.old }
     requires left { progress.old.tiles < layout.now.tiles }
-    ensures more { OnOk result ((before : Option (List ℕ)) → IsWritten layout.now (S.held source.old) before (heap_caught_up layout.now progress.old count.old held.old (K.contents sink.old)) progress.old
-        → IsWritten layout.now (S.held source.old) before (heap_caught_up layout.now progress.new count.new held.new (K.contents sink.new)) progress.new) }
+    ensures more { OnOk result ((before : Option (List ℕ))
+        → IsWritten layout.now (S.held source.old) before (heap_caught_up layout.now progress.old count.old held.old
+        (K.contents sink.old)) progress.old
+        → IsWritten layout.now (S.held source.old) before (heap_caught_up layout.now progress.new count.new held.new
+        (K.contents sink.new)) progress.new) }
     ensures held { OnOk result (AreLast count.new held.new progress.new) }
     ensures grown { OnOk result (progress.old.tiles < progress.new.tiles) }
     ensures shut { StaysShut (K.contents sink.old) (K.contents sink.new) }
@@ -56,6 +61,7 @@ pub(crate) fn write_round<R: Threads + Sync, S: Source, K: Sink, G: Gate>(
     ensures rows { len rows.new ≡ len rows.old }
     ensures room { len held.new ≡ len held.old }
     ensures source { S.held source.new ≡ S.held source.old }
+    ensures log { ReadsPixels layout.now (S.ranges source.old) (S.ranges source.new) }
     ensures told_ranges { StaysTold (S.ranges source.old) (S.ranges source.new) }
     ensures attached { S.attached source.new ≡ S.attached source.old }
     ensures created { K.created sink.new ≡ K.created sink.old }
@@ -87,14 +93,37 @@ fn encode_tiles<R: Threads + Sync, S: Source, G: Gate>(
     ensures sizes { slot_sizes window.new.slots ≡ slot_sizes window.old.slots }
     ensures workers { window.new.workers ≡ window.old.workers }
     ensures held { S.held source.new ≡ S.held source.old }
+    ensures log { ReadsPixels layout.now (S.ranges source.old) (S.ranges source.new) }
     ensures told_ranges { StaysTold (S.ranges source.old) (S.ranges source.new) }
     ensures attached { S.attached source.new ≡ S.attached source.old }
     ensures cause { Codes (S.tally source.old) (S.tally source.new) result }
 {
+    load_round(source, layout, first, window, count)?;
+    encode_loaded(rt, layout, first, window, count, gate)
+}
+
+/// Encodes the tiles in the first slots, which are so many from the first on.
+pub fn encode_loaded<R: Threads + Sync, G: Gate>(
+    rt: &R,
+    layout: &Layout,
+    first: u32,
+    window: &mut Window,
+    count: u32,
+    gate: &G,
+) -> Result<(), Stop>
+    requires layout { IsLayout layout.now }
+    requires window { HaveRoom layout.now window.old }
+    requires near { count ≤ 2 * window.old.workers }
+    requires loaded { (held : Option (List ℕ)) × AreLoaded layout.now held first count window.old }
+    ensures encoded { OnOk result ((held : Option (List ℕ)) → AreLoaded layout.now held first count window.old
+        → AreEncodedTiles layout.now held first count window.new) }
+    ensures sizes { slot_sizes window.new.slots ≡ slot_sizes window.old.slots }
+    ensures workers { window.new.workers ≡ window.old.workers }
+    ensures no_memory { OnErr result (result ≡ Err NoMemory) }
+{
     sizes_law();
     round_law();
     column_law();
-    load_round(source, layout, first, window, count)?;
     encode_window(rt, window, count, gate).map_err(|_| Stop::NoMemory)
 }
 
@@ -118,7 +147,8 @@ pub(crate) fn write_tiles<K: Sink>(
     requires held { AreLast count.old held.old progress.old }
     ensures progress { OnOk result (progress.new ≡ with_tiles layout.now progress.old (coded_tiles tiles window.now.slots)) }
     ensures contents { OnOk result (heap_caught_up layout.now progress.new count.new held.new (K.contents sink.new)
-        ≡ tiles_written layout.now progress.old (coded_tiles tiles window.now.slots) (heap_caught_up layout.now progress.old count.old held.old (K.contents sink.old))) }
+        ≡ tiles_written layout.now progress.old (coded_tiles tiles window.now.slots)
+        (heap_caught_up layout.now progress.old count.old held.old (K.contents sink.old))) }
     ensures held { OnOk result (AreLast count.new held.new progress.new) }
     ensures shut { StaysShut (K.contents sink.old) (K.contents sink.new) }
     ensures told_contents { StaysTold (K.contents sink.old) (K.contents sink.new) }
@@ -153,7 +183,8 @@ fn write_codes<K: Sink>(
     requires held { AreLast count.old held.old progress.old }
     ensures progress { OnOk result (progress.new ≡ with_heap layout.now progress.old (coded_tiles tiles window.now.slots)) }
     ensures contents { OnOk result (heap_caught_up layout.now progress.new count.new held.new (K.contents sink.new)
-        ≡ written (heap_at_of layout.now + progress.old.heap) (heap_of (coded_tiles tiles window.now.slots)) (heap_caught_up layout.now progress.old count.old held.old (K.contents sink.old))) }
+        ≡ written (heap_at_of layout.now + progress.old.heap) (heap_of (coded_tiles tiles window.now.slots))
+        (heap_caught_up layout.now progress.old count.old held.old (K.contents sink.old))) }
     ensures held { OnOk result (AreLast count.new held.new progress.new) }
     ensures room { len held.new ≡ len held.old }
     ensures shut { StaysShut (K.contents sink.old) (K.contents sink.new) }

@@ -6,7 +6,7 @@ ghost use Rattle.fz_base.specs.Stop.{CodesAndWrites, ReadsAndWrites};
 ghost use Rattle.fz_base.specs.Told.{StaysTold};
 ghost use Rattle.fz_pool.specs.Window.{slot_sizes};
 ghost use Rattle.fz_image.specs.Held.{AreLast, heap_caught_up};
-ghost use Rattle.fz_image.specs.Layout.{HasPixels, IsLayout};
+ghost use Rattle.fz_image.specs.Layout.{HasPixels, IsLayout, ReadsPixels};
 ghost use Rattle.fz_image.specs.Progress.{IsWritten};
 ghost use Rattle.fz_image.specs.Tiles.{AreEncodedTiles, AreLoaded, HaveRoom};
 ghost use Rattle.fz_image.specs.Turns.{AreAlike, CanMove, Ends, HasMoved, HaveRooms, StandReady};
@@ -15,7 +15,7 @@ use crate::layout::Layout;
 use crate::loading::load_round;
 use crate::progress::Progress;
 use crate::round::write_tiles;
-use fz_base::{Gate, Sink, Source, Stop, output_law};
+use fz_base::{Gate, Sink, Source, Stop, log_law, output_law};
 use fz_pool::{Window, encode_beside, halves_law, round_law, sizes_law};
 use fz_sum::sum_law;
 use fz_tile::column_law;
@@ -50,7 +50,8 @@ pub(crate) fn write_by_turns<R: Threads + Sync, S: Source, K: Sink, G: Gate>(
     requires several { 2 ≤ window.old.workers }
     requires rows { 4096 ≤ len rows.old }
     requires none { count.old ≡ 0 }
-    ensures written { IfOk result (λ w. IsWritten layout.now (S.held source.old) (K.contents sink.old) (heap_caught_up layout.now w count.new held.new (K.contents sink.new)) w × (w.tiles ≡ layout.now.tiles)) }
+    ensures written { IfOk result (λ w. IsWritten layout.now (S.held source.old) (K.contents sink.old)
+        (heap_caught_up layout.now w count.new held.new (K.contents sink.new)) w × (w.tiles ≡ layout.now.tiles)) }
     ensures last { IfOk result (λ w. AreLast count.new held.new w) }
     ensures shut { StaysShut (K.contents sink.old) (K.contents sink.new) }
     ensures told_contents { StaysTold (K.contents sink.old) (K.contents sink.new) }
@@ -59,6 +60,7 @@ pub(crate) fn write_by_turns<R: Threads + Sync, S: Source, K: Sink, G: Gate>(
     ensures sizes { slot_sizes window.new.slots ≡ slot_sizes window.old.slots }
     ensures workers { window.new.workers ≡ window.old.workers }
     ensures source { S.held source.new ≡ S.held source.old }
+    ensures log { ReadsPixels layout.now (S.ranges source.old) (S.ranges source.new) }
     ensures told_ranges { StaysTold (S.ranges source.old) (S.ranges source.new) }
     ensures attached { S.attached source.new ≡ S.attached source.old }
     ensures created { K.created sink.new ≡ K.created sink.old }
@@ -66,6 +68,7 @@ pub(crate) fn write_by_turns<R: Threads + Sync, S: Source, K: Sink, G: Gate>(
 {
     sizes_law();
     halves_law();
+    log_law();
     let workers = window.workers();
     let Ok((mut first, mut second)) = window.halve() else {
         return Err(Stop::NoMemory);
@@ -108,7 +111,8 @@ fn write_turns<R: Threads + Sync, S: Source, K: Sink, G: Gate>(
     requires workers { (1 ≤ workers) × (workers ≤ 64) }
     requires rows { 4096 ≤ len rows.old }
     requires none { count.old ≡ 0 }
-    ensures written { IfOk result (λ w. IsWritten layout.now (S.held source.old) (K.contents sink.old) (heap_caught_up layout.now w count.new held.new (K.contents sink.new)) w × (w.tiles ≡ layout.now.tiles)) }
+    ensures written { IfOk result (λ w. IsWritten layout.now (S.held source.old) (K.contents sink.old)
+        (heap_caught_up layout.now w count.new held.new (K.contents sink.new)) w × (w.tiles ≡ layout.now.tiles)) }
     ensures last { IfOk result (λ w. AreLast count.new held.new w) }
     ensures shut { StaysShut (K.contents sink.old) (K.contents sink.new) }
     ensures told_contents { StaysTold (K.contents sink.old) (K.contents sink.new) }
@@ -117,11 +121,13 @@ fn write_turns<R: Threads + Sync, S: Source, K: Sink, G: Gate>(
     ensures windows { (size : ℕ × ℕ) → AreAlike size first.old → AreAlike size second.old → AreAlike size first.new × AreAlike size second.new }
     ensures workers { first.new.workers + second.new.workers ≡ first.old.workers + second.old.workers }
     ensures source { S.held source.new ≡ S.held source.old }
+    ensures log { ReadsPixels layout.now (S.ranges source.old) (S.ranges source.new) }
     ensures told_ranges { StaysTold (S.ranges source.old) (S.ranges source.new) }
     ensures attached { S.attached source.new ≡ S.attached source.old }
     ensures created { K.created sink.new ≡ K.created sink.old }
     ensures cause { CodesAndWrites (S.tally source.old) (S.tally source.new) (K.tally sink.old) (K.tally sink.new) result }
 {
+    log_law();
     sizes_law();
     let mut progress = Progress::new();
     let mut turn = Turn {
@@ -171,10 +177,14 @@ fn take_turn<R: Threads + Sync, S: Source, K: Sink, G: Gate>(
     requires workers { (1 ≤ workers) × (workers ≤ 64) }
     requires rows { 4096 ≤ len rows.old }
     requires held { AreLast count.old held.old progress.old }
-    requires so_far { (before : Option (List ℕ)) × IsWritten layout.now (S.held source.old) before (heap_caught_up layout.now progress.old count.old held.old (K.contents sink.old)) progress.old }
+    requires so_far { (before : Option (List ℕ)) × IsWritten layout.now (S.held source.old) before
+        (heap_caught_up layout.now progress.old count.old held.old (K.contents sink.old)) progress.old }
     requires ready { StandReady layout.now (S.held source.old) progress.old turn.old.coded turn.old.loaded first.old second.old }
-    ensures more { OnOk result ((before : Option (List ℕ)) → IsWritten layout.now (S.held source.old) before (heap_caught_up layout.now progress.old count.old held.old (K.contents sink.old)) progress.old
-        → IsWritten layout.now (S.held source.old) before (heap_caught_up layout.now progress.new count.new held.new (K.contents sink.new)) progress.new) }
+    ensures more { OnOk result ((before : Option (List ℕ))
+        → IsWritten layout.now (S.held source.old) before (heap_caught_up layout.now progress.old count.old held.old
+        (K.contents sink.old)) progress.old
+        → IsWritten layout.now (S.held source.old) before (heap_caught_up layout.now progress.new count.new held.new
+        (K.contents sink.new)) progress.new) }
     ensures held { OnOk result (AreLast count.new held.new progress.new) }
     ensures ready { OnOk result (StandReady layout.now (S.held source.old) progress.new turn.new.coded turn.new.loaded first.new second.new) }
     ensures tiles { OnOk result ((progress.new.tiles ≡ progress.old.tiles + turn.old.coded) × (turn.new.coded ≡ turn.old.loaded)) }
@@ -186,6 +196,7 @@ fn take_turn<R: Threads + Sync, S: Source, K: Sink, G: Gate>(
     ensures windows { (size : ℕ × ℕ) → AreAlike size first.old → AreAlike size second.old → AreAlike size first.new × AreAlike size second.new }
     ensures workers { first.new.workers + second.new.workers ≡ first.old.workers + second.old.workers }
     ensures source { S.held source.new ≡ S.held source.old }
+    ensures log { ReadsPixels layout.now (S.ranges source.old) (S.ranges source.new) }
     ensures told_ranges { StaysTold (S.ranges source.old) (S.ranges source.new) }
     ensures attached { S.attached source.new ≡ S.attached source.old }
     ensures created { K.created sink.new ≡ K.created sink.old }
@@ -225,13 +236,43 @@ fn encode_and_move<R: Threads + Sync, S: Source, K: Sink, G: Gate>(
     rows: &mut [u8],
     held: &mut [u8],
 ) -> Result<(), Stop>
-    requires can_move { CanMove layout.now (record { held = S.held source.old; ranges = S.ranges source.old; attached = S.attached source.old; reads = S.tally source.old; contents = K.contents sink.old; created = K.created sink.old; writes = K.tally sink.old }) progress.old second.old turn.coded next more rows.old count.old held.old }
+    requires can_move { CanMove layout.now (record {
+      held = S.held source.old;
+      ranges = S.ranges source.old;
+      attached = S.attached
+          source.old;
+      reads = S.tally source.old;
+      contents = K.contents sink.old;
+      created = K.created sink.old;
+      writes = K.tally
+          sink.old;
+    }) progress.old second.old turn.coded next more rows.old count.old held.old }
     requires first { HaveRoom layout.now first.old }
     requires workers { (1 ≤ workers) × (workers ≤ 64) }
     requires loaded { AreLoaded layout.now (S.held source.old) (progress.old.tiles + turn.coded) turn.loaded first.old }
     requires few { turn.loaded ≤ 2 * first.old.workers }
     ensures encoded { OnOk result (AreEncodedTiles layout.now (S.held source.old) (progress.old.tiles + turn.coded) turn.loaded first.new) }
-    ensures moved { HasMoved layout.now (record { held = S.held source.old; ranges = S.ranges source.old; attached = S.attached source.old; reads = S.tally source.old; contents = K.contents sink.old; created = K.created sink.old; writes = K.tally sink.old }) (record { held = S.held source.new; ranges = S.ranges source.new; attached = S.attached source.new; reads = S.tally source.new; contents = K.contents sink.new; created = K.created sink.new; writes = K.tally sink.new }) progress.old progress.new second.old second.new turn.coded next more count.old count.new rows.old rows.new held.old held.new result }
+    ensures moved { HasMoved layout.now (record {
+      held = S.held source.old;
+      ranges = S.ranges source.old;
+      attached = S.attached
+          source.old;
+      reads = S.tally source.old;
+      contents = K.contents sink.old;
+      created = K.created sink.old;
+      writes = K.tally
+          sink.old;
+    }) (record {
+      held = S.held source.new;
+      ranges = S.ranges source.new;
+      attached = S.attached source.new;
+      reads =
+          S.tally source.new;
+      contents = K.contents sink.new;
+      created = K.created sink.new;
+      writes = K.tally sink.new;
+    }) progress.old
+        progress.new second.old second.new turn.coded next more count.old count.new rows.old rows.new held.old held.new result }
     ensures sizes { slot_sizes first.new.slots ≡ slot_sizes first.old.slots }
     ensures workers { first.new.workers ≡ first.old.workers }
     ensures cause { CodesAndWrites (S.tally source.old) (S.tally source.new) (K.tally sink.old) (K.tally sink.new) result }
@@ -241,8 +282,39 @@ fn encode_and_move<R: Threads + Sync, S: Source, K: Sink, G: Gate>(
     column_law();
     let (coded, loaded) = (turn.coded, turn.loaded);
     let mut job = || -> Result<(), Stop>
-        requires { CanMove layout.now (record { held = S.held source.now; ranges = S.ranges source.now; attached = S.attached source.now; reads = S.tally source.now; contents = K.contents sink.now; created = K.created sink.now; writes = K.tally sink.now }) progress.now second.now coded next more rows.now count.now held.now }
-        ensures { HasMoved layout.entry.now (record { held = S.held source.entry.now; ranges = S.ranges source.entry.now; attached = S.attached source.entry.now; reads = S.tally source.entry.now; contents = K.contents sink.entry.now; created = K.created sink.entry.now; writes = K.tally sink.entry.now }) (record { held = S.held source.exit.now; ranges = S.ranges source.exit.now; attached = S.attached source.exit.now; reads = S.tally source.exit.now; contents = K.contents sink.exit.now; created = K.created sink.exit.now; writes = K.tally sink.exit.now }) progress.entry.now progress.exit.now second.entry.now second.exit.now coded next more count.entry.now count.exit.now rows.entry.now rows.exit.now held.entry.now held.exit.now result
+        requires { CanMove layout.now (record {
+          held = S.held source.now;
+          ranges = S.ranges source.now;
+          attached = S.attached
+              source.now;
+          reads = S.tally source.now;
+          contents = K.contents sink.now;
+          created = K.created sink.now;
+          writes = K.tally
+              sink.now;
+        }) progress.now second.now coded next more rows.now count.now held.now }
+        ensures { HasMoved layout.entry.now (record {
+          held = S.held source.entry.now;
+          ranges = S.ranges source.entry.now;
+          attached =
+              S.attached source.entry.now;
+          reads = S.tally source.entry.now;
+          contents = K.contents sink.entry.now;
+          created = K.created
+              sink.entry.now;
+          writes = K.tally sink.entry.now;
+        }) (record {
+          held = S.held source.exit.now;
+          ranges = S.ranges source.exit.now;
+          attached = S.attached source.exit.now;
+          reads =
+              S.tally source.exit.now;
+          contents = K.contents sink.exit.now;
+          created = K.created sink.exit.now;
+          writes = K.tally
+              sink.exit.now;
+        }) progress.entry.now progress.exit.now second.entry.now second.exit.now coded next more count.entry.now
+            count.exit.now rows.entry.now rows.exit.now held.entry.now held.exit.now result
             × ReadsAndWrites (S.tally source.entry.now) (S.tally source.exit.now) (K.tally sink.entry.now) (K.tally sink.exit.now) result }
     {
         move_tiles(
@@ -268,10 +340,41 @@ fn move_tiles<S: Source, K: Sink>(
     rows: &mut [u8],
     held: &mut [u8],
 ) -> Result<(), Stop>
-    requires can_move { CanMove layout.now (record { held = S.held source.old; ranges = S.ranges source.old; attached = S.attached source.old; reads = S.tally source.old; contents = K.contents sink.old; created = K.created sink.old; writes = K.tally sink.old }) progress.old window.old tiles next more rows.old count.old held.old }
-    ensures moved { HasMoved layout.now (record { held = S.held source.old; ranges = S.ranges source.old; attached = S.attached source.old; reads = S.tally source.old; contents = K.contents sink.old; created = K.created sink.old; writes = K.tally sink.old }) (record { held = S.held source.new; ranges = S.ranges source.new; attached = S.attached source.new; reads = S.tally source.new; contents = K.contents sink.new; created = K.created sink.new; writes = K.tally sink.new }) progress.old progress.new window.old window.new tiles next more count.old count.new rows.old rows.new held.old held.new result }
+    requires can_move { CanMove layout.now (record {
+      held = S.held source.old;
+      ranges = S.ranges source.old;
+      attached = S.attached
+          source.old;
+      reads = S.tally source.old;
+      contents = K.contents sink.old;
+      created = K.created sink.old;
+      writes = K.tally
+          sink.old;
+    }) progress.old window.old tiles next more rows.old count.old held.old }
+    ensures moved { HasMoved layout.now (record {
+      held = S.held source.old;
+      ranges = S.ranges source.old;
+      attached = S.attached
+          source.old;
+      reads = S.tally source.old;
+      contents = K.contents sink.old;
+      created = K.created sink.old;
+      writes = K.tally
+          sink.old;
+    }) (record {
+      held = S.held source.new;
+      ranges = S.ranges source.new;
+      attached = S.attached source.new;
+      reads =
+          S.tally source.new;
+      contents = K.contents sink.new;
+      created = K.created sink.new;
+      writes = K.tally sink.new;
+    }) progress.old
+        progress.new window.old window.new tiles next more count.old count.new rows.old rows.new held.old held.new result }
     ensures cause { ReadsAndWrites (S.tally source.old) (S.tally source.new) (K.tally sink.old) (K.tally sink.new) result }
 {
+    log_law();
     write_tiles(sink, layout, progress, window, tiles, rows, held, count)?;
     load_round(source, layout, next, window, more)
 }

@@ -35,7 +35,8 @@ none_named : (word : List ℕ) (cards : List (List ℕ)) → AreNamedElse (padde
 none_named word [] none = refl
 none_named word (card ∷ cards) none = λ i. named_else word card none.0 i || none_named word cards none.1 i
 
-some_behind : (word : List ℕ) (front : List (List ℕ)) (card : List ℕ) (more : List (List ℕ)) → is_named word card ≡ true → list_any (is_named word) (front ++ card ∷ more) ≡ true
+some_behind : (word : List ℕ) (front : List (List ℕ)) (card : List ℕ) (more : List (List ℕ)) → is_named word card ≡ true →
+    list_any (is_named word) (front ++ card ∷ more) ≡ true
 some_behind word [] card more is = ap (λ b. b || list_any (is_named word) more) is
 some_behind word (c ∷ front) card more is = by_test (is_named word c) (some_behind word front card more is)
   where
@@ -55,14 +56,18 @@ some_in_front word (x ∷ xs) ys is = by_test (is_named word x) is (some_in_fron
 -- ---- the table of an image
 
 no_sum_cards : (cards : List (List ℕ)) → AreOthers cards → HasSumCards false cards
-no_sum_cards cards others = record { datasum = none_named (codes "DATASUM") cards (no_datasum cards others); checksum = none_named (codes "CHECKSUM") cards (no_checksum cards others) }
+no_sum_cards cards others = record
+    { datasum = none_named (codes "DATASUM") cards (no_datasum cards others); checksum = none_named (codes "CHECKSUM") cards (no_checksum cards others) }
 
 both_sum_cards : SumLaws → (front : List (List ℕ)) (sum total : ℕ) → HasSumCards true ((front ++ datasum_card sum ∷ []) ++ checksum_card total ∷ [])
 both_sum_cards laws front sum total =
-    let told : is_named (codes "DATASUM") (datasum_card sum) ≡ true = (bytes_eq-Decides (card_name (datasum_card sum)) (padded (codes "DATASUM"))).1 (datasum_named laws sum) in
-    let hdu : is_named (codes "CHECKSUM") (checksum_card total) ≡ true = (bytes_eq-Decides (card_name (checksum_card total)) (padded (codes "CHECKSUM"))).1 (checksum_named laws total) in
+    let told : is_named (codes "DATASUM") (datasum_card sum) ≡ true =
+    (bytes_eq-Decides (card_name (datasum_card sum)) (padded (codes "DATASUM"))).1 (datasum_named laws sum) in
+    let hdu : is_named (codes "CHECKSUM") (checksum_card total) ≡ true =
+    (bytes_eq-Decides (card_name (checksum_card total)) (padded (codes "CHECKSUM"))).1 (checksum_named laws total) in
     record {
-      datasum = some_in_front (codes "DATASUM") (front ++ datasum_card sum ∷ []) (checksum_card total ∷ []) (some_behind (codes "DATASUM") front (datasum_card sum) [] told);
+      datasum = some_in_front (codes "DATASUM") (front ++ datasum_card sum ∷ []) (checksum_card total ∷ [])
+          (some_behind (codes "DATASUM") front (datasum_card sum) [] told);
       checksum = some_behind (codes "CHECKSUM") (front ++ datasum_card sum ∷ []) (checksum_card total) [] hdu;
     }
 
@@ -82,7 +87,8 @@ plain_cards : (cards : List (List ℕ)) (p : Plan) (t : Totals) → t.sums ≡ f
 unfolding packed_header
 plain_cards cards p t none = ap (λ b. packed_with cards p t (sum_cards b)) (sym none)
 
-without_sums : SumLaws → (o : PackOptions) (source : List ℕ) (from : Header) → IsTaken o source from → o.sums ≡ false → HasSumCards false (cards_of (table_hdu o source from).header)
+without_sums : SumLaws → (o : PackOptions) (source : List ℕ) (from : Header) → IsTaken o source from → o.sums ≡ false →
+    HasSumCards false (cards_of (table_hdu o source from).header)
 without_sums laws o source from is sums =
     let p : Plan = pack_plan_of o from in
     let cs : List (List ℕ) = cards_of (hdu_of source from).header in
@@ -90,11 +96,14 @@ without_sums laws o source from is sums =
     let t : Totals = totals_of p es in
     let front : List (List ℕ) = packed_header cs p t in
     let whole : All IsCardBeforeEnd front =
-    subst (λ l. All IsCardBeforeEnd l) (plain_cards cs p t refl) (laws.whole (hdu_of source from).header from p (totals_from o source from) [] (plain_packing laws o source from is sums)) in
-    let cards : cards_of (table_hdu o source from).header ≡ front = ap (λ b. cards_of (header_bytes (with_sums b front (packed_data p es)))) sums ∙ laws.said front whole in
+    subst (λ l. All IsCardBeforeEnd l) (plain_cards cs p t refl)
+    (laws.whole (hdu_of source from).header from p (totals_from o source from) [] (plain_packing laws o source from is sums)) in
+    let cards : cards_of (table_hdu o source from).header ≡ front =
+    ap (λ b. cards_of (header_bytes (with_sums b front (packed_data p es)))) sums ∙ laws.said front whole in
     subst (HasSumCards false) (sym cards) (no_sum_cards front (header_others laws.cards cs p t refl))
 
-with_both : SumLaws → (o : PackOptions) (source : List ℕ) (from : Header) → IsTaken o source from → o.sums ≡ true → HasSumCards true (cards_of (table_hdu o source from).header)
+with_both : SumLaws → (o : PackOptions) (source : List ℕ) (from : Header) → IsTaken o source from → o.sums ≡ true →
+    HasSumCards true (cards_of (table_hdu o source from).header)
 with_both laws o source from is sums =
     let has = table_sums laws o source from is sums in
     let payload : List ℕ = (table_hdu o source from).payload in

@@ -36,7 +36,8 @@ Become o source (from ∷ rest) file (h ∷ hs) = Becomes o source from file h �
 
 -- the HDUs of a packed file that stand for something are what becomes of those of the file
 abbrev pub HdusBecome : Type 0
-HdusBecome = (o : PackOptions) (file bytes : List ℕ) → IsPacked o file bytes → Become o file (headers_for (Pack o) file) bytes (standing bytes (headers_for Unpack bytes))
+HdusBecome = (o : PackOptions) (file bytes : List ℕ) → IsPacked o file bytes →
+    Become o file (headers_for (Pack o) file) bytes (standing bytes (headers_for Unpack bytes))
 
 -- the cards of a header have both cards of sums, or neither
 pub record HasSumCards (sums : Bool) (cards : List (List ℕ)) : Type 0 where

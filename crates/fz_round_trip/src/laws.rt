@@ -1,7 +1,10 @@
 //! The laws of first faults, of the packed file, and of both ways: no code runs.
 ghost use Rattle.fz_files.specs.Laws.{PicksCutOneFile};
 ghost use Rattle.fz_round_trip.specs.PackedHdus.{HdusBecome, TablesHaveSums};
-ghost use Rattle.fz_round_trip.specs.RoundTrip.{ComesBack, OnlyTheFileComesBack, HasCutout, HasFirstFault, HasNoOtherFault, HasOnePackedFile, HasPackedFile, HasRestoredFile, LosesNothing, OptionsDoNotMatter, PackCopies, StandsForNoOther, StandsForRestored, SumsAreRight, UnpackCopies, WorkersDoNotMatter, PackedIsFound, StandsForExactly};
+ghost use Rattle.fz_round_trip.specs.RoundTrip.{ComesBack, OnlyTheFileComesBack, HasCutout, HasFirstFault, HasNoOtherFault};
+ghost use Rattle.fz_round_trip.specs.RoundTrip.{HasOnePackedFile, HasPackedFile, HasRestoredFile, LosesNothing};
+ghost use Rattle.fz_round_trip.specs.RoundTrip.{OptionsDoNotMatter, PackCopies, StandsForNoOther, StandsForRestored};
+ghost use Rattle.fz_round_trip.specs.RoundTrip.{SumsAreRight, UnpackCopies, WorkersDoNotMatter, PackedIsFound, StandsForExactly};
 
 use fz_block::{cards_law, found_hdus_law, hdu_list_law, passing_law, start_law, walk_law};
 use fz_card::card_laws;

@@ -21,7 +21,8 @@ pub(crate) fn check_fill<S: Source>(
     requires attached { S.attached source.old ≡ Some length }
     requires within { (next_start_of header.now ≤ length) × (next_start_of header.now ≤ 2 ^ 62) }
     requires block { len block.old ≡ 2880 }
-    ensures exact { IfSome (S.held source.old) (λ g. IsDefined (unless_refused tt (first_refusal (data_fill header.now (fill_in g header.now) ∷ []))) result) }
+    ensures exact { IfSome (S.held source.old) (λ g. IsDefined
+        (unless_refused tt (first_refusal (data_fill header.now (fill_in g header.now) ∷ []))) result) }
     ensures log { LogsWithin (data_end_of header.now) (next_start_of header.now) (S.ranges source.old) (S.ranges source.new) }
     ensures held { S.held source.new ≡ S.held source.old }
     ensures attached { S.attached source.new ≡ S.attached source.old }

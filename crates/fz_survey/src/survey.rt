@@ -54,10 +54,12 @@ pub fn survey_headers<S: Source>(
     ensures risen { meter.old.peak ≤ meter.new.peak }
     ensures first_past { IfSome (S.held source.old) (λ g. TellsFirstPast meter.old.limit (survey_takings checks.now meter.old.live g) result) }
     ensures peak { IfSome (S.held source.old) (λ g. meter.new.peak ≤ max meter.old.peak (highest (survey_takings checks.now meter.old.live g))) }
-    ensures exact_peak { OnOk result (IfSome (S.held source.old) (λ g. meter.new.peak ≡ max meter.old.peak (highest (survey_takings checks.now meter.old.live g)))) }
+    ensures exact_peak { OnOk result (IfSome (S.held source.old)
+        (λ g. meter.new.peak ≡ max meter.old.peak (highest (survey_takings checks.now meter.old.live g)))) }
     ensures most { TellsLimit meter.old.limit (meter.old.live + 737280) result }
     ensures peak_most { meter.new.peak ≤ max meter.old.peak (meter.old.live + 737280) }
-    ensures touched { IfSome (S.held source.old) (λ g. LogsOnly (IsWithinOne (survey_places checks.now g)) (S.ranges source.old) (S.ranges source.new)) }
+    ensures touched { IfSome (S.held source.old) (λ g. LogsOnly (IsWithinOne (survey_places checks.now g)) (S.ranges source.old)
+        (S.ranges source.new)) }
     ensures told { StaysTold (S.ranges source.old) (S.ranges source.new) }
     ensures held { S.held source.new ≡ S.held source.old }
     ensures attached { S.attached source.new ≡ S.attached source.old }
@@ -136,12 +138,16 @@ fn look_at<S: Source>(
     ensures live { meter.new.live ≡ meter.old.live }
     ensures limit { meter.new.limit ≡ meter.old.limit }
     ensures risen { meter.old.peak ≤ meter.new.peak }
-    ensures first_past { IfSome (S.held source.old) (λ g. TellsFirstPast meter.old.limit (header_taking meter.old.live (header_blocks_of hdu start g)) result) }
-    ensures peak { IfSome (S.held source.old) (λ g. meter.new.peak ≤ max meter.old.peak (highest (header_taking meter.old.live (header_blocks_of hdu start g)))) }
-    ensures exact_peak { OnOk result (IfSome (S.held source.old) (λ g. meter.new.peak ≡ max meter.old.peak (highest (header_taking meter.old.live (header_blocks_of hdu start g))))) }
+    ensures first_past { IfSome (S.held source.old) (λ g. TellsFirstPast meter.old.limit
+        (header_taking meter.old.live (header_blocks_of hdu start g)) result) }
+    ensures peak { IfSome (S.held source.old) (λ g. meter.new.peak ≤ max meter.old.peak
+        (highest (header_taking meter.old.live (header_blocks_of hdu start g)))) }
+    ensures exact_peak { OnOk result (IfSome (S.held source.old)
+        (λ g. meter.new.peak ≡ max meter.old.peak (highest (header_taking meter.old.live (header_blocks_of hdu start g))))) }
     ensures most { TellsLimit meter.old.limit (meter.old.live + 737280) result }
     ensures peak_most { meter.new.peak ≤ max meter.old.peak (meter.old.live + 737280) }
-    ensures touched { IfSome (S.held source.old) (λ g. LogsOnly (IsWithinOne (hdu_places checks.now hdu start g)) (S.ranges source.old) (S.ranges source.new)) }
+    ensures touched { IfSome (S.held source.old) (λ g. LogsOnly (IsWithinOne (hdu_places checks.now hdu start g))
+        (S.ranges source.old) (S.ranges source.new)) }
     ensures told { StaysTold (S.ranges source.old) (S.ranges source.new) }
     ensures held { S.held source.new ≡ S.held source.old }
     ensures attached { S.attached source.new ≡ S.attached source.old }

@@ -34,12 +34,16 @@ pub fn survey_to_pack<S: Source>(
     ensures live { meter.new.live ≡ meter.old.live }
     ensures limit { meter.new.limit ≡ meter.old.limit }
     ensures risen { meter.old.peak ≤ meter.new.peak }
-    ensures first_past { IfSome (S.held source.old) (λ g. TellsFirstPast meter.old.limit (survey_takings (Pack options.now) meter.old.live g) result) }
-    ensures peak { IfSome (S.held source.old) (λ g. meter.new.peak ≤ max meter.old.peak (highest (survey_takings (Pack options.now) meter.old.live g))) }
-    ensures exact_peak { OnOk result (IfSome (S.held source.old) (λ g. meter.new.peak ≡ max meter.old.peak (highest (survey_takings (Pack options.now) meter.old.live g)))) }
+    ensures first_past { IfSome (S.held source.old) (λ g. TellsFirstPast meter.old.limit
+        (survey_takings (Pack options.now) meter.old.live g) result) }
+    ensures peak { IfSome (S.held source.old) (λ g. meter.new.peak ≤ max meter.old.peak
+        (highest (survey_takings (Pack options.now) meter.old.live g))) }
+    ensures exact_peak { OnOk result (IfSome (S.held source.old)
+        (λ g. meter.new.peak ≡ max meter.old.peak (highest (survey_takings (Pack options.now) meter.old.live g)))) }
     ensures most { TellsLimit meter.old.limit (meter.old.live + 737280) result }
     ensures peak_most { meter.new.peak ≤ max meter.old.peak (meter.old.live + 737280) }
-    ensures touched { IfSome (S.held source.old) (λ g. LogsOnly (IsWithinOne (survey_places (Pack options.now) g)) (S.ranges source.old) (S.ranges source.new)) }
+    ensures touched { IfSome (S.held source.old) (λ g. LogsOnly (IsWithinOne (survey_places (Pack options.now) g))
+        (S.ranges source.old) (S.ranges source.new)) }
     ensures told { StaysTold (S.ranges source.old) (S.ranges source.new) }
     ensures held { S.held source.new ≡ S.held source.old }
     ensures attached { S.attached source.new ≡ S.attached source.old }
@@ -66,7 +70,8 @@ pub fn survey_to_unpack<S: Source>(
     ensures risen { meter.old.peak ≤ meter.new.peak }
     ensures first_past { IfSome (S.held source.old) (λ g. TellsFirstPast meter.old.limit (survey_takings Unpack meter.old.live g) result) }
     ensures peak { IfSome (S.held source.old) (λ g. meter.new.peak ≤ max meter.old.peak (highest (survey_takings Unpack meter.old.live g))) }
-    ensures exact_peak { OnOk result (IfSome (S.held source.old) (λ g. meter.new.peak ≡ max meter.old.peak (highest (survey_takings Unpack meter.old.live g)))) }
+    ensures exact_peak { OnOk result (IfSome (S.held source.old)
+        (λ g. meter.new.peak ≡ max meter.old.peak (highest (survey_takings Unpack meter.old.live g)))) }
     ensures most { TellsLimit meter.old.limit (meter.old.live + 737280) result }
     ensures peak_most { meter.new.peak ≤ max meter.old.peak (meter.old.live + 737280) }
     ensures touched { IfSome (S.held source.old) (λ g. LogsOnly (IsWithinOne (survey_places Unpack g)) (S.ranges source.old) (S.ranges source.new)) }
@@ -100,12 +105,16 @@ pub fn survey_to_cut<S: Source>(
     ensures live { meter.new.live ≡ meter.old.live }
     ensures limit { meter.new.limit ≡ meter.old.limit }
     ensures risen { meter.old.peak ≤ meter.new.peak }
-    ensures first_past { IfSome (S.held source.old) (λ g. TellsFirstPast meter.old.limit (survey_takings (Cut wanted region.now) meter.old.live g) result) }
-    ensures peak { IfSome (S.held source.old) (λ g. meter.new.peak ≤ max meter.old.peak (highest (survey_takings (Cut wanted region.now) meter.old.live g))) }
-    ensures exact_peak { OnOk result (IfSome (S.held source.old) (λ g. meter.new.peak ≡ max meter.old.peak (highest (survey_takings (Cut wanted region.now) meter.old.live g)))) }
+    ensures first_past { IfSome (S.held source.old) (λ g. TellsFirstPast meter.old.limit
+        (survey_takings (Cut wanted region.now) meter.old.live g) result) }
+    ensures peak { IfSome (S.held source.old) (λ g. meter.new.peak ≤ max meter.old.peak
+        (highest (survey_takings (Cut wanted region.now) meter.old.live g))) }
+    ensures exact_peak { OnOk result (IfSome (S.held source.old)
+        (λ g. meter.new.peak ≡ max meter.old.peak (highest (survey_takings (Cut wanted region.now) meter.old.live g)))) }
     ensures most { TellsLimit meter.old.limit (meter.old.live + 737280) result }
     ensures peak_most { meter.new.peak ≤ max meter.old.peak (meter.old.live + 737280) }
-    ensures touched { IfSome (S.held source.old) (λ g. LogsOnly (IsWithinOne (survey_places (Cut wanted region.now) g)) (S.ranges source.old) (S.ranges source.new)) }
+    ensures touched { IfSome (S.held source.old) (λ g. LogsOnly (IsWithinOne (survey_places (Cut wanted region.now) g))
+        (S.ranges source.old) (S.ranges source.new)) }
     ensures told { StaysTold (S.ranges source.old) (S.ranges source.new) }
     ensures held { S.held source.new ≡ S.held source.old }
     ensures attached { S.attached source.new ≡ S.attached source.old }

@@ -82,8 +82,10 @@ fn take_behind_header(
     wants: &Wants,
 ) -> Result<(Bytes, Bytes), Short>
     requires empty { IsEmpty window.old }
-    ensures takings { Takes (translated_buffers wants.now.translates wants.now.header_len ++ tile_buffers window.old.workers wants.now.tile) meter.old meter.new result }
-    ensures lengths { IfOk result (λ b. (len b.0 ≡ sum (translated_buffers wants.now.translates wants.now.header_len)) × (len b.1 ≡ copy_len wants.now.tile)) }
+    ensures takings { Takes (translated_buffers wants.now.translates wants.now.header_len ++ tile_buffers window.old.workers
+        wants.now.tile) meter.old meter.new result }
+    ensures lengths { IfOk result (λ b. (len b.0 ≡ sum (translated_buffers wants.now.translates wants.now.header_len))
+        × (len b.1 ≡ copy_len wants.now.tile)) }
     ensures filled { OnOk result (window.new ≡ window_for window.old.workers wants.now.tile) }
     ensures unfilled { OnErr result (window.new ≡ window.old) }
 {

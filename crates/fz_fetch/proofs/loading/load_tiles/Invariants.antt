@@ -2,6 +2,7 @@
 use Rattle.std.proofs.Common.{◌≡◌, IfSome}
 use Rattle.fz_base.specs.Ranges.{LogsIn}
 use Rattle.fz_base.specs.Told.{StaysTold}
+use Rattle.fz_pool.specs.Calls.{AreSameFrom}
 use Rattle.fz_pool.specs.Window.{slot_sizes}
 use Rattle.fz_fetch.specs.Loaded.{AreLoaded, tiles_ranges}
 use Rattle.fz_fetch.proofs.loading.load_tiles.Given as goal
@@ -13,6 +14,7 @@ invariant-loop-i g l = record {
   counts : g.S.Source.tally l.source ≡ g.S.Source.tally l.fn.source;
   sizes : slot_sizes l.window.slots ≡ slot_sizes l.fn.window.slots;
   workers : l.window.workers ≡ l.fn.window.workers;
+  others : AreSameFrom l.i l.fn.window.slots l.window.slots;
   told_ranges : StaysTold (g.S.Source.ranges l.fn.source) (g.S.Source.ranges l.source);
   read : IfSome (g.S.Source.held l.fn.source) (λ file. LogsIn (tiles_ranges file l.hdu l.image l.tiles) (g.S.Source.ranges l.fn.source) (g.S.Source.ranges l.source));
   loaded : AreLoaded (g.S.Source.held l.fn.source) l.hdu l.image l.tiles l.i l.window.slots;

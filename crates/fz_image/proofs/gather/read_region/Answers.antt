@@ -1,5 +1,6 @@
 -- One run after another.
 use Rattle.std.proofs.Common.{◌≡◌, ℕ, ◌+◌, ◌*◌, ◌<◌, ◌≤◌, [], ◌∷◌, length, refl, sym, ap, ◌∙◌, subst, arith, rules}
+use Rattle.fz_base.specs.Source.{LogsWithin}
 use Rattle.fz_grid.specs.Arrays.{product}
 use Rattle.fz_grid.specs.Region.{lengths_of, places_of, region_corner, region_lengths}
 use Rattle.fz_grid.specs.Runs.{AreApart, EndWithin, total_length}
@@ -15,6 +16,7 @@ loop-first-init g c =
       held = refl;
       attached = refl;
       told_ranges = λ told. told;
+      log = c.log_law.ensures.none c.args.pixels_at (c.args.pixels_at + c.args.pixel_len * product (lengths_of c.args.shape.now)) (g.S.Source.ranges c.args.source.now);
       reads = refl;
       long = refl;
       apart = subst (λ r. AreApart (runs_left r)) (sym same) runs.runs.longest;
@@ -116,9 +118,17 @@ loop-first-preserved g c =
     let some : 0 < w * c.in-Some.count = some_bytes w c.in-Some.count c.requires.pixel apart.0 in
     let size : c.from.result * c.in-Some.count ≡ w * c.in-Some.count = ap (λ n. n * c.in-Some.count) c.from.ensures in
     let place : c.args.pixels_at + c.from-in-loop-first.result * c.in-Some.first ≡ c.args.pixels_at + w * c.in-Some.first = ap (λ n. c.args.pixels_at + n * c.in-Some.first) c.from-in-loop-first.ensures in
+    let one : ℕ = c.args.pixels_at + c.from-in-loop-first.result * c.in-Some.first in
+    let to : ℕ = one + c.from.result * c.in-Some.count in
+    let end : ℕ = c.args.pixels_at + w * most in
+    let log : LogsWithin c.args.pixels_at end (g.S.Source.ranges c.args.source.now) (g.S.Source.ranges c.read_part.new.source) =
+    c.log_law.ensures.both c.args.pixels_at end (g.S.Source.ranges c.args.source.now) (g.S.Source.ranges c.loop-first.source) (g.S.Source.ranges c.read_part.new.source) c.loop-first.invariant.log
+    (c.log_law.ensures.wider one to c.args.pixels_at end (g.S.Source.ranges c.loop-first.source) (g.S.Source.ranges c.read_part.new.source) (omega arith)
+    (omega (arith, within, ap (λ n. n * c.in-Some.count) c.from.ensures, ap (λ n. n * c.in-Some.first) c.from-in-loop-first.ensures)) c.in_ok-read_part.ensures.log) in
     record {
       held = search rules;
       attached = search rules;
+      log = log;
       told_ranges = λ told. c.in_ok-read_part.ensures.told_ranges (c.loop-first.invariant.told_ranges told);
       reads = search rules;
       long = c.in_ok-read_part.ensures.len ∙ c.loop-first.invariant.long;
@@ -143,3 +153,20 @@ returns-in_err-read_part-clause-below g c = runs_below _ (runs_left c.runs-first
 
 pub returns-clause-below : goal.returns-clause-below
 returns-clause-below g c = runs_below _ (runs_left c.runs-first-items.result) _ c.runs-first-items.ensures.runs.listed c.runs-first-items.ensures.inside
+
+pub returns-in_err-read_part-clause-log : goal.returns-in_err-read_part-clause-log
+returns-in_err-read_part-clause-log g c =
+    let next : runs_left c.loop-first.first-iterator ≡ (c.in-Some.first, c.in-Some.count) ∷ runs_left c.next.new.self = c.in-Some.ensures.steps in
+    let w : ℕ = c.args.pixel_len in
+    let most : ℕ = product (lengths_of c.args.shape.now) in
+    let inside = next_inside most c.in-Some.first c.in-Some.count _ _ next c.loop-first.invariant.inside in
+    let within : c.args.pixels_at + w * c.in-Some.first + w * c.in-Some.count ≤ c.args.pixels_at + w * most =
+    run_within w c.args.pixels_at c.in-Some.first c.in-Some.count most (c.args.pixels_at + w * most) inside.0 (omega arith) in
+    let one : ℕ = c.args.pixels_at + c.from-in-loop-first.result * c.in-Some.first in
+    let to : ℕ = one + c.from.result * c.in-Some.count in
+    let end : ℕ = c.args.pixels_at + w * most in
+    let log : LogsWithin c.args.pixels_at end (g.S.Source.ranges c.args.source.now) (g.S.Source.ranges c.read_part.new.source) =
+    c.log_law.ensures.both c.args.pixels_at end (g.S.Source.ranges c.args.source.now) (g.S.Source.ranges c.loop-first.source) (g.S.Source.ranges c.read_part.new.source) c.loop-first.invariant.log
+    (c.log_law.ensures.wider one to c.args.pixels_at end (g.S.Source.ranges c.loop-first.source) (g.S.Source.ranges c.read_part.new.source) (omega arith)
+    (omega (arith, within, ap (λ n. n * c.in-Some.count) c.from.ensures, ap (λ n. n * c.in-Some.first) c.from-in-loop-first.ensures)) c.in_err-read_part.ensures.log) in
+    log

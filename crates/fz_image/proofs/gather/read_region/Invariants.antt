@@ -1,5 +1,6 @@
 -- The runs that were given are read, and those that are left end within the image and fill the buffer.
 use Rattle.std.proofs.Common.{◌≡◌, ◌+◌, ◌*◌, length}
+use Rattle.fz_base.specs.Source.{LogsWithin}
 use Rattle.fz_base.specs.Told.{StaysTold}
 use Rattle.fz_grid.specs.Arrays.{product}
 use Rattle.fz_grid.specs.Region.{lengths_of, places_of, region_corner, region_lengths}
@@ -13,6 +14,7 @@ invariant-loop-first g l = record {
   held : g.S.Source.held l.source ≡ g.S.Source.held l.fn.source;
   attached : g.S.Source.attached l.source ≡ g.S.Source.attached l.fn.source;
   told_ranges : StaysTold (g.S.Source.ranges l.fn.source) (g.S.Source.ranges l.source);
+  log : LogsWithin l.pixels_at (l.pixels_at + l.pixel_len * product (lengths_of l.shape)) (g.S.Source.ranges l.fn.source) (g.S.Source.ranges l.source);
   reads : g.S.Source.tally l.source ≡ g.S.Source.tally l.fn.source;
   long : length l.into ≡ length l.fn.into;
   apart : AreApart (runs_left l.first-iterator);

@@ -1,9 +1,10 @@
 -- The table of the codes is that of the image.
-use Rattle.std.proofs.Common.{ℕ, ◌+◌, List, Option, IfSome, sym, subst, arith}
+use Rattle.std.proofs.Common.{◌≡◌, ℕ, ◌+◌, List, Option, Some, IfSome, refl, sym, ap, subst, arith}
 use Rattle.std.proofs.lemmas.Result.{IfOk-weaker}
 use Rattle.fz_block.specs.Hdus.{cards_of}
+use Rattle.fz_block.specs.Header.{data_start_of, next_start_of}
 use Rattle.fz_image.specs.Image.{HoldsCodes, HoldsTable}
-use Rattle.fz_image.specs.Layout.{HasPixels, IsLayout, IsPlan}
+use Rattle.fz_image.specs.Layout.{HasPixels, IsLayout, IsPlan, layout_of, pixel_bytes_of}
 use Rattle.fz_image.specs.Tiles.{codes_from}
 use Rattle.fz_image.specs.declared.layout.Layout.{Layout}
 use Rattle.fz_image.proofs.ImageData.{image_plan, pixels_len}
@@ -54,3 +55,17 @@ returns-clause-table g c =
     (λ end holds. holds_table c.slice_law.ensures.pixels sums h p rows_at buf held at end before now c.requires.header c.requires.read (pixels_len buf h sums p c.requires.header c.requires.plan)
     (subst (λ (k : Layout). IfSome held (λ file. HoldsCodes sums k (cards_of buf) (codes_from k file 0 k.tiles) at end before now)) c.of-layout.ensures holds))
     c.write_table.ensures.table
+
+pub returns-clause-log : goal.returns-clause-log
+returns-clause-log g c =
+    let h = c.args.header.now in
+    let p = c.args.plan.now in
+    let rows_at : ℕ = c.args.at + c.header_len.result in
+    let n : ℕ = next_start_of h in
+    let l : Layout = c.of-layout.result in
+    let inside : HasPixels (Some n) (layout_of h p rows_at) = image_pixels h p rows_at (Some n) (pixels_len c.args.buf.now h c.args.sums p c.requires.header c.requires.plan) n refl (omega arith) in
+    let there : n ≡ inside.0 = cc in
+    let low : l.pixels_at ≡ data_start_of h = ap (λ (k : Layout). k.pixels_at) c.of-layout.ensures in
+    let long : pixel_bytes_of l ≡ pixel_bytes_of (layout_of h p rows_at) = ap pixel_bytes_of c.of-layout.ensures in
+    c.log_law.ensures.wider l.pixels_at (l.pixels_at + pixel_bytes_of l) (data_start_of h) n (g.S.Source.ranges c.args.source.now) (g.S.Source.ranges c.write_table.new.source)
+    (omega (arith, low)) (omega (arith, low, long, inside.2, there)) c.write_table.ensures.log

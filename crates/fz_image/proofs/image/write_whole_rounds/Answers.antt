@@ -1,7 +1,7 @@
 -- One round after another; nothing is held back at first.
 use Rattle.std.proofs.Common.{ℕ, ◌≡◌, ◌+◌, ◌≤◌, List, length, Option, refl, ◌∙◌, subst, sym, arith, rules}
 use Rattle.fz_image.specs.Held.{heap_caught_up}
-use Rattle.fz_image.specs.Layout.{heap_at_of}
+use Rattle.fz_image.specs.Layout.{heap_at_of, pixel_bytes_of}
 use Rattle.fz_image.specs.Progress.{IsWritten}
 use Rattle.fz_image.proofs.Holding.{none_held}
 use Rattle.fz_image.proofs.Progresses.{written_few, written_none}
@@ -24,6 +24,7 @@ loop-progress-init g c =
       created = refl;
       writes = refl;
       shut = λ shut. shut;
+      log = c.log_law.ensures.none l.pixels_at (l.pixels_at + pixel_bytes_of l) (g.S.Source.ranges c.args.source.now);
       told_ranges = λ told. told;
       told_contents = λ told. told;
       sizes = refl;
@@ -62,6 +63,7 @@ loop-progress-preserved g c =
       created = search rules;
       writes = search rules;
       shut = λ shut. c.in_ok-write_round.ensures.shut (old.shut shut);
+      log = c.log_law.ensures.both l.pixels_at (l.pixels_at + pixel_bytes_of l) (g.S.Source.ranges c.args.source.now) (g.S.Source.ranges c.loop-progress.source) (g.S.Source.ranges c.write_round.new.source) c.loop-progress.invariant.log c.in_ok-write_round.ensures.log;
       told_ranges = λ told. c.in_ok-write_round.ensures.told_ranges (old.told_ranges told);
       told_contents = λ told. c.in_ok-write_round.ensures.told_contents (old.told_contents told);
       sizes = c.in_ok-write_round.ensures.sizes ∙ old.sizes;
@@ -72,3 +74,8 @@ loop-progress-preserved g c =
       within = written_few l held before next c.write_round.new.progress now;
       written = now;
     }
+
+pub returns-in_err-write_round-clause-log : goal.returns-in_err-write_round-clause-log
+returns-in_err-write_round-clause-log g c =
+    let l = c.args.layout.now in
+    c.log_law.ensures.both l.pixels_at (l.pixels_at + pixel_bytes_of l) (g.S.Source.ranges c.args.source.now) (g.S.Source.ranges c.loop-progress.source) (g.S.Source.ranges c.write_round.new.source) c.loop-progress.invariant.log c.in_err-write_round.ensures.log

@@ -4,6 +4,7 @@ use Rattle.fz_base.specs.FirstByte.{StaysShut}
 use Rattle.fz_base.specs.Told.{StaysTold}
 use Rattle.fz_pool.specs.Window.{slot_sizes}
 use Rattle.fz_image.specs.Held.{AreLast, heap_caught_up}
+use Rattle.fz_image.specs.Layout.{ReadsPixels}
 use Rattle.fz_image.specs.Progress.{IsWritten}
 use Rattle.fz_image.proofs.image.write_whole_rounds.Given as goal
 
@@ -15,6 +16,7 @@ invariant-loop-progress g l = record {
   created : g.K.Sink.created l.sink ≡ g.K.Sink.created l.fn.sink;
   writes : g.K.Sink.tally l.sink ≡ g.K.Sink.tally l.fn.sink;
   shut : StaysShut (g.K.Sink.contents l.fn.sink) (g.K.Sink.contents l.sink);
+  log : ReadsPixels l.layout (g.S.Source.ranges l.fn.source) (g.S.Source.ranges l.source);
   told_ranges : StaysTold (g.S.Source.ranges l.fn.source) (g.S.Source.ranges l.source);
   told_contents : StaysTold (g.K.Sink.contents l.fn.sink) (g.K.Sink.contents l.sink);
   sizes : slot_sizes l.window.slots ≡ slot_sizes l.fn.window.slots;

@@ -1,5 +1,6 @@
 -- One tile after another.
 use Rattle.std.proofs.Common.{◌≡◌, ℕ, ◌+◌, ◌*◌, List, Option, replicate, refl, sym, ap, ◌∙◌, subst, arith, rules}
+use Rattle.fz_image.specs.Layout.{pixel_bytes_of}
 use Rattle.fz_image.specs.Tiles.{AreLoaded, IsLoaded}
 use Rattle.fz_image.proofs.LoadedTiles.{loaded_more, loaded_none}
 use Rattle.fz_image.proofs.loading.load_round.Goals as goal
@@ -9,6 +10,7 @@ loop-i-init g c = record {
   held = refl;
   attached = refl;
   told_ranges = λ told. told;
+  log = c.log_law.ensures.none c.args.layout.now.pixels_at (c.args.layout.now.pixels_at + pixel_bytes_of c.args.layout.now) (g.S.Source.ranges c.args.source.now);
   reads = refl;
   sizes = refl;
   workers = refl;
@@ -35,6 +37,7 @@ loop-i-preserved g c =
     record {
       held = search rules;
       attached = search rules;
+      log = c.log_law.ensures.both l.pixels_at (l.pixels_at + pixel_bytes_of l) (g.S.Source.ranges c.args.source.now) (g.S.Source.ranges c.loop-i.source) (g.S.Source.ranges c.load_next.new.source) c.loop-i.invariant.log c.in_ok-load_next.ensures.log;
       told_ranges = λ told. c.in_ok-load_next.ensures.told_ranges (c.loop-i.invariant.told_ranges told);
       reads = search rules;
       sizes = c.in_ok-load_next.ensures.sizes ∙ c.loop-i.invariant.sizes;
@@ -46,3 +49,8 @@ pub returns-clause-loaded : goal.returns-clause-loaded
 returns-clause-loaded g c =
     let all : c.loop-i.i ≡ c.args.count = search rules in
     subst (λ n. AreLoaded c.args.layout.now (g.S.Source.held c.args.source.now) c.args.first n c.loop-i.window) all c.loop-i.invariant.loaded
+
+pub returns-in_err-load_next-clause-log : goal.returns-in_err-load_next-clause-log
+returns-in_err-load_next-clause-log g c =
+    let l = c.args.layout.now in
+    c.log_law.ensures.both l.pixels_at (l.pixels_at + pixel_bytes_of l) (g.S.Source.ranges c.args.source.now) (g.S.Source.ranges c.loop-i.source) (g.S.Source.ranges c.load_next.new.source) c.loop-i.invariant.log c.in_err-load_next.ensures.log

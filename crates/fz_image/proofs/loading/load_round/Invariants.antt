@@ -2,6 +2,7 @@
 use Rattle.std.proofs.Common.{◌≡◌}
 use Rattle.fz_base.specs.Told.{StaysTold}
 use Rattle.fz_pool.specs.Window.{slot_sizes}
+use Rattle.fz_image.specs.Layout.{ReadsPixels}
 use Rattle.fz_image.specs.Tiles.{AreLoaded}
 use Rattle.fz_image.proofs.loading.load_round.Given as goal
 
@@ -10,6 +11,7 @@ invariant-loop-i g l = record {
   held : g.S.Source.held l.source ≡ g.S.Source.held l.fn.source;
   attached : g.S.Source.attached l.source ≡ g.S.Source.attached l.fn.source;
   told_ranges : StaysTold (g.S.Source.ranges l.fn.source) (g.S.Source.ranges l.source);
+  log : ReadsPixels l.layout (g.S.Source.ranges l.fn.source) (g.S.Source.ranges l.source);
   reads : g.S.Source.tally l.source ≡ g.S.Source.tally l.fn.source;
   sizes : slot_sizes l.window.slots ≡ slot_sizes l.fn.window.slots;
   workers : l.window.workers ≡ l.fn.window.workers;

@@ -1,7 +1,7 @@
 -- One turn after another; at first nothing is held back, and no tile stands in the halves.
 use Rattle.std.proofs.Common.{ℕ, ◌≡◌, ◌+◌, ◌≤◌, List, length, Option, refl, ◌∙◌, subst, sym, arith, rules}
 use Rattle.fz_image.specs.Held.{heap_caught_up}
-use Rattle.fz_image.specs.Layout.{heap_at_of}
+use Rattle.fz_image.specs.Layout.{heap_at_of, pixel_bytes_of}
 use Rattle.fz_image.specs.Progress.{IsWritten}
 use Rattle.fz_image.specs.Turns.{StandReady}
 use Rattle.fz_image.proofs.Holding.{none_held}
@@ -26,6 +26,7 @@ loop-progress-init g c =
       created = refl;
       writes = refl;
       shut = λ shut. shut;
+      log = c.log_law.ensures.none l.pixels_at (l.pixels_at + pixel_bytes_of l) (g.S.Source.ranges c.args.source.now);
       told_ranges = λ told. told;
       told_contents = λ told. told;
       rooms = c.requires.rooms;
@@ -72,6 +73,7 @@ loop-progress-preserved g c =
       created = search rules;
       writes = search rules;
       shut = λ shut. done.shut (old.shut shut);
+      log = c.log_law.ensures.both l.pixels_at (l.pixels_at + pixel_bytes_of l) (g.S.Source.ranges c.args.source.now) (g.S.Source.ranges c.loop-progress.source) (g.S.Source.ranges c.take_turn.new.source) c.loop-progress.invariant.log c.in_ok-take_turn.ensures.log;
       told_ranges = λ told. done.told_ranges (old.told_ranges told);
       told_contents = λ told. done.told_contents (old.told_contents told);
       rooms = still_rooms l c.loop-progress.first c.loop-progress.second new.first new.second old.rooms done.windows;
@@ -83,3 +85,8 @@ loop-progress-preserved g c =
       ready = subst (λ (h : Option (List ℕ)). StandReady l h new.progress new.turn.coded new.turn.loaded new.first new.second) old.held done.ready;
       written = now;
     }
+
+pub returns-in_err-take_turn-clause-log : goal.returns-in_err-take_turn-clause-log
+returns-in_err-take_turn-clause-log g c =
+    let l = c.args.layout.now in
+    c.log_law.ensures.both l.pixels_at (l.pixels_at + pixel_bytes_of l) (g.S.Source.ranges c.args.source.now) (g.S.Source.ranges c.loop-progress.source) (g.S.Source.ranges c.take_turn.new.source) c.loop-progress.invariant.log c.in_err-take_turn.ensures.log

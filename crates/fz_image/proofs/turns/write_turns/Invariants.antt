@@ -3,6 +3,7 @@ use Rattle.std.proofs.Common.{◌≡◌, ℕ, ◌+◌, ◌*◌, ◌-◌, length}
 use Rattle.fz_base.specs.FirstByte.{StaysShut}
 use Rattle.fz_base.specs.Told.{StaysTold}
 use Rattle.fz_image.specs.Held.{AreLast, heap_caught_up}
+use Rattle.fz_image.specs.Layout.{ReadsPixels}
 use Rattle.fz_image.specs.Progress.{IsWritten}
 use Rattle.fz_image.specs.Turns.{AreAlike, HaveRooms, StandReady}
 use Rattle.fz_image.proofs.turns.write_turns.Given as goal
@@ -15,6 +16,7 @@ invariant-loop-progress g l = record {
   created : g.K.Sink.created l.sink ≡ g.K.Sink.created l.fn.sink;
   writes : g.K.Sink.tally l.sink ≡ g.K.Sink.tally l.fn.sink;
   shut : StaysShut (g.K.Sink.contents l.fn.sink) (g.K.Sink.contents l.sink);
+  log : ReadsPixels l.layout (g.S.Source.ranges l.fn.source) (g.S.Source.ranges l.source);
   told_ranges : StaysTold (g.S.Source.ranges l.fn.source) (g.S.Source.ranges l.source);
   told_contents : StaysTold (g.K.Sink.contents l.fn.sink) (g.K.Sink.contents l.sink);
   rooms : HaveRooms l.layout l.first l.second;
