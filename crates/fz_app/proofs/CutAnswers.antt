@@ -7,11 +7,10 @@ use Rattle.std.specs.Prelude.{◌⊎◌, Option, Some, None, IfSome, Result}
 use Rattle.fz_base.specs.FirstByte.{IsShut}
 use Rattle.fz_base.specs.Ranges.{LogsIn}
 use Rattle.fz_base.specs.declared.failure.Stop.{Stop}
-use Rattle.fz_files.specs.Cutout.{touched}
 use Rattle.fz_files.specs.FirstFault.{IsFirstFault}
-use Rattle.fz_files.specs.Reads.{header_ranges}
+use Rattle.fz_files.specs.Touched.{touched_by}
 use Rattle.fz_files.specs.declared.job.Job.{Job}
-use Rattle.fz_files.specs.declared.job.Job.TheVariants.{Pack, Unpack, Cut, Verify, List as ListHdus, Drill}
+use Rattle.fz_files.specs.declared.job.Job.TheVariants.{Cut}
 use Rattle.fz_grid.specs.declared.sieve.Sieve.{Sieve}
 use Rattle.fz_cut.specs.Slices.{SinksHoldSlices}
 use Rattle.fz_words.specs.Jobs.{Asked}
@@ -35,12 +34,7 @@ unread None old new ranges same = tt
 unread (Some file) old new ranges same = subst (λ (r : Option (List (ℕ × ℕ))). LogsIn (ranges file) old r) (sym same) (none_logged (ranges file) old)
 
 pub nothing_read : (job : Job) (held : Option (List ℕ)) (old new : Option (List (ℕ × ℕ))) → new ≡ old → ReadsTouched job held old new
-nothing_read (Pack options) held old new same = tt
-nothing_read Unpack held old new same = tt
-nothing_read (Cut wanted sieve) held old new same = unread held old new (touched wanted sieve) same
-nothing_read Verify held old new same = tt
-nothing_read ListHdus held old new same = unread held old new (header_ranges ListHdus) same
-nothing_read (Drill rows) held old new same = tt
+nothing_read job held old new same = unread held old new (touched_by job) same
 
 module _ (wanted : Option ℕ) (sieve : Sieve) (W memory : ℕ) (input output : List ℕ) (old new : Ends) where
   abbrev pub asked : Asked

@@ -21,6 +21,7 @@ use Rattle.fz_job.specs.Clauses.{IsAnswer, IsUnmade, TellsFirstFault}
 use Rattle.fz_verify.specs.Clauses.{PrintsLines}
 use Rattle.fz_app.specs.Ends.{IsSameSink, SinkIs, TextIs}
 use Rattle.fz_app.specs.Promised.{IsPromised}
+use Rattle.fz_app.proofs.CutAnswers.{nothing_read}
 use Rattle.fz_app.proofs.JobAnswers.{always_ok, on_ok}
 use Rattle.fz_app.proofs.PackAnswers.{empty_is_shut}
 use Rattle.fz_app.proofs.Tallies.{kept_by}
@@ -149,7 +150,7 @@ drilled rows W memory input output held ranges source sink text text' meter mete
   unread = λ low. refl;
   unmade = same_sink (Drill rows) held (min meter.limit memory) W (IsSameSink sink sink) answer (refl, refl);
   held_is = refl;
-  touched = tt;
+  touched = nothing_read (Drill rows) held ranges ranges refl;
   told_ranges = λ told. told;
   told_contents = λ told. told;
   source_counts = kept_by source source refl;

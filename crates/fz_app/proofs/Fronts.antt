@@ -1,13 +1,13 @@
 -- Whatever the status, the job printed a beginning of its lines, which the first fault of the file decides.
-use Rattle.std.proofs.Common.{◌≡◌, ℕ, List, [], ◌++◌, length, take, refl, sym, ap, ◌∙◌, subst}
+use Rattle.std.proofs.Common.{◌≡◌, ℕ, List, [], ◌++◌, length, take, refl, sym, ap, ◌∙◌, subst, arith}
 use Rattle.std.specs.Prelude.{Option, Some, None, IfSome, Result, Ok, Err}
 use Rattle.std.proofs.Math.Seq.{take-length}
 use Rattle.std.proofs.lemmas.List.{append-nil}
 use Rattle.fz_base.specs.Sink.{MayAppend, appended}
+use Rattle.fz_base.specs.Source.{HoldsOctets}
 use Rattle.fz_base.specs.declared.fault.Fault.{Fault}
 use Rattle.fz_base.specs.declared.failure.Stop.{Stop}
 use Rattle.fz_base.specs.declared.failure.Stop.TheVariants.{Refused as StopRefused, ReadFault as StopRead, WriteFault as StopWrite, OverLimit as StopLimit, NoMemory as StopMemory}
-use Rattle.fz_tile.specs.Plain.{AreBytes}
 use Rattle.fz_files.specs.Lines.{report_lines}
 use Rattle.fz_files.specs.declared.job.Job.{Job}
 use Rattle.fz_files.specs.declared.job.Job.TheVariants.{Pack, Unpack, Cut, Verify, List as ListHdus, Drill}
@@ -35,36 +35,45 @@ no_more lines old new same = (0, same ∙ appended_none old)
 all_more : (lines : List ℕ) (old new : Option (List ℕ)) → new ≡ appended lines old → MayAppend lines old new
 all_more lines old new is = (length lines, is ∙ ap (λ l. appended l old) (sym (take-length lines)))
 
+-- the file that a job is given has bytes if what the source holds has
+given_bytes : (job : Job) (held : Option (List ℕ)) → HoldsOctets held → HoldsOctets (given job held)
+given_bytes (Pack options) held bytes = bytes
+given_bytes Unpack held bytes = bytes
+given_bytes (Cut wanted sieve) held bytes = bytes
+given_bytes Verify held bytes = bytes
+given_bytes ListHdus held bytes = bytes
+given_bytes (Drill rows) held bytes = λ k d few. absurd (omega (arith, few))
+
 module _ (some : HasFirstFault) (only : HasNoOtherFault) where
   abbrev Fronts : Job → Option (List ℕ) → Option (List ℕ) → Option (List ℕ) → Type 0
-  Fronts job held old new = IfSome held (λ file. AreBytes file → MayAppend (report_lines job file (first_fault job file)) old new)
+  Fronts job held old new = IfSome held (λ file. MayAppend (report_lines job file (first_fault job file)) old new)
 
   of_fault : (job : Job) (file : List ℕ) (fault : Option Fault) (old new : Option (List ℕ)) → fault ≡ first_fault job file → new ≡ appended (report_lines job file fault) old → MayAppend (report_lines job file (first_fault job file)) old new
   of_fault job file fault old new is got = subst (λ (f : Option Fault). MayAppend (report_lines job file f) old new) is (all_more (report_lines job file fault) old new got)
 
-  of_lines : (job : Job) (held old new : Option (List ℕ)) (r : Result (Unit {0}) Stop) → PrintsLines job held old new r → TellsFirstFault job held r → Fronts job held old new
-  of_lines job None old new r lines tells = tt
-  of_lines job (Some file) old new (Ok x) lines tells = λ bytes. of_fault job file None old new (only job file None tells) lines
-  of_lines job (Some file) old new (Err (StopRefused x)) lines tells = λ bytes. of_fault job file (Some x) old new (only job file (Some x) tells) lines
-  of_lines job (Some file) old new (Err StopRead) lines tells = λ bytes. lines (first_fault job file) (some job file bytes)
-  of_lines job (Some file) old new (Err StopWrite) lines tells = λ bytes. lines (first_fault job file) (some job file bytes)
-  of_lines job (Some file) old new (Err (StopLimit live asked limit)) lines tells = λ bytes. lines (first_fault job file) (some job file bytes)
-  of_lines job (Some file) old new (Err StopMemory) lines tells = λ bytes. lines (first_fault job file) (some job file bytes)
+  of_lines : (job : Job) (held old new : Option (List ℕ)) (r : Result (Unit {0}) Stop) → HoldsOctets held → PrintsLines job held old new r → TellsFirstFault job held r → Fronts job held old new
+  of_lines job None old new r bytes lines tells = tt
+  of_lines job (Some file) old new (Ok x) bytes lines tells = of_fault job file None old new (only job file None tells) lines
+  of_lines job (Some file) old new (Err (StopRefused x)) bytes lines tells = of_fault job file (Some x) old new (only job file (Some x) tells) lines
+  of_lines job (Some file) old new (Err StopRead) bytes lines tells = lines (first_fault job file) (some job file bytes)
+  of_lines job (Some file) old new (Err StopWrite) bytes lines tells = lines (first_fault job file) (some job file bytes)
+  of_lines job (Some file) old new (Err (StopLimit live asked limit)) bytes lines tells = lines (first_fault job file) (some job file bytes)
+  of_lines job (Some file) old new (Err StopMemory) bytes lines tells = lines (first_fault job file) (some job file bytes)
 
   of_same : (job : Job) (held : Option (List ℕ)) (old new : TextIs) → new ≡ old → Fronts job held old.contents new.contents
   of_same job None old new same = tt
-  of_same job (Some file) old new same = λ bytes. no_more (report_lines job file (first_fault job file)) old.contents new.contents (ap (λ (t : TextIs). t.contents) same)
+  of_same job (Some file) old new same = no_more (report_lines job file (first_fault job file)) old.contents new.contents (ap (λ (t : TextIs). t.contents) same)
 
-  of_job : (job : Job) (held : Option (List ℕ)) (limit W : ℕ) (old new : TextIs) (r : Result (Unit {0}) Stop) → JobPrinted job held limit W old new r → TellsFirstFault job held r → Fronts job held old.contents new.contents
-  of_job (Pack options) held limit W old new r printed tells = of_same (Pack options) held old new printed
-  of_job Unpack held limit W old new r printed tells = of_same Unpack held old new printed
-  of_job (Cut wanted sieve) held limit W old new r printed tells = of_same (Cut wanted sieve) held old new printed
-  of_job Verify held limit W old new r printed tells = of_lines Verify held old.contents new.contents r printed.lines tells
-  of_job ListHdus held limit W old new r printed tells = of_lines ListHdus held old.contents new.contents r printed.lines tells
-  of_job (Drill rows) held limit W old new r printed tells = of_lines (Drill rows) held old.contents new.contents r printed.lines tells
+  of_job : (job : Job) (held : Option (List ℕ)) (limit W : ℕ) (old new : TextIs) (r : Result (Unit {0}) Stop) → HoldsOctets held → JobPrinted job held limit W old new r → TellsFirstFault job held r → Fronts job held old.contents new.contents
+  of_job (Pack options) held limit W old new r bytes printed tells = of_same (Pack options) held old new printed
+  of_job Unpack held limit W old new r bytes printed tells = of_same Unpack held old new printed
+  of_job (Cut wanted sieve) held limit W old new r bytes printed tells = of_same (Cut wanted sieve) held old new printed
+  of_job Verify held limit W old new r bytes printed tells = of_lines Verify held old.contents new.contents r bytes printed.lines tells
+  of_job ListHdus held limit W old new r bytes printed tells = of_lines ListHdus held old.contents new.contents r bytes printed.lines tells
+  of_job (Drill rows) held limit W old new r bytes printed tells = of_lines (Drill rows) held old.contents new.contents r bytes printed.lines tells
 
-  pub front : (asked : Option Asked) (old new : Ends) (status : Status) → IsPromisedTo asked status (λ (a : Asked). IsPromised a old new) →
+  pub front : (asked : Option Asked) (old new : Ends) (status : Status) → HoldsOctets old.held → IsPromisedTo asked status (λ (a : Asked). IsPromised a old new) →
       IfSome asked (λ a. Fronts a.job (given a.job old.held) old.text.contents new.text.contents)
-  front asked old new status promise =
+  front asked old new status bytes promise =
       asked_fact asked status (λ (a : Asked). IsPromised a old new) (λ a. Fronts a.job (given a.job old.held) old.text.contents new.text.contents)
-      (λ a r p. of_job a.job (given a.job old.held) _ _ old.text new.text r p.printed p.first_fault) promise
+      (λ a r p. of_job a.job (given a.job old.held) _ _ old.text new.text r (given_bytes a.job old.held bytes) p.printed p.first_fault) promise

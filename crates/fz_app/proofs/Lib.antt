@@ -6,6 +6,7 @@ mod FirstBytes
 mod Fronts
 mod JobAnswers
 mod Limits
+mod NamesAnswers
 mod PackAnswers
 mod RequestAnswers
 mod RunPromises

@@ -3,6 +3,7 @@
 use Rattle.std.proofs.Common.{◌≡◌, ℕ, List, [], ◌∷◌, refl, sym, subst, inl, inr}
 use Rattle.std.specs.Prelude.{◌⊎◌, Option, Some, None, IfSome, Result, Ok, Err, OnOk, ⊤}
 use Rattle.fz_base.specs.FirstByte.{IsShut}
+use Rattle.fz_base.specs.Source.{HoldsOctets}
 use Rattle.fz_base.specs.declared.fault.Fault.{Fault}
 use Rattle.fz_base.specs.declared.failure.Stop.{Stop}
 use Rattle.fz_files.specs.FirstFault.{IsFaultBehind, IsFirstFault}
@@ -38,14 +39,14 @@ module _ (o : PackOptions) (W memory : ℕ) (input output : List ℕ) (old new :
   by_held (Some file) same = by_fault file (header_fault (Pack o) file) refl same
 
   -- what was packed comes back
-  comes_back : ComesBack → AreOptions o → (held contents : Option (List ℕ)) → HoldsJobOutput (Pack o) held contents → IfSome held (λ file. IsFirstFault (Pack o) file None) → JobRestores (Pack o) held contents
-  comes_back law options None contents packed sound = tt
-  comes_back law options (Some file) None packed sound = tt
-  comes_back law options (Some file) (Some bytes) packed sound = λ are_bytes short. law o file bytes (record { bytes = are_bytes; options = options; sound = sound }) packed short
+  comes_back : ComesBack → AreOptions o → (held contents : Option (List ℕ)) → HoldsOctets held → HoldsJobOutput (Pack o) held contents → IfSome held (λ file. IsFirstFault (Pack o) file None) → JobRestores (Pack o) held contents
+  comes_back law options None contents bytes packed sound = tt
+  comes_back law options (Some file) None bytes packed sound = tt
+  comes_back law options (Some file) (Some contents) bytes packed sound = λ short. law o file contents (record { bytes = bytes; options = options; sound = sound }) packed short
 
-  restored_of : ComesBack → AreOptions o → (answer : Result (Unit {0}) Stop) → OnOk answer (HoldsJobOutput (Pack o) old.held new.sink.contents) → TellsFirstFault (Pack o) old.held answer → OnOk answer (JobRestores (Pack o) old.held new.sink.contents)
-  restored_of law options (Ok done) packed sound = comes_back law options old.held new.sink.contents packed sound
-  restored_of law options (Err stop) packed sound = tt
+  restored_of : ComesBack → AreOptions o → HoldsOctets old.held → (answer : Result (Unit {0}) Stop) → OnOk answer (HoldsJobOutput (Pack o) old.held new.sink.contents) → TellsFirstFault (Pack o) old.held answer → OnOk answer (JobRestores (Pack o) old.held new.sink.contents)
+  restored_of law options bytes (Ok done) packed sound = comes_back law options old.held new.sink.contents bytes packed sound
+  restored_of law options bytes (Err stop) packed sound = tt
 
-  pub packed : ComesBack → AreOptions o → (answer : Result (Unit {0}) Stop) → JobSays asked old new answer → IsPromised asked old new answer
-  packed law options answer s = promised asked old new answer s (λ whole. by_held old.held s.unmade.faulty) (restored_of law options answer s.output s.first_fault) (always_ok answer ⊤ tt)
+  pub packed : ComesBack → AreOptions o → HoldsOctets old.held → (answer : Result (Unit {0}) Stop) → JobSays asked old new answer → IsPromised asked old new answer
+  packed law options bytes answer s = promised asked old new answer s (λ whole. by_held old.held s.unmade.faulty) (restored_of law options bytes answer s.output s.first_fault) (always_ok answer ⊤ tt)

@@ -3,6 +3,7 @@ pub mod Asked
 pub mod Causes
 pub mod Ends
 pub mod Lines
+pub mod Names
 pub mod Outputs
 pub mod Printed
 pub mod Promised

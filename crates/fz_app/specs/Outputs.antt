@@ -1,14 +1,12 @@
 -- What a job writes (FITS 4.0, sections 4.4.1 and 10.1).
 use Rattle.std.specs.Prelude.{ℕ, ◌≡◌, ◌≤◌, ◌^◌, true, Bool, List, [], length, Option, None, IfSome, ⊤}
 use Rattle.fz_base.specs.Ranges.{LogsIn}
-use Rattle.fz_tile.specs.Plain.{AreBytes}
 use Rattle.fz_head.specs.declared.options.PackOptions.{PackOptions}
-use Rattle.fz_files.specs.Cutout.{touched}
 use Rattle.fz_files.specs.CutoutBytes.{IsCutout}
 use Rattle.fz_files.specs.FirstFault.{IsFirstFault}
 use Rattle.fz_files.specs.Packed.{IsPackedFile}
-use Rattle.fz_files.specs.Reads.{header_ranges}
 use Rattle.fz_files.specs.StandsFor.{IsProfileFile, StandsFor}
+use Rattle.fz_files.specs.Touched.{touched_by}
 use Rattle.fz_files.specs.declared.job.Job.{Job}
 use Rattle.fz_files.specs.declared.job.Job.TheVariants.{Pack, Unpack, Cut, Verify, List as ListHdus, Drill}
 use Rattle.fz_grid.specs.declared.sieve.Sieve.{Sieve}
@@ -26,7 +24,7 @@ IsOutput (Drill rows) file bytes = bytes ≡ []
 -- Packing and unpacking undo each other. Packed bytes stand for the file, where they are at most 2^62: so unpacking them gives it again.
 -- What is unpacked from the packed file of a plain file, whatever this was packed with, is the plain file.
 abbrev pub Restores : Job → List ℕ → List ℕ → Type 0
-Restores (Pack options) file bytes = AreBytes file → length bytes ≤ 2 ^ 62 → StandsFor bytes file
+Restores (Pack options) file bytes = length bytes ≤ 2 ^ 62 → StandsFor bytes file
 Restores Unpack file bytes = (options : PackOptions) (plain : List ℕ) → IsProfileFile options plain → IsPackedFile options plain file → bytes ≡ plain
 Restores (Cut wanted sieve) file bytes = ⊤
 Restores Verify file bytes = ⊤
@@ -96,12 +94,6 @@ IfCut (Drill rows) P = ⊤
 abbrev pub HoldsJobSlice : Job → Option (List ℕ) → Option (List ℕ) → Type 0
 HoldsJobSlice job held contents = IfCut job (λ wanted sieve. HoldsSlice wanted sieve held contents)
 
--- Every byte that `cut` reads lies in the header of an HDU that its checks come to, or, if no header is refused, in the row or the record
--- of a tile that holds a pick; and every byte that `list` reads lies in the header of an HDU that its checks come to.
+-- every byte that a job reads lies in the ranges that it may read
 abbrev pub ReadsTouched : Job → Option (List ℕ) → Option (List (ℕ × ℕ)) → Option (List (ℕ × ℕ)) → Type 0
-ReadsTouched (Pack options) held old new = ⊤
-ReadsTouched Unpack held old new = ⊤
-ReadsTouched (Cut wanted sieve) held old new = IfSome held (λ file. LogsIn (touched wanted sieve file) old new)
-ReadsTouched Verify held old new = ⊤
-ReadsTouched ListHdus held old new = IfSome held (λ file. LogsIn (header_ranges ListHdus file) old new)
-ReadsTouched (Drill rows) held old new = ⊤
+ReadsTouched job held old new = IfSome held (λ file. LogsIn (touched_by job file) old new)

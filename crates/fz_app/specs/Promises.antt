@@ -10,7 +10,6 @@ use Rattle.fz_files.specs.Buffers.{IsOfFile, job_bound, job_takings}
 use Rattle.fz_files.specs.FirstFault.{IsFirstFault}
 use Rattle.fz_files.specs.Lines.{report_lines}
 use Rattle.fz_files.specs.declared.job.Job.{Job}
-use Rattle.fz_tile.specs.Plain.{AreBytes}
 use Rattle.fz_round_trip.specs.Decided.{first_fault}
 use Rattle.fz_job.specs.Clauses.{TellsFirstFault}
 use Rattle.fz_words.specs.Jobs.{job_of}
@@ -43,7 +42,7 @@ HasFirstFault words held status = IfRan words status (λ asked answer. TellsFirs
 abbrev pub HasSlice : List (List ℕ) → Option (List ℕ) → Option (List ℕ) → Status → Type 0
 HasSlice words held contents status = IfRan words status (λ asked answer. OnOk answer (HoldsJobSlice asked.job held contents))
 
--- Touched: whatever the answer, every byte that `cut` or `list` read lies in the ranges that it may read.
+-- Touched: whatever the answer, every byte that was read lies in the ranges that the job may read.
 abbrev pub ReadsWithin : List (List ℕ) → Option (List ℕ) → Option (List (ℕ × ℕ)) → Option (List (ℕ × ℕ)) → Type 0
 ReadsWithin words held old new = IfAsked words (λ asked. ReadsTouched asked.job held old new)
 
@@ -65,12 +64,12 @@ HasFirstByteLast words held contents status =
     status ≢ Done → IsShut contents ⊎ (IfAsked words (λ asked. IsWhole asked.job held contents) × ((status ≡ WriteFault) ⊎ (status ≡ NoMemory)))
 
 -- Text: it got the lines of the job, and after them the line of the status. Between them it was as the job left it: with a beginning of the
--- lines that the first fault of the file decides, whatever the status (of bytes: a list with other numbers may have no first fault); and, whatever the source tells, if `verify` was done, with lines in which
+-- lines that the first fault of the file decides, whatever the status; and, whatever the source tells, if `verify` was done, with lines in which
 -- no sum is reported as wrong, or one is if the status is Different.
 pub record GotText (words : List (List ℕ)) (held : Option (List ℕ)) (limit : ℕ) (old new : TextIs) (status : Status) : Type 0 where
   pub between : TextIs
   pub lines : IsPrinted (job_of words) held limit old between status
-  pub front : IfAsked words (λ asked. IfSome (given asked.job held) (λ file. AreBytes file →
+  pub front : IfAsked words (λ asked. IfSome (given asked.job held) (λ file.
       MayAppend (report_lines asked.job file (first_fault asked.job file)) old.contents between.contents))
   pub reported : IsReported (job_of words) old.contents between.contents status
   pub line : GotLine (status_line status) between.contents new.contents between.tally new.tally

@@ -7,22 +7,26 @@ ghost use Rattle.fz_files.specs.Picks.{HasPicks};
 ghost use Rattle.fz_words.specs.Lawful.{IsLawful};
 ghost use Rattle.fz_words.specs.Parts.{texts_of};
 ghost use Rattle.fz_words.specs.Seen.{asked_of};
-ghost use Rattle.fz_base.specs.Counts.{CountsKept, Tally};
+ghost use Rattle.fz_base.specs.Counts.{CountsKept, Tally, nameless};
 ghost use Rattle.fz_base.specs.Meter.{narrowed};
+ghost use Rattle.fz_base.specs.Names.{NamesOnce};
 ghost use Rattle.fz_base.specs.Source.{HoldsLength};
 ghost use Rattle.fz_base.specs.Stop.{Codes};
 ghost use Rattle.fz_base.specs.Told.{StaysTold};
 ghost use Rattle.fz_verify.specs.Clauses.{IsRightAsSaid};
 ghost use Rattle.fz_verify.specs.Reported.{Reports};
-ghost use Rattle.fz_app.specs.Answer.{IsEnd, IsPromisedTo, done_of};
+ghost use Rattle.fz_app.specs.Answer.{IfAnswer, IsEnd, IsPromisedTo, done_of};
 ghost use Rattle.fz_app.specs.Asked.{given};
-ghost use Rattle.fz_app.specs.Causes.{AreCountsKept, DoneHasCause, IsDifferent, IsUnmadeFor, IsUntouched, IsUsage, OverLimitHasCause, ReadFaultHasCause, RefusedHasCause, WriteFaultHasCause};
+ghost use Rattle.fz_app.specs.Causes.{AreCountsKept, DoneHasCause, IsDifferent, IsUnmadeFor, IsUntouched, IsUsage};
+ghost use Rattle.fz_app.specs.Causes.{OverLimitHasCause, ReadFaultHasCause, RefusedHasCause, WriteFaultHasCause};
 ghost use Rattle.fz_app.specs.Ends.{SinkIs, TextIs, ends, sink_is, text_is};
 ghost use Rattle.fz_app.specs.Lines.{status_line, GotLine};
+ghost use Rattle.fz_app.specs.Names.{AreNamed, JobNames};
 ghost use Rattle.fz_app.specs.Outputs.{LeavesSink, LeavesSource};
 ghost use Rattle.fz_app.specs.Printed.{IsReported};
 ghost use Rattle.fz_app.specs.Promised.{IsPromised};
-ghost use Rattle.fz_app.specs.Promises.{BuffersAreBounded, GotText, HasFirstByteLast, HasFirstFault, HasOutput, HasSlice, IsComplete, IsRestored, ReadsWithin};
+ghost use Rattle.fz_app.specs.Promises.{BuffersAreBounded, GotText, HasFirstByteLast, HasFirstFault, HasOutput, HasSlice};
+ghost use Rattle.fz_app.specs.Promises.{IsComplete, IsRestored, ReadsWithin};
 ghost use Rattle.fz_app.specs.declared.status.Status.TheVariants.{Usage as IsUsageStatus};
 
 use crate::line::line_of;
@@ -69,23 +73,35 @@ pub fn run<R: Threads + Sync, S: Source, K: Sink, T: Text, G: Gate>(
     ensures touched { ReadsWithin (texts_of words.now) (S.held source.old) (S.ranges source.old) (S.ranges source.new) }
     ensures buffers { BuffersAreBounded (texts_of words.now) (S.held source.old) meter.old meter.new result }
     ensures first_byte { HasFirstByteLast (texts_of words.now) (S.held source.old) (K.contents sink.new) result }
-    ensures text { GotText (texts_of words.now) (S.held source.old) meter.old.limit (text_is (T.contents text.old) (T.tally text.old)) (text_is (T.contents text.new) (T.tally text.new)) result }
-    ensures complete { IsComplete (texts_of words.now) (S.held source.old) (S.tally source.old) (S.tally source.new) (K.tally sink.old) (K.tally sink.new) (T.tally text.old) (T.tally text.new) meter.old.limit result }
+    ensures text { GotText (texts_of words.now) (S.held source.old) meter.old.limit
+        (text_is (T.contents text.old) (T.tally text.old)) (text_is (T.contents text.new) (T.tally text.new)) result }
+    ensures complete { IsComplete (texts_of words.now) (S.held source.old) (nameless (S.tally source.old))
+        (nameless (S.tally source.new)) (nameless (K.tally sink.old)) (nameless (K.tally sink.new)) (T.tally text.old)
+        (T.tally text.new) meter.old.limit result }
 
     ensures different { IsDifferent (texts_of words.now) (S.held source.old) result }
     ensures usage { IsUsage (texts_of words.now) result }
-    ensures untouched { IsUntouched (texts_of words.now) (source.new ≡ source.old) (sink.new ≡ sink.old) (meter.new ≡ meter.old) (text_is (T.contents text.old) (T.tally text.old)) (text_is (T.contents text.new) (T.tally text.new)) result }
-    ensures done { DoneHasCause (texts_of words.now) (S.tally source.old) (S.tally source.new) (K.tally sink.old) (K.tally sink.new) (T.tally text.old) (T.tally text.new) result }
-    ensures refused { RefusedHasCause (texts_of words.now) (S.tally source.old) (S.tally source.new) (K.tally sink.old) (K.tally sink.new) result }
-    ensures read_fault { ReadFaultHasCause (texts_of words.now) (S.tally source.old) (S.tally source.new) result }
-    ensures write_fault { WriteFaultHasCause (texts_of words.now) (K.tally sink.old) (K.tally sink.new) (T.tally text.old) (T.tally text.new) result }
-    ensures over_limit { OverLimitHasCause (texts_of words.now) (S.held source.old) meter.old.limit (S.ranges source.old) (S.ranges source.new) result }
-    ensures unmade { IsUnmadeFor (texts_of words.now) (S.held source.old) meter.old.limit ((K.created sink.new ≡ K.created sink.old) × (K.contents sink.new ≡ K.contents sink.old)) result }
+    ensures untouched { IsUntouched (texts_of words.now) (source.new ≡ source.old) (sink.new ≡ sink.old) (meter.new ≡ meter.old)
+        (text_is (T.contents text.old) (T.tally text.old)) (text_is (T.contents text.new) (T.tally text.new)) result }
+    ensures done { DoneHasCause (texts_of words.now) (nameless (S.tally source.old)) (nameless (S.tally source.new))
+        (nameless (K.tally sink.old)) (nameless (K.tally sink.new)) (T.tally text.old) (T.tally text.new) result }
+    ensures refused { RefusedHasCause (texts_of words.now) (nameless (S.tally source.old)) (nameless (S.tally source.new))
+        (nameless (K.tally sink.old)) (nameless (K.tally sink.new)) result }
+    ensures read_fault { ReadFaultHasCause (texts_of words.now) (nameless (S.tally source.old)) (nameless (S.tally source.new)) result }
+    ensures write_fault { WriteFaultHasCause (texts_of words.now) (nameless (K.tally sink.old)) (nameless (K.tally sink.new))
+        (T.tally text.old) (T.tally text.new) result }
+    ensures over_limit { OverLimitHasCause (texts_of words.now) (S.held source.old) meter.old.limit (S.ranges source.old)
+        (S.ranges source.new) result }
+    ensures unmade { IsUnmadeFor (texts_of words.now) (S.held source.old) meter.old.limit ((K.created sink.new ≡ K.created sink.old)
+        × (K.contents sink.new ≡ K.contents sink.old)) result }
 
     ensures held { S.held source.new ≡ S.held source.old }
     ensures told_ranges { StaysTold (S.ranges source.old) (S.ranges source.new) }
     ensures told_contents { StaysTold (K.contents sink.old) (K.contents sink.new) }
-    ensures counts { AreCountsKept (S.tally source.old) (S.tally source.new) (K.tally sink.old) (K.tally sink.new) (T.tally text.old) (T.tally text.new) }
+    ensures counts { AreCountsKept (nameless (S.tally source.old)) (nameless (S.tally source.new)) (nameless (K.tally sink.old))
+        (nameless (K.tally sink.new)) (T.tally text.old) (T.tally text.new) }
+    ensures names { AreNamed (texts_of words.now) (S.tally source.old).names (S.tally source.new).names (K.tally sink.old).names
+        (K.tally sink.new).names result }
 {
     // Every file has a first fault or none, and no other.
     first_fault_law();
@@ -114,13 +130,20 @@ fn answer_to<R: Threads + Sync, S: Source, K: Sink, T: Text, G: Gate>(
     requires empty { IfSome (K.contents sink.old) (λ c. c ≡ []) }
     requires unused { (meter.old.live ≡ 0) × (meter.old.peak ≡ 0) }
     ensures promised { IsPromisedTo (job_of (texts_of words.now)) result (λ asked. IsPromised asked
-        (ends (S.held source.old) (S.ranges source.old) (S.tally source.old) (sink_is (K.contents sink.old) (K.created sink.old) (K.finished sink.old) (K.tally sink.old)) (text_is (T.contents text.old) (T.tally text.old)) meter.old)
-        (ends (S.held source.new) (S.ranges source.new) (S.tally source.new) (sink_is (K.contents sink.new) (K.created sink.new) (K.finished sink.new) (K.tally sink.new)) (text_is (T.contents text.new) (T.tally text.new)) meter.new)) }
+        (ends (S.held source.old) (S.ranges source.old) (nameless (S.tally source.old))
+        (sink_is (K.contents sink.old) (K.created sink.old) (K.finished sink.old) (nameless (K.tally sink.old)))
+        (text_is (T.contents text.old) (T.tally text.old)) meter.old)
+        (ends (S.held source.new) (S.ranges source.new) (nameless (S.tally source.new))
+        (sink_is (K.contents sink.new) (K.created sink.new) (K.finished sink.new) (nameless (K.tally sink.new)))
+        (text_is (T.contents text.new) (T.tally text.new)) meter.new)) }
     ensures untouched { result ≡ IsUsageStatus → (source.new ≡ source.old) × (sink.new ≡ sink.old) × (text.new ≡ text.old) × (meter.new ≡ meter.old) }
     ensures ended { IfSome (job_of (texts_of words.now)) (λ asked. IsEnd asked.job (given asked.job (S.held source.old)) result) }
     ensures left { IfSome (job_of (texts_of words.now)) (λ asked. LeavesSink asked.job (sink.new ≡ sink.old)) }
     ensures unread { IfSome (job_of (texts_of words.now)) (λ asked. LeavesSource asked.job (source.new ≡ source.old)) }
     ensures reported { IsReported (job_of (texts_of words.now)) (T.contents text.old) (T.contents text.new) result }
+    ensures names { IfSome (job_of (texts_of words.now))
+        (λ asked. IfAnswer result (λ answer. JobNames asked (S.tally source.old).names (S.tally source.new).names
+        (K.tally sink.old).names (K.tally sink.new).names answer)) }
 {
     match read_words(words) {
         Ok(request) => run_request(rt, alloc, &request, source, sink, text, gate, meter),
@@ -143,13 +166,20 @@ fn run_request<R: Threads + Sync, S: Source, K: Sink, T: Text, G: Gate>(
     requires empty { IfSome (K.contents sink.old) (λ c. c ≡ []) }
     requires unused { (meter.old.live ≡ 0) × (meter.old.peak ≡ 0) }
     ensures promised { IsPromisedTo (Some (asked_of request.now)) result (λ asked. IsPromised asked
-        (ends (S.held source.old) (S.ranges source.old) (S.tally source.old) (sink_is (K.contents sink.old) (K.created sink.old) (K.finished sink.old) (K.tally sink.old)) (text_is (T.contents text.old) (T.tally text.old)) meter.old)
-        (ends (S.held source.new) (S.ranges source.new) (S.tally source.new) (sink_is (K.contents sink.new) (K.created sink.new) (K.finished sink.new) (K.tally sink.new)) (text_is (T.contents text.new) (T.tally text.new)) meter.new)) }
+        (ends (S.held source.old) (S.ranges source.old) (nameless (S.tally source.old))
+        (sink_is (K.contents sink.old) (K.created sink.old) (K.finished sink.old) (nameless (K.tally sink.old)))
+        (text_is (T.contents text.old) (T.tally text.old)) meter.old)
+        (ends (S.held source.new) (S.ranges source.new) (nameless (S.tally source.new))
+        (sink_is (K.contents sink.new) (K.created sink.new) (K.finished sink.new) (nameless (K.tally sink.new)))
+        (text_is (T.contents text.new) (T.tally text.new)) meter.new)) }
     ensures untouched { result ≡ IsUsageStatus → (source.new ≡ source.old) × (sink.new ≡ sink.old) × (text.new ≡ text.old) × (meter.new ≡ meter.old) }
     ensures ended { IfSome (Some (asked_of request.now)) (λ asked. IsEnd asked.job (given asked.job (S.held source.old)) result) }
     ensures left { IfSome (Some (asked_of request.now)) (λ asked. LeavesSink asked.job (sink.new ≡ sink.old)) }
     ensures unread { IfSome (Some (asked_of request.now)) (λ asked. LeavesSource asked.job (source.new ≡ source.old)) }
     ensures reported { IsReported (Some (asked_of request.now)) (T.contents text.old) (T.contents text.new) result }
+    ensures names { IfSome (Some (asked_of request.now))
+        (λ asked. IfAnswer result (λ answer. JobNames asked (S.tally source.old).names (S.tally source.new).names
+        (K.tally sink.old).names (K.tally sink.new).names answer)) }
 {
     match &request.job {
         Job::Pack(options) => ended(run_pack(
@@ -166,6 +196,7 @@ fn run_request<R: Threads + Sync, S: Source, K: Sink, T: Text, G: Gate>(
 }
 
 // Packs the file IN into OUT.
+#[tactic(auto, using(crate::proofs::CutAnswers::nothing_read))]
 fn run_pack<R: Threads + Sync, S: Source, K: Sink, G: Gate>(
     rt: &R,
     alloc: Global,
@@ -182,8 +213,13 @@ fn run_pack<R: Threads + Sync, S: Source, K: Sink, G: Gate>(
     requires empty { IfSome (K.contents sink.old) (λ c. c ≡ []) }
     requires unused { (meter.old.live ≡ 0) × (meter.old.peak ≡ 0) }
     ensures promised { (text : TextIs) → IsPromised (asked_of request.now)
-        (ends (S.held source.old) (S.ranges source.old) (S.tally source.old) (sink_is (K.contents sink.old) (K.created sink.old) (K.finished sink.old) (K.tally sink.old)) text meter.old)
-        (ends (S.held source.new) (S.ranges source.new) (S.tally source.new) (sink_is (K.contents sink.new) (K.created sink.new) (K.finished sink.new) (K.tally sink.new)) text meter.new) result }
+        (ends (S.held source.old) (S.ranges source.old) (nameless (S.tally source.old))
+        (sink_is (K.contents sink.old) (K.created sink.old) (K.finished sink.old) (nameless (K.tally sink.old))) text meter.old)
+        (ends (S.held source.new) (S.ranges source.new) (nameless (S.tally source.new))
+        (sink_is (K.contents sink.new) (K.created sink.new) (K.finished sink.new) (nameless (K.tally sink.new))) text meter.new)
+        result }
+    ensures names { JobNames (asked_of request.now) (S.tally source.old).names (S.tally source.new).names (K.tally sink.old).names
+        (K.tally sink.new).names result }
 {
     // What is packed comes back.
     round_trip_law();
@@ -203,6 +239,7 @@ fn run_pack<R: Threads + Sync, S: Source, K: Sink, G: Gate>(
 }
 
 // Unpacks the file IN into OUT.
+#[tactic(auto, using(crate::proofs::CutAnswers::nothing_read))]
 fn run_unpack<R: Threads + Sync, S: Source, K: Sink, G: Gate>(
     rt: &R,
     alloc: Global,
@@ -217,8 +254,13 @@ fn run_unpack<R: Threads + Sync, S: Source, K: Sink, G: Gate>(
     requires empty { IfSome (K.contents sink.old) (λ c. c ≡ []) }
     requires unused { (meter.old.live ≡ 0) × (meter.old.peak ≡ 0) }
     ensures promised { (text : TextIs) → IsPromised (asked_of request.now)
-        (ends (S.held source.old) (S.ranges source.old) (S.tally source.old) (sink_is (K.contents sink.old) (K.created sink.old) (K.finished sink.old) (K.tally sink.old)) text meter.old)
-        (ends (S.held source.new) (S.ranges source.new) (S.tally source.new) (sink_is (K.contents sink.new) (K.created sink.new) (K.finished sink.new) (K.tally sink.new)) text meter.new) result }
+        (ends (S.held source.old) (S.ranges source.old) (nameless (S.tally source.old))
+        (sink_is (K.contents sink.old) (K.created sink.old) (K.finished sink.old) (nameless (K.tally sink.old))) text meter.old)
+        (ends (S.held source.new) (S.ranges source.new) (nameless (S.tally source.new))
+        (sink_is (K.contents sink.new) (K.created sink.new) (K.finished sink.new) (nameless (K.tally sink.new))) text meter.new)
+        result }
+    ensures names { JobNames (asked_of request.now) (S.tally source.old).names (S.tally source.new).names (K.tally sink.old).names
+        (K.tally sink.new).names result }
 {
     // What was packed comes back, and a packed file stands for one file.
     round_trip_law();
@@ -247,8 +289,13 @@ fn run_cut<R: Threads + Sync, S: Source, K: Sink, G: Gate>(
     requires empty { IfSome (K.contents sink.old) (λ c. c ≡ []) }
     requires unused { (meter.old.live ≡ 0) × (meter.old.peak ≡ 0) }
     ensures promised { (text : TextIs) → IsPromised (asked_of request.now)
-        (ends (S.held source.old) (S.ranges source.old) (S.tally source.old) (sink_is (K.contents sink.old) (K.created sink.old) (K.finished sink.old) (K.tally sink.old)) text meter.old)
-        (ends (S.held source.new) (S.ranges source.new) (S.tally source.new) (sink_is (K.contents sink.new) (K.created sink.new) (K.finished sink.new) (K.tally sink.new)) text meter.new) result }
+        (ends (S.held source.old) (S.ranges source.old) (nameless (S.tally source.old))
+        (sink_is (K.contents sink.old) (K.created sink.old) (K.finished sink.old) (nameless (K.tally sink.old))) text meter.old)
+        (ends (S.held source.new) (S.ranges source.new) (nameless (S.tally source.new))
+        (sink_is (K.contents sink.new) (K.created sink.new) (K.finished sink.new) (nameless (K.tally sink.new))) text meter.new)
+        result }
+    ensures names { JobNames (asked_of request.now) (S.tally source.old).names (S.tally source.new).names (K.tally sink.old).names
+        (K.tally sink.new).names result }
 {
     // A cutout is a slice of what the packed file stands for.
     slice_law(sieve);
@@ -269,6 +316,7 @@ fn run_cut<R: Threads + Sync, S: Source, K: Sink, G: Gate>(
 }
 
 // Verifies the file IN, with one worker. Answers whether no sum is wrong.
+#[tactic(auto, using(crate::proofs::CutAnswers::nothing_read))]
 fn run_verify<R: Threads + Sync, S: Source, T: Text, G: Gate>(
     rt: &R,
     alloc: Global,
@@ -281,8 +329,12 @@ fn run_verify<R: Threads + Sync, S: Source, T: Text, G: Gate>(
     requires job { request.now.job ≡ Verify }
     requires unused { (meter.old.live ≡ 0) × (meter.old.peak ≡ 0) }
     ensures promised { (sink : SinkIs) → IfSome sink.contents (λ c. c ≡ []) → IsPromised (asked_of request.now)
-        (ends (S.held source.old) (S.ranges source.old) (S.tally source.old) sink (text_is (T.contents text.old) (T.tally text.old)) meter.old)
-        (ends (S.held source.new) (S.ranges source.new) (S.tally source.new) sink (text_is (T.contents text.new) (T.tally text.new)) meter.new) (done_of result) }
+        (ends (S.held source.old) (S.ranges source.old) (nameless (S.tally source.old)) sink
+        (text_is (T.contents text.old) (T.tally text.old)) meter.old)
+        (ends (S.held source.new) (S.ranges source.new) (nameless (S.tally source.new)) sink
+        (text_is (T.contents text.new) (T.tally text.new)) meter.new) (done_of result) }
+    ensures names { (made : Option (List (List ℕ))) → JobNames (asked_of request.now) (S.tally source.old).names
+        (S.tally source.new).names made made (done_of result) }
     ensures right { IfOk result (λ right. IfSome (S.held source.old) (IsRightAsSaid right)) }
     ensures reported { IfOk result (Reports (T.contents text.old) (T.contents text.new)) }
 {
@@ -301,8 +353,12 @@ fn run_list<S: Source, T: Text>(
     requires job { request.now.job ≡ ListHdus }
     requires unused { (meter.old.live ≡ 0) × (meter.old.peak ≡ 0) }
     ensures promised { (sink : SinkIs) → IfSome sink.contents (λ c. c ≡ []) → IsPromised (asked_of request.now)
-        (ends (S.held source.old) (S.ranges source.old) (S.tally source.old) sink (text_is (T.contents text.old) (T.tally text.old)) meter.old)
-        (ends (S.held source.new) (S.ranges source.new) (S.tally source.new) sink (text_is (T.contents text.new) (T.tally text.new)) meter.new) result }
+        (ends (S.held source.old) (S.ranges source.old) (nameless (S.tally source.old)) sink
+        (text_is (T.contents text.old) (T.tally text.old)) meter.old)
+        (ends (S.held source.new) (S.ranges source.new) (nameless (S.tally source.new)) sink
+        (text_is (T.contents text.new) (T.tally text.new)) meter.new) result }
+    ensures names { (made : Option (List (List ℕ))) → JobNames (asked_of request.now) (S.tally source.old).names
+        (S.tally source.new).names made made result }
 {
     let length = attach(request, source, meter)?;
     list(source, length, text, meter)
@@ -321,9 +377,11 @@ fn run_drill<R: Threads + Sync, T: Text, G: Gate>(
     requires job { request.now.job ≡ Drill rows }
     requires rows { (1 ≤ rows) × (rows ≤ 16384) }
     requires unused { (meter.old.live ≡ 0) × (meter.old.peak ≡ 0) }
-    ensures promised { (held : Option (List ℕ)) (ranges : Option (List (ℕ × ℕ))) (source : Tally) (sink : SinkIs) → IfSome sink.contents (λ c. c ≡ []) → IsPromised (asked_of request.now)
+    ensures promised { (held : Option (List ℕ)) (ranges : Option (List (ℕ × ℕ))) (source : Tally) (sink : SinkIs)
+        → IfSome sink.contents (λ c. c ≡ []) → IsPromised (asked_of request.now)
         (ends held ranges source sink (text_is (T.contents text.old) (T.tally text.old)) meter.old)
         (ends held ranges source sink (text_is (T.contents text.new) (T.tally text.new)) meter.new) result }
+    ensures names { (opened made : Option (List (List ℕ))) → JobNames (asked_of request.now) opened opened made made result }
 {
     let memory = request.memory;
     meter.narrow(memory);
@@ -346,7 +404,8 @@ fn begin<S: Source>(
     ensures narrowed { meter.new ≡ narrowed meter.old request.now.memory }
     ensures held { S.held source.new ≡ S.held source.old }
     ensures ranges { S.ranges source.new ≡ S.ranges source.old }
-    ensures cause { Codes (S.tally source.old) (S.tally source.new) result }
+    ensures names { NamesOnce request.now.input.now (S.tally source.old).names (S.tally source.new).names result }
+    ensures cause { Codes (nameless (S.tally source.old)) (nameless (S.tally source.new)) result }
 {
     let length = attach(request, source, meter)?;
     let window = Window::new(alloc, workers).map_err(|_| Stop::NoMemory)?;
@@ -360,7 +419,8 @@ fn attach<S: Source>(request: &Request<'_>, source: &mut S, meter: &mut Meter) -
     ensures narrowed { meter.new ≡ narrowed meter.old request.now.memory }
     ensures held { S.held source.new ≡ S.held source.old }
     ensures ranges { S.ranges source.new ≡ S.ranges source.old }
-    ensures cause { Codes (S.tally source.old) (S.tally source.new) result }
+    ensures names { NamesOnce request.now.input.now (S.tally source.old).names (S.tally source.new).names result }
+    ensures cause { Codes (nameless (S.tally source.old)) (nameless (S.tally source.new)) result }
 {
     meter.narrow(request.memory);
     source.attach(request.input).map_err(Stop::reading)

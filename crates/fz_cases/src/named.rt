@@ -1,24 +1,32 @@
-//! Objects in memory that are there by one name alone: a call with another name is a fault.
-ghost use Rattle.std.specs.Prelude.{ℕ, ◌≡◌, ◌≤◌, ◌<◌, IsTrue, Some, None, [], false};
-ghost use Rattle.fz_base.specs.Counts.{Tally};
+//! Objects that are there by one name alone: a call with another name is a fault. They tell
+//! the names by which they were opened and made.
+ghost use Rattle.std.specs.Prelude.{ℕ, ◌≡◌, ◌≤◌, ◌<◌, ◌^◌, IsTrue, Some, None, [], false, replicate};
+ghost use Rattle.fz_base.specs.Counts.{Tally, unamended};
 
-use fz_base::{Failed, MemSink, MemSource, Sink, Source};
+use fz_base::{Failed, MemSink, Sink, Source};
 
-/// A source in memory with a name. It tells no bytes to contracts, as a real file does.
+/// A source with a name, over another. It tells no bytes to contracts, as a real file does.
 #[derive(Drop)]
-pub struct NamedSource {
-    source: MemSource,
+pub struct NamedSource<S: Source + Drop> {
+    source: S,
     name: &'static str,
+    opened: u64,
     faults: u64,
 }
 
-impl NamedSource {
-    pub fn new(source: MemSource, name: &'static str) -> NamedSource {
+impl<S: Source + Drop> NamedSource<S> {
+    pub fn new(source: S, name: &'static str) -> NamedSource<S> {
         NamedSource {
             source,
             name,
+            opened: 0,
             faults: 0,
         }
+    }
+
+    /// How often it was opened.
+    pub fn opened(&self) -> u64 {
+        self.opened
     }
 
     /// How often a call failed.
@@ -27,25 +35,27 @@ impl NamedSource {
     }
 }
 
-impl Source for NamedSource {
-    ghost use Rattle.fz_base.specs.Counts.{Tally};
+impl<S: Source + Drop> Source for NamedSource<S> {
+    ghost use Rattle.fz_base.specs.Counts.{Tally, unamended};
 
     ghost held = { λ _. None };
 
     ghost ranges = { λ _. None };
 
-    ghost attached = { λ s. ⟦<MemSource as Source>⟧.attached s.source };
+    ghost attached = { λ s. S.attached s.source };
 
-    ghost tally = { λ s. record { faults = s.faults; wants = (⟦<MemSource as Source>⟧.tally s.source).wants } };
+    ghost tally = { λ s. record { faults = s.faults; wants = (S.tally s.source).wants; names = Some (replicate s.opened s.name.now); amended = unamended } };
 
     fn attach(&mut self, name: &str) -> Result<u64, Failed> {
-        if name != self.name {
+        if name != self.name || self.opened == u64::MAX {
             self.faults = self.faults.saturating_add(1);
             return Err(Failed::Fault);
         }
         let answer = self.source.attach(name);
-        if answer == Err(Failed::Fault) {
-            self.faults = self.faults.saturating_add(1);
+        match answer {
+            Ok(_) => self.opened += 1,
+            Err(Failed::Fault) => self.faults = self.faults.saturating_add(1),
+            Err(Failed::NoMemory) => {}
         }
         answer
     }
@@ -59,6 +69,10 @@ impl Source for NamedSource {
     }
 
     ghost agrees = { λ _ _ _. tt };
+
+    ghost near = { λ s n e. S.near s.source n e };
+
+    ghost octets = { λ _. tt };
 }
 
 /// A sink in memory with a name.
@@ -66,6 +80,7 @@ impl Source for NamedSource {
 pub struct NamedSink {
     sink: MemSink,
     name: &'static str,
+    made: u64,
     faults: u64,
 }
 
@@ -77,8 +92,14 @@ impl NamedSink {
         NamedSink {
             sink,
             name,
+            made: 0,
             faults: 0,
         }
+    }
+
+    /// How often it was made.
+    pub fn made(&self) -> u64 {
+        self.made
     }
 
     /// What was written.
@@ -93,7 +114,7 @@ impl NamedSink {
 }
 
 impl Sink for NamedSink {
-    ghost use Rattle.fz_base.specs.Counts.{Tally};
+    ghost use Rattle.fz_base.specs.Counts.{Tally, unamended};
 
     ghost contents = { λ s. ⟦<MemSink as Sink>⟧.contents s.sink };
 
@@ -101,16 +122,18 @@ impl Sink for NamedSink {
 
     ghost finished = { λ s. ⟦<MemSink as Sink>⟧.finished s.sink };
 
-    ghost tally = { λ s. record { faults = s.faults; wants = (⟦<MemSink as Sink>⟧.tally s.sink).wants } };
+    ghost tally = { λ s. record { faults = s.faults; wants = (⟦<MemSink as Sink>⟧.tally s.sink).wants; names = Some (replicate s.made s.name.now); amended = unamended } };
 
     fn create(&mut self, name: &str) -> Result<(), Failed> {
-        if name != self.name {
+        if name != self.name || self.made == u64::MAX {
             self.faults = self.faults.saturating_add(1);
             return Err(Failed::Fault);
         }
         let answer = self.sink.create(name);
-        if answer == Err(Failed::Fault) {
-            self.faults = self.faults.saturating_add(1);
+        match answer {
+            Ok(()) => self.made += 1,
+            Err(Failed::Fault) => self.faults = self.faults.saturating_add(1),
+            Err(Failed::NoMemory) => {}
         }
         answer
     }

@@ -35,7 +35,7 @@ pub const FREE: Conditions = Conditions {
 #[derive(Drop)]
 pub struct Outcome {
     pub status: Status,
-    pub source: NamedSource,
+    pub source: NamedSource<MemSource>,
     pub sink: NamedSink,
     pub text: MemText,
     pub live: u64,

@@ -1,5 +1,5 @@
 //! What no clause says: messages, worked rows, real files, and that each call can succeed.
-ghost use Rattle.fz_base.specs.Counts.{HasCause};
+ghost use Rattle.fz_base.specs.Counts.{HasCause, nameless};
 
 use fz_base::{
     Bytes, Failed, Fault, FileSink, FileSource, FixedSource, FreeGate, Gate, Kind, MemSink,
@@ -108,7 +108,7 @@ fn mem_source_fails_where_it_is_told_to(rt: HostRuntime) -> Result<(), Fail> {
 
 // Any source, of which its trait alone is known.
 fn attach<S: Source>(source: &mut S) -> Result<u64, Failed>
-    ensures cause { HasCause (S.tally source.old) (S.tally source.new) result }
+    ensures cause { HasCause (nameless (S.tally source.old)) (nameless (S.tally source.new)) result }
 {
     source.attach("any")
 }

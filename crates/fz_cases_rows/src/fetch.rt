@@ -145,18 +145,18 @@ const RICE: [u8; 40] = [
 
 /// A source that another one reads for, and that does not tell its bytes: so no header need say the image.
 #[derive(Drop)]
-struct Untold {
-    source: MemSource,
+struct Untold<S: Source + Drop> {
+    source: S,
 }
 
-impl Source for Untold {
+impl<S: Source + Drop> Source for Untold<S> {
     ghost held = { λ _. None };
 
-    ghost ranges = { λ s. ⟦<MemSource as Source>⟧.ranges s.source };
+    ghost ranges = { λ s. S.ranges s.source };
 
-    ghost attached = { λ s. ⟦<MemSource as Source>⟧.attached s.source };
+    ghost attached = { λ s. S.attached s.source };
 
-    ghost tally = { λ s. ⟦<MemSource as Source>⟧.tally s.source };
+    ghost tally = { λ s. S.tally s.source };
 
     fn attach(&mut self, name: &str) -> Result<u64, Failed> {
         self.source.attach(name)
@@ -167,10 +167,18 @@ impl Source for Untold {
     }
 
     ghost agrees = { λ _ _ _. tt };
+
+    ghost near = { λ s n e. S.near s.source n e };
+
+    ghost octets = { λ _. tt };
 }
 
 /// A source of these bytes, of which some are made others.
-fn source_of(alloc: Global, bytes: &[u8], others: &[(usize, u8)]) -> Result<Untold, AllocError>
+fn source_of(
+    alloc: Global,
+    bytes: &[u8],
+    others: &[(usize, u8)],
+) -> Result<Untold<MemSource>, AllocError>
     requires { len bytes.now ≤ 2 ^ 32 }
 {
     let mut file = vec![in alloc; 0u8; bytes.len()]?;
@@ -217,7 +225,7 @@ fn are_tiles(image: &PackedImage, tiles: &[u32]) -> bool
 /// Fetches tiles into the window.
 fn fetch<R: Threads + Sync>(
     rt: &R,
-    source: &mut Untold,
+    source: &mut Untold<MemSource>,
     image: &PackedImage,
     tiles: &[u32],
     window: &mut Window,

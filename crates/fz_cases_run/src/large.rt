@@ -1,6 +1,7 @@
 //! Images that are too large to be held: a source that is zeros behind its header.
-ghost use Rattle.std.specs.Prelude.{ℕ, ◌≡◌, Some, None, if◌then◌else◌};
-ghost use Rattle.fz_base.specs.Counts.{Tally};
+ghost use Rattle.std.specs.Prelude.{ℕ, ◌≡◌, ◌≤◌, ◌^◌, Some, None, if◌then◌else◌};
+ghost use Rattle.std.specs.Option.{ForSome};
+ghost use Rattle.fz_base.specs.Counts.{uncounted};
 
 use fz_app::run;
 use fz_base::{Failed, FreeGate, MemSink, MemText, Meter, Source};
@@ -18,18 +19,17 @@ struct HollowSource {
     front: Vec<u8>,
     len: u64,
     attached: Option<u64>,
+    ghost near: { ForSome attached (λ n. n ≤ 2 ^ 62) },
 }
 
 impl Source for HollowSource {
-    ghost use Rattle.fz_base.specs.Counts.{Tally};
-
     ghost held = { λ _. None };
 
     ghost ranges = { λ _. None };
 
     ghost attached = { λ s. s.attached };
 
-    ghost tally = { λ _. record { faults = 0; wants = 0 } };
+    ghost tally = { λ _. uncounted };
 
     fn attach(&mut self, _name: &str) -> Result<u64, Failed> {
         let len = self.len.min(1 << 62);
@@ -49,6 +49,10 @@ impl Source for HollowSource {
     }
 
     ghost agrees = { λ _ _ _. tt };
+
+    ghost near = { λ s n e. s.near n e };
+
+    ghost octets = { λ _. tt };
 }
 
 /// What a run left in the text and in the sink.

@@ -196,6 +196,9 @@ fn names_go_to_the_source_and_to_the_sink(rt: HostRuntime) -> Result<(), Fail> {
             done,
             "{words:?}"
         );
+        let opened = u64::from(outcome.status != Status::ReadFault);
+        assert_eq!(rt; outcome.source.opened(), opened, "{words:?}");
+        assert_eq!(rt; outcome.sink.made(), u64::from(done), "{words:?}");
     }
     Ok(())
 }

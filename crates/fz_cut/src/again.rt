@@ -47,7 +47,8 @@ pub(crate) fn read_again<S: Source>(
     ensures small { IfOk result (λ a. pixels_of a.image.plan 0 ≤ tile) }
     ensures as_seen { IfSome (S.held source.old) (λ g. ReadsAsSeen g region.now (len buf.old) tile from.now result) }
     ensures refused { IfRefused result IsChanged }
-    ensures touched { IfSome (S.held source.old) (λ g. LogsWithin from.now.start (header_touched from.now.hdu from.now.start g) (S.ranges source.old) (S.ranges source.new)) }
+    ensures touched { IfSome (S.held source.old) (λ g. LogsWithin from.now.start (header_touched from.now.hdu from.now.start g)
+        (S.ranges source.old) (S.ranges source.new)) }
     ensures block { len block.new ≡ 2880 }
     ensures buf { len buf.new ≡ len buf.old }
     ensures source { SourceStays (S.held source.old) (S.held source.new) (S.attached source.old) (S.attached source.new) }
@@ -76,7 +77,8 @@ fn read_image<S: Source>(
     ensures again { IfOk result (IsAgain (S.held source.old) length region.now buf.new) }
     ensures small { IfOk result (λ a. pixels_of a.image.plan 0 ≤ tile) }
     ensures as_seen { IfSome (S.held source.old) (λ g. ReadsAsSeen g region.now (len buf.old) tile from.now result) }
-    ensures touched { IfSome (S.held source.old) (λ g. LogsWithin from.now.start (header_touched from.now.hdu from.now.start g) (S.ranges source.old) (S.ranges source.new)) }
+    ensures touched { IfSome (S.held source.old) (λ g. LogsWithin from.now.start (header_touched from.now.hdu from.now.start g)
+        (S.ranges source.old) (S.ranges source.new)) }
     ensures block { len block.new ≡ 2880 }
     ensures buf { len buf.new ≡ len buf.old }
     ensures source { SourceStays (S.held source.old) (S.held source.new) (S.attached source.old) (S.attached source.new) }

@@ -1,6 +1,8 @@
 //! The job: look at the headers up to the HDU that is cut from, take all buffers, and then write.
 ghost use Rattle.std.specs.Prelude.{◌≡◌, ◌+◌, ◌<◌, ◌≤◌, max, true, None, Some, [], length as len, sum, OnOk, IfSome, IsSome};
 ghost use Rattle.fz_base.specs.Ranges.{LogsIn};
+ghost use Rattle.fz_base.specs.Counts.{nameless};
+ghost use Rattle.fz_base.specs.Names.{NamesOnce};
 ghost use Rattle.fz_base.specs.Stop.{IfRefused, TellsLimit};
 ghost use Rattle.fz_base.specs.Takings.{TellsFirstPast, first_past, highest, piled};
 ghost use Rattle.fz_base.specs.Told.{StaysTold};
@@ -10,7 +12,8 @@ ghost use Rattle.fz_files.specs.Buffers.{job_bound, job_takings};
 ghost use Rattle.fz_files.specs.Cutout.{touched};
 ghost use Rattle.fz_files.specs.Walks.{box_of};
 ghost use Rattle.fz_files.specs.declared.job.Job.TheVariants.{Cut};
-ghost use Rattle.fz_job.specs.Clauses.{Answers, ComesLate, HasJobCause, IfOverLimit, IsShutOrWhole, IsUnmade, KeepsBuffers, KeepsSource, StaysUnmade, TellsFirstFault, greatest_bound};
+ghost use Rattle.fz_job.specs.Clauses.{Answers, ComesLate, HasJobCause, IfOverLimit, IsShutOrWhole, IsUnmade, KeepsBuffers};
+ghost use Rattle.fz_job.specs.Clauses.{KeepsSource, StaysUnmade, TellsFirstFault, greatest_bound};
 ghost use Rattle.fz_job.specs.Keeps.{SourceStays};
 ghost use Rattle.fz_cut.specs.Again.{WasSeen};
 ghost use Rattle.fz_files.specs.Picks.{HasPicks};
@@ -61,18 +64,23 @@ pub fn cut<R: Threads + Sync, S: Source, K: Sink, G: Gate>(
     // record of a tile that holds a pick.
     ensures touched { IfSome (S.held source.old) (λ g. LogsIn (touched hdu sieve.now g) (S.ranges source.old) (S.ranges source.new)) }
     // Where no count of faults rose and the limit is at least the bound, the first fault alone decides.
-    ensures answered { Answers (Cut hdu sieve.now) (S.held source.old) (S.tally source.old) (S.tally source.new) (K.tally sink.old) (K.tally sink.new) meter.old.limit window.old.workers result }
-    ensures cause { HasJobCause (Cut hdu sieve.now) (S.held source.old) (S.tally source.old) (S.tally source.new) (K.tally sink.old) (K.tally sink.new) meter.old.limit window.old.workers result }
+    ensures answered { Answers (Cut hdu sieve.now) (S.held source.old) (S.tally source.old) (S.tally source.new)
+        (nameless (K.tally sink.old)) (nameless (K.tally sink.new)) meter.old.limit window.old.workers result }
+    ensures cause { HasJobCause (Cut hdu sieve.now) (S.held source.old) (S.tally source.old) (S.tally source.new)
+        (nameless (K.tally sink.old)) (nameless (K.tally sink.new)) meter.old.limit window.old.workers result }
+    ensures names { NamesOnce name.now (K.tally sink.old).names (K.tally sink.new).names result }
     // What was cut short does not begin with the S of a FITS file.
     ensures first_byte { IsShutOrWhole (K.contents sink.new) (HoldsCutout hdu sieve.now (S.held source.old) (K.contents sink.new)) result }
     ensures unmade { IsUnmade (Cut hdu sieve.now) (S.held source.old) meter.old.limit window.old.workers
         ((K.created sink.new ≡ K.created sink.old) × (K.contents sink.new ≡ K.contents sink.old)) result }
     ensures buffers { KeepsBuffers (Cut hdu sieve.now) (S.held source.old) meter.old meter.new window.old window.new }
     // After a job that is done the peak is exactly the greatest sum of its takings, for so many workers.
-    ensures exact_peak { OnOk result (IfSome (S.held source.old) (λ g. meter.new.peak ≡ max meter.old.peak (highest (job_takings (Cut hdu sieve.now) g window.old.workers)))) }
+    ensures exact_peak { OnOk result (IfSome (S.held source.old)
+        (λ g. meter.new.peak ≡ max meter.old.peak (highest (job_takings (Cut hdu sieve.now) g window.old.workers)))) }
     // The first block is taken before anything is read.
     ensures unread { meter.old.limit < 2880 → S.ranges source.new ≡ S.ranges source.old }
-    ensures kept { KeepsSource (S.held source.old) (S.held source.new) (S.attached source.old) (S.attached source.new) (S.tally source.old) (S.tally source.new) (K.tally sink.old) (K.tally sink.new) }
+    ensures kept { KeepsSource (S.held source.old) (S.held source.new) (S.attached source.old) (S.attached source.new)
+        (S.tally source.old) (S.tally source.new) (nameless (K.tally sink.old)) (nameless (K.tally sink.new)) }
     ensures told_ranges { StaysTold (S.ranges source.old) (S.ranges source.new) }
     ensures told_contents { StaysTold (K.contents sink.old) (K.contents sink.new) }
 {
@@ -123,9 +131,11 @@ fn with_block<R: Threads + Sync, S: Source, K: Sink, G: Gate>(
     ensures first_byte { IsShutOrWhole (K.contents sink.new) (HoldsCutout hdu sieve.now (S.held source.old) (K.contents sink.new)) result }
     ensures unmade { StaysUnmade (Cut hdu sieve.now) (S.held source.old) meter.old.limit (λ g. later_takings (Cut hdu sieve.now) g window.old.workers)
         ((K.created sink.new ≡ K.created sink.old) × (K.contents sink.new ≡ K.contents sink.old)) result }
-    ensures first_past { IfSome (S.held source.old) (λ g. TellsFirstPast meter.old.limit (later_takings (Cut hdu sieve.now) g window.old.workers) result) }
+    ensures first_past { IfSome (S.held source.old) (λ g. TellsFirstPast meter.old.limit
+        (later_takings (Cut hdu sieve.now) g window.old.workers) result) }
     ensures peak { IfSome (S.held source.old) (λ g. meter.new.peak ≤ max meter.old.peak (job_bound (Cut hdu sieve.now) g window.old.workers)) }
-    ensures exact_peak { OnOk result (IfSome (S.held source.old) (λ g. meter.new.peak ≡ max meter.old.peak (highest (later_takings (Cut hdu sieve.now) g window.old.workers)))) }
+    ensures exact_peak { OnOk result (IfSome (S.held source.old)
+        (λ g. meter.new.peak ≡ max meter.old.peak (highest (later_takings (Cut hdu sieve.now) g window.old.workers)))) }
     ensures most { TellsLimit meter.old.limit (greatest_bound (Cut hdu sieve.now) window.old.workers) result }
     ensures peak_most { meter.new.peak ≤ max meter.old.peak (greatest_bound (Cut hdu sieve.now) window.old.workers) }
     ensures live { meter.new.live ≡ meter.old.live }
@@ -134,7 +144,9 @@ fn with_block<R: Threads + Sync, S: Source, K: Sink, G: Gate>(
     ensures source { SourceStays (S.held source.old) (S.held source.new) (S.attached source.old) (S.attached source.new) }
     ensures told_ranges { StaysTold (S.ranges source.old) (S.ranges source.new) }
     ensures told_contents { StaysTold (K.contents sink.old) (K.contents sink.new) }
-    ensures cause { Works (S.tally source.old) (S.tally source.new) (K.tally sink.old) (K.tally sink.new) meter.old.limit result }
+    ensures cause { Works (S.tally source.old) (S.tally source.new) (nameless (K.tally sink.old)) (nameless (K.tally sink.new))
+        meter.old.limit result }
+    ensures names { NamesOnce name.now (K.tally sink.old).names (K.tally sink.new).names result }
 {
     // What the survey says of the file, what is read of it, and what follows for the job.
     known_law();
@@ -172,18 +184,23 @@ fn work<R: Threads + Sync, S: Source, K: Sink, G: Gate>(
     requires window { IsEmpty window.old }
     requires sieve { HasPicks sieve.now }
     requires block { len block.old ≡ 2880 }
-    ensures written { IfSome (S.held source.old) (λ g. FinishesSeen g sieve.now survey.now.header_len survey.now.tile from.now (K.contents sink.new) result) }
+    ensures written { IfSome (S.held source.old) (λ g. FinishesSeen g sieve.now survey.now.header_len survey.now.tile from.now
+        (K.contents sink.new) result) }
     ensures finished { OnOk result (K.finished sink.new ≡ true) }
     ensures shut { IsShutOrPart (S.held source.old) sieve.now survey.now.header_len survey.now.tile from.now (K.contents sink.new) result }
     ensures touched { IfSome (S.held source.old) (λ g. WasSeen g (box_of sieve.now) survey.now.header_len survey.now.tile from.now
         → LogsIn (work_ranges g sieve.now from.now) (S.ranges source.old) (S.ranges source.new)) }
     ensures unmade { IfOverLimit result ((K.created sink.new ≡ K.created sink.old) × (K.contents sink.new ≡ K.contents sink.old)) }
     // The number of the HDU has no part in what is wanted.
-    ensures first_past { TellsFirstPast meter.old.limit (piled meter.old.live (wanted_buffers (wants_for (Cut None sieve.now) survey.now) window.old.workers)) result }
-    ensures past { IsSome (first_past meter.old.limit (piled meter.old.live (wanted_buffers (wants_for (Cut None sieve.now) survey.now) window.old.workers)))
+    ensures first_past { TellsFirstPast meter.old.limit
+        (piled meter.old.live (wanted_buffers (wants_for (Cut None sieve.now) survey.now) window.old.workers)) result }
+    ensures past { IsSome (first_past meter.old.limit (piled meter.old.live
+        (wanted_buffers (wants_for (Cut None sieve.now) survey.now) window.old.workers)))
         → (K.created sink.new ≡ K.created sink.old) × (K.contents sink.new ≡ K.contents sink.old) }
-    ensures peak { meter.new.peak ≤ max meter.old.peak (meter.old.live + sum (wanted_buffers (wants_for (Cut None sieve.now) survey.now) window.old.workers)) }
-    ensures exact_peak { OnOk result (meter.new.peak ≡ max meter.old.peak (meter.old.live + sum (wanted_buffers (wants_for (Cut None sieve.now) survey.now) window.old.workers))) }
+    ensures peak { meter.new.peak ≤ max meter.old.peak (meter.old.live + sum
+        (wanted_buffers (wants_for (Cut None sieve.now) survey.now) window.old.workers)) }
+    ensures exact_peak { OnOk result (meter.new.peak ≡ max meter.old.peak
+        (meter.old.live + sum (wanted_buffers (wants_for (Cut None sieve.now) survey.now) window.old.workers))) }
     ensures live { meter.new.live ≡ meter.old.live }
     ensures limit { meter.new.limit ≡ meter.old.limit }
     ensures emptied { window.new ≡ record { slots = []; workers = window.old.workers } }
@@ -191,7 +208,9 @@ fn work<R: Threads + Sync, S: Source, K: Sink, G: Gate>(
     ensures late { IfRefused result (ComesLate (Cut None sieve.now)) }
     ensures told_ranges { StaysTold (S.ranges source.old) (S.ranges source.new) }
     ensures told_contents { StaysTold (K.contents sink.old) (K.contents sink.new) }
-    ensures cause { Works (S.tally source.old) (S.tally source.new) (K.tally sink.old) (K.tally sink.new) meter.old.limit result }
+    ensures cause { Works (S.tally source.old) (S.tally source.new) (nameless (K.tally sink.old)) (nameless (K.tally sink.new))
+        meter.old.limit result }
+    ensures names { NamesOnce name.now (K.tally sink.old).names (K.tally sink.new).names result }
 {
     // How long the slots are that were filled, and that what was taken comes back.
     sizes_law();

@@ -1,6 +1,8 @@
 //! The cutout: its header, its pixels, and fill.
 ghost use Rattle.std.specs.Prelude.{ℕ, ◌≡◌, ◌+◌, ◌*◌, ◌/◌, ◌^◌, ◌<◌, ◌≤◌, true, [], IsTrue, None, Some, length as len, IfOk, IfSome, OnOk};
 ghost use Rattle.fz_base.specs.Ranges.{LogsIn};
+ghost use Rattle.fz_base.specs.Counts.{nameless};
+ghost use Rattle.fz_base.specs.Names.{NamesOnce};
 ghost use Rattle.fz_base.specs.Stop.{IfRefused, Writes};
 ghost use Rattle.fz_base.specs.Told.{StaysTold};
 ghost use Rattle.fz_block.specs.Facts.{IsHeaderOf};
@@ -76,7 +78,8 @@ pub(crate) fn write_file<R: Threads + Sync, S: Source, K: Sink, G: Gate>(
     ensures late { IfRefused result (ComesLate (Cut None sieve.now)) }
     ensures told_ranges { StaysTold (S.ranges source.old) (S.ranges source.new) }
     ensures told_contents { StaysTold (K.contents sink.old) (K.contents sink.new) }
-    ensures cause { Rewrites (S.tally source.old) (S.tally source.new) (K.tally sink.old) (K.tally sink.new) result }
+    ensures cause { Rewrites (S.tally source.old) (S.tally source.new) (nameless (K.tally sink.old)) (nameless (K.tally sink.new)) result }
+    ensures names { NamesOnce name.now (K.tally sink.old).names (K.tally sink.new).names result }
 {
     parts_law();
     output_law();
@@ -100,15 +103,18 @@ fn write_cutout<R: Threads + Sync, S: Source, K: Sink, G: Gate>(
     sieve: &Sieve,
     space: &mut Workspace,
 ) -> Result<(), Stop>
-    requires again { (n : ℕ) × (n < 2 ^ 64) × (S.attached source.old ≡ Some n) × IsAgain (S.held source.old) n (box_of sieve.now) space.old.header again.now }
+    requires again { (n : ℕ) × (n < 2 ^ 64) × (S.attached source.old ≡ Some n)
+        × IsAgain (S.held source.old) n (box_of sieve.now) space.old.header again.now }
     requires sieve { HasPicks sieve.now }
     requires created { IsTrue (K.created sink.old) }
     requires window { HasSlotsFor (pixels_of again.now.image.plan 0) window.old }
     requires translated { len space.old.header + 2880 ≤ len space.old.translated }
     requires copy { 4096 ≤ len space.old.copy }
-    ensures part { OnOk result (IfSome (S.held source.old) (λ g. HoldsPart g again.now.header sieve.now (K.contents sink.old) (K.contents sink.new))) }
+    ensures part { OnOk result (IfSome (S.held source.old)
+        (λ g. HoldsPart g again.now.header sieve.now (K.contents sink.old) (K.contents sink.new))) }
     ensures fault { IfRefused result (λ x. IfSome (S.held source.old) (λ g. IsPickFault g again.now.header sieve.now x)) }
-    ensures touched { IfSome (S.held source.old) (λ g. LogsIn (picked_ranges g again.now.header sieve.now) (S.ranges source.old) (S.ranges source.new)) }
+    ensures touched { IfSome (S.held source.old) (λ g. LogsIn (picked_ranges g again.now.header sieve.now) (S.ranges source.old)
+        (S.ranges source.new)) }
     ensures space { SpaceStays space.old space.new }
     ensures window { WindowStays window.old window.new }
     ensures source { SourceStays (S.held source.old) (S.held source.new) (S.attached source.old) (S.attached source.new) }
@@ -149,7 +155,8 @@ fn write_header<K: Sink>(
     requires within { IsWithin image.now.plan.shape (box_of sieve.now) }
     requires room { len packed.now + 2880 ≤ len made.old }
     requires created { IsTrue (K.created sink.old) }
-    ensures header { IfOk result (λ end. HoldsBytes (header_bytes (cutout_cards sieve.now (cards_of packed.now))) 0 end (K.contents sink.old) (K.contents sink.new)) }
+    ensures header { IfOk result (λ end. HoldsBytes (header_bytes (cutout_cards sieve.now (cards_of packed.now))) 0 end
+        (K.contents sink.old) (K.contents sink.new)) }
     ensures end { IfOk result (λ end. (0 < end) × (end ≤ 2 ^ 20)) }
     ensures len { len made.new ≡ len made.old }
     ensures sink { SinkStays (K.created sink.old) (K.created sink.new) (K.contents sink.old) (K.contents sink.new) }

@@ -18,7 +18,8 @@ use fz_wcs::shift;
 pub(crate) fn move_pixels(sieve: &Sieve, header: &mut [u8])
     requires sieve { HasPicks sieve.now }
     requires few { len header.old ≤ 737280 }
-    ensures moved { (cards : List (List ℕ)) → AreCards cards → header.old ≡ header_bytes cards → header.new ≡ header_bytes (map (moved_card sieve.now) cards) }
+    ensures moved { (cards : List (List ℕ)) → AreCards cards → header.old ≡ header_bytes cards
+        → header.new ≡ header_bytes (map (moved_card sieve.now) cards) }
     ensures len { len header.new ≡ len header.old }
 {
     // What no card but CRPIXi is.

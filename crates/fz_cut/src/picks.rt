@@ -48,7 +48,8 @@ pub(crate) fn write_picks<R: Threads + Sync, S: Source, K: Sink, G: Gate>(
     requires created { IsTrue (K.created sink.old) }
     requires window { HaveRoom image.now window.old }
     requires rows { 4096 ≤ len rows.old }
-    ensures pixels { OnOk result (IfSome (S.held source.old) (λ g. HoldsPicks g header.now image.now.plan sieve.now data_at (K.contents sink.old) (K.contents sink.new))) }
+    ensures pixels { OnOk result (IfSome (S.held source.old)
+        (λ g. HoldsPicks g header.now image.now.plan sieve.now data_at (K.contents sink.old) (K.contents sink.new))) }
     ensures fault { IfRefused result (λ x. IfSome (S.held source.old) (λ g. IsPickFault g header.now sieve.now x)) }
     ensures touched { IfSome (S.held source.old) (λ g. LogsIn (picked_ranges g header.now sieve.now) (S.ranges source.old) (S.ranges source.new)) }
     ensures rows { len rows.new ≡ len rows.old }
@@ -106,13 +107,16 @@ fn write_round<R: Threads + Sync, S: Source, K: Sink, G: Gate>(
     requires said { IfSome (S.held source.old) (λ g. IsSaid g header.now image.now) }
     requires sieve { IsSieveOf image.now.plan.shape sieve.now }
     requires tiles { (i : ℕ) → i < len tiles.now → slice_index tiles.now i < tiles_in image.now.plan }
-    requires picked { (i : ℕ) → i < len tiles.now → IsTrue (has_pixel (part_lengths (lengths_of image.now.plan.shape) (lengths_of image.now.plan.tile) sieve.now (slice_index tiles.now i))) }
+    requires picked { (i : ℕ) → i < len tiles.now → IsTrue
+        (has_pixel (part_lengths (lengths_of image.now.plan.shape) (lengths_of image.now.plan.tile) sieve.now
+        (slice_index tiles.now i))) }
     requires few { len tiles.now ≤ 2 * window.old.workers }
     requires data { (0 < data_at) × (data_at + 2 ^ 43 ≤ 2 ^ 63) }
     requires created { IsTrue (K.created sink.old) }
     requires window { HaveRoom image.now window.old }
     requires rows { 4096 ≤ len rows.old }
-    ensures pixels { OnOk result (AreWrittenParts (S.held source.old) header.now image.now.plan sieve.now data_at tiles.now (K.contents sink.old) (K.contents sink.new)) }
+    ensures pixels { OnOk result (AreWrittenParts (S.held source.old) header.now image.now.plan sieve.now data_at tiles.now
+        (K.contents sink.old) (K.contents sink.new)) }
     ensures fault { IfRefused result (λ x. IfSome (S.held source.old) (λ g. IsFirstRowFault g (map (image_row header.now) tiles.now) (Some x))) }
     ensures touched { IfSome (S.held source.old) (λ g. LogsIn (fetched_ranges g header.now tiles.now) (S.ranges source.old) (S.ranges source.new)) }
     ensures rows { len rows.new ≡ len rows.old }

@@ -77,4 +77,4 @@ pub record Makes (job : Job) (file bytes : List ℕ) : Type 0 where
 
 -- the counts of an object none of whose calls has a fault
 abbrev pub without_faults : Tally → Tally
-without_faults tally = record { faults = 0; wants = tally.wants }
+without_faults tally = record { faults = 0; wants = tally.wants; names = tally.names; amended = tally.amended }

@@ -46,7 +46,7 @@ job_is : (o : PackOptions) (file : List ℕ) → job_walk (Pack o) file ≡ walk
 unfolding job_walk
 job_is o file = refl
 
-reached_is : (o : PackOptions) (file : List ℕ) → reached_by (Pack o) file ≡ reached_from (pack_judge o file) 65535 0 0 file
+pub reached_is : (o : PackOptions) (file : List ℕ) → reached_by (Pack o) file ≡ reached_from (pack_judge o file) 65535 0 0 file
 unfolding reached_by
 reached_is o file = refl
 
@@ -91,6 +91,7 @@ module _ (laws : TheLaws) (o : PackOptions) (file : List ℕ) (s : Survey) (hs :
   known_by = record {
     headers = hs;
     seen = seen;
+    are = headers_are;
     parts = laws.parts 65535 file hs (laws.whole (pack_judge o file) 65535 file hs walk (never_stops o file hs));
     no_fault = no_fault;
     longest = longest;

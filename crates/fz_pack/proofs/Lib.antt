@@ -1,5 +1,6 @@
 pub mod Ends
 pub mod Finished
+pub mod HduReads
 pub mod Hdus
 pub mod Held
 pub mod Known

@@ -1,5 +1,5 @@
 -- What the job promises that does not touch its sink, and what the look at the headers tells of its end.
-use Rattle.std.proofs.Common.{◌≡◌, ◌⊎◌, inl, ℕ, ◌≤◌, max, List, [], ◌∷◌, arith, subst, sym}
+use Rattle.std.proofs.Common.{◌≡◌, ◌⊎◌, inl, ℕ, ◌≤◌, max, List, [], ◌∷◌, arith, subst, sym, refl}
 use Rattle.std.specs.Prelude.{Option, Some, None, IfErr, IfSome, Result, Ok, Err, IsSome, OnOk}
 use Rattle.fz_base.specs.Counts.{Tally, CountsKept}
 use Rattle.fz_base.specs.FirstByte.{IsShut}
@@ -33,7 +33,7 @@ pub peak_stays : (held : Option (List ℕ)) (bound : List ℕ → ℕ) (old new 
 peak_stays held bound old new same = always held (λ g. new ≤ max old (bound g)) (λ g. omega (arith, same))
 
 pub kept_same : (t : Tally) → CountsKept t t
-kept_same t = record { faults_kept = omega arith; wants_kept = omega arith; faults_stay = λ end. end; wants_stay = λ end. end }
+kept_same t = record { faults_kept = omega arith; wants_kept = omega arith; faults_stay = λ end. end; wants_stay = λ end. end; names_kept = refl; not_amended = refl }
 
 pub if_over : {X : Type 0} (r : Result X Stop) (P : Type 0) → P → IfOverLimit r P
 if_over (Ok x) P is = tt

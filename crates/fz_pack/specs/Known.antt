@@ -9,7 +9,7 @@ use Rattle.fz_survey.specs.Surveys.{surveyed}
 use Rattle.fz_survey.specs.declared.checks.JobChecks.TheVariants.{Pack as PackChecks}
 use Rattle.fz_survey.specs.declared.survey.Survey.{Survey}
 use Rattle.fz_files.specs.Buffers.{largest_tile, longest_header}
-use Rattle.fz_files.specs.Walks.{header_fault}
+use Rattle.fz_files.specs.Walks.{header_fault, headers_for}
 use Rattle.fz_files.specs.declared.job.Job.TheVariants.{Pack}
 use Rattle.fz_pack.specs.Written.{IsList}
 
@@ -18,6 +18,7 @@ use Rattle.fz_pack.specs.Written.{IsList}
 pub record IsKnown (o : PackOptions) (file : List ℕ) (s : Survey) : Type 0 where
   pub headers : List Header
   pub seen : IsList o file s headers
+  pub are : headers_for (Pack o) file ≡ headers
   pub parts : AreHdusOf file (map (hdu_of file) headers)
   pub no_fault : header_fault (Pack o) file ≡ None
   pub longest : longest_header (Pack o) file ≡ s.header_len

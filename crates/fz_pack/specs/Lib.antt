@@ -2,4 +2,5 @@ pub mod Again
 pub mod Behind
 pub mod Known
 pub mod Output
+pub mod Reads
 pub mod Written

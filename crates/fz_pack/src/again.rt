@@ -1,13 +1,14 @@
 //! The header of an HDU, read once more.
 ghost use Rattle.std.specs.Prelude.{◌≡◌, ◌⊎◌, ◌+◌, ◌*◌, ◌^◌, ◌≤◌, ◌<◌, ◌||◌, nat_lt, true, Bool, Some, codes, length as len, IfOk, IfSome};
 ghost use Rattle.fz_base.specs.Refusal.{refusal};
+ghost use Rattle.fz_base.specs.Source.{LogsWithin};
 ghost use Rattle.fz_base.specs.Stop.{IfRefused, ReadsOnly};
 ghost use Rattle.fz_base.specs.Told.{StaysTold};
 ghost use Rattle.fz_base.specs.declared.failure.Stop.TheVariants.{Refused};
 ghost use Rattle.fz_base.specs.declared.fault.Place.TheVariants.{Card as AtCard};
 ghost use Rattle.fz_base.specs.declared.kind.Kind.TheVariants.{BadCard};
 ghost use Rattle.fz_block.specs.Cards.{card_at};
-ghost use Rattle.fz_block.specs.Checks.{is_set};
+ghost use Rattle.fz_block.specs.Checks.{header_touched, is_set};
 ghost use Rattle.fz_grid.specs.Region.{IsDivided};
 ghost use Rattle.fz_head.specs.Planned.{AreOptions};
 ghost use Rattle.fz_job.specs.Clauses.{IsChanged};
@@ -53,6 +54,7 @@ pub(crate) fn read_again<S: Source>(
     ensures block { len block.new ≡ 2880 }
     ensures buf { len buf.new ≡ len buf.old }
     ensures source { SourceStays (S.held source.old) (S.held source.new) (S.attached source.old) (S.attached source.new) }
+    ensures read { IfSome (S.held source.old) (λ g. LogsWithin start (header_touched hdu start g) (S.ranges source.old) (S.ranges source.new)) }
     ensures told { StaysTold (S.ranges source.old) (S.ranges source.new) }
     ensures cause { ReadsOnly (S.tally source.old) (S.tally source.new) result }
 {
@@ -84,6 +86,7 @@ fn read_planned<S: Source>(
     ensures block { len block.new ≡ 2880 }
     ensures buf { len buf.new ≡ len buf.old }
     ensures source { SourceStays (S.held source.old) (S.held source.new) (S.attached source.old) (S.attached source.new) }
+    ensures read { IfSome (S.held source.old) (λ g. LogsWithin start (header_touched hdu start g) (S.ranges source.old) (S.ranges source.new)) }
     ensures told { StaysTold (S.ranges source.old) (S.ranges source.new) }
     ensures cause { ReadsOnly (S.tally source.old) (S.tally source.new) result }
 {

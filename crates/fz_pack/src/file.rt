@@ -4,18 +4,21 @@ ghost use Rattle.fz_base.specs.FirstByte.{IsShut, with_first_byte};
 ghost use Rattle.fz_base.specs.Sink.{emptied};
 ghost use Rattle.fz_head.specs.Planned.{AreOptions};
 ghost use Rattle.fz_pool.specs.Window.{slot_sizes};
+ghost use Rattle.fz_base.specs.Counts.{nameless};
+ghost use Rattle.fz_base.specs.Names.{NamesOnce};
 ghost use Rattle.fz_base.specs.Stop.{IfRefused};
 ghost use Rattle.fz_base.specs.Told.{StaysTold};
 ghost use Rattle.fz_job.specs.Clauses.{IsChanged};
 ghost use Rattle.fz_pack.specs.Behind.{RewritesSeen};
+ghost use Rattle.fz_pack.specs.Reads.{ReadsHdus};
 ghost use Rattle.fz_pack.specs.Written.{AreShutOrWhole, FinishesSeen};
 ghost use Rattle.fz_survey.specs.Workspace.{SpaceStays};
 ghost use Rattle.fz_job.specs.Keeps.{Rewrites, SinkStays, SourceStays, WindowStays};
 
 use crate::again::{changed, read_again};
 use crate::hdu::write_hdu;
-use fz_base::{Gate, Sink, Source, Stop, output_law, seal};
-use fz_block::next_start;
+use fz_base::{Gate, Sink, Source, Stop, output_law, ranges_law, seal};
+use fz_block::{hdu_at_law, next_start};
 use fz_head::PackOptions;
 use fz_pool::Window;
 use fz_survey::{Survey, Workspace};
@@ -53,9 +56,11 @@ pub(crate) fn write_file<R: Threads + Sync, S: Source, K: Sink, G: Gate>(
     ensures window { WindowStays window.old window.new }
     ensures source { SourceStays (S.held source.old) (S.held source.new) (S.attached source.old) (S.attached source.new) }
     ensures changed { IfRefused result IsChanged }
+    ensures read { IfSome (S.held source.old) (λ g. ReadsHdus options.now g survey.now (S.ranges source.old) (S.ranges source.new)) }
     ensures told_ranges { StaysTold (S.ranges source.old) (S.ranges source.new) }
     ensures told_contents { StaysTold (K.contents sink.old) (K.contents sink.new) }
-    ensures cause { Rewrites (S.tally source.old) (S.tally source.new) (K.tally sink.old) (K.tally sink.new) result }
+    ensures cause { Rewrites (S.tally source.old) (S.tally source.new) (nameless (K.tally sink.old)) (nameless (K.tally sink.new)) result }
+    ensures names { NamesOnce name.now (K.tally sink.old).names (K.tally sink.new).names result }
 {
     output_law();
     sink.create(name).map_err(Stop::writing)?;
@@ -87,18 +92,22 @@ fn write_hdus<R: Threads + Sync, S: Source, K: Sink, G: Gate>(
     requires translated { len space.old.header + 2880 ≤ len space.old.translated }
     requires copy { 4096 ≤ len space.old.copy }
     requires block { len block.old ≡ 2880 }
-    ensures written { IfSome (S.held source.old) (λ g. RewritesSeen options.now g survey.now.header_len survey.now.tile survey.now.hdus (K.contents sink.old) (K.contents sink.new) result) }
+    ensures written { IfSome (S.held source.old) (λ g. RewritesSeen options.now g survey.now.header_len survey.now.tile
+        survey.now.hdus (K.contents sink.old) (K.contents sink.new) result) }
     ensures block { len block.new ≡ 2880 }
     ensures space { SpaceStays space.old space.new }
     ensures window { WindowStays window.old window.new }
     ensures source { SourceStays (S.held source.old) (S.held source.new) (S.attached source.old) (S.attached source.new) }
     ensures sink { SinkStays (K.created sink.old) (K.created sink.new) (K.contents sink.old) (K.contents sink.new) }
     ensures changed { IfRefused result IsChanged }
+    ensures read { IfSome (S.held source.old) (λ g. ReadsHdus options.now g survey.now (S.ranges source.old) (S.ranges source.new)) }
     ensures told_ranges { StaysTold (S.ranges source.old) (S.ranges source.new) }
     ensures told_contents { StaysTold (K.contents sink.old) (K.contents sink.new) }
     ensures cause { Rewrites (S.tally source.old) (S.tally source.new) (K.tally sink.old) (K.tally sink.new) result }
 {
+    hdu_at_law();
     output_law();
+    ranges_law();
     let mut start = 0;
     let mut at = 0;
     for hdu in 0..survey.hdus {

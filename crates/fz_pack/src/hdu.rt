@@ -1,8 +1,9 @@
 //! One HDU of the packed file.
 ghost use Rattle.std.specs.Prelude.{ℕ, ◌≡◌, ◌+◌, ◌-◌, ◌^◌, ◌≤◌, ◌<◌, true, IsTrue, Some, length as len, IfOk, IfSome};
+ghost use Rattle.fz_base.specs.Source.{LogsWithin};
 ghost use Rattle.fz_base.specs.Stop.{CodesAndWrites, Writes};
 ghost use Rattle.fz_base.specs.Told.{StaysTold};
-ghost use Rattle.fz_block.specs.Header.{next_start_of};
+ghost use Rattle.fz_block.specs.Header.{data_start_of, next_start_of};
 ghost use Rattle.fz_head.specs.Planned.{AreOptions};
 ghost use Rattle.fz_pool.specs.Window.{HasSlotsFor};
 ghost use Rattle.fz_job.specs.Behind.{HoldsBytes};
@@ -13,7 +14,7 @@ ghost use Rattle.fz_pack.specs.Again.{IsAgain, largest_of};
 ghost use Rattle.fz_pack.specs.Behind.{EndsNear, HoldsHdu, before_image};
 
 use crate::again::Again;
-use fz_base::{Gate, Sink, Source, Stop, output_law, write_behind};
+use fz_base::{Gate, Sink, Source, Stop, log_law, output_law, write_behind};
 use fz_block::{BLOCK_LEN, Header};
 use fz_head::{PackOptions, Plan, to_empty_primary};
 use fz_image::write_image;
@@ -44,19 +45,22 @@ pub(crate) fn write_hdu<R: Threads + Sync, S: Source, K: Sink, G: Gate>(
     requires translated { len space.old.header + 2880 ≤ len space.old.translated }
     requires copy { 4096 ≤ len space.old.copy }
     requires block { len block.old ≡ 2880 }
-    ensures written { IfOk result (λ end. IfSome (S.held source.old) (λ g. HoldsHdu options.now again.now.header g at end (K.contents sink.old) (K.contents sink.new))) }
+    ensures written { IfOk result (λ end. IfSome (S.held source.old)
+        (λ g. HoldsHdu options.now again.now.header g at end (K.contents sink.old) (K.contents sink.new))) }
     ensures end { IfOk result (EndsNear again.now.header at) }
     ensures block { len block.new ≡ 2880 }
     ensures space { SpaceStays space.old space.new }
     ensures window { WindowStays window.old window.new }
     ensures source { SourceStays (S.held source.old) (S.held source.new) (S.attached source.old) (S.attached source.new) }
     ensures sink { SinkStays (K.created sink.old) (K.created sink.new) (K.contents sink.old) (K.contents sink.new) }
+    ensures log { LogsWithin (data_start_of again.now.header) (next_start_of again.now.header) (S.ranges source.old) (S.ranges source.new) }
     ensures told_ranges { StaysTold (S.ranges source.old) (S.ranges source.new) }
     ensures told_contents { StaysTold (K.contents sink.old) (K.contents sink.new) }
     ensures cause { CodesAndWrites (S.tally source.old) (S.tally source.new) (K.tally sink.old) (K.tally sink.new) result }
 {
     match &again.plan {
         Some(plan) => {
+            log_law();
             output_law();
             let at = write_before(sink, plan, at, block)?;
             write_table(
@@ -120,18 +124,21 @@ fn write_table<R: Threads + Sync, S: Source, K: Sink, G: Gate>(
     at: u64,
     space: &mut Workspace,
 ) -> Result<u64, Stop>
-    requires again { (n : ℕ) × (S.attached source.old ≡ Some n) × IsAgain options.now (S.held source.old) n space.old.header (record { header = header.now; plan = Some plan.now }) }
+    requires again { (n : ℕ) × (S.attached source.old ≡ Some n)
+        × IsAgain options.now (S.held source.old) n space.old.header (record { header = header.now; plan = Some plan.now }) }
     requires at { (0 < at) × (at + 2 ^ 45 ≤ 2 ^ 63) }
     requires created { IsTrue (K.created sink.old) }
     requires window { HasSlotsFor (largest_of plan.now) window.old }
     requires translated { len space.old.header + 2880 ≤ len space.old.translated }
     requires copy { 4096 ≤ len space.old.copy }
-    ensures table { IfOk result (λ end. IfSome (S.held source.old) (λ g. HoldsTable options.now.sums plan.now header.now g at end (K.contents sink.old) (K.contents sink.new))) }
+    ensures table { IfOk result (λ end. IfSome (S.held source.old)
+        (λ g. HoldsTable options.now.sums plan.now header.now g at end (K.contents sink.old) (K.contents sink.new))) }
     ensures end { IfOk result (λ end. (at ≤ end) × (end ≤ at + 2 ^ 45)) }
     ensures space { SpaceStays space.old space.new }
     ensures window { WindowStays window.old window.new }
     ensures source { SourceStays (S.held source.old) (S.held source.new) (S.attached source.old) (S.attached source.new) }
     ensures sink { SinkStays (K.created sink.old) (K.created sink.new) (K.contents sink.old) (K.contents sink.new) }
+    ensures log { LogsWithin (data_start_of header.now) (next_start_of header.now) (S.ranges source.old) (S.ranges source.new) }
     ensures told_ranges { StaysTold (S.ranges source.old) (S.ranges source.new) }
     ensures told_contents { StaysTold (K.contents sink.old) (K.contents sink.new) }
     ensures cause { CodesAndWrites (S.tally source.old) (S.tally source.new) (K.tally sink.old) (K.tally sink.new) result }

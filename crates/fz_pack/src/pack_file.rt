@@ -1,5 +1,8 @@
 //! The job: look at all headers, take all buffers, and then write.
 ghost use Rattle.std.specs.Prelude.{◌≡◌, ◌+◌, ◌<◌, ◌≤◌, max, true, Some, [], length as len, sum, OnOk, IfSome, IsSome};
+ghost use Rattle.fz_base.specs.Counts.{nameless};
+ghost use Rattle.fz_base.specs.Names.{NamesOnce};
+ghost use Rattle.fz_base.specs.Ranges.{LogsIn};
 ghost use Rattle.fz_base.specs.Stop.{IfRefused, TellsLimit};
 ghost use Rattle.fz_base.specs.Told.{StaysTold};
 ghost use Rattle.fz_base.specs.Takings.{TellsFirstPast, first_past, highest, piled};
@@ -9,14 +12,17 @@ ghost use Rattle.fz_survey.specs.Workspace.{wanted_buffers};
 ghost use Rattle.fz_files.specs.Buffers.{job_bound, job_takings};
 ghost use Rattle.fz_files.specs.declared.job.Job.TheVariants.{Pack};
 ghost use Rattle.fz_pack.specs.Output.{HoldsPacked};
-ghost use Rattle.fz_job.specs.Clauses.{Answers, HasJobCause, IfOverLimit, IsChanged, IsShutOrWhole, IsUnmade, KeepsBuffers, KeepsSource, StaysUnmade, TellsFirstFault, greatest_bound};
+ghost use Rattle.fz_job.specs.Clauses.{Answers, HasJobCause, IfOverLimit, IsChanged, IsShutOrWhole, IsUnmade, KeepsBuffers};
+ghost use Rattle.fz_job.specs.Clauses.{KeepsSource, StaysUnmade, TellsFirstFault, greatest_bound};
 ghost use Rattle.fz_job.specs.Keeps.{SourceStays};
 ghost use Rattle.fz_stages.specs.Stages.{Works, later_takings, wants_for};
+ghost use Rattle.fz_pack.specs.Reads.{ReadsHdus};
+ghost use Rattle.fz_files.specs.Touched.{touched_by};
 ghost use Rattle.fz_pack.specs.Written.{AreShutOrWhole, FinishesSeen};
 
 use crate::file::write_file;
-use crate::law::known_law;
-use fz_base::{Gate, Meter, Sink, Source, Stop};
+use crate::law::{known_law, touched_law};
+use fz_base::{Gate, Meter, Sink, Source, Stop, ranges_law};
 use fz_block::BLOCK_LEN;
 use fz_head::PackOptions;
 use fz_pool::{Window, sizes_law};
@@ -50,18 +56,26 @@ pub fn pack<R: Threads + Sync, S: Source, K: Sink, G: Gate>(
     ensures finished { OnOk result (K.finished sink.new ≡ true) }
     ensures first_fault { TellsFirstFault (Pack options.now) (S.held source.old) result }
     // Where no count of faults rose and the limit is at least the bound, the first fault alone decides.
-    ensures answered { Answers (Pack options.now) (S.held source.old) (S.tally source.old) (S.tally source.new) (K.tally sink.old) (K.tally sink.new) meter.old.limit window.old.workers result }
-    ensures cause { HasJobCause (Pack options.now) (S.held source.old) (S.tally source.old) (S.tally source.new) (K.tally sink.old) (K.tally sink.new) meter.old.limit window.old.workers result }
+    ensures answered { Answers (Pack options.now) (S.held source.old) (S.tally source.old) (S.tally source.new)
+        (nameless (K.tally sink.old)) (nameless (K.tally sink.new)) meter.old.limit window.old.workers result }
+    ensures cause { HasJobCause (Pack options.now) (S.held source.old) (S.tally source.old) (S.tally source.new)
+        (nameless (K.tally sink.old)) (nameless (K.tally sink.new)) meter.old.limit window.old.workers result }
+    ensures names { NamesOnce name.now (K.tally sink.old).names (K.tally sink.new).names result }
     // What was cut short does not begin with the S of a FITS file.
     ensures first_byte { IsShutOrWhole (K.contents sink.new) (HoldsPacked options.now (S.held source.old) (K.contents sink.new)) result }
     ensures unmade { IsUnmade (Pack options.now) (S.held source.old) meter.old.limit window.old.workers
         ((K.created sink.new ≡ K.created sink.old) × (K.contents sink.new ≡ K.contents sink.old)) result }
     ensures buffers { KeepsBuffers (Pack options.now) (S.held source.old) meter.old meter.new window.old window.new }
+    // Every byte that is read, whatever the answer, is of a header that the checks come to, or of the fill of an image
+    // that they look at, or, if no header is rejected, of the data of an HDU.
+    ensures touched { IfSome (S.held source.old) (λ g. LogsIn (touched_by (Pack options.now) g) (S.ranges source.old) (S.ranges source.new)) }
     // After a job that is done the peak is exactly the greatest sum of its takings, for so many workers.
-    ensures exact_peak { OnOk result (IfSome (S.held source.old) (λ g. meter.new.peak ≡ max meter.old.peak (highest (job_takings (Pack options.now) g window.old.workers)))) }
+    ensures exact_peak { OnOk result (IfSome (S.held source.old)
+        (λ g. meter.new.peak ≡ max meter.old.peak (highest (job_takings (Pack options.now) g window.old.workers)))) }
     // The first block is taken before anything is read.
     ensures unread { meter.old.limit < 2880 → S.ranges source.new ≡ S.ranges source.old }
-    ensures kept { KeepsSource (S.held source.old) (S.held source.new) (S.attached source.old) (S.attached source.new) (S.tally source.old) (S.tally source.new) (K.tally sink.old) (K.tally sink.new) }
+    ensures kept { KeepsSource (S.held source.old) (S.held source.new) (S.attached source.old) (S.attached source.new)
+        (S.tally source.old) (S.tally source.new) (nameless (K.tally sink.old)) (nameless (K.tally sink.new)) }
     ensures told_ranges { StaysTold (S.ranges source.old) (S.ranges source.new) }
     ensures told_contents { StaysTold (K.contents sink.old) (K.contents sink.new) }
 {
@@ -109,21 +123,28 @@ fn with_block<R: Threads + Sync, S: Source, K: Sink, G: Gate>(
     ensures first_byte { IsShutOrWhole (K.contents sink.new) (HoldsPacked options.now (S.held source.old) (K.contents sink.new)) result }
     ensures unmade { StaysUnmade (Pack options.now) (S.held source.old) meter.old.limit (λ g. later_takings (Pack options.now) g window.old.workers)
         ((K.created sink.new ≡ K.created sink.old) × (K.contents sink.new ≡ K.contents sink.old)) result }
-    ensures first_past { IfSome (S.held source.old) (λ g. TellsFirstPast meter.old.limit (later_takings (Pack options.now) g window.old.workers) result) }
+    ensures first_past { IfSome (S.held source.old) (λ g. TellsFirstPast meter.old.limit
+        (later_takings (Pack options.now) g window.old.workers) result) }
     ensures peak { IfSome (S.held source.old) (λ g. meter.new.peak ≤ max meter.old.peak (job_bound (Pack options.now) g window.old.workers)) }
-    ensures exact_peak { OnOk result (IfSome (S.held source.old) (λ g. meter.new.peak ≡ max meter.old.peak (highest (later_takings (Pack options.now) g window.old.workers)))) }
+    ensures exact_peak { OnOk result (IfSome (S.held source.old)
+        (λ g. meter.new.peak ≡ max meter.old.peak (highest (later_takings (Pack options.now) g window.old.workers)))) }
     ensures most { TellsLimit meter.old.limit (greatest_bound (Pack options.now) window.old.workers) result }
     ensures peak_most { meter.new.peak ≤ max meter.old.peak (greatest_bound (Pack options.now) window.old.workers) }
     ensures live { meter.new.live ≡ meter.old.live }
     ensures limit { meter.new.limit ≡ meter.old.limit }
     ensures emptied { window.new ≡ record { slots = []; workers = window.old.workers } }
     ensures source { SourceStays (S.held source.old) (S.held source.new) (S.attached source.old) (S.attached source.new) }
+    ensures touched { IfSome (S.held source.old) (λ g. LogsIn (touched_by (Pack options.now) g) (S.ranges source.old) (S.ranges source.new)) }
     ensures told_ranges { StaysTold (S.ranges source.old) (S.ranges source.new) }
     ensures told_contents { StaysTold (K.contents sink.old) (K.contents sink.new) }
-    ensures cause { Works (S.tally source.old) (S.tally source.new) (K.tally sink.old) (K.tally sink.new) meter.old.limit result }
+    ensures cause { Works (S.tally source.old) (S.tally source.new) (nameless (K.tally sink.old)) (nameless (K.tally sink.new))
+        meter.old.limit result }
+    ensures names { NamesOnce name.now (K.tally sink.old).names (K.tally sink.new).names result }
 {
-    // What the survey says of the file, and what follows from it for the job.
+    // What the survey reads and says of the file, and what follows from it for the job.
     known_law();
+    ranges_law();
+    touched_law();
     stages_law::<()>();
     let survey = survey_to_pack(source, length, meter, block, options)?;
     work(
@@ -156,19 +177,26 @@ fn work<R: Threads + Sync, S: Source, K: Sink, G: Gate>(
     ensures finished { OnOk result (K.finished sink.new ≡ true) }
     ensures shut { AreShutOrWhole options.now survey.now (S.held source.old) (K.contents sink.new) result }
     ensures unmade { IfOverLimit result ((K.created sink.new ≡ K.created sink.old) × (K.contents sink.new ≡ K.contents sink.old)) }
-    ensures first_past { TellsFirstPast meter.old.limit (piled meter.old.live (wanted_buffers (wants_for (Pack options.now) survey.now) window.old.workers)) result }
-    ensures past { IsSome (first_past meter.old.limit (piled meter.old.live (wanted_buffers (wants_for (Pack options.now) survey.now) window.old.workers)))
+    ensures first_past { TellsFirstPast meter.old.limit
+        (piled meter.old.live (wanted_buffers (wants_for (Pack options.now) survey.now) window.old.workers)) result }
+    ensures past { IsSome (first_past meter.old.limit (piled meter.old.live
+        (wanted_buffers (wants_for (Pack options.now) survey.now) window.old.workers)))
         → (K.created sink.new ≡ K.created sink.old) × (K.contents sink.new ≡ K.contents sink.old) }
-    ensures peak { meter.new.peak ≤ max meter.old.peak (meter.old.live + sum (wanted_buffers (wants_for (Pack options.now) survey.now) window.old.workers)) }
-    ensures exact_peak { OnOk result (meter.new.peak ≡ max meter.old.peak (meter.old.live + sum (wanted_buffers (wants_for (Pack options.now) survey.now) window.old.workers))) }
+    ensures peak { meter.new.peak ≤ max meter.old.peak (meter.old.live + sum
+        (wanted_buffers (wants_for (Pack options.now) survey.now) window.old.workers)) }
+    ensures exact_peak { OnOk result (meter.new.peak ≡ max meter.old.peak
+        (meter.old.live + sum (wanted_buffers (wants_for (Pack options.now) survey.now) window.old.workers))) }
     ensures live { meter.new.live ≡ meter.old.live }
     ensures limit { meter.new.limit ≡ meter.old.limit }
     ensures emptied { window.new ≡ record { slots = []; workers = window.old.workers } }
     ensures source { SourceStays (S.held source.old) (S.held source.new) (S.attached source.old) (S.attached source.new) }
     ensures changed { IfRefused result IsChanged }
+    ensures read { IfSome (S.held source.old) (λ g. ReadsHdus options.now g survey.now (S.ranges source.old) (S.ranges source.new)) }
     ensures told_ranges { StaysTold (S.ranges source.old) (S.ranges source.new) }
     ensures told_contents { StaysTold (K.contents sink.old) (K.contents sink.new) }
-    ensures cause { Works (S.tally source.old) (S.tally source.new) (K.tally sink.old) (K.tally sink.new) meter.old.limit result }
+    ensures cause { Works (S.tally source.old) (S.tally source.new) (nameless (K.tally sink.old)) (nameless (K.tally sink.new))
+        meter.old.limit result }
+    ensures names { NamesOnce name.now (K.tally sink.old).names (K.tally sink.new).names result }
 {
     // How long the slots are that were filled, and that what was taken comes back.
     sizes_law();

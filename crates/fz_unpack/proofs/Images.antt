@@ -66,7 +66,7 @@ module _ (held : Option (List ℕ)) (n : ℕ) (buf : List ℕ) (a : ReadHdu) (w 
       ∙ ap (λ (l : List ℕ). is_packed l a.header && was_primary (cards_of l)) (sym (header_there g told))
 
   -- an HDU without an image stays as it is
-  stays : (g : List ℕ) → held ≡ Some g → a.image ≡ None → is_image g a.header ≡ false
+  pub stays : (g : List ℕ) → held ≡ Some g → a.image ≡ None → is_image g a.header ≡ false
   stays g told is =
       ap (λ (l : List ℕ). is_packed l a.header) (header_there g told)
       ∙ no_image (is_packed (header_at_front a buf) a.header) (image_in a.header (header_at_front a buf)) (sym is ∙ said)

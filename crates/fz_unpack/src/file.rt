@@ -1,10 +1,13 @@
 //! The restored file, HDU by HDU.
 
 ghost use Rattle.std.specs.Prelude.{◌≡◌, ◌+◌, ◌*◌, ◌≤◌, ◌<◌, true, [], IsTrue, Some, length as len, replicate, IfSome, OnOk};
+ghost use Rattle.fz_base.specs.Counts.{nameless};
+ghost use Rattle.fz_base.specs.Names.{NamesOnce};
 ghost use Rattle.fz_base.specs.Stop.{IfRefused};
 ghost use Rattle.fz_base.specs.Told.{StaysTold};
 ghost use Rattle.fz_files.specs.declared.job.Job.TheVariants.{Unpack};
 ghost use Rattle.fz_pool.specs.Window.{slot_sizes};
+ghost use Rattle.fz_again.specs.Hdus.{ReadsHdus};
 ghost use Rattle.fz_unpack.specs.Behind.{RestoresSeen};
 ghost use Rattle.fz_job.specs.Clauses.{ComesLate};
 ghost use Rattle.fz_survey.specs.Workspace.{SpaceStays};
@@ -15,8 +18,8 @@ use crate::first::first_standing;
 use crate::hdu::write_hdu;
 use crate::law::primary_law;
 use crate::seen::{changed, is_last_as_seen, is_primary_as_found};
-use fz_again::read_again;
-use fz_base::{Gate, Sink, Source, Stop, output_law, seal};
+use fz_again::{hdus_law, read_again};
+use fz_base::{Gate, Sink, Source, Stop, output_law, ranges_law, seal};
 use fz_block::next_start;
 use fz_pool::Window;
 use fz_survey::{Survey, Workspace};
@@ -52,9 +55,11 @@ pub(crate) fn write_file<R: Threads + Sync, S: Source, K: Sink, G: Gate>(
     ensures window { WindowStays window.old window.new }
     ensures source { SourceStays (S.held source.old) (S.held source.new) (S.attached source.old) (S.attached source.new) }
     ensures late { IfRefused result (ComesLate Unpack) }
+    ensures read { IfSome (S.held source.old) (λ g. ReadsHdus Unpack g survey.now (S.ranges source.old) (S.ranges source.new)) }
     ensures told_ranges { StaysTold (S.ranges source.old) (S.ranges source.new) }
     ensures told_contents { StaysTold (K.contents sink.old) (K.contents sink.new) }
-    ensures cause { Rewrites (S.tally source.old) (S.tally source.new) (K.tally sink.old) (K.tally sink.new) result }
+    ensures cause { Rewrites (S.tally source.old) (S.tally source.new) (nameless (K.tally sink.old)) (nameless (K.tally sink.new)) result }
+    ensures names { NamesOnce name.now (K.tally sink.old).names (K.tally sink.new).names result }
 {
     output_law();
     primary_law();
@@ -86,18 +91,22 @@ fn write_hdus<R: Threads + Sync, S: Source, K: Sink, G: Gate>(
     requires translated { len space.old.header + 2880 ≤ len space.old.translated }
     requires copy { 4096 ≤ len space.old.copy }
     requires block { len block.old ≡ 2880 }
-    ensures written { IfSome (S.held source.old) (λ g. RestoresSeen g survey.now.header_len survey.now.tile survey.now.hdus (K.contents sink.old) (K.contents sink.new) result) }
+    ensures written { IfSome (S.held source.old) (λ g. RestoresSeen g survey.now.header_len survey.now.tile survey.now.hdus
+        (K.contents sink.old) (K.contents sink.new) result) }
     ensures block { len block.new ≡ 2880 }
     ensures space { SpaceStays space.old space.new }
     ensures window { WindowStays window.old window.new }
     ensures source { SourceStays (S.held source.old) (S.held source.new) (S.attached source.old) (S.attached source.new) }
     ensures sink { SinkStays (K.created sink.old) (K.created sink.new) (K.contents sink.old) (K.contents sink.new) }
     ensures late { IfRefused result (ComesLate Unpack) }
+    ensures read { IfSome (S.held source.old) (λ g. ReadsHdus Unpack g survey.now (S.ranges source.old) (S.ranges source.new)) }
     ensures told_ranges { StaysTold (S.ranges source.old) (S.ranges source.new) }
     ensures told_contents { StaysTold (K.contents sink.old) (K.contents sink.new) }
     ensures cause { Rewrites (S.tally source.old) (S.tally source.new) (K.tally sink.old) (K.tally sink.new) result }
 {
+    hdus_law();
     output_law();
+    ranges_law();
     let first = first_standing(source, length, survey, space.header.as_mut_slice(), block)?;
     if first.hdu >= survey.hdus {
         return Err(changed(first.hdu));

@@ -3,13 +3,15 @@
 ghost use Rattle.std.specs.Prelude.{◌≡◌, ◌<◌, ◌≤◌, Some, length as len, IfOk, IfSome};
 ghost use Rattle.fz_base.specs.Stop.{IfRefused, ReadsOnly};
 ghost use Rattle.fz_base.specs.Told.{StaysTold};
+ghost use Rattle.fz_files.specs.declared.job.Job.TheVariants.{Unpack};
+ghost use Rattle.fz_again.specs.Hdus.{ReadsHdus};
 ghost use Rattle.fz_job.specs.Clauses.{IsChanged};
 ghost use Rattle.fz_unpack.specs.First.{BeginsWithin, FindsFirst};
 ghost use Rattle.fz_job.specs.Keeps.{SourceStays};
 
 use crate::law::primary_law;
-use fz_again::read_again;
-use fz_base::{Source, Stop};
+use fz_again::{hdus_law, read_again};
+use fz_base::{Source, Stop, ranges_law};
 use fz_block::next_start;
 use fz_survey::Survey;
 
@@ -31,6 +33,7 @@ pub(crate) fn first_standing<S: Source>(
     block: &mut [u8],
 ) -> Result<First, Stop>
     requires attached { S.attached source.old ≡ Some length }
+    requires some { 0 < survey.now.hdus }
     requires buf { len buf.old ≡ survey.now.header_len }
     requires block { len block.old ≡ 2880 }
     ensures within { IfOk result (BeginsWithin length) }
@@ -39,10 +42,13 @@ pub(crate) fn first_standing<S: Source>(
     ensures buf { len buf.new ≡ len buf.old }
     ensures source { SourceStays (S.held source.old) (S.held source.new) (S.attached source.old) (S.attached source.new) }
     ensures refused { IfRefused result IsChanged }
+    ensures read { IfSome (S.held source.old) (λ g. ReadsHdus Unpack g survey.now (S.ranges source.old) (S.ranges source.new)) }
     ensures told { StaysTold (S.ranges source.old) (S.ranges source.new) }
     ensures cause { ReadsOnly (S.tally source.old) (S.tally source.new) result }
 {
+    hdus_law();
     primary_law();
+    ranges_law();
     let primary = First {
         hdu: 0,
         start: 0,

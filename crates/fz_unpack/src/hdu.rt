@@ -1,18 +1,21 @@
 //! What one HDU stands for.
 
 ghost use Rattle.std.specs.Prelude.{ℕ, ◌≡◌, ◌+◌, ◌^◌, ◌≤◌, ◌<◌, IsTrue, Some, length as len, IfOk, IfSome};
+ghost use Rattle.fz_base.specs.Ranges.{LogsIn};
 ghost use Rattle.fz_base.specs.Stop.{IfRefused};
 ghost use Rattle.fz_base.specs.Told.{StaysTold};
 ghost use Rattle.fz_files.specs.Restored.{pixels_of};
+ghost use Rattle.fz_files.specs.declared.job.Job.TheVariants.{Unpack};
 ghost use Rattle.fz_pool.specs.Window.{HasSlotsFor};
 ghost use Rattle.fz_again.specs.Again.{IsAgain};
+ghost use Rattle.fz_files.specs.Touched.{data_touched};
 ghost use Rattle.fz_unpack.specs.Behind.{EndsNear, HoldsHdu, IsHduFault};
 ghost use Rattle.fz_job.specs.Clauses.{IsOfSomeRow};
 ghost use Rattle.fz_survey.specs.Workspace.{SpaceStays};
 ghost use Rattle.fz_job.specs.Keeps.{Rewrites, SinkStays, SourceStays, WindowStays};
 
 use crate::image::write_image;
-use fz_again::ReadHdu;
+use fz_again::{ReadHdu, hdus_law};
 use fz_base::{Gate, Sink, Source, Stop};
 use fz_block::BLOCK_LEN;
 use fz_job::copy_hdu;
@@ -38,7 +41,8 @@ pub(crate) fn write_hdu<R: Threads + Sync, S: Source, K: Sink, G: Gate>(
     requires window { IfSome again.now.image (λ i. HasSlotsFor (pixels_of i.plan 0) window.old) }
     requires translated { len space.old.header + 2880 ≤ len space.old.translated }
     requires copy { 4096 ≤ len space.old.copy }
-    ensures written { IfOk result (λ end. IfSome (S.held source.old) (λ g. HoldsHdu again.now.header g at end (K.contents sink.old) (K.contents sink.new))) }
+    ensures written { IfOk result (λ end. IfSome (S.held source.old)
+        (λ g. HoldsHdu again.now.header g at end (K.contents sink.old) (K.contents sink.new))) }
     ensures fault { IfRefused result (λ x. IfSome (S.held source.old) (λ g. IsHduFault g again.now.header x)) }
     ensures end { IfOk result (EndsNear again.now.header at) }
     ensures space { SpaceStays space.old space.new }
@@ -46,10 +50,12 @@ pub(crate) fn write_hdu<R: Threads + Sync, S: Source, K: Sink, G: Gate>(
     ensures source { SourceStays (S.held source.old) (S.held source.new) (S.attached source.old) (S.attached source.new) }
     ensures sink { SinkStays (K.created sink.old) (K.created sink.new) (K.contents sink.old) (K.contents sink.new) }
     ensures row { IfRefused result IsOfSomeRow }
+    ensures read { IfSome (S.held source.old) (λ g. LogsIn (data_touched Unpack g again.now.header) (S.ranges source.old) (S.ranges source.new)) }
     ensures told_ranges { StaysTold (S.ranges source.old) (S.ranges source.new) }
     ensures told_contents { StaysTold (K.contents sink.old) (K.contents sink.new) }
     ensures cause { Rewrites (S.tally source.old) (S.tally source.new) (K.tally sink.old) (K.tally sink.new) result }
 {
+    hdus_law();
     match &again.image {
         Some(image) => write_image(
             rt,

@@ -3,6 +3,7 @@
 ghost use Rattle.std.specs.Prelude.{ℕ, ◌≡◌, ◌+◌, ◌-◌, ◌*◌, ◌/◌, ◌^◌, ◌≤◌, ◌<◌, IsTrue, Some, map, length as len, IfOk, IfSome, OnOk};
 ghost use Rattle.std.specs.List.{range_with_len};
 ghost use Rattle.fz_base.specs.Sink.{written};
+ghost use Rattle.fz_base.specs.Ranges.{LogsIn};
 ghost use Rattle.fz_base.specs.Stop.{IfRefused, Writes};
 ghost use Rattle.fz_base.specs.Told.{StaysTold};
 ghost use Rattle.fz_block.specs.Facts.{IsHeaderOf};
@@ -19,6 +20,7 @@ ghost use Rattle.fz_pool.specs.Window.{HasSlotsFor};
 ghost use Rattle.fz_fetch.specs.Images.{HaveRoom, IsReadable, IsSaid};
 ghost use Rattle.fz_fetch.specs.Rows.{StandsWithin};
 ghost use Rattle.fz_again.specs.Again.{IsAgain};
+ghost use Rattle.fz_files.specs.Touched.{image_ranges};
 ghost use Rattle.fz_job.specs.Behind.{HoldsBytes, written_behind};
 ghost use Rattle.fz_unpack.specs.Behind.{HoldsImage, IsHduFault};
 ghost use Rattle.fz_job.specs.Clauses.{IsOfSomeRow};
@@ -27,7 +29,8 @@ ghost use Rattle.fz_survey.specs.Workspace.{SpaceStays};
 ghost use Rattle.fz_job.specs.Keeps.{Rewrites, SinkStays, SourceStays, WindowStays};
 
 use crate::turns::write_by_turns;
-use fz_base::{Gate, Sink, Source, Stop, output_law, write_behind};
+use fz_again::hdus_law;
+use fz_base::{Gate, Sink, Source, Stop, output_law, ranges_law, write_behind};
 use fz_block::{BLOCK_LEN, Header};
 use fz_fetch::{MOST_TILES, fetch_tiles, number_tiles, scatter_tiles, scattered_law};
 use fz_grid::{Grid, shape_law, tiles_law, volume};
@@ -51,13 +54,15 @@ pub(crate) fn write_image<R: Threads + Sync, S: Source, K: Sink, G: Gate>(
     at: u64,
     space: &mut Workspace,
 ) -> Result<u64, Stop>
-    requires again { (n : ℕ) × (n < 2 ^ 64) × (S.attached source.old ≡ Some n) × IsAgain (S.held source.old) n space.old.header (record { header = header.now; image = Some image.now }) }
+    requires again { (n : ℕ) × (n < 2 ^ 64) × (S.attached source.old ≡ Some n)
+        × IsAgain (S.held source.old) n space.old.header (record { header = header.now; image = Some image.now }) }
     requires near { at + 2 ^ 46 ≤ 2 ^ 63 }
     requires created { IsTrue (K.created sink.old) }
     requires window { HasSlotsFor (pixels_of image.now.plan 0) window.old }
     requires translated { len space.old.header + 2880 ≤ len space.old.translated }
     requires copy { 4096 ≤ len space.old.copy }
-    ensures image { IfOk result (λ end. IfSome (S.held source.old) (λ g. HoldsImage header.now g at end (K.contents sink.old) (K.contents sink.new))) }
+    ensures image { IfOk result (λ end. IfSome (S.held source.old)
+        (λ g. HoldsImage header.now g at end (K.contents sink.old) (K.contents sink.new))) }
     ensures fault { IfRefused result (λ x. IfSome (S.held source.old) (λ g. IsHduFault g header.now x)) }
     ensures end { IfOk result (λ end. (at < end) × (end ≤ at + 2 ^ 45)) }
     ensures space { SpaceStays space.old space.new }
@@ -65,6 +70,7 @@ pub(crate) fn write_image<R: Threads + Sync, S: Source, K: Sink, G: Gate>(
     ensures source { SourceStays (S.held source.old) (S.held source.new) (S.attached source.old) (S.attached source.new) }
     ensures sink { SinkStays (K.created sink.old) (K.created sink.new) (K.contents sink.old) (K.contents sink.new) }
     ensures row { IfRefused result IsOfSomeRow }
+    ensures read { IfSome (S.held source.old) (λ g. LogsIn (image_ranges g header.now) (S.ranges source.old) (S.ranges source.new)) }
     ensures told_ranges { StaysTold (S.ranges source.old) (S.ranges source.new) }
     ensures told_contents { StaysTold (K.contents sink.old) (K.contents sink.new) }
     ensures cause { Rewrites (S.tally source.old) (S.tally source.new) (K.tally sink.old) (K.tally sink.new) result }
@@ -94,7 +100,8 @@ fn write_plain_header<K: Sink>(
     requires room { len buf.now + 2880 ≤ len made.old }
     requires near { at + 2 ^ 46 ≤ 2 ^ 63 }
     requires created { IsTrue (K.created sink.old) }
-    ensures header { IfOk result (λ end. HoldsBytes (header_bytes (plain_header (cards_of buf.now))) at end (K.contents sink.old) (K.contents sink.new)) }
+    ensures header { IfOk result (λ end. HoldsBytes (header_bytes (plain_header (cards_of buf.now))) at end (K.contents sink.old)
+        (K.contents sink.new)) }
     ensures end { IfOk result (λ end. (at < end) × (end ≤ at + 2 ^ 20)) }
     ensures len { len made.new ≡ len made.old }
     ensures sink { SinkStays (K.created sink.old) (K.created sink.new) (K.contents sink.old) (K.contents sink.new) }
@@ -156,10 +163,12 @@ fn write_tiles<R: Threads + Sync, S: Source, K: Sink, G: Gate>(
     ensures source { SourceStays (S.held source.old) (S.held source.new) (S.attached source.old) (S.attached source.new) }
     ensures sink { SinkStays (K.created sink.old) (K.created sink.new) (K.contents sink.old) (K.contents sink.new) }
     ensures row { IfRefused result IsOfSomeRow }
+    ensures read { IfSome (S.held source.old) (λ g. LogsIn (image_ranges g header.now) (S.ranges source.old) (S.ranges source.new)) }
     ensures told_ranges { StaysTold (S.ranges source.old) (S.ranges source.new) }
     ensures told_contents { StaysTold (K.contents sink.old) (K.contents sink.new) }
     ensures cause { Rewrites (S.tally source.old) (S.tally source.new) (K.tally sink.old) (K.tally sink.new) result }
 {
+    ranges_law();
     scattered_law();
     shape_law();
     tiles_law();
@@ -204,17 +213,22 @@ fn write_round<R: Threads + Sync, S: Source, K: Sink, G: Gate>(
     requires created { IsTrue (K.created sink.old) }
     requires window { HaveRoom image.now window.old }
     requires rows { 4096 ≤ len rows.old }
-    ensures pixels { OnOk result (IfSome (S.held source.old) (λ g. AreWrittenTiles g header.now image.now.plan data_at (range_with_len first count) (K.contents sink.old) (K.contents sink.new))) }
-    ensures fault { IfRefused result (λ x. IfSome (S.held source.old) (λ g. IsFirstRowFault g (map (image_row header.now) (range_with_len first count)) (Some x))) }
+    ensures pixels { OnOk result (IfSome (S.held source.old)
+        (λ g. AreWrittenTiles g header.now image.now.plan data_at (range_with_len first count) (K.contents sink.old)
+        (K.contents sink.new))) }
+    ensures fault { IfRefused result (λ x. IfSome (S.held source.old)
+        (λ g. IsFirstRowFault g (map (image_row header.now) (range_with_len first count)) (Some x))) }
     ensures rows { len rows.new ≡ len rows.old }
     ensures window { WindowStays window.old window.new }
     ensures source { SourceStays (S.held source.old) (S.held source.new) (S.attached source.old) (S.attached source.new) }
     ensures sink { SinkStays (K.created sink.old) (K.created sink.new) (K.contents sink.old) (K.contents sink.new) }
     ensures row { IfRefused result IsOfSomeRow }
+    ensures read { IfSome (S.held source.old) (λ g. LogsIn (image_ranges g header.now) (S.ranges source.old) (S.ranges source.new)) }
     ensures told_ranges { StaysTold (S.ranges source.old) (S.ranges source.new) }
     ensures told_contents { StaysTold (K.contents sink.old) (K.contents sink.new) }
     ensures cause { Rewrites (S.tally source.old) (S.tally source.new) (K.tally sink.old) (K.tally sink.new) result }
 {
+    hdus_law();
     let mut numbers = [0; MOST_TILES];
     let tiles = &mut numbers[..count as usize];
     number_tiles(first, tiles);

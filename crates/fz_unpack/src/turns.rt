@@ -1,6 +1,7 @@
 //! Tiles in the two halves of the window, by turns: those of one half are scattered while those of the other are decoded.
 ghost use Rattle.std.specs.Prelude.{ℕ, ◌≡◌, ◌+◌, ◌*◌, ◌/◌, ◌^◌, ◌<◌, ◌≤◌, IsTrue, Some, map, length as len, IfSome, OnOk};
 ghost use Rattle.std.specs.List.{range_with_len};
+ghost use Rattle.fz_base.specs.Ranges.{LogsIn};
 ghost use Rattle.fz_base.specs.Stop.{IfRefused, Writes};
 ghost use Rattle.fz_base.specs.Told.{StaysTold};
 ghost use Rattle.fz_files.specs.FirstFault.{IsFirstRowFault, image_row, rows_of};
@@ -8,13 +9,15 @@ ghost use Rattle.fz_files.specs.Packed.{tiles_in};
 ghost use Rattle.fz_fetch.specs.Fetched.{AreFetched, TellsRowFault};
 ghost use Rattle.fz_fetch.specs.Images.{AreTilesOf, HaveRoom, IsReadable, IsSaid};
 ghost use Rattle.fz_fetch.specs.Rows.{StandsWithin};
+ghost use Rattle.fz_files.specs.Touched.{image_ranges};
 ghost use Rattle.fz_job.specs.Clauses.{IsOfSomeRow};
 ghost use Rattle.fz_job.specs.Keeps.{Rewrites, SinkStays, SourceStays, WindowStays};
 ghost use Rattle.fz_pool.specs.Window.{slot_sizes};
 ghost use Rattle.fz_unpack.specs.Images.{AreWrittenTiles};
 ghost use Rattle.fz_unpack.specs.Turns.{AreAlike, CanScatter, HasScattered, HaveRooms, StandFetched};
 
-use fz_base::{Gate, Sink, Source, Stop};
+use fz_again::hdus_law;
+use fz_base::{Gate, Sink, Source, Stop, ranges_law};
 use fz_block::Header;
 use fz_fetch::{MOST_TILES, fetch_beside, number_tiles, scatter_tiles, scattered_law};
 use fz_head::{PackedImage, Plan};
@@ -53,12 +56,15 @@ pub(crate) fn write_by_turns<R: Threads + Sync, S: Source, K: Sink, G: Gate>(
     requires rows { 4096 ≤ len rows.old }
     requires several { 2 ≤ window.old.workers }
     requires window { HaveRoom image.now window.old }
-    ensures pixels { OnOk result (IfSome (S.held source.old) (λ g. AreWrittenTiles g header.now image.now.plan data_at (range_with_len 0 tiles) (K.contents sink.old) (K.contents sink.new))) }
+    ensures pixels { OnOk result (IfSome (S.held source.old)
+        (λ g. AreWrittenTiles g header.now image.now.plan data_at (range_with_len 0 tiles) (K.contents sink.old)
+        (K.contents sink.new))) }
     ensures fault { IfRefused result (λ x. IfSome (S.held source.old) (λ g. IsFirstRowFault g (rows_of g header.now) (Some x))) }
     ensures rows { len rows.new ≡ len rows.old }
     ensures source { SourceStays (S.held source.old) (S.held source.new) (S.attached source.old) (S.attached source.new) }
     ensures sink { SinkStays (K.created sink.old) (K.created sink.new) (K.contents sink.old) (K.contents sink.new) }
     ensures row { IfRefused result IsOfSomeRow }
+    ensures read { IfSome (S.held source.old) (λ g. LogsIn (image_ranges g header.now) (S.ranges source.old) (S.ranges source.new)) }
     ensures told_ranges { StaysTold (S.ranges source.old) (S.ranges source.new) }
     ensures told_contents { StaysTold (K.contents sink.old) (K.contents sink.new) }
     ensures cause { Rewrites (S.tally source.old) (S.tally source.new) (K.tally sink.old) (K.tally sink.new) result }
@@ -112,18 +118,22 @@ fn write_turns<R: Threads + Sync, S: Source, K: Sink, G: Gate>(
     requires rows { 4096 ≤ len rows.old }
     requires rooms { HaveRooms image.now first.old second.old }
     requires workers { (1 ≤ workers) × (workers ≤ 64) }
-    ensures pixels { OnOk result (IfSome (S.held source.old) (λ g. AreWrittenTiles g header.now image.now.plan data_at (range_with_len 0 tiles) (K.contents sink.old) (K.contents sink.new))) }
+    ensures pixels { OnOk result (IfSome (S.held source.old)
+        (λ g. AreWrittenTiles g header.now image.now.plan data_at (range_with_len 0 tiles) (K.contents sink.old)
+        (K.contents sink.new))) }
     ensures fault { IfRefused result (λ x. IfSome (S.held source.old) (λ g. IsFirstRowFault g (rows_of g header.now) (Some x))) }
     ensures rows { len rows.new ≡ len rows.old }
     ensures source { SourceStays (S.held source.old) (S.held source.new) (S.attached source.old) (S.attached source.new) }
     ensures sink { SinkStays (K.created sink.old) (K.created sink.new) (K.contents sink.old) (K.contents sink.new) }
     ensures row { IfRefused result IsOfSomeRow }
+    ensures read { IfSome (S.held source.old) (λ g. LogsIn (image_ranges g header.now) (S.ranges source.old) (S.ranges source.new)) }
     ensures told_ranges { StaysTold (S.ranges source.old) (S.ranges source.new) }
     ensures told_contents { StaysTold (K.contents sink.old) (K.contents sink.new) }
     ensures cause { Rewrites (S.tally source.old) (S.tally source.new) (K.tally sink.old) (K.tally sink.new) result }
     ensures windows { (size : ℕ × ℕ) → AreAlike size first.old → AreAlike size second.old → AreAlike size first.new × AreAlike size second.new }
     ensures workers { first.new.workers + second.new.workers ≡ first.old.workers + second.old.workers }
 {
+    ranges_law();
     scattered_law();
     let mut turn = Turn {
         written: 0,
@@ -164,14 +174,18 @@ fn take_turn<R: Threads + Sync, S: Source, K: Sink, G: Gate>(
     requires rooms { HaveRooms image.now first.old second.old }
     requires workers { (1 ≤ workers) × (workers ≤ 64) }
     requires stand { StandFetched (S.held source.old) header.now image.now.plan turn.old.written turn.old.decoded tiles second.old }
-    ensures pixels { OnOk result (IfSome (S.held source.old) (λ g. AreWrittenTiles g header.now image.now.plan data_at (range_with_len turn.old.written turn.old.decoded) (K.contents sink.old) (K.contents sink.new))) }
+    ensures pixels { OnOk result (IfSome (S.held source.old)
+        (λ g. AreWrittenTiles g header.now image.now.plan data_at (range_with_len turn.old.written turn.old.decoded)
+        (K.contents sink.old) (K.contents sink.new))) }
     ensures stand { OnOk result (StandFetched (S.held source.old) header.now image.now.plan turn.new.written turn.new.decoded tiles second.new) }
     ensures turn { OnOk result ((turn.new.written ≡ turn.old.written + turn.old.decoded) × (turn.new.written < tiles → 0 < turn.new.decoded)) }
-    ensures fault { IfRefused result (λ x. IfSome (S.held source.old) (λ g. (more : ℕ) × (turn.old.written + more ≤ tiles) × IsFirstRowFault g (map (image_row header.now) (range_with_len turn.old.written more)) (Some x))) }
+    ensures fault { IfRefused result (λ x. IfSome (S.held source.old) (λ g. (more : ℕ) × (turn.old.written + more ≤ tiles)
+        × IsFirstRowFault g (map (image_row header.now) (range_with_len turn.old.written more)) (Some x))) }
     ensures rows { len rows.new ≡ len rows.old }
     ensures source { SourceStays (S.held source.old) (S.held source.new) (S.attached source.old) (S.attached source.new) }
     ensures sink { SinkStays (K.created sink.old) (K.created sink.new) (K.contents sink.old) (K.contents sink.new) }
     ensures row { IfRefused result IsOfSomeRow }
+    ensures read { IfSome (S.held source.old) (λ g. LogsIn (image_ranges g header.now) (S.ranges source.old) (S.ranges source.new)) }
     ensures told_ranges { StaysTold (S.ranges source.old) (S.ranges source.new) }
     ensures told_contents { StaysTold (K.contents sink.old) (K.contents sink.new) }
     ensures cause { Rewrites (S.tally source.old) (S.tally source.new) (K.tally sink.old) (K.tally sink.new) result }
@@ -226,19 +240,23 @@ fn fetch_and_scatter<R: Threads + Sync, S: Source, K: Sink, G: Gate>(
     requires can_scatter { CanScatter image.now.plan data_at (K.created sink.old) scattering.now second.old }
     ensures fetched { OnOk result (AreFetched (S.held source.old) header.now image.now.plan fetching.now first.new.slots) }
     ensures fault { TellsRowFault (S.held source.old) header.now fetching.now result }
-    ensures scattered { HasScattered image.now.plan data_at scattering.now second.old second.new (K.created sink.old) (K.created sink.new) (K.contents sink.old) (K.contents sink.new) result }
+    ensures scattered { HasScattered image.now.plan data_at scattering.now second.old second.new (K.created sink.old)
+        (K.created sink.new) (K.contents sink.old) (K.contents sink.new) result }
     ensures sizes { slot_sizes first.new.slots ≡ slot_sizes first.old.slots }
     ensures workers { first.new.workers ≡ first.old.workers }
     ensures rows { len rows.new ≡ len rows.old }
     ensures row { IfRefused result IsOfSomeRow }
     ensures source { SourceStays (S.held source.old) (S.held source.new) (S.attached source.old) (S.attached source.new) }
+    ensures read { IfSome (S.held source.old) (λ g. LogsIn (image_ranges g header.now) (S.ranges source.old) (S.ranges source.new)) }
     ensures told_ranges { StaysTold (S.ranges source.old) (S.ranges source.new) }
     ensures cause { Rewrites (S.tally source.old) (S.tally source.new) (K.tally sink.old) (K.tally sink.new) result }
 {
+    hdus_law();
     let plan = &image.plan;
     let mut job = || -> Result<(), Stop>
         requires { CanScatter plan.now data_at (K.created sink.now) scattering.now second.now }
-        ensures { HasScattered plan.entry.now data_at scattering.entry.now second.entry.now second.exit.now (K.created sink.entry.now) (K.created sink.exit.now) (K.contents sink.entry.now) (K.contents sink.exit.now) result
+        ensures { HasScattered plan.entry.now data_at scattering.entry.now second.entry.now second.exit.now
+            (K.created sink.entry.now) (K.created sink.exit.now) (K.contents sink.entry.now) (K.contents sink.exit.now) result
             × Writes (K.tally sink.entry.now) (K.tally sink.exit.now) result }
     { scatter_round(sink, data_at, plan, scattering, second) };
     let (fetched, scattered) = fetch_beside(
@@ -257,7 +275,8 @@ fn scatter_round<K: Sink>(
     window: &mut Window,
 ) -> Result<(), Stop>
     requires can_scatter { CanScatter plan.now data_at (K.created sink.old) tiles.now window.old }
-    ensures scattered { HasScattered plan.now data_at tiles.now window.old window.new (K.created sink.old) (K.created sink.new) (K.contents sink.old) (K.contents sink.new) result }
+    ensures scattered { HasScattered plan.now data_at tiles.now window.old window.new (K.created sink.old) (K.created sink.new)
+        (K.contents sink.old) (K.contents sink.new) result }
     ensures cause { Writes (K.tally sink.old) (K.tally sink.new) result }
 {
     scatter_tiles(sink, data_at, plan, tiles, window)

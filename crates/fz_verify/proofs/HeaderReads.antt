@@ -25,7 +25,7 @@ same_ranges : (old : Option (List (ℕ × ℕ))) → old ≡ option_map (λ rs. 
 same_ranges None = refl
 same_ranges (Some rs) = ap Some (sym (append-nil rs))
 
-nothing : (ranges : List (ℕ × ℕ)) (old : Option (List (ℕ × ℕ))) → LogsIn ranges old old
+pub nothing : (ranges : List (ℕ × ℕ)) (old : Option (List (ℕ × ℕ))) → LogsIn ranges old old
 nothing ranges old = ([], (λ k d few. absurd (omega (arith, few))), same_ranges old)
 
 pub unread : (held : Option (List ℕ)) (ranges : List ℕ → List (ℕ × ℕ)) (old : Option (List (ℕ × ℕ))) → IfSome held (λ g. LogsIn (ranges g) old old)

@@ -4,6 +4,7 @@ pub mod Ends
 pub mod Few
 pub mod Finished
 pub mod Flags
+pub mod HduReads
 pub mod HeaderReads
 pub mod Held
 pub mod Judged

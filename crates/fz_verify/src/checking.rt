@@ -1,5 +1,6 @@
 //! The HDUs of a file, verified one after another.
 ghost use Rattle.std.specs.Prelude.{ℕ, ◌≡◌, ◌+◌, ◌*◌, ◌≤◌, ◌<◌, ◌^◌, Some, length as len, replicate, IfOk, IfSome};
+ghost use Rattle.fz_base.specs.Ranges.{LogsIn};
 ghost use Rattle.fz_base.specs.Stop.{IfRefused};
 ghost use Rattle.fz_base.specs.Told.{StaysTold};
 ghost use Rattle.fz_files.specs.Restored.{pixels_of};
@@ -9,6 +10,8 @@ ghost use Rattle.fz_survey.specs.Workspace.{SpaceStays};
 ghost use Rattle.fz_job.specs.Clauses.{ComesLate, IsOfSomeRow};
 ghost use Rattle.fz_job.specs.Keeps.{Rewrites, SourceStays, WindowStays};
 ghost use Rattle.fz_again.specs.Again.{IsAgain};
+ghost use Rattle.fz_again.specs.Hdus.{ReadsHdus};
+ghost use Rattle.fz_files.specs.Touched.{data_touched};
 ghost use Rattle.fz_verify.specs.Reported.{Grew, Reports};
 ghost use Rattle.fz_verify.specs.Printed.{ChecksHdu, VerifiesSeen};
 
@@ -16,8 +19,8 @@ use crate::changed::changed;
 use crate::hdu::verify_hdu;
 use crate::law::none_refused_law;
 use crate::lines::{print, verify_line};
-use fz_again::{ReadHdu, read_again};
-use fz_base::{Gate, Source, Stop, Text};
+use fz_again::{ReadHdu, hdus_law, read_again};
+use fz_base::{Gate, Source, Stop, Text, ranges_law};
 use fz_block::next_start;
 use fz_pool::Window;
 use fz_survey::{Survey, Workspace};
@@ -50,11 +53,14 @@ pub(crate) fn verify_hdus<R: Threads + Sync, S: Source, T: Text, G: Gate>(
     ensures space { SpaceStays space.old space.new }
     ensures window { WindowStays window.old window.new }
     ensures source { SourceStays (S.held source.old) (S.held source.new) (S.attached source.old) (S.attached source.new) }
+    ensures read { IfSome (S.held source.old) (λ g. ReadsHdus Verify g survey.now (S.ranges source.old) (S.ranges source.new)) }
     ensures told_ranges { StaysTold (S.ranges source.old) (S.ranges source.new) }
     ensures told_contents { StaysTold (T.contents text.old) (T.contents text.new) }
     ensures cause { Rewrites (S.tally source.old) (S.tally source.new) (T.tally text.old) (T.tally text.new) result }
 {
     none_refused_law();
+    hdus_law();
+    ranges_law();
     let mut start = 0;
     let mut after_empty = false;
     let mut right = true;
@@ -102,6 +108,7 @@ fn print_verified<R: Threads + Sync, S: Source, T: Text, G: Gate>(
     ensures space { SpaceStays space.old space.new }
     ensures window { WindowStays window.old window.new }
     ensures source { SourceStays (S.held source.old) (S.held source.new) (S.attached source.old) (S.attached source.new) }
+    ensures read { IfSome (S.held source.old) (λ g. LogsIn (data_touched Verify g again.now.header) (S.ranges source.old) (S.ranges source.new)) }
     ensures told_ranges { StaysTold (S.ranges source.old) (S.ranges source.new) }
     ensures told_contents { StaysTold (T.contents text.old) (T.contents text.new) }
     ensures cause { Rewrites (S.tally source.old) (S.tally source.new) (T.tally text.old) (T.tally text.new) result }

@@ -1,21 +1,24 @@
 //! One HDU, verified.
 ghost use Rattle.std.specs.Prelude.{ℕ, ◌≡◌, ◌<◌, ◌≤◌, ◌^◌, Some, length as len, List, IfOk, IfSome, OnOk};
+ghost use Rattle.fz_base.specs.Ranges.{LogsIn};
 ghost use Rattle.fz_base.specs.Stop.{IfRefused};
 ghost use Rattle.fz_base.specs.Told.{StaysTold};
 ghost use Rattle.fz_files.specs.Restored.{pixels_of};
+ghost use Rattle.fz_files.specs.declared.job.Job.TheVariants.{Verify};
 ghost use Rattle.fz_fetch.specs.Stops.{Fetches};
 ghost use Rattle.fz_pool.specs.Window.{HasSlotsFor};
 ghost use Rattle.fz_survey.specs.Workspace.{SpaceStays};
 ghost use Rattle.fz_job.specs.Clauses.{IsOfSomeRow};
 ghost use Rattle.fz_job.specs.Keeps.{SourceStays, WindowStays};
 ghost use Rattle.fz_again.specs.Again.{IsAgain};
+ghost use Rattle.fz_files.specs.Touched.{data_touched};
 ghost use Rattle.fz_verify.specs.Rows.{IsHduFault, IsHduSound};
 ghost use Rattle.fz_verify.specs.Sums.{AreVerdictsOn};
 
 use crate::sums::{Verdicts, judge_sums};
 use crate::tiles::decode_tiles;
-use fz_again::ReadHdu;
-use fz_base::{Gate, Source, Stop};
+use fz_again::{ReadHdu, hdus_law};
+use fz_base::{Gate, Source, Stop, ranges_law};
 use fz_block::BLOCK_LEN;
 use fz_pool::Window;
 use fz_survey::Workspace;
@@ -39,9 +42,12 @@ pub(crate) fn verify_hdu<R: Threads + Sync, S: Source, G: Gate>(
     ensures space { SpaceStays space.old space.new }
     ensures window { WindowStays window.old window.new }
     ensures source { SourceStays (S.held source.old) (S.held source.new) (S.attached source.old) (S.attached source.new) }
+    ensures read { IfSome (S.held source.old) (λ g. LogsIn (data_touched Verify g again.now.header) (S.ranges source.old) (S.ranges source.new)) }
     ensures told { StaysTold (S.ranges source.old) (S.ranges source.new) }
     ensures cause { Fetches (S.tally source.old) (S.tally source.new) result }
 {
+    hdus_law();
+    ranges_law();
     decode_hdu(rt, source, window, gate, again, space.copy.as_mut_slice())?;
     let buf = &space.header.as_slice()[..BLOCK_LEN * again.header.blocks as usize];
     judge_sums(source, &again.header, buf, space.copy.as_mut_slice())
@@ -65,9 +71,11 @@ fn decode_hdu<R: Threads + Sync, S: Source, G: Gate>(
     ensures rows { len rows.new ≡ len rows.old }
     ensures window { WindowStays window.old window.new }
     ensures source { SourceStays (S.held source.old) (S.held source.new) (S.attached source.old) (S.attached source.new) }
+    ensures read { IfSome (S.held source.old) (λ g. LogsIn (data_touched Verify g again.now.header) (S.ranges source.old) (S.ranges source.new)) }
     ensures told { StaysTold (S.ranges source.old) (S.ranges source.new) }
     ensures cause { Fetches (S.tally source.old) (S.tally source.new) result }
 {
+    hdus_law();
     match &again.image {
         Some(image) => decode_tiles(rt, source, window, gate, &again.header, image, rows),
         None => Ok(()),

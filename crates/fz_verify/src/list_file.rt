@@ -8,7 +8,8 @@ ghost use Rattle.fz_files.specs.Buffers.{job_bound, job_takings};
 ghost use Rattle.fz_files.specs.Reads.{header_ranges};
 ghost use Rattle.fz_files.specs.declared.job.Job.TheVariants.{List as ListHdus};
 ghost use Rattle.fz_survey.specs.Workspace.{wanted_buffers};
-ghost use Rattle.fz_job.specs.Clauses.{Answers, HasJobCause, IfOverLimit, IsChanged, IsUnmade, KeepsSource, StaysUnmade, TellsFirstFault, greatest_bound};
+ghost use Rattle.fz_job.specs.Clauses.{Answers, HasJobCause, IfOverLimit, IsChanged, IsUnmade, KeepsSource, StaysUnmade};
+ghost use Rattle.fz_job.specs.Clauses.{TellsFirstFault, greatest_bound};
 ghost use Rattle.fz_job.specs.Keeps.{SourceStays};
 ghost use Rattle.fz_verify.specs.Clauses.{KeepsMeter, PrintsLines};
 ghost use Rattle.fz_verify.specs.Printed.{ListsSeen};
@@ -41,8 +42,10 @@ pub fn list<S: Source, T: Text>(
     ensures grown { Grew (T.contents text.old) (T.contents text.new) }
     ensures first_fault { TellsFirstFault ListHdus (S.held source.old) result }
     // Where no count of faults rose and the limit is at least the bound, the first fault alone decides.
-    ensures answered { Answers ListHdus (S.held source.old) (S.tally source.old) (S.tally source.new) (T.tally text.old) (T.tally text.new) meter.old.limit 1 result }
-    ensures cause { HasJobCause ListHdus (S.held source.old) (S.tally source.old) (S.tally source.new) (T.tally text.old) (T.tally text.new) meter.old.limit 1 result }
+    ensures answered { Answers ListHdus (S.held source.old) (S.tally source.old) (S.tally source.new) (T.tally text.old)
+        (T.tally text.new) meter.old.limit 1 result }
+    ensures cause { HasJobCause ListHdus (S.held source.old) (S.tally source.old) (S.tally source.new) (T.tally text.old)
+        (T.tally text.new) meter.old.limit 1 result }
     // Nothing is printed where a header is refused.
     ensures silent { IsUnmade ListHdus (S.held source.old) meter.old.limit 1
         ((T.contents text.new ≡ T.contents text.old) × (T.tally text.new ≡ T.tally text.old)) result }
@@ -53,7 +56,8 @@ pub fn list<S: Source, T: Text>(
     ensures exact_peak { OnOk result (IfSome (S.held source.old) (λ g. meter.new.peak ≡ max meter.old.peak (highest (job_takings ListHdus g 1)))) }
     // The first block is taken before anything is read.
     ensures unread { meter.old.limit < 2880 → S.ranges source.new ≡ S.ranges source.old }
-    ensures kept { KeepsSource (S.held source.old) (S.held source.new) (S.attached source.old) (S.attached source.new) (S.tally source.old) (S.tally source.new) (T.tally text.old) (T.tally text.new) }
+    ensures kept { KeepsSource (S.held source.old) (S.held source.new) (S.attached source.old) (S.attached source.new)
+        (S.tally source.old) (S.tally source.new) (T.tally text.old) (T.tally text.new) }
     ensures told_ranges { StaysTold (S.ranges source.old) (S.ranges source.new) }
     ensures told_contents { StaysTold (T.contents text.old) (T.contents text.new) }
 {

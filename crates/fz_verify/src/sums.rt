@@ -1,10 +1,10 @@
 //! The sums of an HDU.
 ghost use Rattle.std.specs.Prelude.{ℕ, ◌≡◌, ◌+◌, ◌*◌, ◌<◌, ◌≤◌, ◌^◌, Some, length as len, IfOk, IfSome, OnOk};
-ghost use Rattle.fz_base.specs.Source.{Reads};
+ghost use Rattle.fz_base.specs.Source.{LogsWithin, Reads};
 ghost use Rattle.fz_base.specs.Stop.{OnlyReads};
 ghost use Rattle.fz_base.specs.Told.{StaysTold};
 ghost use Rattle.fz_block.specs.Facts.{IsHeaderOf};
-ghost use Rattle.fz_block.specs.Header.{next_start_of};
+ghost use Rattle.fz_block.specs.Header.{data_start_of, next_start_of};
 ghost use Rattle.fz_block.specs.Walk.{hdu_of};
 ghost use Rattle.fz_sum.specs.Pieces.{nothing};
 ghost use Rattle.fz_job.specs.Keeps.{SourceStays};
@@ -59,6 +59,7 @@ pub(crate) fn judge_sums<S: Source>(
     ensures verdicts { IfOk result (λ v. IfSome (S.held source.old) (λ g. AreVerdictsOn g header.now v)) }
     ensures copy { len copy.new ≡ len copy.old }
     ensures source { SourceStays (S.held source.old) (S.held source.new) (S.attached source.old) (S.attached source.new) }
+    ensures read { LogsWithin (data_start_of header.now) (next_start_of header.now) (S.ranges source.old) (S.ranges source.new) }
     ensures told { StaysTold (S.ranges source.old) (S.ranges source.new) }
     ensures cause { OnlyReads (S.tally source.old) (S.tally source.new) result }
 {
@@ -87,6 +88,7 @@ fn add_data<S: Source>(
     ensures few { OnOk result (sum.new.count ≤ 2 ^ 62) }
     ensures copy { len copy.new ≡ len copy.old }
     ensures source { SourceStays (S.held source.old) (S.held source.new) (S.attached source.old) (S.attached source.new) }
+    ensures read { LogsWithin (data_start_of header.now) (next_start_of header.now) (S.ranges source.old) (S.ranges source.new) }
     ensures told { StaysTold (S.ranges source.old) (S.ranges source.new) }
     ensures cause { OnlyReads (S.tally source.old) (S.tally source.new) result }
 {

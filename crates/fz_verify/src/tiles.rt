@@ -1,6 +1,7 @@
 //! The tiles of a packed image, which are decoded and go nowhere.
 ghost use Rattle.std.specs.Prelude.{◌≡◌, ◌+◌, ◌*◌, ◌≤◌, Some, None, map, length as len, IfSome, OnOk};
 ghost use Rattle.std.specs.List.{range_with_len};
+ghost use Rattle.fz_base.specs.Ranges.{LogsIn};
 ghost use Rattle.fz_base.specs.Stop.{IfRefused};
 ghost use Rattle.fz_base.specs.Told.{StaysTold};
 ghost use Rattle.fz_files.specs.FirstFault.{IsFirstRowFault, image_row, rows_of};
@@ -9,9 +10,11 @@ ghost use Rattle.fz_fetch.specs.Images.{HaveRoom, IsReadable, IsSaid};
 ghost use Rattle.fz_fetch.specs.Rows.{StandsWithin};
 ghost use Rattle.fz_fetch.specs.Stops.{Fetches};
 ghost use Rattle.fz_job.specs.Clauses.{IsOfSomeRow};
+ghost use Rattle.fz_files.specs.Touched.{image_ranges};
 ghost use Rattle.fz_job.specs.Keeps.{SourceStays, WindowStays};
 
-use fz_base::{Gate, Source, Stop};
+use fz_again::hdus_law;
+use fz_base::{Gate, Source, Stop, ranges_law};
 use fz_block::Header;
 use fz_fetch::{MOST_TILES, fetch_tiles, number_tiles};
 use fz_grid::Grid;
@@ -42,9 +45,11 @@ pub(crate) fn decode_tiles<R: Threads + Sync, S: Source, G: Gate>(
     ensures rows { len rows.new ≡ len rows.old }
     ensures window { WindowStays window.old window.new }
     ensures source { SourceStays (S.held source.old) (S.held source.new) (S.attached source.old) (S.attached source.new) }
+    ensures read { IfSome (S.held source.old) (λ g. LogsIn (image_ranges g header.now) (S.ranges source.old) (S.ranges source.new)) }
     ensures told { StaysTold (S.ranges source.old) (S.ranges source.new) }
     ensures cause { Fetches (S.tally source.old) (S.tally source.new) result }
 {
+    ranges_law();
     let tiles = Grid::new(image.plan.shape, image.plan.tile).tile_count();
     let mut first = 0;
     while first < tiles {
@@ -76,14 +81,17 @@ fn decode_round<R: Threads + Sync, S: Source, G: Gate>(
     requires window { HaveRoom image.now window.old }
     requires rows { 4096 ≤ len rows.old }
     ensures sound { OnOk result (IfSome (S.held source.old) (λ g. IsFirstRowFault g (map (image_row header.now) (range_with_len first count)) None)) }
-    ensures fault { IfRefused result (λ x. IfSome (S.held source.old) (λ g. IsFirstRowFault g (map (image_row header.now) (range_with_len first count)) (Some x))) }
+    ensures fault { IfRefused result (λ x. IfSome (S.held source.old)
+        (λ g. IsFirstRowFault g (map (image_row header.now) (range_with_len first count)) (Some x))) }
     ensures row { IfRefused result IsOfSomeRow }
     ensures rows { len rows.new ≡ len rows.old }
     ensures window { WindowStays window.old window.new }
     ensures source { SourceStays (S.held source.old) (S.held source.new) (S.attached source.old) (S.attached source.new) }
+    ensures read { IfSome (S.held source.old) (λ g. LogsIn (image_ranges g header.now) (S.ranges source.old) (S.ranges source.new)) }
     ensures told { StaysTold (S.ranges source.old) (S.ranges source.new) }
     ensures cause { Fetches (S.tally source.old) (S.tally source.new) result }
 {
+    hdus_law();
     let mut numbers = [0; MOST_TILES];
     let tiles = &mut numbers[..count as usize];
     number_tiles(first, tiles);

@@ -1,5 +1,6 @@
 //! The job `verify`: look at all headers, take all buffers, and then decode, judge and print.
 ghost use Rattle.std.specs.Prelude.{◌≡◌, ◌+◌, ◌<◌, ◌≤◌, max, [], Some, length as len, sum, IfOk, IfSome, IsSome, OnOk};
+ghost use Rattle.fz_base.specs.Ranges.{LogsIn};
 ghost use Rattle.fz_base.specs.Stop.{IfRefused, TellsLimit};
 ghost use Rattle.fz_base.specs.Takings.{TellsFirstPast, first_past, highest, piled};
 ghost use Rattle.fz_base.specs.Told.{StaysTold};
@@ -7,7 +8,10 @@ ghost use Rattle.fz_files.specs.Buffers.{job_bound, job_takings};
 ghost use Rattle.fz_files.specs.declared.job.Job.TheVariants.{Verify};
 ghost use Rattle.fz_pool.specs.Window.{IsEmpty};
 ghost use Rattle.fz_survey.specs.Workspace.{wanted_buffers};
-ghost use Rattle.fz_job.specs.Clauses.{Answers, ComesLate, HasJobCause, IfOverLimit, IsUnmade, KeepsBuffers, KeepsSource, StaysUnmade, TellsFirstFault, greatest_bound};
+ghost use Rattle.fz_again.specs.Hdus.{ReadsHdus};
+ghost use Rattle.fz_files.specs.Touched.{touched_by};
+ghost use Rattle.fz_job.specs.Clauses.{Answers, ComesLate, HasJobCause, IfOverLimit, IsUnmade, KeepsBuffers, KeepsSource};
+ghost use Rattle.fz_job.specs.Clauses.{StaysUnmade, TellsFirstFault, greatest_bound};
 ghost use Rattle.fz_job.specs.Keeps.{SourceStays};
 ghost use Rattle.fz_verify.specs.Clauses.{IsRightAsSaid, PrintsLines};
 ghost use Rattle.fz_verify.specs.Reported.{Grew, Reports};
@@ -15,8 +19,8 @@ ghost use Rattle.fz_verify.specs.Printed.{VerifiesSeen};
 ghost use Rattle.fz_stages.specs.Stages.{Works, later_takings, wants_for};
 
 use crate::checking::verify_hdus;
-use fz_again::known_law;
-use fz_base::{Gate, Meter, Source, Stop, Text};
+use fz_again::{hdus_law, headers_law, known_law};
+use fz_base::{Gate, Meter, Source, Stop, Text, ranges_law};
 use fz_block::BLOCK_LEN;
 use fz_pool::{Window, sizes_law};
 use fz_stages::stages_law;
@@ -51,17 +55,23 @@ pub fn verify<R: Threads + Sync, S: Source, T: Text, G: Gate>(
     ensures grown { Grew (T.contents text.old) (T.contents text.new) }
     ensures first_fault { TellsFirstFault Verify (S.held source.old) result }
     // Where no count of faults rose and the limit is at least the bound, the first fault alone decides.
-    ensures answered { Answers Verify (S.held source.old) (S.tally source.old) (S.tally source.new) (T.tally text.old) (T.tally text.new) meter.old.limit 1 result }
-    ensures cause { HasJobCause Verify (S.held source.old) (S.tally source.old) (S.tally source.new) (T.tally text.old) (T.tally text.new) meter.old.limit 1 result }
+    ensures answered { Answers Verify (S.held source.old) (S.tally source.old) (S.tally source.new) (T.tally text.old)
+        (T.tally text.new) meter.old.limit 1 result }
+    ensures cause { HasJobCause Verify (S.held source.old) (S.tally source.old) (S.tally source.new) (T.tally text.old)
+        (T.tally text.new) meter.old.limit 1 result }
     // Nothing is printed where a header is refused.
     ensures silent { IsUnmade Verify (S.held source.old) meter.old.limit 1
         ((T.contents text.new ≡ T.contents text.old) × (T.tally text.new ≡ T.tally text.old)) result }
     ensures buffers { KeepsBuffers Verify (S.held source.old) meter.old meter.new window.old window.new }
+    // Every byte that is read, whatever the answer, is of a header that the checks come to, or, if no header is
+    // rejected, of a row or a record of a packed image, or of the data of an HDU, of which the sums are made.
+    ensures touched { IfSome (S.held source.old) (λ g. LogsIn (touched_by Verify g) (S.ranges source.old) (S.ranges source.new)) }
     // After a job that is done the peak is exactly the greatest sum of its takings, for so many workers.
     ensures exact_peak { OnOk result (IfSome (S.held source.old) (λ g. meter.new.peak ≡ max meter.old.peak (highest (job_takings Verify g 1)))) }
     // The first block is taken before anything is read.
     ensures unread { meter.old.limit < 2880 → S.ranges source.new ≡ S.ranges source.old }
-    ensures kept { KeepsSource (S.held source.old) (S.held source.new) (S.attached source.old) (S.attached source.new) (S.tally source.old) (S.tally source.new) (T.tally text.old) (T.tally text.new) }
+    ensures kept { KeepsSource (S.held source.old) (S.held source.new) (S.attached source.old) (S.attached source.new)
+        (S.tally source.old) (S.tally source.new) (T.tally text.old) (T.tally text.new) }
     ensures told_ranges { StaysTold (S.ranges source.old) (S.ranges source.new) }
     ensures told_contents { StaysTold (T.contents text.old) (T.contents text.new) }
 {
@@ -114,12 +124,16 @@ fn verify_with_block<R: Threads + Sync, S: Source, T: Text, G: Gate>(
     ensures limit { meter.new.limit ≡ meter.old.limit }
     ensures emptied { window.new ≡ record { slots = []; workers = window.old.workers } }
     ensures source { SourceStays (S.held source.old) (S.held source.new) (S.attached source.old) (S.attached source.new) }
+    ensures touched { IfSome (S.held source.old) (λ g. LogsIn (touched_by Verify g) (S.ranges source.old) (S.ranges source.new)) }
     ensures told_ranges { StaysTold (S.ranges source.old) (S.ranges source.new) }
     ensures told_contents { StaysTold (T.contents text.old) (T.contents text.new) }
     ensures cause { Works (S.tally source.old) (S.tally source.new) (T.tally text.old) (T.tally text.new) meter.old.limit result }
 {
-    // What the survey says of the file, and what follows from it for the job.
+    // What the survey reads and says of the file, and what follows from it for the job.
+    hdus_law();
+    headers_law();
     known_law();
+    ranges_law();
     stages_law::<bool>();
     let survey = survey_to_unpack(source, length, meter, block)?;
     verify_seen(
@@ -148,16 +162,19 @@ fn verify_seen<R: Threads + Sync, S: Source, T: Text, G: Gate>(
     ensures reported { IfOk result (Reports (T.contents text.old) (T.contents text.new)) }
     ensures grown { Grew (T.contents text.old) (T.contents text.new) }
     ensures silent { IfOverLimit result ((T.contents text.new ≡ T.contents text.old) × (T.tally text.new ≡ T.tally text.old)) }
-    ensures first_past { TellsFirstPast meter.old.limit (piled meter.old.live (wanted_buffers (wants_for Verify survey.now) window.old.workers)) result }
+    ensures first_past { TellsFirstPast meter.old.limit
+        (piled meter.old.live (wanted_buffers (wants_for Verify survey.now) window.old.workers)) result }
     ensures past { IsSome (first_past meter.old.limit (piled meter.old.live (wanted_buffers (wants_for Verify survey.now) window.old.workers)))
         → (T.contents text.new ≡ T.contents text.old) × (T.tally text.new ≡ T.tally text.old) }
     ensures peak { meter.new.peak ≤ max meter.old.peak (meter.old.live + sum (wanted_buffers (wants_for Verify survey.now) window.old.workers)) }
-    ensures exact_peak { OnOk result (meter.new.peak ≡ max meter.old.peak (meter.old.live + sum (wanted_buffers (wants_for Verify survey.now) window.old.workers))) }
+    ensures exact_peak { OnOk result (meter.new.peak ≡ max meter.old.peak
+        (meter.old.live + sum (wanted_buffers (wants_for Verify survey.now) window.old.workers))) }
     ensures live { meter.new.live ≡ meter.old.live }
     ensures limit { meter.new.limit ≡ meter.old.limit }
     ensures emptied { window.new ≡ record { slots = []; workers = window.old.workers } }
     ensures late { IfRefused result (ComesLate Verify) }
     ensures source { SourceStays (S.held source.old) (S.held source.new) (S.attached source.old) (S.attached source.new) }
+    ensures read { IfSome (S.held source.old) (λ g. ReadsHdus Verify g survey.now (S.ranges source.old) (S.ranges source.new)) }
     ensures told_ranges { StaysTold (S.ranges source.old) (S.ranges source.new) }
     ensures told_contents { StaysTold (T.contents text.old) (T.contents text.new) }
     ensures cause { Works (S.tally source.old) (S.tally source.new) (T.tally text.old) (T.tally text.new) meter.old.limit result }

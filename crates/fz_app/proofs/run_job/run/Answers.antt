@@ -1,5 +1,6 @@
 -- The promises are those of the answer to what the words ask for.
 use Rattle.std.proofs.Common.{◌≡◌, ap}
+use Rattle.fz_base.specs.Counts.{nameless}
 use Rattle.fz_words.specs.Jobs.{job_of}
 use Rattle.fz_words.specs.Parts.{texts_of}
 use Rattle.fz_app.proofs.FirstBytes.{first_byte}
@@ -16,7 +17,7 @@ pub returns-clause-text : goal.returns-clause-text
 returns-clause-text g c = record {
   between = record { contents = g.T.Text.contents c.answer_to-status.new.text; tally = g.T.Text.tally c.answer_to-status.new.text };
   lines = lines c.first_fault_law.ensures.only _ _ (job_of (texts_of c.args.words.now)) c.answer_to-status.result c.answer_to-status.ensures.promised (λ e. ap (λ x. record { contents = g.T.Text.contents x; tally = g.T.Text.tally x }) (c.answer_to-status.ensures.untouched e).2);
-  front = front c.first_fault_law.ensures.some c.first_fault_law.ensures.only (job_of (texts_of c.args.words.now)) _ _ c.answer_to-status.result c.answer_to-status.ensures.promised;
+  front = front c.first_fault_law.ensures.some c.first_fault_law.ensures.only (job_of (texts_of c.args.words.now)) _ _ c.answer_to-status.result (g.met.S.Source.octets c.args.source.now) c.answer_to-status.ensures.promised;
   reported = c.answer_to-status.ensures.reported;
   line = c.report.ensures.line;
 }
@@ -36,8 +37,8 @@ returns-clause-write_fault g c = write_fault c.first_fault_law.ensures.only _ _ 
 pub returns-clause-counts : goal.returns-clause-counts
 returns-clause-counts g c =
     counts (job_of (texts_of c.args.words.now)) _ _ c.answer_to-status.result c.answer_to-status.ensures.promised
-    (λ e. kept_by _ _ (ap g.S.Source.tally (c.answer_to-status.ensures.untouched e).0))
-    (λ e. kept_by _ _ (ap g.K.Sink.tally (c.answer_to-status.ensures.untouched e).1))
+    (λ e. kept_by _ _ (ap (λ s. nameless (g.S.Source.tally s)) (c.answer_to-status.ensures.untouched e).0))
+    (λ e. kept_by _ _ (ap (λ k. nameless (g.K.Sink.tally k)) (c.answer_to-status.ensures.untouched e).1))
     (λ e. kept_by _ _ (ap g.T.Text.tally (c.answer_to-status.ensures.untouched e).2))
     (g.T.Text.tally c.report.new.text) c.report.ensures.counts
 
@@ -56,4 +57,12 @@ returns-clause-untouched g c = record {
       (same.0, same.1, same.3, usage_line c.answer_to-status.result _ _ _ (ap (λ x. record { contents = g.T.Text.contents x; tally = g.T.Text.tally x }) same.2) e c.report.ensures.line);
   sink = c.answer_to-status.ensures.left;
   source = c.answer_to-status.ensures.unread;
+}
+
+pub returns-clause-names : goal.returns-clause-names
+returns-clause-names g c = record {
+  asked = c.answer_to-status.ensures.names;
+  by_usage = λ e.
+      let same = c.answer_to-status.ensures.untouched e in
+      (ap (λ s. (g.S.Source.tally s).names) same.0, ap (λ k. (g.K.Sink.tally k).names) same.1);
 }

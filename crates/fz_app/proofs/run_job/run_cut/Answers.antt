@@ -1,10 +1,14 @@
 -- What cut says of the source that was attached and of the meter that was narrowed, it says of both as they were before.
 use Rattle.std.proofs.Common.{◌≡◌, min, refl, sym, ap, subst, rules}
+use Rattle.fz_base.specs.Counts.{nameless}
 use Rattle.fz_base.specs.Meter.{Gauge, narrowed}
 use Rattle.fz_files.specs.declared.job.Job.{Job}
+use Rattle.fz_files.specs.declared.job.Job.TheVariants.{Cut}
 use Rattle.fz_app.specs.Ends.{Ends, TextIs}
+use Rattle.fz_app.specs.Names.{JobNames}
 use Rattle.fz_app.specs.Promised.{IsPromised}
-use Rattle.fz_app.proofs.Tallies.{kept_by}
+use Rattle.fz_app.proofs.NamesAnswers.{once_more}
+use Rattle.fz_app.proofs.Tallies.{answers_from, cause_from, kept_by, kept_from}
 use Rattle.fz_app.proofs.CutAnswers.{cut_out}
 use Rattle.fz_app.proofs.run_job.run_cut.Goals as goal
 
@@ -12,13 +16,13 @@ pub returns : goal.returns
 returns g c =
     let held : g.S.Source.held c.begin.new.source ≡ g.S.Source.held c.args.source.now = c.begin.ensures.held in
     let ranges : g.S.Source.ranges c.begin.new.source ≡ g.S.Source.ranges c.args.source.now = c.begin.ensures.ranges in
-    let tally : g.S.Source.tally c.begin.new.source ≡ g.S.Source.tally c.args.source.now = c.in_ok-length.ensures.cause.ok in
+    let tally : nameless (g.S.Source.tally c.begin.new.source) ≡ nameless (g.S.Source.tally c.args.source.now) = c.in_ok-length.ensures.cause.ok in
     let meter : c.begin.new.meter ≡ narrowed c.args.meter.now c.args.request.now.memory = c.begin.ensures.narrowed in
     let limit : c.begin.new.meter.limit ≡ min c.args.meter.now.limit c.args.request.now.memory = ap (λ (m : Gauge). m.limit) meter in
     let none : c.begin.new.meter.peak ≡ 0 = search rules in
     let workers : c.in_ok-length.window.workers ≡ c.args.request.now.workers = search rules in
-    let old : TextIs → Ends = λ text. record { held = g.S.Source.held c.args.source.now; ranges = g.S.Source.ranges c.args.source.now; source = g.S.Source.tally c.args.source.now; sink = record { contents = g.K.Sink.contents c.args.sink.now; created = g.K.Sink.created c.args.sink.now; finished = g.K.Sink.finished c.args.sink.now; tally = g.K.Sink.tally c.args.sink.now }; text = text; meter = c.args.meter.now } in
-    let new : TextIs → Ends = λ text. record { held = g.S.Source.held c.cut.new.source; ranges = g.S.Source.ranges c.cut.new.source; source = g.S.Source.tally c.cut.new.source; sink = record { contents = g.K.Sink.contents c.cut.new.sink; created = g.K.Sink.created c.cut.new.sink; finished = g.K.Sink.finished c.cut.new.sink; tally = g.K.Sink.tally c.cut.new.sink }; text = text; meter = c.cut.new.meter } in
+    let old : TextIs → Ends = λ text. record { held = g.S.Source.held c.args.source.now; ranges = g.S.Source.ranges c.args.source.now; source = nameless (g.S.Source.tally c.args.source.now); sink = record { contents = g.K.Sink.contents c.args.sink.now; created = g.K.Sink.created c.args.sink.now; finished = g.K.Sink.finished c.args.sink.now; tally = nameless (g.K.Sink.tally c.args.sink.now) }; text = text; meter = c.args.meter.now } in
+    let new : TextIs → Ends = λ text. record { held = g.S.Source.held c.cut.new.source; ranges = g.S.Source.ranges c.cut.new.source; source = nameless (g.S.Source.tally c.cut.new.source); sink = record { contents = g.K.Sink.contents c.cut.new.sink; created = g.K.Sink.created c.cut.new.sink; finished = g.K.Sink.finished c.cut.new.sink; tally = nameless (g.K.Sink.tally c.cut.new.sink) }; text = text; meter = c.cut.new.meter } in
     record {
       promised = λ text. subst (λ (j : Job). IsPromised (record { job = j; workers = c.args.request.now.workers; memory = c.args.request.now.memory; input = c.args.request.now.input.now; output = c.args.request.now.output.now }) (old text) (new text) c.cut.result) (sym c.requires.job)
           (cut_out c.args.hdu c.args.sieve.now c.args.request.now.workers c.args.request.now.memory c.args.request.now.input.now c.args.request.now.output.now (old text) (new text) c.slice_law.ensures.sink c.cut.result
@@ -27,8 +31,8 @@ returns g c =
             output = rw held at c.cut.ensures.output;
             finished = c.cut.ensures.finished;
             first_fault = rw held at c.cut.ensures.first_fault;
-            answered = rw (held, tally, limit, workers) at c.cut.ensures.answered;
-            cause = rw (held, tally, limit, workers) at c.cut.ensures.cause;
+            answered = answers_from (g.S.Source.tally c.args.source.now) (g.S.Source.tally c.begin.new.source) (g.S.Source.tally c.cut.new.source) tally (Cut c.args.hdu c.args.sieve.now) (g.S.Source.held c.args.source.now) (nameless (g.K.Sink.tally c.args.sink.now)) (nameless (g.K.Sink.tally c.cut.new.sink)) (min c.args.meter.now.limit c.args.request.now.memory) c.args.request.now.workers c.cut.result (rw (held, limit, workers) at c.cut.ensures.answered);
+            cause = cause_from (g.S.Source.tally c.args.source.now) (g.S.Source.tally c.begin.new.source) (g.S.Source.tally c.cut.new.source) tally (Cut c.args.hdu c.args.sieve.now) (g.S.Source.held c.args.source.now) (nameless (g.K.Sink.tally c.args.sink.now)) (nameless (g.K.Sink.tally c.cut.new.sink)) (min c.args.meter.now.limit c.args.request.now.memory) c.args.request.now.workers c.cut.result (rw (held, limit, workers) at c.cut.ensures.cause);
             first_byte = rw held at c.cut.ensures.first_byte;
             unread = rw (ranges, limit) at c.cut.ensures.unread;
             unmade = rw (held, limit, workers) at c.cut.ensures.unmade;
@@ -41,10 +45,11 @@ returns g c =
             touched = rw (held, ranges) at c.cut.ensures.touched;
             told_ranges = rw ranges at c.cut.ensures.told_ranges;
             told_contents = c.cut.ensures.told_contents;
-            source_counts = rw tally at c.cut.ensures.kept.source_counts;
+            source_counts = kept_from (g.S.Source.tally c.args.source.now) (g.S.Source.tally c.begin.new.source) (g.S.Source.tally c.cut.new.source) tally c.cut.ensures.kept.source_counts;
             sink_counts = c.cut.ensures.kept.sink_counts;
             text_counts = kept_by text.tally text.tally refl;
             printed = refl;
             one_written = λ e. (e, refl);
           }));
+      names = subst (λ (j : Job). JobNames (record { job = j; workers = c.args.request.now.workers; memory = c.args.request.now.memory; input = c.args.request.now.input.now; output = c.args.request.now.output.now }) (g.S.Source.tally c.args.source.now).names (g.S.Source.tally c.cut.new.source).names (g.K.Sink.tally c.args.sink.now).names (g.K.Sink.tally c.cut.new.sink).names c.cut.result) (sym c.requires.job) (record { source = once_more c.args.request.now.input.now (g.S.Source.tally c.args.source.now).names (g.S.Source.tally c.begin.new.source).names (g.S.Source.tally c.cut.new.source).names c.cut.result c.in_ok-length.ensures.names.done c.cut.ensures.kept.source_counts.names_kept; sink = c.cut.ensures.names });
     }

@@ -1,8 +1,9 @@
 -- What drill says of the meter that was narrowed, it says of the meter as it was before.
-use Rattle.std.proofs.Common.{◌≡◌, min, sym, ap, subst, rules}
+use Rattle.std.proofs.Common.{◌≡◌, min, refl, sym, ap, subst, rules}
 use Rattle.fz_base.specs.Meter.{Gauge, narrowed}
 use Rattle.fz_files.specs.declared.job.Job.{Job}
 use Rattle.fz_app.specs.Ends.{Ends, TextIs}
+use Rattle.fz_app.specs.Names.{JobNames}
 use Rattle.fz_app.specs.Promised.{IsPromised}
 use Rattle.fz_app.proofs.DrillAnswers.{drilled}
 use Rattle.fz_app.proofs.run_job.run_drill.Goals as goal
@@ -30,4 +31,5 @@ returns g c = record {
         exact = rw none at c.drill.ensures.exact_peak;
         told = c.drill.ensures.told_contents;
       }));
+  names = λ opened made. subst (λ (j : Job). JobNames (record { job = j; workers = c.args.request.now.workers; memory = c.args.request.now.memory; input = c.args.request.now.input.now; output = c.args.request.now.output.now }) opened opened made made c.drill.result) (sym c.requires.job) (record { source = refl; sink = refl });
 }

@@ -1,10 +1,14 @@
 -- What pack says of the source that was attached and of the meter that was narrowed, it says of both as they were before.
 use Rattle.std.proofs.Common.{◌≡◌, min, refl, sym, ap, subst, rules}
+use Rattle.fz_base.specs.Counts.{nameless}
 use Rattle.fz_base.specs.Meter.{Gauge, narrowed}
 use Rattle.fz_files.specs.declared.job.Job.{Job}
+use Rattle.fz_files.specs.declared.job.Job.TheVariants.{Pack}
 use Rattle.fz_app.specs.Ends.{Ends, TextIs}
+use Rattle.fz_app.specs.Names.{JobNames}
 use Rattle.fz_app.specs.Promised.{IsPromised}
-use Rattle.fz_app.proofs.Tallies.{kept_by}
+use Rattle.fz_app.proofs.NamesAnswers.{once_more}
+use Rattle.fz_app.proofs.Tallies.{answers_from, cause_from, kept_by, kept_from}
 use Rattle.fz_app.proofs.PackAnswers.{packed}
 use Rattle.fz_app.proofs.run_job.run_pack.Goals as goal
 
@@ -12,23 +16,23 @@ pub returns : goal.returns
 returns g c =
     let held : g.S.Source.held c.begin.new.source ≡ g.S.Source.held c.args.source.now = c.begin.ensures.held in
     let ranges : g.S.Source.ranges c.begin.new.source ≡ g.S.Source.ranges c.args.source.now = c.begin.ensures.ranges in
-    let tally : g.S.Source.tally c.begin.new.source ≡ g.S.Source.tally c.args.source.now = c.in_ok-length.ensures.cause.ok in
+    let tally : nameless (g.S.Source.tally c.begin.new.source) ≡ nameless (g.S.Source.tally c.args.source.now) = c.in_ok-length.ensures.cause.ok in
     let meter : c.begin.new.meter ≡ narrowed c.args.meter.now c.args.request.now.memory = c.begin.ensures.narrowed in
     let limit : c.begin.new.meter.limit ≡ min c.args.meter.now.limit c.args.request.now.memory = ap (λ (m : Gauge). m.limit) meter in
     let none : c.begin.new.meter.peak ≡ 0 = search rules in
     let workers : c.in_ok-length.window.workers ≡ c.args.request.now.workers = search rules in
-    let old : TextIs → Ends = λ text. record { held = g.S.Source.held c.args.source.now; ranges = g.S.Source.ranges c.args.source.now; source = g.S.Source.tally c.args.source.now; sink = record { contents = g.K.Sink.contents c.args.sink.now; created = g.K.Sink.created c.args.sink.now; finished = g.K.Sink.finished c.args.sink.now; tally = g.K.Sink.tally c.args.sink.now }; text = text; meter = c.args.meter.now } in
-    let new : TextIs → Ends = λ text. record { held = g.S.Source.held c.pack.new.source; ranges = g.S.Source.ranges c.pack.new.source; source = g.S.Source.tally c.pack.new.source; sink = record { contents = g.K.Sink.contents c.pack.new.sink; created = g.K.Sink.created c.pack.new.sink; finished = g.K.Sink.finished c.pack.new.sink; tally = g.K.Sink.tally c.pack.new.sink }; text = text; meter = c.pack.new.meter } in
+    let old : TextIs → Ends = λ text. record { held = g.S.Source.held c.args.source.now; ranges = g.S.Source.ranges c.args.source.now; source = nameless (g.S.Source.tally c.args.source.now); sink = record { contents = g.K.Sink.contents c.args.sink.now; created = g.K.Sink.created c.args.sink.now; finished = g.K.Sink.finished c.args.sink.now; tally = nameless (g.K.Sink.tally c.args.sink.now) }; text = text; meter = c.args.meter.now } in
+    let new : TextIs → Ends = λ text. record { held = g.S.Source.held c.pack.new.source; ranges = g.S.Source.ranges c.pack.new.source; source = nameless (g.S.Source.tally c.pack.new.source); sink = record { contents = g.K.Sink.contents c.pack.new.sink; created = g.K.Sink.created c.pack.new.sink; finished = g.K.Sink.finished c.pack.new.sink; tally = nameless (g.K.Sink.tally c.pack.new.sink) }; text = text; meter = c.pack.new.meter } in
     record {
       promised = λ text. subst (λ (j : Job). IsPromised (record { job = j; workers = c.args.request.now.workers; memory = c.args.request.now.memory; input = c.args.request.now.input.now; output = c.args.request.now.output.now }) (old text) (new text) c.pack.result) (sym c.requires.job)
-          (packed c.args.options.now c.args.request.now.workers c.args.request.now.memory c.args.request.now.input.now c.args.request.now.output.now (old text) (new text) c.requires.empty c.round_trip_law.ensures c.requires.options c.pack.result
+          (packed c.args.options.now c.args.request.now.workers c.args.request.now.memory c.args.request.now.input.now c.args.request.now.output.now (old text) (new text) c.requires.empty c.round_trip_law.ensures c.requires.options (g.met.S.Source.octets c.args.source.now) c.pack.result
           (record {
             of_file = tt;
             output = rw held at c.pack.ensures.output;
             finished = c.pack.ensures.finished;
             first_fault = rw held at c.pack.ensures.first_fault;
-            answered = rw (held, tally, limit, workers) at c.pack.ensures.answered;
-            cause = rw (held, tally, limit, workers) at c.pack.ensures.cause;
+            answered = answers_from (g.S.Source.tally c.args.source.now) (g.S.Source.tally c.begin.new.source) (g.S.Source.tally c.pack.new.source) tally (Pack c.args.options.now) (g.S.Source.held c.args.source.now) (nameless (g.K.Sink.tally c.args.sink.now)) (nameless (g.K.Sink.tally c.pack.new.sink)) (min c.args.meter.now.limit c.args.request.now.memory) c.args.request.now.workers c.pack.result (rw (held, limit, workers) at c.pack.ensures.answered);
+            cause = cause_from (g.S.Source.tally c.args.source.now) (g.S.Source.tally c.begin.new.source) (g.S.Source.tally c.pack.new.source) tally (Pack c.args.options.now) (g.S.Source.held c.args.source.now) (nameless (g.K.Sink.tally c.args.sink.now)) (nameless (g.K.Sink.tally c.pack.new.sink)) (min c.args.meter.now.limit c.args.request.now.memory) c.args.request.now.workers c.pack.result (rw (held, limit, workers) at c.pack.ensures.cause);
             first_byte = rw held at c.pack.ensures.first_byte;
             unread = rw (ranges, limit) at c.pack.ensures.unread;
             unmade = rw (held, limit, workers) at c.pack.ensures.unmade;
@@ -38,13 +42,14 @@ returns g c =
             exact = rw (held, none, workers) at c.pack.ensures.exact_peak;
             most = rw (none, workers) at c.pack.ensures.buffers.most;
             held_is = rw held at c.pack.ensures.kept.held_is;
-            touched = tt;
+            touched = rw (held, ranges) at c.pack.ensures.touched;
             told_ranges = rw ranges at c.pack.ensures.told_ranges;
             told_contents = c.pack.ensures.told_contents;
-            source_counts = rw tally at c.pack.ensures.kept.source_counts;
+            source_counts = kept_from (g.S.Source.tally c.args.source.now) (g.S.Source.tally c.begin.new.source) (g.S.Source.tally c.pack.new.source) tally c.pack.ensures.kept.source_counts;
             sink_counts = c.pack.ensures.kept.sink_counts;
             text_counts = kept_by text.tally text.tally refl;
             printed = refl;
             one_written = λ e. (e, refl);
           }));
+      names = subst (λ (j : Job). JobNames (record { job = j; workers = c.args.request.now.workers; memory = c.args.request.now.memory; input = c.args.request.now.input.now; output = c.args.request.now.output.now }) (g.S.Source.tally c.args.source.now).names (g.S.Source.tally c.pack.new.source).names (g.K.Sink.tally c.args.sink.now).names (g.K.Sink.tally c.pack.new.sink).names c.pack.result) (sym c.requires.job) (record { source = once_more c.args.request.now.input.now (g.S.Source.tally c.args.source.now).names (g.S.Source.tally c.begin.new.source).names (g.S.Source.tally c.pack.new.source).names c.pack.result c.in_ok-length.ensures.names.done c.pack.ensures.kept.source_counts.names_kept; sink = c.pack.ensures.names });
     }

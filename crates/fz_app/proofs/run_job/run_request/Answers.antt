@@ -1,5 +1,7 @@
 -- A job that writes a file leaves the text, one that prints leaves the sink, and `drill` the source too.
+use Rattle.fz_base.specs.Counts.{nameless}
 use Rattle.fz_words.specs.Seen.{asked_of}
+use Rattle.fz_app.proofs.NamesAnswers as names
 use Rattle.fz_app.proofs.RequestAnswers.{ran, reports, verified}
 use Rattle.fz_app.proofs.run_job.run_request.Goals as goal
 
@@ -13,13 +15,31 @@ pub returns-in-Cut-clause-promised : goal.returns-in-Cut-clause-promised
 returns-in-Cut-clause-promised g c = ran (asked_of c.args.request.now) _ _ c.ended-in-Cut.result c.run_cut.result c.ended-in-Cut.ensures (c.run_cut.ensures.promised (record { contents = g.T.Text.contents c.args.text.now; tally = g.T.Text.tally c.args.text.now }))
 
 pub returns-in-Verify-clause-promised : goal.returns-in-Verify-clause-promised
-returns-in-Verify-clause-promised g c = verified (asked_of c.args.request.now) _ _ c.verified.result c.run_verify.result c.verified.ensures (c.run_verify.ensures.promised (record { contents = g.K.Sink.contents c.args.sink.now; created = g.K.Sink.created c.args.sink.now; finished = g.K.Sink.finished c.args.sink.now; tally = g.K.Sink.tally c.args.sink.now }) c.requires.empty)
+returns-in-Verify-clause-promised g c = verified (asked_of c.args.request.now) _ _ c.verified.result c.run_verify.result c.verified.ensures (c.run_verify.ensures.promised (record { contents = g.K.Sink.contents c.args.sink.now; created = g.K.Sink.created c.args.sink.now; finished = g.K.Sink.finished c.args.sink.now; tally = nameless (g.K.Sink.tally c.args.sink.now) }) c.requires.empty)
 
 pub returns-in-List-clause-promised : goal.returns-in-List-clause-promised
-returns-in-List-clause-promised g c = ran (asked_of c.args.request.now) _ _ c.ended-in-List.result c.run_list.result c.ended-in-List.ensures (c.run_list.ensures.promised (record { contents = g.K.Sink.contents c.args.sink.now; created = g.K.Sink.created c.args.sink.now; finished = g.K.Sink.finished c.args.sink.now; tally = g.K.Sink.tally c.args.sink.now }) c.requires.empty)
+returns-in-List-clause-promised g c = ran (asked_of c.args.request.now) _ _ c.ended-in-List.result c.run_list.result c.ended-in-List.ensures (c.run_list.ensures.promised (record { contents = g.K.Sink.contents c.args.sink.now; created = g.K.Sink.created c.args.sink.now; finished = g.K.Sink.finished c.args.sink.now; tally = nameless (g.K.Sink.tally c.args.sink.now) }) c.requires.empty)
 
 pub returns-in-Drill-clause-promised : goal.returns-in-Drill-clause-promised
-returns-in-Drill-clause-promised g c = ran (asked_of c.args.request.now) _ _ c.ended-in-Drill.result c.run_drill.result c.ended-in-Drill.ensures (c.run_drill.ensures.promised (g.S.Source.held c.args.source.now) (g.S.Source.ranges c.args.source.now) (g.S.Source.tally c.args.source.now) (record { contents = g.K.Sink.contents c.args.sink.now; created = g.K.Sink.created c.args.sink.now; finished = g.K.Sink.finished c.args.sink.now; tally = g.K.Sink.tally c.args.sink.now }) c.requires.empty)
+returns-in-Drill-clause-promised g c = ran (asked_of c.args.request.now) _ _ c.ended-in-Drill.result c.run_drill.result c.ended-in-Drill.ensures (c.run_drill.ensures.promised (g.S.Source.held c.args.source.now) (g.S.Source.ranges c.args.source.now) (nameless (g.S.Source.tally c.args.source.now)) (record { contents = g.K.Sink.contents c.args.sink.now; created = g.K.Sink.created c.args.sink.now; finished = g.K.Sink.finished c.args.sink.now; tally = nameless (g.K.Sink.tally c.args.sink.now) }) c.requires.empty)
 
 pub returns-in-Verify-clause-reported : goal.returns-in-Verify-clause-reported
 returns-in-Verify-clause-reported g c = reports c.args.request.now.job c.verified.result c.run_verify.result (g.T.Text.contents c.args.text.now) (g.T.Text.contents c.run_verify.new.text) c.verified.ensures c.run_verify.ensures.reported
+
+pub returns-in-Pack-clause-names : goal.returns-in-Pack-clause-names
+returns-in-Pack-clause-names g c = names.ran (asked_of c.args.request.now) _ _ _ _ c.ended.result c.run_pack.result c.ended.ensures c.run_pack.ensures.names
+
+pub returns-in-Unpack-clause-names : goal.returns-in-Unpack-clause-names
+returns-in-Unpack-clause-names g c = names.ran (asked_of c.args.request.now) _ _ _ _ c.ended-in-Unpack.result c.run_unpack.result c.ended-in-Unpack.ensures c.run_unpack.ensures.names
+
+pub returns-in-Cut-clause-names : goal.returns-in-Cut-clause-names
+returns-in-Cut-clause-names g c = names.ran (asked_of c.args.request.now) _ _ _ _ c.ended-in-Cut.result c.run_cut.result c.ended-in-Cut.ensures c.run_cut.ensures.names
+
+pub returns-in-List-clause-names : goal.returns-in-List-clause-names
+returns-in-List-clause-names g c = names.ran (asked_of c.args.request.now) _ _ _ _ c.ended-in-List.result c.run_list.result c.ended-in-List.ensures (c.run_list.ensures.names (g.K.Sink.tally c.args.sink.now).names)
+
+pub returns-in-Drill-clause-names : goal.returns-in-Drill-clause-names
+returns-in-Drill-clause-names g c = names.ran (asked_of c.args.request.now) _ _ _ _ c.ended-in-Drill.result c.run_drill.result c.ended-in-Drill.ensures (c.run_drill.ensures.names (g.S.Source.tally c.args.source.now).names (g.K.Sink.tally c.args.sink.now).names)
+
+pub returns-in-Verify-clause-names : goal.returns-in-Verify-clause-names
+returns-in-Verify-clause-names g c = names.verified (asked_of c.args.request.now) _ _ _ _ c.verified.result c.run_verify.result c.verified.ensures (c.run_verify.ensures.names (g.K.Sink.tally c.args.sink.now).names)

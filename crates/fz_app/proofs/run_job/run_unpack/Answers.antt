@@ -1,10 +1,14 @@
 -- What unpack says of the source that was attached and of the meter that was narrowed, it says of both as they were before.
 use Rattle.std.proofs.Common.{◌≡◌, min, refl, sym, ap, subst, rules}
+use Rattle.fz_base.specs.Counts.{nameless}
 use Rattle.fz_base.specs.Meter.{Gauge, narrowed}
 use Rattle.fz_files.specs.declared.job.Job.{Job}
+use Rattle.fz_files.specs.declared.job.Job.TheVariants.{Unpack}
 use Rattle.fz_app.specs.Ends.{Ends, TextIs}
+use Rattle.fz_app.specs.Names.{JobNames}
 use Rattle.fz_app.specs.Promised.{IsPromised}
-use Rattle.fz_app.proofs.Tallies.{kept_by}
+use Rattle.fz_app.proofs.NamesAnswers.{once_more}
+use Rattle.fz_app.proofs.Tallies.{answers_from, cause_from, kept_by, kept_from}
 use Rattle.fz_app.proofs.UnpackAnswers.{unpacked}
 use Rattle.fz_app.proofs.run_job.run_unpack.Goals as goal
 
@@ -12,13 +16,13 @@ pub returns : goal.returns
 returns g c =
     let held : g.S.Source.held c.begin.new.source ≡ g.S.Source.held c.args.source.now = c.begin.ensures.held in
     let ranges : g.S.Source.ranges c.begin.new.source ≡ g.S.Source.ranges c.args.source.now = c.begin.ensures.ranges in
-    let tally : g.S.Source.tally c.begin.new.source ≡ g.S.Source.tally c.args.source.now = c.in_ok-length.ensures.cause.ok in
+    let tally : nameless (g.S.Source.tally c.begin.new.source) ≡ nameless (g.S.Source.tally c.args.source.now) = c.in_ok-length.ensures.cause.ok in
     let meter : c.begin.new.meter ≡ narrowed c.args.meter.now c.args.request.now.memory = c.begin.ensures.narrowed in
     let limit : c.begin.new.meter.limit ≡ min c.args.meter.now.limit c.args.request.now.memory = ap (λ (m : Gauge). m.limit) meter in
     let none : c.begin.new.meter.peak ≡ 0 = search rules in
     let workers : c.in_ok-length.window.workers ≡ c.args.request.now.workers = search rules in
-    let old : TextIs → Ends = λ text. record { held = g.S.Source.held c.args.source.now; ranges = g.S.Source.ranges c.args.source.now; source = g.S.Source.tally c.args.source.now; sink = record { contents = g.K.Sink.contents c.args.sink.now; created = g.K.Sink.created c.args.sink.now; finished = g.K.Sink.finished c.args.sink.now; tally = g.K.Sink.tally c.args.sink.now }; text = text; meter = c.args.meter.now } in
-    let new : TextIs → Ends = λ text. record { held = g.S.Source.held c.unpack.new.source; ranges = g.S.Source.ranges c.unpack.new.source; source = g.S.Source.tally c.unpack.new.source; sink = record { contents = g.K.Sink.contents c.unpack.new.sink; created = g.K.Sink.created c.unpack.new.sink; finished = g.K.Sink.finished c.unpack.new.sink; tally = g.K.Sink.tally c.unpack.new.sink }; text = text; meter = c.unpack.new.meter } in
+    let old : TextIs → Ends = λ text. record { held = g.S.Source.held c.args.source.now; ranges = g.S.Source.ranges c.args.source.now; source = nameless (g.S.Source.tally c.args.source.now); sink = record { contents = g.K.Sink.contents c.args.sink.now; created = g.K.Sink.created c.args.sink.now; finished = g.K.Sink.finished c.args.sink.now; tally = nameless (g.K.Sink.tally c.args.sink.now) }; text = text; meter = c.args.meter.now } in
+    let new : TextIs → Ends = λ text. record { held = g.S.Source.held c.unpack.new.source; ranges = g.S.Source.ranges c.unpack.new.source; source = nameless (g.S.Source.tally c.unpack.new.source); sink = record { contents = g.K.Sink.contents c.unpack.new.sink; created = g.K.Sink.created c.unpack.new.sink; finished = g.K.Sink.finished c.unpack.new.sink; tally = nameless (g.K.Sink.tally c.unpack.new.sink) }; text = text; meter = c.unpack.new.meter } in
     record {
       promised = λ text. subst (λ (j : Job). IsPromised (record { job = j; workers = c.args.request.now.workers; memory = c.args.request.now.memory; input = c.args.request.now.input.now; output = c.args.request.now.output.now }) (old text) (new text) c.unpack.result) (sym c.requires.job)
           (unpacked c.args.request.now.workers c.args.request.now.memory c.args.request.now.input.now c.args.request.now.output.now (old text) (new text) c.round_trip_law.ensures c.one_file_law.ensures c.in_ok-length.length c.in_ok-length.ensures.attached.1 c.in_ok-length.ensures.attached.2 c.unpack.result
@@ -27,8 +31,8 @@ returns g c =
             output = rw held at c.unpack.ensures.output;
             finished = c.unpack.ensures.finished;
             first_fault = rw held at c.unpack.ensures.first_fault;
-            answered = rw (held, tally, limit, workers) at c.unpack.ensures.answered;
-            cause = rw (held, tally, limit, workers) at c.unpack.ensures.cause;
+            answered = answers_from (g.S.Source.tally c.args.source.now) (g.S.Source.tally c.begin.new.source) (g.S.Source.tally c.unpack.new.source) tally Unpack (g.S.Source.held c.args.source.now) (nameless (g.K.Sink.tally c.args.sink.now)) (nameless (g.K.Sink.tally c.unpack.new.sink)) (min c.args.meter.now.limit c.args.request.now.memory) c.args.request.now.workers c.unpack.result (rw (held, limit, workers) at c.unpack.ensures.answered);
+            cause = cause_from (g.S.Source.tally c.args.source.now) (g.S.Source.tally c.begin.new.source) (g.S.Source.tally c.unpack.new.source) tally Unpack (g.S.Source.held c.args.source.now) (nameless (g.K.Sink.tally c.args.sink.now)) (nameless (g.K.Sink.tally c.unpack.new.sink)) (min c.args.meter.now.limit c.args.request.now.memory) c.args.request.now.workers c.unpack.result (rw (held, limit, workers) at c.unpack.ensures.cause);
             first_byte = rw held at c.unpack.ensures.first_byte;
             unread = rw (ranges, limit) at c.unpack.ensures.unread;
             unmade = rw (held, limit, workers) at c.unpack.ensures.unmade;
@@ -38,13 +42,14 @@ returns g c =
             exact = rw (held, none, workers) at c.unpack.ensures.exact_peak;
             most = rw (none, workers) at c.unpack.ensures.buffers.most;
             held_is = rw held at c.unpack.ensures.kept.held_is;
-            touched = tt;
+            touched = rw (held, ranges) at c.unpack.ensures.touched;
             told_ranges = rw ranges at c.unpack.ensures.told_ranges;
             told_contents = c.unpack.ensures.told_contents;
-            source_counts = rw tally at c.unpack.ensures.kept.source_counts;
+            source_counts = kept_from (g.S.Source.tally c.args.source.now) (g.S.Source.tally c.begin.new.source) (g.S.Source.tally c.unpack.new.source) tally c.unpack.ensures.kept.source_counts;
             sink_counts = c.unpack.ensures.kept.sink_counts;
             text_counts = kept_by text.tally text.tally refl;
             printed = refl;
             one_written = λ e. (e, refl);
           }));
+      names = subst (λ (j : Job). JobNames (record { job = j; workers = c.args.request.now.workers; memory = c.args.request.now.memory; input = c.args.request.now.input.now; output = c.args.request.now.output.now }) (g.S.Source.tally c.args.source.now).names (g.S.Source.tally c.unpack.new.source).names (g.K.Sink.tally c.args.sink.now).names (g.K.Sink.tally c.unpack.new.sink).names c.unpack.result) (sym c.requires.job) (record { source = once_more c.args.request.now.input.now (g.S.Source.tally c.args.source.now).names (g.S.Source.tally c.begin.new.source).names (g.S.Source.tally c.unpack.new.source).names c.unpack.result c.in_ok-length.ensures.names.done c.unpack.ensures.kept.source_counts.names_kept; sink = c.unpack.ensures.names });
     }

@@ -3,7 +3,7 @@ use Rattle.std.proofs.Common.{◌≡◌, ℕ, ◌+◌, ◌-◌, ◌≤◌, max, 
 use Rattle.std.specs.Prelude.{OnOk}
 use Rattle.std.proofs.lemmas.List.{length-replicate}
 use Rattle.fz_base.specs.Buffer.{refilled}
-use Rattle.fz_base.specs.Counts.{Tally}
+use Rattle.fz_base.specs.Counts.{Tally, nameless}
 use Rattle.fz_base.specs.Meter.{Gauge}
 use Rattle.fz_base.specs.Stop.{TellsLimit, stop_of_short}
 use Rattle.fz_base.specs.Takings.{TellsFirstPast, highest}
@@ -32,7 +32,7 @@ pub returns-in_err-block-clause-cause : goal.returns-in_err-block-clause-cause
 returns-in_err-block-clause-cause g c =
     let held : Option (List ℕ) = g.S.Source.held c.args.source.now in
     let source : Tally = g.S.Source.tally c.args.source.now in
-    let sink : Tally = g.K.Sink.tally c.args.sink.now in
+    let sink : Tally = nameless (g.K.Sink.tally c.args.sink.now) in
     let W : ℕ = c.args.window.now.workers in
     let stopped : c.from_residual.result ≡ Err (stop_of_short c.in_err-block.field-0.0) = search rules in
     subst (λ (r : Result (Unit {0}) Stop). HasJobCause (Cut c.args.hdu c.args.sieve.now) held source source sink sink c.args.meter.now.limit W r) (sym stopped)
@@ -42,7 +42,7 @@ pub returns-in_err-block-clause-answered : goal.returns-in_err-block-clause-answ
 returns-in_err-block-clause-answered g c =
     let held : Option (List ℕ) = g.S.Source.held c.args.source.now in
     let source : Tally = g.S.Source.tally c.args.source.now in
-    let sink : Tally = g.K.Sink.tally c.args.sink.now in
+    let sink : Tally = nameless (g.K.Sink.tally c.args.sink.now) in
     let W : ℕ = c.args.window.now.workers in
     c.stages_law.ensures.answers (Cut c.args.hdu c.args.sieve.now) held source source sink sink c.args.meter.now.limit W c.from_residual.result tt (returns-in_err-block-clause-cause g c)
 
@@ -62,9 +62,9 @@ pub returns-clause-cause : goal.returns-clause-cause
 returns-clause-cause g c =
     let held : Option (List ℕ) = g.S.Source.held c.args.source.now in
     let source : Tally = g.S.Source.tally c.args.source.now in
-    let sink : Tally = g.K.Sink.tally c.args.sink.now in
+    let sink : Tally = nameless (g.K.Sink.tally c.args.sink.now) in
     let source' : Tally = g.S.Source.tally c.with_block-answer.new.source in
-    let sink' : Tally = g.K.Sink.tally c.with_block-answer.new.sink in
+    let sink' : Tally = nameless (g.K.Sink.tally c.with_block-answer.new.sink) in
     let limit : ℕ = c.args.meter.now.limit in
     let W : ℕ = c.args.window.now.workers in
     let same : c.bytes.new.self.limit ≡ limit = ap (λ (m : Gauge). m.limit) c.in_ok-block.ensures.taken.1 in

@@ -1,6 +1,7 @@
 -- The first look stops, or knows the file, and then the work says the rest.
 use Rattle.std.proofs.Common.{◌≡◌, ℕ, ◌+◌, ◌≤◌, max, List, Option, Some, None, IfSome, Result, Ok, Err, sum, refl, sym, ◌∙◌, subst, rules, arith}
 use Rattle.std.specs.Prelude.{IsSome, OnOk}
+use Rattle.fz_base.specs.Counts.{nameless}
 use Rattle.fz_base.specs.Takings.{TellsFirstPast, first_past, highest, piled}
 use Rattle.fz_base.specs.declared.failure.Stop.{Stop}
 use Rattle.fz_files.specs.declared.job.Job.TheVariants.{Cut}
@@ -60,7 +61,7 @@ pub returns-in_err-survey-clause-cause : goal.returns-in_err-survey-clause-cause
 returns-in_err-survey-clause-cause g c =
     let source = g.S.Source.tally c.args.source.now in
     let source' = g.S.Source.tally c.survey_to_cut.new.source in
-    let sink = g.K.Sink.tally c.args.sink.now in
+    let sink = nameless (g.K.Sink.tally c.args.sink.now) in
     let stopped : c.from_residual.result ≡ Err c.in_err-survey.field-0.0 = search rules in
     subst (λ (r : Result (Unit {0}) Stop). Works source source' sink sink c.args.meter.now.limit r) (sym stopped)
     (c.stages_law.ensures.look.works source source' sink c.args.meter.now.limit c.in_err-survey.field-0.0 c.in_err-survey.ensures.cause)

@@ -1,5 +1,6 @@
 -- What is held is what was taken; and the work stops by its buffers, or by what is written behind that.
 use Rattle.std.proofs.Common.{◌≡◌, ℕ, ◌+◌, ◌≤◌, List, [], Option, None, IfSome, Result, Err, sum, refl, sym, ap, ◌∙◌, subst, arith, rules}
+use Rattle.fz_base.specs.Counts.{nameless}
 use Rattle.fz_base.specs.Stop.{stop_of_short}
 use Rattle.fz_base.specs.Takings.{TellsFirstPast, first_past, piled}
 use Rattle.fz_base.specs.declared.failure.Stop.{Stop}
@@ -46,7 +47,7 @@ returns-in_err-space-clause-first_past g c =
 pub returns-in_err-space-clause-cause : goal.returns-in_err-space-clause-cause
 returns-in_err-space-clause-cause g c =
     let source = g.S.Source.tally c.args.source.now in
-    let sink = g.K.Sink.tally c.args.sink.now in
+    let sink = nameless (g.K.Sink.tally c.args.sink.now) in
     let stopped : c.from_residual.result ≡ Err (stop_of_short c.in_err-space.field-0.0) = search rules in
     subst (λ (r : Result (Unit {0}) Stop). Works source source sink sink c.args.meter.now.limit r) (sym stopped) (c.stages_law.ensures.work.short_works source sink c.args.meter.now.limit c.in_err-space.field-0.0 c.in_err-space.ensures.takings.told)
 

@@ -3,12 +3,15 @@ use Rattle.std.proofs.Common.{◌≡◌, ℕ, ◌+◌, ◌<◌, ◌≤◌, ◌^�
 use Rattle.std.proofs.lemmas.List.{length-append, length-drop, length-take}
 use Rattle.std.proofs.Math.Bool.{beq}
 use Rattle.std.proofs.Math.Dec.{eqb}
-use Rattle.fz_base.specs.Source.{HoldsLength}
+use Rattle.fz_base.specs.Source.{HoldsLength, LogsWithin}
 use Rattle.fz_base.specs.declared.failure.Stop.{Stop}
+use Rattle.fz_block.specs.Checks.{header_touched}
 use Rattle.fz_block.specs.Header.{next_start_of}
 use Rattle.fz_pack.specs.Again.{ReadsAsSeen}
 use Rattle.fz_pack.specs.Behind.{HoldsHdu, IsUnderway, RewritesSeen}
 use Rattle.fz_pack.proofs.Ends.{not_at_end}
+use Rattle.fz_pack.specs.Reads.{ReadsHdus}
+use Rattle.fz_pack.proofs.HduReads.{no_hdu, one_hdu, one_header}
 use Rattle.fz_pack.proofs.Underway.{more_written, none_written, stops_changed, stops_reading, stops_writing}
 use Rattle.fz_pack.proofs.file.write_hdus.Goals as goal
 
@@ -22,6 +25,7 @@ loop-hdu-init g c = record {
   shut = λ shut. shut;
   told_ranges = λ told. told;
   told_contents = λ told. told;
+  read = no_hdu c.args.options.now c.args.survey.now (g.S.Source.ranges c.args.source.now) (g.S.Source.held c.args.source.now);
   space = record { header = refl; translated = refl; copy = refl };
   window = record { sizes = refl; workers = refl };
   block = c.requires.block;
@@ -117,6 +121,12 @@ loop-hdu-preserved g c =
     let inside : next_start_of a.header ≤ c.args.length = c.in_ok-again.ensures.again.inside in
     let early : next_start_of a.header ≤ 2 ^ 62 = c.in_ok-again.ensures.again.near in
     let near : end + a.header.start ≤ at + 2 ^ 46 + next_start_of a.header = c.in_ok-at.ensures.end.near in
+    let zero : Option (List (ℕ × ℕ)) = g.S.Source.ranges c.args.source.now in
+    let one : Option (List (ℕ × ℕ)) = g.S.Source.ranges c.loop-hdu.source in
+    let two : Option (List (ℕ × ℕ)) = g.S.Source.ranges c.read_again.new.source in
+    let reads : IfSome held (λ f. LogsWithin start (header_touched k start f) one two) = subst (λ (h : Option (List ℕ)). IfSome h (λ f. LogsWithin start (header_touched k start f) one two)) old.held c.in_ok-again.ensures.read in
+    let header : IfSome held (λ f. ReadsHdus o f s zero two) = one_header o s zero c.ranges_law.ensures.within c.ranges_law.ensures.join k start c.loop-hdu.at before mid few one two c.hdu_at_law.ensures.facts held old.written reads old.read in
+    let three : Option (List (ℕ × ℕ)) = g.S.Source.ranges c.write_hdu.new.source in
     record {
       held = search rules;
       attached = search rules;
@@ -126,6 +136,7 @@ loop-hdu-preserved g c =
       shut = λ shut. c.in_ok-at.ensures.sink.shut (old.shut shut);
       told_ranges = λ told. c.in_ok-at.ensures.told_ranges (c.in_ok-again.ensures.told (old.told_ranges told));
       told_contents = λ told. c.in_ok-at.ensures.told_contents (old.told_contents told);
+      read = one_hdu o s zero c.ranges_law.ensures.within c.ranges_law.ensures.join k start c.loop-hdu.at before mid few two three held a old.written seen c.in_ok-at.ensures.log header;
       space = record {
         header = omega (arith, c.in_ok-at.ensures.space.header, old.space.header, c.in_ok-again.ensures.buf, length-take {A = ℕ}, length-append {A = ℕ}, length-drop {A = ℕ});
         translated = c.in_ok-at.ensures.space.translated ∙ old.space.translated;
@@ -140,3 +151,68 @@ loop-hdu-preserved g c =
       near = omega (arith, next, near, place, old.near);
       written = subst (λ n. IfSome held (IsUnderway o s.header_len s.tile s.hdus (k + 1) n end before now)) (sym next) more;
     }
+
+pub returns-in_err-again-clause-read : goal.returns-in_err-again-clause-read
+returns-in_err-again-clause-read g c =
+    let o = c.args.options.now in
+    let s = c.args.survey.now in
+    let k : ℕ = c.loop-hdu.hdu in
+    let start : ℕ = c.loop-hdu.start in
+    let held : Option (List ℕ) = g.S.Source.held c.args.source.now in
+    let before : Option (List ℕ) = g.K.Sink.contents c.args.sink.now in
+    let mid : Option (List ℕ) = g.K.Sink.contents c.loop-hdu.sink in
+    let old = c.loop-hdu.invariant in
+    let few : k < s.hdus = omega arith in
+    let zero : Option (List (ℕ × ℕ)) = g.S.Source.ranges c.args.source.now in
+    let one : Option (List (ℕ × ℕ)) = g.S.Source.ranges c.loop-hdu.source in
+    let two : Option (List (ℕ × ℕ)) = g.S.Source.ranges c.read_again.new.source in
+    let reads : IfSome held (λ f. LogsWithin start (header_touched k start f) one two) = subst (λ (h : Option (List ℕ)). IfSome h (λ f. LogsWithin start (header_touched k start f) one two)) old.held c.in_err-again.ensures.read in
+    one_header o s zero c.ranges_law.ensures.within c.ranges_law.ensures.join k start c.loop-hdu.at before mid few one two c.hdu_at_law.ensures.facts held old.written reads old.read
+
+pub returns-in_err-at-clause-read : goal.returns-in_err-at-clause-read
+returns-in_err-at-clause-read g c =
+    let o = c.args.options.now in
+    let s = c.args.survey.now in
+    let k : ℕ = c.loop-hdu.hdu in
+    let start : ℕ = c.loop-hdu.start in
+    let held : Option (List ℕ) = g.S.Source.held c.args.source.now in
+    let before : Option (List ℕ) = g.K.Sink.contents c.args.sink.now in
+    let mid : Option (List ℕ) = g.K.Sink.contents c.loop-hdu.sink in
+    let old = c.loop-hdu.invariant in
+    let few : k < s.hdus = omega arith in
+    let zero : Option (List (ℕ × ℕ)) = g.S.Source.ranges c.args.source.now in
+    let one : Option (List (ℕ × ℕ)) = g.S.Source.ranges c.loop-hdu.source in
+    let two : Option (List (ℕ × ℕ)) = g.S.Source.ranges c.read_again.new.source in
+    let reads : IfSome held (λ f. LogsWithin start (header_touched k start f) one two) = subst (λ (h : Option (List ℕ)). IfSome h (λ f. LogsWithin start (header_touched k start f) one two)) old.held c.in_ok-again.ensures.read in
+    let header : IfSome held (λ f. ReadsHdus o f s zero two) = one_header o s zero c.ranges_law.ensures.within c.ranges_law.ensures.join k start c.loop-hdu.at before mid few one two c.hdu_at_law.ensures.facts held old.written reads old.read in
+    let a = c.in_ok-again.again in
+    let long : length c.as_mut_slice-buf.result.now ≡ s.header_len = ap length c.as_mut_slice-buf.ensures.value ∙ old.space.header ∙ c.requires.header in
+    let seen : IfSome held (λ f. ReadsAsSeen o f k start s.header_len s.tile (Ok a)) =
+    subst (λ n. IfSome held (λ f. ReadsAsSeen o f k start n s.tile (Ok a))) long
+    (subst (λ (h : Option (List ℕ)). IfSome h (λ f. ReadsAsSeen o f k start (length c.as_mut_slice-buf.result.now) s.tile (Ok a))) old.held c.in_ok-again.ensures.as_seen) in
+    let three : Option (List (ℕ × ℕ)) = g.S.Source.ranges c.write_hdu.new.source in
+    one_hdu o s zero c.ranges_law.ensures.within c.ranges_law.ensures.join k start c.loop-hdu.at before mid few two three held a old.written seen c.in_err-at.ensures.log header
+
+pub returns-then-start-length-clause-read : goal.returns-then-start-length-clause-read
+returns-then-start-length-clause-read g c =
+    let o = c.args.options.now in
+    let s = c.args.survey.now in
+    let k : ℕ = c.loop-hdu.hdu in
+    let start : ℕ = c.loop-hdu.start in
+    let held : Option (List ℕ) = g.S.Source.held c.args.source.now in
+    let before : Option (List ℕ) = g.K.Sink.contents c.args.sink.now in
+    let mid : Option (List ℕ) = g.K.Sink.contents c.loop-hdu.sink in
+    let old = c.loop-hdu.invariant in
+    let few : k < s.hdus = omega arith in
+    let zero : Option (List (ℕ × ℕ)) = g.S.Source.ranges c.args.source.now in
+    let one : Option (List (ℕ × ℕ)) = g.S.Source.ranges c.loop-hdu.source in
+    let two : Option (List (ℕ × ℕ)) = g.S.Source.ranges c.read_again.new.source in
+    let reads : IfSome held (λ f. LogsWithin start (header_touched k start f) one two) = subst (λ (h : Option (List ℕ)). IfSome h (λ f. LogsWithin start (header_touched k start f) one two)) old.held c.in_ok-again.ensures.read in
+    let header : IfSome held (λ f. ReadsHdus o f s zero two) = one_header o s zero c.ranges_law.ensures.within c.ranges_law.ensures.join k start c.loop-hdu.at before mid few one two c.hdu_at_law.ensures.facts held old.written reads old.read in
+    let a = c.in_ok-again.again in
+    let long : length c.as_mut_slice-buf.result.now ≡ s.header_len = ap length c.as_mut_slice-buf.ensures.value ∙ old.space.header ∙ c.requires.header in
+    let seen : IfSome held (λ f. ReadsAsSeen o f k start s.header_len s.tile (Ok a)) =
+    subst (λ n. IfSome held (λ f. ReadsAsSeen o f k start n s.tile (Ok a))) long
+    (subst (λ (h : Option (List ℕ)). IfSome h (λ f. ReadsAsSeen o f k start (length c.as_mut_slice-buf.result.now) s.tile (Ok a))) old.held c.in_ok-again.ensures.as_seen) in
+    let three : Option (List (ℕ × ℕ)) = g.S.Source.ranges c.write_hdu.new.source in
+    one_hdu o s zero c.ranges_law.ensures.within c.ranges_law.ensures.join k start c.loop-hdu.at before mid few two three held a old.written seen c.in_ok-at.ensures.log header

@@ -3,6 +3,7 @@ use Rattle.std.proofs.Common.{◌≡◌, ◌+◌, ◌*◌, ◌^◌, ◌<◌, ◌
 use Rattle.fz_base.specs.FirstByte.{StaysShut}
 use Rattle.fz_base.specs.Told.{StaysTold}
 use Rattle.fz_pack.specs.Behind.{IsUnderway}
+use Rattle.fz_pack.specs.Reads.{ReadsHdus}
 use Rattle.fz_survey.specs.Workspace.{SpaceStays}
 use Rattle.fz_job.specs.Keeps.{WindowStays}
 use Rattle.fz_pack.proofs.file.write_hdus.Given as goal
@@ -17,6 +18,7 @@ invariant-loop-hdu g l = record {
   shut : StaysShut (g.K.Sink.contents l.fn.sink) (g.K.Sink.contents l.sink);
   told_ranges : StaysTold (g.S.Source.ranges l.fn.source) (g.S.Source.ranges l.source);
   told_contents : StaysTold (g.K.Sink.contents l.fn.sink) (g.K.Sink.contents l.sink);
+  read : IfSome (g.S.Source.held l.fn.source) (λ f. ReadsHdus l.options f l.survey (g.S.Source.ranges l.fn.source) (g.S.Source.ranges l.source));
   space : SpaceStays l.fn.space l.space;
   window : WindowStays l.fn.window l.window;
   block : length l.block ≡ 2880;

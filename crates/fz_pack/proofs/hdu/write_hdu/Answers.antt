@@ -1,6 +1,7 @@
 -- An image becomes its table, behind an empty primary where it was one, and every other HDU is copied.
 use Rattle.std.proofs.Common.{ℕ, ◌+◌, ◌^◌, ◌<◌, ◌≤◌, List, Option, IfSome, arith}
 use Rattle.std.proofs.lemmas.Result.{IfOk-weaker}
+use Rattle.fz_block.specs.Header.{data_start_of, next_start_of}
 use Rattle.fz_image.specs.Image.{HoldsTable}
 use Rattle.fz_job.specs.Behind.{HoldsCopy}
 use Rattle.fz_pack.specs.Behind.{EndsNear, HoldsHdu}
@@ -62,3 +63,6 @@ returns-in-None-clause-written g c =
     (λ end. IfSome held (λ file. HoldsHdu o a.header file at end before now))
     (λ end put. holds_copy o held c.requires.again.0 c.args.space.now.header a c.requires.again.2 c.in-None.is at end before now put)
     c.copy_hdu.ensures.copied
+
+pub returns-in_err-at-in-Some-clause-log : goal.returns-in_err-at-in-Some-clause-log
+returns-in_err-at-in-Some-clause-log g c = c.log_law.ensures.none (data_start_of c.args.again.now.header) (next_start_of c.args.again.now.header) (g.S.Source.ranges c.args.source.now)

@@ -1,5 +1,6 @@
 -- What is held is what was taken; and the work stops by its buffers, or by what is written behind that.
 use Rattle.std.proofs.Common.{◌≡◌, ℕ, ◌+◌, List, [], Option, IfSome, Result, Err, sum, refl, sym, ap, ◌∙◌, subst, arith, rules}
+use Rattle.fz_base.specs.Counts.{nameless}
 use Rattle.fz_base.specs.Stop.{stop_of_short}
 use Rattle.fz_base.specs.Takings.{TellsFirstPast, first_past, piled}
 use Rattle.fz_base.specs.declared.failure.Stop.{Stop}
@@ -10,6 +11,7 @@ use Rattle.fz_files.specs.declared.job.Job.TheVariants.{Pack}
 use Rattle.fz_stages.specs.Stages.{Works, wants_for}
 use Rattle.fz_pack.specs.Written.{FinishesSeen}
 use Rattle.fz_pack.proofs.Held.{sum_one}
+use Rattle.fz_pack.proofs.HduReads.{no_hdu}
 use Rattle.fz_pack.proofs.Outcomes.{if_over, none_passed, ok_always, rewrite_over, short_shut, short_unwritten}
 use Rattle.fz_pack.proofs.pack_file.work.Goals as goal
 
@@ -37,7 +39,7 @@ returns-in_err-space-clause-first_past g c =
 pub returns-in_err-space-clause-cause : goal.returns-in_err-space-clause-cause
 returns-in_err-space-clause-cause g c =
     let source = g.S.Source.tally c.args.source.now in
-    let sink = g.K.Sink.tally c.args.sink.now in
+    let sink = nameless (g.K.Sink.tally c.args.sink.now) in
     let stopped : c.from_residual.result ≡ Err (stop_of_short c.in_err-space.field-0.0) = search rules in
     subst (λ (r : Result (Unit {0}) Stop). Works source source sink sink c.args.meter.now.limit r) (sym stopped) (c.stages_law.ensures.work.short_works source sink c.args.meter.now.limit c.in_err-space.field-0.0 c.in_err-space.ensures.takings.told)
 
@@ -116,3 +118,6 @@ returns-in_err-space-clause-past g c = λ some. (refl, refl)
 
 pub returns-clause-past : goal.returns-clause-past
 returns-clause-past g c = none_passed _ (first_past c.args.meter.now.limit (piled c.args.meter.now.live (wanted_buffers (wants_for (Pack c.args.options.now) c.args.survey.now) c.args.window.now.workers))) c.in_ok-space.ensures.takings.first_past
+
+pub returns-in_err-space-clause-read : goal.returns-in_err-space-clause-read
+returns-in_err-space-clause-read g c = no_hdu c.args.options.now c.args.survey.now (g.S.Source.ranges c.args.source.now) (g.S.Source.held c.args.source.now)

@@ -1,12 +1,18 @@
 -- One HDU after another.
 use Rattle.std.proofs.Common.{◌≡◌, ◌==◌, true, ℕ, ◌+◌, ◌<◌, ◌≤◌, ◌^◌, ◌↔◌, Bool, List, length, Option, IfSome, Result, Ok, Err, refl, sym, ap, ◌∙◌, subst, inl, arith, rules}
 use Rattle.std.proofs.lemmas.List.{length-append, length-drop, length-take}
-use Rattle.fz_base.specs.Source.{HoldsLength}
+use Rattle.fz_base.specs.Ranges.{LogsIn}
+use Rattle.fz_base.specs.Source.{HoldsLength, LogsWithin}
 use Rattle.fz_base.specs.Stop.{IfRefused}
 use Rattle.fz_base.specs.declared.failure.Stop.{Stop}
+use Rattle.fz_block.specs.Checks.{header_touched}
 use Rattle.fz_block.specs.Header.{next_start_of}
+use Rattle.fz_files.specs.declared.job.Job.TheVariants.{Unpack}
 use Rattle.fz_again.specs.Again.{IsAgain, ReadsAsSeen, is_empty_primary, was_primary_image}
+use Rattle.fz_again.specs.Hdus.{ReadsHdus}
+use Rattle.fz_files.specs.Touched.{data_touched}
 use Rattle.fz_unpack.specs.Behind.{HoldsHdu, IsHduFault, IsUnderway, RestoresSeen}
+use Rattle.fz_unpack.proofs.HduReads.{one_hdu, one_header}
 use Rattle.fz_unpack.proofs.Underway.{more_written, none_written, stops_reading, stops_searching, stops_writing}
 use Rattle.fz_unpack.proofs.AsSeen.{first_as_seen, last_as_seen, not_at_end, primary_as_seen, told_false}
 use Rattle.fz_unpack.proofs.file.write_hdus.Goals as goal
@@ -34,6 +40,7 @@ loop-hdu-init g c =
       shut = λ shut. shut;
       told_ranges = c.in_ok-first.ensures.told;
       told_contents = λ told. told;
+      read = c.in_ok-first.ensures.read;
       space = record {
         header = omega (arith, c.in_ok-first.ensures.buf, length-take {A = ℕ}, length-append {A = ℕ}, length-drop {A = ℕ});
         translated = refl;
@@ -179,6 +186,14 @@ loop-hdu-preserved g c =
     let early : next_start_of a.header ≤ 2 ^ 62 = c.in_ok-again.ensures.again.near in
     let near : end + a.header.start ≤ at + 2 ^ 46 + next_start_of a.header = c.in_ok-at.ensures.end.near in
     let last : (c.next_start-start.result ≡ c.args.length) ↔ (k + 1 ≡ s.hdus) = c.is_last_as_seen.ensures.exact.0 (search rules) in
+    let zero : Option (List (ℕ × ℕ)) = g.S.Source.ranges c.args.source.now in
+    let one : Option (List (ℕ × ℕ)) = g.S.Source.ranges c.loop-hdu.source in
+    let two : Option (List (ℕ × ℕ)) = g.S.Source.ranges c.read_again.new.source in
+    let reads : IfSome held (λ f. LogsWithin start (header_touched k start f) one two) = subst (λ (h : Option (List ℕ)). IfSome h (λ f. LogsWithin start (header_touched k start f) one two)) old.held c.in_ok-again.ensures.read in
+    let header : IfSome held (λ f. ReadsHdus Unpack f s zero two) = one_header s zero c.ranges_law.ensures.join k start c.loop-hdu.at flag before mid few one two (c.hdus_law.ensures.header Unpack) held old.written reads old.read in
+    let three : Option (List (ℕ × ℕ)) = g.S.Source.ranges c.write_hdu.new.source in
+    let body : IfSome held (λ f. LogsIn (data_touched Unpack f a.header) two three) =
+    subst (λ (h : Option (List ℕ)). IfSome h (λ f. LogsIn (data_touched Unpack f a.header) two three)) (c.in_ok-again.ensures.source.held_is ∙ old.held) c.in_ok-at.ensures.read in
     record {
       held = search rules;
       attached = search rules;
@@ -188,6 +203,7 @@ loop-hdu-preserved g c =
       shut = λ shut. c.in_ok-at.ensures.sink.shut (old.shut shut);
       told_ranges = λ told. c.in_ok-at.ensures.told_ranges (c.in_ok-again.ensures.told (old.told_ranges told));
       told_contents = λ told. c.in_ok-at.ensures.told_contents (old.told_contents told);
+      read = one_hdu s zero c.ranges_law.ensures.join k start c.loop-hdu.at flag before mid few two three (c.hdus_law.ensures.payload Unpack) held a old.written seen body header;
       space = record {
         header = omega (arith, c.in_ok-at.ensures.space.header, old.space.header, c.in_ok-again.ensures.buf, length-take {A = ℕ}, length-append {A = ℕ}, length-drop {A = ℕ});
         translated = c.in_ok-at.ensures.space.translated ∙ old.space.translated;
@@ -201,3 +217,95 @@ loop-hdu-preserved g c =
       written = subst (λ b. IfSome held (IsUnderway s.header_len s.tile s.hdus (k + 1) c.next_start-start.result end b before now)) (sym says)
           (subst (λ n. IfSome held (IsUnderway s.header_len s.tile s.hdus (k + 1) n end (is_empty_primary a.header) before now)) (sym next) more);
     }
+
+pub returns-in_err-first-clause-read : goal.returns-in_err-first-clause-read
+returns-in_err-first-clause-read g c = c.in_err-first.ensures.read
+
+pub returns-then-first-survey-clause-read : goal.returns-then-first-survey-clause-read
+returns-then-first-survey-clause-read g c = c.in_ok-first.ensures.read
+
+pub returns-in_err-again-clause-read : goal.returns-in_err-again-clause-read
+returns-in_err-again-clause-read g c =
+    let s = c.args.survey.now in
+    let k : ℕ = c.loop-hdu.hdu in
+    let start : ℕ = c.loop-hdu.start in
+    let flag : Bool = c.loop-hdu.after_empty in
+    let held : Option (List ℕ) = g.S.Source.held c.args.source.now in
+    let before : Option (List ℕ) = g.K.Sink.contents c.args.sink.now in
+    let mid : Option (List ℕ) = g.K.Sink.contents c.loop-hdu.sink in
+    let zero : Option (List (ℕ × ℕ)) = g.S.Source.ranges c.args.source.now in
+    let one : Option (List (ℕ × ℕ)) = g.S.Source.ranges c.loop-hdu.source in
+    let two : Option (List (ℕ × ℕ)) = g.S.Source.ranges c.read_again.new.source in
+    let old = c.loop-hdu.invariant in
+    let few : k < s.hdus = omega arith in
+    let reads : IfSome held (λ f. LogsWithin start (header_touched k start f) one two) = subst (λ (h : Option (List ℕ)). IfSome h (λ f. LogsWithin start (header_touched k start f) one two)) old.held c.in_err-again.ensures.read in
+    one_header s zero c.ranges_law.ensures.join k start c.loop-hdu.at flag before mid few one two (c.hdus_law.ensures.header Unpack) held old.written reads old.read
+
+pub returns-then-not-is_primary_as_found-clause-read : goal.returns-then-not-is_primary_as_found-clause-read
+returns-then-not-is_primary_as_found-clause-read g c =
+    let s = c.args.survey.now in
+    let k : ℕ = c.loop-hdu.hdu in
+    let start : ℕ = c.loop-hdu.start in
+    let flag : Bool = c.loop-hdu.after_empty in
+    let held : Option (List ℕ) = g.S.Source.held c.args.source.now in
+    let before : Option (List ℕ) = g.K.Sink.contents c.args.sink.now in
+    let mid : Option (List ℕ) = g.K.Sink.contents c.loop-hdu.sink in
+    let zero : Option (List (ℕ × ℕ)) = g.S.Source.ranges c.args.source.now in
+    let one : Option (List (ℕ × ℕ)) = g.S.Source.ranges c.loop-hdu.source in
+    let two : Option (List (ℕ × ℕ)) = g.S.Source.ranges c.read_again.new.source in
+    let old = c.loop-hdu.invariant in
+    let few : k < s.hdus = omega arith in
+    let reads : IfSome held (λ f. LogsWithin start (header_touched k start f) one two) = subst (λ (h : Option (List ℕ)). IfSome h (λ f. LogsWithin start (header_touched k start f) one two)) old.held c.in_ok-again.ensures.read in
+    one_header s zero c.ranges_law.ensures.join k start c.loop-hdu.at flag before mid few one two (c.hdus_law.ensures.header Unpack) held old.written reads old.read
+
+pub returns-in_err-at-clause-read : goal.returns-in_err-at-clause-read
+returns-in_err-at-clause-read g c =
+    let s = c.args.survey.now in
+    let k : ℕ = c.loop-hdu.hdu in
+    let start : ℕ = c.loop-hdu.start in
+    let flag : Bool = c.loop-hdu.after_empty in
+    let held : Option (List ℕ) = g.S.Source.held c.args.source.now in
+    let before : Option (List ℕ) = g.K.Sink.contents c.args.sink.now in
+    let mid : Option (List ℕ) = g.K.Sink.contents c.loop-hdu.sink in
+    let zero : Option (List (ℕ × ℕ)) = g.S.Source.ranges c.args.source.now in
+    let one : Option (List (ℕ × ℕ)) = g.S.Source.ranges c.loop-hdu.source in
+    let two : Option (List (ℕ × ℕ)) = g.S.Source.ranges c.read_again.new.source in
+    let old = c.loop-hdu.invariant in
+    let few : k < s.hdus = omega arith in
+    let reads : IfSome held (λ f. LogsWithin start (header_touched k start f) one two) = subst (λ (h : Option (List ℕ)). IfSome h (λ f. LogsWithin start (header_touched k start f) one two)) old.held c.in_ok-again.ensures.read in
+    let header : IfSome held (λ f. ReadsHdus Unpack f s zero two) = one_header s zero c.ranges_law.ensures.join k start c.loop-hdu.at flag before mid few one two (c.hdus_law.ensures.header Unpack) held old.written reads old.read in
+    let a = c.in_ok-again.again in
+    let long : length c.as_mut_slice-buf.result.now ≡ s.header_len = ap length c.as_mut_slice-buf.ensures.value ∙ old.space.header ∙ c.requires.header in
+    let seen : IfSome held (λ f. ReadsAsSeen f k start flag s.header_len s.tile (Ok a)) =
+    subst (λ n. IfSome held (λ f. ReadsAsSeen f k start flag n s.tile (Ok a))) long
+    (subst (λ (h : Option (List ℕ)). IfSome h (λ f. ReadsAsSeen f k start flag (length c.as_mut_slice-buf.result.now) s.tile (Ok a))) old.held c.in_ok-again.ensures.as_seen) in
+    let three : Option (List (ℕ × ℕ)) = g.S.Source.ranges c.write_hdu.new.source in
+    let body : IfSome held (λ f. LogsIn (data_touched Unpack f a.header) two three) =
+    subst (λ (h : Option (List ℕ)). IfSome h (λ f. LogsIn (data_touched Unpack f a.header) two three)) (c.in_ok-again.ensures.source.held_is ∙ old.held) c.in_err-at.ensures.read in
+    one_hdu s zero c.ranges_law.ensures.join k start c.loop-hdu.at flag before mid few two three (c.hdus_law.ensures.payload Unpack) held a old.written seen body header
+
+pub returns-then-not-is_last_as_seen-clause-read : goal.returns-then-not-is_last_as_seen-clause-read
+returns-then-not-is_last_as_seen-clause-read g c =
+    let s = c.args.survey.now in
+    let k : ℕ = c.loop-hdu.hdu in
+    let start : ℕ = c.loop-hdu.start in
+    let flag : Bool = c.loop-hdu.after_empty in
+    let held : Option (List ℕ) = g.S.Source.held c.args.source.now in
+    let before : Option (List ℕ) = g.K.Sink.contents c.args.sink.now in
+    let mid : Option (List ℕ) = g.K.Sink.contents c.loop-hdu.sink in
+    let zero : Option (List (ℕ × ℕ)) = g.S.Source.ranges c.args.source.now in
+    let one : Option (List (ℕ × ℕ)) = g.S.Source.ranges c.loop-hdu.source in
+    let two : Option (List (ℕ × ℕ)) = g.S.Source.ranges c.read_again.new.source in
+    let old = c.loop-hdu.invariant in
+    let few : k < s.hdus = omega arith in
+    let reads : IfSome held (λ f. LogsWithin start (header_touched k start f) one two) = subst (λ (h : Option (List ℕ)). IfSome h (λ f. LogsWithin start (header_touched k start f) one two)) old.held c.in_ok-again.ensures.read in
+    let header : IfSome held (λ f. ReadsHdus Unpack f s zero two) = one_header s zero c.ranges_law.ensures.join k start c.loop-hdu.at flag before mid few one two (c.hdus_law.ensures.header Unpack) held old.written reads old.read in
+    let a = c.in_ok-again.again in
+    let long : length c.as_mut_slice-buf.result.now ≡ s.header_len = ap length c.as_mut_slice-buf.ensures.value ∙ old.space.header ∙ c.requires.header in
+    let seen : IfSome held (λ f. ReadsAsSeen f k start flag s.header_len s.tile (Ok a)) =
+    subst (λ n. IfSome held (λ f. ReadsAsSeen f k start flag n s.tile (Ok a))) long
+    (subst (λ (h : Option (List ℕ)). IfSome h (λ f. ReadsAsSeen f k start flag (length c.as_mut_slice-buf.result.now) s.tile (Ok a))) old.held c.in_ok-again.ensures.as_seen) in
+    let three : Option (List (ℕ × ℕ)) = g.S.Source.ranges c.write_hdu.new.source in
+    let body : IfSome held (λ f. LogsIn (data_touched Unpack f a.header) two three) =
+    subst (λ (h : Option (List ℕ)). IfSome h (λ f. LogsIn (data_touched Unpack f a.header) two three)) (c.in_ok-again.ensures.source.held_is ∙ old.held) c.in_ok-at.ensures.read in
+    one_hdu s zero c.ranges_law.ensures.join k start c.loop-hdu.at flag before mid few two three (c.hdus_law.ensures.payload Unpack) held a old.written seen body header

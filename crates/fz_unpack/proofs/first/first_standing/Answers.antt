@@ -1,11 +1,14 @@
 -- The primary, or the packed primary behind it.
 use Rattle.std.proofs.Common.{◌≡◌, ℕ, true, false, List, length, Option, IfSome, Result, Ok, Err, sym, ◌∙◌, subst, arith, rules}
-use Rattle.fz_base.specs.Source.{HoldsLength}
+use Rattle.fz_base.specs.Source.{HoldsLength, LogsWithin}
 use Rattle.fz_base.specs.declared.failure.Stop.{Stop}
+use Rattle.fz_block.specs.Checks.{header_touched}
 use Rattle.fz_block.specs.Header.{next_start_of}
+use Rattle.fz_files.specs.declared.job.Job.TheVariants.{Unpack}
 use Rattle.fz_again.specs.Again.{IsAgain, ReadsAsSeen, is_empty_primary, was_primary_image}
 use Rattle.fz_unpack.specs.First.{FindsFirst}
 use Rattle.fz_unpack.specs.declared.first.First.{First}
+use Rattle.fz_unpack.proofs.HduReads.{first_header, second_header}
 use Rattle.fz_unpack.proofs.Standing.{if_axes, if_ends, if_next_not_read, if_not_read, if_plain, if_primary}
 use Rattle.fz_unpack.proofs.first.first_standing.Goals as goal
 
@@ -100,3 +103,81 @@ returns-clause-first g c =
     (subst (λ (h : Option (List ℕ)). IfSome h (λ f. ReadsAsSeen f 1 start true (length c.read_again.new.buf) s.tile (Ok b))) same c.in_ok-next.ensures.as_seen) in
     let both : was_primary_image b.image ≡ true = search rules in
     if_primary s.header_len s.tile a start c.args.length c.next_start-start.ensures more empty c.read_again-2.new.buf b held told again w next both
+
+pub returns-in_err-again-clause-read : goal.returns-in_err-again-clause-read
+returns-in_err-again-clause-read g c =
+    let s = c.args.survey.now in
+    let held : Option (List ℕ) = g.S.Source.held c.args.source.now in
+    let old : Option (List (ℕ × ℕ)) = g.S.Source.ranges c.args.source.now in
+    let mid : Option (List (ℕ × ℕ)) = g.S.Source.ranges c.read_again.new.source in
+    first_header s old (c.hdus_law.ensures.header Unpack) c.requires.some held mid c.in_err-again.ensures.read
+
+pub returns-then-start-length-clause-read : goal.returns-then-start-length-clause-read
+returns-then-start-length-clause-read g c =
+    let s = c.args.survey.now in
+    let held : Option (List ℕ) = g.S.Source.held c.args.source.now in
+    let old : Option (List (ℕ × ℕ)) = g.S.Source.ranges c.args.source.now in
+    let mid : Option (List (ℕ × ℕ)) = g.S.Source.ranges c.read_again.new.source in
+    first_header s old (c.hdus_law.ensures.header Unpack) c.requires.some held mid c.in_ok-again.ensures.read
+
+pub returns-then-not-is_empty_primary-clause-read : goal.returns-then-not-is_empty_primary-clause-read
+returns-then-not-is_empty_primary-clause-read g c =
+    let s = c.args.survey.now in
+    let held : Option (List ℕ) = g.S.Source.held c.args.source.now in
+    let old : Option (List (ℕ × ℕ)) = g.S.Source.ranges c.args.source.now in
+    let mid : Option (List (ℕ × ℕ)) = g.S.Source.ranges c.read_again.new.source in
+    first_header s old (c.hdus_law.ensures.header Unpack) c.requires.some held mid c.in_ok-again.ensures.read
+
+pub returns-in_err-next-clause-read : goal.returns-in_err-next-clause-read
+returns-in_err-next-clause-read g c =
+    let s = c.args.survey.now in
+    let held : Option (List ℕ) = g.S.Source.held c.args.source.now in
+    let old : Option (List (ℕ × ℕ)) = g.S.Source.ranges c.args.source.now in
+    let mid : Option (List (ℕ × ℕ)) = g.S.Source.ranges c.read_again.new.source in
+    let new : Option (List (ℕ × ℕ)) = g.S.Source.ranges c.read_again-2.new.source in
+    let a = c.in_ok-again.again in
+    let again : IfSome held (λ f. ReadsAsSeen f 0 0 false s.header_len s.tile (Ok a)) =
+    subst (λ n. IfSome held (λ f. ReadsAsSeen f 0 0 false n s.tile (Ok a))) c.requires.buf c.in_ok-again.ensures.as_seen in
+    let told : HoldsLength held c.args.length = g.met.S.Source.agrees c.args.source.now c.args.length c.requires.attached in
+    let start : ℕ = c.next_start-start.result in
+    let more : start ≡ c.args.length → ⊥ = λ is. omega (arith, is) in
+    let same : g.S.Source.held c.read_again.new.source ≡ held = c.in_ok-again.ensures.source.held_is in
+    let one : IfSome held (λ f. LogsWithin start (header_touched 1 start f) mid new) = subst (λ (h : Option (List ℕ)). IfSome h (λ f. LogsWithin start (header_touched 1 start f) mid new)) same c.in_err-next.ensures.read in
+    second_header s old (c.hdus_law.ensures.header Unpack) c.ranges_law.ensures.join c.requires.some held a start c.args.length mid new c.next_start-start.ensures more told again one
+    (first_header s old (c.hdus_law.ensures.header Unpack) c.requires.some held mid c.in_ok-again.ensures.read)
+
+pub returns-then-not-was_primary-clause-read : goal.returns-then-not-was_primary-clause-read
+returns-then-not-was_primary-clause-read g c =
+    let s = c.args.survey.now in
+    let held : Option (List ℕ) = g.S.Source.held c.args.source.now in
+    let old : Option (List (ℕ × ℕ)) = g.S.Source.ranges c.args.source.now in
+    let mid : Option (List (ℕ × ℕ)) = g.S.Source.ranges c.read_again.new.source in
+    let new : Option (List (ℕ × ℕ)) = g.S.Source.ranges c.read_again-2.new.source in
+    let a = c.in_ok-again.again in
+    let again : IfSome held (λ f. ReadsAsSeen f 0 0 false s.header_len s.tile (Ok a)) =
+    subst (λ n. IfSome held (λ f. ReadsAsSeen f 0 0 false n s.tile (Ok a))) c.requires.buf c.in_ok-again.ensures.as_seen in
+    let told : HoldsLength held c.args.length = g.met.S.Source.agrees c.args.source.now c.args.length c.requires.attached in
+    let start : ℕ = c.next_start-start.result in
+    let more : start ≡ c.args.length → ⊥ = λ is. omega (arith, is) in
+    let same : g.S.Source.held c.read_again.new.source ≡ held = c.in_ok-again.ensures.source.held_is in
+    let one : IfSome held (λ f. LogsWithin start (header_touched 1 start f) mid new) = subst (λ (h : Option (List ℕ)). IfSome h (λ f. LogsWithin start (header_touched 1 start f) mid new)) same c.in_ok-next.ensures.read in
+    second_header s old (c.hdus_law.ensures.header Unpack) c.ranges_law.ensures.join c.requires.some held a start c.args.length mid new c.next_start-start.ensures more told again one
+    (first_header s old (c.hdus_law.ensures.header Unpack) c.requires.some held mid c.in_ok-again.ensures.read)
+
+pub returns-clause-read : goal.returns-clause-read
+returns-clause-read g c =
+    let s = c.args.survey.now in
+    let held : Option (List ℕ) = g.S.Source.held c.args.source.now in
+    let old : Option (List (ℕ × ℕ)) = g.S.Source.ranges c.args.source.now in
+    let mid : Option (List (ℕ × ℕ)) = g.S.Source.ranges c.read_again.new.source in
+    let new : Option (List (ℕ × ℕ)) = g.S.Source.ranges c.read_again-2.new.source in
+    let a = c.in_ok-again.again in
+    let again : IfSome held (λ f. ReadsAsSeen f 0 0 false s.header_len s.tile (Ok a)) =
+    subst (λ n. IfSome held (λ f. ReadsAsSeen f 0 0 false n s.tile (Ok a))) c.requires.buf c.in_ok-again.ensures.as_seen in
+    let told : HoldsLength held c.args.length = g.met.S.Source.agrees c.args.source.now c.args.length c.requires.attached in
+    let start : ℕ = c.next_start-start.result in
+    let more : start ≡ c.args.length → ⊥ = λ is. omega (arith, is) in
+    let same : g.S.Source.held c.read_again.new.source ≡ held = c.in_ok-again.ensures.source.held_is in
+    let one : IfSome held (λ f. LogsWithin start (header_touched 1 start f) mid new) = subst (λ (h : Option (List ℕ)). IfSome h (λ f. LogsWithin start (header_touched 1 start f) mid new)) same c.in_ok-next.ensures.read in
+    second_header s old (c.hdus_law.ensures.header Unpack) c.ranges_law.ensures.join c.requires.some held a start c.args.length mid new c.next_start-start.ensures more told again one
+    (first_header s old (c.hdus_law.ensures.header Unpack) c.requires.some held mid c.in_ok-again.ensures.read)

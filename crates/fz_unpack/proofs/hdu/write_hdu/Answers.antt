@@ -3,7 +3,8 @@ use Rattle.std.proofs.Common.{ℕ, ◌+◌, ◌^◌, ◌<◌, ◌≤◌, List, O
 use Rattle.std.proofs.lemmas.Result.{IfOk-weaker}
 use Rattle.fz_job.specs.Behind.{HoldsCopy}
 use Rattle.fz_unpack.specs.Behind.{EndsNear, HoldsHdu, HoldsImage}
-use Rattle.fz_unpack.proofs.Images.{holds_copy, holds_image}
+use Rattle.fz_unpack.proofs.HduReads.{copy_read, rows_read}
+use Rattle.fz_unpack.proofs.Images.{holds_copy, holds_image, with_image}
 use Rattle.fz_unpack.proofs.hdu.write_hdu.Goals as goal
 
 pub returns-in-Some-clause-written : goal.returns-in-Some-clause-written
@@ -39,3 +40,17 @@ returns-in-None-clause-written g c =
     (λ end. IfSome held (λ file. HoldsHdu a.header file at end before now))
     (λ end put. holds_copy held c.requires.again.0 c.args.space.now.header a c.requires.again.3 c.in-None.is at end before now put)
     c.copy_hdu.ensures.copied
+
+pub returns-in-Some-clause-read : goal.returns-in-Some-clause-read
+returns-in-Some-clause-read g c =
+    let held : Option (List ℕ) = g.S.Source.held c.args.source.now in
+    let a = c.args.again.now in
+    let n : ℕ = c.requires.again.0 in
+    let buf : List ℕ = c.args.space.now.header in
+    rows_read c.hdus_law.ensures.unpacked held n buf a.header c.in-Some.image (with_image held n buf a c.requires.again.3 c.in-Some.image c.in-Some.is) (g.S.Source.ranges c.args.source.now) (g.S.Source.ranges c.write_image.new.source)
+    c.write_image.ensures.read
+
+pub returns-in-None-clause-read : goal.returns-in-None-clause-read
+returns-in-None-clause-read g c =
+    copy_read c.hdus_law.ensures.unpacked (g.S.Source.held c.args.source.now) c.requires.again.0 c.args.space.now.header c.args.again.now c.requires.again.3 c.in-None.is (g.S.Source.ranges c.args.source.now) (g.S.Source.ranges c.copy_hdu.new.source)
+    c.copy_hdu.ensures.log

@@ -6,6 +6,8 @@ use Rattle.fz_block.specs.Hdus.{cards_of, header_bytes}
 use Rattle.fz_head.specs.PlainHeader.{plain_header}
 use Rattle.fz_job.specs.Behind.{HoldsBytes}
 use Rattle.fz_unpack.specs.Behind.{IsHduFault}
+use Rattle.fz_files.specs.Touched.{image_ranges}
+use Rattle.fz_unpack.proofs.HduReads.{unread}
 use Rattle.fz_unpack.proofs.ImageBytes.{hdu_faulty, image_held, ok_both, some_header}
 use Rattle.fz_unpack.proofs.Images.{header_again, packed_again, said_again}
 use Rattle.fz_unpack.proofs.Outcomes.{stop_weaker}
@@ -45,3 +47,6 @@ returns-clause-image g c =
     (said_again held c.requires.again.0 buf h image again) again.usable.readable.codec.size c.data_len.ensures.len (header_again held c.requires.again.0 buf h image again front refl)
     (some_header (plain_header (cards_of (take (2880 * h.blocks) buf)))) begun.behind begun.contents c.in_ok-write_tiles.ensures.pixels filled ends)
     c.write_fill.ensures.filled c.write_fill.ensures.end
+
+pub returns-in_err-data_at-clause-read : goal.returns-in_err-data_at-clause-read
+returns-in_err-data_at-clause-read g c = unread (g.S.Source.held c.args.source.now) (λ file. image_ranges file c.args.header.now) (g.S.Source.ranges c.args.source.now)

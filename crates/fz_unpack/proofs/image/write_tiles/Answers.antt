@@ -2,13 +2,16 @@
 use Rattle.std.proofs.Common.{◌≡◌, ℕ, ◌+◌, ◌≤◌, List, map, Option, Some, IfSome, Result, Err, refl, sym, ◌∙◌, subst, arith, rules}
 use Rattle.std.proofs.lemmas.Result.{on_ok_weaker}
 use Rattle.std.specs.List.{range_with_len}
+use Rattle.fz_base.specs.Ranges.{LogsIn}
 use Rattle.fz_base.specs.Stop.{IfRefused}
+use Rattle.fz_files.specs.Touched.{image_ranges}
 use Rattle.fz_base.specs.declared.failure.Stop.{Stop}
 use Rattle.fz_grid.specs.Grid.{tile_count}
 use Rattle.fz_grid.specs.Region.{lengths_of}
 use Rattle.fz_files.specs.FirstFault.{IsFirstRowFault, image_row, rows_of}
 use Rattle.fz_files.specs.Packed.{tiles_in}
 use Rattle.fz_unpack.specs.Images.{AreWrittenTiles}
+use Rattle.fz_unpack.proofs.HduReads.{join_told, unread}
 use Rattle.fz_unpack.proofs.Outcomes.{stop_weaker}
 use Rattle.fz_unpack.proofs.Tiles.{all_written, more_tiles, none_written, refused_in_round}
 use Rattle.fz_unpack.proofs.image.write_tiles.Goals as goal
@@ -23,6 +26,7 @@ loop-first-init g c = record {
   shut = λ shut. shut;
   told_ranges = λ told. told;
   told_contents = λ told. told;
+  read = unread (g.S.Source.held c.args.source.now) (λ file. image_ranges file c.args.header.now) (g.S.Source.ranges c.args.source.now);
   window = record { sizes = refl; workers = refl };
   rows = refl;
   within = omega arith;
@@ -52,6 +56,8 @@ loop-first-preserved g c =
       shut = λ shut. c.in_ok-write_round.ensures.sink.shut (old.shut shut);
       told_ranges = λ told. c.in_ok-write_round.ensures.told_ranges (old.told_ranges told);
       told_contents = λ told. c.in_ok-write_round.ensures.told_contents (old.told_contents told);
+      read = join_told c.ranges_law.ensures.join held (λ file. image_ranges file h) (g.S.Source.ranges c.args.source.now) (g.S.Source.ranges c.loop-first.source) (g.S.Source.ranges c.write_round.new.source) old.read
+          (subst (λ (l : Option (List ℕ)). IfSome l (λ file. LogsIn (image_ranges file h) (g.S.Source.ranges c.loop-first.source) (g.S.Source.ranges c.write_round.new.source))) old.held c.in_ok-write_round.ensures.read);
       window = record { sizes = c.in_ok-write_round.ensures.window.sizes ∙ old.window.sizes; workers = c.in_ok-write_round.ensures.window.workers ∙ old.window.workers };
       rows = c.in_ok-write_round.ensures.rows ∙ old.rows;
       within = omega (arith, c.min-count.ensures, old.within);
@@ -99,3 +105,11 @@ returns-then-tiles-workers-clause-pixels g c =
     (g.K.Sink.contents c.args.sink.now) (g.K.Sink.contents c.write_by_turns.new.sink) c.requires.said many c.requires.image.divided c.requires.image.codec.size
     (c.shape_law.ensures.tiles image.plan.shape image.plan.tile c.requires.image.divided) written)
     c.write_by_turns.ensures.pixels
+
+pub returns-in_err-write_round-clause-read : goal.returns-in_err-write_round-clause-read
+returns-in_err-write_round-clause-read g c =
+    let held : Option (List ℕ) = g.S.Source.held c.args.source.now in
+    let h = c.args.header.now in
+    let old = c.loop-first.invariant in
+    join_told c.ranges_law.ensures.join held (λ file. image_ranges file h) (g.S.Source.ranges c.args.source.now) (g.S.Source.ranges c.loop-first.source) (g.S.Source.ranges c.write_round.new.source) old.read
+    (subst (λ (l : Option (List ℕ)). IfSome l (λ file. LogsIn (image_ranges file h) (g.S.Source.ranges c.loop-first.source) (g.S.Source.ranges c.write_round.new.source))) old.held c.in_err-write_round.ensures.read)

@@ -1,11 +1,14 @@
 -- One turn after another.
 use Rattle.std.proofs.Common.{◌≡◌, ℕ, ◌+◌, ◌≤◌, List, map, Option, Some, IfSome, Result, Err, refl, sym, ◌∙◌, subst, arith, rules}
 use Rattle.std.specs.List.{range_with_len}
+use Rattle.fz_base.specs.Ranges.{LogsIn}
 use Rattle.fz_base.specs.Stop.{IfRefused}
+use Rattle.fz_files.specs.Touched.{image_ranges}
 use Rattle.fz_base.specs.declared.failure.Stop.{Stop}
 use Rattle.fz_files.specs.FirstFault.{IsFirstRowFault, image_row, rows_of}
 use Rattle.fz_unpack.specs.Images.{AreWrittenTiles}
 use Rattle.fz_unpack.specs.Turns.{StandFetched}
+use Rattle.fz_unpack.proofs.HduReads.{join_told, unread}
 use Rattle.fz_unpack.proofs.Outcomes.{stop_weaker}
 use Rattle.fz_unpack.proofs.Tiles.{more_tiles, none_written}
 use Rattle.fz_unpack.proofs.Turning.{none_fetched, refused_in_turn, still_rooms}
@@ -21,6 +24,7 @@ loop-turn-init g c = record {
   shut = λ shut. shut;
   told_ranges = λ told. told;
   told_contents = λ told. told;
+  read = unread (g.S.Source.held c.args.source.now) (λ file. image_ranges file c.args.header.now) (g.S.Source.ranges c.args.source.now);
   rooms = c.requires.rooms;
   windows = λ size one other. (one, other);
   workers = refl;
@@ -59,6 +63,8 @@ loop-turn-preserved g c =
       shut = λ shut. done.sink.shut (old.shut shut);
       told_ranges = λ told. done.told_ranges (old.told_ranges told);
       told_contents = λ told. done.told_contents (old.told_contents told);
+      read = join_told c.ranges_law.ensures.join held (λ file. image_ranges file h) (g.S.Source.ranges c.args.source.now) (g.S.Source.ranges c.loop-turn.source) (g.S.Source.ranges c.take_turn.new.source) old.read
+          (subst (λ (l : Option (List ℕ)). IfSome l (λ file. LogsIn (image_ranges file h) (g.S.Source.ranges c.loop-turn.source) (g.S.Source.ranges c.take_turn.new.source))) old.held c.in_ok-take_turn.ensures.read);
       rooms = still_rooms c.args.image.now c.loop-turn.first c.loop-turn.second new.first new.second old.rooms done.windows;
       windows = λ size one other. let both = old.windows size one other in done.windows size both.0 both.1;
       workers = done.workers ∙ old.workers;
@@ -89,3 +95,11 @@ returns-clause-pixels g c =
     let old = c.loop-turn.invariant in
     let all : c.loop-turn.turn.written ≡ c.args.tiles = omega (arith, old.stand.within) in
     subst (λ (n : ℕ). IfSome held (λ file. AreWrittenTiles file c.args.header.now c.args.image.now.plan c.args.data_at (range_with_len 0 n) (g.K.Sink.contents c.args.sink.now) (g.K.Sink.contents c.loop-turn.sink))) all old.written
+
+pub returns-in_err-take_turn-clause-read : goal.returns-in_err-take_turn-clause-read
+returns-in_err-take_turn-clause-read g c =
+    let held : Option (List ℕ) = g.S.Source.held c.args.source.now in
+    let h = c.args.header.now in
+    let old = c.loop-turn.invariant in
+    join_told c.ranges_law.ensures.join held (λ file. image_ranges file h) (g.S.Source.ranges c.args.source.now) (g.S.Source.ranges c.loop-turn.source) (g.S.Source.ranges c.take_turn.new.source) old.read
+    (subst (λ (l : Option (List ℕ)). IfSome l (λ file. LogsIn (image_ranges file h) (g.S.Source.ranges c.loop-turn.source) (g.S.Source.ranges c.take_turn.new.source))) old.held c.in_err-take_turn.ensures.read)

@@ -2,7 +2,9 @@
 use Rattle.std.proofs.Common.{◌≡◌, ℕ, ◌+◌, ◌*◌, ◌-◌, length, IfSome}
 use Rattle.std.specs.List.{range_with_len}
 use Rattle.fz_base.specs.FirstByte.{StaysShut}
+use Rattle.fz_base.specs.Ranges.{LogsIn}
 use Rattle.fz_base.specs.Told.{StaysTold}
+use Rattle.fz_files.specs.Touched.{image_ranges}
 use Rattle.fz_unpack.specs.Images.{AreWrittenTiles}
 use Rattle.fz_unpack.specs.Turns.{AreAlike, HaveRooms, StandFetched}
 use Rattle.fz_unpack.proofs.turns.write_turns.Given as goal
@@ -17,6 +19,7 @@ invariant-loop-turn g l = record {
   shut : StaysShut (g.K.Sink.contents l.fn.sink) (g.K.Sink.contents l.sink);
   told_ranges : StaysTold (g.S.Source.ranges l.fn.source) (g.S.Source.ranges l.source);
   told_contents : StaysTold (g.K.Sink.contents l.fn.sink) (g.K.Sink.contents l.sink);
+  read : IfSome (g.S.Source.held l.fn.source) (λ file. LogsIn (image_ranges file l.header) (g.S.Source.ranges l.fn.source) (g.S.Source.ranges l.source));
   rooms : HaveRooms l.image l.first l.second;
   windows : (size : ℕ × ℕ) → AreAlike size l.fn.first → AreAlike size l.fn.second → AreAlike size l.first × AreAlike size l.second;
   workers : l.first.workers + l.second.workers ≡ l.fn.first.workers + l.fn.second.workers;

@@ -3,7 +3,7 @@ use Rattle.std.proofs.Common.{◌≡◌, ℕ, ◌+◌, ◌-◌, ◌≤◌, max, 
 use Rattle.std.specs.Prelude.{OnOk}
 use Rattle.std.proofs.lemmas.List.{length-replicate}
 use Rattle.fz_base.specs.Buffer.{refilled}
-use Rattle.fz_base.specs.Counts.{Tally}
+use Rattle.fz_base.specs.Counts.{Tally, nameless}
 use Rattle.fz_base.specs.Meter.{Gauge}
 use Rattle.fz_base.specs.Stop.{TellsLimit, stop_of_short}
 use Rattle.fz_base.specs.Takings.{TellsFirstPast, highest}
@@ -13,6 +13,8 @@ use Rattle.fz_files.specs.declared.job.Job.TheVariants.{Unpack}
 use Rattle.fz_job.specs.Clauses.{HasJobCause, StaysUnmade, TellsFirstFault, greatest_bound}
 use Rattle.fz_stages.specs.Stages.{Works, later_takings}
 use Rattle.fz_unpack.proofs.Held.{refilled_len}
+use Rattle.fz_files.specs.Touched.{touched_by}
+use Rattle.fz_unpack.proofs.HduReads.{unread}
 use Rattle.fz_unpack.proofs.Outcomes.{all_unmade, kept_same, ok_weaker, peak_stays, short_untold, untouched_shut, untouched_unmade}
 use Rattle.fz_unpack.proofs.unpack_file.unpack.Goals as goal
 
@@ -32,7 +34,7 @@ pub returns-in_err-block-clause-cause : goal.returns-in_err-block-clause-cause
 returns-in_err-block-clause-cause g c =
     let held : Option (List ℕ) = g.S.Source.held c.args.source.now in
     let source : Tally = g.S.Source.tally c.args.source.now in
-    let sink : Tally = g.K.Sink.tally c.args.sink.now in
+    let sink : Tally = nameless (g.K.Sink.tally c.args.sink.now) in
     let W : ℕ = c.args.window.now.workers in
     let stopped : c.from_residual.result ≡ Err (stop_of_short c.in_err-block.field-0.0) = search rules in
     subst (λ (r : Result (Unit {0}) Stop). HasJobCause Unpack held source source sink sink c.args.meter.now.limit W r) (sym stopped)
@@ -42,7 +44,7 @@ pub returns-in_err-block-clause-answered : goal.returns-in_err-block-clause-answ
 returns-in_err-block-clause-answered g c =
     let held : Option (List ℕ) = g.S.Source.held c.args.source.now in
     let source : Tally = g.S.Source.tally c.args.source.now in
-    let sink : Tally = g.K.Sink.tally c.args.sink.now in
+    let sink : Tally = nameless (g.K.Sink.tally c.args.sink.now) in
     let W : ℕ = c.args.window.now.workers in
     c.stages_law.ensures.answers Unpack held source source sink sink c.args.meter.now.limit W c.from_residual.result tt (returns-in_err-block-clause-cause g c)
 
@@ -62,9 +64,9 @@ pub returns-clause-cause : goal.returns-clause-cause
 returns-clause-cause g c =
     let held : Option (List ℕ) = g.S.Source.held c.args.source.now in
     let source : Tally = g.S.Source.tally c.args.source.now in
-    let sink : Tally = g.K.Sink.tally c.args.sink.now in
+    let sink : Tally = nameless (g.K.Sink.tally c.args.sink.now) in
     let source' : Tally = g.S.Source.tally c.with_block-answer.new.source in
-    let sink' : Tally = g.K.Sink.tally c.with_block-answer.new.sink in
+    let sink' : Tally = nameless (g.K.Sink.tally c.with_block-answer.new.sink) in
     let limit : ℕ = c.args.meter.now.limit in
     let W : ℕ = c.args.window.now.workers in
     let same : c.bytes.new.self.limit ≡ limit = ap (λ (m : Gauge). m.limit) c.in_ok-block.ensures.taken.1 in
@@ -124,3 +126,6 @@ returns-in_err-block-clause-unread g c = λ low. refl
 
 pub returns-clause-unread : goal.returns-clause-unread
 returns-clause-unread g c = λ low. absurd (omega (arith, low, c.in_ok-block.ensures.taken.0, c.requires.nothing_live))
+
+pub returns-in_err-block-clause-touched : goal.returns-in_err-block-clause-touched
+returns-in_err-block-clause-touched g c = unread (g.S.Source.held c.args.source.now) (touched_by Unpack) (g.S.Source.ranges c.args.source.now)

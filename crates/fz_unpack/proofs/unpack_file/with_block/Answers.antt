@@ -1,6 +1,7 @@
 -- The first look stops, or knows the file, and then the work says the rest.
 use Rattle.std.proofs.Common.{◌≡◌, ℕ, ◌+◌, ◌≤◌, max, List, Option, None, IfSome, Result, Err, sum, refl, sym, ◌∙◌, subst, rules, arith}
 use Rattle.std.specs.Prelude.{IsSome, OnOk}
+use Rattle.fz_base.specs.Counts.{nameless}
 use Rattle.fz_base.specs.Takings.{TellsFirstPast, first_past, highest, piled}
 use Rattle.fz_base.specs.declared.failure.Stop.{Stop}
 use Rattle.fz_files.specs.declared.job.Job.TheVariants.{Unpack}
@@ -12,6 +13,8 @@ use Rattle.fz_job.specs.Clauses.{TellsFirstFault, greatest_bound}
 use Rattle.fz_stages.specs.Stages.{Works, later_takings, wants_for}
 use Rattle.fz_unpack.specs.Written.{AreShutOrWhole, FinishesSeen}
 use Rattle.fz_unpack.proofs.Finished.{Knows, learnt, work_faulty, work_output, work_shut, work_unmade}
+use Rattle.fz_again.specs.Hdus.{ReadsHdus}
+use Rattle.fz_unpack.proofs.HduReads.{all_read, look_read}
 use Rattle.fz_unpack.proofs.Outcomes.{look_refused, ok_weaker, past_at, past_by, untouched_shut, untouched_unmade}
 use Rattle.fz_unpack.proofs.unpack_file.with_block.Goals as goal
 
@@ -50,7 +53,7 @@ pub returns-in_err-survey-clause-cause : goal.returns-in_err-survey-clause-cause
 returns-in_err-survey-clause-cause g c =
     let source = g.S.Source.tally c.args.source.now in
     let source' = g.S.Source.tally c.survey_to_unpack.new.source in
-    let sink = g.K.Sink.tally c.args.sink.now in
+    let sink = nameless (g.K.Sink.tally c.args.sink.now) in
     let stopped : c.from_residual.result ≡ Err c.in_err-survey.field-0.0 = search rules in
     subst (λ (r : Result (Unit {0}) Stop). Works source source' sink sink c.args.meter.now.limit r) (sym stopped)
     (c.stages_law.ensures.look.works source source' sink c.args.meter.now.limit c.in_err-survey.field-0.0 c.in_err-survey.ensures.cause)
@@ -163,3 +166,21 @@ returns-clause-peak_most g c =
     let look = c.stages_law.ensures.sizes.look Unpack W in
     let work = c.stages_law.ensures.sizes.work Unpack W s.header_len s.tile tt c.in_ok-survey.ensures.survey.header.1 c.in_ok-survey.ensures.survey.tile in
     omega (arith, look, work, c.requires.one_block, c.in_ok-survey.ensures.live, c.in_ok-survey.ensures.peak_most, c.work.ensures.peak)
+
+pub returns-in_err-survey-clause-touched : goal.returns-in_err-survey-clause-touched
+returns-in_err-survey-clause-touched g c =
+    let held : Option (List ℕ) = g.S.Source.held c.args.source.now in
+    let new : Option (List (ℕ × ℕ)) = g.S.Source.ranges c.survey_to_unpack.new.source in
+    look_read held (g.S.Source.ranges c.args.source.now) new new (c.headers_law.ensures.look Unpack tt) c.in_err-survey.ensures.touched
+
+pub returns-clause-touched : goal.returns-clause-touched
+returns-clause-touched g c =
+    let held : Option (List ℕ) = g.S.Source.held c.args.source.now in
+    let same : g.S.Source.held c.survey_to_unpack.new.source ≡ held = search rules in
+    let old : Option (List (ℕ × ℕ)) = g.S.Source.ranges c.args.source.now in
+    let mid : Option (List (ℕ × ℕ)) = g.S.Source.ranges c.survey_to_unpack.new.source in
+    let new : Option (List (ℕ × ℕ)) = g.S.Source.ranges c.work.new.source in
+    let exact : IfSome held (Knows c.in_ok-survey.survey) = c.in_ok-survey.ensures.exact in
+    let reads : IfSome held (λ file. ReadsHdus Unpack file c.in_ok-survey.survey mid new) = rw same at c.work.ensures.read in
+    all_read held old mid new c.ranges_law.ensures.join (c.known_law.ensures.know Unpack tt) (c.hdus_law.ensures.known Unpack tt) c.in_ok-survey.survey exact
+    (look_read held old mid new (c.headers_law.ensures.look Unpack tt) c.in_ok-survey.ensures.touched) reads

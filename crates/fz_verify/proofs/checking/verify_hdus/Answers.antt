@@ -3,13 +3,19 @@ use Rattle.std.proofs.Common.{◌≡◌, ℕ, ◌+◌, ◌<◌, ◌≤◌, ◌^�
 use Rattle.std.proofs.lemmas.List.{length-append, length-drop, length-take}
 use Rattle.std.proofs.Math.Bool.{beq}
 use Rattle.std.proofs.Math.Dec.{eqb}
-use Rattle.fz_base.specs.Source.{HoldsLength}
+use Rattle.fz_base.specs.Ranges.{LogsIn}
+use Rattle.fz_base.specs.Source.{HoldsLength, LogsWithin}
 use Rattle.fz_base.specs.declared.failure.Stop.{Stop}
+use Rattle.fz_block.specs.Checks.{header_touched}
 use Rattle.fz_block.specs.Header.{next_start_of}
+use Rattle.fz_files.specs.declared.job.Job.TheVariants.{Verify}
 use Rattle.fz_again.specs.Again.{ReadsAsSeen, is_empty_primary}
+use Rattle.fz_again.specs.Hdus.{ReadsHdus}
+use Rattle.fz_files.specs.Touched.{data_touched}
 use Rattle.fz_verify.specs.Printed.{ChecksHdu, IsChecking, VerifiesSeen}
 use Rattle.fz_verify.proofs.CheckedHdus.{more_checked, none_checked, stops_changed, stops_checking, stops_reading}
 use Rattle.fz_verify.proofs.Ends.{not_at_end}
+use Rattle.fz_verify.proofs.HduReads.{no_hdu, one_hdu, one_header}
 use Rattle.fz_verify.proofs.Reports.{both_reported, grew_both, grew_by, none_reported}
 use Rattle.fz_verify.proofs.checking.verify_hdus.Goals as goal
 
@@ -27,6 +33,7 @@ loop-hdu-init g c = record {
   within = λ more. inr (refl, refl);
   early = omega arith;
   checked = none_checked c.none_refused_law.ensures c.args.survey.now (g.T.Text.contents c.args.text.now) (g.S.Source.held c.args.source.now);
+  read = no_hdu c.args.survey.now (g.S.Source.ranges c.args.source.now) (g.S.Source.held c.args.source.now);
   reported = none_reported (g.T.Text.contents c.args.text.now);
 }
 
@@ -129,6 +136,14 @@ loop-hdu-preserved g c =
     let says : c.is_empty_primary-after_empty.result ≡ is_empty_primary a.header = c.is_empty_primary-after_empty.ensures in
     let inside : next_start_of a.header ≤ c.args.length = c.in_ok-again.ensures.again.inside in
     let early : next_start_of a.header ≤ 2 ^ 62 = c.in_ok-again.ensures.again.near in
+    let first : Option (List (ℕ × ℕ)) = g.S.Source.ranges c.args.source.now in
+    let one : Option (List (ℕ × ℕ)) = g.S.Source.ranges c.loop-hdu.source in
+    let two : Option (List (ℕ × ℕ)) = g.S.Source.ranges c.read_again.new.source in
+    let reads : IfSome held (λ f. LogsWithin start (header_touched k start f) one two) = subst (λ (h : Option (List ℕ)). IfSome h (λ f. LogsWithin start (header_touched k start f) one two)) old.held c.in_ok-again.ensures.read in
+    let header : IfSome held (λ f. ReadsHdus Verify f s first two) = one_header s first c.ranges_law.ensures.join k start flag right before mid few one two (c.hdus_law.ensures.header Verify) held old.checked reads old.read in
+    let three : Option (List (ℕ × ℕ)) = g.S.Source.ranges c.print_verified.new.source in
+    let body : IfSome held (λ f. LogsIn (data_touched Verify f a.header) two three) =
+    subst (λ (h : Option (List ℕ)). IfSome h (λ f. LogsIn (data_touched Verify f a.header) two three)) (c.in_ok-again.ensures.source.held_is ∙ old.held) c.in_ok-sound.ensures.read in
     record {
       held = search rules;
       attached = search rules;
@@ -147,6 +162,7 @@ loop-hdu-preserved g c =
       early = omega (arith, next, early);
       checked = subst (λ b. IfSome held (IsChecking s (k + 1) c.next_start-start.result b (right && sound) before now)) (sym says)
           (subst (λ n. IfSome held (IsChecking s (k + 1) n (is_empty_primary a.header) (right && sound) before now)) (sym next) more);
+      read = one_hdu s first c.ranges_law.ensures.join k start flag right before mid few two three (c.hdus_law.ensures.payload Verify) held a old.checked seen body header;
       reported = both_reported before mid now right sound old.reported c.in_ok-sound.ensures.reported;
     }
 
@@ -170,3 +186,75 @@ returns-then-start-length-clause-grown g c =
 
 pub returns-clause-grown : goal.returns-clause-grown
 returns-clause-grown g c = grew_by (g.T.Text.contents c.args.text.now) (g.T.Text.contents c.loop-hdu.text) c.loop-hdu.right c.loop-hdu.invariant.reported
+
+pub returns-in_err-again-clause-read : goal.returns-in_err-again-clause-read
+returns-in_err-again-clause-read g c =
+    let s = c.args.survey.now in
+    let k : ℕ = c.loop-hdu.hdu in
+    let start : ℕ = c.loop-hdu.start in
+    let flag : Bool = c.loop-hdu.after_empty in
+    let right : Bool = c.loop-hdu.right in
+    let held : Option (List ℕ) = g.S.Source.held c.args.source.now in
+    let before : Option (List ℕ) = g.T.Text.contents c.args.text.now in
+    let now : Option (List ℕ) = g.T.Text.contents c.loop-hdu.text in
+    let first : Option (List (ℕ × ℕ)) = g.S.Source.ranges c.args.source.now in
+    let one : Option (List (ℕ × ℕ)) = g.S.Source.ranges c.loop-hdu.source in
+    let two : Option (List (ℕ × ℕ)) = g.S.Source.ranges c.read_again.new.source in
+    let old = c.loop-hdu.invariant in
+    let few : k < s.hdus = omega arith in
+    let reads : IfSome held (λ f. LogsWithin start (header_touched k start f) one two) = subst (λ (h : Option (List ℕ)). IfSome h (λ f. LogsWithin start (header_touched k start f) one two)) old.held c.in_err-again.ensures.read in
+    one_header s first c.ranges_law.ensures.join k start flag right before now few one two (c.hdus_law.ensures.header Verify) held old.checked reads old.read
+
+pub returns-in_err-sound-clause-read : goal.returns-in_err-sound-clause-read
+returns-in_err-sound-clause-read g c =
+    let s = c.args.survey.now in
+    let k : ℕ = c.loop-hdu.hdu in
+    let start : ℕ = c.loop-hdu.start in
+    let flag : Bool = c.loop-hdu.after_empty in
+    let right : Bool = c.loop-hdu.right in
+    let held : Option (List ℕ) = g.S.Source.held c.args.source.now in
+    let before : Option (List ℕ) = g.T.Text.contents c.args.text.now in
+    let now : Option (List ℕ) = g.T.Text.contents c.loop-hdu.text in
+    let first : Option (List (ℕ × ℕ)) = g.S.Source.ranges c.args.source.now in
+    let one : Option (List (ℕ × ℕ)) = g.S.Source.ranges c.loop-hdu.source in
+    let two : Option (List (ℕ × ℕ)) = g.S.Source.ranges c.read_again.new.source in
+    let old = c.loop-hdu.invariant in
+    let few : k < s.hdus = omega arith in
+    let reads : IfSome held (λ f. LogsWithin start (header_touched k start f) one two) = subst (λ (h : Option (List ℕ)). IfSome h (λ f. LogsWithin start (header_touched k start f) one two)) old.held c.in_ok-again.ensures.read in
+    let header : IfSome held (λ f. ReadsHdus Verify f s first two) = one_header s first c.ranges_law.ensures.join k start flag right before now few one two (c.hdus_law.ensures.header Verify) held old.checked reads old.read in
+    let a = c.in_ok-again.again in
+    let long : length c.as_mut_slice-buf.result.now ≡ s.header_len = ap length c.as_mut_slice-buf.ensures.value ∙ old.space.header ∙ c.requires.header in
+    let seen : IfSome held (λ f. ReadsAsSeen f k start flag s.header_len s.tile (Ok a)) =
+    subst (λ n. IfSome held (λ f. ReadsAsSeen f k start flag n s.tile (Ok a))) long
+    (subst (λ (h : Option (List ℕ)). IfSome h (λ f. ReadsAsSeen f k start flag (length c.as_mut_slice-buf.result.now) s.tile (Ok a))) old.held c.in_ok-again.ensures.as_seen) in
+    let three : Option (List (ℕ × ℕ)) = g.S.Source.ranges c.print_verified.new.source in
+    let body : IfSome held (λ f. LogsIn (data_touched Verify f a.header) two three) =
+    subst (λ (h : Option (List ℕ)). IfSome h (λ f. LogsIn (data_touched Verify f a.header) two three)) (c.in_ok-again.ensures.source.held_is ∙ old.held) c.in_err-sound.ensures.read in
+    one_hdu s first c.ranges_law.ensures.join k start flag right before now few two three (c.hdus_law.ensures.payload Verify) held a old.checked seen body header
+
+pub returns-then-start-length-clause-read : goal.returns-then-start-length-clause-read
+returns-then-start-length-clause-read g c =
+    let s = c.args.survey.now in
+    let k : ℕ = c.loop-hdu.hdu in
+    let start : ℕ = c.loop-hdu.start in
+    let flag : Bool = c.loop-hdu.after_empty in
+    let right : Bool = c.loop-hdu.right in
+    let held : Option (List ℕ) = g.S.Source.held c.args.source.now in
+    let before : Option (List ℕ) = g.T.Text.contents c.args.text.now in
+    let now : Option (List ℕ) = g.T.Text.contents c.loop-hdu.text in
+    let first : Option (List (ℕ × ℕ)) = g.S.Source.ranges c.args.source.now in
+    let one : Option (List (ℕ × ℕ)) = g.S.Source.ranges c.loop-hdu.source in
+    let two : Option (List (ℕ × ℕ)) = g.S.Source.ranges c.read_again.new.source in
+    let old = c.loop-hdu.invariant in
+    let few : k < s.hdus = omega arith in
+    let reads : IfSome held (λ f. LogsWithin start (header_touched k start f) one two) = subst (λ (h : Option (List ℕ)). IfSome h (λ f. LogsWithin start (header_touched k start f) one two)) old.held c.in_ok-again.ensures.read in
+    let header : IfSome held (λ f. ReadsHdus Verify f s first two) = one_header s first c.ranges_law.ensures.join k start flag right before now few one two (c.hdus_law.ensures.header Verify) held old.checked reads old.read in
+    let a = c.in_ok-again.again in
+    let long : length c.as_mut_slice-buf.result.now ≡ s.header_len = ap length c.as_mut_slice-buf.ensures.value ∙ old.space.header ∙ c.requires.header in
+    let seen : IfSome held (λ f. ReadsAsSeen f k start flag s.header_len s.tile (Ok a)) =
+    subst (λ n. IfSome held (λ f. ReadsAsSeen f k start flag n s.tile (Ok a))) long
+    (subst (λ (h : Option (List ℕ)). IfSome h (λ f. ReadsAsSeen f k start flag (length c.as_mut_slice-buf.result.now) s.tile (Ok a))) old.held c.in_ok-again.ensures.as_seen) in
+    let three : Option (List (ℕ × ℕ)) = g.S.Source.ranges c.print_verified.new.source in
+    let body : IfSome held (λ f. LogsIn (data_touched Verify f a.header) two three) =
+    subst (λ (h : Option (List ℕ)). IfSome h (λ f. LogsIn (data_touched Verify f a.header) two three)) (c.in_ok-again.ensures.source.held_is ∙ old.held) c.in_ok-sound.ensures.read in
+    one_hdu s first c.ranges_law.ensures.join k start flag right before now few two three (c.hdus_law.ensures.payload Verify) held a old.checked seen body header

@@ -3,6 +3,7 @@ use Rattle.std.proofs.Common.{◌≡◌, ℕ, arith}
 use Rattle.std.specs.List.{range_with_len}
 use Rattle.std.proofs.lemmas.List.{length-replicate, length-take}
 use Rattle.std.proofs.lemmas.Result.{on_ok_weaker}
+use Rattle.fz_verify.proofs.HduReads.{round_read}
 use Rattle.fz_verify.proofs.Outcomes.{refused_weaker}
 use Rattle.fz_verify.proofs.Rounds.{numbered, round_fault, round_sound, tiles_of_image}
 use Rattle.fz_verify.proofs.tiles.decode_round.Goals as goal
@@ -29,3 +30,10 @@ returns-clause-fault g c =
 
 pub returns-clause-row : goal.returns-clause-row
 returns-clause-row g c = refused_weaker c.fetch_tiles.result (λ x among. (_, among.2.1)) c.fetch_tiles.ensures.row
+
+pub returns-clause-read : goal.returns-clause-read
+returns-clause-read g c =
+    let are : c.number_tiles.new.tiles ≡ range_with_len c.args.first c.args.count =
+    numbered c.args.first c.args.count _ c.number_tiles.new.tiles c.number_tiles.ensures (omega (arith, c.requires.few, length-take {A = ℕ}, length-replicate {A = ℕ})) in
+    round_read c.hdus_law.ensures.tiles (g.S.Source.held c.args.source.now) c.args.header.now c.args.image.now c.number_tiles.new.tiles (g.S.Source.ranges c.args.source.now) (g.S.Source.ranges c.fetch_tiles.new.source) c.requires.said
+    (tiles_of_image c.args.image.now c.args.first c.args.count c.number_tiles.new.tiles are c.requires.tiles) c.fetch_tiles.ensures.read

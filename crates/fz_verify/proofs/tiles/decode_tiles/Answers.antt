@@ -1,12 +1,16 @@
 -- One round after another.
 use Rattle.std.proofs.Common.{◌≡◌, ℕ, ◌+◌, ◌≤◌, List, map, Option, Some, None, IfSome, Result, Err, refl, sym, ◌∙◌, subst, arith, rules}
 use Rattle.std.specs.List.{range_with_len}
+use Rattle.fz_base.specs.Ranges.{LogsIn}
 use Rattle.fz_base.specs.Stop.{IfRefused}
 use Rattle.fz_base.specs.declared.failure.Stop.{Stop}
 use Rattle.fz_files.specs.FirstFault.{IsFirstRowFault, image_row, rows_of}
 use Rattle.fz_files.specs.Packed.{tiles_in}
 use Rattle.fz_grid.specs.Grid.{tile_count}
 use Rattle.fz_grid.specs.Region.{lengths_of}
+use Rattle.fz_files.specs.Touched.{image_ranges}
+use Rattle.fz_verify.proofs.HduReads.{join_told}
+use Rattle.fz_verify.proofs.HeaderReads.{unread}
 use Rattle.fz_verify.proofs.Rounds.{all_sound, more_sound, none_sound, rounds_fault}
 use Rattle.fz_verify.proofs.tiles.decode_tiles.Goals as goal
 
@@ -16,6 +20,7 @@ loop-first-init g c = record {
   attached = refl;
   reads = refl;
   told = λ told. told;
+  read = unread (g.S.Source.held c.args.source.now) (λ file. image_ranges file c.args.header.now) (g.S.Source.ranges c.args.source.now);
   window = record { sizes = refl; workers = refl };
   rows = refl;
   within = omega arith;
@@ -36,6 +41,8 @@ loop-first-preserved g c =
       attached = search rules;
       reads = search rules;
       told = λ told. c.in_ok-decode_round.ensures.told (old.told told);
+      read = join_told c.ranges_law.ensures.join held (λ file. image_ranges file h) (g.S.Source.ranges c.args.source.now) (g.S.Source.ranges c.loop-first.source) (g.S.Source.ranges c.decode_round.new.source) old.read
+          (subst (λ (l : Option (List ℕ)). IfSome l (λ file. LogsIn (image_ranges file h) (g.S.Source.ranges c.loop-first.source) (g.S.Source.ranges c.decode_round.new.source))) old.held c.in_ok-decode_round.ensures.read);
       window = record { sizes = c.in_ok-decode_round.ensures.window.sizes ∙ old.window.sizes; workers = c.in_ok-decode_round.ensures.window.workers ∙ old.window.workers };
       rows = c.in_ok-decode_round.ensures.rows ∙ old.rows;
       within = omega (arith, c.min-count.ensures, old.within);
@@ -67,3 +74,11 @@ returns-clause-sound g c =
     let many : c.tile_count-tiles.result ≡ tiles_in image.plan = c.tile_count-tiles.ensures.count ∙ (λ i. tile_count (lengths_of (c.new.ensures.shape i)) (lengths_of (c.new.ensures.tile i))) in
     let all : c.loop-first.first ≡ tiles_in image.plan = omega (arith, old.within, many) in
     all_sound held c.args.header.now image c.loop-first.first c.requires.said all old.sound
+
+pub returns-in_err-decode_round-clause-read : goal.returns-in_err-decode_round-clause-read
+returns-in_err-decode_round-clause-read g c =
+    let held : Option (List ℕ) = g.S.Source.held c.args.source.now in
+    let h = c.args.header.now in
+    let old = c.loop-first.invariant in
+    join_told c.ranges_law.ensures.join held (λ file. image_ranges file h) (g.S.Source.ranges c.args.source.now) (g.S.Source.ranges c.loop-first.source) (g.S.Source.ranges c.decode_round.new.source) old.read
+    (subst (λ (l : Option (List ℕ)). IfSome l (λ file. LogsIn (image_ranges file h) (g.S.Source.ranges c.loop-first.source) (g.S.Source.ranges c.decode_round.new.source))) old.held c.in_err-decode_round.ensures.read)

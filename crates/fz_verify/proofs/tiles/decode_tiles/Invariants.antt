@@ -1,8 +1,10 @@
 -- The rows so far are sound; the source and its counts are as at the start.
 use Rattle.std.proofs.Common.{◌≡◌, ◌-◌, ◌≤◌, length, map, None, IfSome}
 use Rattle.std.specs.List.{range_with_len}
+use Rattle.fz_base.specs.Ranges.{LogsIn}
 use Rattle.fz_base.specs.Told.{StaysTold}
 use Rattle.fz_files.specs.FirstFault.{IsFirstRowFault, image_row}
+use Rattle.fz_files.specs.Touched.{image_ranges}
 use Rattle.fz_job.specs.Keeps.{WindowStays}
 use Rattle.fz_verify.proofs.tiles.decode_tiles.Given as goal
 
@@ -12,6 +14,7 @@ invariant-loop-first g l = record {
   attached : g.S.Source.attached l.source ≡ g.S.Source.attached l.fn.source;
   reads : g.S.Source.tally l.source ≡ g.S.Source.tally l.fn.source;
   told : StaysTold (g.S.Source.ranges l.fn.source) (g.S.Source.ranges l.source);
+  read : IfSome (g.S.Source.held l.fn.source) (λ file. LogsIn (image_ranges file l.header) (g.S.Source.ranges l.fn.source) (g.S.Source.ranges l.source));
   window : WindowStays l.fn.window l.window;
   rows : length l.rows ≡ length l.fn.rows;
   within : l.first ≤ l.tiles;

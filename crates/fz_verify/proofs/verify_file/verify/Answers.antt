@@ -16,6 +16,8 @@ use Rattle.fz_stages.specs.Stages.{Works, later_takings}
 use Rattle.fz_verify.proofs.Held.{refilled_len}
 use Rattle.fz_verify.proofs.Outcomes.{kept_same, peak_stays, short_unprinted, short_untold, untouched_silent, all_unmade, ok_weaker}
 use Rattle.fz_verify.proofs.Reports.{grew_not}
+use Rattle.fz_files.specs.Touched.{touched_by}
+use Rattle.fz_verify.proofs.HeaderReads.{unread}
 use Rattle.fz_verify.proofs.verify_file.verify.Goals as goal
 
 pub returns-in_err-block-clause-lines : goal.returns-in_err-block-clause-lines
@@ -132,3 +134,6 @@ returns-in_err-block-clause-unread g c = λ low. refl
 
 pub returns-clause-unread : goal.returns-clause-unread
 returns-clause-unread g c = λ low. absurd (omega (arith, low, c.in_ok-block.ensures.taken.0, c.requires.nothing_live))
+
+pub returns-in_err-block-clause-touched : goal.returns-in_err-block-clause-touched
+returns-in_err-block-clause-touched g c = unread (g.S.Source.held c.args.source.now) (touched_by Verify) (g.S.Source.ranges c.args.source.now)

@@ -10,6 +10,7 @@ use Rattle.fz_files.specs.declared.job.Job.TheVariants.{Verify}
 use Rattle.fz_stages.specs.Stages.{Works, wants_for}
 use Rattle.fz_verify.specs.Printed.{VerifiesSeen}
 use Rattle.fz_verify.proofs.Outcomes.{if_over, rewrite_over, short_verified, none_passed, ok_always}
+use Rattle.fz_verify.proofs.HduReads.{no_hdu}
 use Rattle.fz_verify.proofs.Reports.{grew_not}
 use Rattle.fz_verify.proofs.verify_file.verify_seen.Goals as goal
 
@@ -109,3 +110,6 @@ returns-in_err-space-clause-past g c = λ some. (refl, refl)
 
 pub returns-clause-past : goal.returns-clause-past
 returns-clause-past g c = none_passed _ (first_past c.args.meter.now.limit (piled c.args.meter.now.live (wanted_buffers (wants_for Verify c.args.survey.now) c.args.window.now.workers))) c.in_ok-space.ensures.takings.first_past
+
+pub returns-in_err-space-clause-read : goal.returns-in_err-space-clause-read
+returns-in_err-space-clause-read g c = no_hdu c.args.survey.now (g.S.Source.ranges c.args.source.now) (g.S.Source.held c.args.source.now)

@@ -14,6 +14,9 @@ use Rattle.fz_verify.specs.Printed.{VerifiesSeen}
 use Rattle.fz_stages.specs.Stages.{Works, later_takings, wants_for}
 use Rattle.fz_verify.proofs.Finished.{Knows, verify_faulty, verify_learnt, verify_prints, verify_right, work_silent}
 use Rattle.fz_verify.proofs.Outcomes.{look_refused, look_unprinted, untouched_silent, ok_weaker, past_by, past_at}
+use Rattle.fz_again.specs.Hdus.{ReadsHdus}
+use Rattle.fz_verify.proofs.HduReads.{all_read, headers_read}
+use Rattle.fz_verify.proofs.HeaderReads.{look_reads}
 use Rattle.fz_verify.proofs.Reports.{grew_not}
 use Rattle.fz_verify.proofs.verify_file.verify_with_block.Goals as goal
 
@@ -173,3 +176,22 @@ returns-clause-cause g c = rw (c.in_ok-survey.ensures.cause.ok, c.in_ok-survey.e
 
 pub returns-in_err-survey-clause-grown : goal.returns-in_err-survey-clause-grown
 returns-in_err-survey-clause-grown g c = grew_not (g.T.Text.contents c.args.text.now)
+
+pub returns-in_err-survey-clause-touched : goal.returns-in_err-survey-clause-touched
+returns-in_err-survey-clause-touched g c =
+    let held : Option (List ℕ) = g.S.Source.held c.args.source.now in
+    let old : Option (List (ℕ × ℕ)) = g.S.Source.ranges c.args.source.now in
+    let new : Option (List (ℕ × ℕ)) = g.S.Source.ranges c.survey_to_unpack.new.source in
+    headers_read held old new new (look_reads Verify held old new new (c.headers_law.ensures.look Verify tt) c.in_err-survey.ensures.touched)
+
+pub returns-clause-touched : goal.returns-clause-touched
+returns-clause-touched g c =
+    let held : Option (List ℕ) = g.S.Source.held c.args.source.now in
+    let same : g.S.Source.held c.survey_to_unpack.new.source ≡ held = search rules in
+    let old : Option (List (ℕ × ℕ)) = g.S.Source.ranges c.args.source.now in
+    let mid : Option (List (ℕ × ℕ)) = g.S.Source.ranges c.survey_to_unpack.new.source in
+    let new : Option (List (ℕ × ℕ)) = g.S.Source.ranges c.verify_seen.new.source in
+    let exact : IfSome held (Knows c.in_ok-survey.survey) = c.in_ok-survey.ensures.exact in
+    let reads : IfSome held (λ file. ReadsHdus Verify file c.in_ok-survey.survey mid new) = rw same at c.verify_seen.ensures.read in
+    all_read held old mid new c.ranges_law.ensures.join (c.known_law.ensures.know Verify tt) (c.hdus_law.ensures.known Verify tt) c.in_ok-survey.survey exact
+    (headers_read held old mid new (look_reads Verify held old mid new (c.headers_law.ensures.look Verify tt) c.in_ok-survey.ensures.touched)) reads
