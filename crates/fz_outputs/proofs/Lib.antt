@@ -1,0 +1,16 @@
+pub mod CutCards
+pub mod CutFile
+pub mod CutRefusals
+pub mod CutWalks
+pub mod Finds
+pub mod Front
+pub mod Made
+pub mod Outs
+pub mod PackedCuts
+pub mod PackedSlices
+pub mod PlainCards
+pub mod RestoredFile
+pub mod Said
+pub mod SliceCards
+pub mod SlicePixels
+pub mod WholeSieves
