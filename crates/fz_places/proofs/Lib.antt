@@ -1,0 +1,7 @@
+pub mod Cards
+pub mod Checks
+pub mod Faults
+pub mod Headers
+pub mod Judges
+pub mod Rows
+pub mod Walks
