@@ -20,7 +20,7 @@ PAGES = $(wildcard README.md CHANGELOG.md CONTRIBUTING.md LICENSE docs/*.md docs
 
 help:
 	@echo 'make demo       compile fz without proving it, and pack, list, verify, cut and unpack samples/star_field.fits: a minute'
-	@echo 'make check      compile fz without proving it and run the checks of tools/ on it: about five minutes, nothing proved'
+	@echo 'make check      compile fz without proving it and run the checks of tools/ on it: about two minutes, nothing proved'
 	@echo 'make fz         prove and build the program: crates/fz/out/fz'
 	@echo 'make test       what the gate runs: every proof, must-fail edit, test and program: an hour and a half or more'
 	@echo 'make samples    write samples/ again'
