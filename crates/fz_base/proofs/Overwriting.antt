@@ -28,7 +28,7 @@ grown-take old at n =
           ap (λ k. take k (old ++ replicate (at + n - length old) 0)) split ∙ cut ∙ ap (λ d. d ++ replicate (at - length old) 0) (sym whole)
     ]
 
--- what stands behind the bytes
+-- what is after the bytes
 grown-drop : (old : List ℕ) (to : ℕ) → drop to (grown old to) ≡ drop to old
 unfolding grown
 grown-drop old to =
@@ -90,7 +90,7 @@ pub written-next : (at : ℕ) (front back : List ℕ) (contents : Option (List �
 written-next at front back None = refl
 written-next at front back (Some c) = ap Some (overwrite-next at front back c)
 
--- behind the end
+-- after the end
 pub written-behind : (bytes contents : List ℕ) → written (length contents) bytes (Some contents) ≡ Some (contents ++ bytes)
 written-behind [] contents = ap Some (sym (append-nil contents))
 written-behind (b ∷ bytes) contents =

@@ -1,4 +1,4 @@
--- Writes behind byte 0 leave it: it is 0, or the contents are empty.
+-- Writes after byte 0 leave it: it is 0, or the contents are empty.
 use Rattle.std.proofs.Common.{◌≡◌, ◌≢◌, ℕ, zero, suc, ◌+◌, ◌<◌, inl, inr, List, [], ◌∷◌, ◌++◌, take, drop, length, replicate, Option, Some, None, Result, Ok, Err, OnOk, OnErr, refl, sym, subst, ◌∙◌, arith}
 use Rattle.std.proofs.Math.Nat.{sub-zero}
 use Rattle.fz_base.specs.Sink.{overwrite, written, MayWrite, emptied}
@@ -7,7 +7,7 @@ use Rattle.fz_base.specs.FirstByte.{IsShut, StaysShut, StopsShut}
 gap_shut : ◌≢◌ {A = ℕ} 0 83
 gap_shut e = absurd (omega arith)
 
--- a write behind byte 0
+-- a write after byte 0
 overwrite_shut : (at : ℕ) (bytes contents : List ℕ) → 0 < at → IsShut (Some contents) → IsShut (Some (overwrite at bytes contents))
 overwrite_shut at [] contents behind shut = shut
 overwrite_shut zero (b ∷ bytes) contents behind shut = absurd (omega arith)
@@ -19,7 +19,7 @@ pub written_shut : (at : ℕ) (bytes : List ℕ) (old new : Option (List ℕ)) �
 written_shut at bytes None new behind e shut = subst IsShut (sym e) tt
 written_shut at bytes (Some c) new behind e shut = subst IsShut (sym e) (overwrite_shut at bytes c behind shut)
 
--- a call that writes behind byte 0
+-- a call that writes after byte 0
 pub write_shut : {T E : Type 0} (result : Result T E) (at : ℕ) (bytes : List ℕ) (old new : Option (List ℕ)) → 0 < at →
     OnOk result (new ≡ written at bytes old) → OnErr result (MayWrite at bytes old new) → StaysShut old new
 write_shut (Ok x) at bytes old new behind ok err = written_shut at bytes old new behind ok

@@ -16,7 +16,7 @@ mapped_is change (Some x) told = refl
 mapped_told : {A : Type 0} (change : A → A) (before now : Option A) → now ≡ option_map change before → StaysTold before now
 mapped_told change before now is told = subst IsSome (sym is) (mapped_is change before told)
 
--- more ranges behind those that were read
+-- more ranges after those that were read
 pub logged_told : (more : List (ℕ × ℕ)) (old new : Option (List (ℕ × ℕ))) → new ≡ option_map (λ rs. rs ++ more) old → StaysTold old new
 logged_told more old new is = mapped_told (λ rs. rs ++ more) old new is
 

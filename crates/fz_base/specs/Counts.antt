@@ -1,11 +1,11 @@
--- Counts of faults and of wants. They never fall, and stand still at 2 ^ 64 - 1. Beside them is what else every call keeps that does
--- not say otherwise: the names that were opened or made, and what was written in place.
+-- Counts of faults and of wants. They never fall, and stay at 2 ^ 64 - 1. With them is what else every call keeps that does not say
+-- otherwise: the names that were opened or made, and what was written in place.
 use Rattle.std.specs.Prelude.{ℕ, ◌≡◌, ◌+◌, ◌-◌, ◌^◌, ◌≤◌, min, List, Option, None, Contains, Result, OnOk, IsErrOf}
 use Rattle.fz_base.specs.declared.calls.Counts.{Counts}
 use Rattle.fz_base.specs.declared.failure.Failed.{Failed}
 use Rattle.fz_base.specs.declared.failure.Failed.TheVariants.{Fault, NoMemory}
 
--- the count rose, or stands at the end of its range
+-- the count rose, or is at the end of its range
 abbrev pub Rose : ℕ → ℕ → Type 0
 Rose before now = min (before + 1) (2 ^ 64 - 1) ≤ now
 
@@ -14,7 +14,7 @@ pub record Amend : Type 0 where
   pub at : ℕ
   pub bytes : List ℕ
 
--- what was written in place in an object: the writes, one after another, if it tells them, and how often one failed
+-- what was written in place in an object: the writes, one after another, if it shows them, and how often one failed
 pub record Amended : Type 0 where
   pub writes : Option (List Amend)
   pub faults : ℕ
@@ -24,22 +24,22 @@ abbrev pub unamended : Amended
 unamended = record { writes = None; faults = 0 }
 
 -- How often the calls of an object failed, and how often one found no memory; the names by which it was opened or made, one after
--- another, if it tells them; and what was written in place.
+-- another, if it shows them; and what was written in place.
 pub record Tally : Type 0 where
   pub faults : ℕ
   pub wants : ℕ
   pub names : Option (List (List ℕ))
   pub amended : Amended
 
--- before the first call, of an object that does not tell names
+-- before the first call, of an object that does not show names
 abbrev pub uncounted : Tally
 uncounted = record { faults = 0; wants = 0; names = None; amended = unamended }
 
--- the tally that an object keeps which does not tell names
+-- the tally of an object that does not show names
 abbrev pub tally_of : Counts → Tally
 tally_of counts = record { faults = counts.faults; wants = counts.wants; names = None; amended = unamended }
 
--- a tally without its names: the counts alone are said of a call that may open or make
+-- a tally without its names, for a call that may open or make: only its counts are said
 abbrev pub nameless : Tally → Tally
 nameless t = record { faults = t.faults; wants = t.wants; names = None; amended = t.amended }
 
@@ -63,7 +63,7 @@ pub record HasCause {T : Type 0} (before now : Tally) (result : Result T Failed)
 abbrev pub counted : ℕ → ℕ
 counted before = min (before + 1) (2 ^ 64 - 1)
 
--- the call of this number counted one fault where it is among those that fail, and else none
+-- the call of this number counted one fault if it is among those that fail, and otherwise none
 abbrev pub CountsFault : List ℕ → ℕ → ℕ → ℕ → Type 0
 CountsFault failing number faults faults' =
     (Contains failing number → faults' ≡ counted faults) × (¬ Contains failing number → faults' ≡ faults)

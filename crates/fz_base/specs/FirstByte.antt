@@ -2,7 +2,7 @@
 use Rattle.std.specs.Prelude.{ℕ, ◌≡◌, ◌≢◌, ◌⊎◌, List, [], ◌∷◌, Option, Some, None, ⊤}
 use Rattle.fz_base.specs.Sink.{written}
 
--- contents, where they are told, are empty or begin with another byte than S
+-- contents, if they are shown, are empty or begin with another byte than S
 abbrev pub IsShut : Option (List ℕ) → Type 0
 IsShut None = ⊤
 IsShut (Some []) = ⊤

@@ -1,4 +1,4 @@
--- What a sink in memory is told about its calls.
+-- What a sink in memory is set to do in its calls.
 use Rattle.std.specs.Prelude.{ℕ, List}
 use Rattle.fz_base.specs.declared.mem_sink.MemSink.{MemSink}
 

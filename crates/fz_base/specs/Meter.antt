@@ -25,7 +25,7 @@ handed_back g asked = record { live = g.live - asked; peak = g.peak; limit = g.l
 abbrev pub narrowed : Gauge → ℕ → Gauge
 narrowed g limit = record { live = g.live; peak = g.peak; limit = min g.limit limit }
 
--- so many bytes more pass the limit, and the three numbers are told
+-- so many bytes more pass the limit, and the three numbers are reported
 abbrev pub IsOverLimit : Gauge → ℕ → Short → Type 0
 IsOverLimit g n NoMemory = ⊥
 IsOverLimit g n (OverLimit live asked limit) = (g.limit < g.live + n) × (live ≡ g.live) × (asked ≡ n) × (limit ≡ g.limit)

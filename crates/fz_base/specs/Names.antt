@@ -1,4 +1,4 @@
--- The names by which a source was opened and a sink was made, one after another. They are none if the object does not tell them.
+-- The names by which a source was opened and a sink was made, one after another. They are none if the object does not show them.
 use Rattle.std.specs.Prelude.{ℕ, ◌≡◌, ◌⊎◌, List, [], ◌∷◌, ◌++◌, Option, Result, Ok, Err, OnOk}
 use Rattle.std.specs.Option.{option_map}
 

@@ -19,7 +19,7 @@ abbrev pub LogsSome : List (ℕ × ℕ) → Option (List (ℕ × ℕ)) → Optio
 LogsSome [] old new = new ≡ old
 LogsSome ((start, count) ∷ more) old new = (new ≡ old) ⊎ LogsSome more (logged start count old) new
 
--- a call logged these reads, all of them where it answers Ok or Refused, and some where it failed
+-- a call logged these reads: all of them if it answers Ok or Refused, and some if it failed
 abbrev pub Logs : {X : Type 0} → List (ℕ × ℕ) → Result X Stop → Option (List (ℕ × ℕ)) → Option (List (ℕ × ℕ)) → Type 0
 Logs reads (Ok x) old new = new ≡ logged_all reads old
 Logs reads (Err (Refused x)) old new = new ≡ logged_all reads old
@@ -32,14 +32,14 @@ Logs reads (Err NoMemory) old new = LogsSome reads old new
 abbrev pub LogsIn : List (ℕ × ℕ) → Option (List (ℕ × ℕ)) → Option (List (ℕ × ℕ)) → Type 0
 LogsIn ranges old new = LogsOnly (λ read. (byte : ℕ) → read.0 ≤ byte → byte < read.0 + read.1 → LiesIn ranges byte) old new
 
--- where the bytes of some reads lie in these ranges, so do those of the reads that were logged
+-- if the bytes of some reads lie in these ranges, so do those of the reads that were logged
 abbrev pub LogsSomeLaw : Type 0
 LogsSomeLaw = (reads ranges : List (ℕ × ℕ)) (old new : Option (List (ℕ × ℕ))) → ((byte : ℕ) → LiesIn reads byte → LiesIn ranges byte) → LogsSome reads old new → LogsIn ranges old new
 
 abbrev pub LogsAllLaw : Type 0
 LogsAllLaw = (reads ranges : List (ℕ × ℕ)) (old new : Option (List (ℕ × ℕ))) → ((byte : ℕ) → LiesIn reads byte → LiesIn ranges byte) → new ≡ logged_all reads old → LogsIn ranges old new
 
--- the same of reads between two places, where the bytes between these lie in the ranges
+-- the same of reads between two places, if the bytes between these lie in the ranges
 abbrev pub LogsWithinLaw : Type 0
 LogsWithinLaw = (from to : ℕ) (ranges : List (ℕ × ℕ)) (old new : Option (List (ℕ × ℕ))) → ((byte : ℕ) → from ≤ byte → byte < to → LiesIn ranges byte) → LogsWithin from to old new → LogsIn ranges old new
 

@@ -15,6 +15,6 @@ first_refusal [] = None
 first_refusal ((true, fault) ∷ checks) = Some fault
 first_refusal ((false, fault) ∷ checks) = first_refusal checks
 
--- the answer is Ok where no check refuses, and else the fault of the first that does
+-- the answer is Ok if no check rejects, and otherwise the fault of the first that does
 abbrev pub IsFirstOf : {A : Type 0} → List (Bool × Fault) → Result A Fault → Type 0
 IsFirstOf checks result = MatchResult result (λ _. first_refusal checks ≡ None) (λ x. first_refusal checks ≡ Some x)

@@ -1,4 +1,4 @@
--- What the calls of a sink do to its contents, and those of a text. Contents are none where they are not told.
+-- What the calls of a sink do to its contents, and those of a text. Contents are none if they are not shown.
 use Rattle.std.specs.Prelude.{ℕ, ◌≡◌, ◌+◌, ◌-◌, ◌⊎◌, List, [], ◌∷◌, ◌++◌, length, take, drop, replicate, Option}
 use Rattle.std.specs.Option.{option_map}
 use Rattle.fz_base.specs.Counts.{Rose}
@@ -9,7 +9,7 @@ overwrite at [] contents = contents
 overwrite at (b ∷ bytes) contents =
     take at contents ++ replicate (at - length contents) 0 ++ (b ∷ bytes) ++ drop (at + length (b ∷ bytes)) contents
 
--- told contents after such a write
+-- shown contents after such a write
 abbrev pub written : ℕ → List ℕ → Option (List ℕ) → Option (List ℕ)
 written at bytes contents = option_map (overwrite at bytes) contents
 
@@ -17,11 +17,11 @@ written at bytes contents = option_map (overwrite at bytes) contents
 abbrev pub MayWrite : ℕ → List ℕ → Option (List ℕ) → Option (List ℕ) → Type 0
 MayWrite at bytes old new = (n : ℕ) × (new ≡ written at (take n bytes) old)
 
--- told contents after a `create`: no bytes
+-- shown contents after a `create`: no bytes
 abbrev pub emptied : Option (List ℕ) → Option (List ℕ)
 emptied contents = option_map (λ _. []) contents
 
--- told text with more at its end
+-- shown text with more at its end
 abbrev pub appended : List ℕ → Option (List ℕ) → Option (List ℕ)
 appended bytes contents = option_map (λ text. text ++ bytes) contents
 
@@ -29,6 +29,6 @@ appended bytes contents = option_map (λ text. text ++ bytes) contents
 abbrev pub MayAppend : List ℕ → Option (List ℕ) → Option (List ℕ) → Type 0
 MayAppend bytes old new = (n : ℕ) × (new ≡ appended (take n bytes) old)
 
--- a write that is told to fail wrote its front, or nothing where it found no memory for that
+-- a write that is told to fail wrote its front, or nothing if it found no memory for that
 abbrev pub KeepsFront : ℕ → List ℕ → Option (List ℕ) → Option (List ℕ) → ℕ → ℕ → Type 0
 KeepsFront at front old new wants wants' = (new ≡ written at front old) ⊎ ((new ≡ old) × Rose wants wants')

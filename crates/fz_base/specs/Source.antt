@@ -1,4 +1,4 @@
--- What the calls of a source answer and log. Held bytes and ranges are none where a source does not tell them.
+-- What the calls of a source answer and log. Held bytes and ranges are none if a source does not show them.
 use Rattle.std.specs.Prelude.{ℕ, ◌≡◌, ◌+◌, ◌<◌, ◌≤◌, ◌⊎◌, All, List, [], ◌∷◌, ◌++◌, length, take, drop, Option, Some, IfSome, Result, Ok, Err}
 use Rattle.std.specs.Option.{option_map}
 
@@ -26,11 +26,11 @@ LogsOnly Kind old new = (more : List (ℕ × ℕ)) × All Kind more × (new ≡ 
 abbrev pub LogsWithin : ℕ → ℕ → Option (List (ℕ × ℕ)) → Option (List (ℕ × ℕ)) → Type 0
 LogsWithin from to old new = LogsOnly (IsRangeBetween from to) old new
 
--- where the bytes are told, there are so many
+-- if the bytes are shown, there are so many
 abbrev pub HoldsLength : Option (List ℕ) → ℕ → Type 0
 HoldsLength held count = IfSome held (λ bytes. length bytes ≡ count)
 
--- where the bytes are told, each is below 256
+-- if the bytes are shown, each is below 256
 abbrev pub HoldsOctets : Option (List ℕ) → Type 0
 HoldsOctets held = IfSome held (All (λ byte. byte < 256))
 

@@ -24,8 +24,8 @@ abbrev pub stop_of_short : Short → Stop
 stop_of_short NoRoom = NoMemory
 stop_of_short (PastLimit live asked limit) = OverLimit live asked limit
 
--- Why a call that only reads a source stopped, by the source's tally. Refused comes only where no count rose, ReadFault where
--- the count of faults rose, NoMemory where the count of wants rose; there is no other answer.
+-- Why a call that only reads a source stopped, by the source's tally. It answers Refused only if no count rose, ReadFault if the
+-- count of faults rose, NoMemory if the count of wants rose, and nothing else.
 abbrev pub StoppedReading : Tally → Tally → Stop → Type 0
 StoppedReading before now (Refused x) = now ≡ before
 StoppedReading before now ReadFault = Rose before.faults now.faults
@@ -63,7 +63,7 @@ IsDefined spec (Err WriteFault) = ⊤
 IsDefined spec (Err (OverLimit live asked limit)) = ⊤
 IsDefined spec (Err NoMemory) = ⊤
 
--- Why a job that reads a source and writes a sink stopped, by their tallies and its meter's limit. Refused comes only where
+-- Why a job that reads a source and writes a sink stopped, by their tallies and its meter's limit. It answers Refused only if
 -- no count of faults rose, and no taking is larger than the last number together with what is live.
 abbrev pub StoppedJob : Tally → Tally → Tally → Tally → ℕ → ℕ → Stop → Type 0
 StoppedJob source source' sink sink' limit most (Refused x) = (source'.faults ≡ source.faults) × (sink'.faults ≡ sink.faults)
@@ -157,7 +157,7 @@ IfRefused (Err WriteFault) P = ⊤
 IfRefused (Err (OverLimit live asked limit)) P = ⊤
 IfRefused (Err NoMemory) P = ⊤
 
--- Where a buffer would have passed the limit, the answer tells the meter's limit, and what is live and asked passes
+-- If a buffer would have passed the limit, the answer reports the meter's limit, and what is live and asked passes
 -- it, but not this number.
 abbrev pub TellsLimit : {X : Type 0} → ℕ → ℕ → Result X Stop → Type 0
 TellsLimit limit most (Ok x) = ⊤

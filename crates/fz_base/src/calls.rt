@@ -1,4 +1,4 @@
-//! The counts of an object, and the numbered calls of one in memory that are told to fail.
+//! The counts of an object, and the numbered calls of one in memory that are set to fail.
 ghost use Rattle.std.specs.Prelude.{◌≡◌, ◌+◌, ◌-◌, ◌^◌, ◌↔◌, IfOk, Ok, IsOk, IsErr, IsErrOf, IsTrue, Contains, min};
 ghost use Rattle.fz_base.specs.Counts.{HasCause, CountsFault, counted, tally_of};
 ghost use Rattle.fz_base.specs.declared.failure.Failed.TheVariants.{Fault, NoMemory};
@@ -45,7 +45,7 @@ impl Counts {
         Err(Failed::NoMemory)
     }
 
-    /// Counts what the system answered to one call: want of memory as a want, all else as a fault.
+    /// Counts what the system answered to one call: want of memory as a want, everything else as a fault.
     pub(crate) fn noted<T>(&mut self, answer: io::Result<T>) -> Result<T, Failed>
         ensures ok { IsOk answer → IsOk result }
         ensures value { IfOk result (λ v. answer ≡ Ok v) }
@@ -81,7 +81,7 @@ impl Calls {
         }
     }
 
-    /// Counts one call, and fails where its number is among those that fail.
+    /// Counts one call, and fails if its number is among those that fail.
     pub(crate) fn begin(&mut self) -> Result<(), Failed>
         ensures exact { IsErr result ↔ Contains self.old.failing.items self.old.next }
         ensures fault { IsErr result → IsErrOf result Fault }

@@ -1,4 +1,4 @@
-//! What a call answers where it could not do its work.
+//! What a call answers if it could not do its work.
 ghost use Rattle.std.specs.Prelude.{◌≡◌};
 ghost use Rattle.fz_base.specs.Stop.{stop_of_read, stop_of_write, stop_of_short};
 

@@ -10,7 +10,7 @@ use std::io::ErrorKind;
 use std::os::unix::fs::FileExt;
 use std::rt::Files;
 
-/// A sink over a file, which it makes new: a file that is there already is a fault. It tells no
+/// A sink over a file, which it makes new: a file that is there already is a fault. It shows no
 /// contents: that the file holds what was written is trusted.
 #[derive(Drop)]
 pub struct FileSink<R: Files<File = File>> {

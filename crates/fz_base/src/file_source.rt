@@ -21,7 +21,7 @@ struct Opened {
     ghost near: { size ≤ 2 ^ 62 },
 }
 
-/// A source over a file, which it opens for reading. It tells neither its bytes nor its ranges: that
+/// A source over a file, which it opens for reading. It shows neither its bytes nor its ranges: that
 /// the file holds what is read is trusted.
 #[derive(Drop)]
 pub struct FileSource<R: Files<File = File>> {

@@ -5,7 +5,7 @@ ghost use Rattle.fz_base.specs.Counts.{uncounted};
 
 use crate::{Failed, Source};
 
-/// A source over bytes in memory that never fails and takes no memory. It tells its bytes, and no
+/// A source over bytes in memory that never fails and takes no memory. It shows its bytes, and no
 /// ranges.
 #[derive(Drop)]
 pub struct FixedSource {

@@ -33,7 +33,7 @@ pub use file_source::FileSource;
 pub use fixed_source::FixedSource;
 pub use gate::{FreeGate, Gate};
 pub use kind::Kind;
-pub use laws::{log_law, output_law, places_law, ranges_law};
+pub use laws::{log_law, output_law, places_law, ranges_law, takings_law};
 pub use mem_sink::MemSink;
 pub use mem_source::MemSource;
 pub use mem_text::MemText;

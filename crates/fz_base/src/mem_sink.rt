@@ -1,5 +1,6 @@
-//! A sink in memory, whose calls can be told to fail.
-ghost use Rattle.std.specs.Prelude.{◌≡◌, ◌+◌, ◌-◌, ◌^◌, ◌<◌, ◌≤◌, ◌||◌, ◌↔◌, ◌++◌, IsTrue, length as len, take, drop, replicate, Some, [], false, OnOk, OnErr, IsErr, IsErrOf, Contains, min, is_ok, if◌then◌else◌};
+//! A sink in memory, whose calls can be set to fail.
+ghost use Rattle.std.specs.Prelude.{◌≡◌, ◌+◌, ◌-◌, ◌^◌, ◌<◌, ◌≤◌, ◌||◌, ◌↔◌, IsTrue, false, min, if◌then◌else◌};
+ghost use Rattle.std.specs.Prelude.{[], ◌++◌, length as len, take, drop, replicate, Contains, Some, OnOk, OnErr, IsErr, IsErrOf, is_ok};
 ghost use Rattle.fz_base.specs.Counts.{HasCause, CountsFault, nameless, tally_of, uncounted, Rose};
 ghost use Rattle.fz_base.specs.Names.{names_by};
 ghost use Rattle.fz_base.specs.Sink.{overwrite, written, MayWrite, emptied, KeepsFront};
@@ -9,8 +10,8 @@ use crate::calls::{Calls, Counts};
 use crate::{Failed, Sink};
 use std::alloc::{AllocError, Global};
 
-/// A sink in memory. It tells its contents, and fails in the calls of `create`, `write_at` and
-/// `finish`, counted together from 0, that it is told to.
+/// A sink in memory. It shows its contents, and fails in the calls of `create`, `write_at` and
+/// `finish`, counted together from 0, that it is set to.
 #[derive(Drop)]
 pub struct MemSink {
     data: Vec<u8>,
@@ -77,7 +78,7 @@ fn place(contents: &mut [u8], at: usize, bytes: &[u8])
     contents[at..at + bytes.len()].copy_from_slice(bytes);
 }
 
-// Writes the bytes at a place, or nothing where there is no memory for them.
+// Writes the bytes at a place, or nothing if there is no memory for them.
 fn put(contents: &mut Vec<u8>, at: u64, bytes: &[u8]) -> Result<(), AllocError>
     ensures ok { OnOk result (contents.new.items ≡ overwrite at bytes.now contents.old.items) }
     ensures err { OnErr result (contents.new.items ≡ contents.old.items) }
@@ -92,7 +93,7 @@ fn put(contents: &mut Vec<u8>, at: u64, bytes: &[u8]) -> Result<(), AllocError>
     Ok(())
 }
 
-// Writes what a failing call keeps, or counts a want where there is no memory for it.
+// Writes what a failing call keeps, or counts a want if there is no memory for it.
 fn put_front(contents: &mut Vec<u8>, counts: &mut Counts, at: u64, bytes: &[u8], keep: u32)
     ensures kept { KeepsFront at (take keep bytes.now) (Some contents.old.items) (Some contents.new.items) counts.old.wants counts.new.wants }
     ensures faults { counts.new.faults ≡ counts.old.faults }
@@ -150,8 +151,9 @@ impl Sink for MemSink {
         ensures counted { CountsFault (sink_failing self.old) (sink_calls self.old) self.old.calls.counts.faults self.new.calls.counts.faults }
         // Without memory nothing is written.
         ensures nothing { IsErrOf result NoMemory → self.new.data.items ≡ self.old.data.items }
-        // A failing call keeps the front of the bytes, where there is memory for it.
-        ensures kept { IsErrOf result Fault → KeepsFront at (take (sink_keep self.old) bytes.now) (Some self.old.data.items) (Some self.new.data.items) self.old.calls.counts.wants self.new.calls.counts.wants }
+        // A failing call keeps the front of the bytes, if there is memory for it.
+        ensures kept { IsErrOf result Fault → KeepsFront at (take (sink_keep self.old) bytes.now)
+            (Some self.old.data.items) (Some self.new.data.items) self.old.calls.counts.wants self.new.calls.counts.wants }
         ensures failing { sink_failing self.new ≡ sink_failing self.old }
         ensures calls { sink_calls self.new ≡ min (sink_calls self.old + 1) (2 ^ 64 - 1) }
         ensures keep { sink_keep self.new ≡ sink_keep self.old }

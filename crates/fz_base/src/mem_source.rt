@@ -1,5 +1,6 @@
-//! A source in memory, whose calls can be told to fail.
-ghost use Rattle.std.specs.Prelude.{ℕ, All, ◌≡◌, ◌+◌, ◌-◌, ◌^◌, ◌≤◌, ◌<◌, ◌↔◌, length as len, vec_len, Some, None, [], IfOk, OnOk, OnErr, IsErr, IsErrOf, Contains, min};
+//! A source in memory, whose calls can be set to fail.
+ghost use Rattle.std.specs.Prelude.{ℕ, ◌≡◌, ◌+◌, ◌-◌, ◌^◌, ◌≤◌, ◌<◌, ◌↔◌, min};
+ghost use Rattle.std.specs.Prelude.{[], length as len, vec_len, All, Contains, Some, None, IfOk, OnOk, OnErr, IsErr, IsErrOf};
 ghost use Rattle.std.specs.Option.{ForSome};
 ghost use Rattle.fz_base.specs.Counts.{HasCause, CountsFault, nameless, tally_of, uncounted};
 ghost use Rattle.fz_base.specs.Names.{names_by};
@@ -10,8 +11,8 @@ use crate::calls::Calls;
 use crate::{Failed, Source};
 use std::alloc::Global;
 
-/// A source over bytes in memory. It tells its bytes and the ranges that were read, and fails in
-/// the calls of `attach` and `read_at`, counted together from 0, that it is told to.
+/// A source over bytes in memory. It shows its bytes and the ranges that were read, and fails in
+/// the calls of `attach` and `read_at`, counted together from 0, that it is set to.
 #[derive(Drop)]
 pub struct MemSource {
     bytes: Vec<u8>,

@@ -1,4 +1,4 @@
-//! A text in memory, whose calls can be told to fail.
+//! A text in memory, whose calls can be set to fail.
 ghost use Rattle.std.specs.Prelude.{◌≡◌, ◌+◌, ◌-◌, ◌^◌, ◌↔◌, Some, [], OnOk, OnErr, IsErrOf, Contains, min};
 ghost use Rattle.fz_base.specs.Counts.{HasCause, CountsFault, tally_of, uncounted};
 ghost use Rattle.fz_base.specs.Sink.{appended, MayAppend};
@@ -8,8 +8,8 @@ use crate::calls::Calls;
 use crate::{Failed, Text};
 use std::alloc::Global;
 
-/// A text in memory. It tells its contents, and fails in the calls of `put`, counted from 0, that
-/// it is told to; a failing `put` writes nothing.
+/// A text in memory. It shows its contents, and fails in the calls of `put`, counted from 0, that
+/// it is set to; a failing `put` writes nothing.
 #[derive(Drop)]
 pub struct MemText {
     data: Vec<u8>,

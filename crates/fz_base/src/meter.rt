@@ -38,7 +38,7 @@ impl Meter {
         }
     }
 
-    /// Lowers the limit, where this one is smaller.
+    /// Lowers the limit, if this one is smaller.
     pub fn narrow(&mut self, limit: u64)
         requires live { self.old.live ≡ 0 }
         requires peak { self.old.peak ≤ limit }
@@ -47,7 +47,7 @@ impl Meter {
         self.limit = self.limit.min(limit);
     }
 
-    /// So many bytes of value 0. `OverLimit` comes exactly where they would pass the limit, before
+    /// So many bytes of value 0. `OverLimit` comes exactly if they would pass the limit, before
     /// memory is tried; a refused call changes nothing.
     pub fn bytes(&mut self, n: u64) -> Result<Bytes, Short>
         ensures bytes { IfOk result (λ b. b ≡ replicate n 0) }
@@ -61,7 +61,7 @@ impl Meter {
         Ok(Bytes { bytes })
     }
 
-    /// So many numbers of value 0, for which 4 bytes each are asked. `OverLimit` comes exactly where
+    /// So many numbers of value 0, for which 4 bytes each are asked. `OverLimit` comes exactly if
     /// they would pass the limit, before memory is tried; a refused call changes nothing.
     pub fn numbers(&mut self, n: u64) -> Result<Numbers, Short>
         requires { n ≤ 2 ^ 61 }
@@ -115,7 +115,7 @@ impl Meter {
         self.limit
     }
 
-    // Answers OverLimit where so many bytes more would pass the limit.
+    // Answers OverLimit if so many bytes more would pass the limit.
     fn allow(&self, asked: u64) -> Result<(), Short>
         ensures room { OnOk result (self.now.live + asked ≤ self.now.limit) }
         ensures refused { IfErr result (IsOverLimit self.now asked) }

@@ -1,5 +1,6 @@
 //! How an output is written: its first byte last, so that what was cut short is no FITS file.
-ghost use Rattle.std.specs.Prelude.{ℕ, ◌≡◌, ◌+◌, ◌^◌, ◌≤◌, ◌<◌, true, IsTrue, Some, IfSome, take, drop, length as len, OnOk, OnErr};
+ghost use Rattle.std.specs.Prelude.{ℕ, ◌≡◌, ◌+◌, ◌^◌, ◌≤◌, ◌<◌, true, IsTrue};
+ghost use Rattle.std.specs.Prelude.{take, drop, length as len, Some, IfSome, OnOk, OnErr};
 ghost use Rattle.fz_base.specs.FirstByte.{StaysShut, StopsSealing, StopsShut, with_first_byte};
 ghost use Rattle.fz_base.specs.Sink.{written, MayWrite};
 ghost use Rattle.fz_base.specs.Source.{LogsWithin};
@@ -8,7 +9,7 @@ ghost use Rattle.fz_base.specs.Told.{StaysTold};
 
 use crate::{Sink, Source, Stop};
 
-/// Writes the bytes at a place behind byte 0; no bytes are no call of the sink. Contents that do not
+/// Writes the bytes at a place after byte 0; no bytes are no call of the sink. Contents that do not
 /// begin as a FITS file does stay so, whatever the answer.
 pub fn write_behind<K: Sink>(sink: &mut K, at: u64, bytes: &[u8]) -> Result<(), Stop>
     requires created { IsTrue (K.created sink.old) }
@@ -26,7 +27,7 @@ pub fn write_behind<K: Sink>(sink: &mut K, at: u64, bytes: &[u8]) -> Result<(), 
     sink.write_at(at, bytes).map_err(Stop::writing)
 }
 
-/// Copies so many bytes of the source, from a byte on, to a place of the sink behind byte 0, in pieces
+/// Copies so many bytes of the source, from a byte on, to a place of the sink after byte 0, in pieces
 /// that fill the buffer.
 pub fn copy<S: Source, K: Sink>(
     source: &mut S,
@@ -41,7 +42,8 @@ pub fn copy<S: Source, K: Sink>(
     requires buffer { 0 < len buffer.old }
     requires created { IsTrue (K.created sink.old) }
     requires behind { 0 < to }
-    ensures copied { OnOk result (IfSome (S.held source.old) (λ g. K.contents sink.new ≡ written to (take count (drop from g)) (K.contents sink.old))) }
+    ensures copied { OnOk result (IfSome (S.held source.old)
+        (λ g. K.contents sink.new ≡ written to (take count (drop from g)) (K.contents sink.old))) }
     ensures shut { StaysShut (K.contents sink.old) (K.contents sink.new) }
     ensures told { StaysTold (K.contents sink.old) (K.contents sink.new) }
     ensures log { LogsWithin from (from + count) (S.ranges source.old) (S.ranges source.new) }
@@ -77,7 +79,8 @@ fn copy_piece<S: Source, K: Sink>(
     requires some { 0 < len piece.old }
     requires created { IsTrue (K.created sink.old) }
     requires behind { 0 < to }
-    ensures copied { OnOk result (IfSome (S.held source.old) (λ g. K.contents sink.new ≡ written to (take (len piece.old) (drop from g)) (K.contents sink.old))) }
+    ensures copied { OnOk result (IfSome (S.held source.old)
+        (λ g. K.contents sink.new ≡ written to (take (len piece.old) (drop from g)) (K.contents sink.old))) }
     ensures shut { StaysShut (K.contents sink.old) (K.contents sink.new) }
     ensures told { StaysTold (K.contents sink.old) (K.contents sink.new) }
     ensures log { LogsWithin from (from + len piece.old) (S.ranges source.old) (S.ranges source.new) }

@@ -1,14 +1,15 @@
 //! Where a job writes to: bytes at places.
-ghost use Rattle.std.specs.Prelude.{ℕ, ◌≡◌, ◌<◌, ◌||◌, Bool, IsTrue, List, length as len, Option, OnOk, OnErr, is_ok, false, if◌then◌else◌};
+ghost use Rattle.std.specs.Prelude.{ℕ, ◌≡◌, ◌<◌, ◌||◌, Bool, IsTrue, false, if◌then◌else◌};
+ghost use Rattle.std.specs.Prelude.{List, length as len, Option, OnOk, OnErr, is_ok};
 ghost use Rattle.fz_base.specs.Counts.{HasCause, Tally, nameless};
 ghost use Rattle.fz_base.specs.Names.{names_by};
 ghost use Rattle.fz_base.specs.Sink.{written, MayWrite, emptied};
 
 use crate::Failed;
 
-/// Bytes that are written at places. An object in memory tells its contents; a real file does not.
+/// Bytes that are written at places. An object in memory shows its contents; a real file does not.
 pub trait Sink {
-    /// The contents, where they are told.
+    /// The contents, if they are shown.
     ghost contents: { Self → Option (List ℕ) };
 
     /// Whether a `create` has succeeded.
@@ -18,7 +19,7 @@ pub trait Sink {
     ghost finished: { Self → Bool };
 
     /// How often a call failed, and how often one found no memory; and the names by which an output
-    /// was made, where they are told.
+    /// was made, if they are shown.
     ghost tally: { Self → Tally };
 
     /// Makes the output by its name, empty.

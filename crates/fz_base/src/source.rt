@@ -6,20 +6,20 @@ ghost use Rattle.fz_base.specs.Source.{Reads, logged, MayLog, HoldsOctets, Holds
 
 use crate::Failed;
 
-/// Bytes that are read at places. An object in memory tells its bytes and the ranges that were
-/// read; a real file tells neither.
+/// Bytes that are read at places. An object in memory shows its bytes and the ranges that were
+/// read; a real file shows neither.
 pub trait Source {
-    /// The held bytes, where they are told.
+    /// The held bytes, if they are shown.
     ghost held: { Self → Option (List ℕ) };
 
-    /// The ranges read, each by its start and length, where they are told.
+    /// The ranges read, each by its start and length, if they are shown.
     ghost ranges: { Self → Option (List (ℕ × ℕ)) };
 
     /// The attached length, or none before the first `attach` that succeeded.
     ghost attached: { Self → Option ℕ };
 
     /// How often a call failed, and how often one found no memory; and the names by which the source
-    /// was opened, where they are told.
+    /// was opened, if they are shown.
     ghost tally: { Self → Tally };
 
     /// Opens the source by its name and answers its length in bytes.
@@ -43,12 +43,12 @@ pub trait Source {
         ensures attached { attached self.new ≡ attached self.old }
         ensures cause { HasCause (tally self.old) (tally self.new) result };
 
-    /// A source that is attached and tells its bytes tells as many as its attached length.
+    /// A source that is attached and shows its bytes shows as many as its attached length.
     ghost agrees: { (s : Self) (n : ℕ) → attached s ≡ Some n → HoldsLength (held s) n };
 
     /// No attached length is more than 2^62.
     ghost near: { (s : Self) (n : ℕ) → attached s ≡ Some n → n ≤ 2 ^ 62 };
 
-    /// Bytes that are told are below 256.
+    /// Bytes that are shown are below 256.
     ghost octets: { (s : Self) → HoldsOctets (held s) };
 }

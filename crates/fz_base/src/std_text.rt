@@ -7,7 +7,7 @@ use crate::{Failed, Text};
 use std::io;
 use std::io::Write;
 
-/// Standard output. It tells no contents.
+/// Standard output. It shows no contents.
 #[derive(Drop)]
 pub struct StdText<R: Print + Drop> {
     rt: R,

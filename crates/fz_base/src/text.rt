@@ -5,9 +5,9 @@ ghost use Rattle.fz_base.specs.Sink.{appended, MayAppend};
 
 use crate::Failed;
 
-/// Text that only grows. An object in memory tells its contents; standard output does not.
+/// Text that only grows. An object in memory shows its contents; standard output does not.
 pub trait Text {
-    /// The contents, where they are told.
+    /// The contents, if they are shown.
     ghost contents: { Self → Option (List ℕ) };
 
     /// How often a call failed, and how often one found no memory.

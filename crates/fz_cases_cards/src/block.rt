@@ -54,7 +54,7 @@ const SMALL: Header = Header {
     data_len: 16,
 };
 
-/// A primary without data, and behind it a table of two rows of 16 bytes and a heap of 17.
+/// A primary without data, and after it a table of two rows of 16 bytes and a heap of 17.
 const TABLE_CARDS: [Text; 13] = [
     (0, SIMPLE),
     (1, BITPIX_16),
@@ -188,7 +188,7 @@ fn reads_headers_alone(rt: HostRuntime) -> Result<(), Fail> {
         source.reads(),
         [(2880, 8), (2880, 2880), (2880, 2880)].as_slice()
     );
-    // END in block 1, none in a file that ends there, another first card, and bytes behind an HDU
+    // END in block 1, none in a file that ends there, another first card, and bytes after an HDU
     let source = looked_at(alloc, 8640, &[(0, SIMPLE), (36, END)], 0, 0)?;
     assert_eq!(rt; source.reads(), [(0, 2880), (2880, 2880)].as_slice());
     let source = looked_at(alloc, 5000, &[(0, SIMPLE)], 0, 0)?;

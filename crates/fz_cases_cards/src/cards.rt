@@ -4,7 +4,7 @@ use fz_card::{
     number_behind, number_card, numbered, text_card, whole_number, without_first_blanks,
 };
 
-/// A card that begins with this text and is blank behind it.
+/// A card that begins with this text and is blank after it.
 pub(crate) fn card(text: &[u8]) -> Card {
     let mut bytes = [b' '; 80];
     let len = text.len().min(80);

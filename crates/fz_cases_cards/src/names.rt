@@ -5,7 +5,7 @@ ghost use Rattle.fz_card.specs.Naming.{is_dropped, is_reserved};
 use crate::cards::card;
 use fz_card::{Name, is_dropped, is_reserved, renamed, restored};
 
-/// The name that is this text with blanks behind it.
+/// The name that is this text with blanks after it.
 fn name(text: &[u8]) -> Name {
     card(text).name()
 }

@@ -1,4 +1,4 @@
--- A write behind byte 0 leaves it, and what is told stays told.
+-- A write after byte 0 leaves it, and what is told stays told.
 use Rattle.fz_base.proofs.Shut.{write_shut}
 use Rattle.fz_base.proofs.Told.{write_told}
 use Rattle.fz_base.proofs.output.write_behind.Goals as goal
