@@ -61,7 +61,7 @@ number_bits-zero zero = refl
 number_bits-zero (suc n) =
     ap (λ bits. bits ++ false ∷ []) (number_bits-zero n) ∙ replicate_more n false ∙ ap (λ k. replicate k false) (add-one n)
 
--- one has a one behind zeros
+-- one has a one after zeros
 pub number_bits-one : (n : ℕ) → number_bits (n + 1) 1 ≡ replicate n false ++ true ∷ []
 unfolding number_bits
 number_bits-one n =
@@ -74,7 +74,7 @@ lead_quotient v d pos low high =
     let b : v / d < 2 = div_below v d 2 pos (omega arith) in
     omega arith
 
--- a number between two powers of two: zeros, its leading one, and what is behind it
+-- a number between two powers of two: zeros, its leading one, and what is after it
 pub number_bits-lead : (z j v : ℕ) → 2 ^ j ≤ v → v < 2 ^ suc j → number_bits (z + suc j) v ≡ replicate z false ++ true ∷ number_bits j (v % 2 ^ j)
 unfolding number_bits
 number_bits-lead z j v low high =

@@ -46,7 +46,7 @@ or_bits-zeros_right zero (x ∷ xs) len = absurd (omega (arith, len))
 or_bits-zeros_right (suc n) [] len = absurd (omega (arith, len))
 or_bits-zeros_right (suc n) (x ∷ xs) len = ap (λ y. y ∷ or_bits xs (replicate n false)) (or_false x) ∙ ap (λ l. x ∷ l) (or_bits-zeros_right n xs (omega (arith, len)))
 
--- lists that both have a middle part, one with zeros behind it and one with zeros in front
+-- lists that both have a middle part, one with zeros after it and one with zeros in front
 pub or_overlap : (front mid back : List Bool) (m n : ℕ) → length front ≡ m → length back ≡ n → or_bits (front ++ (mid ++ replicate n false)) (replicate m false ++ (mid ++ back)) ≡ front ++ (mid ++ back)
 or_overlap front mid back m n in_front in_back =
     or_bits-append front (replicate m false) (mid ++ replicate n false) (mid ++ back) (in_front ∙ sym (length-replicate m false)) ∙ ap (λ l. l ++ or_bits (mid ++ replicate n false) (mid ++ back)) (or_bits-zeros_right m front in_front) ∙ ap (λ l. front ++ l) (or_bits-append mid mid (replicate n false) back refl ∙ ap (λ l. l ++ or_bits (replicate n false) back) (or_bits-same mid) ∙ ap (λ l. mid ++ l) (or_bits-zeros n back in_back))

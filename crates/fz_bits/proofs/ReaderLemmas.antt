@@ -20,7 +20,7 @@ unfolding left
 length-left r =
     length-drop (8 * r.at - r.count) (bits_of r.code.now) ∙ omega (arith, length-bits_of r.code.now, r.within, r.loaded)
 
--- bits in front of zeros, without the first ones, and zeros behind them
+-- bits in front of zeros, without the first ones, and zeros after them
 pub skipped : (bits : List Bool) (count n : ℕ) → n ≤ count → count ≤ length bits → count ≤ 64 → drop n (take count bits ++ replicate (64 - count) false) ++ replicate n false ≡ take (count - n) (drop n bits) ++ replicate (64 - (count - n)) false
 skipped bits count n le within few =
     let e : count ≡ n + (count - n) = omega arith in
@@ -55,7 +55,7 @@ ahead_skipped count word rest n bits le is a = record {
 pub ahead_loaded : (count many word : ℕ) (bits : List Bool) → count ≤ many → many ≤ 64 → number_bits 64 word ≡ take many bits ++ replicate (64 - many) false → IsAhead count word bits
 ahead_loaded count many word bits enough few is = record { many = many; enough = enough; few = few; is = is }
 
--- the bits that are left behind the pending ones
+-- the bits that are left after the pending ones
 left_behind : (r : BitReader) → drop r.count (left r) ≡ bits_of (drop r.at r.code.now)
 unfolding left
 left_behind r =
@@ -78,7 +78,7 @@ some_ones v near =
       | inr h ↦ absurd (omega (arith, near, ap (count_leading_zeros 64) (let none : v ≡ 0 = omega arith in none) ∙ leading_of_zero 64))
     ]
 
--- pending bits and the bits that come behind `count` of them
+-- pending bits and the bits that come after `count` of them
 joined_bits : (count many pending word : ℕ) (bits : List Bool) → count ≤ many → many ≤ 64 → count + 64 ≤ length bits → word < 2 ^ 64 → number_bits 64 pending ≡ take many bits ++ replicate (64 - many) false → number_bits 64 word ≡ take 64 (drop count bits) → number_bits 64 (bit_or pending (word / 2 ^ count)) ≡ take 64 bits
 joined_bits count many pending word bits enough few within fits is_pending is_word =
     let front = take count bits in
@@ -122,7 +122,7 @@ zeros_near r fits all =
       | inr none ↦ ap (λ v. take r.count (number_bits 64 v)) (omega arith) ∙ ap (take r.count) (number_bits-zero 64) ∙ take-replicate r.count 64 false (omega (arith, r.few))
     ]
 
--- the bits behind zeros and a one, skipped one after the other
+-- the bits after zeros and a one, skipped one after the other
 pub behind_one : (bits : List Bool) (n : ℕ) (one rest : List Bool) → one ≡ drop n bits → rest ≡ drop 1 one → drop (n + 1) bits ≡ rest
 behind_one bits n one rest is_one is_rest =
     sym (is_rest ∙ ap (drop 1) is_one ∙ drop-drop 1 n bits)
@@ -135,7 +135,7 @@ byte_pending old new same none more end =
       | inr h ↦ omega arith
     ]
 
--- what is left behind zeros and a one
+-- what is left after zeros and a one
 pub rest_is : (bits : List Bool) (n : ℕ) (rest : List Bool) → bits ≡ replicate n false ++ true ∷ rest → drop (n + 1) bits ≡ rest
 rest_is bits n rest is =
     ap (drop (n + 1)) is ∙ ap (λ k. drop (k + 1) (replicate n false ++ true ∷ rest)) (sym (length-replicate n false)) ∙ drop-append-add (replicate n false) (true ∷ rest) 1

@@ -16,12 +16,12 @@ length-written w =
     let fits : w.at ≤ length w.out.now = omega arith in
     length-append (bits_of (take w.at w.out.now)) (number_bits w.count w.pending) ∙ omega (arith, length-bits_of (take w.at w.out.now), length-take-le w.at w.out.now fits, length-number_bits w.count w.pending)
 
--- a number written behind pending bits
+-- a number written after pending bits
 pub written_more : (front : List Bool) (count width pending value : ℕ) → value < 2 ^ width → front ++ number_bits (count + width) (pending * 2 ^ width + value) ≡ (front ++ number_bits count pending) ++ number_bits width value
 written_more front count width pending value fits =
     ap (λ bits. front ++ bits) (number_bits-joined count width pending value fits) ∙ sym (append_assoc front (number_bits count pending) (number_bits width value))
 
--- a word written behind whole bytes: the pending bits and the first of the new ones
+-- a word written after whole bytes: the pending bits and the first of the new ones
 pub word_written : (bytes word : List ℕ) (count rest pending value : ℕ) → count ≤ 64 → value / 2 ^ rest < 2 ^ (64 - count) → word ≡ to_be_bytes w64 (pending * 2 ^ (64 - count) + value / 2 ^ rest) → bits_of (bytes ++ word) ++ number_bits rest (value % 2 ^ rest) ≡ (bits_of bytes ++ number_bits count pending) ++ number_bits (64 - count + rest) value
 word_written bytes word count rest pending value few fits is =
     let e : 64 ≡ count + (64 - count) = omega arith in
@@ -30,17 +30,17 @@ word_written bytes word count rest pending value few fits is =
     let back : number_bits (64 - count) high ++ number_bits rest (value % 2 ^ rest) ≡ number_bits (64 - count + rest) value = ap (λ l. number_bits (64 - count) high ++ l) (number_bits-mod rest value) ∙ sym (number_bits-append (64 - count) rest value) in
     ap (λ front. front ++ number_bits rest (value % 2 ^ rest)) (bits_of-append bytes word ∙ ap (λ w. bits_of bytes ++ w) word_bits ∙ sym (append_assoc (bits_of bytes) (number_bits count pending) (number_bits (64 - count) high))) ∙ append_assoc (bits_of bytes ++ number_bits count pending) (number_bits (64 - count) high) (number_bits rest (value % 2 ^ rest)) ∙ ap (λ l. (bits_of bytes ++ number_bits count pending) ++ l) back
 
--- zeros behind zeros
+-- zeros after zeros
 pub zeros_more : (front : List Bool) (n m : ℕ) → (front ++ replicate n false) ++ number_bits m 0 ≡ front ++ replicate (n + m) false
 zeros_more front n m =
     append_assoc front (replicate n false) (number_bits m 0) ∙ ap (λ bits. front ++ (replicate n false ++ bits)) (number_bits-zero m) ∙ ap (λ bits. front ++ bits) (replicate-append-replicate n m false)
 
--- a one behind zeros
+-- a one after zeros
 pub one_more : (front : List Bool) (n m : ℕ) → (front ++ replicate n false) ++ number_bits (m + 1) 1 ≡ front ++ (replicate (n + m) false ++ true ∷ [])
 one_more front n m =
     append_assoc front (replicate n false) (number_bits (m + 1) 1) ∙ ap (λ bits. front ++ (replicate n false ++ bits)) (number_bits-one m) ∙ ap (λ bits. front ++ bits) (sym (append_assoc (replicate n false) (replicate m false) (true ∷ [])) ∙ ap (λ bits. bits ++ true ∷ []) (replicate-append-replicate n m false))
 
--- what stays behind more bits
+-- what stays after more bits
 pub SameBehind-more : (n m : ℕ) (old new : List ℕ) → n ≤ m → SameBehind n old new → SameBehind m old new
 SameBehind-more n m old new le same =
     let gap : (n + 7) / 8 + ((m + 7) / 8 - (n + 7) / 8) ≡ (m + 7) / 8 = omega arith in

@@ -38,7 +38,7 @@ bits_value (b ∷ bits) = bit b * 2 ^ length bits + bits_value bits
 unfoldable pub bytes_of : List Bool → List ℕ
 bytes_of bits = map (λ i. bits_value (take 8 (drop (8 * i) bits))) (range_with_len 0 (length bits / 8))
 
--- the first bits of a number of 64 are the first of a list, `count` or more of them, and zeros stand behind
+-- the first bits of a number of 64 are the first of a list, `count` or more of them, and zeros are after
 pub record IsAhead (count word : ℕ) (bits : List Bool) : Type 0 where
   pub many : ℕ
   pub enough : count ≤ many

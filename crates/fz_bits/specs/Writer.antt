@@ -20,6 +20,6 @@ buffer w = w.out.now
 abbrev pub room : BitWriter → ℕ
 room w = 8 * length (buffer w)
 
--- the bytes behind those that so many bits take are as before
+-- the bytes after those that so many bits take are as before
 abbrev pub SameBehind : ℕ → List ℕ → List ℕ → Type 0
 SameBehind n old new = drop ((n + 7) / 8) new ≡ drop ((n + 7) / 8) old

@@ -4,7 +4,7 @@
 ghost use Rattle.fz_bits.specs.Bits.{number_bits};
 ghost use Rattle.std.specs.Prelude.{◌≡◌, ℕ, ◌+◌, ◌-◌, ◌*◌, ◌/◌, ◌%◌, ◌^◌, ◌<◌, ◌≤◌, false, ◌++◌, take, drop, replicate};
 
-/// `high` with `width` bits of `low` behind it.
+/// `high` with `width` bits of `low` after it.
 #[inline]
 pub fn joined(high: u64, low: u64, width: u32) -> u64
     requires width { width < 64 }
@@ -34,7 +34,7 @@ pub fn first(bits: u64, width: u32) -> u32
     (bits >> 1 >> (63 - width)) as u32
 }
 
-/// The bits behind the first `width` of 64, and zeros behind them.
+/// The bits after the first `width` of 64, and zeros after them.
 #[inline]
 pub fn behind(bits: u64, width: u32) -> u64
     requires { width < 64 }

@@ -3,7 +3,37 @@
 
 ghost use Rattle.fz_bits.specs.Bits.{number_bits, bits_of, IsAhead};
 ghost use Rattle.std.specs.Int.Count.{count_leading_zeros};
-ghost use Rattle.std.specs.Prelude.{◌≡◌, ℕ, ◌+◌, ◌-◌, ◌*◌, ◌/◌, ◌%◌, ◌^◌, ◌<◌, ◌≤◌, ◌⊎◌, ◌↔◌, true, false, [], ◌∷◌, ◌++◌, length, take, drop, replicate, slice_index, ◌≢◌, MatchOption, IsTrue, IsErr, IfOk, OnErr, IsErrOf};
+ghost use Rattle.std.specs.Prelude.{
+  ◌≡◌,
+  ℕ,
+  ◌+◌,
+  ◌-◌,
+  ◌*◌,
+  ◌/◌,
+  ◌%◌,
+  ◌^◌,
+  ◌<◌,
+  ◌≤◌,
+  ◌⊎◌,
+  ◌↔◌,
+  true,
+  false,
+  [],
+  ◌∷◌,
+  ◌++◌,
+  length,
+  take,
+  drop,
+  replicate,
+  slice_index,
+  ◌≢◌,
+  MatchOption,
+  IsTrue,
+  IsErr,
+  IfOk,
+  OnErr,
+  IsErrOf,
+};
 
 use crate::fields::{behind, first};
 
@@ -11,7 +41,7 @@ use crate::fields::{behind, first};
 #[derive(Clone, Copy, Debug, PartialEq, Eq)]
 pub struct Ended;
 
-/// Why no run of zeros with a one behind it was read.
+/// Why no run of zeros with a one after it was read.
 #[derive(Clone, Copy, Debug, PartialEq, Eq)]
 pub enum ZeroStop {
     /// More zeros stand next than were allowed.
@@ -20,7 +50,7 @@ pub enum ZeroStop {
     Ended,
 }
 
-/// Reads bits from a lent slice, the most significant first. Behind the `count` bits that are pending,
+/// Reads bits from a lent slice, the most significant first. After the `count` bits that are pending,
 /// `pending` has zeros or the bits that come there.
 #[derive(Clone, Copy)]
 pub struct BitReader<'a> {
@@ -80,7 +110,7 @@ impl<'a> BitReader<'a> {
         Ok(value)
     }
 
-    /// Reads zeros, at most `max`, and the one behind them, and answers the number of zeros. A
+    /// Reads zeros, at most `max`, and the one after them, and answers the number of zeros. A
     /// refusal leaves the place as it was.
     #[inline]
     #[tactic(auto, using(crate::proofs::ReaderLemmas::lengths))]
@@ -110,7 +140,7 @@ impl<'a> BitReader<'a> {
     }
 
     /// Loads the next bits, and answers whether 56 of them are ready now. They are where eight bytes are
-    /// left behind those that were loaded before.
+    /// left after those that were loaded before.
     #[inline]
     #[tactic(auto, using(crate::proofs::ReaderLemmas::lengths))]
     pub fn load_word(&mut self) -> bool
@@ -234,13 +264,13 @@ impl<'a> BitReader<'a> {
         ensures unmoved { IsUnmoved self.old self.new }
         ensures count { 56 ≤ self.new.count }
     {
-        // Bits that were pending behind the `count` ones come once more.
+        // Bits that were pending after the `count` ones come once more.
         self.pending |= word_at(self.code, self.at) >> self.count;
         self.at += ((63 - self.count) / 8) as usize;
         self.count = self.count % 8 + 56;
     }
 
-    /// `refill` where fewer than eight bytes are left behind the loaded ones.
+    /// `refill` where fewer than eight bytes are left after the loaded ones.
     #[cold]
     #[inline(never)]
     #[tactic(auto, using(crate::proofs::ReaderLemmas::lengths))]
@@ -304,7 +334,7 @@ fn word_at(bytes: &[u8], at: usize) -> u64
     u64::from_be_bytes(word)
 }
 
-/// The number of fewer than eight bytes and zeros behind them.
+/// The number of fewer than eight bytes and zeros after them.
 #[cold]
 #[inline(never)]
 fn last_word(bytes: &[u8]) -> u64

@@ -2,7 +2,32 @@
 #![tactic(auto)]
 
 ghost use Rattle.fz_bits.specs.Bits.{number_bits, bits_of};
-ghost use Rattle.std.specs.Prelude.{◌≡◌, ℕ, ◌+◌, ◌-◌, ◌*◌, ◌/◌, ◌%◌, ◌^◌, ◌<◌, ◌≤◌, ◌↔◌, true, false, [], ◌∷◌, ◌++◌, length, take, drop, replicate, IsTrue, IsErr, OnOk, OnErr};
+ghost use Rattle.std.specs.Prelude.{
+  ◌≡◌,
+  ℕ,
+  ◌+◌,
+  ◌-◌,
+  ◌*◌,
+  ◌/◌,
+  ◌%◌,
+  ◌^◌,
+  ◌<◌,
+  ◌≤◌,
+  ◌↔◌,
+  true,
+  false,
+  [],
+  ◌∷◌,
+  ◌++◌,
+  length,
+  take,
+  drop,
+  replicate,
+  IsTrue,
+  IsErr,
+  OnOk,
+  OnErr,
+};
 
 use crate::fields::{back, joined};
 
@@ -172,7 +197,7 @@ impl<'a> BitWriter<'a> {
 }
 
 /// Writes the last `count` bits of `pending` and zeros to a whole byte from `at` on, and answers
-/// the place behind them.
+/// the place after them.
 fn finished(out: &mut [u8], at: usize, pending: u64, count: u32) -> usize
     requires few { count < 64 }
     requires fits { pending < 2 ^ count }

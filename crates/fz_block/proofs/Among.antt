@@ -4,7 +4,7 @@ use Rattle.std.specs.Option.{option_map}
 use Rattle.std.proofs.lemmas.List.{drop-drop, drop-take, take-take}
 use Rattle.fz_block.specs.Cards.{is_named, end_among}
 
--- what the search says of a card and of those behind it
+-- what the search says of a card and of those after it
 abbrev pub on_card : Bool → Option ℕ → Option ℕ
 on_card is_end later = if is_end then Some 0 else option_map suc later
 
@@ -22,7 +22,7 @@ behind m xs =
     let step : 80 + 80 * m ≡ 80 * suc m = omega arith in
     drop-drop (80 * m) 80 xs ∙ ap (λ n. drop n xs) step
 
--- a search that finds nothing among the first cards goes on behind them
+-- a search that finds nothing among the first cards goes on after them
 pub none_first : (m n : ℕ) (xs : List ℕ) → end_among m xs ≡ None → end_among (m + n) xs ≡ option_map (λ k. m + k) (end_among n (drop (80 * m) xs))
 unfolding end_among
 none_first zero n xs none = ap (λ k. end_among k xs) (zero-add n) ∙ sym (same (end_among n xs))
@@ -68,7 +68,7 @@ found_below (suc m) i xs found = by_card (is_named (codes "END") (take 80 xs)) (
         let small : j < m = below j refl in
         omega (arith, same, small)
 
--- what stands behind the cards is not looked at
+-- what is after the cards is not looked at
 pub among_take : (n k : ℕ) (xs : List ℕ) → 80 * n ≤ k → end_among n (take k xs) ≡ end_among n xs
 unfolding end_among
 among_take zero k xs h = refl

@@ -52,7 +52,7 @@ joined_length (c ∷ cards) all =
     let rest = joined_length cards (All-tail IsCardBeforeEnd c cards all) in
     omega (arith, length-append c (joined cards), is.long, rest)
 
--- the first END stands behind them
+-- the first END is after them
 end_behind : (cards : List (List ℕ)) (more : ℕ) (rest : List ℕ) → All IsCardBeforeEnd cards → end_among (suc more) rest ≡ Some 0 →
     end_among (length cards + suc more) (joined cards ++ rest) ≡ Some (length cards)
 unfolding end_among

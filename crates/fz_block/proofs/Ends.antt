@@ -4,7 +4,7 @@ use Rattle.std.specs.Option.{option_map}
 use Rattle.std.proofs.lemmas.List.{drop-drop}
 use Rattle.fz_block.specs.Cards.{card_at, is_named, end_among}
 
--- what the search behind so many cards says of all of them
+-- what the search after so many cards says of all of them
 abbrev pub from : ℕ → Option ℕ → Option ℕ
 from i found = option_map (λ k. i + k) found
 

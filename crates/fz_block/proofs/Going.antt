@@ -16,7 +16,7 @@ use Rattle.fz_block.proofs.HduLemmas.{answered, blocks_inside, is_answered, bloc
 use Rattle.fz_block.proofs.Stops.{says_on}
 use Rattle.fz_block.proofs.Walks.{walked, first_false, second_false}
 
--- what a walk says of the first HDU that it passed: it ended there, or went on behind it
+-- what a walk says of the first HDU that it passed: it ended there, or went on after it
 abbrev pub GoesOn : Judge → ℕ → ℕ → List ℕ → Header → List Header → Type 0
 GoesOn judge more k file h hs =
     ((hs ≡ []) × (judge h ≡ Ok false → (next_start_of h == length file) ≡ true))
@@ -76,7 +76,7 @@ only_last judge (suc more) k start file (j ∷ hs) h is = elim ((went judge more
   | inr go ↦ ap (λ (r : Result Bool Fault). is_stop r || stops judge hs) go.0 ∙ only_last judge more (suc k) (next_start_of j) file hs h go.2
 ]
 
--- a job that stops at an HDU looks at none behind it
+-- a job that stops at an HDU looks at none after it
 pub stops_there : (judge : Judge) (most k start : ℕ) (file : List ℕ) (hs later : List Header) (h : Header) → walk_from unjudged most k start file ≡ Ok (hs ++ h ∷ later) →
     RefusesNone judge hs → stops judge hs ≡ false → judge h ≡ Ok true → walk_from judge most k start file ≡ Ok (hs ++ h ∷ [])
 unfolding walk_from
@@ -177,7 +177,7 @@ long_there : (file : List ℕ) (h : Header) → next_start_of h ≤ length file 
 long_there file h within =
     omega (arith, within, length-append (hdu_of file h).header (hdu_of file h).payload, its_payload file h within, length-take (2880 * h.blocks) (drop h.start file), length-drop h.start file)
 
--- what is behind the first
+-- what is after the first
 rest_pass : (judge : Judge) (more k : ℕ) (file : List ℕ) (h : Header) (hs : List Header) → GoesOn judge more k file h hs →
     (walk_from judge more (suc k) (next_start_of h) file ≡ Ok hs → PassFrom (suc k) (next_start_of h) (length file) (map (hdu_of file) hs)) →
     PassFrom (suc k) (next_start_of h) (length file) (map (hdu_of file) hs)

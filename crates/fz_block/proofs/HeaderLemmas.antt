@@ -34,7 +34,7 @@ unfolding header_of
 not_whole k start len header whole =
     ap (unless_refused (facts_of k start header)) (first_fails (ends_in_last_block header) (refusal k (Card 0) BadCard) (mandatory_checks k header ++ (group_checks k header ++ end_checks k len (hdu_end k start header))) whole)
 
--- the checks behind the mandatory cards
+-- the checks after the mandatory cards
 after_whole : (k start len : ℕ) (header : List ℕ) → ends_in_last_block header ≡ true →
     first_refusal (header_checks k start len header) ≡ first_refusal (mandatory_checks k header ++ (group_checks k header ++ end_checks k len (hdu_end k start header)))
 after_whole k start len header whole = first_check (ends_in_last_block header) (refusal k (Card 0) BadCard) (mandatory_checks k header ++ (group_checks k header ++ end_checks k len (hdu_end k start header))) whole

@@ -1,4 +1,4 @@
--- HDUs that pass the checks of every job, one behind another, are those that a walk finds.
+-- HDUs that pass the checks of every job, one after another, are those that a walk finds.
 use Rattle.std.proofs.Common.{◌≡◌, ℕ, zero, suc, ◌+◌, ◌*◌, ◌/◌, ◌<◌, ◌≤◌, ◌^◌, ◌==◌, IsOk, true, false, List, [], ◌∷◌, ◌++◌, length, take, drop, Option, Some, None, Ok, if◌then◌else◌, refl, sym, subst, ◌∙◌, ap, arith}
 use Rattle.std.specs.List.{flat_map}
 use Rattle.std.specs.Result.{result_map_both}
@@ -41,14 +41,14 @@ found_at : (k start : ℕ) (file : List ℕ) (h : Hdu) (rest : List ℕ) → Pas
 found_at k start file h rest pass there =
     found_header k start file h.header (stands_at k start file h rest pass there) ∙ ok_facts k start (length file) h.header pass.checks
 
--- the HDU behind it begins behind its bytes
+-- the HDU after it begins after its bytes
 next_there : (k start : ℕ) (h : Hdu) → IsHdu k h → next_start_of (facts_of k start h.header) ≡ start + length (hdu_bytes h)
 next_there k start h is =
     let long : length h.header ≡ 2880 * (is.header.before + 1) = is.header.blocks in
     let blocks : 2880 * (length h.header / 2880) ≡ length h.header = omega (arith, long) in
     ap (λ n. start + n + whole_blocks_of (data_len_of k h.header)) blocks ∙ (ap (λ n. start + length h.header + n) (sym is.payload) ∙ omega (arith, length-append h.header h.payload))
 
--- the rest of a file, behind what stands at a byte of it
+-- the rest of a file, after what stands at a byte of it
 rest_there : (start : ℕ) (file a b : List ℕ) → drop start file ≡ a ++ b → drop (start + length a) file ≡ b
 rest_there start file a b there = sym (drop-drop (length a) start file) ∙ (ap (drop (length a)) there ∙ drop-append_seam a b)
 

@@ -94,7 +94,7 @@ passes_too judge (h ∷ (j ∷ hs)) pass never = (
   passes_too judge (j ∷ hs) pass.1 (second_false (is_stop (judge h)) (stops judge (j ∷ hs)) never),
 )
 
--- a stop is said behind the last
+-- a stop is said after the last
 pub stopped_after : (judge : Judge) (n k start end : ℕ) (file : List ℕ) (hs : List Header) → AreHeadersBetween k start end file hs → n ≡ k + length hs → SaysSo judge (stop_after n) hs
 stopped_after judge n k start end file [] headers count = tt
 stopped_after judge n k start end file (h ∷ []) headers count =

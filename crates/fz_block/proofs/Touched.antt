@@ -41,12 +41,12 @@ none_begins k start b g begins searched =
     (refusal k (Byte start) Limit) (refusal k (Byte start) TrailingBytes) (refusal k (Byte (length g)) Truncated) (refusal k (Card 0) NotFits)
     may.0 may.1 room (searched.simple (omega arith))
 
--- a card behind so many
+-- a card after so many
 behind : (n i : ℕ) (found : Option ℕ) → Some i ≡ option_map (λ j. n + j) found → n ≤ i
 behind n i None e = absurd cc
 behind n i (Some j) e = let same : i ≡ n + j = cc in omega (arith, same)
 
--- END stands behind the blocks that have none
+-- END is after the blocks that have none
 end_behind : (start b i : ℕ) (g : List ℕ) → b ≤ 256 → start + 2880 * b ≤ length g → end_of (take (2880 * b) (drop start g)) ≡ None →
     end_of (header_room start g) ≡ Some i → 36 * b ≤ i
 end_behind start b i g few within none end =

@@ -66,7 +66,7 @@ pub record Walked (judge : Judge) (k start most : ℕ) (file : List ℕ) (hs : L
   pub some : 0 < length hs
   pub few : length hs ≤ most
 
--- the bytes of an HDU, and those behind it
+-- the bytes of an HDU, and those after it
 bytes_apart : (start a w : ℕ) (file : List ℕ) → (take a (drop start file) ++ take w (drop (start + a) file)) ++ drop (start + a + w) file ≡ drop start file
 bytes_apart start a w file =
     let one : take w (drop (start + a) file) ++ drop (start + a + w) file ≡ drop (start + a) file =

@@ -60,7 +60,7 @@ behind_none : (m i : ℕ) (later : Option ℕ) → Some i ≡ option_map (λ k. 
 behind_none m i None e = absurd cc
 behind_none m i (Some k) e = let same : i ≡ m + k = cc in omega (arith, same)
 
--- a card that is found is behind those among which none is
+-- a card that is found is after those among which none is
 behind_cards : (m n i : ℕ) (xs : List ℕ) → end_among m xs ≡ None → m ≤ n → end_among n xs ≡ Some i → m ≤ i
 behind_cards m n i xs none few found =
     let more : m + (n - m) ≡ n = omega (arith, few) in

@@ -38,7 +38,7 @@ naxis_of header = size_at header 2
 abbrev pub axes_of : List ℕ → List ℕ
 axes_of header = map (size_at header) (range_with_len 3 (naxis_of header))
 
--- the indexes of PCOUNT and GCOUNT, which stand behind the axes of an extension
+-- the indexes of PCOUNT and GCOUNT, which are after the axes of an extension
 abbrev pub pcount_index : List ℕ → ℕ
 pcount_index header = 3 + naxis_of header
 
@@ -91,11 +91,11 @@ cards_of header = map (card_at header) (range_with_len 0 (unwrap_or (end_of head
 abbrev pub header_bytes : List (List ℕ) → List ℕ
 header_bytes cards = filled (whole_blocks_of (80 * (length cards + 1))) (flat_map (λ c. c) cards ++ codes "END")
 
--- the byte behind the letters END
+-- the byte after the letters END
 abbrev pub behind_end : List ℕ → ℕ
 behind_end header = 80 * unwrap_or (end_of header) 0 + 3
 
--- only blanks stand behind the letters END
+-- only blanks are after the letters END
 abbrev pub HasBlankFill : List ℕ → Type 0
 HasBlankFill header = drop (behind_end header) header ≡ blanks (length header - behind_end header)
 

@@ -36,7 +36,7 @@ pub record PassesAt (k start len : ℕ) (h : Hdu) : Type 0 where
   pub begins : begins_hdu k h.header ≡ true
   pub checks : IsOk (header_of k start len h.header)
 
--- HDUs from number k on that pass them, one behind another from this byte on
+-- HDUs from number k on that pass them, one after another from this byte on
 abbrev pub PassFrom : ℕ → ℕ → ℕ → List Hdu → Type 0
 PassFrom k start len [] = ⊤
 PassFrom k start len (h ∷ hs) = PassesAt k start len h × PassFrom (suc k) (start + length (hdu_bytes h)) len hs
@@ -71,6 +71,6 @@ abbrev pub RefusesNone : Judge → List Header → Type 0
 RefusesNone judge [] = ⊤
 RefusesNone judge (h ∷ hs) = IsOk (judge h) × RefusesNone judge hs
 
--- no checks of its own, and a stop behind so many HDUs
+-- no checks of its own, and a stop after so many HDUs
 abbrev pub stop_after : ℕ → Judge
 stop_after n h = Ok (suc h.hdu == n)

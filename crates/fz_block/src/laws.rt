@@ -1,5 +1,30 @@
 //! What the definitions of headers and of HDUs promise together.
-ghost use Rattle.std.specs.Prelude.{◌≡◌, All, Bool, true, false, ℕ, Some, None, ◌+◌, ◌*◌, ◌/◌, ◌^◌, ◌≤◌, ◌<◌, Ok, List, [], ◌∷◌, ◌++◌, length, take, drop, map, codes};
+ghost use Rattle.std.specs.Prelude.{
+  ◌≡◌,
+  All,
+  Bool,
+  true,
+  false,
+  ℕ,
+  Some,
+  None,
+  ◌+◌,
+  ◌*◌,
+  ◌/◌,
+  ◌^◌,
+  ◌≤◌,
+  ◌<◌,
+  Ok,
+  List,
+  [],
+  ◌∷◌,
+  ◌++◌,
+  length,
+  take,
+  drop,
+  map,
+  codes,
+};
 ghost use Rattle.std.specs.List.{flat_map, position};
 ghost use Rattle.std.specs.Option.{option_map};
 ghost use Rattle.std.specs.Result.{result_map_both};
@@ -11,7 +36,18 @@ ghost use Rattle.fz_block.specs.Facts.{IsHeaderOf, begun_at, facts_as};
 ghost use Rattle.fz_block.specs.Hdus.{Hdu, hdu_bytes, IsHeader, IsHdu, AreHdusOf, IsCardBeforeEnd, HasBlankFill, cards_of, header_bytes, size_at};
 ghost use Rattle.fz_block.specs.Header.{whole_blocks_of, data_start_of, next_start_of};
 ghost use Rattle.fz_block.specs.Mandatory.{mandatory_checks};
-ghost use Rattle.fz_block.specs.Walk.{hdu_of, StandsAt, PassesAt, PassFrom, facts_from, AreHeadersBetween, AreHeadersFrom, stops, RefusesNone, stop_after};
+ghost use Rattle.fz_block.specs.Walk.{
+  hdu_of,
+  StandsAt,
+  PassesAt,
+  PassFrom,
+  facts_from,
+  AreHeadersBetween,
+  AreHeadersFrom,
+  stops,
+  RefusesNone,
+  stop_after,
+};
 ghost use Rattle.fz_block.specs.declared.header.Header.{Header};
 
 /// A header that stands at its place in a file, with its data and their fill in the file, is the header
@@ -28,7 +64,9 @@ pub fn hdu_law()
 pub fn cards_law()
     ensures bytes { (header : List ℕ) → IsHeader header → HasBlankFill header → header_bytes (cards_of header) ≡ header }
     ensures cards { (cards : List (List ℕ)) → All IsCardBeforeEnd cards → cards_of (header_bytes cards) ≡ cards }
-    ensures header { (cards : List (List ℕ)) → All IsCardBeforeEnd cards → IsHeader (header_bytes cards) × HasBlankFill (header_bytes cards) × (length (header_bytes cards) ≡ whole_blocks_of (80 * (length cards + 1))) }
+    ensures header { (cards : List (List ℕ)) → All IsCardBeforeEnd cards → IsHeader (header_bytes cards)
+        × HasBlankFill (header_bytes cards)
+        × (length (header_bytes cards) ≡ whole_blocks_of (80 * (length cards + 1))) }
     ensures first { (has : List ℕ → Bool) (header : List ℕ) → first_card has header ≡ position has (cards_of header) }
 {}
 
@@ -36,7 +74,8 @@ pub fn cards_law()
 pub fn first_card_law()
     ensures found { (has : List ℕ → Bool) (n i : ℕ) (cards : List ℕ) → i < n → has (card_at cards i) ≡ true
         → ((k : ℕ) → k < i → has (card_at cards k) ≡ false) → first_among has n cards ≡ Some i }
-    ensures none { (has : List ℕ → Bool) (n : ℕ) (cards : List ℕ) → ((k : ℕ) → k < n → has (card_at cards k) ≡ false) → first_among has n cards ≡ None }
+    ensures none { (has : List ℕ → Bool) (n : ℕ) (cards : List ℕ) → ((k : ℕ) → k < n → has (card_at cards k) ≡ false)
+        → first_among has n cards ≡ None }
 {}
 
 /// All facts of a header but where it begins are those of its bytes: they are the same at another place,
@@ -61,53 +100,71 @@ pub fn number_law()
 /// are made of its bytes.
 pub fn found_law()
     ensures blocks { (k start : ℕ) (file header : List ℕ) → StandsAt k start file header → header_blocks_of k start file ≡ Ok (length header / 2880) }
-    ensures header { (k start : ℕ) (file header : List ℕ) → StandsAt k start file header → hdu_at k start file ≡ header_of k start (length file) header }
+    ensures header { (k start : ℕ) (file header : List ℕ) → StandsAt k start file header
+        → hdu_at k start file ≡ header_of k start (length file) header }
 {}
 
 /// A header that the checks of every job find at a place: it is the header of that HDU there, it has the blocks
 /// that the search finds, and where it begins the file its axes are as many as card 2 of the file says. A walk
 /// finds each of its headers so.
 pub fn hdu_at_law()
-    ensures facts { (k start : ℕ) (file : List ℕ) (h : Header) → hdu_at k start file ≡ Ok h → (h.hdu ≡ k) × (h.start ≡ start) × IsHeaderOf (hdu_of file h).header h }
+    ensures facts { (k start : ℕ) (file : List ℕ) (h : Header) → hdu_at k start file ≡ Ok h
+        → (h.hdu ≡ k) × (h.start ≡ start) × IsHeaderOf (hdu_of file h).header h }
     ensures blocks { (k start : ℕ) (file : List ℕ) (h : Header) → hdu_at k start file ≡ Ok h → header_blocks_of k start file ≡ Ok h.blocks }
     ensures axes { (file : List ℕ) (h : Header) → hdu_at 0 0 file ≡ Ok h → h.axes.n ≡ size_at file 2 }
-    ensures walk { (judge : Judge) (most : ℕ) (file : List ℕ) (hs : List Header) → walk_of judge most file ≡ Ok hs → All (λ h. hdu_at h.hdu h.start file ≡ Ok h) hs }
+    ensures walk { (judge : Judge) (most : ℕ) (file : List ℕ) (hs : List Header) → walk_of judge most file ≡ Ok hs
+        → All (λ h. hdu_at h.hdu h.start file ≡ Ok h) hs }
 {}
 
 /// A header that is read once more into a buffer with room for it is the one of the first reading: it is
 /// answered where it passes the checks, and no other is.
 pub fn again_law()
-    ensures room { (room k start : ℕ) (file : List ℕ) (h : Header) → hdu_at k start file ≡ Ok h → 2880 * h.blocks ≤ room → hdu_again_at room k start file ≡ Ok h }
-    ensures found { (room k start : ℕ) (file : List ℕ) (h : Header) → hdu_again_at room k start file ≡ Ok h → (hdu_at k start file ≡ Ok h) × (2880 * h.blocks ≤ room) }
+    ensures room { (room k start : ℕ) (file : List ℕ) (h : Header) → hdu_at k start file ≡ Ok h → 2880 * h.blocks ≤ room
+        → hdu_again_at room k start file ≡ Ok h }
+    ensures found { (room k start : ℕ) (file : List ℕ) (h : Header) → hdu_again_at room k start file ≡ Ok h
+        → (hdu_at k start file ≡ Ok h) × (2880 * h.blocks ≤ room) }
 {}
 
 /// A walk over HDUs, which makes the checks of every job and then those of a job for one HDU after
 /// another, and may stop: it passes what the checks of every job pass up to there, finds the first HDUs
 /// of the file, and all of them where it does not stop.
 pub fn walk_law()
-    ensures headers { (judge : Judge) (most : ℕ) (file : List ℕ) (hs : List Header) → walk_of judge most file ≡ Ok hs → (0 < length hs) × (length hs ≤ most) × RefusesNone judge hs × ((end : ℕ) × (end ≤ length file) × AreHeadersBetween 0 0 end file hs) }
-    ensures up_to { (judge : Judge) (most : ℕ) (file : List ℕ) (hs : List Header) → walk_of judge most file ≡ Ok hs → walk_of (stop_after (length hs)) most file ≡ Ok hs }
-    ensures begins { (judge : Judge) (most : ℕ) (file : List ℕ) (hs : List Header) (ks : List Hdu) → walk_of judge most file ≡ Ok hs → AreHdusOf file ks → take (length hs) ks ≡ map (hdu_of file) hs }
-    ensures whole { (judge : Judge) (most : ℕ) (file : List ℕ) (hs : List Header) → walk_of judge most file ≡ Ok hs → stops judge hs ≡ false → headers_of most file ≡ Ok hs }
+    ensures headers { (judge : Judge) (most : ℕ) (file : List ℕ) (hs : List Header) → walk_of judge most file ≡ Ok hs
+        → (0 < length hs) × (length hs ≤ most) × RefusesNone judge hs
+        × ((end : ℕ) × (end ≤ length file) × AreHeadersBetween 0 0 end file hs) }
+    ensures up_to { (judge : Judge) (most : ℕ) (file : List ℕ) (hs : List Header) → walk_of judge most file ≡ Ok hs
+        → walk_of (stop_after (length hs)) most file ≡ Ok hs }
+    ensures begins { (judge : Judge) (most : ℕ) (file : List ℕ) (hs : List Header) (ks : List Hdu)
+        → walk_of judge most file ≡ Ok hs → AreHdusOf file ks → take (length hs) ks ≡ map (hdu_of file) hs }
+    ensures whole { (judge : Judge) (most : ℕ) (file : List ℕ) (hs : List Header) → walk_of judge most file ≡ Ok hs
+        → stops judge hs ≡ false → headers_of most file ≡ Ok hs }
 {}
 
 /// What a walk says of the HDUs that it finds: each passes the checks of every job where it stands, the
 /// file begins with the card SIMPLE and the value T, and the walk stops at no HDU but the last.
 pub fn found_hdus_law()
-    ensures pass { (judge : Judge) (most : ℕ) (file : List ℕ) (hs : List Header) → walk_of judge most file ≡ Ok hs → PassFrom 0 0 (length file) (map (hdu_of file) hs) }
-    ensures simple { (judge : Judge) (most : ℕ) (file : List ℕ) (hs : List Header) → walk_of judge most file ≡ Ok hs → is_set (codes "SIMPLE") (card_at file 0) ≡ true }
-    ensures last { (judge : Judge) (most : ℕ) (file : List ℕ) (hs : List Header) (h : Header) → walk_of judge most file ≡ Ok (hs ++ h ∷ []) → stops judge hs ≡ false }
+    ensures pass { (judge : Judge) (most : ℕ) (file : List ℕ) (hs : List Header) → walk_of judge most file ≡ Ok hs
+        → PassFrom 0 0 (length file) (map (hdu_of file) hs) }
+    ensures simple { (judge : Judge) (most : ℕ) (file : List ℕ) (hs : List Header) → walk_of judge most file ≡ Ok hs
+        → is_set (codes "SIMPLE") (card_at file 0) ≡ true }
+    ensures last { (judge : Judge) (most : ℕ) (file : List ℕ) (hs : List Header) (h : Header)
+        → walk_of judge most file ≡ Ok (hs ++ h ∷ []) → stops judge hs ≡ false }
 {}
 
-/// HDUs that pass the checks of every job, one behind another, are those that a walk finds in the file
+/// HDUs that pass the checks of every job, one after another, are those that a walk finds in the file
 /// of their bytes; and a job that refuses none of them, and does not stop, finds them too.
 pub fn passing_law()
     ensures parts { (start len : ℕ) (hs : List Hdu) → PassFrom 0 start len hs → AreHdusOf (flat_map hdu_bytes hs) hs }
-    ensures walk { (most : ℕ) (file : List ℕ) (hs : List Hdu) → flat_map hdu_bytes hs ≡ file → 0 < length hs → length hs ≤ most → PassFrom 0 0 (length file) hs
+    ensures walk { (most : ℕ) (file : List ℕ) (hs : List Hdu) → flat_map hdu_bytes hs ≡ file → 0 < length hs
+        → length hs ≤ most → PassFrom 0 0 (length file) hs
         → (headers_of most file ≡ Ok (facts_from 0 0 hs)) × (map (hdu_of file) (facts_from 0 0 hs) ≡ hs) }
-    ensures judged { (judge : Judge) (most : ℕ) (file : List ℕ) (hs : List Header) → headers_of most file ≡ Ok hs → RefusesNone judge hs → stops judge hs ≡ false → walk_of judge most file ≡ Ok hs }
-    ensures stopped { (judge : Judge) (most : ℕ) (file : List ℕ) (hs later : List Header) (h : Header) → headers_of most file ≡ Ok (hs ++ h ∷ later) → RefusesNone judge hs → stops judge hs ≡ false → judge h ≡ Ok true → walk_of judge most file ≡ Ok (hs ++ h ∷ []) }
-    ensures moved { (k start len start' len' : ℕ) (h : Hdu) → PassesAt k start len h → start' + length (hdu_bytes h) ≤ len' → start' + length (hdu_bytes h) ≤ 2 ^ 62 → PassesAt k start' len' h }
+    ensures judged { (judge : Judge) (most : ℕ) (file : List ℕ) (hs : List Header) → headers_of most file ≡ Ok hs
+        → RefusesNone judge hs → stops judge hs ≡ false → walk_of judge most file ≡ Ok hs }
+    ensures stopped { (judge : Judge) (most : ℕ) (file : List ℕ) (hs later : List Header) (h : Header)
+        → headers_of most file ≡ Ok (hs ++ h ∷ later) → RefusesNone judge hs → stops judge hs ≡ false
+        → judge h ≡ Ok true → walk_of judge most file ≡ Ok (hs ++ h ∷ []) }
+    ensures moved { (k start len start' len' : ℕ) (h : Hdu) → PassesAt k start len h
+        → start' + length (hdu_bytes h) ≤ len' → start' + length (hdu_bytes h) ≤ 2 ^ 62 → PassesAt k start' len' h }
     ensures numbered { (j k start len : ℕ) (h : Hdu) → PassesAt j start len h → 0 < j → 0 < k → k < 65536 → PassesAt k start len h }
 {}
 
@@ -115,7 +172,9 @@ pub fn passing_law()
 /// of HDUs.
 pub fn hdu_list_law()
     ensures walk { (most : ℕ) (file : List ℕ) (hs : List Header) → headers_of most file ≡ Ok hs → AreHdusOf file (map (hdu_of file) hs) }
-    ensures headers { (most : ℕ) (file : List ℕ) (hs : List Header) → headers_of most file ≡ Ok hs → (0 < length hs) × (length hs ≤ most) × AreHeadersFrom 0 0 file hs }
+    ensures headers { (most : ℕ) (file : List ℕ) (hs : List Header) → headers_of most file ≡ Ok hs
+        → (0 < length hs) × (length hs ≤ most) × AreHeadersFrom 0 0 file hs }
     ensures one { (file : List ℕ) (hs ks : List Hdu) → AreHdusOf file hs → AreHdusOf file ks → hs ≡ ks }
-    ensures converse { (most : ℕ) (file : List ℕ) (hs : List Header) (ks : List Hdu) → headers_of most file ≡ Ok hs → AreHdusOf file ks → ks ≡ map (hdu_of file) hs }
+    ensures converse { (most : ℕ) (file : List ℕ) (hs : List Header) (ks : List Hdu) → headers_of most file ≡ Ok hs
+        → AreHdusOf file ks → ks ≡ map (hdu_of file) hs }
 {}

@@ -124,7 +124,7 @@ fn axis(buf: &[u8], hdu: u32, i: u32) -> Result<u32, Fault>
     Ok(n as u32)
 }
 
-// PCOUNT and GCOUNT, which stand behind the n axes of an extension.
+// PCOUNT and GCOUNT, which are after the n axes of an extension.
 fn counts(buf: &[u8], hdu: u32, n: u32) -> Result<(u64, u64), Fault>
     requires buf { 2880 ≤ len buf.now }
     requires axes { (n ≡ naxis_of buf.now) × (n ≤ 9) }
@@ -142,7 +142,9 @@ fn counts(buf: &[u8], hdu: u32, n: u32) -> Result<(u64, u64), Fault>
 // What the card of this index says, if it has the name and says a number that is 0 or more.
 fn size(buf: &[u8], hdu: u32, i: u32, name: Name) -> Result<u64, Fault>
     requires { 80 * (i + 1) ≤ len buf.now }
-    ensures exact { MatchResult result (λ _. has_size name.bytes (card_at buf.now i) ≡ true) (λ x. (has_size name.bytes (card_at buf.now i) ≡ false) × (x ≡ refusal hdu (AtCard i) BadCard)) }
+    ensures exact { MatchResult result
+        (λ _. has_size name.bytes (card_at buf.now i) ≡ true)
+        (λ x. (has_size name.bytes (card_at buf.now i) ≡ false) × (x ≡ refusal hdu (AtCard i) BadCard)) }
     ensures value { IfOk result (λ n. n ≡ size_at buf.now i) }
 {
     let found = card(buf, i);

@@ -43,8 +43,10 @@ pub fn header_at<S: Source>(
     ensures within { IfOk result (λ r. (next_start_of r.facts ≤ length) × (next_start_of r.facts ≤ 2 ^ 62)) }
     ensures taken { IfOk result (λ r. (meter.old.live + len r.bytes ≤ meter.old.limit) × (meter.new ≡ taken meter.old (len r.bytes))) }
     ensures given { OnErr result ((meter.new.live ≡ meter.old.live) × (meter.new.limit ≡ meter.old.limit) × (meter.old.peak ≤ meter.new.peak)) }
-    ensures first_past { IfSome (S.held source.old) (λ g. TellsFirstPast meter.old.limit (header_taking meter.old.live (header_blocks_of hdu start g)) result) }
-    ensures peak { IfSome (S.held source.old) (λ g. meter.new.peak ≤ max meter.old.peak (highest (header_taking meter.old.live (header_blocks_of hdu start g)))) }
+    ensures first_past { IfSome (S.held source.old)
+        (λ g. TellsFirstPast meter.old.limit (header_taking meter.old.live (header_blocks_of hdu start g)) result) }
+    ensures peak { IfSome (S.held source.old)
+        (λ g. meter.new.peak ≤ max meter.old.peak (highest (header_taking meter.old.live (header_blocks_of hdu start g)))) }
     ensures most { meter.new.peak ≤ max meter.old.peak (meter.old.live + 737280) }
     ensures limit { TellsLimit meter.old.limit (meter.old.live + 737280) result }
     ensures log { LogsWithin start (min length (start + 737280)) (S.ranges source.old) (S.ranges source.new) }

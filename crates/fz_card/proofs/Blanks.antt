@@ -18,13 +18,13 @@ length-padded name fits = length-filled 8 name fits
 pub length-front : (n len : ℕ) (bytes text : List ℕ) → take len bytes ≡ text → length bytes ≡ n → len ≤ n → length text ≡ len
 length-front n len bytes text front size within = sym (ap length front) ∙ length-take-le len bytes (omega arith)
 
--- a line whose bytes are blank behind a text is that text, filled
+-- a line whose bytes are blank after a text is that text, filled
 pub line-filled : (n len : ℕ) (bytes text : List ℕ) → take len bytes ≡ text → length bytes ≡ n → len ≤ n → drop len bytes ≡ blanks (n - len) → bytes ≡ filled n text
 line-filled n len bytes text front size within rest =
     let long : length text ≡ len = length-front n len bytes text front size within in
     rw (long, ← rest, ← front) (sym (take-append-drop len bytes))
 
--- the blanks behind a line's first bytes, some bytes further on
+-- the blanks after a line's first bytes, some bytes further on
 pub drop-blanks : (n len more : ℕ) (bytes : List ℕ) → drop len bytes ≡ blanks (n - len) → drop (len + more) bytes ≡ blanks (n - (len + more))
 drop-blanks n len more bytes rest =
     let gap : n - len - more ≡ n - (len + more) = omega arith in

@@ -19,7 +19,7 @@ length-logical_text false = omega arith
 pub text_line : (name text line quoted front filled_text all : List ℕ) → line ≡ name ++ codes "= " → quoted ≡ line ++ codes "'" → front ≡ quoted ++ text → filled_text ≡ front ++ blanks (8 - length text) → all ≡ filled_text ++ codes "'" → all ≡ name ++ (codes "= " ++ (codes "'" ++ (filled 8 text ++ codes "'")))
 text_line name text line quoted front filled_text all e1 e2 e3 e4 e5 = rw (e5, e4, e3, e2, e1) (simp append_assoc)
 
--- what stands behind the name of a card that is made
+-- what is after the name of a card that is made
 behind_name : (name field : List ℕ) → length name ≡ 8 → drop 8 (value_card name field) ≡ codes "= " ++ (field ++ blanks (80 - length (name ++ (codes "= " ++ field))))
 behind_name name field eight =
     let rest = blanks (80 - length (name ++ (codes "= " ++ field))) in
@@ -29,7 +29,7 @@ made_field : (name field : List ℕ) → length name ≡ 8 → value_field (valu
 made_field name field eight =
     sym (drop-drop 2 8 (value_card name field)) ∙ ap (drop 2) (behind_name name field eight)
 
--- a card that is made has the text that was put into it behind blanks
+-- a card that is made has the text that was put into it after blanks
 pub made_value : (name : List ℕ) (before : ℕ) (text : List ℕ) → length name ≡ 8 → HasValueText (value_card name (blanks before ++ text)) text
 made_value name before text eight =
     let count = 80 - length (name ++ (codes "= " ++ (blanks before ++ text))) in
@@ -95,7 +95,7 @@ pub length-text_card_bytes : (name text : List ℕ) → length name ≡ 8 → le
 unfolding text_card_bytes
 length-text_card_bytes name text eight fits = length-value_card name (codes "'" ++ (filled 8 text ++ codes "'")) eight (omega (arith, length-append (filled 8 text) (codes "'"), length-append text (blanks (8 - length text)), length-blanks (8 - length text)))
 
--- a stem and the digits that fit behind it
+-- a stem and the digits that fit after it
 pub fits_digits : (stem : List ℕ) (i : ℕ) → FitsName stem i → length stem + length (decimal i) ≤ 8
 fits_digits stem i fits =
     let room : 8 - length stem ≤ 8 = omega arith in

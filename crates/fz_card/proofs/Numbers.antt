@@ -1,4 +1,4 @@
--- The number behind a stem: the function gives it exactly where the name is made of it.
+-- The number after a stem: the function gives it exactly where the name is made of it.
 use Rattle.std.proofs.Common.{◌≡◌, ℕ, zero, suc, ◌-◌, ◌^◌, ◌<◌, ◌≤◌, Bool, true, false, cond, eqb, ltb, List, [], ◌∷◌, ◌++◌, length, take, drop, get_or, sym, refl, ap, ◌∙◌, subst, arith}
 use Rattle.std.specs.Prelude.{◌&&◌, Option, Some, None, bytes_eq}
 use Rattle.std.specs.Int.{IsInRange}
@@ -90,7 +90,7 @@ length-cut_blanks bs =
     let h = cut_blanks-before bs in
     omega (arith, ap length h.parts, length-append (cut_blanks bs) (blanks h.count))
 
--- the number of a name of 8 bytes is short, and its digits stand behind the stem
+-- the number of a name of 8 bytes is short, and its digits are after the stem
 pub number_short : (stem name : List ℕ) (i : ℕ) → length name ≡ 8 → HasNumber stem name i → i < 10 ^ 8
 number_short stem name i eight has =
     subst (λ (k : ℕ). k < 10 ^ 8) has.value (digits_value_short digits (cut_blanks (drop (length stem) name)) 8 has.digits_are (omega (arith, length-cut_blanks (drop (length stem) name), length-drop (length stem) name)))
@@ -103,7 +103,7 @@ pub none_from : {X : Type 0} (o : Option X) → ((x : X) → ¬ (o ≡ Some x)) 
 none_from None never = refl
 none_from (Some x) never = absurd (never x refl)
 
--- a name without the stem has no number behind it
+-- a name without the stem has no number after it
 pub number_behind-other : (stem name : List ℕ) → bytes_eq (take (length stem) name) stem ≡ false → None ≡ number_behind stem name
 number_behind-other stem name other =
     sym (none_from (number_behind stem name) (λ i e.
@@ -151,7 +151,7 @@ name_made stem name text v eight front found written =
     let count : h.count ≡ 8 - length (stem ++ text) = omega (arith, ap length joined, length-append (stem ++ text) (blanks h.count), length-blanks h.count) in
     joined ∙ (ap (λ (k : ℕ). (stem ++ text) ++ blanks k) count ∙ ap padded (ap (λ (t : List ℕ). stem ++ t) (sym written)))
 
--- what was read of the digits is the number behind the stem
+-- what was read of the digits is the number after the stem
 pub number_behind-read : (stem name text : List ℕ) (read : Option ℕ) → length name ≡ 8 → take (length stem) name ≡ stem → text ≡ cut_blanks (drop (length stem) name) → 48 < get_or text 0 0 → ReadsNumeral text read → read ≡ number_behind stem name
 number_behind-read stem name text None eight front found first reads =
     let plain : without_leading_plus text ≡ text = without_leading_plus_none text (omega arith) in

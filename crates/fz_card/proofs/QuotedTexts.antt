@@ -173,7 +173,7 @@ pub cut_blanks-trimmed : (bs : List ℕ) → IsTrimmed (cut_blanks bs)
 cut_blanks-trimmed [] = λ e. omega arith
 cut_blanks-trimmed (b ∷ bs) = trimmed-step (eqb b 32) (eqb (length (cut_blanks bs)) 0) b (cut_blanks bs) refl refl (cut_blanks-trimmed bs)
 
--- and where none stands there, the blanks behind it are what is cut off
+-- and where none stands there, the blanks after it are what is cut off
 pub cut_blanks-behind : (text : List ℕ) (count : ℕ) → IsTrimmed text → cut_blanks (text ++ blanks count) ≡ text
 cut_blanks-behind [] count trimmed = cut_blanks-blanks count
 cut_blanks-behind (b ∷ []) count trimmed = rw (cut_blanks-blanks count, eqb-other b 32 trimmed) refl
@@ -201,6 +201,6 @@ take-cut_blanks len bs text is =
     let front : take (length cut) (take len bs ++ drop len bs) ≡ take (length cut) (take len bs) = rw take-append-le refl in
     ap (λ (l : List ℕ). take (length l) bs) is ∙ (ap (take (length cut)) (sym (take-append-drop len bs)) ∙ (front ∙ inner))
 
--- what was found behind an opening quote is the text where it is followed by blanks alone
+-- what was found after an opening quote is the text where it is followed by blanks alone
 pub closed_found : (opened characters rest : List ℕ) → quoted opened ≡ Some (characters, rest) → is_blank rest ≡ true → closed_text (quoted opened) ≡ Some (cut_blanks characters)
 closed_found opened characters rest found blank = rw (found, blank) refl

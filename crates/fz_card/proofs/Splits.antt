@@ -11,7 +11,7 @@ use Rattle.fz_card.specs.Laws.{IsBehindBlanks}
 eqb-other : (a b : ℕ) → a ≢ b → eqb a b ≡ false
 eqb-other a b h = grind (arith, nat_tests)
 
--- what stands behind the front of a field is a comment, or nothing
+-- what is after the front of a field is a comment, or nothing
 record Behind (bs front : List ℕ) : Type 0 where
   rest : List ℕ
   parts : bs ≡ front ++ rest
@@ -36,7 +36,7 @@ pub skip_blanks-after : (bs : List ℕ) → IsBehindBlanks bs (skip_blanks bs)
 skip_blanks-after [] = record { count = 0; parts = refl }
 skip_blanks-after (b ∷ bs) = after-step (eqb b 32) b bs (eqb-same b 32) (skip_blanks-after bs)
 
--- blanks stand behind a text
+-- blanks are after a text
 pub record Before (bs front : List ℕ) : Type 0 where
   pub count : ℕ
   pub parts : bs ≡ front ++ blanks count

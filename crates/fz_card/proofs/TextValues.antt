@@ -31,7 +31,7 @@ opened-is (b ∷ bs) characters e =
     let parts = inner-if (eqb b 39) (closed_text (quoted bs)) characters e in
     record { rest = bs; first = ap (λ (c : ℕ). c ∷ bs) (eqb-same b 39 parts.0); found = parts.1 }
 
--- what was read up to the closing quote, and blanks behind it
+-- what was read up to the closing quote, and blanks after it
 record Closes (found : Option Closed) (characters : List ℕ) : Type 0 where
   all : List ℕ
   behind : List ℕ

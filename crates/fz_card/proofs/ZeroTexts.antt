@@ -52,7 +52,7 @@ sign-taken sign rest (inr (inr minus)) is = ap (λ (s : List ℕ). without_leadi
 abbrev zeros : ℕ → List ℕ
 zeros count = replicate count 48
 
--- zeros, and what stands behind them
+-- zeros, and what is after them
 record Zeros (bs rest : List ℕ) : Type 0 where
   count : ℕ
   parts : bs ≡ zeros count ++ rest
@@ -69,7 +69,7 @@ skip_zeros-zeros : (count : ℕ) (rest : List ℕ) → skip_zeros (zeros count +
 skip_zeros-zeros zero rest = refl
 skip_zeros-zeros (suc count) rest = skip_zeros-zeros count rest
 
--- a point, and what stands behind it
+-- a point, and what is after it
 record Pointed (bs rest : List ℕ) : Type 0 where
   point : List ℕ
   parts : bs ≡ point ++ rest

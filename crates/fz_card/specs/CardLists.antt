@@ -1,4 +1,4 @@
--- Cards that stand one behind another, and the first of them that has a name (FITS 4.0, sections 3.3.1 and 4.1.2.1).
+-- Cards that are one after another, and the first of them that has a name (FITS 4.0, sections 3.3.1 and 4.1.2.1).
 use Rattle.std.specs.Prelude.{◌≡◌, ◌≢◌, ℕ, ◌*◌, ◌<◌, Bool, Option, List, [], length, map, take, drop, slice_index_or, bytes_eq}
 use Rattle.std.specs.List.{find, range_with_len}
 use Rattle.fz_card.specs.Layout.{card_name}

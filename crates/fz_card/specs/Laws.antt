@@ -49,7 +49,7 @@ pub record HasNumber (stem name : List ℕ) (i : ℕ) : Type 0 where
   pub some : 0 < i
   pub made : name ≡ numbered_name stem i
 
--- a name has a number behind a stem exactly where it is made of both; a stem and a number that fit make a name of 8 bytes
+-- a name has a number after a stem exactly where it is made of both; a stem and a number that fit make a name of 8 bytes
 pub record NumberedNameLaws : Type 0 where
   pub eight_bytes : (stem : List ℕ) (i : ℕ) → FitsName stem i → length (numbered_name stem i) ≡ 8
   pub made_number : (stem name : List ℕ) (i : ℕ) → 0 < i → i < 2 ^ 64 → name ≡ numbered_name stem i → number_behind stem name ≡ Some i

@@ -6,7 +6,7 @@ use Rattle.std.specs.Str.{byte}
 abbrev pub blanks : ℕ → List ℕ
 blanks count = replicate count (byte " ")
 
--- the text with blanks behind it, up to the length
+-- the text with blanks after it, up to the length
 abbrev pub filled : ℕ → List ℕ → List ℕ
 filled len text = text ++ blanks (len - length text)
 

@@ -10,7 +10,7 @@ use Rattle.fz_card.specs.Tables.{Names, Renaming, renamings, packed_names, own_n
 use Rattle.fz_card.specs.Tables.Names.{Word, Numbered}
 use Rattle.fz_card.specs.Tables.Renaming.{Words, Stems}
 
--- the number whose digits stand behind the stem, if it is above 0 and makes the name
+-- the number whose digits are after the stem, if it is above 0 and makes the name
 unfoldable pub number_behind : List ℕ → List ℕ → Option ℕ
 number_behind stem name =
     let digits = cut_blanks (drop (length stem) name) in

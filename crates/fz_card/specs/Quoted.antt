@@ -4,7 +4,7 @@ use Rattle.std.specs.Option.{option_map}
 use Rattle.std.specs.Str.{byte}
 use Rattle.fz_card.specs.Plain.{skip_blanks, cut_blanks, plain_text}
 
--- characters, and what stands behind the quote that closes them
+-- characters, and what is after the quote that closes them
 abbrev pub Closed : Type 0
 Closed = List ℕ × List ℕ
 
@@ -19,7 +19,7 @@ read_quoted true [] = Some ([], [])
 read_quoted false (b ∷ bs) = if b == byte "'" then read_quoted true bs else with_first b (read_quoted false bs)
 read_quoted true (b ∷ bs) = if b == byte "'" then with_first b (read_quoted false bs) else Some ([], b ∷ bs)
 
--- what stands behind an opening quote: the characters up to the closing one
+-- what is after an opening quote: the characters up to the closing one
 unfoldable pub quoted : List ℕ → Option Closed
 quoted bytes = read_quoted false bytes
 
@@ -32,7 +32,7 @@ at_quote (b ∷ bs) = Some ([], bs)
 abbrev pub is_blank : List ℕ → Bool
 is_blank bytes = length (plain_text bytes) == 0
 
--- the characters without the blanks at their end, if nothing but a comment stands behind the closing quote
+-- the characters without the blanks at their end, if nothing but a comment is after the closing quote
 abbrev pub closed_text : Option Closed → Option (List ℕ)
 closed_text None = None
 closed_text (Some found) = if is_blank found.1 then Some (cut_blanks found.0) else None

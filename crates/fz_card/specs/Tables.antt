@@ -10,7 +10,7 @@ pub record IsNumberedName (stem : List ℕ) (first last : ℕ) (name : List ℕ)
   pub high : number ≤ last
   pub made : name ≡ numbered_name stem number
 
--- a line of a list: a word, or a stem and the last of the numbers from 1 on behind it
+-- a line of a list: a word, or a stem and the last of the numbers from 1 on after it
 pub data Names : Type 0 where
   Word : List ℕ → Names
   Numbered : List ℕ → ℕ → Names
@@ -35,12 +35,12 @@ abbrev pub IsInSome : List Names → List ℕ → Type 0
 IsInSome [] name = ⊥
 IsInSome (line ∷ lines) name = IsIn line name ⊎ IsInSome lines name
 
--- a line of the table: a word of an image and the word for it in a packed header, or two such stems and the last of the numbers from 1 on behind them
+-- a line of the table: a word of an image and the word for it in a packed header, or two such stems and the last of the numbers from 1 on after them
 pub data Renaming : Type 0 where
   Words : List ℕ → List ℕ → Renaming
   Stems : List ℕ → List ℕ → ℕ → Renaming
 
--- the two stems, with the same number behind them
+-- the two stems, with the same number after them
 pub record AreNumberedNames (plain packed : List ℕ) (last : ℕ) (a b : List ℕ) : Type 0 where
   pub number : ℕ
   pub low : 1 ≤ number

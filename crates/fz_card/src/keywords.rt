@@ -150,7 +150,7 @@ impl Name {
     };
 }
 
-/// Each name stands for the word that it is called by, with blanks behind it.
+/// Each name stands for the word that it is called by, with blanks after it.
 pub fn keywords_law()
     ensures { (
         Name.SIMPLE.bytes ∷ Name.XTENSION.bytes ∷ Name.BITPIX.bytes ∷ Name.NAXIS.bytes ∷

@@ -1,6 +1,6 @@
 //! Cards of a FITS header. Read `card`, then `text`, `value`, `quoted` and `zero` (what a card says), then `line`
 //! and `made` (cards that are made), then `names`, `keywords` and `tables`, then `list` (cards
-//! one behind another) and `laws`.
+//! one after another) and `laws`.
 #![tactic(auto)]
 
 mod card;

@@ -4,7 +4,7 @@ ghost use Rattle.fz_card.specs.Layout.{blanks, filled};
 
 use std::marker::Model;
 
-/// A line of `N` bytes: the bytes that were written so far, and blanks behind them.
+/// A line of `N` bytes: the bytes that were written so far, and blanks after them.
 #[derive(Drop)]
 pub struct Line<const N: usize> {
     bytes: [u8; N],
@@ -30,7 +30,7 @@ impl<const N: usize> Line<N> {
         }
     }
 
-    /// Writes this text behind what was written.
+    /// Writes this text after what was written.
     pub fn push(&mut self, text: &[u8])
         requires { length self.old + length text.now ≤ N }
         ensures { self.new ≡ self.old ++ text.now }

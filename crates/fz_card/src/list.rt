@@ -1,4 +1,4 @@
-//! Cards that stand one behind another, as in a header.
+//! Cards that are one after another, as in a header.
 ghost use Rattle.std.specs.Prelude.{◌≡◌, ℕ, ◌+◌, ◌*◌, ◌≤◌, ◌↔◌, List, Some, None, length, take, drop};
 ghost use Rattle.std.specs.Option.{option_map};
 ghost use Rattle.fz_card.specs.CardLists.{cards_in, has_name, first_of_name, IsFirstOfName};
@@ -40,5 +40,6 @@ fn card_from(buf: &[u8], start: usize) -> Card
 /// `first_of_name` gives the first card of the name, and none exactly where no card has it.
 pub fn first_of_name_law()
     ensures found { (name card : List ℕ) (cards : List (List ℕ)) → (first_of_name name cards ≡ Some card) ↔ IsFirstOfName name cards card }
-    ensures none { (name : List ℕ) (cards : List (List ℕ)) → (first_of_name name cards ≡ None) ↔ ((card : List ℕ) → ¬ (IsFirstOfName name cards card)) }
+    ensures none { (name : List ℕ) (cards : List (List ℕ)) → (first_of_name name cards ≡ None)
+        ↔ ((card : List ℕ) → ¬ (IsFirstOfName name cards card)) }
 {}

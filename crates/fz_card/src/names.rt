@@ -54,7 +54,7 @@ fn begins_above_zero(digits: &[u8]) -> bool
     matches!(digits, [b'1'..=b'9', ..])
 }
 
-/// The number that the text writes, if it is digits, maybe behind a `+`, and it fits.
+/// The number that the text writes, if it is digits, maybe after a `+`, and it fits.
 pub fn whole_number(digits: &[u8]) -> Option<u32>
     ensures { ReadsNumeral digits.now result }
 {
@@ -64,7 +64,7 @@ pub fn whole_number(digits: &[u8]) -> Option<u32>
     text.parse().ok()
 }
 
-/// A name has a number behind a stem exactly where it is made of both. A stem and a number that fit make a name of 8
+/// A name has a number after a stem exactly where it is made of both. A stem and a number that fit make a name of 8
 /// bytes.
 pub fn numbers_law()
     ensures { NumberedNameLaws }

@@ -12,7 +12,7 @@ use crate::text::{plain_text, without_first_blanks, without_last_blanks};
 impl Card {
     /// The text value, if the card has one: its characters are written at the front of `into`, each quote once
     /// and without blanks at the end, and their number is the answer (FITS 4.0, section 4.2.1). What `into` has
-    /// behind them is open.
+    /// after them is open.
     pub fn text(&self, into: &mut [u8; FIELD_LEN]) -> Option<usize>
         ensures value { IfSome result (λ n. TextValue self.now.bytes (take n into.new)) }
         ensures none { IfNone result ((characters : List ℕ) → ¬ (TextValue self.now.bytes characters)) }
@@ -45,7 +45,7 @@ fn quoted_text(field: &[u8], into: &mut [u8; FIELD_LEN]) -> Option<usize>
     closed_text(without_first_blanks(field).strip_prefix(b"'")?, into)
 }
 
-/// The same for what stands behind the opening quote.
+/// The same for what is after the opening quote.
 fn closed_text(opened: &[u8], into: &mut [u8; FIELD_LEN]) -> Option<usize>
     requires { length opened.now ≤ FIELD_LEN }
     ensures function { option_map (λ n. take n into.new) result ≡ closed_text (quoted opened.now) }
@@ -59,7 +59,7 @@ fn closed_text(opened: &[u8], into: &mut [u8; FIELD_LEN]) -> Option<usize>
     }
 }
 
-/// Writes the characters up to the closing quote into `into`; the answer is their number and what stands behind
+/// Writes the characters up to the closing quote into `into`; the answer is their number and what is after
 /// that quote.
 fn read_quoted<'a>(opened: &'a [u8], into: &mut [u8; FIELD_LEN]) -> Option<(usize, &'a [u8])>
     requires { length opened.now ≤ FIELD_LEN }
@@ -80,7 +80,7 @@ fn read_quoted<'a>(opened: &'a [u8], into: &mut [u8; FIELD_LEN]) -> Option<(usiz
     }
 }
 
-/// The next character and what stands behind it, or `None` at the closing quote or the end.
+/// The next character and what is after it, or `None` at the closing quote or the end.
 fn first_character(text: &[u8]) -> Option<(u8, &[u8])>
     ensures some { IfSome result (λ r. quoted text.now ≡ with_first r.0 (quoted r.1.now)) }
     ensures shorter { IfSome result (λ r. length r.1.now < length text.now) }

@@ -17,7 +17,7 @@ macro_rules! first_of {
     ($first:expr, $($rest:expr),+) => { $first.or(first_of!($($rest),+)) };
 }
 
-/// The lines of the table of both names, and the stems with the last number behind them.
+/// The lines of the table of both names, and the stems with the last number after them.
 macro_rules! renamings {
     ($line:ident, $name:ident) => {
         first_of!(
@@ -56,7 +56,7 @@ macro_rules! to_plain {
     };
 }
 
-/// Whether the name stands in some line of a list: a word, or a stem with the last number behind it.
+/// Whether the name stands in some line of a list: a word, or a stem with the last number after it.
 macro_rules! is_any_of {
     ($name:ident; $word:ident) => {
         $name == Name::$word
@@ -160,7 +160,7 @@ fn renamed_word(name: Name, from: Name, to: Name) -> Option<Name>
     if name == from { Some(to) } else { None }
 }
 
-/// The stem `to` with the number behind the stem `from`, if it is not above the last one.
+/// The stem `to` with the number after the stem `from`, if it is not above the last one.
 fn renumbered(name: Name, from: &[u8], to: &[u8], last: u32) -> Option<Name>
     requires { FitsName to.now last }
     ensures { option_map (λ n. n.bytes) result ≡ renamed_by (Stems from.now to.now last) name.bytes }

@@ -16,7 +16,7 @@ fn bytes_of(alloc: Global, words: &[u16]) -> Result<Vec<u8>, AllocError> {
     Ok(bytes)
 }
 
-/// Encodes the numbers, and compares the words of the list and the byte behind it.
+/// Encodes the numbers, and compares the words of the list and the byte after it.
 fn expect_words(rt: &impl Abort, alloc: Global, numbers: &[i32], words: &[u16]) -> Result<(), Fail>
     requires { length numbers.now ≤ 2 ^ 26 }
 {

@@ -18,7 +18,7 @@ fn sum_of(at: u64, bytes: &[u8]) -> u32
     sum.value()
 }
 
-/// The sum of a list at this position that is cut behind so many bytes, where what is behind the cut is added first.
+/// The sum of a list at this position that is cut after so many bytes, where what is after the cut is added first.
 fn sum_from_behind(at: u32, bytes: &[u8], len: usize) -> u32
     requires { length bytes.now < 2 ^ 63 }
 {
@@ -80,7 +80,7 @@ fn characters_of_sums(rt: HostRuntime) {
     }
 }
 
-/// Compares the front of a card, behind which it is blank.
+/// Compares the front of a card, after which it is blank.
 fn expect_card(rt: &impl Abort, card: Card, text: &[u8]) {
     let (front, rest) = card.bytes.split_at(30);
     assert_eq!(rt; front, text);

@@ -57,7 +57,7 @@ const TABLE: Table = Table {
     gzip: None,
 };
 
-/// The file whose header has these cards in place of some of its own, or behind them.
+/// The file whose header has these cards in place of some of its own, or after them.
 fn file_of(changes: &[(usize, &[u8])]) -> [u8; 8640] {
     let mut file = [0; 8640];
     file[BLOCK_LEN..2 * BLOCK_LEN].fill(b' ');
@@ -102,7 +102,7 @@ fn table_of(alloc: Global, file: &[u8; 8640]) -> Result<(Result<Table, Fault>, O
     Ok((Table::of(&buf, &header), zimage))
 }
 
-/// Cards of the header that are other ones, or stand behind it, and the table that it says then, or the index of the faulty card.
+/// Cards of the header that are other ones, or are after it, and the table that it says then, or the index of the faulty card.
 const TABLES: [(&[(usize, &[u8])], Result<Table, u32>); 33] = [
     (&[], Ok(TABLE)),
     (&[(1, b"BITPIX  =                   16")], Err(1)),
@@ -245,7 +245,7 @@ fn tables(rt: HostRuntime) {
     }
 }
 
-/// Four rows of TABLE from byte 0 on, and its heap behind them.
+/// Four rows of TABLE from byte 0 on, and its heap after them.
 const FOUR_ROWS: Table = Table {
     rows_at: 0,
     rows: 4,
@@ -291,7 +291,7 @@ const GREATEST: Descriptor = Descriptor {
     offset: 18_446_744_073_709_551_615,
 };
 
-/// A column, a descriptor in it, and the range that this describes behind the four rows.
+/// A column, a descriptor in it, and the range that this describes after the four rows.
 const RANGES: [(Column, Descriptor, Option<(u64, u64)>); 5] = [
     (SHORTS, STORED, Some((108, 8))),
     (LONGS, STORED, None),

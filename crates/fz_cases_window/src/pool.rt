@@ -408,7 +408,7 @@ fn gate_holds_the_first_large_tile(rt: HostRuntime) -> Result<(), Fail> {
     Ok(())
 }
 
-// It fails a body that does the job before the tiles, and one that does it behind them.
+// It fails a body that does the job before the tiles, and one that does it after them.
 #[test]
 fn job_is_done_beside_the_tiles(rt: HostRuntime) -> Result<(), Fail> {
     let mut window = filled(rt.alloc(), 2)?;

@@ -73,7 +73,7 @@ fn more_options(rt: HostRuntime) -> Result<(), Fail> {
     Ok(())
 }
 
-/// An option has its value behind it or behind an equals sign.
+/// An option has its value after it or after an equals sign.
 #[test]
 fn values(rt: HostRuntime) -> Result<(), Fail> {
     let lines = [

@@ -61,7 +61,7 @@ fn order(rt: HostRuntime) -> Result<(), Fail> {
     Ok(())
 }
 
-/// An option has its value behind it or behind an equals sign.
+/// An option has its value after it or after an equals sign.
 #[test]
 fn forms_of_values(rt: HostRuntime) -> Result<(), Fail> {
     let lines = [
@@ -115,7 +115,7 @@ fn repeats(rt: HostRuntime) -> Result<(), Fail> {
     Ok(())
 }
 
-/// Behind the first -- each word is an operand.
+/// After the first -- each word is an operand.
 #[test]
 fn words_behind_the_mark(rt: HostRuntime) -> Result<(), Fail> {
     let lines = [
@@ -222,7 +222,7 @@ fn hyphens(rt: HostRuntime) -> Result<(), Fail> {
     Ok(())
 }
 
-/// The value behind an option does not begin with -.
+/// The value after an option does not begin with -.
 #[test]
 fn values_with_hyphens(rt: HostRuntime) -> Result<(), Fail> {
     let lines = [

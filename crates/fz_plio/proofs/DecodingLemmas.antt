@@ -21,11 +21,11 @@ instructions_numbered (word ∷ second ∷ rest) =
     by_test true after_two after_one = (omega arith, after_two)
     by_test false after_two after_one = (omega arith, after_one)
 
--- the instructions of a list, from its bytes behind the header
+-- the instructions of a list, from its bytes after the header
 pub instructions_of-bytes : (code : List ℕ) → words (take (2 * (list_len code - 7)) (drop 14 code)) ≡ take (list_len code - 7) (drop 7 (words code))
 instructions_of-bytes code = words-take (list_len code - 7) (drop 14 code) ∙ ap (take (list_len code - 7)) (words-drop 7 code)
 
--- behind a lawful header, only the instructions can refuse the list
+-- after a lawful header, only the instructions can refuse the list
 refused_instructions : (n : ℕ) (code : List ℕ) → HasHeader code → IsRefused n code → AreRefused n 1 (instructions_of code)
 refused_instructions n code header (odd p) = absurd (omega (arith, header.even))
 refused_instructions n code header (short p) = absurd (omega (arith, header.long))

@@ -6,7 +6,7 @@ use Rattle.fz_plio.specs.Instructions.{Instruction}
 use Rattle.fz_plio.specs.Meaning.{Effect, does, effect, LeavesRange}
 use Rattle.fz_plio.specs.Reading.{checked_effect}
 
--- what an optional effect behind a test says
+-- what an optional effect after a test says
 some_if : {X : Type 0} (b : Bool) (x y : X) → cond b (Some x) None ≡ Some y → (b ≡ true) × (x ≡ y)
 some_if true x y e = (refl, cc)
 some_if false x y e = cc

@@ -1,4 +1,4 @@
--- The runs of a line, joined, and the zeros behind them are the line, and its instructions write it.
+-- The runs of a line, joined, and the zeros after them are the line, and its instructions write it.
 use Rattle.std.proofs.Common.{◌≡◌, ℕ, suc, ◌+◌, ◌-◌, ◌^◌, ◌<◌, ◌≤◌, Bool, true, false, cond, ◌&&◌, List, [], ◌∷◌, ◌++◌, ℤ, pos, Some, length, map, replicate, refl, sym, ap, ◌∙◌, arith, eqb, ◌==◌}
 use Rattle.std.specs.List.{AllByRecursion}
 use Rattle.std.proofs.lemmas.Bool.Decides.{nat_tests}
@@ -49,7 +49,7 @@ filled-after_number v (r ∷ rs) n within = by_tests (eqb r.zeros 0) (eqb r.valu
     by_tests true false ea eb = filled-new v (r ∷ rs) n within
     by_tests false b ea eb = filled-new v (r ∷ rs) n within
 
--- the runs of a line and the zeros behind them are the line
+-- the runs of a line and the zeros after them are the line
 filled-runs : (ns : List ℕ) → filled (runs ns) (length ns) ≡ map pos ns
 unfolding runs joined
 filled-runs [] = refl
@@ -87,7 +87,7 @@ runs-valued (x ∷ ns) small = by_test (eqb x 0) (runs-valued ns small.1)
     by_test true h = valued-after_zero (runs ns) h
     by_test false h = valued-after_number x (runs ns) small.0 h
 
--- the high value behind the runs
+-- the high value after the runs
 high_behind : ℕ → List Run → ℕ
 high_behind h [] = h
 high_behind h (r ∷ rs) = high_behind r.value rs

@@ -1,4 +1,4 @@
--- A list has at most three words a number behind its header.
+-- A list has at most three words a number after its header.
 use Rattle.std.proofs.Common.{◌≡◌, ℕ, zero, suc, ◌+◌, ◌-◌, ◌*◌, ◌/◌, ◌%◌, ◌<◌, ◌≤◌, Bool, true, false, cond, ◌&&◌, List, [], ◌∷◌, ◌++◌, ℤ, length, map, replicate, length-append, refl, ap, ◌∙◌, arith, eqb, nat_lt, ◌==◌, if◌then◌else◌, sum_by}
 use Rattle.std.specs.Prelude.{Some}
 use Rattle.std.specs.List.{AllByRecursion}

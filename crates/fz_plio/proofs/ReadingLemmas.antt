@@ -10,7 +10,7 @@ use Rattle.fz_plio.specs.Reading.{one_word_effect, next_effect, checked_effect, 
 abbrev pub with_front : List ℤ → Option (List ℤ) → Option (List ℤ)
 with_front front line = option_map (λ numbers. front ++ numbers) line
 
--- the line of an effect and the words behind it
+-- the line of an effect and the words after it
 abbrev pub with_next : ℕ → Option (Effect × List ℕ) → Option (List ℤ)
 with_next room None = None
 with_next room (Some (e, rest)) = with_effect room (Some e) (λ left high. line_from left high (instructions rest))

@@ -1,4 +1,4 @@
--- The first maximal run of a list of numbers, and the runs behind it.
+-- The first maximal run of a list of numbers, and the runs after it.
 use Rattle.std.proofs.Common.{◌≡◌, ◌≢◌, ℕ, zero, suc, ◌+◌, ◌<◌, Bool, true, false, cond, ◌&&◌, List, [], ◌∷◌, ◌++◌, length, replicate, get_or, append_assoc, refl, ap, ◌∙◌, arith, eqb, ◌==◌, sum_by}
 use Rattle.std.proofs.lemmas.List.Sums.{sum_by-cons}
 use Rattle.fz_plio.specs.Producer.{Run, runs, after_zero, after_number, last_zeros, in_pieces, run_instructions, all_run_instructions, line_instructions, body_words}
@@ -22,7 +22,7 @@ unfolding runs
 runs-no_run zero = refl
 runs-no_run (suc z) = ap after_zero (runs-no_run z)
 
--- a number that does not join the runs behind it
+-- a number that does not join the runs after it
 after_number-new : (v : ℕ) (ms : List ℕ) → v ≢ 0 → (0 < length ms → get_or ms 0 0 ≢ v) → after_number v (runs ms) ≡ run 0 v 1 ∷ runs ms
 unfolding runs
 after_number-new v [] some new = refl
@@ -59,7 +59,7 @@ pub runs-first : (z c v : ℕ) (ms : List ℕ) → v ≢ 0 → 0 < c → (0 < le
 runs-first z zero v ms some counted new = absurd (omega arith)
 runs-first z (suc c) v ms some counted new = runs-zeros z 0 v (suc c) (replicate (suc c) v ++ ms) (runs ms) (runs-highs c v ms some new) ∙ (let none : 0 + z ≡ z = omega arith in ap (λ n. run n v (suc c) ∷ runs ms) none)
 
--- the zeros behind the last run are those of the numbers behind the first
+-- the zeros after the last run are those of the numbers after the first
 pub last_zeros-first : (ns ms : List ℕ) (r : Run) → runs ns ≡ r ∷ runs ms → r.zeros + r.count + length ms ≡ length ns → last_zeros ns ≡ last_zeros ms
 unfolding last_zeros
 last_zeros-first ns ms r first lengths =

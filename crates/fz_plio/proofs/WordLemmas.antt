@@ -4,7 +4,7 @@ use Rattle.std.proofs.lemmas.List.{get_or-drop, get_or-take}
 use Rattle.byteorder.specs.Endian.{big_number}
 use Rattle.fz_plio.specs.Words.{words}
 
--- the first word, and the words of the bytes behind it
+-- the first word, and the words of the bytes after it
 pub words-cons : (bytes : List ℕ) → 2 ≤ length bytes → words bytes ≡ (256 * get_or bytes 0 0 + get_or bytes 1 0) ∷ words (drop 2 bytes)
 unfolding words
 words-cons [] h = absurd (omega arith)
@@ -36,7 +36,7 @@ length-words [] = refl
 length-words (a ∷ []) = refl
 length-words (a ∷ b ∷ bytes) = omega (arith, length-words bytes)
 
--- the words behind the first so many
+-- the words after the first so many
 pub words-drop : (k : ℕ) (bytes : List ℕ) → words (drop (2 * k) bytes) ≡ drop k (words bytes)
 unfolding words
 words-drop zero bytes = refl

@@ -97,7 +97,7 @@ writes_zero_pieces h n = writes_same h h _ _ _ (ap (λ k. replicate k (pos 0)) (
 writes_high_pieces : (h n : ℕ) → Writes h (in_pieces 4 n) (replicate n (pos h)) h
 writes_high_pieces h n = writes_same h h _ _ _ (ap (λ k. replicate k (pos h)) (all_of-pieces n)) (writes_highs h (pieces n))
 
--- whole pieces of zeros, and then the last one with a number behind it
+-- whole pieces of zeros, and then the last one with a number after it
 writes_joined : (h before : ℕ) → 0 < before → Writes h (replicate ((before - 1) / 4095) (instruction 0 4095) ++ instruction 5 ((before - 1) % 4095 + 1 + 1) ∷ []) (replicate before (pos 0) ++ pos h ∷ []) h
 unfolding checked_effect
 writes_joined h before some =

@@ -1,4 +1,4 @@
--- Words put one behind the other are put together.
+-- Words put one after the other are put together.
 use Rattle.std.proofs.Common.{◌≡◌, ℕ, ◌+◌, ◌-◌, ◌*◌, ◌/◌, ◌%◌, ◌^◌, ◌<◌, ◌≤◌, List, [], ◌∷◌, ◌++◌, Result, Ok, Err, length, take, drop, append_assoc, length-append, refl, sym, ap, ◌∙◌, arith}
 use Rattle.std.specs.Int.{to_be_bytes, w16}
 use Rattle.std.proofs.lemmas.List.{take_at, drop_at, drop-drop, length-take, drop_all, length-take-le, length-drop, take-append-drop}
@@ -22,7 +22,7 @@ pub word_bytes-one : (w : ℕ) → w < 2 ^ 16 → word_bytes (w ∷ []) ≡ to_b
 unfolding word_bytes
 word_bytes-one w fits = let high : w / 256 ≡ w / 256 % 256 = omega arith in ap (λ (b : ℕ). b ∷ (w % 256) ∷ []) high
 
--- bytes behind bytes at a place
+-- bytes after bytes at a place
 pub overwritten-append : (at : ℕ) (bs cs old : List ℕ) → at + length bs ≤ length old → overwritten (at + length bs) cs (overwritten at bs old) ≡ overwritten at (bs ++ cs) old
 overwritten-append at bs cs old within =
     let front = take at old in
@@ -38,7 +38,7 @@ overwritten-append at bs cs old within =
     (λ i. taken i ++ (cs ++ behind i)) ∙ append_assoc front bs _
     ∙ ap (λ (xs : List ℕ). front ++ xs) (sym (append_assoc bs cs _) ∙ ap (λ n. bs ++ cs ++ drop n old) place)
 
--- nothing stands behind the bytes of a word in the two bytes at its place
+-- nothing is after the bytes of a word in the two bytes at its place
 pub no_more : (old : List ℕ) (at : ℕ) → drop 2 (take (at + 2 - at) (drop at old)) ≡ []
 no_more old at = drop_all 2 (take (at + 2 - at) (drop at old)) (omega (arith, length-take (at + 2 - at) (drop at old)))
 
@@ -51,7 +51,7 @@ puts_word old bytes at w within fits same =
 pub length-overwritten : (at : ℕ) (bs old : List ℕ) → at + length bs ≤ length old → length (overwritten at bs old) ≡ length old
 length-overwritten at bs old within = omega (arith, length-append (take at old) (bs ++ drop (at + length bs) old), length-append bs (drop (at + length bs) old), length-take-le at old (omega arith), length-drop (at + length bs) old)
 
--- words behind words
+-- words after words
 pub puts_then : {T E S F : Type 0} (old mid new : List ℕ) (at place next : ℕ) (ws vs : List ℕ) (x : T) (r : Result S F) → Puts {T = T} {E = E} old mid at place ws (Ok x) → Puts mid new place next vs r → Puts old new at next (ws ++ vs) r
 puts_then old mid new at place next ws vs x (Ok y) first then = record {
   len = then.len ∙ first.len;
@@ -72,7 +72,7 @@ puts_then old mid new at place next ws vs x (Err y) first then = record {
   full = λ e. omega (arith, first.place, then.full e, first.len, length-append ws vs);
 }
 
--- the words do not fit, and so words behind them do not
+-- the words do not fit, and so words after them do not
 pub puts_stop : {T E S F : Type 0} (old new : List ℕ) (at place next : ℕ) (ws vs : List ℕ) (x : E) (y : F) → Puts {T = T} old new at place ws (Err x) → Puts {T = S} old new at next (ws ++ vs) (Err y)
 puts_stop old new at place next ws vs x y first = record {
   len = first.len;

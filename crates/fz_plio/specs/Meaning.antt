@@ -83,7 +83,7 @@ pub data IsRefused (n : ℕ) (code : List ℕ) : Type 0 where
   -- word 3 or word 4, the two parts of L, is above 32767
   length_low : 32767 < slice_index (words code) 3 → IsRefused n code
   length_high : 32767 < slice_index (words code) 4 → IsRefused n code
-  -- L ends in the header, or behind the words
+  -- L ends in the header, or after the words
   too_short : list_len code < 7 → IsRefused n code
   too_long : length (words code) < list_len code → IsRefused n code
   -- an instruction is refused

@@ -34,7 +34,7 @@ abbrev pub after_zero : List Run → List Run
 after_zero [] = []
 after_zero (r ∷ rest) = record { zeros = r.zeros + 1; value = r.value; count = r.count } ∷ rest
 
--- the runs with the number v in front, which joins the first run where that is of v and directly behind
+-- the runs with the number v in front, which joins the first run where that is of v and directly after
 abbrev pub after_number : ℕ → List Run → List Run
 after_number v [] = record { zeros = 0; value = v; count = 1 } ∷ []
 after_number v (r ∷ rest) =
@@ -103,7 +103,7 @@ all_run_instructions h (r ∷ rest) = run_instructions h r ++ all_run_instructio
 abbrev pub line_instructions : ℕ → List ℕ → List Instruction
 line_instructions h numbers = all_run_instructions h (runs numbers) ++ in_pieces 0 (last_zeros numbers)
 
--- the words behind the header
+-- the words after the header
 unfoldable pub body_words : ℕ → List ℕ → List ℕ
 body_words h numbers = flat_map instruction_words (line_instructions h numbers)
 

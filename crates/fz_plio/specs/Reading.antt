@@ -26,13 +26,13 @@ one_word_effect h operation n =
     else if operation == 7 then lowered h n 1
     else None
 
--- the effect of operation 1, and the words behind it; none where its second word is missing or
+-- the effect of operation 1, and the words after it; none where its second word is missing or
 -- above 4095
 abbrev pub two_word_effect : ℕ → List ℕ → Option (Effect × List ℕ)
 two_word_effect n [] = None
 two_word_effect n (second ∷ rest) = if nat_lt 4095 second then None else Some (does (n + 4096 * second) 0 0, rest)
 
--- the effect of the first instruction of a list of words, and the words behind it; none where it is refused
+-- the effect of the first instruction of a list of words, and the words after it; none where it is refused
 abbrev pub next_effect : ℕ → List ℕ → Option (Effect × List ℕ)
 next_effect h [] = None
 next_effect h (word ∷ rest) =

@@ -1,6 +1,26 @@
 //! Line lists read.
 
-ghost use Rattle.std.specs.Prelude.{◌≡◌, ℕ, ◌+◌, ◌%◌, ◌^◌, ◌<◌, ◌≤◌, ◌↔◌, ◌++◌, take, length, replicate, IfOk, OnOk, OnErr, IsErr, Some, None, MatchResult};
+ghost use Rattle.std.specs.Prelude.{
+  ◌≡◌,
+  ℕ,
+  ◌+◌,
+  ◌%◌,
+  ◌^◌,
+  ◌<◌,
+  ◌≤◌,
+  ◌↔◌,
+  ◌++◌,
+  take,
+  length,
+  replicate,
+  IfOk,
+  OnOk,
+  OnErr,
+  IsErr,
+  Some,
+  None,
+  MatchResult,
+};
 ghost use Rattle.fz_plio.specs.Words.{words};
 ghost use Rattle.fz_plio.specs.Instructions.{instructions};
 ghost use Rattle.fz_plio.specs.Meaning.{IsRefused, IsLineList, instructions_of, written};
@@ -78,7 +98,7 @@ fn read_line(bytes: &[u8], numbers: &mut [i32]) -> Result<(), LineFault>
     Ok(())
 }
 
-/// Writes what a step writes from a place on, and answers the place behind it.
+/// Writes what a step writes from a place on, and answers the place after it.
 fn write_step(numbers: &mut [i32], at: usize, step: Step) -> Result<usize, LineFault>
     requires at { at ≤ length numbers.old }
     requires high { step.high < 2 ^ 24 }

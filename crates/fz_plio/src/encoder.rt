@@ -102,7 +102,7 @@ fn write_list(numbers: &[i32], out: &mut [u8]) -> Result<usize, Full>
     put_list(&mut list, numbers)
 }
 
-/// Puts the instructions behind the place of the header, and then the header.
+/// Puts the instructions after the place of the header, and then the header.
 fn put_list(list: &mut ListWriter, numbers: &[i32]) -> Result<usize, Full>
     requires len { length numbers.now ≤ 2 ^ 26 }
     requires in_range { All InRange numbers.now }

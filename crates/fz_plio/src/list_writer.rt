@@ -1,4 +1,4 @@
-//! Words and instructions put one behind the other into the bytes of a list.
+//! Words and instructions put one after the other into the bytes of a list.
 
 ghost use Rattle.std.specs.Prelude.{◌≡◌, ◌+◌, ◌*◌, ◌^◌, ◌<◌, ◌≤◌, ◌%◌, ◌/◌, ◌∷◌, [], length};
 ghost use Rattle.fz_plio.specs.Operation.{code_of};
@@ -90,7 +90,7 @@ impl ListWriter<'_> {
         self.put_word((value / RANGE) as u16)
     }
 
-    /// Puts zeros and the numbers of the run behind them. A single number goes with the last piece
+    /// Puts zeros and the numbers of the run after them. A single number goes with the last piece
     /// of zeros, where there is room for it.
     fn put_zeros_and_highs(&mut self, zeros: usize, count: usize) -> Result<(), Full>
         ensures same { self.new.out.ghost_name ≡ self.old.out.ghost_name }

@@ -28,7 +28,7 @@ impl Run {
     }
 }
 
-/// The first run of a line, and the numbers behind it; none where no number is above 0.
+/// The first run of a line, and the numbers after it; none where no number is above 0.
 pub fn next_run(numbers: &[i32]) -> Option<(Run, &[i32])>
     requires { All InRange numbers.now }
     ensures none { IfNone result (runs (magnitudes numbers.now) ≡ []) }

@@ -25,7 +25,7 @@ pub struct Step {
     pub highs: u32,
 }
 
-/// The step of the first instruction, from this high value, and the bytes behind the instruction;
+/// The step of the first instruction, from this high value, and the bytes after the instruction;
 /// none where the instruction is refused.
 #[inline]
 pub fn next_step(bytes: &[u8], high: u32) -> Option<(Step, &[u8])>

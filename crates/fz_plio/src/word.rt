@@ -27,7 +27,7 @@ pub fn word_at(bytes: &[u8], index: usize) -> u16
     BigEndian::read_u16(&bytes[WORD_LEN * index..])
 }
 
-/// The first word, and the bytes behind it.
+/// The first word, and the bytes after it.
 #[inline]
 pub fn split_word(bytes: &[u8]) -> (u16, &[u8])
     requires { 2 ≤ length bytes.now }

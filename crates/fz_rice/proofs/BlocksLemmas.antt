@@ -28,7 +28,7 @@ pieces-some block (v ∷ vs) some h =
     let less = length-drop block (v ∷ vs) in
     ap (λ l. take block (v ∷ vs) ∷ l) (pieces_of-enough (length vs) (length (drop block (v ∷ vs))) block (drop block (v ∷ vs)) some (omega (arith, less)) (omega arith))
 
--- the differences of the first numbers, and of those behind them
+-- the differences of the first numbers, and of those after them
 differences-take : (w last block : ℕ) (xs : List ℤ) → take block (differences w last xs) ≡ differences w last (take block xs)
 differences-take w last zero xs = refl
 differences-take w last (suc block) [] = refl

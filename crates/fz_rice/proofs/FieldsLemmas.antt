@@ -11,7 +11,7 @@ use Rattle.fz_bits.specs.declared.writer.Full.{Full}
 use Rattle.fz_rice.specs.Writing.{Writes, IsField}
 use Rattle.fz_rice.proofs.WritesLemmas.{flat_map-append, writes_seq, writes_stop, low_bits, one_field}
 
--- the values of a part were written behind those in front of it
+-- the values of a part were written after those in front of it
 pub values_write : {A B : Type 0} (a : A) (f : ℕ → List Bool) (vs : List ℕ) (at n : ℕ) (r : Result B Full) (old mid new : BitWriter) → Writes {A = A} (Ok a) (flat_map f (take at vs)) old mid → Writes r (flat_map f (take n (drop at vs))) mid new → Writes r (flat_map f (take (at + n) vs)) old new
 values_write {A} {B} a f vs at n r old mid new half one =
     let all : flat_map f (take at vs) ++ flat_map f (take n (drop at vs)) ≡ flat_map f (take (at + n) vs) = sym (ap (flat_map f) (take-add at n vs) ∙ flat_map-append f (take at vs) (take n (drop at vs))) in
@@ -42,7 +42,7 @@ four_bits_of f (a ∷ b ∷ c ∷ e ∷ x ∷ vs) d len = absurd (omega (arith, 
 pub four_values : (f : ℕ → List Bool) (vs : List ℕ) (d : ℕ) (p q r s : List Bool) → length vs ≡ 4 → p ≡ f (get_or vs 0 d) → q ≡ f (get_or vs 1 d) → r ≡ f (get_or vs 2 d) → s ≡ f (get_or vs 3 d) → p ++ (q ++ (r ++ s)) ≡ flat_map f vs
 four_values f vs d p q r s len ep eq er es = rw (ep, eq, er, es) (four_bits_of f vs d len)
 
--- the low bits of a value behind a one, as far as its zeros have room
+-- the low bits of a value after a one, as far as its zeros have room
 pub field_is : (k v q : ℕ) → k < 32 → q ≡ min (v / 2 ^ k) 64 → IsField k v (bit_or (1 * 2 ^ k % 2 ^ 32) (bit_and v (1 * 2 ^ k % 2 ^ 32 - 1))) (q + (k + 1))
 field_is k v q h cut =
     let pos = pow_pos k in

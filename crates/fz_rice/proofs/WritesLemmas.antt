@@ -139,7 +139,7 @@ four_bits f w start (x ∷ y ∷ z ∷ u ∷ []) a b c d p q r s len ea eb ec ed
     rw (ep, eq, er, es, ea, eb, ec, ed, append-nil (f (mapped w (difference w (residue w z) (residue w u))))) refl
 four_bits f w start (x ∷ y ∷ z ∷ u ∷ t ∷ xs) a b c d p q r s len ea eb ec ed ep eq er es = absurd (omega (arith, len))
 
--- the numbers of a part were written behind those in front of it
+-- the numbers of a part were written after those in front of it
 pub part_writes : {A B : Type 0} (a : A) (f : ℕ → List Bool) (w start : ℕ) (xs : List ℤ) (at n last : ℕ) (r : Result B Full) (old mid new : BitWriter) → last ≡ last_residue w start (take at xs) → Writes {A = A} (Ok a) (flat_map f (differences w start (take at xs))) old mid → Writes r (flat_map f (differences w last (take n (drop at xs)))) mid new → Writes r (flat_map f (differences w start (take (at + n) xs))) old new
 part_writes {A} {B} a f w start xs at n last r old mid new follows half one =
     let front = flat_map f (differences w start (take at xs)) in

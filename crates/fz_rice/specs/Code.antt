@@ -1,5 +1,5 @@
 -- The RICE_1 code of a list of numbers (FITS 4.0, section 10.4.1): a start value, and then blocks of
--- mapped differences, each behind an id that says how they are written.
+-- mapped differences, each after an id that says how they are written.
 use Rattle.std.specs.Prelude.{◌≡◌, ℕ, zero, suc, ◌+◌, ◌-◌, ◌*◌, ◌/◌, ◌%◌, ◌^◌, ◌<◌, ◌≤◌, ◌==◌, nat_lt, Bool, true, false, ℤ, List, [], ◌∷◌, ◌++◌, length, take, drop, replicate, All, if◌then◌else◌}
 use Rattle.std.specs.List.{flat_map}
 use Rattle.fz_bits.specs.Bits.{number_bits}
@@ -32,11 +32,11 @@ differences w last (x ∷ xs) = mapped w (difference w last (residue w x)) ∷ d
 abbrev pub split_bits : ℕ → ℕ → List Bool
 split_bits k v = replicate (v / 2 ^ k) false ++ true ∷ number_bits k v
 
--- the bits of values behind a lawful id
+-- the bits of values after a lawful id
 abbrev pub values_bits : ℕ → ℕ → List ℕ → List Bool
 values_bits w id vs = if id == 0 then [] else (if id == (row w).raw_id then flat_map (number_bits w) vs else flat_map (split_bits (id - 1)) vs)
 
--- a block: its id, and its values behind it
+-- a block: its id, and its values after it
 abbrev pub block_bits : ℕ → ℕ → List ℕ → List Bool
 block_bits w id vs = number_bits (row w).id_len id ++ values_bits w id vs
 

@@ -21,7 +21,7 @@ abbrev pub HasSomeAnswer : Type 0
 HasSomeAnswer = (w block n : ℕ) (bits : List Bool) → IsWidth w → 1 ≤ block
     → BeginsWithCode w block n bits ⊎ (IsBeginning w block n bits ⊎ (¬ BeginsWithCode w block n bits × ¬ IsBeginning w block n bits))
 
--- what is written is a code of the numbers, and zeros behind it
+-- what is written is a code of the numbers, and zeros after it
 abbrev pub IsItsCode : Type 0
 IsItsCode = (w block : ℕ) (xs : List ℤ) → IsWidth w → 1 ≤ block → All (IsNumber w) xs
     → IsRiceCode w block xs (rice_bits w block xs) × ((fill : List Bool) × (rice_code w block xs ≡ rice_bits w block xs ++ fill))

@@ -11,7 +11,7 @@ use Rattle.fz_rice.specs.declared.coder.CodeFault.TheVariants.{Ended, Unlawful}
 abbrev pub Reading : Type 0 → Type 0
 Reading A = Result (A × List Bool) CodeFault
 
--- what the next reader makes of a value and the bits behind it
+-- what the next reader makes of a value and the bits after it
 abbrev pub and_then : {A B : Type 0} → Reading A → (A → List Bool → Reading B) → Reading B
 and_then (Ok p) next = next p.0 p.1
 and_then (Err e) next = Err e
@@ -49,7 +49,7 @@ many_at read (suc n) bits = and_then (read bits) (λ v rest. reading_map (λ vs.
 abbrev pub id_at : ℕ → ℕ → List Bool → Reading ℕ
 id_at n most bits = if nat_lt (length bits) n then (if nat_lt most (bits_value bits * 2 ^ (n - length bits)) then Err Unlawful else Err Ended) else (if nat_lt most (bits_value (take n bits)) then Err Unlawful else Ok (bits_value (take n bits), drop n bits))
 
--- n values behind an id
+-- n values after an id
 abbrev pub values_at : ℕ → ℕ → ℕ → List Bool → Reading (List ℕ)
 values_at w n id bits = if id == 0 then Ok (replicate n 0, bits) else (if id == (row w).raw_id then many_at (number_at w) n bits else many_at (split_at w (id - 1)) n bits)
 
@@ -71,11 +71,11 @@ number w u = if w == 8 then pos u else (if nat_lt u (2 ^ (w - 1)) then pos u els
 abbrev pub unmapped : ℕ → ℕ → ℕ
 unmapped w v = if v % 2 == 0 then v / 2 else 2 ^ w - 1 - v / 2
 
--- the residue behind `last` whose mapped difference is v
+-- the residue after `last` whose mapped difference is v
 abbrev pub next_residue : ℕ → ℕ → ℕ → ℕ
 next_residue w last v = (last + unmapped w v) % 2 ^ w
 
--- the residue behind the last of mapped differences
+-- the residue after the last of mapped differences
 abbrev pub last_of : ℕ → ℕ → List ℕ → ℕ
 last_of w last [] = last
 last_of w last (v ∷ vs) = last_of w (next_residue w last v) vs
@@ -113,7 +113,7 @@ ReadsAll w start read numbers result rest = MatchResult result (λ _. (last : �
 abbrev pub bit_count : BitReader → ℕ
 bit_count r = place r + length (left r)
 
--- at the top of a word of 64 bits stand zeros, a one and k bits, and the bits behind them are the first ones of `rest`
+-- at the top of a word of 64 bits stand zeros, a one and k bits, and the bits after them are the first ones of `rest`
 pub record IsPiece (k word value width rest : ℕ) : Type 0 where
   pub zeros : ℕ
   pub low : ℕ

@@ -5,7 +5,20 @@ ghost use Rattle.std.specs.Prelude.{◌≡◌, ℕ, ◌+◌, ◌-◌, ◌*◌, �
 ghost use Rattle.fz_bits.specs.Reader.{left};
 ghost use Rattle.fz_rice.specs.Numbers.{IsWidth};
 ghost use Rattle.fz_rice.specs.Code.{row};
-ghost use Rattle.fz_rice.specs.Reading.{number_at, zeros_at, split_at, many_at, id_at, block_at, blocks_at, number, Reads, ReadsNumbers, ReadsAll, bit_count};
+ghost use Rattle.fz_rice.specs.Reading.{
+  number_at,
+  zeros_at,
+  split_at,
+  many_at,
+  id_at,
+  block_at,
+  blocks_at,
+  number,
+  Reads,
+  ReadsNumbers,
+  ReadsAll,
+  bit_count,
+};
 
 use crate::coder::CodeFault;
 use crate::numbers::{greatest, id_len, next_residue, number, raw_id};
@@ -249,7 +262,7 @@ fn read_value<const W: u32>(reader: &mut BitReader, k: u32) -> Result<u32, CodeF
     Ok((zeros << k) | low)
 }
 
-/// Reads zeros and the one behind them.
+/// Reads zeros and the one after them.
 #[inline]
 fn read_zeros(reader: &mut BitReader, max: u32) -> Result<u32, CodeFault>
     ensures zeros { Reads (zeros_at max (left reader.old)) result (left reader.new) }

@@ -33,7 +33,7 @@ impl Field {
         }
     }
 
-    /// The bits, and those of `next` behind them.
+    /// The bits, and those of `next` after them.
     #[inline]
     pub fn joined(self, next: Field) -> Field
         requires { self.width + next.width < 64 }
@@ -66,7 +66,7 @@ impl Field {
         Some(front.joined(back))
     }
 
-    /// The bits of four fields, one behind another, `None` where they are more than 63.
+    /// The bits of four fields, one after another, `None` where they are more than 63.
     #[inline]
     pub fn of_fields(bits: (u32, u32, u32, u32), widths: (u32, u32, u32, u32)) -> Option<Field>
         requires few { widths.0 + widths.1 + widths.2 + widths.3 < 2 ^ 32 }

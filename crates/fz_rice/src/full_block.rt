@@ -31,7 +31,7 @@ pub fn write_full_block<const W: u32>(
     write_values_of::<W>(writer, last, numbers)
 }
 
-/// Writes a block of 32 numbers behind the id that their differences ask for.
+/// Writes a block of 32 numbers after the id that their differences ask for.
 fn write_values_of<const W: u32>(
     writer: &mut BitWriter,
     last: u32,

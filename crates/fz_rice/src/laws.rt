@@ -15,14 +15,14 @@ pub fn one_code_law()
         → (xs ≡ ys) × (rest ≡ []) }
 {}
 
-/// What `encode` writes is a code of the numbers, and zeros behind it, in some whole bytes.
+/// What `encode` writes is a code of the numbers, and zeros after it, in some whole bytes.
 pub fn producer_law()
     ensures code { IsItsCode }
     ensures bits { HasCodeBits }
     ensures some { HasCodeBytes }
 {}
 
-/// Numbers that are read from what `encode` wrote, with any bits behind it, are the numbers again.
+/// Numbers that are read from what `encode` wrote, with any bits after it, are the numbers again.
 pub fn round_trip_law()
     ensures { (w block : ℕ) (xs ys : List ℤ) (rest : List Bool) (bytes : ℕ) → IsWidth w → 1 ≤ block
         → All (IsNumber w) xs → length ys ≡ length xs

@@ -85,7 +85,7 @@ pub fn mapped<const W: u32>(last: u32, next: u32) -> u32
     }
 }
 
-/// The residue behind `last` whose mapped difference is `value`.
+/// The residue after `last` whose mapped difference is `value`.
 #[inline]
 pub fn next_residue<const W: u32>(last: u32, value: u32) -> u32
     requires width { IsWidth W }

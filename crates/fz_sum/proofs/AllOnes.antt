@@ -29,7 +29,7 @@ characters-total sum =
     text-total _ _ _ _ _ _ _ _ _ _ _ _ _ _ _ _ (rest / 16777216 % 256) (rest / 65536 % 256) (rest / 256 % 256) (rest % 256) (byte-total (rest / 16777216 % 256) (omega arith)) (byte-total (rest / 65536 % 256) (omega arith)) (byte-total (rest / 256 % 256) (omega arith)) (byte-total (rest % 256) (omega arith))
     ∙ ap (λ (n : ℕ). total_at 11 (replicate 16 48) + n) (four-bytes rest small)
 
--- the card before and behind the characters
+-- the card before and after the characters
 front : List ℕ
 front = codes "CHECKSUM= '"
 

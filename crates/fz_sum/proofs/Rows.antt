@@ -4,7 +4,7 @@ use Rattle.std.specs.Prelude.{◌&&◌, bytes_eq}
 use Rattle.std.proofs.lemmas.Slice.Eq.{bytes_eq-Decides}
 use Rattle.fz_sum.specs.Characters.{byte_characters}
 
--- the rows are the characters of this byte and of those behind it
+-- the rows are the characters of this byte and of those after it
 abbrev pub are_rows : ℕ → List (List ℕ) → Bool
 are_rows byte [] = true
 are_rows byte (row ∷ rows) = bytes_eq row (byte_characters byte) && are_rows (byte + 1) rows

@@ -177,7 +177,7 @@ total_at-cut_or_all at n w within (inr all) =
     let none : drop n w ≡ [] = drop_all n w (omega arith) in
     total_at-cut at n w within ∙ rw (none, total_at-nil (at + n), total_at-nil 0) refl
 
--- the bytes before the first word, the words, and the bytes behind the last
+-- the bytes before the first word, the words, and the bytes after the last
 pub total_at-parts : (at n m : ℕ) (w rest : List ℕ) → n ≤ length w → ((at % 4 + n) % 4 ≡ 0) ⊎ (n ≡ length w) → rest ≡ drop n w → m ≤ length rest → m % 4 ≡ 0 → total_at at w ≡ total_at (at % 4) (take n w) + total_at 0 (take m rest) + total_at 0 (drop m rest)
 total_at-parts at n m w rest within front e short whole =
     let same : total_at at w ≡ total_at (at % 4) w = total_at-same at (at % 4) w (omega arith) in

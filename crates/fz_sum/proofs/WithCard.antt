@@ -4,7 +4,7 @@ use Rattle.std.proofs.lemmas.Bool.{cases_lt}
 use Rattle.std.proofs.lemmas.List.{append_assoc, take_at, drop_at, take-append-drop, drop-drop, length-append, length-drop, length-take-le, take-append-le, drop-append-le}
 use Rattle.fz_sum.specs.Cards.{with_card}
 
--- the front of a list does not depend on what stands behind it
+-- the front of a list does not depend on what is after it
 same-front : (j : ℕ) (front a b : List ℕ) → 80 * (j + 1) ≤ length front → take 80 (drop (80 * j) (front ++ a)) ≡ take 80 (drop (80 * j) (front ++ b))
 same-front j front a b within =
     let place : 80 * j ≤ length front = omega arith in
@@ -20,7 +20,7 @@ stands-there i card bytes long within =
     let rest = drop (80 * (i + 1)) bytes in
     ap (take 80) (drop_at (take (80 * i) bytes) (card ++ rest) (80 * i) (front-long i bytes within)) ∙ take_at card rest 80 long
 
--- the bytes behind card i
+-- the bytes after card i
 behind-card : (i n : ℕ) (card bytes : List ℕ) → length card ≡ 80 → 80 * (i + 1) ≤ length bytes → 80 * (i + 1) ≤ n → drop n (with_card i card bytes) ≡ drop n bytes
 behind-card i n card bytes long within far =
     let rest = drop (80 * (i + 1)) bytes in

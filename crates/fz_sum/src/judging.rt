@@ -6,7 +6,16 @@ ghost use Rattle.fz_card.specs.Reading.{text_of};
 ghost use Rattle.fz_card.specs.CardLists.{cards_in};
 ghost use Rattle.fz_sum.specs.Sums.{ones_sum};
 ghost use Rattle.fz_sum.specs.Texts.{sum_of_card as sum_said};
-ghost use Rattle.fz_sum.specs.Verdicts.{IsDatasumVerdict, IsChecksumVerdict, IsVerdict, verdict_of, is_some_text, is_sum as is_sum_of, datasum_verdict as datasum_verdict_of, checksum_verdict as checksum_verdict_of};
+ghost use Rattle.fz_sum.specs.Verdicts.{
+  IsDatasumVerdict,
+  IsChecksumVerdict,
+  IsVerdict,
+  verdict_of,
+  is_some_text,
+  is_sum as is_sum_of,
+  datasum_verdict as datasum_verdict_of,
+  checksum_verdict as checksum_verdict_of,
+};
 ghost use Rattle.fz_sum.specs.declared.verdicts.Verdict.{Verdict};
 
 use crate::text::sum_of_card;
@@ -32,8 +41,10 @@ pub fn datasum_verdict(buf: &[u8], cards: u32, sum: u32) -> Verdict
 /// is the sum of the whole header and of the data with their fill (FITS 4.0, section 4.4.2.7).
 pub fn checksum_verdict(buf: &[u8], cards: u32, sum: u32) -> Verdict
     requires { 80 * cards ≤ length buf.now }
-    ensures value { (header payload : List ℕ) → sum ≡ ones_sum (header ++ payload) → IsChecksumVerdict (cards_in cards buf.now) header payload result }
-    ensures function { (header payload : List ℕ) → sum ≡ ones_sum (header ++ payload) → result ≡ checksum_verdict_of (cards_in cards buf.now) header payload }
+    ensures value { (header payload : List ℕ) → sum ≡ ones_sum (header ++ payload)
+        → IsChecksumVerdict (cards_in cards buf.now) header payload result }
+    ensures function { (header payload : List ℕ) → sum ≡ ones_sum (header ++ payload)
+        → result ≡ checksum_verdict_of (cards_in cards buf.now) header payload }
 {
     verdicts_law();
     let card = first_of_name(buf, cards, Name::CHECKSUM);
@@ -101,8 +112,10 @@ fn tells_sum(card: &Card) -> bool
 
 /// Cards and data have one verdict on each sum, which the functions give.
 pub fn verdicts_law()
-    ensures datasum { (cards : List (List ℕ)) (payload : List ℕ) (v : Verdict) → IsDatasumVerdict cards payload v ↔ (datasum_verdict_of cards payload ≡ v) }
-    ensures checksum { (cards : List (List ℕ)) (header payload : List ℕ) (v : Verdict) → IsChecksumVerdict cards header payload v ↔ (checksum_verdict_of cards header payload ≡ v) }
+    ensures datasum { (cards : List (List ℕ)) (payload : List ℕ) (v : Verdict) → IsDatasumVerdict cards payload v
+        ↔ (datasum_verdict_of cards payload ≡ v) }
+    ensures checksum { (cards : List (List ℕ)) (header payload : List ℕ) (v : Verdict)
+        → IsChecksumVerdict cards header payload v ↔ (checksum_verdict_of cards header payload ≡ v) }
 {
     first_of_name_law();
     card_laws();

@@ -1,5 +1,25 @@
 //! Laws of sums, of their characters and of their cards.
-ghost use Rattle.std.specs.Prelude.{◌≡◌, ℕ, ◌+◌, ◌*◌, ◌-◌, ◌%◌, ◌<◌, ◌≤◌, ◌≢◌, ◌^◌, ◌↔◌, IsTrue, List, ◌++◌, length, take, drop, replicate, slice_index};
+ghost use Rattle.std.specs.Prelude.{
+  ◌≡◌,
+  ℕ,
+  ◌+◌,
+  ◌*◌,
+  ◌-◌,
+  ◌%◌,
+  ◌<◌,
+  ◌≤◌,
+  ◌≢◌,
+  ◌^◌,
+  ◌↔◌,
+  IsTrue,
+  List,
+  ◌++◌,
+  length,
+  take,
+  drop,
+  replicate,
+  slice_index,
+};
 ghost use Rattle.std.specs.Int.{w32, to_be_bytes};
 ghost use Rattle.std.specs.List.{concat, list_all};
 ghost use Rattle.std.specs.List.Sorted.{IsPermutation};
@@ -40,7 +60,7 @@ pub fn characters_law()
 {}
 
 /// The card with the characters of the sum, in place of the blank one, makes the sum of an HDU 4294967295: its bytes
-/// are those before the card, whole cards, the card, and those behind it.
+/// are those before the card, whole cards, the card, and those after it.
 pub fn all_ones_law()
     ensures parts { (before behind : List ℕ) → length before % 80 ≡ 0
         → ones_sum (before ++ (checksum_card (ones_sum (before ++ (blank_checksum_card ++ behind))) ++ behind)) ≡ 4294967295 }

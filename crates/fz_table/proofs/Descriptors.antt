@@ -33,14 +33,14 @@ read_again false d rest fits =
     let both = numbers 4 d.count d.offset rest (omega arith) (omega arith) in
     by_parts (descriptor_in false (descriptor_bytes false d.count d.offset ++ rest)) d both.0 both.1
 
--- one that stands k bytes behind the front of n bytes that were read from a place on
+-- one that stands k bytes after the front of n bytes that were read from a place on
 number_from : (k at n m : ℕ) (bytes : List ℕ) → k + m ≤ n → big_number m (drop k (take n (drop at bytes))) ≡ big_number m (drop (at + k) bytes)
 number_from k at n m bytes within =
     let whole : k + (n - k) ≡ n = omega arith in
     let cut : drop k (take n (drop at bytes)) ≡ take (n - k) (drop k (drop at bytes)) = ap (λ j. drop k (take j (drop at bytes))) (sym whole) ∙ drop-take k (n - k) (drop at bytes) in
     ap (big_number m) cut ∙ (big_from-take 0 m (n - k) (drop k (drop at bytes)) (omega arith) ∙ ap (big_number m) (drop-drop k at bytes))
 
--- the same of the one behind it
+-- the same of the one after it
 second_from : (m k at n : ℕ) (bytes : List ℕ) → k + (m + m) ≤ n → big_number m (drop m (drop k (take n (drop at bytes)))) ≡ big_number m (drop m (drop (at + k) bytes))
 second_from m k at n bytes within =
     let sum : at + (k + m) ≡ at + k + m = omega arith in
@@ -72,7 +72,7 @@ pair_from (Some g) t first second row buffer a b together len read is_a is_b =
     ∙ (read_from second.wide (descriptor_len first.wide) start (length buffer) g (omega arith) ∙ ap (λ j. descriptor_in second.wide (drop j g)) behind) in
     (is_a ∙ front, is_b ∙ back)
 
--- of rows that were read one behind another each says what it says in the file
+-- of rows that were read one after another each says what it says in the file
 column_in : (column : Option Column) (file rows : List ℕ) (t : Table) (first k : ℕ) → IfSome column (λ c. StandsInRow t c × (1 ≤ c.unit)) → rows ≡ take (length rows) (drop (row_start t first) file) →
     t.row_bytes * (k + 1) ≤ length rows → described_in_row column (drop (t.row_bytes * k) rows) ≡ described_at file t column (first + k)
 column_in None file rows t first k stands read within = refl

@@ -33,7 +33,7 @@ accepted : (header : List ℕ) (h : Header) → first_refusal (table_checks head
 unfolding table_of
 accepted header h none = ap (unless_refused (table_in header h)) none
 
--- the checks behind those of TFIELDS, by the number of columns
+-- the checks after those of TFIELDS, by the number of columns
 abbrev row_checks : List ℕ → Header → ℕ → List (Bool × Fault)
 row_checks header h n = flat_map (form_checks header h) (range_with_len 1 n) ++ width_checks header h
 

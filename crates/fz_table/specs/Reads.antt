@@ -59,7 +59,7 @@ two_fill (Some c) (Some d) len = (follows c d || follows d c) && descriptor_len 
 abbrev pub is_filled : Table → Bool
 is_filled t = two_fill t.coded t.stored t.row_bytes
 
--- each byte of so many rows that stand one behind another is then one of a descriptor of one of them
+-- each byte of so many rows that are one after another is then one of a descriptor of one of them
 abbrev pub FilledLaw : Type 0
 FilledLaw = (t : Table) (first count byte : ℕ) → IsTable t → is_filled t ≡ true → row_start t first ≤ byte → byte < row_start t first + t.row_bytes * count →
     (k : ℕ) × (k < count) × LiesIn (row_ranges t (first + k)) byte

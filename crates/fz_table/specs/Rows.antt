@@ -92,7 +92,7 @@ pub record IsTable (t : Table) : Type 0 where
   pub stored : IfSome t.stored (λ c. StandsInRow t c × (1 ≤ c.unit))
   pub gzip : IfSome t.gzip (λ c. StandsInRow t c × (1 ≤ c.unit))
 
--- of rows that were read one behind another, each says what it says in the file
+-- of rows that were read one after another, each says what it says in the file
 abbrev pub RowInLaw : Type 0
 RowInLaw = (file rows : List ℕ) (t : Table) (first k : ℕ) → IsTable t → rows ≡ take (length rows) (drop (row_start t first) file) →
     t.row_bytes * (k + 1) ≤ length rows → row_in t (drop (t.row_bytes * k) rows) ≡ row_at file t (first + k)

@@ -57,7 +57,7 @@ form_checks header h i = (is_none (form_of header i), bad_table h (tform_card he
 abbrev pub width_checks : List ℕ → Header → List (Bool × Fault)
 width_checks header h = (not (columns_len header (field_count header) == row_len_of h), bad_table h (Some 3)) ∷ []
 
--- the heap begins behind the rows, and within the data
+-- the heap begins after the rows, and within the data
 abbrev pub heap_checks : List ℕ → Header → List (Bool × Fault)
 heap_checks header h =
     (is_some (theap_card header) && not (is_from (rows_len_of h) (rows_len_of h + h.pcount) (integer_at header (theap_card header))), bad_table h (theap_card header))
@@ -104,7 +104,7 @@ table_checks header h =
     ++ (heap_checks header h
     ++ flat_map (column_checks header h) (range_with_len 1 (field_count header))))))
 
--- the table that the header says: the heap goes from THEAP to the end of the data, which has PCOUNT bytes behind the rows
+-- the table that the header says: the heap goes from THEAP to the end of the data, which has PCOUNT bytes after the rows
 abbrev pub table_in : List ℕ → Header → Table
 table_in header h = record {
   row_bytes = row_len_of h;

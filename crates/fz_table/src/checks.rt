@@ -5,7 +5,17 @@ ghost use Rattle.fz_base.specs.Refusal.{IsFirstOf};
 ghost use Rattle.fz_block.specs.Facts.{IsHeaderOf};
 ghost use Rattle.fz_block.specs.Header.{next_start_of};
 ghost use Rattle.fz_table.specs.Columns.{field_count, form_of, width_of, columns_len};
-ghost use Rattle.fz_table.specs.Tables.{array_checks, field_checks, form_checks, width_checks, heap_checks, heap_start_of, row_len_of, row_count_of, rows_len_of};
+ghost use Rattle.fz_table.specs.Tables.{
+  array_checks,
+  field_checks,
+  form_checks,
+  width_checks,
+  heap_checks,
+  heap_start_of,
+  row_len_of,
+  row_count_of,
+  rows_len_of,
+};
 
 use crate::cards::{bad_table, first_named, form_of, integer_at};
 use fz_base::Fault;
@@ -89,7 +99,7 @@ pub(crate) fn row_len(buf: &[u8], header: &Header, fields: u32) -> Result<u32, F
     }
 }
 
-/// The byte of the data at which the heap begins: behind the rows, and within the data.
+/// The byte of the data at which the heap begins: after the rows, and within the data.
 pub(crate) fn heap_start(buf: &[u8], header: &Header) -> Result<u64, Fault>
     requires header { IsHeaderOf buf.now header.now }
     requires data { header.now.data_len ≡ rows_len_of header.now + header.now.pcount }

@@ -13,7 +13,7 @@ pub(crate) struct Form {
     pub(crate) letter: u8,
     /// The bytes that the column takes in a row.
     pub(crate) len: u64,
-    /// What stands directly behind the letter: in an array descriptor the letter of the elements.
+    /// What is directly after the letter: in an array descriptor the letter of the elements.
     pub(crate) element: Option<u8>,
 }
 

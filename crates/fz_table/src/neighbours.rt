@@ -1,4 +1,4 @@
-//! Rows that are read one behind another by one reading.
+//! Rows that are read one after another by one reading.
 ghost use Rattle.std.specs.Prelude.{◌≡◌, ◌+◌, ◌≤◌, length as len, IfSome, IfNone};
 ghost use Rattle.fz_table.specs.Rows.{row_in, described_in_row, StandsInRow, IsTable, IsRowOf, RowInLaw};
 ghost use Rattle.fz_table.specs.Reads.{is_filled, FilledLaw};
@@ -7,7 +7,7 @@ use crate::reading::follows;
 use crate::rows::{NOTHING, descriptor_in, descriptor_len};
 use crate::{Column, Descriptor, Row, Table};
 
-/// What the row at the front of these bytes says of its tile. Of rows that were read one behind another
+/// What the row at the front of these bytes says of its tile. Of rows that were read one after another
 /// by one reading each says what it says in the file (`row_in_law`).
 pub fn row_in(table: &Table, bytes: &[u8]) -> Row
     requires table { IsTable table.now }
@@ -38,13 +38,13 @@ fn described_in_row(table: &Table, column: Option<Column>, bytes: &[u8]) -> Desc
     }
 }
 
-/// Of rows that were read one behind another, each says what it says in the file.
+/// Of rows that were read one after another, each says what it says in the file.
 pub fn row_in_law()
     ensures { RowInLaw }
 {}
 
 /// Whether the descriptors of the two columns that may hold a tile fill the row. Rows that stand one
-/// behind another may then be read by one reading, whose bytes are those of their descriptors alone
+/// after another may then be read by one reading, whose bytes are those of their descriptors alone
 /// (`filled_law`).
 pub fn is_filled(table: &Table) -> bool
     ensures { result ≡ is_filled table.now }
@@ -61,7 +61,7 @@ pub fn is_filled(table: &Table) -> bool
     }
 }
 
-/// Where the descriptors fill the row, each byte of rows that stand one behind another is one of a
+/// Where the descriptors fill the row, each byte of rows that are one after another is one of a
 /// descriptor of one of them.
 pub fn filled_law()
     ensures { FilledLaw }

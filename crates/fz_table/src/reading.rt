@@ -3,7 +3,17 @@ ghost use Rattle.std.specs.Prelude.{ℕ, ◌≡◌, ◌+◌, ◌*◌, ◌≤◌,
 ghost use Rattle.fz_base.specs.Stop.{ReadsOnly, IsDefined, IsRefused, IfAnswered, IfRefused};
 ghost use Rattle.fz_base.specs.Ranges.{Logs};
 ghost use Rattle.fz_base.specs.Source.{logged, MayLog};
-ghost use Rattle.fz_table.specs.Rows.{descriptor_len, descriptor_in, row_at, described_at, descriptor_at, descriptor_start, IsTable, IsRowOf, StandsInRow};
+ghost use Rattle.fz_table.specs.Rows.{
+  descriptor_len,
+  descriptor_in,
+  row_at,
+  described_at,
+  descriptor_at,
+  descriptor_start,
+  IsTable,
+  IsRowOf,
+  StandsInRow,
+};
 ghost use Rattle.fz_table.specs.Records.{record_at, record_of, record_bytes, StandsInHeap, IsOfRow};
 ghost use Rattle.fz_table.specs.declared.row.Row.{Row as RowSays};
 ghost use Rattle.fz_table.specs.Reads.{descriptor_ranges, follows, two_reads, row_reads, RowReadsLaw};
@@ -172,8 +182,12 @@ fn read_pair<S: Source>(
     requires together { first.now.at + descriptor_len first.now.wide ≡ second.now.at }
     ensures exact { IfOk result (λ p. IfSome (S.held source.old) (λ g.
         (p.0 ≡ descriptor_at g table.now first.now row) × (p.1 ≡ descriptor_at g table.now second.now row))) }
-    ensures read { OnOk result (S.ranges source.new ≡ logged (descriptor_start table.now first.now row) (descriptor_len first.now.wide + descriptor_len second.now.wide) (S.ranges source.old)) }
-    ensures failed { OnErr result (MayLog (descriptor_start table.now first.now row) (descriptor_len first.now.wide + descriptor_len second.now.wide) (S.ranges source.old) (S.ranges source.new)) }
+    ensures read { OnOk result (S.ranges source.new
+        ≡ logged (descriptor_start table.now first.now row)
+        (descriptor_len first.now.wide + descriptor_len second.now.wide) (S.ranges source.old)) }
+    ensures failed { OnErr result
+        (MayLog (descriptor_start table.now first.now row)
+        (descriptor_len first.now.wide + descriptor_len second.now.wide) (S.ranges source.old) (S.ranges source.new)) }
     ensures held { S.held source.new ≡ S.held source.old }
     ensures attached { S.attached source.new ≡ S.attached source.old }
     ensures cause { ReadsOnly (S.tally source.old) (S.tally source.new) result }
@@ -187,7 +201,7 @@ fn read_pair<S: Source>(
     Ok(pair_in(read, first.wide, second.wide))
 }
 
-// The two descriptors that stand one behind the other at the front of these bytes.
+// The two descriptors that are one after the other at the front of these bytes.
 fn pair_in(bytes: &[u8], first: bool, second: bool) -> (Descriptor, Descriptor)
     requires { descriptor_len first + descriptor_len second ≤ len bytes.now }
     ensures first { result.0 ≡ descriptor_in first bytes.now }
@@ -198,7 +212,7 @@ fn pair_in(bytes: &[u8], first: bool, second: bool) -> (Descriptor, Descriptor)
 }
 
 /// Reads what is read of a record into the front of a buffer, by one reading (FITS 4.0, section 7.3.5).
-/// The bytes behind stay as they are.
+/// The bytes after stay as they are.
 ///
 /// It stops with ReadFault or NoMemory where the source does, and refuses nothing; the buffer then holds
 /// some bytes.

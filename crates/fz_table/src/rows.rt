@@ -3,7 +3,17 @@ ghost use Rattle.std.specs.Prelude.{ℕ, Bool, List, ◌++◌, ◌≡◌, ◌+�
 ghost use Rattle.fz_base.specs.Stop.{ReadsOnly, IsRefused};
 ghost use Rattle.fz_base.specs.Source.{logged, MayLog};
 ghost use Rattle.fz_table.specs.declared.array.Descriptor.{Descriptor};
-ghost use Rattle.fz_table.specs.Rows.{descriptor_len, descriptor_in, descriptor_start, descriptor_at, heap_range, range_of, descriptor_bytes, packed_row, FitsDescriptor};
+ghost use Rattle.fz_table.specs.Rows.{
+  descriptor_len,
+  descriptor_in,
+  descriptor_start,
+  descriptor_at,
+  heap_range,
+  range_of,
+  descriptor_bytes,
+  packed_row,
+  FitsDescriptor,
+};
 
 use crate::{Column, Descriptor, Table};
 use byteorder::{BigEndian, ByteOrder};
@@ -29,8 +39,11 @@ pub fn descriptor<S: Source>(
     requires rows { (n : ℕ) × (S.attached source.old ≡ Some n) × (table.now.rows_at + table.now.row_bytes * table.now.rows ≤ n) }
     requires column { column.now.at + descriptor_len column.now.wide ≤ table.now.row_bytes }
     ensures exact { IfOk result (λ d. IfSome (S.held source.old) (λ g. d ≡ descriptor_at g table.now column.now row)) }
-    ensures read { OnOk result (S.ranges source.new ≡ logged (descriptor_start table.now column.now row) (descriptor_len column.now.wide) (S.ranges source.old)) }
-    ensures failed { OnErr result (MayLog (descriptor_start table.now column.now row) (descriptor_len column.now.wide) (S.ranges source.old) (S.ranges source.new)) }
+    ensures read { OnOk result (S.ranges source.new
+        ≡ logged (descriptor_start table.now column.now row) (descriptor_len column.now.wide) (S.ranges source.old)) }
+    ensures failed { OnErr result
+        (MayLog (descriptor_start table.now column.now row) (descriptor_len column.now.wide) (S.ranges source.old)
+        (S.ranges source.new)) }
     ensures held { S.held source.new ≡ S.held source.old }
     ensures attached { S.attached source.new ≡ S.attached source.old }
     ensures cause { ReadsOnly (S.tally source.old) (S.tally source.new) result }
@@ -139,5 +152,6 @@ fn write_descriptor(into: &mut [u8], wide: bool, d: &Descriptor)
 
 /// A descriptor that was written is read again.
 pub fn descriptor_law()
-    ensures { (wide : Bool) (d : Descriptor) (rest : List ℕ) → FitsDescriptor wide d → descriptor_in wide (descriptor_bytes wide d.count d.offset ++ rest) ≡ d }
+    ensures { (wide : Bool) (d : Descriptor) (rest : List ℕ) → FitsDescriptor wide d
+        → descriptor_in wide (descriptor_bytes wide d.count d.offset ++ rest) ≡ d }
 {}

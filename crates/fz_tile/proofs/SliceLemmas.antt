@@ -32,7 +32,7 @@ module _ {X Y : Type 0} (f : X → List Y) (k : ℕ) (size : (x : X) → length 
       ∙ sym (take-append-add (f x) (flat_map f xs) (k * n))
       ∙ ap (λ m. take m (f x ++ flat_map f xs)) (sym (next n x))
 
-  -- and what is behind them
+  -- and what is after them
   pub drop-flat : (n : ℕ) (xs : List X) → flat_map f (drop n xs) ≡ drop (k * n) (flat_map f xs)
   drop-flat zero xs = sym (ap (λ m. drop m (flat_map f xs)) (mul-zero k))
   drop-flat (suc n) [] = sym (drop-nil (k * suc n))
@@ -47,7 +47,7 @@ module _ {X Y : Type 0} (f : X → List Y) (k : ℕ) (size : (x : X) → length 
 pub slices-bytes : (b i n : ℕ) (xs : List ℤ) → IsSize b → plain_bytes b (take n (drop i xs)) ≡ take (b / 8 * n) (drop (b / 8 * i) (plain_bytes b xs))
 slices-bytes b i n xs size = slice-flat (pixel_bytes b) (b / 8) (λ x. length-pixel_bytes b x size) i n xs
 
--- the pixels behind the first i
+-- the pixels after the first i
 drop-pixels_at : (b k i count m : ℕ) (bs : List ℕ) → count ≡ i + m → drop i (pixels_at b k count bs) ≡ pixels_at b k m (drop (k * i) bs)
 unfolding pixels_at
 drop-pixels_at b k zero count m bs is =

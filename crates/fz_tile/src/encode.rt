@@ -16,7 +16,7 @@ use fz_rice::Coder;
 /// the tile's code where the codec has one that is shorter than the plain bytes, else the plain bytes.
 ///
 /// A pixel stands in one place of `numbers`, and one of 64 bits in two: its upper half and its lower half, each
-/// signed. `out` has at least 8 bytes for each pixel and 64 more; behind the tile's bytes it then holds some bytes.
+/// signed. `out` has at least 8 bytes for each pixel and 64 more; after the tile's bytes it then holds some bytes.
 pub fn encode_tile(codec: Codec, bitpix: i32, numbers: &[i32], out: &mut [u8]) -> Coded
     requires codec { CanWrite codec bitpix }
     requires tile { HoldTile (unsigned_abs bitpix) (length numbers.now) }

@@ -26,7 +26,7 @@ pub record IsExponentText (text : List ℕ) (e : ℤ) : Type 0 where
 abbrev pub IsExponent : List ℕ → ℤ → Type 0
 IsExponent text e = ((text ≡ []) × (e ≡ pos 0)) ⊎ IsExponentText text e
 
--- the decimal of a number that has so many of its digits behind the point, and an exponent: as few digits behind the point as hold it
+-- the decimal of a number that has so many of its digits after the point, and an exponent: as few digits after the point as hold it
 abbrev pub scaled : ℤ → ℕ → ℤ → Decimal
 scaled m behind (pos e) = record { number = m *ℤ pos (10 ^ (e - behind)); places = behind - e }
 scaled m behind (negsuc e) = record { number = m; places = behind + suc e }

@@ -13,7 +13,7 @@ abbrev pub before : (ℕ → Bool) → List ℕ → List ℕ
 before test [] = []
 before test (b ∷ bs) = if test b then [] else b ∷ before test bs
 
--- that byte and what stands behind it
+-- that byte and what is after it
 abbrev pub behind : (ℕ → Bool) → List ℕ → List ℕ
 behind test [] = []
 behind test (b ∷ bs) = if test b then b ∷ bs else behind test bs

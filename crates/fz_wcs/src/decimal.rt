@@ -1,4 +1,4 @@
-//! Decimals, as numbers and how many of their digits stand behind the point.
+//! Decimals, as numbers and how many of their digits are after the point.
 ghost use Rattle.std.specs.Prelude.{◌≡◌, ◌^◌, ◌<◌, ◌≤◌, ◌*ℤ◌, pos, unsigned_abs};
 ghost use Rattle.fz_wcs.specs.Decimals.{scaled as scaled_to, less as less_by, IsSmall};
 
@@ -9,7 +9,7 @@ pub struct Decimal {
     pub places: u32,
 }
 
-/// The decimal of an integer of which so many digits stand behind the point, and its exponent.
+/// The decimal of an integer of which so many digits are after the point, and its exponent.
 pub(crate) fn scaled(integer: i64, behind: u32, exponent: i32) -> Decimal
     requires few { behind ≤ 19 }
     requires small { IsSmall exponent }

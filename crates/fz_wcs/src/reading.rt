@@ -120,7 +120,7 @@ fn small_integer(text: &[u8]) -> Option<i32>
     }
 }
 
-/// How many characters stand behind a sign.
+/// How many characters are after a sign.
 fn digit_count(text: &[u8]) -> usize
     ensures { result ≡ length (without_leading_sign text.now) }
 {

@@ -15,7 +15,7 @@ use fz_card::{Card, integer_text_law, made_cards_law, number_card, value_text_la
 
 /// The card with its decimal less this whole number, and `None` exactly where its value is no decimal: a sign, 1 to 18
 /// digits with at most one point and an exponent from -9 to 9, of which the sign, the point and the exponent may be
-/// left away (FITS 4.0, sections 4.2.4 and 8.1). The new value has as many digits behind the point as hold the old one
+/// left away (FITS 4.0, sections 4.2.4 and 8.1). The new value has as many digits after the point as hold the old one
 /// exactly, and the card has no comment.
 pub fn shift(card: &Card, by: u32) -> Option<Card>
     ensures value { IfSome result (λ c. IsShifted card.now.bytes by c.bytes) }

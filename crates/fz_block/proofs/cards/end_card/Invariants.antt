@@ -1,4 +1,4 @@
--- No card so far is END: the search behind them says where it is.
+-- No card so far is END: the search after them says where it is.
 use Rattle.std.proofs.Common.{◌≡◌, ◌-◌, ◌*◌, drop}
 use Rattle.fz_block.specs.Cards.{end_among, end_of}
 use Rattle.fz_block.proofs.Ends.{from}

@@ -1,4 +1,4 @@
--- No card so far is GROUPS with T: the search behind them says where it is.
+-- No card so far is GROUPS with T: the search after them says where it is.
 use Rattle.std.proofs.Common.{◌≡◌, ◌-◌, ◌*◌, drop, codes}
 use Rattle.fz_block.specs.Cards.{first_among}
 use Rattle.fz_block.specs.Checks.{is_set}

@@ -1,4 +1,4 @@
--- Where the instructions of what is left are put behind those so far, all are put.
+-- Where the instructions of what is left are put after those so far, all are put.
 use Rattle.std.proofs.Common.{◌≡◌, ℕ, ◌^◌, ◌<◌, List, Result, length}
 use Rattle.std.specs.Prelude.{All}
 use Rattle.fz_plio.specs.Producer.{InRange, body_words}

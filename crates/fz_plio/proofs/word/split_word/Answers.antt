@@ -1,4 +1,4 @@
--- The first word, and the words of the bytes behind it.
+-- The first word, and the words of the bytes after it.
 use Rattle.fz_plio.proofs.WordLemmas.{words-cons, get_or-words}
 use Rattle.fz_plio.proofs.word.split_word.Goals as goal
 

@@ -1,4 +1,4 @@
--- Where the pieces that are left are put behind those so far, all are put.
+-- Where the pieces that are left are put after those so far, all are put.
 use Rattle.std.proofs.Common.{◌≡◌, ℕ, List, Result}
 use Rattle.fz_plio.specs.Operation.{code_of}
 use Rattle.fz_plio.specs.Producer.{in_pieces}

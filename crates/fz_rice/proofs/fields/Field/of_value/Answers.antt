@@ -5,7 +5,7 @@ use Rattle.fz_bits.specs.Bits.{number_bits}
 use Rattle.fz_rice.proofs.WritesLemmas.{low_bits, one_field}
 use Rattle.fz_rice.proofs.fields.Field.of_value.Goals as goal
 
--- the low bits of a value behind a one
+-- the low bits of a value after a one
 field_is : (k v : ℕ) → k < 64 → bit_or (1 * 2 ^ k % 18446744073709551616) (bit_and v (1 * 2 ^ k % 18446744073709551616 - 1)) ≡ 2 ^ k + v % 2 ^ k
 field_is k v h =
     ap (λ x. bit_or (1 * 2 ^ k % 18446744073709551616) x) (low_bits 64 k v h) ∙ ap (λ x. bit_or x (v % 2 ^ k)) (one_shl k 64 h ∙ omega arith) ∙ or_shifted 1 k (v % 2 ^ k) (mod_below v (2 ^ k) (pow_pos k)) ∙ omega arith
