@@ -28,7 +28,7 @@ pub(crate) fn is_within(shape: &Axes, region: &Region) -> bool
     true
 }
 
-/// The sieve has a pick along each axis of the array, and none behind it.
+/// The sieve has a pick along each axis of the array, and none after it.
 pub(crate) fn sifts(shape: &Axes, sieve: &Sieve) -> bool
     requires { IsShape shape.now }
     ensures { IsTrue result → IsSieveOf shape.now sieve.now }

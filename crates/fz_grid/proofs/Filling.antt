@@ -15,14 +15,14 @@ filled_more out i j v rest all inside next so_far =
 pub filled_all : (out all : List ℕ) (n : ℕ) (rest : List ℕ) → rest ≡ [] → take n out ++ rest ≡ all → take n out ≡ all
 filled_all out all n rest none so_far = sym (append-nil (take n out)) ∙ (ap (λ l. take n out ++ l) (sym none) ∙ so_far)
 
--- behind what is written all is 0
+-- after what is written all is 0
 pub zero_more : (out : List ℕ) (i v : ℕ) → IsZeroFrom i out → IsZeroFrom (i + 1) (set out i v)
 zero_more out i v zeros k behind =
     let other : k ≢ i = omega arith in
     let within : i ≤ k = omega arith in
     get_or-set_other out i k v 0 other ∙ zeros k within
 
--- behind what is written all is as before
+-- after what is written all is as before
 pub same_more : (before out : List ℕ) (i v : ℕ) → AreSameFrom i out before → AreSameFrom (i + 1) (set out i v) before
 same_more before out i v same k behind =
     let other : k ≢ i = omega arith in

@@ -20,6 +20,7 @@ pub mod SieveLists
 pub mod Sifted
 pub mod SmallLemmas
 pub mod SpanLemmas
+pub mod TilePlaces
 pub mod TileSums
 pub mod Tilings
 pub mod Touched

@@ -12,7 +12,7 @@ use Rattle.fz_grid.specs.Sieve.{pick_count, picks_before, picks_in, stepped}
 use Rattle.fz_grid.proofs.CommonLemmas.{each_some}
 use Rattle.fz_grid.proofs.PickAxes.{quotient_lt, steps_le, steps_reach, steps_to}
 
--- the first pick that is not before c stands at c or behind it
+-- the first pick that is not before c stands at c or after it
 pub first_pick : (o h s c e : ℕ) → 0 < s → 0 < picks_before o h s e - picks_before o h s c → (picks_before o h s c < pick_count o h s) × (c ≤ o + picks_before o h s c * s)
 first_pick o h s c e some shared =
     let k = picks_before o h s c in

@@ -29,7 +29,7 @@ shared_before n t o r d before =
     let least : (d + 1) * t ≤ o / t * t = mul-le-mul_right t (omega arith) in
     omega (arith, least, div-add-mod' o t)
 
--- a tile behind the last begins behind the box
+-- a tile after the last begins after the box
 shared_after : (n t o r d : ℕ) → 0 < t → 0 < r → (o + (r - 1)) / t < d → shared_on n t o r d ≡ 0
 shared_after n t o r d tile some after =
     let least : ((o + (r - 1)) / t + 1) * t ≤ d * t = mul-le-mul_right t (omega arith) in

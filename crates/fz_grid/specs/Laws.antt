@@ -1,5 +1,5 @@
 -- What the definitions of arrays and of tiles promise (FITS 4.0, sections 3.3.2 and 10.1).
-use Rattle.std.specs.Prelude.{◌≡◌, ℕ, ◌<◌, ◌≤◌, ℤ, pos, List, [], length, map, slice_index_or}
+use Rattle.std.specs.Prelude.{◌≡◌, ℕ, ◌<◌, ◌≤◌, ℤ, pos, List, [], length, map, slice_index, slice_index_or}
 use Rattle.std.specs.List.{range_with_len, sum_by}
 use Rattle.fz_block.specs.declared.axes.Axes.{Axes}
 use Rattle.fz_grid.specs.declared.region.Region.{Region}
@@ -54,6 +54,14 @@ abbrev pub TilesAreAtTheirPlaces : Type 0
 TilesAreAtTheirPlaces =
     (a : NumberArray) (lengths : List ℕ) (t : ℕ)
     → tile a lengths t ≡ map (λ place. slice_index_or a.numbers place (pos 0)) (tile_places a.lengths lengths t)
+
+-- each of these places lies in the array
+abbrev pub TilesLieInTheArray : Type 0
+TilesLieInTheArray =
+    (array tile : List ℕ) (t k : ℕ)
+    → AreTileLengths array tile
+    → k < length (tile_places array tile t)
+    → slice_index (tile_places array tile t) k < product array
 
 -- as many as the tile has pixels
 abbrev pub TilesHaveTheirPixels : Type 0

@@ -94,7 +94,7 @@ pub record IsSieve (sieve : Sieve) : Type 0 where
   pub inside : (i : ℕ) → i < sieve.n → slice_index sieve.hi i + 1 < 2 ^ 32
   pub positive : (i : ℕ) → i < sieve.n → 1 ≤ slice_index sieve.step i
 
--- a sieve of an array: a pick along each axis, and none behind the array
+-- a sieve of an array: a pick along each axis, and none after the array
 pub record IsSieveOf (shape : Axes) (sieve : Sieve) : Type 0 where
   pub same_axes : sieve.n ≡ shape.n
   pub ordered : (i : ℕ) → i < shape.n → slice_index sieve.lo i ≤ slice_index sieve.hi i

@@ -19,6 +19,7 @@ ghost use Rattle.fz_grid.specs.Laws.{
   TilesHaveAllPixels,
   TilesHaveAtMostTheirLengths,
   TilesHaveTheirPixels,
+  TilesLieInTheArray,
   TilesMakeOneArray,
 };
 ghost use Rattle.fz_grid.specs.Overlap.{IsInBox, common_corner, common_lengths, has_pixel};
@@ -39,10 +40,11 @@ pub fn one_tile_law()
     ensures numbers { NumbersAreInOneTile }
 {}
 
-/// A tile has the numbers at its places; an array is known by its tiles, and any lists of the right
-/// lengths are the tiles of one.
+/// A tile has the numbers at its places, which lie in the array; an array is known by its tiles, and any
+/// lists of the right lengths are the tiles of one.
 pub fn tiles_law()
     ensures places { TilesAreAtTheirPlaces }
+    ensures inside { TilesLieInTheArray }
     ensures pixels { TilesHaveTheirPixels }
     ensures same { TilesMakeOneArray }
     ensures whole { JoinedIsArray }

@@ -42,7 +42,7 @@ pub struct AxisPart {
 }
 
 impl Sieve {
-    /// The picks that lie in a region of the array, which has one. The entries of `inside` behind the last
+    /// The picks that lie in a region of the array, which has one. The entries of `inside` after the last
     /// axis are the sieve's.
     pub fn part(&self, shape: &Axes, region: &Region) -> Part
         requires axes { shape.now.n ≤ 9 }

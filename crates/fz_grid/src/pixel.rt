@@ -20,7 +20,7 @@ pub fn index(shape: &Axes, at: &[u32; 9]) -> u64
     place
 }
 
-/// The coordinates of the pixel with this number; the entries behind the last axis are 0.
+/// The coordinates of the pixel with this number; the entries after the last axis are 0.
 pub fn coordinates(shape: &Axes, place: u64) -> [u32; 9]
     requires shape { IsShape shape.now }
     requires place { place < product (lengths_of shape.now) }

@@ -32,14 +32,14 @@ before_end o h s e j some before =
     too_far : j < steps_to (e - o) s → e - o ≤ j * s → ⊥
     too_far less not_below = omega (arith, less, steps_le (e - o) s j some not_below)
 
--- the first pick that is not counted before c stands at c or behind it
+-- the first pick that is not counted before c stands at c or after it
 pub from_corner : (o h s c f : ℕ) → 0 < s → f ≡ picks_before o h s c → f < pick_count o h s → c ≤ o + f * s
 from_corner o h s c f some is below = by (steps_to (c - o) s) (omega arith) (steps_reach (c - o) s some)
   where
     by : (k : ℕ) → f ≡ k → c - o ≤ k * s → c ≤ o + f * s
     by k same reach = rw same (omega (arith, reach))
 
--- a pick at c or behind it is not counted before c
+-- a pick at c or after it is not counted before c
 pub counted_before : (o h s c k : ℕ) → 0 < s → c ≤ o + k * s → picks_before o h s c ≤ k
 counted_before o h s c k some from = omega (arith, steps_le (c - o) s k some (omega arith))
 

@@ -3,6 +3,7 @@ pub mod BoxLemmas
 pub mod CutoutLemmas
 pub mod PartLemmas
 pub mod PickedLemmas
+pub mod PlaceBounds
 pub mod RowLemmas
 pub mod SieveLemmas
 pub mod TableLemmas

@@ -16,7 +16,7 @@ pub record AreAxes (os hs ss cs ns : List ℕ) : Type 0 where
   pub lengths : length ns ≡ length os
   pub positive : (i : ℕ) → i < length os → 1 ≤ get_or ss i 0
 
-axes_tail : (o h s c n : ℕ) (os hs ss cs ns : List ℕ) → AreAxes (o ∷ os) (h ∷ hs) (s ∷ ss) (c ∷ cs) (n ∷ ns) → AreAxes os hs ss cs ns
+pub axes_tail : (o h s c n : ℕ) (os hs ss cs ns : List ℕ) → AreAxes (o ∷ os) (h ∷ hs) (s ∷ ss) (c ∷ cs) (n ∷ ns) → AreAxes os hs ss cs ns
 axes_tail o h s c n os hs ss cs ns are =
     record {
       his = omega (arith, are.his);

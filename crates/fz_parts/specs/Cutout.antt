@@ -18,7 +18,7 @@ use Rattle.fz_grid.specs.Sieve.{
   tile_picks,
 }
 
--- a box with a step of an array of these lengths: it has a pick along each axis, and none behind the array
+-- a box with a step of an array of these lengths: it has a pick along each axis, and none after the array
 pub record IsSteppedBoxOf (array lo hi step : List ℕ) : Type 0 where
   pub los : length lo ≡ length array
   pub his : length hi ≡ length array

@@ -1,5 +1,5 @@
 -- What the definitions of cutouts promise (FITS 4.0, section 10.1).
-use Rattle.std.specs.Prelude.{◌≡◌, ◌↔◌, ℕ, ◌<◌, IsTrue, ℤ, List, length, Contains}
+use Rattle.std.specs.Prelude.{◌≡◌, ◌↔◌, ℕ, ◌<◌, ◌≤◌, IsTrue, ℤ, List, length, slice_index, Contains}
 use Rattle.fz_grid.specs.declared.sieve.Sieve.{Sieve}
 use Rattle.fz_grid.specs.Arrays.{IsArray, NumberArray, product}
 use Rattle.fz_grid.specs.Division.{AreTileLengths}
@@ -39,6 +39,23 @@ PlacesArePickedOnce =
     → Sifts array sieve
     → place < product (sieve_lengths sieve)
     → IsPickedOnce array tile sieve place
+
+-- each place of a part lies in the cutout
+abbrev pub PartsLieInTheCutout : Type 0
+PartsLieInTheCutout =
+    (array tile : List ℕ) (sieve : Sieve) (t k : ℕ)
+    → AreTileLengths array tile
+    → Sifts array sieve
+    → k < length (picks_in_cutout array tile sieve t)
+    → slice_index (picks_in_cutout array tile sieve t) k < product (sieve_lengths sieve)
+
+-- a tile has no more picks than pixels
+abbrev pub PicksArePixels : Type 0
+PicksArePixels =
+    (array tile : List ℕ) (sieve : Sieve) (t : ℕ)
+    → AreTileLengths array tile
+    → Sifts array sieve
+    → length (picks_in_tile array tile sieve t) ≤ product (tile_lengths array tile t)
 
 -- a list that holds the parts of all tiles with a pick is the cutout
 abbrev pub PartsMakeTheCutout : Type 0

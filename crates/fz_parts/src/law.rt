@@ -2,7 +2,9 @@
 ghost use Rattle.fz_parts.specs.Laws.{
   CutoutsAreWhole,
   PartsAreOfTilesWithAPick,
+  PartsLieInTheCutout,
   PartsMakeTheCutout,
+  PicksArePixels,
   PickedTilesMakeOneCutout,
   PicksLieInPickedTiles,
   PlacesArePickedOnce,
@@ -12,10 +14,13 @@ ghost use Rattle.fz_parts.specs.Laws.{
 
 use fz_grid::{one_tile_law, place_law, tiles_law};
 
-/// The parts of an array's tiles make the cutout, each place of it once, and its tiles the array.
+/// The parts of an array's tiles lie in the cutout and make it, each place of it once, and its tiles make
+/// the array; a tile has no more picks than pixels.
 pub fn cutout_law()
     ensures count { CutoutsAreWhole }
     ensures numbers { TilesGiveTheirPicks }
+    ensures inside { PartsLieInTheCutout }
+    ensures room { PicksArePixels }
     ensures once { PlacesArePickedOnce }
     ensures cutout { PartsMakeTheCutout }
     ensures image { TilesMakeTheImage }

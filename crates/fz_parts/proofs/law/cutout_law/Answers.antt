@@ -1,5 +1,6 @@
 use Rattle.fz_parts.proofs.BoxLemmas.{PlaceLaws}
 use Rattle.fz_parts.proofs.CutoutLemmas.{cutout_whole, parts_make, picked_once, some_pick, tiles_give, tiles_make}
+use Rattle.fz_parts.proofs.PlaceBounds.{part_inside, picks_room}
 use Rattle.fz_parts.proofs.law.cutout_law.Goals as goal
 
 laws : goal.After-tiles_law → PlaceLaws
@@ -16,6 +17,12 @@ returns-clause-count c = cutout_whole (laws c)
 
 pub returns-clause-numbers : goal.returns-clause-numbers
 returns-clause-numbers c = tiles_give (laws c)
+
+pub returns-clause-inside : goal.returns-clause-inside
+returns-clause-inside c = part_inside (laws c)
+
+pub returns-clause-room : goal.returns-clause-room
+returns-clause-room c = picks_room (laws c)
 
 pub returns-clause-once : goal.returns-clause-once
 returns-clause-once c = picked_once (laws c) c.one_tile_law.ensures.coordinates
