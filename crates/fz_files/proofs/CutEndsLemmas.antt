@@ -204,7 +204,7 @@ grid_facts = record {
   data_len = 15;
 }
 
-grid_at : hdu_at 0 0 grid_file ≡ Ok grid_facts
+pub grid_at : hdu_at 0 0 grid_file ≡ Ok grid_facts
 unfolding hdu_at header_blocks_of header_of end_among first_among integer_of logical_of text_of quoted numbered_name digits
 grid_at = refl
 

@@ -1,7 +1,7 @@
 -- Six rows of `drill`, by computing.
 use Rattle.std.specs.Fmt.{digits}
 use Rattle.std.specs.Prelude.{None}
-use Rattle.std.proofs.Common.{◌≡◌, ℕ, pos, ◌+◌, true, false, Bool, List, [], ◌∷◌, ◌++◌, codes, decimal, length, append-nil, if◌then◌else◌, refl, ap, ◌∙◌, arith}
+use Rattle.std.proofs.Common.{◌≡◌, ℕ, pos, ◌+◌, ◌*◌, drop, true, false, Bool, List, [], ◌∷◌, ◌++◌, codes, decimal, length, append-nil, if◌then◌else◌, refl, ap, ◌∙◌, arith}
 use Rattle.std.proofs.lemmas.List.{length-append}
 use Rattle.fz_bits.specs.Bits.{bit, bits_value, bytes_of, number_bits}
 use Rattle.fz_plio.specs.Producer.{all_run_instructions, body_words, can_hold_all, high_change, last_zeros, line_list, pieces, run_instructions, runs, zeros_and_highs}
@@ -23,8 +23,8 @@ use Rattle.fz_head.specs.Planned.{pack_plan_of}
 use Rattle.fz_head.specs.declared.options.CodecWord.{CodecWord}
 use Rattle.fz_head.specs.declared.options.CodecWord.TheVariants as word
 use Rattle.fz_head.specs.declared.plan.Plan.{Plan}
-use Rattle.fz_files.specs.Drill.{drill_cards, drill_file, drill_hdu, drill_line, drill_lines, drill_options, drill_packed}
-use Rattle.fz_files.specs.DrillRows.{six_codec, six_codes, six_lines, six_plan}
+use Rattle.fz_files.specs.Drill.{drill_cards, drill_file, drill_hdu, drill_line, drill_lines, drill_options, drill_packed, drill_pixels}
+use Rattle.fz_files.specs.DrillRows.{row_32, six_codec, six_codes, six_lines, six_plan}
 use Rattle.fz_files.specs.Packed.{array_of, heap_of, packed_data, packed_from, packed_hdu, packed_image, packed_table, rows_from, table_header, tile_codes}
 
 -- ---- the file
@@ -160,3 +160,8 @@ unfolding drill_lines
 lines_are = λ i.
     codes "drill " ++ number_6 i ++ codes " plain " ++ (ap decimal plain_len ∙ number_8640) i ++ codes "\n"
     ++ (line_is word.Rice (codes "rice") (codes "8640") number_8640 i ++ (line_is word.Plio (codes "plio") (codes "8640") number_8640 i ++ line_is word.None (codes "none") (codes "11520") number_11520 i))
+
+-- ---- a row with a higher number
+
+pub later_is : drop (256 * 32) (drill_pixels 33) ≡ row_32
+later_is = refl

@@ -45,7 +45,7 @@ small_facts cards = record {
   data_len = 16;
 }
 
-small_at : hdu_at 0 0 trailing_file ≡ Ok (small_facts 5)
+pub small_at : hdu_at 0 0 trailing_file ≡ Ok (small_facts 5)
 unfolding hdu_at header_blocks_of header_of end_among first_among integer_of logical_of text_of quoted numbered_name digits
 small_at = refl
 
@@ -53,8 +53,8 @@ reserved_at : hdu_at 0 0 reserved_file ≡ Ok (small_facts 6)
 unfolding hdu_at header_blocks_of header_of end_among first_among integer_of logical_of text_of quoted numbered_name digits
 reserved_at = refl
 
--- behind it there are ten bytes
-no_hdu : hdu_at 1 5760 trailing_file ≡ Err (refusal 1 (Byte 5760) TrailingBytes)
+-- after it there are ten bytes
+pub no_hdu : hdu_at 1 5760 trailing_file ≡ Err (refusal 1 (Byte 5760) TrailingBytes)
 unfolding hdu_at header_blocks_of end_among
 no_hdu = refl
 
@@ -67,7 +67,7 @@ refuses : pack_judge rice_options reserved_file (small_facts 6) ≡ Err (refusal
 unfolding is_packable end_among logical_of is_reserved plain_name packed_names foreign_names renamings number_behind numbered_name digits text_of quoted
 refuses = refl
 
-takes : pack_judge rice_options trailing_file (small_facts 5) ≡ Ok false
+pub takes : pack_judge rice_options trailing_file (small_facts 5) ≡ Ok false
 unfolding is_packable end_among logical_of is_reserved plain_name packed_names foreign_names renamings number_behind numbered_name digits text_of quoted pack_plan_of packed_header
 takes = refl
 
@@ -83,13 +83,15 @@ own_first =
     (ap (fault_of_walk (Pack rice_options) reserved_file)
     (refused_by_job (pack_judge rice_options reserved_file) 65534 0 0 reserved_file (small_facts 6) (refusal 0 (Card 5) Reserved) reserved_at refuses))
 
-pub trailing_first : IsFirstFault (Pack rice_options) trailing_file trailing_fault
+pub trailing_fault_is : header_fault (Pack rice_options) trailing_file ≡ Some (refusal 1 (Byte 5760) TrailingBytes)
 unfolding job_walk
-trailing_first =
-    is_first (Pack rice_options) trailing_file (refusal 1 (Byte 5760) TrailingBytes)
-    (ap (fault_of_walk (Pack rice_options) trailing_file)
+trailing_fault_is =
+    ap (fault_of_walk (Pack rice_options) trailing_file)
     (goes_on (pack_judge rice_options trailing_file) 65534 0 0 trailing_file (small_facts 5) (Err (refusal 1 (Byte 5760) TrailingBytes)) small_at takes refl
-    (refused_at_hdu (pack_judge rice_options trailing_file) 65533 1 5760 trailing_file (refusal 1 (Byte 5760) TrailingBytes) no_hdu)))
+    (refused_at_hdu (pack_judge rice_options trailing_file) 65533 1 5760 trailing_file (refusal 1 (Byte 5760) TrailingBytes) no_hdu))
+
+pub trailing_first : IsFirstFault (Pack rice_options) trailing_file trailing_fault
+trailing_first = is_first (Pack rice_options) trailing_file (refusal 1 (Byte 5760) TrailingBytes) trailing_fault_is
 
 pub unpack_first : IsFirstFault Unpack reserved_file trailing_fault
 unfolding job_walk

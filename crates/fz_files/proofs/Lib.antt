@@ -38,6 +38,7 @@ pub mod TablePlaces
 pub mod TableRefused
 pub mod TableRows
 pub mod TableStandsLemmas
+pub mod TouchedFileLemmas
 pub mod TouchedLemmas
 pub mod WideFileLemmas
 pub mod WorkedCards

@@ -114,7 +114,7 @@ plan_checks_none : first_refusal (packed_checks 1 (block_of blanks_cards) true) 
 unfolding integer_of logical_of text_of quoted number_behind numbered_name digits end_among
 plan_checks_none = refl
 
--- what the checks of the table of a file come to, with these cards behind the empty primary
+-- what the checks of the table of a file come to, with these cards after the empty primary
 pub table_none :
     first_refusal (table_card_checks sums_facts (block_of blanks_cards) ++ (if is_packed (block_of blanks_cards) sums_facts then image_checks sums_facts (block_of blanks_cards) true else [])) ≡ None
 table_none =

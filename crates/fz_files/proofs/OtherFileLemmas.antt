@@ -178,7 +178,7 @@ numbers_32 =
     All-cons (IsNumber 32) (pos 1000) (pos 1000 ∷ pos 1003 ∷ []) (omega arith)
     (All-cons (IsNumber 32) (pos 1000) (pos 1003 ∷ []) (omega arith) (All-cons (IsNumber 32) (pos 1003) [] (omega arith) (All-nil (IsNumber 32))))
 
--- behind the code two bits fill
+-- after the code two bits fill
 pub means : Means (codec.Rice 32 4) 16 place.Coded 6 other_heap image_numbers
 unfolding number_bits bits_of
 means = (

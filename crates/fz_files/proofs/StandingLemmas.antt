@@ -58,7 +58,7 @@ checks_none =
 pub passes_table : unpack_judge plain_file table_facts ≡ Ok false
 passes_table = ap (unless_refused false) checks_none
 
-walk_is : walk_of (unpack_judge plain_file) 65536 plain_file ≡ Ok (first_facts ∷ table_facts ∷ [])
+pub walk_is : walk_of (unpack_judge plain_file) 65536 plain_file ≡ Ok (first_facts ∷ table_facts ∷ [])
 walk_is =
     goes_on (unpack_judge plain_file) 65535 0 0 plain_file first_facts (Ok (table_facts ∷ [])) first_at passes_first refl
     (ends_with (unpack_judge plain_file) 65534 1 2880 plain_file table_facts table_at passes_table refl)

@@ -136,7 +136,7 @@ row_stands read file hdu p at heap t offset xs e rest behind is pixels within fi
 
 -- ---- the data of the table
 
--- a part of some bytes, with others behind them
+-- a part of some bytes, with others after them
 part_of : (bytes front middle back rest : List ℕ) (n : ℕ) → bytes ≡ front ++ (middle ++ back) → length front ≡ n → drop n (bytes ++ rest) ≡ middle ++ (back ++ rest)
 part_of bytes front middle back rest n same len =
     (λ i. drop (sym len i) (same i ++ rest))

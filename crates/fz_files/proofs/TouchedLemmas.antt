@@ -1,4 +1,4 @@
--- What a cut may read lies within the file: headers, rows and records (FITS 4.0, sections 3.1, 7.3.5 and 10.1).
+-- What a cut may read lies within the file: headers, rows and records; and what is read of any row (FITS 4.0, sections 3.1, 7.3.5 and 10.1).
 use Rattle.std.proofs.Common.{◌≡◌, ℕ, zero, suc, ◌+◌, ◌*◌, ◌≤◌, ◌<◌, nat_lt, Bool, true, false, List, [], ◌∷◌, ◌++◌, length, map, cond, All, Option, Some, None, IfSome, Result, Ok, Err, append_assoc, refl, sym, subst, ◌∙◌, ap, arith}
 use Rattle.std.specs.List.{AllByRecursion, filter, flat_map, range_with_len}
 use Rattle.std.proofs.Math.Nat.{mul-le-mul_left}
@@ -30,6 +30,7 @@ use Rattle.fz_head.specs.PackedChecks.{packed_checks}
 use Rattle.fz_files.specs.declared.job.Job.TheVariants.{Cut}
 use Rattle.fz_files.specs.Cutout.{header_range, ranges_of_row, rows_touched, touched}
 use Rattle.fz_files.specs.FirstFault.{image_row, picked_rows}
+use Rattle.fz_files.specs.Laws.{RowsLieWithin}
 use Rattle.fz_files.specs.Restored.{header_in, image_table, plan_in, tile_of}
 use Rattle.fz_files.specs.Walks.{box_of, found_headers, header_fault, headers_for, job_walk, last_of, reached_by}
 use Rattle.fz_files.proofs.FaultLemmas.{WalkFindsHeaders, cut_header, cut_passed, found_walk}
@@ -101,6 +102,18 @@ tile_lies : (file : List ℕ) (hdu : ℕ) (t : Table) (tile : Tile) (row : ℕ) 
 tile_lies file hdu t tile row stands near =
     both_lie file (row_ranges t row) (record_ranges (record_at file hdu t row tile)) (row_lies file t stands row near) (record_lies file hdu row t tile stands (record_at file hdu t row tile) refl)
 
+-- the table of an HDU of the file that passes the checks of every job, if its own checks pass
+table_within : HeaderIsFound → (file : List ℕ) (h : Header) → hdu_at h.hdu h.start file ≡ Ok h → first_refusal (table_checks (header_in file h) h) ≡ None → StandsWithin (image_table file h) (length file)
+table_within find file h found none =
+    let inside : next_start_of h ≤ length file = within h.hdu h.start file h found in
+    let stands : StandsWithin (image_table file h) (next_start_of h) = table_stands_within (header_in file h) h (find h.hdu h.start file h found).2 none in
+    record { rows = stands.rows; heap = omega (arith, stands.heap, inside); coded = stands.coded; stored = stands.stored; gzip = stands.gzip }
+
+pub rows_lie_within : HeaderIsFound → RowsLieWithin
+rows_lie_within find file h row found none near =
+    All-from_recursion (Lies file) (ranges_of_row file (image_row h row))
+    (tile_lies file h.hdu (image_table file h) (tile_of (plan_in file h) row) row (table_within find file h found none) near)
+
 -- ---- the rows with a pick
 
 -- what is known of the packed image that is cut from
@@ -150,12 +163,7 @@ is_cut_from find file sieve h found readable none =
     back_passed (packed_card_checks h header) (image_checks h header empty ++ box_checks h.hdu (cards_of header) (box_of sieve)) none in
     let table : first_refusal (table_checks header h) ≡ None =
     front_passed (table_checks header h) (packed_checks h.hdu header empty) (front_passed (image_checks h header empty) (box_checks h.hdu (cards_of header) (box_of sieve)) behind) in
-    let inside : next_start_of h ≤ length file = within h.hdu h.start file h found in
-    let stands : StandsWithin (image_table file h) (next_start_of h) = table_stands_within header h (find h.hdu h.start file h found).2 table in
-    record {
-      stands = record { rows = stands.rows; heap = omega (arith, stands.heap, inside); coded = stands.coded; stored = stands.stored; gzip = stands.gzip };
-      rows = readable.rows;
-    }
+    record { stands = table_within find file h found table; rows = readable.rows }
 
 each_cut_from : HeaderIsFound → (file : List ℕ) (sieve : Sieve) (hs : List Header) → EachIs (λ h. hdu_at h.hdu h.start file ≡ Ok h) hs → EachIs (IsReadable file) hs → EachIs (IsPassed file sieve) hs → EachIs (IsCutFrom file sieve) hs
 each_cut_from find file sieve [] found readable passed = tt

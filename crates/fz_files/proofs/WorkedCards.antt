@@ -34,7 +34,7 @@ pub value_is : (name digits : List ℕ) (v : ℕ) → decimal v ≡ digits → i
 unfolding int_card_bytes
 value_is name digits v e = ap (λ d. value_card name (right_aligned 20 d)) e
 
--- a number of one digit behind a stem
+-- a number of one digit after a stem
 pub digit_name : (stem : List ℕ) (i : ℕ) → i < 10 → numbered_name stem i ≡ padded (stem ++ (48 + i) ∷ [])
 unfolding numbered_name
 digit_name stem i h = ap (λ d. padded (stem ++ d)) (decimal_digit i h)

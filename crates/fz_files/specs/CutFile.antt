@@ -8,7 +8,7 @@ use Rattle.fz_files.specs.ExtensionFile.{image_table_cards}
 use Rattle.fz_files.specs.HandMade.{block_of, card_of}
 use Rattle.fz_files.specs.PlainFile.{plain_cards}
 
--- the header of the table, behind the empty primary: 21 cards in one block, and 96 bytes of rows and 15 bytes of heap behind it
+-- the header of the table, after the empty primary: 21 cards in one block, and 96 bytes of rows and 15 bytes of heap after it
 abbrev pub table_facts : Header
 table_facts = record {
   hdu = 1;
@@ -88,11 +88,11 @@ box_cards =
 abbrev pub box_file : List ℕ
 box_file = block_of box_cards ++ ((0x07 ∷ 0x08 ∷ 0x09 ∷ 0x0C ∷ 0x0D ∷ 0x0E ∷ []) ++ replicate 2874 0)
 
--- the cards of the table, and behind them reference pixels of both axes
+-- the cards of the table, and after them reference pixels of both axes
 abbrev pub reference_cards : List (List ℕ)
 reference_cards = plain_cards ++ card_of (codes "CRPIX1  =                  3.0") ∷ card_of (codes "CRPIX2  =                  2.5") ∷ []
 
--- the cards of the cutout of the box, whose corner is one pixel behind the first along both axes
+-- the cards of the cutout of the box, whose corner is one pixel after the first along both axes
 abbrev pub moved_cards : List (List ℕ)
 moved_cards = box_cards ++ card_of (codes "CRPIX1  =                  2.0") ∷ card_of (codes "CRPIX2  =                  1.5") ∷ []
 

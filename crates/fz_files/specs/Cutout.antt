@@ -42,7 +42,7 @@ rows_touched (Some fault) job file = []
 rows_touched None job file = flat_map (ranges_of_row file) (rows_for job file (headers_for job file))
 
 -- the ranges of the file that a cut of the wanted HDU, or of the first packed one, may read: the headers of the HDUs that it comes
--- to, and behind them the rows and records of the tiles that hold a pick
+-- to, and after them the rows and records of the tiles that hold a pick
 unfoldable pub touched : Option ℕ → Sieve → List ℕ → List (ℕ × ℕ)
 touched wanted sieve file =
     let job = Cut wanted sieve in

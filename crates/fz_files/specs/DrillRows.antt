@@ -1,6 +1,6 @@
--- What `drill` makes of six rows, written out by hand: what is written for each row with each codec, and the lines (FITS 4.0, sections
--- 4.4.1, 10.1 and 10.4).
-use Rattle.std.specs.Prelude.{ℕ, pos, ◌+◌, ◌/◌, ◌%◌, true, false, List, [], ◌∷◌, ◌++◌, codes}
+-- What `drill` makes of six rows, written out by hand: what is written for each row with each codec, and the lines; and a row with a higher
+-- number (FITS 4.0, sections 4.4.1, 10.1 and 10.4).
+use Rattle.std.specs.Prelude.{ℕ, ℤ, pos, ◌+◌, ◌/◌, ◌%◌, true, false, List, [], ◌∷◌, ◌++◌, replicate, codes}
 use Rattle.std.specs.List.{flat_map, range_with_len}
 use Rattle.fz_tile.specs.TileCode.{TileCode}
 use Rattle.fz_tile.specs.declared.codec.Codec.{Codec}
@@ -68,6 +68,11 @@ abbrev pub six_codes : CodecWord → List TileCode
 six_codes word.Rice = rice_row 0x03 0xE8 ∷ rice_row 0x03 0xE9 ∷ rice_row 0x03 0xEC ∷ rice_row 0x03 0xF1 ∷ rice_row 0x03 0xF8 ∷ rice_row 0x04 0x01 ∷ []
 six_codes word.Plio = list_row 0x23 0xE7 ∷ list_row 0x23 0xE8 ∷ list_row 0x23 0xEB ∷ list_row 0x23 0xF0 ∷ list_row 0x23 0xF7 ∷ list_row 0x24 0x00 ∷ []
 six_codes word.None = stored_row 1000 ∷ stored_row 1001 ∷ stored_row 1004 ∷ stored_row 1009 ∷ stored_row 1016 ∷ stored_row 1025 ∷ []
+
+-- Row 32 of the image of 33 rows, the first whose square is above 999: it is 1,024, and 24 is left of it. Eight runs of 32 pixels, the first of
+-- 1,000 and 24, and each by 7 above the one before it.
+abbrev pub row_32 : List ℤ
+row_32 = flat_map (λ value. replicate 32 (pos value)) (1024 ∷ 1031 ∷ 1038 ∷ 1045 ∷ 1052 ∷ 1059 ∷ 1066 ∷ 1073 ∷ [])
 
 -- The lines. The file has a header of one block, and 3,072 bytes of pixels, in two blocks. A packed file has an empty primary and a header of
 -- one block each, and then the rows of 16 bytes and the heap: 378 bytes with Rice codes, 372 with line lists, and 3,168 without a codec.

@@ -6,6 +6,7 @@ use Rattle.fz_base.specs.declared.fault.Fault.{Fault}
 use Rattle.fz_base.specs.declared.fault.Place.TheVariants.{Byte}
 use Rattle.fz_base.specs.declared.kind.Kind.TheVariants.{Limit}
 use Rattle.fz_block.specs.Checks.{Judge, hdu_at, unjudged}
+use Rattle.fz_block.specs.Header.{next_start_of}
 use Rattle.fz_block.specs.declared.header.Header.{Header}
 use Rattle.fz_grid.specs.declared.sieve.Sieve.{Sieve}
 use Rattle.fz_head.specs.Judges.{cut_judge, pack_judge, unpack_judge}
@@ -47,11 +48,15 @@ pub record EndsAtTheFault (job : Job) (file : List ℕ) (x : Fault) : Type 0 whe
   pub rejected : IsRejectedAt (judge_for job file) file last x
   pub hdu : x.hdu ≡ last.hdu
 
--- as many HDUs are reached as the job may look at, and the fault is that of one more
+-- as many HDUs are reached as the job may look at, and the fault is that of one more, at the byte after the last of them
 pub record EndsAtTheLimit (job : Job) (file : List ℕ) (x : Fault) : Type 0 where
   pub many : length (reached_by job file) ≡ most_for job
-  pub start : ℕ
-  pub fault : x ≡ refusal (most_for job) (Byte start) Limit
+  pub before : List Reached
+  pub last : Reached
+  pub ends : reached_by job file ≡ before ++ last ∷ []
+  pub header : Header
+  pub found : hdu_at last.hdu last.start file ≡ Ok header
+  pub fault : x ≡ refusal (most_for job) (Byte (next_start_of header)) Limit
 
 -- no header is rejected, all HDUs are reached, and the HDU that a part is cut from is not among them
 pub record EndsWithTheFile (job : Job) (file : List ℕ) (x : Fault) : Type 0 where

@@ -1,4 +1,4 @@
--- Files with faults, written out by hand: one of the image's own cards, and one behind its HDU (FITS 4.0, sections 3.1, 3.6 and 10.1.2).
+-- Files with faults, written out by hand: one of the image's own cards, and one after its HDU (FITS 4.0, sections 3.1, 3.6 and 10.1.2).
 use Rattle.std.specs.Prelude.{ℕ, List, [], ◌∷◌, ◌++◌, codes, replicate, Option, Some}
 use Rattle.fz_base.specs.Refusal.{refusal}
 use Rattle.fz_base.specs.declared.fault.Fault.{Fault}
@@ -12,7 +12,7 @@ use Rattle.fz_files.specs.RiceFile.{small_cards, small_hdu}
 abbrev pub ten_zeros : List ℕ
 ten_zeros = replicate 10 0
 
--- the small file, and bytes behind it
+-- the small file, and bytes after it
 abbrev pub trailing_file : List ℕ
 trailing_file = small_hdu.header ++ (small_hdu.payload ++ ten_zeros)
 
@@ -31,7 +31,7 @@ reserved_fault = Some (refusal 0 (Card 5) Reserved)
 abbrev pub trailing_fault : Option Fault
 trailing_fault = Some (refusal 1 (Byte 5760) TrailingBytes)
 
--- the rows of the packed file of `PlainFile`, where those of tiles 3 and 5 describe 16 pixels each, which end behind the heap
+-- the rows of the packed file of `PlainFile`, where those of tiles 3 and 5 describe 16 pixels each, which end after the heap
 abbrev pub past_rows : List ℕ
 past_rows =
     0 ∷ 0 ∷ 0 ∷ 0 ∷ 0 ∷ 0 ∷ 0 ∷ 0 ∷ 0 ∷ 0 ∷ 0 ∷ 4 ∷ 0 ∷ 0 ∷ 0 ∷ 0

@@ -1,13 +1,13 @@
 -- What the definitions promise, for every file.
-use Rattle.std.specs.Prelude.{ℕ, suc, ◌≡◌, ◌↔◌, ◌+◌, ◌^◌, ◌<◌, ◌≤◌, true, All, List, [], ◌∷◌, ◌++◌, length, map, codes, Option, None, Err, if◌then◌else◌}
+use Rattle.std.specs.Prelude.{ℕ, suc, ◌≡◌, ◌↔◌, ◌+◌, ◌^◌, ◌<◌, ◌≤◌, true, All, List, [], ◌∷◌, ◌++◌, length, map, codes, Option, None, Ok, Err, if◌then◌else◌}
 use Rattle.fz_base.specs.JobBuffers.{buffer_bound}
-use Rattle.fz_base.specs.Refusal.{refusal}
+use Rattle.fz_base.specs.Refusal.{first_refusal, refusal}
 use Rattle.fz_base.specs.Takings.{first_past}
 use Rattle.fz_base.specs.declared.fault.Fault.{Fault}
 use Rattle.fz_base.specs.declared.fault.Place.TheVariants.{Card}
 use Rattle.fz_base.specs.declared.kind.Kind.TheVariants.{AlreadyPacked}
 use Rattle.fz_block.specs.Cards.{card_at}
-use Rattle.fz_block.specs.Checks.{is_set}
+use Rattle.fz_block.specs.Checks.{hdu_at, is_set}
 use Rattle.fz_block.specs.Facts.{IsHeaderOf, facts_of}
 use Rattle.fz_block.specs.Hdus.{Hdu, cards_of, hdu_bytes, header_bytes}
 use Rattle.fz_block.specs.Header.{whole_blocks_of}
@@ -16,6 +16,7 @@ use Rattle.fz_block.specs.declared.header.Header.{Header}
 use Rattle.fz_grid.specs.Region.{lengths_of}
 use Rattle.fz_grid.specs.declared.sieve.Sieve.{Sieve}
 use Rattle.fz_parts.specs.Cutout.{Sifts}
+use Rattle.fz_table.specs.Tables.{table_checks}
 use Rattle.fz_tile.specs.Plain.{AreBytes}
 use Rattle.fz_tile.specs.TileCode.{TileCode}
 use Rattle.fz_head.specs.Accepted.{IsAccepted}
@@ -30,13 +31,13 @@ use Rattle.fz_head.specs.declared.totals.Totals.{Totals}
 use Rattle.fz_files.specs.declared.job.Job.{Job}
 use Rattle.fz_files.specs.declared.job.Job.TheVariants.{Pack, Unpack, Cut, Verify, List as ListHdus, Drill}
 use Rattle.fz_files.specs.Buffers.{job_bound, job_takings}
-use Rattle.fz_files.specs.Cutout.{header_range}
+use Rattle.fz_files.specs.Cutout.{header_range, ranges_of_row}
 use Rattle.fz_files.specs.CutoutBytes.{IsCutout}
 use Rattle.fz_files.specs.Drill.{drill_file, drill_options, drill_packed, drill_sieve}
-use Rattle.fz_files.specs.FirstFault.{IsFirstFault}
+use Rattle.fz_files.specs.FirstFault.{IsFirstFault, image_row}
 use Rattle.fz_files.specs.Packed.{array_of, before_table, packed_data, packed_hdu, packed_image, table_header, tile_codes, totals_of, with_sums}
 use Rattle.fz_files.specs.Picks.{HasNinePlaces, HasPicks}
-use Rattle.fz_files.specs.Restored.{HduStandsFor, is_packed_primary, plan_in}
+use Rattle.fz_files.specs.Restored.{HduStandsFor, header_in, image_table, is_packed_primary, plan_in}
 use Rattle.fz_files.specs.StandsFor.{StandsFor}
 use Rattle.fz_files.specs.Walks.{Reached, header_fault, headers_for, last_of, reached_by}
 
@@ -63,6 +64,13 @@ ReachedAreFound = (job : Job) (file : List ℕ) → header_fault job file ≡ No
 -- what is read of the headers of the HDUs that they come to lies within the file
 abbrev pub ReachedLieWithin : Type 0
 ReachedLieWithin = (job : Job) (file : List ℕ) → All (λ r. (header_range file r).0 + (header_range file r).1 ≤ length file) (reached_by job file)
+
+-- What is read of a row of a packed image, its descriptors and its record, lies within the file, if no check of every job rejects the HDU
+-- and no check of its table does.
+abbrev pub RowsLieWithin : Type 0
+RowsLieWithin =
+    (file : List ℕ) (h : Header) (row : ℕ) → hdu_at h.hdu h.start file ≡ Ok h → first_refusal (table_checks (header_in file h) h) ≡ None → row < (image_table file h).rows →
+    All (λ range. range.0 + range.1 ≤ length file) (ranges_of_row file (image_row h row))
 
 -- the bound on buffers rises with the longest header, the largest tile and the workers
 abbrev pub BoundRises : Type 0
@@ -115,19 +123,19 @@ pub record IsTaken (o : PackOptions) (source : List ℕ) (from : Header) : Type 
   pub simple : from.hdu ≡ 0 → is_set (codes "SIMPLE") (card_at (hdu_of source from).header 0) ≡ true
   pub whole : length (hdu_of source from).payload ≡ whole_blocks_of from.data_len
 
--- its table passes the checks of every job behind the first HDU, wherever it stands in a file
+-- its table passes the checks of every job after the first HDU, wherever it stands in a file
 abbrev pub TablesPass : Type 0
 TablesPass =
     (o : PackOptions) (source : List ℕ) (from : Header) (k start len : ℕ) → IsTaken o source from → suc k < 65536 → start + length (hdu_bytes (table_hdu o source from)) ≤ len → len ≤ 2 ^ 62 →
     PassesAt (suc k) start len (table_hdu o source from)
 
--- it is a packed image behind the first HDU, of which no check refuses anything
+-- it is a packed image after the first HDU, of which no check refuses anything
 abbrev pub TablesAreAccepted : Type 0
 TablesAreAccepted =
     (o : PackOptions) (source : List ℕ) (from : Header) (k start : ℕ) → IsTaken o source from →
     IsAccepted (pack_plan_of o from) (totals_from o source from) (table_hdu o source from).header (facts_of (suc k) start (table_hdu o source from).header)
 
--- an HDU of a file, behind its first one, is the table of an image of another file
+-- an HDU of a file, after its first one, is the table of an image of another file
 pub record IsTableOf (o : PackOptions) (source : List ℕ) (from : Header) (file : List ℕ) (h : Header) : Type 0 where
   pub taken : IsTaken o source from
   pub behind : 0 < h.hdu

@@ -28,5 +28,6 @@ pub mod RiceFile
 pub mod StandsFor
 pub mod SumFile
 pub mod Touched
+pub mod TouchedFile
 pub mod Walks
 pub mod WideFile

@@ -89,7 +89,7 @@ totals_of p codes = record {
 abbrev pub zero_filled : List ℕ → List ℕ
 zero_filled bytes = bytes ++ replicate (whole_blocks_of (length bytes) - length bytes) 0
 
--- the data of the table: its rows, the heap directly behind them, and fill
+-- the data of the table: its rows, the heap directly after them, and fill
 abbrev pub packed_data : Plan → List TileCode → List ℕ
 packed_data p codes = zero_filled (rows_from p 0 codes ++ heap_of codes)
 
@@ -105,7 +105,7 @@ with_datasum cards payload = cards ++ datasum_card (ones_sum payload) ∷ []
 abbrev pub sum_before : List (List ℕ) → List ℕ → ℕ
 sum_before cards payload = ones_sum (header_bytes (with_datasum cards payload ++ blank_checksum_card ∷ []) ++ payload)
 
--- cards with DATASUM and then CHECKSUM behind them, which makes the sum of the HDU all ones
+-- cards with DATASUM and then CHECKSUM after them, which makes the sum of the HDU all ones
 abbrev pub with_sums : Bool → List (List ℕ) → List ℕ → List (List ℕ)
 with_sums false cards payload = cards
 with_sums true cards payload = with_datasum cards payload ++ checksum_card (sum_before cards payload) ∷ []

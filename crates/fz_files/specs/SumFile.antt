@@ -15,7 +15,7 @@ sum_options = record {
   workers = 1;
 }
 
--- the cards of the table: DATASUM and CHECKSUM stand behind those of the image
+-- the cards of the table: DATASUM and CHECKSUM are after those of the image
 abbrev pub sum_file_cards : List (List ℕ)
 sum_file_cards =
     plain_cards

@@ -76,7 +76,7 @@ pub record Reached : Type 0 where
   pub hdu : ℕ
   pub start : ℕ
 
--- what a job comes to behind an HDU: nothing where the HDU is refused, where the job stops at it, and where the file ends with it
+-- what a job reaches after an HDU: nothing where the HDU is refused, where the job stops at it, and where the file ends with it
 abbrev pub reached_behind : List ℕ → Header → List Reached → Result Bool Fault → List Reached
 reached_behind file h rest (Err fault) = []
 reached_behind file h rest (Ok true) = []

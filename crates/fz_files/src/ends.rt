@@ -1,5 +1,6 @@
-//! Where walks over headers end, and the limits that no file passes: no code runs.
+//! Where walks over headers end, the limits that no file passes, and that what is read lies within it: no code runs.
 ghost use Rattle.fz_files.specs.Ends.{CutsLieWithin, HeadersAreShort, ListHasNoTiles, TilesAreSmall, WalksEndAtTheFault};
+ghost use Rattle.fz_files.specs.Laws.{RowsLieWithin};
 
 use fz_block::{hdu_at_law, walk_law};
 use fz_head::packed_image_law;
@@ -31,4 +32,12 @@ pub fn cut_reads_law()
     hdu_at_law();
     packed_image_law();
     walk_law();
+}
+
+/// What is read of a row of a packed image lies within the file: its descriptors, and the bytes of its record that
+/// count. The checks of every job and those of the table must pass.
+pub fn table_reads_law()
+    ensures { RowsLieWithin }
+{
+    hdu_at_law();
 }

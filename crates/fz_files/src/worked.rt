@@ -34,6 +34,8 @@ ghost use Rattle.fz_files.specs.PlioFile.{mask_cards, mask_hdu, mask_file, plio_
 ghost use Rattle.fz_files.specs.PlioFile.{plio_heap, plio_cards, plio_file};
 ghost use Rattle.fz_files.specs.StandsFor.{StandsFor};
 ghost use Rattle.fz_files.specs.SumFile.{sum_options, sum_file_cards, blank_sum, sum_file};
+ghost use Rattle.fz_files.specs.Touched.{touched_by};
+ghost use Rattle.fz_files.specs.TouchedFile.{unpack_ranges, verify_ranges, list_ranges, pack_ranges, rejected_ranges};
 ghost use Rattle.fz_files.specs.WideFile.{wide_file, narrow_file, wide_ranges};
 ghost use Rattle.fz_files.specs.RiceFile.{small_cards, small_hdu, small_file, rice_options, rice_plan, rice_tiles, rice_rows};
 ghost use Rattle.fz_files.specs.RiceFile.{rice_heap, rice_cards, rice_file};
@@ -61,7 +63,7 @@ pub fn plain_file_law()
     ensures restored { StandsFor plain_file grid_file }
 {}
 
-/// The file of [`plain_file_law`] with sums: DATASUM and CHECKSUM stand behind the cards of the image, as
+/// The file of [`plain_file_law`] with sums: DATASUM and CHECKSUM are after the cards of the image, as
 /// `specs/SumFile.antt` writes them out.
 pub fn sum_file_law()
     ensures before { sum_before plain_cards plain_data ≡ blank_sum }
@@ -92,9 +94,9 @@ pub fn extension_file_law()
     ensures file { IsPackedFile bare_options extension_file packed_extension }
 {}
 
-/// The first fault of the file of [`rice_file_law`] with ten bytes behind it, and of the same with a card whose name
+/// The first fault of the file of [`rice_file_law`] with ten bytes after it, and of the same with a card whose name
 /// is reserved: `pack` refuses the card, which is of HDU 0, before the bytes, from which HDU 1 would begin; `unpack`
-/// does not look for reserved names. Of two rows of a packed file that describe bytes behind the heap the lower is
+/// does not look for reserved names. Of two rows of a packed file that describe bytes after the heap the lower is
 /// refused.
 pub fn fault_file_law()
     ensures own { IsFirstFault (Pack rice_options) reserved_file reserved_fault }
@@ -154,6 +156,18 @@ pub fn cut_ends_law()
     ensures outside { IsFirstFault (Cut None outside_sieve) plain_file outside_fault }
     ensures missing { IsFirstFault (Cut None box_sieve) grid_file missing_fault }
     ensures long_record { touched_of None axis_sieve record_file ≡ record_ranges }
+{}
+
+/// What jobs may read of the packed file of [`plain_file_law`] and of the file that was packed, and of a file that is
+/// rejected for the bytes after its image, as `specs/TouchedFile.antt` writes it out as numbers: `unpack` the headers,
+/// and of each row both descriptors and the record; `verify` also the data of each HDU; `list` only the headers; `pack`
+/// the padding after an image, and the headers; and all data, but only if no header is rejected.
+pub fn touched_file_law()
+    ensures unpack { touched_by Unpack plain_file ≡ unpack_ranges }
+    ensures verify { touched_by Verify plain_file ≡ verify_ranges }
+    ensures list { touched_by ListHdus plain_file ≡ list_ranges }
+    ensures pack { touched_by (Pack plain_options) grid_file ≡ pack_ranges }
+    ensures rejected { touched_by (Pack rice_options) trailing_file ≡ rejected_ranges }
 {}
 
 /// First faults and their places, as `specs/FaultPlaces.antt` writes them out: a reserved name is looked for before a

@@ -78,7 +78,7 @@ first_plain file h is =
     let sort : h.sort ≡ sort_of 0 (header_in file h) = ap (λ (g : Header). g.sort) is.is_header.facts ∙ ap (λ n. sort_of n (header_in file h)) is.number in
     ap (λ s. is_table s && list_any (is_set (codes "ZIMAGE")) (cards_of (header_in file h))) sort
 
--- an image behind HDU 1 is an extension
+-- an image after HDU 1 is an extension
 late_after : (file : List ℕ) (j : ℕ) (h : Header) → IsIn file j h → 2 ≤ j → is_after_empty file h ≡ false
 late_after file j h is late = ap (λ b. b && size_at file 2 == 0) (not_one h.hdu (omega (arith, is.number, late)))
   where

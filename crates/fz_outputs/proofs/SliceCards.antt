@@ -86,7 +86,7 @@ module _ (laws : ValueLaws) (cards : List (List ℕ)) (after_empty : Bool) (says
       ∙ left_out (padded (codes "PCOUNT")) p (g ∷ others) (count_named (codes "ZPCOUNT") (codes "PCOUNT") (number_card (codes "PCOUNT") 0) refl pcount_name (made_named (codes "PCOUNT") 0 refl)) refl
       ∙ left_out (padded (codes "GCOUNT")) g others (count_named (codes "ZGCOUNT") (codes "GCOUNT") (number_card (codes "GCOUNT") 1) refl gcount_name (made_named (codes "GCOUNT") 1 refl)) refl
 
-  -- what is kept of the cards behind the axes
+  -- what is kept of the cards after the axes
   behind : kept (drop (3 + n) list) ≡ kept others
   behind =
       let at : 3 + n ≡ suc (suc (suc (n + 0))) = omega arith in

@@ -4,4 +4,5 @@ pub mod Faults
 pub mod Headers
 pub mod Judges
 pub mod Rows
+pub mod Touched
 pub mod Walks

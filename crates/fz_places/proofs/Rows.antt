@@ -60,7 +60,7 @@ row_fault file r x (inl refused) = record_fault r.header.hdu r.row (image_table 
 row_fault file r x (inr (why, faulty, is)) = (ap (λ (y : Fault). y.hdu) is, ap (λ (y : Fault). y.at) is)
 
 -- what each of some rows is
-abbrev EachRow : (ImageRow → Type 0) → List ImageRow → Type 0
+abbrev pub EachRow : (ImageRow → Type 0) → List ImageRow → Type 0
 EachRow P [] = ⊤
 EachRow P (r ∷ rs) = P r × EachRow P rs
 
@@ -76,7 +76,7 @@ each_append P [] more a b = b
 each_append P (r ∷ rs) more a b = (a.0, each_append P rs more a.1 b)
 
 module _ (P : ImageRow → Type 0) (h : Header) (m : ℕ) (all : (row : ℕ) → row < m → P (image_row h row)) where
-  each_tile : (a n : ℕ) → a + n ≤ m → EachRow P (map (image_row h) (range_with_len a n))
+  pub each_tile : (a n : ℕ) → a + n ≤ m → EachRow P (map (image_row h) (range_with_len a n))
   each_tile a zero few = tt
   each_tile a (suc n) few = (all a (omega (arith, few)), each_tile (a + 1) n (omega (arith, few)))
 
@@ -91,11 +91,12 @@ module _ (P : ImageRow → Type 0) (h : Header) (m : ℕ) (all : (row : ℕ) →
 
 -- ---- the table of a packed image
 
--- it has a row for each tile, and its rows end in the file
-record HasRows (file : List ℕ) (h : Header) : Type 0 where
-  packed : is_image file h ≡ true
-  rows : (image_table file h).rows ≡ tiles_in (plan_in file h)
-  within : (image_table file h).rows_at + (image_table file h).row_bytes * (image_table file h).rows ≤ length file
+-- its checks pass, it has a row for each tile, and its rows end in the file
+pub record HasRows (file : List ℕ) (h : Header) : Type 0 where
+  pub packed : is_image file h ≡ true
+  pub passed : first_refusal (table_checks (header_in file h) h) ≡ None
+  pub rows : (image_table file h).rows ≡ tiles_in (plan_in file h)
+  pub within : (image_table file h).rows_at + (image_table file h).row_bytes * (image_table file h).rows ≤ length file
 
 -- the data are the rows, and PCOUNT bytes
 said : (v : Option ℤ) → unwrap_or v (pos 0) ≡ pos 8 → size_in v ≡ 8
@@ -146,7 +147,7 @@ table_rows file h s packed image none =
     let groups : not (h.gcount == 1) ≡ false = first_clear _ _ _ last in
     let fits : rows_len_of h ≤ h.data_len =
     rows_in_data (header_in file h) h s.is ((Decides-int_eq h.bitpix (pos 8)).0 (so (int_eq h.bitpix (pos 8)) bits)) (same_number h.axes.n 2 (so (h.axes.n == 2) axes)) (same_number h.gcount 1 (so (h.gcount == 1) groups)) in
-    record { packed = packed; rows = image.rows; within = rows_within h (length file) fits s.past }
+    record { packed = packed; passed = none; rows = image.rows; within = rows_within h (length file) fits s.past }
 
 -- ---- what the checks of a job find
 
@@ -193,11 +194,11 @@ tile_row : (file : List ℕ) (hs : List Header) (h : Header) → Contains hs h �
 tile_row file hs h met table row less = record { met = met; table = table; row_is = omega (arith, less, table.rows) }
 
 -- what is known of each header that `unpack` meets
-record IsMet (file : List ℕ) (hs : List Header) (h : Header) : Type 0 where
-  met : Contains hs h
-  rows : is_image file h ≡ true → HasRows file h
+pub record IsMet (file : List ℕ) (hs : List Header) (h : Header) : Type 0 where
+  pub met : Contains hs h
+  pub rows : is_image file h ≡ true → HasRows file h
 
-abbrev EachMet : List ℕ → List Header → List Header → Type 0
+abbrev pub EachMet : List ℕ → List Header → List Header → Type 0
 EachMet file hs [] = ⊤
 EachMet file hs (k ∷ ks) = IsMet file hs k × EachMet file hs ks
 
@@ -251,7 +252,7 @@ cut_none true None e = refl
 cut_none true (Some x) e = absurd cc
 cut_none false found e = absurd cc
 
-each_met : Laws → (file : List ℕ) (hs ks : List Header) → AllByRecursion (Contains hs) ks → AllByRecursion (λ h. hdu_at h.hdu h.start file ≡ Ok h) ks → RefusesNone (unpack_judge file) ks → EachMet file hs ks
+pub each_met : Laws → (file : List ℕ) (hs ks : List Header) → AllByRecursion (Contains hs) ks → AllByRecursion (λ h. hdu_at h.hdu h.start file ≡ Ok h) ks → RefusesNone (unpack_judge file) ks → EachMet file hs ks
 each_met laws file hs [] met found none = tt
 each_met laws file hs (k ∷ ks) met found none = (
   record {
@@ -318,7 +319,7 @@ rows_of_cut laws wanted sieve file hs walk stop = by_split (split_last hs)
         (picked_rows_are file sieve hs h met (cut_rows laws.cut file (box_of sieve) h (hdu_stands laws.find laws.count file h found) none))
 
 -- where the headers have no fault, the walk found some
-found_walk : (job : Job) (file : List ℕ) (found : Result (List Header) Fault) → fault_of_walk job file found ≡ None → (hs : List Header) × (found ≡ Ok hs) × (cut_end_fault job file hs ≡ None)
+pub found_walk : (job : Job) (file : List ℕ) (found : Result (List Header) Fault) → fault_of_walk job file found ≡ None → (hs : List Header) × (found ≡ Ok hs) × (cut_end_fault job file hs ≡ None)
 found_walk job file (Ok hs) none = (hs, refl, none)
 found_walk job file (Err x) none = absurd cc
 

@@ -177,7 +177,7 @@ module _ (find : HduIsFound) (count : BlocksAreFound) (file : List ℕ) (x : Fau
     hdu = s.hdu;
     lies = subst (Lies file s.last.hdu s.last.start x.kind) at (rejected_lies find count job file s.last x s.rejected);
   }
-  lies_last job (inr (inl s)) = absurd (no_byte s.start (sym (ap (λ (y : Fault). y.at) s.fault) ∙ at))
+  lies_last job (inr (inl s)) = absurd (no_byte (next_start_of s.header) (sym (ap (λ (y : Fault). y.at) s.fault) ∙ at))
   lies_last job (inr (inr s)) = absurd (cut_ends_at_byte job s.found s.missing)
 
 pub card_lies : HduIsFound → BlocksAreFound → WalksEndAtTheFault → (job : Job) (file : List ℕ) (x : Fault) (i : ℕ) → x.at ≡ Card i → header_fault job file ≡ Some x → CardLies job file x i

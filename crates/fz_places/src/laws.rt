@@ -1,8 +1,9 @@
-//! The laws of the places of faults: no code runs.
+//! The laws of places in a file, those of faults and those that are read: no code runs.
 ghost use Rattle.fz_places.specs.Places.{BytesLie, CardsLie, RowsLie};
+ghost use Rattle.fz_places.specs.Touched.{TouchedLieWithin};
 
 use fz_block::{found_hdus_law, hdu_at_law, walk_law};
-use fz_files::walk_end_law;
+use fz_files::{cut_reads_law, reached_law, table_reads_law, walk_end_law};
 use fz_head::packed_image_law;
 
 /// The place that the first fault of a file for a job names lies in the file, whatever the job and the
@@ -18,5 +19,19 @@ pub fn fault_place_law()
     hdu_at_law();
     packed_image_law();
     walk_end_law();
+    walk_law();
+}
+
+/// What a job may read lies in the file, whatever the job and the bytes are: each range of `touched_by` ends in the
+/// file, or where the file ends.
+pub fn job_reads_law()
+    ensures { TouchedLieWithin }
+{
+    cut_reads_law();
+    found_hdus_law();
+    hdu_at_law();
+    packed_image_law();
+    reached_law();
+    table_reads_law();
     walk_law();
 }

@@ -23,7 +23,7 @@ use Rattle.fz_round_trip.proofs.Sources.{AreSources, IsSource, never_stops, take
 use Rattle.fz_round_trip.proofs.Standing.{IsOut, TableLaws, copied_facts, head_same, later_primary, out_here, primary_image, sort_is, table_of_image, tail_same}
 use Rattle.fz_round_trip.proofs.Way.{AreFound, WalkLaws, are_found, no_header_fault, pack_walk}
 
--- one behind the first
+-- one after the first
 later_becomes : (o : PackOptions) (file bytes : List ℕ) (k j start : ℕ) (h f : Header) → AreOptions o → AreBytes file → IsSource o file (suc k) h →
     IsOut bytes j start (out_of o file h) f →
     Becomes o file h bytes f
@@ -34,7 +34,7 @@ later_becomes o file bytes k j start h f options all s out = by_test (is_packabl
     by_test true is out = table_of_image o file bytes j start h f (taken o file (suc k) h options all s is) out
     by_test false is out = record { same = out.here; plain = copied_packed (hdu_of bytes f).header f (copied_facts o file bytes k j start h f s out) }
 
--- those behind the first
+-- those after the first
 later_become : (o : PackOptions) (file bytes : List ℕ) (k j start : ℕ) (hs : List Header) → AreOptions o → AreBytes file → AreSources o file (suc k) hs →
     map (hdu_of bytes) (facts_from (suc j) start (map (out_of o file) hs)) ≡ map (out_of o file) hs →
     Become o file hs bytes (facts_from (suc j) start (map (out_of o file) hs))

@@ -17,7 +17,7 @@ use Rattle.fz_round_trip.proofs.Sources.{AreSources, IsSource}
 abbrev pub empty_hdu : Hdu
 empty_hdu = record { header = header_bytes empty_primary; payload = [] }
 
--- what an HDU behind the first becomes
+-- what an HDU after the first becomes
 abbrev pub out_of : PackOptions → List ℕ → Header → Hdu
 out_of o file h = if is_packable h then table_hdu o file h else hdu_of file h
 

@@ -45,7 +45,7 @@ ok_refused answer found (Some fault) e = absurd cc
 
 -- ---- the heap of a table stands in its data
 
--- the data of a table: its rows, and PCOUNT bytes behind them
+-- the data of a table: its rows, and PCOUNT bytes after them
 table_len : (header : List ℕ) (pcount gcount : ℕ) → naxis_of header ≡ 2 → size_at header 1 ≡ 8 → gcount ≡ 1 → array_len header pcount gcount ≡ pcount + size_at header 3 * size_at header 4
 table_len header pcount gcount two eight one =
     (λ i. by_axes (two i) (eight i) (one i)) ∙ omega arith

@@ -75,7 +75,7 @@ number_bits-bits_value (b ∷ bits) =
 regroup : (b x y u v : ℕ) → b * (x * y) + (u * y + v) ≡ (b * x + u) * y + v
 regroup b x y u v = omega arith
 
--- bits behind bits
+-- bits after bits
 pub bits_value-append : (xs ys : List Bool) → bits_value (xs ++ ys) ≡ bits_value xs * 2 ^ length ys + bits_value ys
 unfolding bits_value
 bits_value-append [] ys = omega arith

@@ -32,14 +32,14 @@ id_at-high n most bits long high = rw (lt-false (length bits) n long, lt-true mo
 pub id_at-lawful : (n most : ℕ) (bits : List Bool) → n ≤ length bits → bits_value (take n bits) ≤ most → id_at n most bits ≡ Ok (bits_value (take n bits), drop n bits)
 id_at-lawful n most bits long low = rw (lt-false (length bits) n long, lt-false most (bits_value (take n bits)) low) refl
 
--- an id with bits behind it
+-- an id with bits after it
 pub id_at-id : (n most id : ℕ) (rest : List Bool) → most < 2 ^ n → id ≤ most → id_at n most (number_bits n id ++ rest) ≡ Ok (id, rest)
 id_at-id n most id rest fits low =
     let len = length-number_bits n id in
     let value : bits_value (take n (number_bits n id ++ rest)) ≡ id = ap bits_value (take_at (number_bits n id) rest n len) ∙ bits_value-number_bits n id (omega arith) in
     id_at-lawful n most (number_bits n id ++ rest) (omega (arith, length-append (number_bits n id) rest, len)) (omega (arith, value)) ∙ ap (λ p. Ok p) (λ i. (value i, drop_at (number_bits n id) rest n len i))
 
--- the bits behind a high front leave it high
+-- the bits after a high front leave it high
 stays_high : (v t a b most : ℕ) → most < v * (a * b) → most < (v * a + t) * b
 stays_high v t a b most h = omega arith
 

@@ -32,7 +32,7 @@ not_nil_append : (x y : List Bool) → (x ≡ [] → ⊥) → x ++ y ≡ [] → 
 not_nil_append [] y some e = some refl
 not_nil_append (b ∷ x) y some e = cc
 
--- a value read behind another
+-- a value read after another
 pub and_then-ok : {A B : Type 0} (r : Reading A) (next : A → List Bool → Reading B) (b : B) (rest : List Bool) → and_then r next ≡ Ok (b, rest) → (a : A) × (more : List Bool) × (r ≡ Ok (a, more)) × (next a more ≡ Ok (b, rest))
 and_then-ok (Ok p) next b rest e = (p.0, p.1, refl, e)
 and_then-ok (Err f) next b rest e = cc
@@ -51,7 +51,7 @@ pub reading_map-err : {A B : Type 0} (h : A → B) (r : Reading A) (f : CodeFaul
 reading_map-err h (Ok p) f e = cc
 reading_map-err h (Err g) f e = let k : g ≡ f = cc in ap Err k
 
--- one reader behind another, which hangs on the value of the first
+-- one reader after another, which hangs on the value of the first
 pub seq_reader : {A B : Type 0} (Codes : A → List Bool → Type 0) (Next : A → B → List Bool → Type 0) (read : List Bool → Reading A) (next : A → List Bool → Reading B) → IsReader Codes read → ((a : A) (code : List Bool) → Codes a code → IsReader (Next a) (next a)) → IsReader (SeqCodes Codes Next) (λ bits. and_then (read bits) next)
 seq_reader {A} {B} Codes Next read next first then_next = record {
   some = (then_next first.some first.some_code first.is_some).some;

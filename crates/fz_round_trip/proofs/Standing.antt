@@ -37,7 +37,7 @@ pub record TableLaws : Type 0 where
   pub stands : TablesStandForImages
   pub primary : TablesWerePrimary
 
--- ---- one HDU behind the first
+-- ---- one HDU after the first
 
 -- its facts in the packed file, in which it stands
 pub record IsOut (bytes : List ℕ) (j start : ℕ) (d : Hdu) (f : Header) : Type 0 where
@@ -123,7 +123,7 @@ later_primary l o file bytes k j start h f options all s out = by_test (is_packa
     by_test true is out = l.primary o file h bytes f (table_of_image o file bytes j start h f (taken o file (suc k) h options all s is) out) ∙ later_no_primary o file k h s
     by_test false is out = ap (λ b. b && was_primary (cards_of (header_in bytes f))) (copied_packed (hdu_of bytes f).header f (copied_facts o file bytes k j start h f s out))
 
--- ---- those behind the first
+-- ---- those after the first
 
 pub head_same : (x y : Hdu) (xs ys : List Hdu) → x ∷ xs ≡ y ∷ ys → x ≡ y
 head_same x y xs ys e = cc

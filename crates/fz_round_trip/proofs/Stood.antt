@@ -92,7 +92,7 @@ module _ (laws : StoodLaws) (file : List ℕ) (h : Header) where
         tiles = λ t less. subst (λ xs. RowStandsFor file h t xs) (sym (laws.tiles (lengths_of p.shape) (lengths_of p.tile) tiles t divided are less)) (stands t less);
       }
 
-  -- what it stands for, and that no row of the images behind it is refused
+  -- what it stands for, and that no row of the images after it is refused
   hdu_stands : (b : Bool) → is_image file h ≡ b → IsHeaderOf (header_in file h) h → first_refusal (unpack_hdu_checks file h) ≡ None → (images : List Header) →
       IsFirstRowFault file (flat_map (rows_of file) (cond b (h ∷ images) images)) None → ((bytes : List ℕ) × StandsForAs b file h bytes) × IsFirstRowFault file (flat_map (rows_of file) images) None
   hdu_stands true is are none images sound =

@@ -58,7 +58,7 @@ pub record SumLaws : Type 0 where
 
 -- ---- the bytes of a header that ends with a card
 
--- what stands behind the last card: END and blanks
+-- what is after the last card: END and blanks
 abbrev rest_of : List (List ℕ) → List ℕ
 rest_of front = codes "END" ++ blanks (whole_blocks_of (80 * (length front + 1 + 1)) - (length (flat_map (λ c. c) front) + 80 + 3))
 
@@ -169,7 +169,7 @@ header_others laws cards p t none =
     subst (λ b. AreOthers (packed_with cards p t (sum_cards b))) (sym none)
     (others_append (made_cards p t) (map packed_card cards ++ []) (made_others p t) (others_append (map packed_card cards) [] (packed_others laws cards) tt))
 
--- the cards with both sums, one behind another
+-- the cards with both sums, one after another
 joined_cards : (cards : List (List ℕ)) (p : Plan) (t : Totals) (d c : List ℕ) → t.sums ≡ false → packed_with cards p t (d ∷ c ∷ []) ≡ (packed_header cards p t ++ d ∷ []) ++ c ∷ []
 unfolding packed_header
 joined_cards cards p t d c none =
