@@ -72,7 +72,7 @@ data_read job file before after h old new reads =
 
 -- ---- the tiles of a packed image
 
--- a number from a place on is that place, or behind it
+-- a number from a place on is that place, or after it
 at_or_behind : (m n : ℕ) → m ≤ n → (n ≡ m) ⊎ (m + 1 ≤ n)
 at_or_behind zero zero low = inl refl
 at_or_behind zero (suc n) low = inr (omega arith)

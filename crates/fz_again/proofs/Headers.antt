@@ -24,7 +24,7 @@ use Rattle.fz_again.proofs.Known.{same_judge}
 
 -- ---- what the first look reads
 
--- the first place of a header, and the place behind the last that the search for its END looks at
+-- the first place of a header, and the place after the last that the search for its END looks at
 abbrev looked : List ℕ → Reached → ℕ × ℕ
 looked file r = (r.start, header_touched r.hdu r.start file)
 

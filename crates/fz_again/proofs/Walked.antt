@@ -53,7 +53,7 @@ module _ (file : List ℕ) where
   abbrev J : Judge
   J = unpack_judge file
 
-  -- Each of some headers was found where the one before it ends, and the job refuses it not and goes on behind it; the last ends the file.
+  -- Each of some headers was found where the one before it ends, and the job refuses it not and goes on after it; the last ends the file.
   abbrev pub AreFound : ℕ → ℕ → List Header → Type 0
   AreFound k start [] = start ≡ length file
   AreFound k start (h ∷ hs) = (hdu_at k start file ≡ Ok h) × (J h ≡ Ok false) × AreFound (suc k) (next_start_of h) hs
@@ -75,7 +75,7 @@ module _ (file : List ℕ) where
   never_stops [] = refl
   never_stops (h ∷ hs) = rw (not_stop (first_refusal (unpack_hdu_checks file h))) (never_stops hs)
 
-  -- one header, and those behind it
+  -- one header, and those after it
   abbrev rest_of : ℕ → ℕ → Header → List Reached
   rest_of more k h = reached_from J more (suc k) (next_start_of h) file
 

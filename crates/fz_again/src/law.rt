@@ -29,7 +29,7 @@ pub fn headers_law()
     reached_law();
 }
 
-/// What is read of one of the HDUs of a file, behind the first look, is what the job reads of all of them; and if the
+/// What is read of one of the HDUs of a file, after the first look, is what the job reads of all of them; and if the
 /// file is known, that is what the job reads of the file.
 pub fn hdus_law()
     ensures header { (job : Job) → HeaderIsOfHdus job }

@@ -1,4 +1,4 @@
-//! A header of an HDU, read once more behind the first look at all headers, and the image that stands in the HDU; and
+//! A header of an HDU, read once more after the first look at all headers, and the image that stands in the HDU; and
 //! what the first look says of a file.
 //!
 //! Reading order: `again`, `law`.

@@ -3,10 +3,10 @@ use crate::files::{Hdu, file_of};
 use fz_card::CARD_LEN;
 use std::alloc::{AllocError, Global};
 
-/// Where the header of HDU 1 stands, behind a primary of one block.
+/// Where the header of HDU 1 stands, after a primary of one block.
 const TABLE_AT: usize = 2880;
 
-/// Where its data stand, behind a header of one block.
+/// Where its data stand, after a header of one block.
 const DATA_AT: usize = 5760;
 
 /// What is done to a file.
@@ -46,7 +46,7 @@ pub fn changed(alloc: Global, hdus: &[Hdu<'_>], change: &Change) -> Result<Vec<u
     Ok(file)
 }
 
-// The place of an element of so many bytes behind a place.
+// The place of an element of so many bytes after a place.
 fn place(front: usize, index: usize, len: usize) -> usize {
     front.saturating_add(index.saturating_mul(len))
 }

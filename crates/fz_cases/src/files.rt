@@ -2,7 +2,7 @@
 use fz_block::BLOCK_LEN;
 use std::alloc::{AllocError, Global};
 
-/// An HDU by its cards before END and its data: numbers of 32 bits, big-endian, and bytes behind them. Blanks behind END and the
+/// An HDU by its cards before END and its data: numbers of 32 bits, big-endian, and bytes after them. Blanks after END and the
 /// fill are left out. In the table of an image the numbers of a row are the count and the offset of a coded tile, and then of a
 /// stored one.
 #[derive(Clone, Copy)]
@@ -58,7 +58,7 @@ pub fn fill_block(file: &mut Vec<u8>, with: u8) -> Result<(), AllocError> {
     Ok(())
 }
 
-/// Bytes, and behind them an HDU of these cards and so many cards COMMENT, and of these data.
+/// Bytes, and after them an HDU of these cards and so many cards COMMENT, and of these data.
 pub fn commented(
     alloc: Global,
     before: &[u8],
@@ -80,7 +80,7 @@ pub fn commented(
     Ok(file)
 }
 
-/// Numbers as data: 32 bits each, big-endian, and bytes behind them.
+/// Numbers as data: 32 bits each, big-endian, and bytes after them.
 pub fn data_of(alloc: Global, numbers: &[u32], bytes: &[u8]) -> Result<Vec<u8>, AllocError> {
     let mut data = Vec::new(alloc);
     for number in numbers {

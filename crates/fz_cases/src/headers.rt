@@ -76,7 +76,7 @@ pub const CASES: [Case<'static>; 4] = [
             },
         ],
     },
-    // a primary image, and behind it HDUs that are copied and one that is packed
+    // a primary image, and after it HDUs that are copied and one that is packed
     Case {
         options: &[],
         plain: &[
@@ -198,7 +198,7 @@ pub const FULL: [&str; 15] = [
     "DATASUM = '868229149'          / data checksum",
 ];
 
-/// Its table: nine names are others, and each card keeps all behind its name.
+/// Its table: nine names are others, and each card keeps all after its name.
 pub const FULL_TABLE: [&str; 35] = [
     "XTENSION= 'BINTABLE'",
     "BITPIX  =                    8",
@@ -368,7 +368,7 @@ pub const NOTHING: [&str; 7] = [
     "GCOUNT  =                    1",
 ];
 
-/// An image extension with two bytes behind its pixels.
+/// An image extension with two bytes after its pixels.
 pub const EXTRA: [&str; 6] = [
     "XTENSION= 'IMAGE   '",
     "BITPIX  =                    8",

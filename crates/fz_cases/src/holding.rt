@@ -2,7 +2,7 @@
 use fz_base::Gate;
 use std::sync::atomic::{AtomicU64, Ordering};
 
-/// Holds the calls for some tiles until so many of those behind them have come.
+/// Holds the calls for some tiles until so many of those after them have come.
 #[derive(Drop)]
 pub struct Holding {
     first: u32,
@@ -19,7 +19,7 @@ impl Holding {
         Holding::of(0, 1, 3)
     }
 
-    /// A gate that holds so many tiles from the first on until so many behind them have come.
+    /// A gate that holds so many tiles from the first on until so many after them have come.
     pub fn of(first: u32, held: u32, wanted: u64) -> Holding {
         Holding {
             first,

@@ -117,7 +117,7 @@ pub const WIDE_PACKED: [Hdu<'static>; 2] = [
     },
 ];
 
-/// The small file: its first row is stored behind a gap of four bytes, and its second row is a code behind that.
+/// The small file: its first row is stored after a gap of four bytes, and its second row is a code after that.
 const TURNED_TABLE: [&str; 26] = [
     "XTENSION= 'BINTABLE'",
     "BITPIX  =                    8",

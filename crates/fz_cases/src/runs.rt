@@ -31,7 +31,7 @@ pub const FREE: Conditions = Conditions {
     limit: 1 << 40,
 };
 
-/// What a run answered and left behind.
+/// What a run answered and left after.
 #[derive(Drop)]
 pub struct Outcome {
     pub status: Status,

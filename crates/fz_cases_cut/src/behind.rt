@@ -1,4 +1,4 @@
-//! Files whose HDUs behind the one that is cut from are none.
+//! Files whose HDUs after the one that is cut from are none.
 use crate::cutting::assert_cuts;
 use crate::files::MIDDLE;
 use fz_base::FreeGate;

@@ -52,7 +52,7 @@ fn grid_file_is_cut_within_its_bound(rt: HostRuntime) -> Result<(), Fail> {
     Ok(())
 }
 
-// A longer header behind the HDU that is cut from is not read.
+// A longer header after the HDU that is cut from is not read.
 #[test]
 fn header_behind_takes_nothing(rt: HostRuntime) -> Result<(), Fail> {
     let packed = file_of(rt.alloc(), &GRID_PACKED)?;

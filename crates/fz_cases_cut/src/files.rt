@@ -71,7 +71,7 @@ const COMPRESSED_HDU: Hdu<'static> = Hdu {
 /// Two packed images, between a primary without one and a table. The HDUs begin at the bytes 0, 2880, 8640 and 14400.
 pub(crate) const TWO_PACKED: [Hdu<'static>; 4] = [NO_IMAGE_HDU, FIRST_HDU, SECOND_HDU, PLAIN_HDU];
 
-/// Behind a compressed table and another one a packed image.
+/// After a compressed table and another one a packed image.
 pub(crate) const BEHIND_TABLES: [Hdu<'static>; 4] = [
     NO_IMAGE_HDU,
     COMPRESSED_HDU,

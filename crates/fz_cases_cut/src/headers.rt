@@ -122,7 +122,7 @@ fn cards_of_the_image_are_kept(rt: HostRuntime) -> Result<(), Fail> {
     assert_all_cut(&rt, &KEPT)
 }
 
-/// The table of the grid file with its reference pixel, and behind that cards that speak of none of its axes, or have no
+/// The table of the grid file with its reference pixel, and after that cards that speak of none of its axes, or have no
 /// decimal.
 const REFERRED_TABLE: [&str; 30] = [
     "XTENSION= 'BINTABLE'",
@@ -166,7 +166,7 @@ const REFERRED: [Hdu<'static>; 2] = [
     },
 ];
 
-/// Boxes of that file. Where the box begins behind the first pixel of an axis and has no step there, the reference pixel is
+/// Boxes of that file. Where the box begins after the first pixel of an axis and has no step there, the reference pixel is
 /// moved by as many pixels.
 const MOVED: [Cutting; 5] = [
     Cutting {
@@ -214,7 +214,7 @@ const MOVED: [Cutting; 5] = [
         ],
         bytes: &[2, 4, 7, 9, 12, 14],
     },
-    // both ends at once: below 0, and with an exponent; a comment is left away with the text that it stood behind
+    // both ends at once: below 0, and with an exponent; a comment is left away with the text that it stood after
     Cutting {
         hdus: &REFERRED,
         change: Change::Table(

@@ -111,7 +111,7 @@ fn assert_read_all<R: AllocGlobal + Abort>(
 /// Two faulty rows: 3, whose record leaves the heap, and 5, which has none.
 const TWO_FAULTY: Change = Change::Table(&[], &[(56, &[0, 0, 0, 16]), (88, &[0, 0, 0, 0])]);
 
-/// Boxes of the grid file: its headers end at 5760, its rows of 16 bytes stand behind them, and its heap from 5856 on.
+/// Boxes of the grid file: its headers end at 5760, its rows of 16 bytes are after them, and its heap from 5856 on.
 const READINGS: [Reading; 12] = [
     // rows 0, 1, 3 and 4 and their records
     Reading {
@@ -187,7 +187,7 @@ const READINGS: [Reading; 12] = [
         line: "refused: 28 OutOfBox hdu 1 card 18\n",
         ranges: &[(0, 5760)],
     },
-    // headers behind the wanted one are not read
+    // headers after the wanted one are not read
     Reading {
         change: Change::Nothing,
         options: &["--hdu", "0", "--box", "1:1,1:1"],
@@ -234,7 +234,7 @@ fn reads_each_tile_of_the_whole(rt: HostRuntime) -> Result<(), Fail> {
     assert_read_all(&rt, &left.source, 5856, 5871)
 }
 
-// What stands behind the HDU is not read.
+// What is after the HDU is not read.
 #[test]
 fn reads_nothing_behind(rt: HostRuntime) -> Result<(), Fail> {
     let mut file = file_of(rt.alloc(), &GRID_PACKED)?;

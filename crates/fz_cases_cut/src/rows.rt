@@ -71,7 +71,7 @@ const OF_ROWS: [Refusal; 13] = [
         part: "--box=5:5,1:1",
         line: "refused: 20 GzipTile hdu 1 row 2\n",
     },
-    // a code that ends early, and behind it a record that leaves the heap
+    // a code that ends early, and after it a record that leaves the heap
     Refusal {
         hdus: &SMALL_PACKED_FILE,
         change: Change::Table(&[], &[(0, &[0, 0, 0, 2]), (16, &[0, 0, 0, 9])]),

@@ -44,7 +44,7 @@ fn lines_of_many_rows(rt: HostRuntime) -> Result<(), Fail> {
     expect_lines(&rt, rt.alloc(), 16, SIXTEEN)
 }
 
-// Drills a file of so many rows behind a gate that counts.
+// Drills a file of so many rows after a gate that counts.
 fn counted<R: Threads + Sync + Abort>(rt: &R, alloc: Global, rows: u32) -> Result<Counting, Fail>
     requires { IsRows rows }
 {

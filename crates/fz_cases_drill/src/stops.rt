@@ -6,7 +6,7 @@ use fz_base::FreeGate;
 use fz_cases::runs::{Conditions, FREE, outcome_of};
 use std::test::Fail;
 
-// All lines are one call, which is behind all work. The line of the status is a call of its own.
+// All lines are one call, which is after all work. The line of the status is a call of its own.
 #[test]
 fn text_that_fails_is_a_write_fault(rt: HostRuntime) -> Result<(), Fail> {
     let on = Conditions { text: 0, ..FREE };

@@ -62,7 +62,7 @@ pub(crate) fn put(file: &mut [u8; FILE_LEN], i: usize, text: &[u8]) {
     card[..len].copy_from_slice(&text[..len]);
 }
 
-/// The file whose header has these cards and END, and other cards in place of some of them or behind
+/// The file whose header has these cards and END, and other cards in place of some of them or after
 /// them.
 pub(crate) fn file_of(cards: &[&[u8]], changes: &[(usize, &[u8])]) -> [u8; FILE_LEN] {
     let mut file = [0; FILE_LEN];

@@ -54,7 +54,7 @@ fn restore(
     restore_header(&buf, &header, out).map_err(Stop::Refused)
 }
 
-/// The header of the small file with HISTORY cards behind its own, so many in all, and END.
+/// The header of the small file with HISTORY cards after its own, so many in all, and END.
 fn long_header(cards: usize) -> [u8; FILE_LEN] {
     let mut file = file_of(&SMALL, &[]);
     for i in SMALL.len()..cards.min(71) {
@@ -80,7 +80,7 @@ fn long_headers_come_back(rt: HostRuntime) -> Result<(), Fail> {
     Ok(())
 }
 
-/// Cards behind those of an image, and how they stand in its packed header.
+/// Cards after those of an image, and how they stand in its packed header.
 const KEPT: [(&[u8], &[u8]); 14] = [
     (b"HISTORY = 'is not a value'", b"HISTORY = 'is not a value'"),
     (

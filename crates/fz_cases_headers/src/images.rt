@@ -42,7 +42,7 @@ fn plan_of_the_small_file(rt: HostRuntime) -> Result<(), Fail> {
     Ok(())
 }
 
-/// Cards of the small image that are other ones, or stand behind it, the codec that it is to be packed with, and where it is refused,
+/// Cards of the small image that are other ones, or are after it, the codec that it is to be packed with, and where it is refused,
 /// and why.
 const REFUSED: [(&[(usize, &[u8])], CodecWord, Place, Kind); 6] = [
     (

@@ -25,7 +25,7 @@ const PLAN: Plan = Plan {
     wide: false,
 };
 
-/// ZSIMPLE a second time directly behind itself.
+/// ZSIMPLE a second time directly after itself.
 const ZSIMPLE_TWICE: [(usize, &[u8]); 6] = [
     (21, b"ZSIMPLE =                    T"),
     (22, b"ZBITPIX =                   16"),
@@ -35,7 +35,7 @@ const ZSIMPLE_TWICE: [(usize, &[u8]); 6] = [
     (26, b"END"),
 ];
 
-/// Cards of the packed header that are other ones, or stand behind it, and the card that is refused, and why.
+/// Cards of the packed header that are other ones, or are after it, and the card that is refused, and why.
 const CHECKED: [(&[(usize, &[u8])], Option<(u32, Kind)>); 6] = [
     (&[], None),
     (&ZSIMPLE_TWICE, Some((21, Kind::Duplicate))),
@@ -162,7 +162,7 @@ const LINE_LISTS: [(usize, &[u8]); 3] = [
     (26, b"END"),
 ];
 
-/// Cards of the packed header that are other ones, or stand behind it, whether it stands behind an empty primary, and the card that
+/// Cards of the packed header that are other ones, or are after it, whether it is after an empty primary, and the card that
 /// is refused, and why.
 const REFUSED: [(&[(usize, &[u8])], bool, u32, Kind); 15] = [
     (&ZSIMPLE_TWICE, true, 21, Kind::Duplicate),

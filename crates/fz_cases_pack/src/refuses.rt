@@ -140,7 +140,7 @@ const TABLE: [Hdu<'static>; 2] = [
     },
 ];
 
-/// The small file, and behind it an extension with a faulty card.
+/// The small file, and after it an extension with a faulty card.
 const BEHIND: [Hdu<'static>; 2] = [
     SMALL_FILE,
     Hdu {

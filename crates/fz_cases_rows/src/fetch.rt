@@ -280,7 +280,7 @@ fn made(alloc: Global) -> Result<MemSink, Failed>
     Ok(sink)
 }
 
-/// The sieve has a pick along each axis of the array, and none behind it.
+/// The sieve has a pick along each axis of the array, and none after it.
 fn sifts(shape: &Axes, sieve: &Sieve) -> bool
     requires { shape.now.n ≤ 9 }
     ensures { IsTrue result → IsSieveOf shape.now sieve.now }
@@ -332,7 +332,7 @@ fn have_picks(plan: &Plan, sieve: &Sieve, tiles: &[u32]) -> bool
     true
 }
 
-/// Writes tiles of the window to the sink, behind 3 bytes.
+/// Writes tiles of the window to the sink, after 3 bytes.
 fn scatter(
     sink: &mut MemSink,
     image: &PackedImage,
@@ -350,7 +350,7 @@ fn scatter(
     scatter_tiles(sink, 3, &image.plan, tiles, window)
 }
 
-/// Writes picks of tiles of the window to the sink, behind 3 bytes.
+/// Writes picks of tiles of the window to the sink, after 3 bytes.
 fn cut(
     sink: &mut MemSink,
     image: &PackedImage,
@@ -526,7 +526,7 @@ fn fetch_of<R: Threads + Sync>(
 fn the_first_faulty_row_is_refused(rt: HostRuntime) -> Result<(), Fail> {
     let alloc = rt.alloc();
     let all = [0, 1, 2, 3, 4, 5];
-    // The plain bytes of rows 3 and 5 end behind the heap.
+    // The plain bytes of rows 3 and 5 end after the heap.
     let two = [(59, 16), (91, 16)];
     assert_eq!(rt;
         fetch_of(&rt, alloc, &two, &all),
@@ -557,7 +557,7 @@ fn a_code_comes_before_a_later_row(rt: HostRuntime) -> Result<(), Fail> {
     let alloc = rt.alloc();
     let image = rice_image();
     let mut window = filled(alloc, 1)?;
-    // The code of row 0 has 2 bytes, and that of row 1 ends behind the heap.
+    // The code of row 0 has 2 bytes, and that of row 1 ends after the heap.
     let mut source = source_of(alloc, &RICE, &[(3, 2), (19, 5)])?;
     let answer = fetch(&rt, &mut source, &image, &[0, 1], &mut window);
     assert_eq!(rt; answer, refused(0, Kind::CodeShort));

@@ -130,7 +130,7 @@ fn a_look_at_an_image(rt: HostRuntime) -> Result<(), Fail> {
     };
     assert_eq!(rt; look_to_pack(source, &mut meter), Ok(seen));
     assert_eq!(rt; (meter.live(), meter.peak()), (0, 2880));
-    // a fill byte behind the 16 bytes of data
+    // a fill byte after the 16 bytes of data
     let source = source_of(alloc, 5760, 2900, &[(0, &SMALL)])?;
     assert_eq!(rt;
         look_to_pack(source, &mut meter),

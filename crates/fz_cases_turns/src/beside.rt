@@ -80,8 +80,8 @@ impl Sink for WaitingSink<'_> {
     }
 }
 
-// It fails a job that writes the tiles of one half before those of the other are begun, or behind them. In the packed file the
-// rows stand behind an empty primary and a header, in the plain one the pixels behind a header.
+// It fails a job that writes the tiles of one half before those of the other are begun, or after them. In the packed file the
+// rows are after an empty primary and a header, in the plain one the pixels after a header.
 #[test]
 fn one_half_is_written_while_the_other_is_coded(rt: HostRuntime) -> Result<(), Fail> {
     let alloc = rt.alloc();

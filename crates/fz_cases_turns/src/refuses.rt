@@ -39,7 +39,7 @@ const FAULTY: [usize; 10] = [0, 8, 15, 16, 24, 31, 32, 34, 40, 47];
 /// What the count of a row's code becomes, and the fault that this is: no code, and one that ends early.
 const KINDS: [(u8, &str); 2] = [(0, "19 TileMissing"), (2, "21 CodeShort")];
 
-/// How many rows behind a faulty one there is another one: none, the next one, and one in the next half.
+/// How many rows after a faulty one there is another one: none, the next one, and one in the next half.
 const BEHIND: [usize; 3] = [0, 1, 16];
 
 #[test]

@@ -24,7 +24,7 @@ fn failing(call: u32, keep: Option<u32>) -> Conditions {
     }
 }
 
-/// Whether a run stops of which a call fails: it is done where there is no such call. Byte 0 comes behind all others, so the sink
+/// Whether a run stops of which a call fails: it is done where there is no such call. Byte 0 comes after all others, so the sink
 /// begins with `S` only where the file is whole.
 fn assert_stopped<R: Threads + Sync + AllocGlobal + Abort>(
     rt: &R,

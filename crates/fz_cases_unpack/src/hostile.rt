@@ -8,7 +8,7 @@ use fz_cases::runs::{FREE, outcome_of};
 use fz_cases::small::EMPTY_PRIMARY_HDU;
 use std::test::Fail;
 
-// A record of a million bytes behind a code of six: no more of it is read than a code of three pixels may have.
+// A record of a million bytes after a code of six: no more of it is read than a code of three pixels may have.
 #[test]
 fn long_record_takes_no_memory(rt: HostRuntime) -> Result<(), Fail> {
     let change = Change::Table(

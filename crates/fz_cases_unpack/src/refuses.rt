@@ -139,7 +139,7 @@ const OF_HEADERS: [Refusal; 20] = [
         change: Change::Table(&[(25, "THEAP   =                    0"), (26, "END")], &[]),
         line: "refused: 16 BadTable hdu 1 card 25\n",
     },
-    // a table with ZTABLE = T behind the cards of the image is refused before these are looked at
+    // a table with ZTABLE = T after the cards of the image is refused before these are looked at
     Refusal {
         hdus: &SMALL_PACKED_FILE,
         change: Change::Table(&[(25, "ZTABLE  =                    T"), (26, "END")], &[]),
@@ -175,7 +175,7 @@ const OF_HEADERS: [Refusal; 20] = [
         ),
         line: "refused: 5 Duplicate hdu 1 card 17\n",
     },
-    // a packed primary behind a primary with data
+    // a packed primary after a primary with data
     Refusal {
         hdus: &[SMALL_FILE, SMALL_STORED_HDU],
         change: Change::Nothing,

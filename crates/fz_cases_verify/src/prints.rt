@@ -127,7 +127,7 @@ const PRINTINGS: [Printing; 16] = [
         lines: "HDU 0 datasum none checksum none tiles -\nHDU 1 datasum wrong checksum none tiles 6\n",
         number: 1,
     },
-    // the fill behind the data belongs to them
+    // the fill after the data belongs to them
     Printing {
         command: "verify",
         hdus: &[ONE_PIXEL],

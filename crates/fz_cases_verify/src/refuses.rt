@@ -15,7 +15,7 @@ struct Refusal {
     lines: &'static str,
 }
 
-/// The packed grid behind a primary whose sum is wrong.
+/// The packed grid after a primary whose sum is wrong.
 const WRONG_BEFORE: [Hdu<'static>; 2] = [
     Hdu {
         cards: &[

@@ -24,7 +24,7 @@ use Rattle.fz_cut.proofs.Moves.{other_stays}
 abbrev BeginsWithS : List ℕ → Type 0
 BeginsWithS l = l ≡ 83 ∷ drop 1 l
 
--- and so it does with more bytes behind
+-- and so it does with more bytes after
 begins_more : (h z : List ℕ) → BeginsWithS h → BeginsWithS (h ++ z)
 begins_more [] z is = absurd (omega (arith, ap length is))
 begins_more (x ∷ xs) z is =

@@ -1,4 +1,4 @@
--- What is read behind the first look: the header once more, and the rows of the tiles that hold a pick (FITS 4.0, sections 3.1 and 10.1).
+-- What is read after the first look: the header once more, and the rows of the tiles that hold a pick (FITS 4.0, sections 3.1 and 10.1).
 use Rattle.std.proofs.Common.{◌≡◌, ℕ, inl, inr, List, length, drop, Option, Some, None, IfSome, Ok, sym, ap, subst, ◌∙◌, arith}
 use Rattle.std.proofs.lemmas.List.{take_at}
 use Rattle.std.specs.Prelude.{Result, Err}

@@ -1,4 +1,4 @@
--- What the job promises where the first look knows the file, by what the work behind it says.
+-- What the job promises where the first look knows the file, by what the work after it says.
 use Rattle.std.proofs.Common.{◌≡◌, ◌⊎◌, inl, inr, ℕ, List, [], ◌++◌, append-nil, sym, ◌∙◌, subst}
 use Rattle.std.specs.Prelude.{Option, Some, None, IfSome, Result, Ok, Err, OnOk, IsErrOf, IsSome}
 use Rattle.std.specs.List.{flat_map}
@@ -119,7 +119,7 @@ module _ (know : SurveysKnow) (want : Option ℕ) (sieve : Sieve) (s : Survey) w
         by_shut (inl is) = inl is
         by_shut (inr is) = inr (sealed_whole held now exact is.0, is.1)
 
-    -- what was read behind the first look lies in the touched ranges
+    -- what was read after the first look lies in the touched ranges
     pub work_touched : WorkIsTouched → LogsInWider → (held : Option (List ℕ)) (old new : Option (List (ℕ × ℕ))) → IfSome held (Knows want sieve s) →
         IfSome held (λ g. WasSeen g (box_of sieve) s.header_len s.tile from → LogsIn (work_ranges g sieve from) old new) → IfSome held (λ g. LogsIn (touched want sieve g) old new)
     work_touched touch wider None old new exact reads = tt

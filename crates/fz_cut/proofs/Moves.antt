@@ -17,7 +17,7 @@ abbrev pub moved_front : (List ℕ → List ℕ) → ℕ → List ℕ → List �
 moved_front f zero h = []
 moved_front f (suc i) h = moved_front f i h ++ f (card_at h i)
 
--- the bytes of cards, one behind another
+-- the bytes of cards, one after another
 abbrev pub in_one : List (List ℕ) → List ℕ
 in_one cards = flat_map (λ c. c) cards
 
@@ -65,7 +65,7 @@ module _ (f : List ℕ → List ℕ) where
       let here : card_at h (suc i) ≡ card_at (drop 80 h) i = ap (take 80) (ap (λ n. drop n h) place ∙ sym (drop-drop (80 * i) 80 h)) in
       ap (λ l. l ++ f (card_at h (suc i))) (front_first i h) ∙ append_assoc first rest (f (card_at h (suc i))) ∙ ap (λ c. first ++ (rest ++ f c)) here
 
-  -- cards, and what stands behind them
+  -- cards, and what is after them
   over_cards : (cards : List (List ℕ)) (m : ℕ) (rest : List ℕ) → AreCards cards → moved_front f (length cards + m) (in_one cards ++ rest) ≡ in_one (map f cards) ++ moved_front f m rest
   over_cards [] m rest are =
       let none : 0 + m ≡ m = omega arith in

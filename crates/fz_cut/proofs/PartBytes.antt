@@ -26,7 +26,7 @@ use Rattle.fz_cut.specs.Picks.{HoldsPicks}
 abbrev pub AreOneWrite : Type 0
 AreOneWrite = (at : ℕ) (front back : List ℕ) (contents : Option (List ℕ)) → written (at + length front) back (written at front contents) ≡ written at (front ++ back) contents
 
--- the bytes of a buffer behind the first, up to an end
+-- the bytes of a buffer after the first, up to an end
 pub behind_first : (n : ℕ) (out whole : List ℕ) → 1 ≤ n → take n out ≡ whole → take (n - 1) (drop 1 out) ≡ drop 1 whole
 behind_first n out whole some is =
     let sum : 1 + (n - 1) ≡ n = omega (arith, some) in
@@ -44,7 +44,7 @@ long_picks : HasPlainLen → CutoutsAreWhole → (p : Plan) (sieve : Sieve) (a :
 long_picks len whole p sieve a size =
     len (pixel_bits p) (picked_numbers a sieve) (bits_of p.bitpix size) ∙ ap (λ n. pixel_bits p / 8 * n) (whole a sieve)
 
--- the pixels, and zeros behind them, are one write
+-- the pixels, and zeros after them, are one write
 filled_write : AreOneWrite → (bytes : List ℕ) (at n : ℕ) (before two now : Option (List ℕ)) → length bytes ≡ n → two ≡ written at bytes before →
     now ≡ written (at + n) (replicate (whole_blocks_of n - n) 0) two → now ≡ written at (zero_filled bytes) before
 filled_write next bytes at n before two now long put fill =

@@ -49,7 +49,7 @@ module _ (begins : PartsBegin) (law : SealedLaw) (sieve : Sieve) (most tile : �
   never_refused X before after (OverLimit live asked limit) why P = tt
   never_refused X before after NoMemory why P = tt
 
-  -- the HDU was read as it was seen, and its part is written behind byte 0
+  -- the HDU was read as it was seen, and its part is written after byte 0
   abbrev pub Behind : List ℕ → Type 0
   Behind g = WasSeen g (box_of sieve) most tile from → HoldsPart g from sieve made mid
 

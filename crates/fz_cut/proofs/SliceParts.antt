@@ -20,7 +20,7 @@ use Rattle.fz_files.specs.Cutout.{PickedRowsStandFor}
 use Rattle.fz_files.specs.Packed.{tiles_in}
 use Rattle.fz_files.specs.Restored.{HduStandsFor, HdusStandFor, IsImageOf, RowsStandFor, StandsForAs, header_in, is_image, is_packed_primary, plan_in, standing}
 
--- ---- the empty primary that a packed primary stands behind is no packed image
+-- ---- the empty primary that a packed primary is after is no packed image
 
 -- the first HDU is no packed image
 abbrev pub BeginsPlain : List ℕ → List Header → Type 0

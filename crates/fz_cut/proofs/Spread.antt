@@ -34,7 +34,7 @@ abbrev pub found_in : ℕ → List ℕ → List (List ℤ) → List ℤ → List
 found_in t [] xs e = e
 found_in t (u ∷ us) xs e = cond (t == u) (slice_index_or xs 0 e) (found_in t us (drop 1 xs) e)
 
--- each is lower than all behind it
+-- each is lower than all after it
 abbrev Ascending : List ℕ → Type 0
 Ascending [] = ⊤
 Ascending (t ∷ ts) = AllByRecursion (λ u. t < u) ts × Ascending ts

@@ -1,4 +1,4 @@
--- Where a packed primary may stand is one check, which refuses nothing behind an empty primary (FITS 4.0, section 10.1.1).
+-- Where a packed primary may stand is one check, which refuses nothing after an empty primary (FITS 4.0, section 10.1.1).
 use Rattle.std.proofs.Common.{◌≡◌, ℕ, Bool, true, false, ◌&&◌, List, [], ◌∷◌, ◌++◌, refl, ap, sym, ◌∙◌}
 use Rattle.std.specs.Prelude.{not, pos, unwrap_or, None, Option, Some, Ok, codes}
 use Rattle.fz_base.specs.Refusal.{first_refusal}
@@ -78,7 +78,7 @@ module _ (h : Header) (header : List ℕ) (after_empty : Bool) (region : Region)
   answer None image is = (refl, cc)
   answer (Some x) image is = absurd cc
 
-  -- what passes the checks where it stands passes them behind an empty primary
+  -- what passes the checks where it stands passes them after an empty primary
   pub cut_behind : (image : PackedImage) → image_to_cut h header after_empty region ≡ Ok image → image_to_cut h header true region ≡ Ok image
   unfolding image_to_cut
   cut_behind image is =

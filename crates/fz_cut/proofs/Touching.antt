@@ -44,7 +44,7 @@ module _ (want : Option ℕ) (sieve : Sieve) (file : List ℕ) where
       (lies_in_headers file (reached_from J 65536 0 0 file) (rows_touched (header_fault (Cut want sieve) file) (Cut want sieve) file) one.1.0 one.0 byte one.1.1 one.1.2
       (omega (arith, one.2, from)) (omega (arith, one.2, to)))
 
-  -- ---- what the work behind the first look reads
+  -- ---- what the work after the first look reads
 
   walked : (r : Result (List Header) Fault) → job_walk (Cut want sieve) file ≡ r → fault_of_walk (Cut want sieve) file r ≡ None → (hs : List Header) × (job_walk (Cut want sieve) file ≡ Ok hs)
   walked (Ok hs) is none = (hs, is)

@@ -1,4 +1,4 @@
--- The header of the HDU that is cut from, read once more behind the first look (FITS 4.0, sections 3.1 and 10.1).
+-- The header of the HDU that is cut from, read once more after the first look (FITS 4.0, sections 3.1 and 10.1).
 use Rattle.std.specs.Prelude.{ℕ, ◌≡◌, ◌+◌, ◌*◌, ◌≤◌, true, List, length, take, Option, Ok, Err, Result, ⊤}
 use Rattle.fz_base.specs.Source.{Reads}
 use Rattle.fz_base.specs.Stop.{IfRefused}

@@ -15,7 +15,7 @@ use Rattle.fz_files.specs.declared.job.Job.TheVariants.{Cut, Unpack}
 use Rattle.fz_job.specs.Clauses.{HoldsOutput}
 use Rattle.fz_cut.specs.Output.{HoldsCutout}
 
--- The image of the packed HDU with this header has these numbers, axis 1 fastest, and stands in the restored file behind what the HDUs
+-- The image of the packed HDU with this header has these numbers, axis 1 fastest, and stands in the restored file after what the HDUs
 -- before it stand for.
 pub record HasImage (file restored : List ℕ) (h : Header) (a : NumberArray) : Type 0 where
   pub rows : RowsStandFor file h a

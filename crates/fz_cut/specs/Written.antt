@@ -30,7 +30,7 @@ IsShutOrPart held sieve header_len tile h now result =
     OnErr result (IsShut now
     ⊎ (IfSome held (λ file. WasSeen file (box_of sieve) header_len tile h → IsPart file h sieve now) × (IsErrOf result WriteFault ⊎ IsErrOf result NoMemory)))
 
--- the ranges of the file that the work behind the first look may read: the header once more, and the rows and records of the tiles that
+-- the ranges of the file that the work after the first look may read: the header once more, and the rows and records of the tiles that
 -- hold a pick
 abbrev pub work_ranges : List ℕ → Sieve → Header → List (ℕ × ℕ)
 work_ranges file sieve h = header_range file (record { hdu = h.hdu; start = h.start }) ∷ picked_ranges file h sieve

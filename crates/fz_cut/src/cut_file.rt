@@ -35,7 +35,7 @@ use std::thread::Threads;
 /// Cuts the picks of a sieve out of a packed image of the file that is attached to the source: of the HDU of this
 /// number, or of the first packed one. They become the primary image of the sink, which it makes by this name.
 ///
-/// No HDU behind that one is looked at. All checks of headers come first, then all buffers are taken, and only then the
+/// No HDU after that one is looked at. All checks of headers come first, then all buffers are taken, and only then the
 /// sink is made; its byte 0 is written last. Refused: as `survey_to_cut` refuses the file; the lowest faulty row of
 /// a tile that holds a pick, as `fetch_tiles` refuses it. Of a source that gives other bytes at the second reading also
 /// the HDU, where it is no longer the one that was looked at.

@@ -140,7 +140,7 @@ fn write_cutout<R: Threads + Sync, S: Source, K: Sink, G: Gate>(
     Ok(())
 }
 
-// Makes the header of the part, writes it without byte 0, and answers the byte behind it.
+// Makes the header of the part, writes it without byte 0, and answers the byte after it.
 fn write_header<K: Sink>(
     sink: &mut K,
     packed: &[u8],

@@ -25,7 +25,7 @@ pub(crate) fn known_law()
     walk_law();
 }
 
-/// What the first look reads, and the work behind it, lies in the touched ranges.
+/// What the first look reads, and the work after it, lies in the touched ranges.
 pub(crate) fn touched_law()
     ensures look { LooksAreTouched }
     ensures work { WorkIsTouched }

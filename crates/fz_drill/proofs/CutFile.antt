@@ -49,7 +49,7 @@ pub record CutLaws : Type 0 where
       (header : List ℕ) (h : Header) (p : Plan) (s : Totals) (sums : List (List ℕ)) → MayBePacked header h → p.shape ≡ h.axes → AreDropped sums →
       plain_header (packed_with (cards_of header) p s sums) ≡ cards_of header
 
--- bytes with fill behind them, where as many stand in front
+-- bytes with fill after them, where as many stand in front
 unfilled : (xs ys : List ℕ) → length xs ≡ length ys → zero_filled xs ≡ zero_filled ys → xs ≡ ys
 unfilled xs ys long same =
     sym (front (length xs) xs _ refl) ∙ (ap (take (length xs)) same ∙ front (length xs) ys _ (sym long))

@@ -3,7 +3,7 @@ use Rattle.std.specs.Prelude.{Option, Some, None, Result, Ok, Err, OnOk}
 use Rattle.std.proofs.Common.{◌≡◌, inl, ℕ, ◌+◌, ◌<◌, ◌≤◌, max, List, refl, sym, ap, ◌∙◌, subst, arith}
 use Rattle.fz_base.specs.Counts.{Tally, uncounted}
 use Rattle.fz_base.specs.Meter.{Gauge}
-use Rattle.fz_base.specs.Takings.{first_past, highest}
+use Rattle.fz_base.specs.Takings.{PastWithinLaw, first_past, highest}
 use Rattle.fz_base.specs.declared.fault.Fault.{Fault}
 use Rattle.fz_base.specs.declared.failure.Stop.{Stop}
 use Rattle.fz_base.specs.declared.failure.Stop.TheVariants.{Refused, ReadFault, WriteFault, OverLimit, NoMemory}
@@ -15,7 +15,6 @@ use Rattle.fz_files.specs.declared.job.Job.{Job}
 use Rattle.fz_job.specs.Clauses.{HasJobCause, KeepsBuffers, TellsFirstFault}
 use Rattle.fz_drill.specs.Bound.{drill_bound}
 use Rattle.fz_drill.specs.Outcomes.{BlockDecides, KeepsAll, Stops, in_memory}
-use Rattle.fz_drill.proofs.Takings.{told_within}
 
 -- the job refuses nothing of the file, and stays within the bound
 pub record IsSafe (job : Job) (file : List ℕ) (rows : ℕ) : Type 0 where
@@ -23,11 +22,11 @@ pub record IsSafe (job : Job) (file : List ℕ) (rows : ℕ) : Type 0 where
   pub sound : IsFirstFault job file None
   pub bound : job_bound job file 4 ≤ drill_bound rows
 
-module _ (bounded : AreBounded) (one : HasOneFirstFault) (job : Job) (file : List ℕ) (rows limit : ℕ) (safe : IsSafe job file rows) where
+module _ (past_within : PastWithinLaw) (bounded : AreBounded) (one : HasOneFirstFault) (job : Job) (file : List ℕ) (rows limit : ℕ) (safe : IsSafe job file rows) where
   -- no taking is more than the bound
   within_bound : (live asked : ℕ) → first_past limit (job_takings job file 4) ≡ Some (live, asked) → live + asked ≤ drill_bound rows
   within_bound live asked past =
-      let within : live + asked ≤ job_bound job file 4 = told_within limit (job_bound job file 4) (job_takings job file 4) (live, asked) (bounded job file 4 safe.of_file) past in
+      let within : live + asked ≤ job_bound job file 4 = past_within limit (job_bound job file 4) (job_takings job file 4) (live, asked) (bounded job file 4 safe.of_file) past in
       omega (arith, within, safe.bound)
 
   pub stops_by : (X Y : Type 0) (sink sink' : Tally) (stop : Stop) → TellsFirstFault {X = X} job (Some file) (Err stop) →

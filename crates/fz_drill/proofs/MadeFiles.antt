@@ -86,7 +86,7 @@ whole_file first columns rows header made filled_is head long is fill =
     ∙ ((λ i. is i ++ replicate (more i) 0)
     ∙ (append_assoc header pixels (replicate ((n + 2879) / 2880 * 2880 - n) 0) ∙ ap (λ l. l ++ zero_filled pixels) head))
 
--- each is a byte, whatever stands behind the end
+-- each is a byte, whatever is after the end
 pub same_at : (xs : List ℕ) (k d e : ℕ) → k < length xs → slice_index_or xs k d ≡ slice_index_or xs k e
 same_at [] k d e within = absurd omega (arith, within)
 same_at (x ∷ xs) zero d e within = refl

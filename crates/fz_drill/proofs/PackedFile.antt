@@ -69,7 +69,7 @@ where_true : (checks : List (Bool × Fault)) (test : Bool) → first_refusal che
 where_true checks true none = none
 where_true checks false none = refl
 
--- of a table that is accepted behind an empty primary
+-- of a table that is accepted after an empty primary
 pub images_none : (p : Plan) (s : Totals) (header : List ℕ) (h : Header) → IsAccepted p s header h → first_refusal (image_checks h header true) ≡ None
 images_none p s header h is = both_none (table_checks header h) (packed_checks h.hdu header true) (table_none header h _ is.table) (plan_said h.hdu header true p (is.plan true (λ e. refl))).1
 

@@ -23,7 +23,7 @@ pub record FileLaws : Type 0 where
   pub blocks : (k start : ℕ) (file header : List ℕ) → StandsAt k start file header → header_blocks_of k start file ≡ Ok (length header / 2880)
   pub found : (k start : ℕ) (file header : List ℕ) → StandsAt k start file header → hdu_at k start file ≡ header_of k start (length file) header
 
--- the bytes in front of others, and those behind them
+-- the bytes in front of others, and those after them
 pub front : (n : ℕ) (xs ys : List ℕ) → length xs ≡ n → take n (xs ++ ys) ≡ xs
 front n xs ys is = take-append-le n xs ys (omega (arith, is)) ∙ take_all n xs (omega (arith, is))
 

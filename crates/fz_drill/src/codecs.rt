@@ -10,7 +10,7 @@ ghost use Rattle.fz_drill.specs.Outcomes.{AreOutcomes, BlockDecides, IsOutcome, 
 use crate::files::{Files, make_files, no_memory};
 use crate::outcome::{Outcome, Outcomes};
 use crate::parts::{cuts_to_part, packed_by, unpacks_to_file};
-use fz_base::{Gate, Meter, Stop};
+use fz_base::{Gate, Meter, Stop, takings_law};
 use fz_head::CodecWord;
 use fz_pool::Window;
 use std::alloc::Global;
@@ -35,6 +35,8 @@ pub(crate) fn try_codecs<R: Threads + Sync, G: Gate>(
     ensures kept { KeepsAll rows meter.old meter.new window.old window.new }
     ensures exact_peak { OnOk result (meter.new.peak ≡ max meter.old.peak (highest (takings_of rows))) }
 {
+    // The takings of a codec, and then those of the next ones.
+    takings_law();
     let files = make_files(alloc, rows).map_err(no_memory)?;
     let rice = try_codec(rt, alloc, &files, CodecWord::Rice, meter, window, gate)?;
     let plio = try_codec(rt, alloc, &files, CodecWord::Plio, meter, window, gate)?;
@@ -66,6 +68,8 @@ fn try_codec<R: Threads + Sync, G: Gate>(
     ensures kept { KeepsAll files.now.rows meter.old meter.new window.old window.new }
     ensures exact_peak { OnOk result (meter.new.peak ≡ max meter.old.peak (highest (drill_takings files.now.rows codec))) }
 {
+    // The takings of a job, and then those of the next ones.
+    takings_law();
     let packed = packed_by(rt, alloc, files, codec, meter, window, gate)?;
     let unpacked = unpacks_to_file(rt, alloc, files, &packed, meter, window, gate)?;
     let cut = cuts_to_part(rt, alloc, files, &packed, meter, window, gate)?;

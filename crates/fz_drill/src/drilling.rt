@@ -17,7 +17,7 @@ use std::thread::Threads;
 /// Makes a file of so many rows in memory, packs it with each codec, unpacks what came out and cuts columns from it, with 4
 /// workers; and prints how long the file and the packed ones are, and whether the right bytes came out, which is always.
 ///
-/// All of it is printed behind the last job: so nothing is where one of them stopped.
+/// All of it is printed after the last job: so nothing is where one of them stopped.
 pub fn drill<R: Threads + Sync, T: Text, G: Gate>(
     rt: &R,
     alloc: Global,

@@ -63,7 +63,7 @@ fn axis_card(i: u32, len: u32) -> Card
     int_card(numbered(b"NAXIS", i), i64::from(len))
 }
 
-// Puts the pixels of all rows behind what is there.
+// Puts the pixels of all rows after what is there.
 fn push_rows(file: &mut Vec<u8>, first: u32, columns: u32, rows: u32) -> Result<(), AllocError>
     requires rows { rows ≤ 16384 }
     requires columns { first + columns ≤ 256 }

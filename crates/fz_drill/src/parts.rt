@@ -12,7 +12,7 @@ ghost use Rattle.fz_drill.specs.Outcomes.{BlockDecides, KeepsAll, Stops, in_memo
 use crate::files::{Files, bytes_law, no_memory, source_of};
 use crate::law::{cuts_law, packs_law, unpacks_law};
 use crate::making::{CUT_COLUMNS, CUT_FROM};
-use fz_base::{Gate, MemSink, Meter, Stop};
+use fz_base::{Gate, MemSink, Meter, Stop, takings_law};
 use fz_cut::cut;
 use fz_files::{buffers_law, one_first_fault_law};
 use fz_grid::Sieve;
@@ -53,6 +53,7 @@ pub(crate) fn packed_by<R: Threads + Sync, G: Gate>(
     packs_law();
     one_first_fault_law();
     buffers_law();
+    takings_law();
     let options = PackOptions {
         codec,
         tile: None,
@@ -102,6 +103,7 @@ pub(crate) fn unpacks_to_file<R: Threads + Sync, G: Gate>(
     bytes_law(&files.plain);
     one_first_fault_law();
     buffers_law();
+    takings_law();
     let (mut source, length) = source_of(alloc, packed)?;
     let mut sink = MemSink::new(alloc, Vec::new(alloc), 0);
     match unpack(
@@ -144,6 +146,7 @@ pub(crate) fn cuts_to_part<R: Threads + Sync, G: Gate>(
     bytes_law(&files.plain);
     one_first_fault_law();
     buffers_law();
+    takings_law();
     let sieve = sieve_of(files.rows);
     let (mut source, length) = source_of(alloc, packed)?;
     let mut sink = MemSink::new(alloc, Vec::new(alloc), 0);

@@ -130,7 +130,7 @@ module _ (h : Header) (image : PackedImage) (tiles : List ℕ) where
       (sound file said count old new loaded i (omega (arith, near)) lowest.below)
       (faulty_row file h image (slice_index tiles i) (slice_index_or old i d) is.found why said is.job is.told.0 is.told.1 (lowest.is_fault d))
 
-  -- where no slot has one, the row behind them that was refused has it
+  -- where no slot has one, the row after them that was refused has it
   pub first_behind : (held : Option (List ℕ)) → IfSome held (λ file. IsSaid file h image) → (count : ℕ) (old new : List Slot) → count < length tiles → AreLoaded held h.hdu image tiles count old
       → HaveNumbers count old new → (x : Fault) → IfSome held (λ file. IsRefusedIn file h.hdu image (slice_index tiles count) x)
       → IfSome held (λ file. IsFirstRowFault file (map (image_row h) tiles) (Some x))

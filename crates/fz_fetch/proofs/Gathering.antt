@@ -25,7 +25,7 @@ one_more bits from step k numbers =
     ∙ flat_map-append (pixel_bytes bits) (apart numbers from step k) (get_or numbers (from + k * step) (pos 0) ∷ [])
     ∙ ap (λ l. plain_bytes bits (apart numbers from step k) ++ l) (append-nil (pixel_bytes bits (get_or numbers (from + k * step) (pos 0))))
 
--- ---- what a pixel puts behind the bytes so far
+-- ---- what a pixel puts after the bytes so far
 
 pub put_one : (out : List ℕ) (at a : ℕ) → at < length out → take (at + 1) (set out at a) ≡ take at out ++ (a ∷ [])
 put_one out at a low = take_more_set out at a low

@@ -10,7 +10,7 @@ use Rattle.fz_parts.specs.declared.line.Line.{Line}
 use Rattle.fz_fetch.specs.Pieces.{pieces_written}
 use Rattle.fz_fetch.proofs.Running.{JoinsWrites, run_written}
 
--- the places of a run, and those of the lines behind it
+-- the places of a run, and those of the lines after it
 abbrev pub run_and : ℕ → ℕ → List Line → List ℕ
 run_and first count lines = range_with_len first count ++ lines_in_cutout lines
 
@@ -48,7 +48,7 @@ pub run_longer : (w at first count more : ℕ) (line : Line) (left left' : List 
 run_longer w at first count more line left left' rest contents goal next place size so_far =
     sym (ap (λ l. pieces_written w at l rest contents) (line_joins first count more line left left' next place size)) ∙ so_far
 
--- the run is written, and the places behind it are left
+-- the run is written, and the places after it are left
 run_more : JoinsWrites → (w at done end from first count : ℕ) (bytes run : List ℕ) (left : List Line) (contents contents' goal : Option (List ℕ)) →
     from ≡ at + w * first → end ≡ done + w * count → end ≤ length bytes → run ≡ take (w * count) (drop done bytes)
     → contents' ≡ written from run contents → pieces_written w at (run_and first count left) (drop done bytes) contents ≡ goal

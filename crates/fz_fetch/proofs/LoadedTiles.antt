@@ -24,7 +24,7 @@ below_or (suc k) (suc n) h = next (below_or k n (omega (arith, h)))
     next (inl low) = inl (omega (arith, low))
     next (inr same) = inr (ap suc same)
 
--- where a slot is put behind those that are loaded, and is loaded, one more is
+-- where a slot is put after those that are loaded, and is loaded, one more is
 pub loaded_more : (held : Option (List ℕ)) (hdu : ℕ) (image : PackedImage) (tiles : List ℕ) (i : ℕ) (old new : Pool) (x : Slot) → IsPut old i x new
     → IsLoaded held hdu image (slice_index tiles i) x → AreLoaded held hdu image tiles i old.slots → AreLoaded held hdu image tiles (i + 1) new.slots
 loaded_more held hdu image tiles i old new x put now before k d near = here (below_or k i near)

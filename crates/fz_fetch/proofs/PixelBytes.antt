@@ -1,4 +1,4 @@
--- The places that hold pixels, and the bytes of some pixels put one behind the other.
+-- The places that hold pixels, and the bytes of some pixels put one after the other.
 use Rattle.std.proofs.Common.{◌≡◌, ℕ, zero, suc, ◌+◌, ◌-◌, ◌*◌, ◌/◌, ◌^◌, ◌<◌, ◌≤◌, ◌==◌, min, Bool, true, false, if◌then◌else◌, ℤ, pos, List, [], ◌∷◌, ◌++◌, length, map, take, drop, get_or, refl, sym, ap, subst, ◌∙◌, arith}
 use Rattle.std.specs.List.{AllByRecursion, flat_map, range_with_len}
 use Rattle.std.proofs.lemmas.Grind.{flat_map-append}
@@ -117,7 +117,7 @@ front_more done len whole piece code code' code'' is fits first second =
         ap (drop (done + len)) first ∙ ap (λ n. drop (n + len) (take done whole ++ drop done code)) (sym start) ∙ drop-append-add (take done whole) (drop done code) len
         ∙ drop-drop len done code ∙ ap (λ n. drop n code) (omega arith)
 
--- the front of what is left is a piece of the whole, and the rest is left behind it
+-- the front of what is left is a piece of the whole, and the rest is left after it
 pub next_piece : (done : ℕ) (whole piece rest : List ℕ) → piece ++ rest ≡ drop done whole → (piece ≡ take (length piece) (drop done whole)) × (rest ≡ drop (done + length piece) whole)
 next_piece done whole piece rest left = (
   sym (take-append_seam piece rest) ∙ ap (take (length piece)) left,
@@ -177,7 +177,7 @@ line_whole from step count xs one within =
     place : (k : ℕ) → from + k ≡ from + k * step
     place k = let unit : k * step ≡ k = ap (λ s. k * s) one ∙ mul-one k in omega (arith, unit)
 
--- ---- a line behind what stands before it
+-- ---- a line after what stands before it
 
 -- what stands before a place, and then the bytes of a line
 abbrev pub behind : ℕ → List ℕ → List ℕ → List ℕ

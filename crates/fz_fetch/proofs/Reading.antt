@@ -11,7 +11,7 @@ use Rattle.fz_table.specs.Rows.{IsTable, RowInLaw, row_at, row_in, row_start}
 use Rattle.fz_table.specs.declared.table.Table.{Table}
 use Rattle.fz_fetch.specs.Rows.{AreFrom, HasRowsOf, rows_ranges}
 
--- each row stands behind those before it
+-- each row is after those before it
 row_fits : (len count i : ℕ) → i < count → len * (i + 1) ≤ len * count
 row_fits len count i near = mul-le-mul_left len (omega (arith, near))
 

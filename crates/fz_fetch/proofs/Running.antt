@@ -60,7 +60,7 @@ run_within w at first count most n inside within =
 pub run_fits : (w done count rest size : ℕ) → done + w * (count + rest) ≡ size → (done + w * count ≤ size) × (done + w * count + w * rest ≡ size)
 run_fits w done count rest size whole = (omega (arith, mul-add w count rest, whole), omega (arith, mul-add w count rest, whole))
 
--- one run more is written, and the pixels behind it are left
+-- one run more is written, and the pixels after it are left
 pub write_more : JoinsWrites → (w at done first count from len : ℕ) (bytes run : List ℕ) (left left' : List (ℕ × ℕ)) (contents contents' goal : Option (List ℕ)) →
     left ≡ (first, count) ∷ left' → from ≡ at + w * first → len ≡ w * count → done + len ≤ length bytes → run ≡ take len (drop done bytes)
     → contents' ≡ written from run contents → pieces_written w at (run_places left) (drop done bytes) contents ≡ goal

@@ -9,13 +9,13 @@ use Rattle.fz_base.specs.Sink.{written}
 use Rattle.fz_grid.specs.Arrays.{NumberArray, product}
 use Rattle.fz_grid.specs.Division.{AreTileLengths, tile_places}
 use Rattle.fz_grid.specs.Grid.{tile, tile_count}
-use Rattle.fz_grid.specs.Laws.{JoinedHasTheTiles, JoinedIsArray, NumbersAreInOneTile, TilesAreAtTheirPlaces}
+use Rattle.fz_grid.specs.Laws.{BoxesHaveTheirPixels, JoinedHasTheTiles, JoinedIsArray, NumbersAreInOneTile, TilesAreAtTheirPlaces, TilesLieInTheArray}
 use Rattle.fz_grid.specs.Region.{lengths_of}
 use Rattle.fz_grid.specs.Sieve.{sieve_lengths}
 use Rattle.fz_grid.specs.Whole.{AreTiles, joined}
 use Rattle.fz_grid.specs.declared.sieve.Sieve.{Sieve}
 use Rattle.fz_parts.specs.Cutout.{Sifts, numbers_at, picked_numbers, picks_in_cutout, picks_in_tile}
-use Rattle.fz_parts.specs.Laws.{CutoutsAreWhole, PlacesArePickedOnce, TilesGiveTheirPicks}
+use Rattle.fz_parts.specs.Laws.{CutoutsAreWhole, PartsLieInTheCutout, PlacesArePickedOnce, TilesGiveTheirPicks}
 use Rattle.fz_tile.specs.Laws.{HasPlainLen, SlicesBytes}
 use Rattle.fz_tile.specs.Pixels.{IsBitpix}
 use Rattle.fz_tile.specs.Plain.{pixel_bytes, plain_bytes}
@@ -24,7 +24,7 @@ use Rattle.fz_files.specs.FirstFault.{picked_tiles_of}
 use Rattle.fz_files.specs.Packed.{pixel_bits, tiles_in}
 use Rattle.fz_fetch.specs.Scattered.{part_written, parts_written, tile_written, tiles_written}
 use Rattle.fz_fetch.proofs.Covering.{AllFit, Fits, FitsAt, WriteLaws, all_written, covered, fit_all, fit_map, piece}
-use Rattle.fz_fetch.proofs.Places.{AllBelow, PlaceLaws, picks_below, picks_cover, tile_below, tiles_cover}
+use Rattle.fz_fetch.proofs.Places.{AllBelow, picks_cover, tiles_cover}
 
 -- ---- the bytes of pixels
 
@@ -89,7 +89,7 @@ pub joined_lengths : (array tile : List ℕ) (tiles : List (List ℤ)) → (join
 unfolding joined
 joined_lengths array tile tiles = refl
 
-module _ (laws : PlaceLaws) (writes : WriteLaws) (placed : TilesAreAtTheirPlaces) (is_array : JoinedIsArray) (has : JoinedHasTheTiles) (len : HasPlainLen) (slices : SlicesBytes)
+module _ (inside : TilesLieInTheArray) (writes : WriteLaws) (placed : TilesAreAtTheirPlaces) (is_array : JoinedIsArray) (has : JoinedHasTheTiles) (len : HasPlainLen) (slices : SlicesBytes)
     (p : Plan) (pixels : List (List ℤ)) (lengths : AreTileLengths (lengths_of p.shape) (lengths_of p.tile)) (size : IsBitpix p.bitpix) (tiles : AreTiles (lengths_of p.shape) (lengths_of p.tile) pixels) where
   abbrev array : List ℕ
   array = lengths_of p.shape
@@ -117,7 +117,7 @@ module _ (laws : PlaceLaws) (writes : WriteLaws) (placed : TilesAreAtTheirPlaces
       ap (λ l. numbers_at image.numbers (tile_places l tile_is t)) (sym (joined_lengths array tile_is pixels)) ∙ sym (placed image tile_is t) ∙ has array tile_is pixels t lengths tiles near
 
   below : (t : ℕ) → AllBelow (length image.numbers) (tile_places array tile_is t)
-  below t k low = let here : get_or (tile_places array tile_is t) k 0 < product array = tile_below laws array tile_is t lengths k low in omega (arith, here, as_many)
+  below t k low = let here : get_or (tile_places array tile_is t) k 0 < product array = inside array tile_is t k lengths low in omega (arith, here, as_many)
 
   fits : (t : ℕ) → t < tile_count array tile_is → Fits (pixel_bits p / 8) whole (tile_places array tile_is t) (plain_bytes (pixel_bits p) (get_or pixels t []))
   fits t near =
@@ -149,7 +149,7 @@ parts_are p sieve at [] pixels c = refl
 parts_are p sieve at (t ∷ later) [] c = refl
 parts_are p sieve at (t ∷ later) (xs ∷ pixels) c = parts_are p sieve at later pixels (part_written p sieve at t xs c)
 
-module _ (laws : PlaceLaws) (writes : WriteLaws) (count : CutoutsAreWhole) (gives : TilesGiveTheirPicks) (len : HasPlainLen) (slices : SlicesBytes)
+module _ (inside : PartsLieInTheCutout) (pixels : BoxesHaveTheirPixels) (writes : WriteLaws) (count : CutoutsAreWhole) (gives : TilesGiveTheirPicks) (len : HasPlainLen) (slices : SlicesBytes)
     (p : Plan) (sieve : Sieve) (a : NumberArray) (lengths : AreTileLengths (lengths_of p.shape) (lengths_of p.tile)) (size : IsBitpix p.bitpix) (sifts : Sifts (lengths_of p.shape) sieve)
     (same : a.lengths ≡ lengths_of p.shape) where
   abbrev array_is : List ℕ
@@ -178,7 +178,7 @@ module _ (laws : PlaceLaws) (writes : WriteLaws) (count : CutoutsAreWhole) (give
 
   below_cut : (t : ℕ) → AllBelow (length cutout) (picks_in_cutout array_is tile_of sieve t)
   below_cut t k low =
-      let here : get_or (picks_in_cutout array_is tile_of sieve t) k 0 < product (sieve_lengths sieve) = picks_below laws array_is tile_of sieve t lengths sifts k low in
+      let here : get_or (picks_in_cutout array_is tile_of sieve t) k 0 < product (sieve_lengths sieve) = inside array_is tile_of sieve t k lengths sifts low in
       let as_many : length cutout ≡ product (sieve_lengths sieve) = count a sieve in
       omega (arith, here, as_many)
 
@@ -195,4 +195,4 @@ module _ (laws : PlaceLaws) (writes : WriteLaws) (count : CutoutsAreWhole) (give
       fit_map (pixel_bits p / 8) cut_bytes (picks_in_cutout array_is tile_of sieve) bytes_of (tile a tile_of) picked fits_cut in
       parts_are p sieve at picked (map (tile a tile_of) picked) c
       ∙ covered writes at (pixel_bits p / 8) (product (sieve_lengths sieve)) cut_bytes (picks_in_cutout array_is tile_of sieve) bytes_of picked (map (tile a tile_of) picked) c (some_bytes p.bitpix size) of_cut fit
-      (picks_cover laws once array_is tile_of sieve lengths sifts)
+      (picks_cover pixels once array_is tile_of sieve lengths sifts)

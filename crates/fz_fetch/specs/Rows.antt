@@ -13,12 +13,12 @@ StandsWithin attached t = (n : ℕ) × (n < 2 ^ 64) × (attached ≡ Some n) × 
 abbrev pub AreFrom : ℕ → List ℕ → Type 0
 AreFrom first tiles = (i : ℕ) → i < length tiles → slice_index tiles i ≡ first + i
 
--- these bytes have the row of tile t behind i others
+-- these bytes have the row of tile t after i others
 pub record HasRow (held : Option (List ℕ)) (table : Table) (rows : List ℕ) (i t : ℕ) : Type 0 where
   pub room : table.row_bytes * (i + 1) ≤ length rows
   pub told : IfSome held (λ file. row_in table (drop (table.row_bytes * i) rows) ≡ row_at file table t)
 
--- they have those of tiles, one behind another
+-- they have those of tiles, one after another
 abbrev pub HasRowsOf : Option (List ℕ) → Table → List ℕ → List ℕ → Type 0
 HasRowsOf held table rows tiles = (i : ℕ) → i < length tiles → HasRow held table rows i (slice_index tiles i)
 

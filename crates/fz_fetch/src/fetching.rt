@@ -29,7 +29,7 @@ use std::thread::Threads;
 ///
 /// Refused: the lowest of these rows that is faulty, in the order in which they are given: its record is not found
 /// (GzipTile, TileMissing, DescriptorRange, TileSize), or stands for no pixels (CodeShort, CodeValue, LineList,
-/// PixelRange). No record behind a row whose record is not found is read, and of a record at most 8 bytes for each
+/// PixelRange). No record after a row whose record is not found is read, and of a record at most 8 bytes for each
 /// pixel and 64 more.
 pub fn fetch_tiles<R: Threads + Sync, S: Source, G: Gate>(
     rt: &R,

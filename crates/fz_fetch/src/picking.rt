@@ -21,14 +21,14 @@ ghost use Rattle.fz_fetch.specs.Scattered.{part_written, parts_written};
 use crate::bytes::{pixel_len, place_count, put_picks};
 use crate::runs::write_lines;
 use fz_base::{Sink, Stop};
-use fz_grid::{Grid, Sieve, place_law, shape_law, tile_pixels_law};
+use fz_grid::{Grid, Sieve, shape_law, tile_pixels_law};
 use fz_head::Plan;
-use fz_parts::{cutout_axes, tile_lines};
+use fz_parts::{cutout_axes, cutout_law, tile_lines};
 use fz_pool::{Slot, Window, put_law, sizes_law};
 use fz_tile::plain_law;
 
 /// Writes the picks of these tiles, which are in the first slots and have a pick each, to their places in what the sieve
-/// cuts out of the image, whose data begin at this byte of the sink behind byte 0.
+/// cuts out of the image, whose data begin at this byte of the sink after byte 0.
 pub fn scatter_picks<K: Sink>(
     sink: &mut K,
     data_at: u64,
@@ -175,7 +175,7 @@ fn write_part<K: Sink>(
     ensures created { K.created sink.new ≡ K.created sink.old }
     ensures cause { Writes (K.tally sink.old) (K.tally sink.new) result }
 {
-    place_law();
+    cutout_law();
     shape_law();
     plain_law();
     let grid = Grid::new(plan.shape, plan.tile);

@@ -10,7 +10,7 @@ ghost use Rattle.fz_fetch.specs.Rows.{AreFrom, HasRow, HasRowsOf, StandsWithin, 
 use fz_base::{Source, Stop, ranges_law};
 use fz_table::{Row, Table, filled_law, is_filled, read_row, row_in, row_in_law, row_reads_law};
 
-/// Whether the rows of these tiles are read by one reading: they stand one behind another, and their descriptors fill
+/// Whether the rows of these tiles are read by one reading: they are one after another, and their descriptors fill
 /// them.
 pub(crate) fn stand_together(table: &Table, tiles: &[u32]) -> bool
     ensures filled { IsTrue result → is_filled_table table.now ≡ true }
@@ -35,7 +35,7 @@ fn are_from(first: u32, tiles: &[u32]) -> bool
     true
 }
 
-/// The bytes of so many rows that stand one behind another, at most 32 each.
+/// The bytes of so many rows that are one after another, at most 32 each.
 pub(crate) fn rows_len(table: &Table, count: usize) -> usize
     requires table { IsTable table.now }
     requires filled { is_filled_table table.now ≡ true }

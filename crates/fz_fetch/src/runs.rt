@@ -16,7 +16,7 @@ use fz_grid::{Region, runs};
 use fz_parts::Lines;
 
 /// Writes the bytes of the pixels of a region, axis 1 fastest, to their places in an image of this shape, whose data
-/// begin at this byte of the sink behind byte 0: each run of neighbouring pixels at once.
+/// begin at this byte of the sink after byte 0: each run of neighbouring pixels at once.
 pub(crate) fn write_region<K: Sink>(
     sink: &mut K,
     data_at: u64,
@@ -51,7 +51,7 @@ pub(crate) fn write_region<K: Sink>(
 }
 
 /// Writes the bytes of the picks of these lines to their places in what is cut out of an image, whose data begin at this
-/// byte of the sink behind byte 0: lines that stand together there at once.
+/// byte of the sink after byte 0: lines that stand together there at once.
 pub(crate) fn write_lines<K: Sink>(
     sink: &mut K,
     data_at: u64,

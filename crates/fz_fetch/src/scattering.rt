@@ -23,7 +23,7 @@ use fz_head::Plan;
 use fz_pool::{Slot, Window, put_law, sizes_law};
 
 /// Writes the pixels of these tiles, which are in the first slots, to their places in the image, whose data begin at
-/// this byte of the sink behind byte 0.
+/// this byte of the sink after byte 0.
 pub fn scatter_tiles<K: Sink>(
     sink: &mut K,
     data_at: u64,

@@ -256,7 +256,7 @@ module _ (laws : CardLaws) where
   once header primary n i front (At_pcount p e) = ap (λ k. is_in_some image_names (card_name (card_at header k))) e ∙ (ap (is_in_some image_names) (front.pcount p) ∙ once-pcount)
   once header primary n i front (At_gcount p e) = ap (λ k. is_in_some image_names (card_name (card_at header k))) e ∙ (ap (is_in_some image_names) (front.gcount p) ∙ once-gcount)
 
-  -- END stands behind the mandatory cards
+  -- END is after the mandatory cards
   pub front-before-end : (header : List ℕ) (primary : Bool) (n last : ℕ) → HasFront header primary n → HasEnd header last → front_count primary n ≤ last
   front-before-end header primary n last front end = elim (cases_lt last (front_count primary n)) [
     | inl inside ↦

@@ -76,7 +76,7 @@ module _ (laws : CardLaws) where
         let name = called header primary n last image i (padded (codes "GCOUNT")) (padded (codes "ZGCOUNT")) before (ap (λ k. card_name (card_at header k)) e ∙ image.front.gcount p) gcount-pair in
         front-by primary n (packed_card (card_at header i)) (inr (count-in-front primary (card_name (packed_card (card_at header i))) (codes "ZGCOUNT") p name refl))
 
-  -- the first card's word, of a card behind the mandatory ones
+  -- the first card's word, of a card after the mandatory ones
   module _ (header : List ℕ) (primary : Bool) (n last : ℕ) (image : IsImage header primary n last) where
     no_word : (i j : ℕ) (a b : List ℕ) → i < last → j < i → Place primary n j → card_name (card_at header j) ≡ a → packed_name a ≡ Some b → ¬ (card_name (packed_card (card_at header i)) ≡ b)
     no_word i j a b before less at name e same =

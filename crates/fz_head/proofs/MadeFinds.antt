@@ -71,7 +71,7 @@ pub first-no-tile : (p : Plan) (s : Totals) (i : ℕ) → NoneNamed (numbered_na
 unfolding int_card_bytes logical_card_bytes text_card_bytes numbered_name digits
 first-no-tile p s i = (refl, (refl, (refl, (refl, (refl, (refl, (refl, (refl, (refl, (refl, (refl, (refl, (refl, (refl, tt))))))))))))))
 
--- the parameters stand behind the tile's lengths
+-- the parameters are after the tile's lengths
 behind-tiles : (name : List ℕ) (p : Plan) (s : Totals) (rest : List (List ℕ)) → NoneNamed name (first_part p s) → NoneNamed name (tiles p) → find (has_name name) (made_cards p s ++ rest) ≡ find (has_name name) (parameter_cards p.codec ++ rest)
 behind-tiles name p s rest first mid =
     ap (find (has_name name)) (made-parts p s rest)
@@ -125,7 +125,7 @@ none-of-sums name cards datasum checksum are = all-weaker IsSumCard (λ card. ha
 
 -- by the laws of cards
 module _ (laws : CardLaws) where
-  -- two numbers behind a stem make two names
+  -- two numbers after a stem make two names
   pub numbers-apart : (stem : List ℕ) (i k : ℕ) → 1 ≤ i → i < 2 ^ 64 → 1 ≤ k → k < 2 ^ 64 → numbered_name stem i ≡ numbered_name stem k → i ≡ k
   numbers-apart stem i k low_i high_i low_k high_k same =
       let one = laws.numbers.made_number stem (numbered_name stem i) i low_i high_i refl in

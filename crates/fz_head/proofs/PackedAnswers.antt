@@ -12,7 +12,7 @@ use Rattle.fz_head.specs.PackedChecks.{bitpix_checks, codec_checks, line_list_ch
 use Rattle.fz_head.specs.PackedPlan.{plan_of_cards}
 use Rattle.fz_head.proofs.SaidCards.{position-step}
 
--- the checks behind each group
+-- the checks after each group
 abbrev behind-line_list : ℕ → List ℕ → List (Bool × Fault)
 behind-line_list k header = row_check k header ∷ []
 

@@ -28,7 +28,7 @@ after-three-lists one two three rest first second third = passed one (two ++ (th
 pub first-of-check : {A : Type 0} (b c : Bool) (f g : Fault) (result : Result A Fault) → b ≡ c → f ≡ g → IsFirstOf ((b, f) ∷ []) result → IsFirstOf ((c, g) ∷ []) result
 first-of-check b c f g result same fault is = subst (λ x. IsFirstOf ((c, x) ∷ []) result) fault (subst (λ t. IsFirstOf ((t, f) ∷ []) result) same is)
 
--- the first check refuses, the next does, and the one behind it
+-- the first check refuses, the next does, and the one after it
 pub refused-first : (a : Bool × Fault) (rest : List (Bool × Fault)) (x : Fault) → first_refusal (a ∷ []) ≡ Some x → first_refusal (a ∷ rest) ≡ Some x
 refused-first a rest x e = stopped (a ∷ []) rest x e
 

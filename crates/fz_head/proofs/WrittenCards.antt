@@ -64,7 +64,7 @@ end-written cards count size o0 o1 o2 is blocks room same ended filled_up =
     ∙ finished cards count front is.bytes is.number long))) in
     (bytes, sym (length-take-le size o2 (omega arith)) ∙ ap length bytes)
 
--- the same of a range that is mapped twice, and behind other cards
+-- the same of a range that is mapped twice, and after other cards
 pub adds-more-mapped : (g : List ℕ → List ℕ) (f : ℕ → List ℕ) (i : ℕ) (card : List ℕ) (n0 n1 n2 : ℕ) (o0 o1 o2 : List ℕ) → card ≡ g (f i) →
     Adds (map g (map f (range_with_len 0 i))) n0 o0 n1 o1 → Adds (card ∷ []) n1 o1 n2 o2 → Adds (map g (map f (range_with_len 0 (i + 1)))) n0 o0 n2 o2
 adds-more-mapped g f i card n0 n1 n2 o0 o1 o2 is first second =
@@ -83,7 +83,7 @@ adds-more-behind front f a i j card n0 n1 n2 o0 o1 o2 place is first second =
 pub written-none : (out : List ℕ) → AreWritten [] 0 out
 written-none out = record { bytes = refl; number = refl }
 
--- a header of so many blocks is long enough for END behind its cards, and with a block more for 29 cards more
+-- a header of so many blocks is long enough for END after its cards, and with a block more for 29 cards more
 pub blocks-enough : (before cards count len : ℕ) → len ≡ 2880 * (before + 1) → 80 * (cards + 1) ≤ len → count ≤ cards + 29 → whole_blocks_of (80 * (count + 1)) ≤ len + 2880
 blocks-enough before cards count len is fits few = omega arith
 

@@ -1,4 +1,4 @@
--- The checks that a job makes of one HDU, behind those that every job makes, and what it learns of it (FITS 4.0, sections 3.3.2,
+-- The checks that a job makes of one HDU, after those that every job makes, and what it learns of it (FITS 4.0, sections 3.3.2,
 -- 7.3 and 10.1).
 use Rattle.std.specs.Prelude.{◌≡◌, ℕ, ◌+◌, ◌-◌, ◌<◌, ◌≤◌, ◌&&◌, ◌||◌, ◌==◌, not, nat_lt, Bool, true, List, [], ◌∷◌, ◌++◌, drop, take, codes, slice_index, Option, Some, None, is_some, unwrap_or, Result, Ok, if◌then◌else◌}
 use Rattle.std.specs.List.{flat_map, position, range_with_len}
@@ -48,14 +48,14 @@ pack_header_checks o h header = already_packed h header ∷ (if is_packable h th
 unfoldable pub plan_to_pack : PackOptions → Header → List ℕ → Result (Option Plan) Fault
 plan_to_pack o h header = unless_refused (if is_packable h then Some (pack_plan_of o h) else None) (first_refusal (pack_header_checks o h header))
 
--- the byte behind the data, and the bytes from there to the next HDU
+-- the byte after the data, and the bytes from there to the next HDU
 abbrev pub data_end_of : Header → ℕ
 data_end_of h = data_start_of h + h.data_len
 
 abbrev pub fill_in : List ℕ → Header → List ℕ
 fill_in file h = take (next_start_of h - data_end_of h) (drop (data_end_of h) file)
 
--- the fill behind the data of an image is zeros; its bytes are given
+-- the fill after the data of an image is zeros; its bytes are given
 abbrev pub data_fill : Header → List ℕ → Bool × Fault
 data_fill h fill =
     let found = position (λ b. not (b == 0)) fill in
@@ -72,7 +72,7 @@ pub record IsImageToPack (o : PackOptions) (file : List ℕ) (h : Header) : Type
   pub packable : is_packable h ≡ true
   pub passed : first_refusal (pack_hdu_checks o file h) ≡ None
 
--- the HDU is HDU 1, behind a primary with NAXIS 0
+-- the HDU is HDU 1, after a primary with NAXIS 0
 abbrev pub is_after_empty : List ℕ → Header → Bool
 is_after_empty file h = h.hdu == 1 && size_at file 2 == 0
 

@@ -9,7 +9,7 @@ use Rattle.fz_head.specs.JobChecks.{pack_hdu_checks, unpack_hdu_checks, cut_hdu_
 use Rattle.fz_head.specs.Packable.{is_packed}
 use Rattle.fz_head.specs.declared.options.PackOptions.{PackOptions}
 
--- what `pack` says of an HDU: it goes on behind it
+-- what `pack` says of an HDU: it goes on after it
 abbrev pub pack_judge : PackOptions → List ℕ → Judge
 pack_judge o file h = unless_refused false (first_refusal (pack_hdu_checks o file h))
 
@@ -22,7 +22,7 @@ abbrev pub is_wanted : Option ℕ → List ℕ → Header → Bool
 is_wanted None header h = is_packed header h
 is_wanted (Some k) header h = h.hdu == k
 
--- what `cut` says of one: it goes on behind those before the HDU that it cuts from, and stops at that
+-- what `cut` says of one: it goes on after those before the HDU that it cuts from, and stops at that
 abbrev pub cut_judge : Option ℕ → Region → List ℕ → Judge
 cut_judge wanted region file h =
     if is_wanted wanted (hdu_of file h).header h then unless_refused true (first_refusal (cut_hdu_checks file region h)) else Ok false

@@ -56,7 +56,7 @@ is_reserved_card primary n card =
 abbrev pub reserved_index : Bool → ℕ → List (List ℕ) → Option ℕ
 reserved_index primary n cards = position (is_reserved_card primary n) cards
 
--- how many blanks stand behind END before the first other byte
+-- how many blanks are after END before the first other byte
 abbrev pub fill_place : List ℕ → Option ℕ
 fill_place header = position (λ b. not (b == byte " ")) (drop (behind_end header) header)
 
@@ -82,7 +82,7 @@ reserved_names h header = refused_at h.hdu (reserved_index (is_primary h.sort) h
 abbrev pub repeated_names : Header → List ℕ → Bool × Fault
 repeated_names h header = refused_at h.hdu (first_repeat image_names itself (cards_of header)) Duplicate
 
--- only blanks stand behind the letters END
+-- only blanks are after the letters END
 abbrev pub header_fill : Header → List ℕ → Bool × Fault
 header_fill h header = (is_some (fill_place header), refusal h.hdu (Byte (h.start + behind_end header + unwrap_or (fill_place header) 0)) HeaderFill)
 

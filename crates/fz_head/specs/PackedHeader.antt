@@ -23,7 +23,7 @@ flag_card word = logical_card_bytes (padded word) true
 abbrev pub word_card : List ℕ → List ℕ → List ℕ
 word_card word text = text_card_bytes (padded word) text
 
--- cards of a stem with a number behind it, and a value
+-- cards of a stem with a number after it, and a value
 abbrev pub numbered_number_card : List ℕ → ℕ → ℕ → List ℕ
 numbered_number_card stem i value = int_card_bytes (numbered_name stem i) (pos value)
 

@@ -25,7 +25,7 @@ coded_unit (Rice block bytepix) = 1
 coded_unit Plio = 2
 coded_unit Plain = 1
 
--- The table of a plan whose data begin at this byte, with a heap of so many bytes directly behind the rows: coded tiles, then
+-- The table of a plan whose data begin at this byte, with a heap of so many bytes directly after the rows: coded tiles, then
 -- stored ones, whose elements are pixels.
 abbrev pub packed_table : Plan → ℕ → ℕ → Table
 packed_table p at heap = record {

@@ -52,7 +52,7 @@ axis_card cards i = map plain_card (option_to_list (first_of_name (numbered_name
 abbrev pub size_cards : List (List ℕ) → List (List ℕ)
 size_cards cards = restored_word (codes "ZBITPIX") cards ++ restored_word (codes "ZNAXIS") cards
 
--- PCOUNT and GCOUNT, which an extension has behind its axes: 0 and 1 where the packed header does not say them
+-- PCOUNT and GCOUNT, which an extension has after its axes: 0 and 1 where the packed header does not say them
 abbrev pub count_cards_of : Bool → List (List ℕ) → List (List ℕ)
 count_cards_of primary cards =
     if primary then []

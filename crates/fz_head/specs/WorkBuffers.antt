@@ -1,4 +1,4 @@
--- The buffers that a job takes at once behind its first look: the longest header, the translated header, the slots in which tiles are
+-- The buffers that a job takes at once after its first look: the longest header, the translated header, the slots in which tiles are
 -- coded (FITS 4.0, section 10.1.3), and the copy buffer. A job takes those that it wants.
 use Rattle.std.specs.Prelude.{ℕ, ◌+◌, ◌*◌, Bool, true, false, List, [], ◌∷◌, ◌++◌, Option, Some, None}
 use Rattle.fz_base.specs.JobBuffers.{slots_buffers}

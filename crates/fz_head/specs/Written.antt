@@ -9,7 +9,7 @@ pub record AreWritten (cards : List (List ℕ)) (count : ℕ) (out : List ℕ) :
   pub bytes : take (80 * count) out ≡ flat_map (λ card. card) cards
   pub number : count ≡ length cards
 
--- a step writes these cards behind those that stand there
+-- a step writes these cards after those that stand there
 abbrev pub Adds : List (List ℕ) → ℕ → List ℕ → ℕ → List ℕ → Type 0
 Adds new before old after out = (cards : List (List ℕ)) → AreWritten cards before old → AreWritten (cards ++ new) after out
 

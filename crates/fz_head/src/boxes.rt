@@ -86,7 +86,7 @@ fn check_packed(buf: &[u8], header: &Header) -> Result<(), Fault>
 ///
 /// Refused: a binary table is a compressed one (CompressedTable); the HDU is not packed (NotPacked, at its
 /// first byte); a name that stands once stands twice (Duplicate); as `Table::of` and then `plan_of` refuse it;
-/// the box has another number of axes than the image, or ends behind one (OutOfBox, at ZNAXIS or at ZNAXISi).
+/// the box has another number of axes than the image, or ends after one (OutOfBox, at ZNAXIS or at ZNAXISi).
 pub fn image_to_cut(
     buf: &[u8],
     header: &Header,

@@ -29,7 +29,7 @@ pub fn pack_plan_law()
         → CanWrite p.codec p.bitpix }
 {}
 
-/// Where no check of the names of an image refuses anything, only blanks stand behind END; and where that of the
+/// Where no check of the names of an image refuses anything, only blanks are after END; and where that of the
 /// fill of data refuses nothing, the fill is zeros.
 pub fn fill_law()
     ensures header { (h : Header) (header : List ℕ) → first_refusal (name_checks h header) ≡ None → HasBlankFill header }
@@ -37,7 +37,7 @@ pub fn fill_law()
 {}
 
 /// An image of a file of which no check of `pack` refuses anything has a plan, which divides it into tiles that its
-/// codec can write; blanks alone stand behind END of its header, and zeros behind its data.
+/// codec can write; blanks alone are after END of its header, and zeros after its data.
 pub fn image_to_pack_law()
     ensures plan { (o : PackOptions) (file : List ℕ) (h : Header) → IsImageToPack o file h
         → pack_answer o h (hdu_of file h).header ≡ Ok (pack_plan_of o h) }

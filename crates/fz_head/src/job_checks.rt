@@ -87,7 +87,7 @@ pub fn plan_to_pack(
     Ok(Some(plan))
 }
 
-/// Checks the fill behind the data of an image that is to be packed: its bytes are zeros (else DataFill, at
+/// Checks the fill after the data of an image that is to be packed: its bytes are zeros (else DataFill, at
 /// the first other one; FITS 4.0, section 3.3.2).
 pub fn fill_check(header: &Header, fill: &[u8]) -> Result<(), Fault>
     requires end { next_start_of header.now ≤ 2 ^ 62 }

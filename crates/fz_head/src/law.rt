@@ -85,7 +85,7 @@ pub fn card_in_place_law()
 {}
 
 /// What is packed is accepted: a header that is made of that of an image by a plan and totals, with any cards of
-/// sums, is a packed one behind the first HDU, no check of it refuses, and it stands for the same plan and for
+/// sums, is a packed one after the first HDU, no check of it refuses, and it stands for the same plan and for
 /// the table of the plan. So are the bytes that are written of its cards, and any others with these cards.
 pub fn accepted_law()
     ensures bytes { (header : List ℕ) (h : Header) (p : Plan) (s : Totals) (sums : List (List ℕ)) (k start : ℕ) (bytes : List ℕ)

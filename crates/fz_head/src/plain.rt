@@ -175,7 +175,7 @@ fn is_front_name(name: Name, n: u32) -> bool
         || is_numbered(name, b"ZNAXIS", n)
 }
 
-// Whether a card of this name stands behind the axes of an extension.
+// Whether a card of this name is after the axes of an extension.
 fn is_count_name(name: Name) -> bool
     ensures { result ≡ is_in_some count_names name.bytes }
 {

@@ -133,7 +133,7 @@ pub slot_within : (i count : ℕ) (slots : List Slot) (x : Slot) → slice_get s
 slot_within i count slots x is few lens =
     subst (λ (y : Slot). y.job.len ≤ length y.code) (get_or_from_slice_get slots i x x is) (lens i x few)
 
--- a row more stands behind the rows
+-- a row more is after the rows
 pub row_put : (len i offset from : ℕ) (p : Plan) (slots : List Slot) (x : Slot) (into row : List ℕ) → len ≡ planned_row p → slice_get slots i ≡ Some x →
     from ≡ offset + length (heap_of (coded_tiles i slots)) → row ≡ row_of p from (coded_tile x) → take (len * i) into ≡ rows_from p offset (coded_tiles i slots) →
     take (len * i) into ++ row ≡ rows_from p offset (coded_tiles (i + 1) slots)

@@ -16,7 +16,7 @@ use Rattle.fz_image.specs.declared.progress.Progress.{Progress}
 use Rattle.fz_image.proofs.Codes.{heap_more, rows_len}
 use Rattle.fz_image.proofs.Progresses.{WritesApart, WritesNext, no_write}
 
--- with more bytes behind those that are held back
+-- with more bytes after those that are held back
 pub held_more : (at n m : ℕ) (held held' bytes : List ℕ) (contents : Option (List ℕ)) → WritesNext → n ≤ at → n ≤ length held → m ≡ n + length bytes → take m held' ≡ take n held ++ bytes →
     caught_up (at + length bytes) m held' contents ≡ written at bytes (caught_up at n held contents)
 held_more at n m held held' bytes contents next within room count kept =
@@ -52,7 +52,7 @@ held_step l w p p' cs es e code end n m held held' before now now' next so_far m
     ∙ next (heap_at_of l + w.heap) (heap_of cs) code before
     ∙ ap (λ k. written (heap_at_of l + w.heap) k before) (ap (λ k. heap_of cs ++ k) code_is ∙ sym (heap_more cs e) ∙ ap heap_of (sym more))
 
--- rows are written before bytes of the heap that are held back, or behind them
+-- rows are written before bytes of the heap that are held back, or after them
 pub rows_apart : (l : Layout) (w : Progress) (es : List TileCode) (n : ℕ) (held : List ℕ) (contents : Option (List ℕ)) → WritesApart → l.row_len ≡ planned_row l.plan → w.tiles + length es ≤ l.tiles → n ≤ w.heap →
     heap_caught_up l w n held (written (l.rows_at + l.row_len * w.tiles) (rows_from l.plan w.heap es) contents) ≡ written (l.rows_at + l.row_len * w.tiles) (rows_from l.plan w.heap es) (heap_caught_up l w n held contents)
 rows_apart l w es n held contents swap rows few within =

@@ -46,7 +46,7 @@ still_rooms l first second first' second' rooms alike =
     let both = alike (2 * n, 8 * n + 64) rooms.1 rooms.2 in
     (n, both.0, both.1, rooms.3)
 
--- the next tiles can be written, and behind the others more read into their slots
+-- the next tiles can be written, and after the others more read into their slots
 pub can_move : (l : Layout) (e : Ends) (w : Progress) (before : Option (List ℕ)) (coded loaded more n : ℕ) (first second : Pool) (rows bytes : List ℕ) → IsLayout l → HasPixels e.attached l → IsTrue e.created →
     HaveRooms l first second → 4096 ≤ length rows → 2 * second.workers ≤ 128 → AreLast n bytes w → IsWritten l e.held before (heap_caught_up l w n bytes e.contents) w → StandReady l e.held w coded loaded first second →
     more ≤ 2 * second.workers → w.tiles + coded + loaded + more ≤ l.tiles → CanMove l e w second coded (w.tiles + coded + loaded) more rows n bytes

@@ -15,7 +15,7 @@ use Rattle.fz_image.specs.declared.layout.Layout.{Layout}
 abbrev pub datasum_put : ℕ → ℕ → List ℕ → List ℕ
 datasum_put i total header = with_card i (datasum_card (carried total)) header
 
--- and with CHECKSUM in place of the card behind it
+-- and with CHECKSUM in place of the card after it
 abbrev pub sum_cards_put : ℕ → ℕ → List ℕ → List ℕ
 sum_cards_put i total header =
     with_card (i + 1) (checksum_card (carried (total + total_at 0 (datasum_put i total header)))) (datasum_put i total header)

@@ -7,7 +7,7 @@ use Rattle.fz_image.specs.Progress.{AreNext, no_progress, with_tiles}
 use Rattle.fz_image.specs.Tiles.{AreCodesFrom, AreEncodedTiles}
 use Rattle.fz_image.specs.declared.layout.Layout.{Layout}
 
--- tiles that were encoded, and are the next ones behind those with these codes, find room in the heap
+-- tiles that were encoded, and are the next ones after those with these codes, find room in the heap
 abbrev pub NextTilesFit : Type 0
 NextTilesFit = (l : Layout) (held : Option (List ℕ)) (cs : List TileCode) (count : ℕ) (w : Pool) → IsLayout l → AreCodesFrom l 0 cs → length cs + count ≤ l.tiles → count ≤ 2 * w.workers → AreEncodedTiles l held (length cs) count w
     → AreNext l (with_tiles l no_progress cs).heap count w

@@ -41,7 +41,7 @@ pub record IsPlan (p : Plan) : Type 0 where
   pub writable : CanWrite p.codec p.bitpix
   pub wide : p.wide ≡ is_wide p.bitpix (lengths_of p.shape)
 
--- a layout by such a plan, behind byte 0
+-- a layout by such a plan, after byte 0
 pub record IsLayout (l : Layout) : Type 0 where
   pub plan : IsPlan l.plan
   pub tiles : l.tiles ≡ tiles_in l.plan

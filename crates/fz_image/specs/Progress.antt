@@ -65,7 +65,7 @@ pub record IsWritten (l : Layout) (held before now : Option (List ℕ)) (w : Pro
   pub contents : now ≡ tiles_written l no_progress codes before
   pub told : IfSome held (λ file. codes ≡ codes_from l file 0 (length codes))
 
--- the first slots have what is written for the next tiles, and behind so many bytes of the heap there is room for that in the plain
+-- the first slots have what is written for the next tiles, and after so many bytes of the heap there is room for that in the plain
 -- bytes of the image
 pub record AreNext (l : Layout) (heap count : ℕ) (pool : Pool) : Type 0 where
   pub filled : IsFilled pool

@@ -41,7 +41,7 @@ AreAlike size w = slot_sizes w.slots ≡ replicate (2 * w.workers) size
 abbrev pub HaveRooms : Layout → Pool → Pool → Type 0
 HaveRooms l first second = (n : ℕ) × AreAlike (2 * n, 8 * n + 64) first × AreAlike (2 * n, 8 * n + 64) second × (pixels_of l 0 ≤ n)
 
--- so many tiles, which the first slots of the one half have encoded, are the next ones, and so many behind them the first slots of
+-- so many tiles, which the first slots of the one half have encoded, are the next ones, and so many after them the first slots of
 -- the other half have to be encoded
 pub record StandReady (l : Layout) (file : Option (List ℕ)) (w : Progress) (coded loaded : ℕ) (first second : Pool) : Type 0 where
   pub within : w.tiles + coded + loaded ≤ l.tiles

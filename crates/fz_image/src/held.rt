@@ -8,7 +8,7 @@ ghost use Rattle.fz_image.specs.Held.{caught_up};
 
 use fz_base::{Sink, Stop, output_law, write_behind};
 
-/// Has bytes written to a place behind byte 0, now or later: the first `count` bytes of `held` are held back, and
+/// Has bytes written to a place after byte 0, now or later: the first `count` bytes of `held` are held back, and
 /// go just before that place. A piece is held back where it leaves room for others.
 pub(crate) fn hold_back<K: Sink>(
     sink: &mut K,
@@ -91,7 +91,7 @@ fn begin<K: Sink>(
     Ok(())
 }
 
-// Holds back more bytes, behind those that are held back.
+// Holds back more bytes, after those that are held back.
 fn keep(bytes: &[u8], held: &mut [u8], count: &mut usize)
     requires room { count.old + len bytes.now ≤ len held.old }
     ensures later { (at : ℕ) (contents : Option (List ℕ)) → count.old ≤ at

@@ -40,7 +40,7 @@ use std::thread::Threads;
 // So many bytes are kept for the rows of a round, in which at most 128 tiles have 32 bytes each.
 const ROWS_LEN: usize = 4096;
 
-/// Packs an image: writes its table from a byte of the sink behind byte 0 on, and answers the byte behind it
+/// Packs an image: writes its table from a byte of the sink after byte 0 on, and answers the byte after it
 /// (FITS 4.0, section 10.1).
 ///
 /// `buf` has the header of the image, `header` its facts, and `plan` says how it is packed. `made` has room for a
@@ -231,7 +231,7 @@ fn write_rounds<R: Threads + Sync, S: Source, K: Sink, G: Gate>(
     write_by_turns(rt, source, sink, layout, window, gate, rows, held, count)
 }
 
-// The same with one part of the work behind the other, and all slots in each round.
+// The same with one part of the work after the other, and all slots in each round.
 fn write_whole_rounds<R: Threads + Sync, S: Source, K: Sink, G: Gate>(
     rt: &R,
     source: &mut S,

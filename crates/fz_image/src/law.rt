@@ -3,7 +3,7 @@ ghost use Rattle.fz_image.specs.Laws.{NextTilesFit, TablesAreSmall, TilesJoin};
 
 use fz_sum::sum_law;
 
-/// Tiles that were encoded find room behind those before them, what is written of a table is joined of the tiles, and a
+/// Tiles that were encoded find room after those before them, what is written of a table is joined of the tiles, and a
 /// table is small.
 pub fn table_law()
     ensures next { NextTilesFit }

@@ -50,7 +50,7 @@ impl Progress {
             sums,
         }
     }
-    /// Counts the rows of so many tiles more, which stand behind the rows.
+    /// Counts the rows of so many tiles more, which are after the rows.
     pub fn add_rows(&mut self, layout: &Layout, count: u32, rows: &[u8])
         requires tiles { self.old.tiles + count ≤ layout.now.tiles }
         requires summed { self.old.sum.count + len rows.now < 2 ^ 63 }
@@ -61,7 +61,7 @@ impl Progress {
         self.tiles += count;
     }
 
-    /// Counts the bytes of one tile more, which stand behind the heap.
+    /// Counts the bytes of one tile more, which are after the heap.
     pub fn add_tile(&mut self, layout: &Layout, slot: &Slot)
         requires layout { IsLayout layout.now }
         requires within { slot.now.job.len ≤ len slot.now.code }

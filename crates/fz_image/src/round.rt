@@ -24,8 +24,8 @@ use fz_sum::sum_law;
 use fz_tile::column_law;
 use std::thread::Threads;
 
-/// Packs the next tiles, as many as the window has slots for: their codes go behind the heap, and their rows
-/// behind the rows. The last bytes of the heap may be held back, before and then: the first `count` of `held`.
+/// Packs the next tiles, as many as the window has slots for: their codes go after the heap, and their rows
+/// after the rows. The last bytes of the heap may be held back, before and then: the first `count` of `held`.
 pub(crate) fn write_round<R: Threads + Sync, S: Source, K: Sink, G: Gate>(
     rt: &R,
     source: &mut S,
@@ -166,7 +166,7 @@ pub(crate) fn write_tiles<K: Sink>(
     write_codes(sink, layout, progress, window, tiles, held, count)
 }
 
-// Has the bytes of the tiles in the first slots written behind the heap, now or later.
+// Has the bytes of the tiles in the first slots written after the heap, now or later.
 fn write_codes<K: Sink>(
     sink: &mut K,
     layout: &Layout,

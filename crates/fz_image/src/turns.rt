@@ -27,7 +27,7 @@ use std::thread::Threads;
 pub(crate) struct Turn {
     /// So many are encoded, in the second half.
     pub(crate) coded: u32,
-    /// So many behind them are to be encoded, in the first half.
+    /// So many after them are to be encoded, in the first half.
     pub(crate) loaded: u32,
 }
 
@@ -154,7 +154,7 @@ fn write_turns<R: Threads + Sync, S: Source, K: Sink, G: Gate>(
     Ok(progress)
 }
 
-// One turn, behind which the halves change their parts.
+// One turn, after which the halves change their parts.
 fn take_turn<R: Threads + Sync, S: Source, K: Sink, G: Gate>(
     rt: &R,
     source: &mut S,

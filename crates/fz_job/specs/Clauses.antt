@@ -96,7 +96,7 @@ IsChanged x = x ≡ refusal x.hdu (Card 0) BadCard
 abbrev pub IsOfSomeRow : Fault → Type 0
 IsOfSomeRow x = (row : ℕ) × (x.at ≡ Row row)
 
--- The faults that a job may tell behind its first look: that of an HDU which changed, and, of a job that reads rows, that of a row.
+-- The faults that a job may tell after its first look: that of an HDU which changed, and, of a job that reads rows, that of a row.
 abbrev pub ComesLate : Job → Fault → Type 0
 ComesLate (Pack o) x = IsChanged x
 ComesLate Unpack x = IsChanged x ⊎ IsOfSomeRow x

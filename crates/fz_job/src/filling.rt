@@ -1,4 +1,4 @@
-//! The fill behind data.
+//! The fill after data.
 ghost use Rattle.std.specs.Prelude.{◌≡◌, ◌+◌, ◌-◌, ◌≤◌, ◌<◌, ◌^◌, IsTrue, replicate, length as len, IfOk, OnOk};
 ghost use Rattle.fz_base.specs.FirstByte.{StaysShut};
 ghost use Rattle.fz_base.specs.Sink.{written};
@@ -9,8 +9,8 @@ ghost use Rattle.fz_block.specs.Header.{whole_blocks_of};
 use fz_base::{Sink, Stop, write_behind};
 use fz_block::BLOCK_LEN;
 
-/// Writes zeros behind data of so many bytes, which begin at this byte of the sink, up to whole blocks, and answers
-/// the byte behind them (FITS 4.0, section 3.3.2).
+/// Writes zeros after data of so many bytes, which begin at this byte of the sink, up to whole blocks, and answers
+/// the byte after them (FITS 4.0, section 3.3.2).
 pub fn write_fill<K: Sink>(
     sink: &mut K,
     data_at: u64,

@@ -34,7 +34,7 @@ none_behind zero (Some c) = refl
 none_behind (suc at) None = refl
 none_behind (suc at) (Some c) = refl
 
--- behind byte 0 all bytes are written
+-- after byte 0 all bytes are written
 pub behind_some : (at : ℕ) (bytes : List ℕ) (contents : Option (List ℕ)) → 0 < at → written_behind at bytes contents ≡ written at bytes contents
 behind_some zero bytes contents some = absurd (omega (arith, some))
 behind_some (suc at) bytes contents some = refl
@@ -53,7 +53,7 @@ both_behind next zero (b ∷ front) back contents some =
 both_behind next (suc at) front back contents some =
     behind_some (suc at + length front) back (written (suc at) front contents) some ∙ next (suc at) front back contents
 
--- bytes, and behind them others, are one write of both
+-- bytes, and after them others, are one write of both
 pub one_behind : AreOneWrite → (front back whole : List ℕ) (at mid end : ℕ) (before between now : Option (List ℕ)) → 0 < mid → whole ≡ front ++ back →
     HoldsBytes front at mid before between → now ≡ written mid back between → end ≡ mid + length back → HoldsBytes whole at end before now
 one_behind next front back whole at mid end before between now some parts first put ends =
@@ -120,7 +120,7 @@ is_later : (k : ℕ) (header : List ℕ) → is_primary (sort_of k header) ≡ f
 is_later zero header is = absurd cc
 is_later (suc k) header is = omega arith
 
--- the table of an image stands behind byte 0
+-- the table of an image is after byte 0
 pub behind_first : (primary : Bool) (k at mid : ℕ) → (primary ≡ true → mid ≡ 2880) → (primary ≡ false → 0 < k) → (0 < k → 0 < at) → at ≤ mid → 0 < mid
 behind_first true k at mid first later behind near = omega (arith, first refl)
 behind_first false k at mid first later behind near = omega (arith, behind (later refl), near)

@@ -80,7 +80,7 @@ file_begins o g header_len tile [] some seen = absurd (omega (arith, some))
 file_begins o g header_len tile (h ∷ hs) some seen =
     begins_before (packed_hdu o 0 (hdu_of g h)) (packed_from o 1 (map (hdu_of g) hs)) (first_begins o g h (seen.0.simple refl))
 
--- ---- what is left behind a seal
+-- ---- what is left after a seal
 
 abbrev pub SealedLaw : Type 0
 SealedLaw = (bytes : List ℕ) → with_first_byte (written 1 bytes (Some [])) ≡ Some (83 ∷ bytes)

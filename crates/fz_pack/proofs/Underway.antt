@@ -63,7 +63,7 @@ out_more o file hs h k count =
     ∙ packed_more o 0 (map (hdu_of file) hs) (hdu_of file h)
     ∙ ap (λ n. out o file hs ++ packed_hdu o n (hdu_of file h)) number
 
--- a write behind all that was written before
+-- a write after all that was written before
 joined : AreOneWrite → (front back : List ℕ) (contents : Option (List ℕ)) → written_behind (length front) back (written_behind 0 front contents) ≡ written_behind 0 (front ++ back) contents
 joined next [] back contents = ap (written_behind 0 back) (sym (none_behind 0 contents))
 joined next (b ∷ front) back contents =
@@ -73,7 +73,7 @@ joined next (b ∷ front) back contents =
 
 -- ---- where the file ends
 
--- a check behind two others refuses
+-- a check after two others refuses
 third : (a b c : Bool) (x y z : Fault) (checks : List (Bool × Fault)) → c ≡ true → (f : Fault) × (first_refusal ((a, x) ∷ (b, y) ∷ (c, z) ∷ checks) ≡ Some f)
 third true b c x y z checks is = (x, refl)
 third false true c x y z checks is = (y, refl)

@@ -1,4 +1,4 @@
--- A header that is read once more, behind the first look at all headers (FITS 4.0, sections 3.1 and 10.1).
+-- A header that is read once more, after the first look at all headers (FITS 4.0, sections 3.1 and 10.1).
 use Rattle.std.specs.Prelude.{ℕ, suc, ◌≡◌, ◌*◌, ◌^◌, ◌≤◌, nat_lt, Bool, true, false, List, [], ◌∷◌, length, take, codes, Option, Some, None, IfSome, Result, Ok, Err, ⊤}
 use Rattle.fz_base.specs.Source.{Reads}
 use Rattle.fz_base.specs.Stop.{IfRefused}

@@ -21,7 +21,7 @@ before_image false = []
 abbrev pub HoldsHdu : PackOptions → Header → List ℕ → ℕ → ℕ → Option (List ℕ) → Option (List ℕ) → Type 0
 HoldsHdu o h file at end before now = HoldsBytes (packed_hdu o h.hdu (hdu_of file h)) at end before now
 
--- what an HDU becomes ends behind byte 0, and is at most 2^46 bytes longer than the HDU
+-- what an HDU becomes ends after byte 0, and is at most 2^46 bytes longer than the HDU
 pub record EndsNear (h : Header) (at end : ℕ) : Type 0 where
   pub some : 0 < end
   pub near : end + h.start ≤ at + 2 ^ 46 + next_start_of h

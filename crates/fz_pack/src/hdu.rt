@@ -24,7 +24,7 @@ use fz_survey::Workspace;
 use std::thread::Threads;
 
 /// Writes an HDU, whose header is in the workspace, from this byte of the sink on, but not byte 0 of the file, and
-/// answers the byte behind it.
+/// answers the byte after it.
 pub(crate) fn write_hdu<R: Threads + Sync, S: Source, K: Sink, G: Gate>(
     rt: &R,
     source: &mut S,
@@ -91,7 +91,7 @@ pub(crate) fn write_hdu<R: Threads + Sync, S: Source, K: Sink, G: Gate>(
 }
 
 // Writes what stands before the table of an image, which is a primary where the image was one, and answers the byte
-// behind it.
+// after it.
 fn write_before<K: Sink>(sink: &mut K, plan: &Plan, at: u64, block: &mut [u8]) -> Result<u64, Stop>
     requires first { plan.now.primary ≡ true → at ≡ 0 }
     requires created { IsTrue (K.created sink.old) }

@@ -18,7 +18,7 @@ pub(crate) fn known_law()
     walk_law();
 }
 
-/// What the first look reads, and what is read behind it of the HDUs that it saw, are bytes that the job may read.
+/// What the first look reads, and what is read after it of the HDUs that it saw, are bytes that the job may read.
 pub(crate) fn touched_law()
     ensures look { LooksAreTouched }
     ensures hdus { HdusAreTouched }

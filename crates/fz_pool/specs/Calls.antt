@@ -31,7 +31,7 @@ AreDecoded = AreResults false
 abbrev pub AreSameFrom : ℕ → List Slot → List Slot → Type 0
 AreSameFrom count old new = (i : ℕ) (d : Slot) → count ≤ i → slice_index_or new i d ≡ slice_index_or old i d
 
--- Whatever a call answers, the slots behind the first ones, the lengths of all buffers and the number of workers are as
+-- Whatever a call answers, the slots after the first ones, the lengths of all buffers and the number of workers are as
 -- before, and after an error the whole window is
 pub record KeepsWindow {A E : Type 0} (result : Result A E) (count : ℕ) (old new : Pool) : Type 0 where
   pub others : AreSameFrom count old.slots new.slots

@@ -38,7 +38,7 @@ pub record IsForEncoding (x : Slot) : Type 0 where
   pub hold : (xs : List ℤ) × HoldPixels (bits_of_pixel x.job) (numbers_of x) xs
   pub room : 8 * x.job.pixels + 64 ≤ length x.code
 
--- y is the slot x with the bytes of its own tile, their place and their length, and nothing else changed but bytes behind them
+-- y is the slot x with the bytes of its own tile, their place and their length, and nothing else changed but bytes after them
 pub record IsEncoded (x y : Slot) : Type 0 where
   pub written : (xs : List ℤ) → HoldPixels (bits_of_pixel x.job) (numbers_of x) xs
       → IsWritten (tile_code x.job.codec (bits_of_pixel x.job) xs) y.job.place y.job.len y.code

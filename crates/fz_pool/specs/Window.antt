@@ -54,7 +54,7 @@ fresh_bytes n = 8 * n + (8 * n + 64)
 abbrev pub tried : Gauge → ℕ → Gauge
 tried g spent = record { live = g.live; peak = max g.peak (g.live + spent); limit = g.limit }
 
--- A slot was refused at its first taking or at its second, behind so many bytes
+-- A slot was refused at its first taking or at its second, after so many bytes
 pub record SlotRefused (g : Gauge) (n : ℕ) (short : Short) : Type 0 where
   pub spent : ℕ
   pub asked : ℕ

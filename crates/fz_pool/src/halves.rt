@@ -23,7 +23,7 @@ pub(crate) fn move_last(from: &mut Vec<Slot>, to: &mut Vec<Slot>, count: usize)
     to.reverse();
 }
 
-/// Moves all slots behind those of another list, which has room.
+/// Moves all slots after those of another list, which has room.
 pub(crate) fn move_all(from: &mut Vec<Slot>, to: &mut Vec<Slot>)
     requires room { vec_len from.old + vec_len to.old ≤ vec_capacity to.old }
     ensures all { to.new.items ≡ to.old.items ++ from.old.items }

@@ -1,5 +1,20 @@
 //! Laws for those who fill a window, have it coded and read it: no code runs.
-ghost use Rattle.fz_pool.specs.Laws.{AreFresh, AreAsMany, IsAlike, AsksForFresh, AsksAlike, PutsSlot, ReadiesNext, EncodesTiles, TellsLength, DecodesTiles, HasNoFault, IsOneLowest, HalvesAlike, BothAlike};
+ghost use Rattle.fz_pool.specs.Laws.{
+  AreFresh,
+  AreAsMany,
+  IsAlike,
+  AsksForFresh,
+  AsksAlike,
+  PutsSlot,
+  ReadiesNext,
+  EncodesTiles,
+  TellsLength,
+  DecodesTiles,
+  HasNoFault,
+  IsOneLowest,
+  HalvesAlike,
+  BothAlike,
+};
 
 use fz_tile::{column_law, one_fault_law};
 
@@ -19,7 +34,7 @@ pub fn halves_law()
     ensures both { BothAlike }
 {}
 
-/// What is left in a slot that `slot_mut` lent is put into the window. Slots that are put one behind the
+/// What is left in a slot that `slot_mut` lent is put into the window. Slots that are put one after the
 /// other are ready as far as the last one.
 pub fn put_law()
     ensures put { PutsSlot }

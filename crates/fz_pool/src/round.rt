@@ -111,7 +111,7 @@ fn start_of(pixels: u32, count: u32, beside: bool) -> Start {
     }
 }
 
-/// Encodes or decodes the first slots, with so many workers, and does the job: beside them, or behind them.
+/// Encodes or decodes the first slots, with so many workers, and does the job: beside them, or after them.
 pub(crate) fn code_slots<R: Threads + Sync, G: Gate, J: FnMut() -> B, B>(
     rt: &R,
     alloc: Global,

@@ -12,7 +12,8 @@ pub fn draw(board: &Board, hand: &mut Hand) -> Option<u32>
     requires seat { IsSeatOf board.now.shared.table_id hand.old }
     requires idle { IsIdle hand.old }
     ensures same { IsSame hand.old hand.new }
-    ensures some { IfSome result (λ i. HoldsStart hand.new i × (i < board.now.shared.table_id.slots) × (hand.old.me.0.seen ≤ i) × (hand.new.me.0.seen ≡ i + 1)) }
+    ensures some { IfSome result (λ i. HoldsStart hand.new i × (i < board.now.shared.table_id.slots)
+        × (hand.old.me.0.seen ≤ i) × (hand.new.me.0.seen ≡ i + 1)) }
     ensures none { IfNone result (HasEnded hand.new × (board.now.shared.table_id.slots < hand.new.me.0.seen)) }
 {
     let ticket = board.shared.fetch_add::<DrawFact>(hand, 0, 1);

@@ -69,7 +69,8 @@ impl Window {
         requires { IsEmpty self.old }
         ensures workers { self.new.workers ≡ self.old.workers }
         ensures slots { OnOk result (self.new.slots ≡ replicate (2 * self.old.workers) (fresh_slot n)) }
-        ensures taken { OnOk result ((meter.old.live + 2 * self.old.workers * fresh_bytes n ≤ meter.old.limit) × (meter.new ≡ taken meter.old (2 * self.old.workers * fresh_bytes n))) }
+        ensures taken { OnOk result ((meter.old.live + 2 * self.old.workers * fresh_bytes n ≤ meter.old.limit)
+            × (meter.new ≡ taken meter.old (2 * self.old.workers * fresh_bytes n))) }
         ensures empty { OnErr result (IsEmpty self.new) }
         ensures refused { IfErr result (λ short. (r : FillRefused meter.old (2 * self.old.workers) n short) × (meter.new ≡ tried meter.old r.spent)) }
     {

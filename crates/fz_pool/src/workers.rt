@@ -94,7 +94,8 @@ fn work_at_once<R: Threads + Sync, G: Gate>(
         hands,
         threads,
         &|i: usize, hand: &mut Hand|
-            requires { (worker + i < 64) × (board.now.shared.table_id.words ≡ 1) × IsSeated board.now.shared.table_id board.now.shared.key encode hand.old }
+            requires { (worker + i < 64) × (board.now.shared.table_id.words ≡ 1)
+                × IsSeated board.now.shared.table_id board.now.shared.key encode hand.old }
             ensures { IsBack board.entry.now.shared.table_id hand.new }
         { code_tiles(board, hand, gate, (worker + i) as u32, encode) },
     );
@@ -154,11 +155,14 @@ fn work_beside<R: Threads + Sync, G: Gate>(
     ensures others { All (IsBack board.now.shared.table_id) others.new }
 {
     let mut there = ||
-        requires { IsSync R.row × IsSync G.row × (board.now.shared.table_id.words ≡ 1) × (worker + 1 + length others.now ≤ 64) × All (IsSeated board.now.shared.table_id board.now.shared.key encode) others.now }
+        requires { IsSync R.row × IsSync G.row × (board.now.shared.table_id.words ≡ 1)
+            × (worker + 1 + length others.now ≤ 64)
+            × All (IsSeated board.now.shared.table_id board.now.shared.key encode) others.now }
         ensures { All (IsBack board.entry.now.shared.table_id) others.exit.now }
     { work_on_demand(rt, board, gate, encode, worker + 1, others) };
     let mut here = ||
-        requires { IsSync R.row × IsSync G.row × (board.now.shared.table_id.words ≡ 1) × (worker + length own.now ≤ 64) × All (IsSeated board.now.shared.table_id board.now.shared.key encode) own.now }
+        requires { IsSync R.row × IsSync G.row × (board.now.shared.table_id.words ≡ 1) × (worker + length own.now ≤ 64)
+            × All (IsSeated board.now.shared.table_id board.now.shared.key encode) own.now }
         ensures { All (IsBack board.entry.now.shared.table_id) own.exit.now }
     { work_at_once(rt, board, gate, encode, worker, 1, own) };
     join_mut(rt, &mut there, &mut here);
@@ -240,11 +244,14 @@ fn hand_over<R: Threads + Sync, G: Gate, J: FnMut() -> B, B>(
     ensures job { J.step job.old result job.new }
 {
     let mut there = ||
-        requires { IsSync R.row × IsSync G.row × (board.now.shared.table_id.words ≡ 1) × (worker + length own.now ≤ 64) × All (IsSeated board.now.shared.table_id board.now.shared.key encode) own.now }
+        requires { IsSync R.row × IsSync G.row × (board.now.shared.table_id.words ≡ 1) × (worker + length own.now ≤ 64)
+            × All (IsSeated board.now.shared.table_id board.now.shared.key encode) own.now }
         ensures { All (IsBack board.entry.now.shared.table_id) own.exit.now }
     { work_at_once(rt, board, gate, encode, worker, 1, own) };
     let mut here = || -> B
-        requires { IsSync R.row × IsSync G.row × (board.now.shared.table_id.words ≡ 1) × (worker + 1 + length others.now ≤ 64) × (0 < threads) × J.pre job.now × All (IsSeated board.now.shared.table_id board.now.shared.key encode) others.now }
+        requires { IsSync R.row × IsSync G.row × (board.now.shared.table_id.words ≡ 1)
+            × (worker + 1 + length others.now ≤ 64) × (0 < threads) × J.pre job.now
+            × All (IsSeated board.now.shared.table_id board.now.shared.key encode) others.now }
         ensures { J.step job.entry.now result job.exit.now × All (IsBack board.entry.now.shared.table_id) others.exit.now }
     {
         work_with(
@@ -267,13 +274,13 @@ fn hand_over<R: Threads + Sync, G: Gate, J: FnMut() -> B, B>(
 pub(crate) enum Start {
     /// All at once, as many as there are processors: for large tiles.
     AtOnce,
-    /// One behind the other, while that pays.
+    /// One after the other, while that pays.
     OnDemand,
     /// Beside a job, for so many pixels.
     Beside(u64),
 }
 
-// Has all hands work, and does the job beside them or behind them.
+// Has all hands work, and does the job beside them or after them.
 fn work_all_hands<R: Threads + Sync, G: Gate, J: FnMut() -> B, B>(
     rt: &R,
     board: &Board,

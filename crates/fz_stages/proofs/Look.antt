@@ -3,7 +3,7 @@ use Rattle.std.proofs.Common.{◌≡◌, ℕ, ◌+◌, ◌≤◌, max, false, Li
 use Rattle.std.specs.Prelude.{Option, Some, None, IfSome, Err}
 use Rattle.fz_base.specs.Counts.{Tally, CountsKept}
 use Rattle.fz_base.specs.Stop.{ReadsAndTakes, StoppedTaking, TellsLimit}
-use Rattle.fz_base.specs.Takings.{TellsFirstPast, first_past, highest}
+use Rattle.fz_base.specs.Takings.{PastFirstLaw, PastSecondLaw, TellsFirstPast, first_past, highest}
 use Rattle.fz_base.specs.declared.failure.Stop.{Stop}
 use Rattle.fz_base.specs.declared.failure.Stop.TheVariants.{Refused, ReadFault, WriteFault, OverLimit, NoMemory}
 use Rattle.fz_base.specs.declared.fault.Fault.{Fault}
@@ -19,7 +19,7 @@ use Rattle.fz_survey.specs.declared.survey.Survey.{Survey}
 use Rattle.fz_survey.specs.declared.workspace.Wants.{Wants}
 use Rattle.fz_stages.specs.Stages.{MakesChecks, StoppedWorking, TellsHeaderFault, Works, later_takings}
 use Rattle.fz_stages.proofs.Jobs.{of_file, takings_of_file, takings_of_headers}
-use Rattle.fz_stages.proofs.Takings.{highest_first, highest_within, past_none, past_some}
+use Rattle.fz_stages.proofs.Takings.{highest_first, highest_within}
 
 pub kept_same : (t : Tally) → CountsKept t t
 kept_same t = record { faults_kept = omega arith; wants_kept = omega arith; faults_stay = λ end. end; wants_stay = λ end. end; names_kept = refl; not_amended = refl }
@@ -60,21 +60,21 @@ module _ (job : Job) (checks : JobChecks) (makes : MakesChecks job checks) (file
   none_in_headers : (limit : ℕ) → first_past limit (survey_takings checks live file) ≡ None → first_past limit (header_takings job file) ≡ None
   none_in_headers limit none = ap (first_past limit) (sym (takings_of_headers job checks file live makes one)) ∙ none
 
-  past_by_stop : (X : Type 0) (limit : ℕ) (stop : Stop) (before now : Tally) → StoppedTaking before now limit stop → TellsHeaderFault job (Some file) stop →
+  past_by_stop : PastFirstLaw → PastSecondLaw → (X : Type 0) (limit : ℕ) (stop : Stop) (before now : Tally) → StoppedTaking before now limit stop → TellsHeaderFault job (Some file) stop →
       TellsFirstPast {X = Survey} limit (survey_takings checks live file) (Err stop) → TellsFirstPast {X = X} limit (later_takings job file W) (Err stop)
-  past_by_stop X limit (Refused x) before now cause fault tells =
-      past_none limit (header_takings job file) (work_takings (header_fault job file) job file W) (none_in_headers limit tells)
+  past_by_stop past_first past_second X limit (Refused x) before now cause fault tells =
+      past_second limit (header_takings job file) (work_takings (header_fault job file) job file W) (none_in_headers limit tells)
       ∙ ap (λ (f : Option Fault). first_past limit (work_takings f job file W)) fault
-  past_by_stop X limit ReadFault before now cause fault tells = tt
-  past_by_stop X limit WriteFault before now cause fault tells = absurd cause
-  past_by_stop X limit (OverLimit before_it asked told) before now cause fault tells =
-      past_some limit (before_it, asked) (header_takings job file) (work_takings (header_fault job file) job file W) (ap (first_past limit) (sym (takings_of_headers job checks file live makes one)) ∙ tells)
-  past_by_stop X limit NoMemory before now cause fault tells = tt
+  past_by_stop past_first past_second X limit ReadFault before now cause fault tells = tt
+  past_by_stop past_first past_second X limit WriteFault before now cause fault tells = absurd cause
+  past_by_stop past_first past_second X limit (OverLimit before_it asked told) before now cause fault tells =
+      past_first limit (before_it, asked) (header_takings job file) (work_takings (header_fault job file) job file W) (ap (first_past limit) (sym (takings_of_headers job checks file live makes one)) ∙ tells)
+  past_by_stop past_first past_second X limit NoMemory before now cause fault tells = tt
 
-pub look_past : (X : Type 0) (job : Job) (checks : JobChecks) (held : Option (List ℕ)) (W live limit : ℕ) (stop : Stop) (before now : Tally) → MakesChecks job checks → live ≡ 2880 → StoppedTaking before now limit stop →
+pub look_past : PastFirstLaw → PastSecondLaw → (X : Type 0) (job : Job) (checks : JobChecks) (held : Option (List ℕ)) (W live limit : ℕ) (stop : Stop) (before now : Tally) → MakesChecks job checks → live ≡ 2880 → StoppedTaking before now limit stop →
     TellsHeaderFault job held stop → IfSome held (λ file. TellsFirstPast {X = Survey} limit (survey_takings checks live file) (Err stop)) → IfSome held (λ file. TellsFirstPast {X = X} limit (later_takings job file W) (Err stop))
-look_past X job checks None W live limit stop before now makes one cause fault tells = tt
-look_past X job checks (Some g) W live limit stop before now makes one cause fault tells = past_by_stop job checks makes g W live one X limit stop before now cause fault tells
+look_past past_first past_second X job checks None W live limit stop before now makes one cause fault tells = tt
+look_past past_first past_second X job checks (Some g) W live limit stop before now makes one cause fault tells = past_by_stop job checks makes g W live one past_first past_second X limit stop before now cause fault tells
 
 -- ---- the bounds
 

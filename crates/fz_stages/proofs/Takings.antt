@@ -1,4 +1,4 @@
--- Takings one after another: the first of them that passes a limit, and the most that is live.
+-- Takings one after another: the most that is live, and limits that none passes.
 use Rattle.std.proofs.Common.{◌≡◌, ℕ, ◌+◌, ◌≤◌, max, true, false, nat_lt, Bool, List, [], ◌∷◌, ◌++◌, sum, refl, ap, ◌∙◌, arith}
 use Rattle.std.specs.Prelude.{Option, Some, None, Result, Ok, Err, if◌then◌else◌}
 use Rattle.std.proofs.lemmas.Bool.Decides.{nat_tests}
@@ -10,21 +10,6 @@ use Rattle.fz_base.specs.declared.failure.Stop.TheVariants.{Refused, ReadFault, 
 on_bool : (b : Bool) (taking : ℕ × ℕ) (later : Option (ℕ × ℕ)) → (if b then Some taking else later) ≡ None → (b ≡ false) × (later ≡ None)
 on_bool true taking later e = absurd cc
 on_bool false taking later e = (refl, e)
-
-on_bool_some : (b : Bool) (taking found : ℕ × ℕ) (later more : Option (ℕ × ℕ)) → (later ≡ Some found → more ≡ Some found) → (if b then Some taking else later) ≡ Some found → (if b then Some taking else more) ≡ Some found
-on_bool_some true taking found later more grows e = e
-on_bool_some false taking found later more grows e = grows e
-
-pub past_none : (limit : ℕ) (first second : List (ℕ × ℕ)) → first_past limit first ≡ None → first_past limit (first ++ second) ≡ first_past limit second
-past_none limit [] second e = refl
-past_none limit ((live, asked) ∷ first) second e =
-    let parts : (nat_lt limit (live + asked) ≡ false) × (first_past limit first ≡ None) = on_bool (nat_lt limit (live + asked)) (live, asked) (first_past limit first) e in
-    ap (λ b. if b then Some (live, asked) else first_past limit (first ++ second)) parts.0 ∙ past_none limit first second parts.1
-
-pub past_some : (limit : ℕ) (found : ℕ × ℕ) (first second : List (ℕ × ℕ)) → first_past limit first ≡ Some found → first_past limit (first ++ second) ≡ Some found
-past_some limit found [] second e = absurd cc
-past_some limit found ((live, asked) ∷ first) second e =
-    on_bool_some (nat_lt limit (live + asked)) (live, asked) found (first_past limit first) (first_past limit (first ++ second)) (past_some limit found first second) e
 
 pub highest_first : (first second : List (ℕ × ℕ)) → highest first ≤ highest (first ++ second)
 highest_first [] second = omega arith

@@ -3,7 +3,7 @@ use Rattle.std.proofs.Common.{◌≡◌, ◌^◌, ℕ, ◌+◌, ◌≤◌, max, 
 use Rattle.std.specs.Prelude.{Option, Some, None, IfSome, IfErr, Result, Ok, Err, sum}
 use Rattle.fz_base.specs.Counts.{Tally}
 use Rattle.fz_base.specs.Stop.{TellsLimit, stop_of_short}
-use Rattle.fz_base.specs.Takings.{TellsFirstPast, TellsShort, first_past, highest, piled}
+use Rattle.fz_base.specs.Takings.{PastSecondLaw, TellsFirstPast, TellsShort, first_past, highest, piled}
 use Rattle.fz_base.specs.declared.failure.Short.{Short}
 use Rattle.fz_base.specs.declared.failure.Short.TheVariants.{NoMemory as NoRoom, OverLimit as PastLimit}
 use Rattle.fz_base.specs.declared.failure.Stop.{Stop}
@@ -22,7 +22,7 @@ use Rattle.fz_survey.specs.declared.workspace.Workspace.{Workspace}
 use Rattle.fz_stages.specs.Stages.{HasLargest, MakesChecks, StoppedWorking, Works, later_takings, wants_of}
 use Rattle.fz_stages.proofs.Jobs.{header_first, of_file, takings_of_headers, takings_of_work, wants_fit, wants_header, work_within}
 use Rattle.fz_stages.proofs.Look.{headers_within, kept_same}
-use Rattle.fz_stages.proofs.Takings.{highest_both, highest_piled, past_none, tells_same}
+use Rattle.fz_stages.proofs.Takings.{highest_both, highest_piled, tells_same}
 
 -- ---- buffers that were not given
 
@@ -71,10 +71,10 @@ module _ (job : Job) (checks : JobChecks) (file : List ℕ) (W live H n : ℕ) (
   work_is = takings_of_work job (of_file job checks makes) file H n learnt W ∙ ap (λ l. piled l (wanted_buffers (wants_of job H n) W)) (sym one)
 
   -- after headers that pass no limit the work decides
-  passes_work : (limit : ℕ) → first_past limit (survey_takings checks live file) ≡ None → first_past limit (later_takings job file W) ≡ first_past limit (piled live (wanted_buffers (wants_of job H n) W))
-  passes_work limit none =
+  passes_work : PastSecondLaw → (limit : ℕ) → first_past limit (survey_takings checks live file) ≡ None → first_past limit (later_takings job file W) ≡ first_past limit (piled live (wanted_buffers (wants_of job H n) W))
+  passes_work past_second limit none =
       let first : first_past limit (header_takings job file) ≡ None = ap (first_past limit) (sym (takings_of_headers job checks file live makes one)) ∙ none in
-      past_none limit (header_takings job file) (work_takings (header_fault job file) job file W) first ∙ ap (first_past limit) work_is
+      past_second limit (header_takings job file) (work_takings (header_fault job file) job file W) first ∙ ap (first_past limit) work_is
 
   -- the most that is live after one of them
   highest_later : highest (later_takings job file W) ≡ max (highest (survey_takings checks live file)) (live + sum (wanted_buffers (wants_of job H n) W))
@@ -86,25 +86,25 @@ module _ (job : Job) (checks : JobChecks) (file : List ℕ) (W live H n : ℕ) (
       ap highest work_is ∙ (ap (λ ns. highest (piled live ns)) (header_first job H n W) ∙ (highest_piled live H (drop 1 wanted) ∙ ap (λ ns. live + sum ns) (sym (header_first job H n W)))) in
       omega (arith, both, headers, work)
 
-past_learnt : {X : Type 0} (job : Job) (checks : JobChecks) (file : List ℕ) (W live limit H n : ℕ) (r : Result X Stop) → MakesChecks job checks → live ≡ 2880 → HasLargest job H n file →
+past_learnt : {X : Type 0} → PastSecondLaw → (job : Job) (checks : JobChecks) (file : List ℕ) (W live limit H n : ℕ) (r : Result X Stop) → MakesChecks job checks → live ≡ 2880 → HasLargest job H n file →
     first_past limit (survey_takings checks live file) ≡ None → TellsFirstPast limit (piled live (wanted_buffers (wants_of job H n) W)) r → TellsFirstPast limit (later_takings job file W) r
-past_learnt job checks file W live limit H n r makes one learnt none tells =
-    tells_same limit (piled live (wanted_buffers (wants_of job H n) W)) (later_takings job file W) r (passes_work job checks file W live H n makes one learnt limit none) tells
+past_learnt past_second job checks file W live limit H n r makes one learnt none tells =
+    tells_same limit (piled live (wanted_buffers (wants_of job H n) W)) (later_takings job file W) r (passes_work job checks file W live H n makes one learnt past_second limit none) tells
 
-pub passes_look : (job : Job) (checks : JobChecks) (held : Option (List ℕ)) (W live limit H n : ℕ) → MakesChecks job checks → live ≡ 2880 → IfSome held (HasLargest job H n) →
+pub passes_look : PastSecondLaw → (job : Job) (checks : JobChecks) (held : Option (List ℕ)) (W live limit H n : ℕ) → MakesChecks job checks → live ≡ 2880 → IfSome held (HasLargest job H n) →
     IfSome held (λ file. first_past limit (survey_takings checks live file) ≡ None) → IfSome held (λ file. first_past limit (later_takings job file W) ≡ first_past limit (piled live (wanted_buffers (wants_of job H n) W)))
-passes_look job checks None W live limit H n makes one learnt none = tt
-passes_look job checks (Some g) W live limit H n makes one learnt none = passes_work job checks g W live H n makes one learnt limit none
+passes_look past_second job checks None W live limit H n makes one learnt none = tt
+passes_look past_second job checks (Some g) W live limit H n makes one learnt none = passes_work job checks g W live H n makes one learnt past_second limit none
 
 pub work_reached : (job : Job) (checks : JobChecks) (held : Option (List ℕ)) (W live old mid new H n : ℕ) → MakesChecks job checks → live ≡ 2880 → IfSome held (HasLargest job H n) →
     IfSome held (λ file. mid ≡ max old (highest (survey_takings checks live file))) → new ≡ max mid (live + sum (wanted_buffers (wants_of job H n) W)) → IfSome held (λ file. new ≡ max old (highest (later_takings job file W)))
 work_reached job checks None W live old mid new H n makes one learnt look work = tt
 work_reached job checks (Some g) W live old mid new H n makes one learnt look work = let all = highest_later job checks g W live H n makes one learnt in omega (arith, look, work, all)
 
-pub work_past : {X : Type 0} (job : Job) (checks : JobChecks) (held : Option (List ℕ)) (W live limit H n : ℕ) (r : Result X Stop) → MakesChecks job checks → live ≡ 2880 → IfSome held (HasLargest job H n) →
+pub work_past : {X : Type 0} → PastSecondLaw → (job : Job) (checks : JobChecks) (held : Option (List ℕ)) (W live limit H n : ℕ) (r : Result X Stop) → MakesChecks job checks → live ≡ 2880 → IfSome held (HasLargest job H n) →
     IfSome held (λ file. first_past limit (survey_takings checks live file) ≡ None) → TellsFirstPast limit (piled live (wanted_buffers (wants_of job H n) W)) r → IfSome held (λ file. TellsFirstPast limit (later_takings job file W) r)
-work_past job checks None W live limit H n r makes one learnt none tells = tt
-work_past job checks (Some g) W live limit H n r makes one learnt none tells = past_learnt job checks g W live limit H n r makes one learnt none tells
+work_past past_second job checks None W live limit H n r makes one learnt none tells = tt
+work_past past_second job checks (Some g) W live limit H n r makes one learnt none tells = past_learnt past_second job checks g W live limit H n r makes one learnt none tells
 
 module _ (stays : StaysInBound) (grows : BoundGrows) where
   pub work_most : (job : Job) (workers H n : ℕ) → IsOfFile job → H ≤ 737280 → n ≤ 2 ^ 26 → 2880 + sum (wanted_buffers (wants_of job H n) (workers_of job workers)) ≤ greatest_bound job workers

@@ -35,21 +35,21 @@ pub record LookEnds (X : Type 0) : Type 0 where
   pub fault : (job : Job) (held : Option (List ℕ)) (stop : Stop) → TellsHeaderFault job held stop → TellsFirstFault {X = X} job held (Err stop)
   -- the counts are those of the look: nothing was written
   pub works : (before now sink : Tally) (limit : ℕ) (stop : Stop) → ReadsAndTakes {X = Survey} before now limit (Err stop) → Works {X = X} before now sink sink limit (Err stop)
-  -- the first header that passes the limit is the first of all that is taken behind the block
+  -- the first header that passes the limit is the first of all that is taken after the block
   pub first_past : (job : Job) (checks : JobChecks) (held : Option (List ℕ)) (W live limit : ℕ) (stop : Stop) (before now : Tally) → MakesChecks job checks → live ≡ 2880 → StoppedTaking before now limit stop →
       TellsHeaderFault job held stop → IfSome held (λ file. TellsFirstPast {X = Survey} limit (survey_takings checks live file) (Err stop)) → IfSome held (λ file. TellsFirstPast {X = X} limit (later_takings job file W) (Err stop))
   -- and no more than the greatest bound
   pub over_limit : (job : Job) (workers live limit : ℕ) (stop : Stop) → live ≡ 2880 → TellsLimit {X = Survey} limit (live + 737280) (Err stop) → TellsLimit {X = X} limit (greatest_bound job workers) (Err stop)
 
--- The work behind a look that refuses nothing: it takes all buffers at once, and then no others.
+-- The work after a look that refuses nothing: it takes all buffers at once, and then no others.
 pub record WorkEnds (X : Type 0) : Type 0 where
   -- the buffers were not given: the counts stay, and the first that passes the limit is told
   pub short_works : (source sink : Tally) (limit : ℕ) (short : Short) → TellsTheLimit limit short → Works {X = X} source source sink sink limit (Err (stop_of_short short))
   pub short_past : (limit : ℕ) (takings : List (ℕ × ℕ)) (short : Short) → TellsShort {X = Workspace} limit takings (Err short) → TellsFirstPast {X = X} limit takings (Err (stop_of_short short))
-  -- they were given: the counts are those of what reads and writes behind that, and no taking passes the limit
+  -- they were given: the counts are those of what reads and writes after that, and no taking passes the limit
   pub works : (source source' sink sink' : Tally) (limit : ℕ) (r : Result X Stop) → Rewrites source source' sink sink' r → Works source source' sink sink' limit r
   pub past : (source source' sink sink' : Tally) (limit : ℕ) (takings : List (ℕ × ℕ)) (r : Result X Stop) → IfErr r (StoppedRewriting source source' sink sink') → first_past limit takings ≡ None → TellsFirstPast limit takings r
-  -- the first of them that passes the limit is the first of all that is taken behind the block
+  -- the first of them that passes the limit is the first of all that is taken after the block
   pub first_past : (job : Job) (checks : JobChecks) (held : Option (List ℕ)) (W live limit H n : ℕ) (r : Result X Stop) → MakesChecks job checks → live ≡ 2880 → IfSome held (HasLargest job H n) →
       IfSome held (λ file. first_past limit (survey_takings checks live file) ≡ None) → TellsFirstPast limit (piled live (wanted_buffers (wants_of job H n) W)) r → IfSome held (λ file. TellsFirstPast limit (later_takings job file W) r)
   -- and no more than the greatest bound
@@ -65,12 +65,12 @@ CausesAnswer X =
 
 -- Where the bytes of the file are told, the peak is at most that before the job or the bound of the job.
 pub record PeaksStayWithin : Type 0 where
-  -- with the block, where it is so behind the block
+  -- with the block, where it is so after the block
   pub block : (job : Job) (held : Option (List ℕ)) (workers old mid new : ℕ) → mid ≤ max old 2880 → IfSome held (λ file. new ≤ max mid (job_bound job file workers)) → IfSome held (λ file. new ≤ max old (job_bound job file workers))
-  -- behind the look
+  -- after the look
   pub look : (job : Job) (checks : JobChecks) (held : Option (List ℕ)) (workers live old new : ℕ) → MakesChecks job checks → live ≡ 2880 → IfSome held (λ file. new ≤ max old (highest (survey_takings checks live file))) →
       IfSome held (λ file. new ≤ max old (job_bound job file workers))
-  -- and behind the work
+  -- and after the work
   pub work : (job : Job) (checks : JobChecks) (held : Option (List ℕ)) (workers live old mid new H n : ℕ) → MakesChecks job checks → live ≡ 2880 → IfSome held (HasLargest job H n) →
       IfSome held (λ file. mid ≤ max old (highest (survey_takings checks live file))) → new ≤ max mid (live + sum (wanted_buffers (wants_of job H n) (workers_of job workers))) →
       IfSome held (λ file. new ≤ max old (job_bound job file workers))

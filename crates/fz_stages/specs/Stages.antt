@@ -13,7 +13,7 @@ use Rattle.fz_survey.specs.declared.checks.JobChecks.TheVariants.{Pack as PackCh
 use Rattle.fz_survey.specs.declared.survey.Survey.{Survey}
 use Rattle.fz_survey.specs.declared.workspace.Wants.{Wants}
 
--- what is taken behind the first block: each header in turn, and then what the work takes
+-- what is taken after the first block: each header in turn, and then what the work takes
 abbrev pub later_takings : Job → List ℕ → ℕ → List (ℕ × ℕ)
 later_takings job file W = header_takings job file ++ work_takings (header_fault job file) job file W
 
@@ -58,7 +58,7 @@ wants_of (Drill rows) H n = record { header_len = H; translates = false; tile = 
 abbrev pub wants_for : Job → Survey → Wants
 wants_for job s = wants_of job s.header_len s.tile
 
--- ---- why a job ended behind its first block
+-- ---- why a job ended after its first block
 
 -- Refused comes only where no count rose, ReadFault only where the source's count of faults rose, and WriteFault only where that of what the
 -- job writes to rose, its sink or its text; OverLimit tells the limit, and what passes it; NoMemory comes at will.

@@ -2,6 +2,7 @@
 ghost use Rattle.fz_stages.specs.Ends.{BlockEnds, BuffersComeBack, CausesAnswer, LookEnds, PassesLater, PeaksAreReached};
 ghost use Rattle.fz_stages.specs.Ends.{PeaksStayWithin, SizesFit, WorkEnds};
 
+use fz_base::takings_law;
 use fz_files::buffers_law;
 use fz_survey::workspace_law;
 
@@ -21,5 +22,6 @@ pub fn stages_law<T>()
     ensures back { BuffersComeBack }
 {
     buffers_law();
+    takings_law();
     workspace_law();
 }

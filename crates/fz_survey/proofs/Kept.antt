@@ -1,4 +1,4 @@
--- Ranges that were told stay told behind reads.
+-- Ranges that were told stay told after reads.
 use Rattle.std.proofs.Common.{◌≡◌, ℕ, ◌++◌, List, Option, Some, None, IsSome, refl, sym, subst}
 use Rattle.std.specs.Option.{option_map}
 use Rattle.fz_base.specs.Told.{StaysTold}

@@ -44,7 +44,7 @@ looked_after (Some g) checks k start h answer at is = by_answer answer is
     by_answer (Err (OverLimit live asked limit)) e = tt
     by_answer (Err NoMemory) e = tt
 
--- a call that only reads stopped behind the taking
+-- a call that only reads stopped after the taking
 pub reading_tells : (held : Option (List ℕ)) (limit : ℕ) (takings : List ℕ → List (ℕ × ℕ)) (before now : Tally) (stop : Stop) →
     IfSome held (λ g. first_past limit (takings g) ≡ None) → StoppedReading before now stop → IfSome held (λ g. TellsFirstPast {X = Looked} limit (takings g) (Err stop))
 reading_tells None limit takings before now stop none why = tt
@@ -104,7 +104,7 @@ both_places (Some g) checks k start h old mid new at first second =
     (header_places (Some g) checks k start old mid first)
     (logs_right ((start, header_touched k start g) ∷ []) (fill_places_in checks (hdu_at k start g)) mid new fills)
 
--- HDU 1 behind a primary without axes
+-- HDU 1 after a primary without axes
 pub after_by_number : (held held' : Option (List ℕ)) (h : Header) (after_empty : Bool) (k : ℕ) → h.hdu ≡ k → held' ≡ held → IfSome held (λ g. after_empty ≡ ((k == 1) && (size_at g 2 == 0))) →
     IfSome held' (λ g. after_empty ≡ is_after_empty g h)
 after_by_number held held' h after_empty k same kept after =

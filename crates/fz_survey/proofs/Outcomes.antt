@@ -1,9 +1,9 @@
 -- What one HDU makes of the walk, of its takings and of its places.
 use Rattle.std.proofs.Common.{◌≡◌, ℕ, suc, ◌+◌, ◌==◌, max, Bool, true, false, List, [], ◌∷◌, ◌++◌, length, map, refl, sym, ap, ◌∙◌, arith, if◌then◌else◌}
-use Rattle.std.specs.Prelude.{◌||◌, nat_lt, Option, Some, None, Result, Ok, Err}
+use Rattle.std.specs.Prelude.{◌||◌, Option, Some, None, Result, Ok, Err}
 use Rattle.std.specs.Result.{result_map_both}
 use Rattle.std.proofs.lemmas.List.{append_assoc, length-append}
-use Rattle.fz_base.specs.Takings.{first_past, highest}
+use Rattle.fz_base.specs.Takings.{highest}
 use Rattle.fz_base.specs.declared.fault.Fault.{Fault}
 use Rattle.fz_block.specs.Checks.{Judge, by_judgement, followed_by, hdu_at, judged, walk_from}
 use Rattle.fz_block.specs.Header.{next_start_of}
@@ -147,26 +147,7 @@ survey_last checks g before x tile says none =
     stopped_last (judge_of checks g) before x.header none ∙ ap (λ (r : Result Bool Fault). if is_stop r then Some x.header else None) says in
     λ i. record { hdus = count i; header_len = long i; tile = large i; stopped = stop i }
 
--- takings one after another
-on_bool : (b : Bool) (taking : ℕ × ℕ) (later : Option (ℕ × ℕ)) → (if b then Some taking else later) ≡ None → (b ≡ false) × (later ≡ None)
-on_bool true taking later e = absurd cc
-on_bool false taking later e = (refl, e)
-
-on_bool_some : (b : Bool) (taking found : ℕ × ℕ) (later more : Option (ℕ × ℕ)) → (later ≡ Some found → more ≡ Some found) → (if b then Some taking else later) ≡ Some found → (if b then Some taking else more) ≡ Some found
-on_bool_some true taking found later more grows e = e
-on_bool_some false taking found later more grows e = grows e
-
-pub past_none : (limit : ℕ) (first second : List (ℕ × ℕ)) → first_past limit first ≡ None → first_past limit (first ++ second) ≡ first_past limit second
-past_none limit [] second e = refl
-past_none limit ((live, asked) ∷ first) second e =
-    let parts : (nat_lt limit (live + asked) ≡ false) × (first_past limit first ≡ None) = on_bool (nat_lt limit (live + asked)) (live, asked) (first_past limit first) e in
-    ap (λ b. if b then Some (live, asked) else first_past limit (first ++ second)) parts.0 ∙ past_none limit first second parts.1
-
-pub past_some : (limit : ℕ) (found : ℕ × ℕ) (first second : List (ℕ × ℕ)) → first_past limit first ≡ Some found → first_past limit (first ++ second) ≡ Some found
-past_some limit found [] second e = absurd cc
-past_some limit found ((live, asked) ∷ first) second e =
-    on_bool_some (nat_lt limit (live + asked)) (live, asked) found (first_past limit first) (first_past limit (first ++ second)) (past_some limit found first second) e
-
+-- the most that is live after one of the takings
 pub highest_both : (first second : List (ℕ × ℕ)) → highest (first ++ second) ≡ max (highest first) (highest second)
 highest_both [] second = omega arith
 highest_both ((live, asked) ∷ first) second = let more = highest_both first second in omega (arith, more)

@@ -6,7 +6,7 @@ use Rattle.fz_base.specs.Counts.{Tally}
 use Rattle.fz_base.specs.Refusal.{refusal}
 use Rattle.fz_base.specs.Source.{HoldsLength, LogsOnly}
 use Rattle.fz_base.specs.Stop.{IsDefined, StoppedTaking}
-use Rattle.fz_base.specs.Takings.{first_past, highest, TellsFirstPast}
+use Rattle.fz_base.specs.Takings.{PastFirstLaw, PastSecondLaw, TellsFirstPast, first_past, highest}
 use Rattle.fz_base.specs.declared.fault.Fault.{Fault}
 use Rattle.fz_base.specs.declared.fault.Place.TheVariants.{Byte}
 use Rattle.fz_base.specs.declared.kind.Kind.TheVariants.{Limit}
@@ -27,7 +27,7 @@ use Rattle.fz_survey.specs.Surveys.{headers_seen, hdu_places, places_from, surve
 use Rattle.fz_survey.specs.declared.checks.JobChecks.{JobChecks}
 use Rattle.fz_survey.specs.declared.look.Looked.{Looked}
 use Rattle.fz_survey.specs.declared.survey.Survey.{Survey}
-use Rattle.fz_survey.proofs.Outcomes.{AreParts, parts_of, none_after_refusal, none_after_last, those_after, walk_refused, walk_last, walk_on, with_those, with_none, with_next, survey_last, past_none, past_some, highest_both}
+use Rattle.fz_survey.proofs.Outcomes.{AreParts, parts_of, none_after_refusal, none_after_last, those_after, walk_refused, walk_last, walk_on, with_those, with_none, with_next, survey_last, highest_both}
 
 -- what a call keeps: its limit, what was live, the peak and the log before it
 pub record Begun : Type 0 where
@@ -69,7 +69,7 @@ pub walk_begins : (held : Option (List ℕ)) (b : Begun) → IfSome held (IsAt b
 walk_begins None b = tt
 walk_begins (Some g) b = at_first b g
 
--- one HDU and those behind it
+-- one HDU and those after it
 abbrev rest_takings : Begun → ℕ → ℕ → List ℕ → Header → List (ℕ × ℕ)
 rest_takings b m k g h = walk_takings (judge_of b.checks g) b.live m (suc k) (next_start_of h) g
 
@@ -140,28 +140,28 @@ module _ (b : Begun) (k start peak : ℕ) (ranges : Option (List (ℕ × ℕ))) 
   exact_stops (Some g) (OverLimit live asked limit) at few is = tt
   exact_stops (Some g) NoMemory at few is = tt
 
-  -- with nothing behind it, its own taking is the last one
-  past_here : (g : List ℕ) (at : IsAt b k start peak ranges seen g) (m : ℕ) → at.left ≡ suc m → for_those_after g (judge_of b.checks g) (rest_takings b m k g) (hdu_at k start g) ≡ [] →
+  -- with nothing after it, its own taking is the last one
+  past_here : PastSecondLaw → (g : List ℕ) (at : IsAt b k start peak ranges seen g) (m : ℕ) → at.left ≡ suc m → for_those_after g (judge_of b.checks g) (rest_takings b m k g) (hdu_at k start g) ≡ [] →
       first_past b.limit (own_taking b k start g) ≡ None → first_past b.limit (survey_takings b.checks b.live g) ≡ None
-  past_here g at m one none fits =
+  past_here past_second g at m one none fits =
       at.past ∙ ap (λ n. first_past b.limit (walk_takings (judge_of b.checks g) b.live n k start g)) one ∙ ap (first_past b.limit) (takings_apart b m k start g)
-      ∙ past_none b.limit (own_taking b k start g) (for_those_after g (judge_of b.checks g) (rest_takings b m k g) (hdu_at k start g)) fits
+      ∙ past_second b.limit (own_taking b k start g) (for_those_after g (judge_of b.checks g) (rest_takings b m k g) (hdu_at k start g)) fits
       ∙ ap (first_past b.limit) none
 
-  pub past_stops : (held : Option (List ℕ)) (stop : Stop) (before now : Tally) → IfSome held (IsAt b k start peak ranges seen) → k < most_hdus b.checks → StoppedTaking before now b.limit stop →
+  pub past_stops : PastFirstLaw → PastSecondLaw → (held : Option (List ℕ)) (stop : Stop) (before now : Tally) → IfSome held (IsAt b k start peak ranges seen) → k < most_hdus b.checks → StoppedTaking before now b.limit stop →
       IfSome held (λ g. IsDefined {X = Looked} (looked b.checks k start g) (Err stop)) → IfSome held (λ g. TellsFirstPast {X = Looked} b.limit (own_taking b k start g) (Err stop)) →
       IfSome held (λ g. TellsFirstPast {X = Survey} b.limit (survey_takings b.checks b.live g) (Err stop))
-  past_stops None stop before now at few cause is told = tt
-  past_stops (Some g) (Refused x) before now at few cause is told =
+  past_stops past_first past_second None stop before now at few cause is told = tt
+  past_stops past_first past_second (Some g) (Refused x) before now at few cause is told =
       let more = one_left b k at.left at.count few in
-      past_here g at more.0 more.1 (none_after_refusal b.checks k start g (rest_takings b more.0 k g) x is) told
-  past_stops (Some g) ReadFault before now at few cause is told = tt
-  past_stops (Some g) WriteFault before now at few cause is told = absurd cause
-  past_stops (Some g) (OverLimit live asked limit) before now at few cause is told =
+      past_here past_second g at more.0 more.1 (none_after_refusal b.checks k start g (rest_takings b more.0 k g) x is) told
+  past_stops past_first past_second (Some g) ReadFault before now at few cause is told = tt
+  past_stops past_first past_second (Some g) WriteFault before now at few cause is told = absurd cause
+  past_stops past_first past_second (Some g) (OverLimit live asked limit) before now at few cause is told =
       let more = one_left b k at.left at.count few in
       at.past ∙ ap (λ n. first_past b.limit (walk_takings (judge_of b.checks g) b.live n k start g)) more.1 ∙ ap (first_past b.limit) (takings_apart b more.0 k start g)
-      ∙ past_some b.limit (live, asked) (own_taking b k start g) (for_those_after g (judge_of b.checks g) (rest_takings b more.0 k g) (hdu_at k start g)) told
-  past_stops (Some g) NoMemory before now at few cause is told = tt
+      ∙ past_first b.limit (live, asked) (own_taking b k start g) (for_those_after g (judge_of b.checks g) (rest_takings b more.0 k g) (hdu_at k start g)) told
+  past_stops past_first past_second (Some g) NoMemory before now at few cause is told = tt
 
   -- the HDU is the last one
   joined_here : (g : List ℕ) (x : Looked) (at : IsAt b k start peak ranges seen g) → seen.stopped ≡ None → AreParts b.checks k start g x → survey_of b.checks g (at.before ++ x.header ∷ []) ≡ joined seen x
@@ -178,15 +178,15 @@ module _ (b : Begun) (k start peak : ℕ) (ranges : Option (List (ℕ × ℕ))) 
       walk_is g (Ok (x.header ∷ [])) at (ap (λ n. walk_from (judge_of b.checks g) n k start g) more.1 ∙ walk_last b.checks k start g more.0 x parts ended)
       ∙ ap Ok (joined_here g x at going parts)
 
-  pub past_ends : (held : Option (List ℕ)) (len : ℕ) (x : Looked) → HoldsLength held len → IfSome held (IsAt b k start peak ranges seen) → k < most_hdus b.checks →
+  pub past_ends : PastSecondLaw → (held : Option (List ℕ)) (len : ℕ) (x : Looked) → HoldsLength held len → IfSome held (IsAt b k start peak ranges seen) → k < most_hdus b.checks →
       IfSome held (λ g. looked b.checks k start g ≡ Ok x) → (x.look.stop || next_start_of x.header == len) ≡ true → IfSome held (λ g. first_past b.limit (own_taking b k start g) ≡ None) →
       IfSome held (λ g. first_past b.limit (survey_takings b.checks b.live g) ≡ None)
-  past_ends None len x told at few is last fits = tt
-  past_ends (Some g) len x told at few is last fits =
+  past_ends past_second None len x told at few is last fits = tt
+  past_ends past_second (Some g) len x told at few is last fits =
       let more = one_left b k at.left at.count few in
       let parts = parts_of b.checks k start g x is in
       let ended : (x.look.stop || next_start_of x.header == length g) ≡ true = subst (λ (n : ℕ). (x.look.stop || next_start_of x.header == n) ≡ true) (sym told) last in
-      past_here g at more.0 more.1 (none_after_last b.checks k start g (rest_takings b more.0 k g) x parts ended) fits
+      past_here past_second g at more.0 more.1 (none_after_last b.checks k start g (rest_takings b more.0 k g) x parts ended) fits
 
   pub peak_ends : (held : Option (List ℕ)) (len : ℕ) (x : Looked) (new : ℕ) → HoldsLength held len → IfSome held (IsAt b k start peak ranges seen) → k < most_hdus b.checks →
       IfSome held (λ g. looked b.checks k start g ≡ Ok x) → (x.look.stop || next_start_of x.header == len) ≡ true → IfSome held (λ g. new ≡ max peak (highest (own_taking b k start g))) →
@@ -203,10 +203,10 @@ module _ (b : Begun) (k start peak : ℕ) (ranges : Option (List (ℕ × ℕ))) 
       omega (arith, at.peaks, apart, none, reached)
 
   -- others follow
-  on_here : (g : List ℕ) (x : Looked) (new : ℕ) (log : Option (List (ℕ × ℕ))) (m : ℕ) (at : IsAt b k start peak ranges seen g) → at.left ≡ suc m → k < most_hdus b.checks → seen.stopped ≡ None →
+  on_here : PastSecondLaw → (g : List ℕ) (x : Looked) (new : ℕ) (log : Option (List (ℕ × ℕ))) (m : ℕ) (at : IsAt b k start peak ranges seen g) → at.left ≡ suc m → k < most_hdus b.checks → seen.stopped ≡ None →
       AreParts b.checks k start g x → (x.look.stop || next_start_of x.header == length g) ≡ false → first_past b.limit (own_taking b k start g) ≡ None → new ≡ max peak (highest (own_taking b k start g)) →
       LogsOnly (IsWithinOne (hdu_places b.checks k start g)) ranges log → IsAt b (k + 1) (next_start_of x.header) new log (joined seen x) g
-  on_here g x new log m at one few going parts on fits reached logs =
+  on_here past_second g x new log m at one few going parts on fits reached logs =
       let next : suc k ≡ k + 1 = omega arith in
       let after = those_after b.checks k start g (rest_takings b m k g) x parts on in
       let takings : walk_takings (judge_of b.checks g) b.live at.left k start g ≡ own_taking b k start g ++ walk_takings (judge_of b.checks g) b.live m (k + 1) (next_start_of x.header) g =
@@ -224,21 +224,21 @@ module _ (b : Begun) (k start peak : ℕ) (ranges : Option (List (ℕ × ℕ))) 
             ∙ ap (with_those at.before) (walk_on b.checks k start g m x parts on)
             ∙ with_next at.before x.header (walk_from (judge_of b.checks g) m (suc k) (next_start_of x.header) g)
             ∙ ap (λ n. with_those (at.before ++ x.header ∷ []) (walk_from (judge_of b.checks g) m n (next_start_of x.header) g)) next;
-        past = at.past ∙ ap (first_past b.limit) takings ∙ past_none b.limit (own_taking b k start g) (walk_takings (judge_of b.checks g) b.live m (k + 1) (next_start_of x.header) g) fits;
+        past = at.past ∙ ap (first_past b.limit) takings ∙ past_second b.limit (own_taking b k start g) (walk_takings (judge_of b.checks g) b.live m (k + 1) (next_start_of x.header) g) fits;
         peaks = omega (arith, at.peaks, both, reached);
         places = λ r is. at.places r (subst (λ (ps : List (ℕ × ℕ)). IsWithinOne ps r) (sym behind)
             (is.0, Contains-append_right (hdu_places b.checks k start g) (places_from b.checks m (k + 1) (next_start_of x.header) g) is.0 is.1, is.2));
         logs = logs_more g log at few logs;
       }
 
-  pub walk_next : (held : Option (List ℕ)) (len : ℕ) (x : Looked) (new : ℕ) (log : Option (List (ℕ × ℕ))) → HoldsLength held len → IfSome held (IsAt b k start peak ranges seen) → k < most_hdus b.checks → seen.stopped ≡ None →
+  pub walk_next : PastSecondLaw → (held : Option (List ℕ)) (len : ℕ) (x : Looked) (new : ℕ) (log : Option (List (ℕ × ℕ))) → HoldsLength held len → IfSome held (IsAt b k start peak ranges seen) → k < most_hdus b.checks → seen.stopped ≡ None →
       IfSome held (λ g. looked b.checks k start g ≡ Ok x) → (x.look.stop || next_start_of x.header == len) ≡ false → IfSome held (λ g. first_past b.limit (own_taking b k start g) ≡ None) →
       IfSome held (λ g. new ≡ max peak (highest (own_taking b k start g))) → IfSome held (λ g. LogsOnly (IsWithinOne (hdu_places b.checks k start g)) ranges log) →
       IfSome held (IsAt b (k + 1) (next_start_of x.header) new log (joined seen x))
-  walk_next None len x new log told at few going is on fits reached logs = tt
-  walk_next (Some g) len x new log told at few going is on fits reached logs =
+  walk_next past_second None len x new log told at few going is on fits reached logs = tt
+  walk_next past_second (Some g) len x new log told at few going is on fits reached logs =
       let more = one_left b k at.left at.count few in
-      on_here g x new log more.0 at more.1 few going (parts_of b.checks k start g x is) (subst (λ (n : ℕ). (x.look.stop || next_start_of x.header == n) ≡ false) (sym told) on) fits reached logs
+      on_here past_second g x new log more.0 at more.1 few going (parts_of b.checks k start g x is) (subst (λ (n : ℕ). (x.look.stop || next_start_of x.header == n) ≡ false) (sym told) on) fits reached logs
 
   -- no HDU more may follow
   pub exact_too_long : (held : Option (List ℕ)) → IfSome held (IsAt b k start peak ranges seen) → k ≡ most_hdus b.checks → IfSome held (λ g. surveyed b.checks g ≡ Err (refusal k (Byte start) Limit))

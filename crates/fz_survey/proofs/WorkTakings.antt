@@ -1,4 +1,4 @@
--- Buffers that are taken one after another: one, those of the slots, and some behind others.
+-- Buffers that are taken one after another: one, those of the slots, and some after others.
 use Rattle.std.proofs.Common.{◌≡◌, ℕ, zero, suc, ◌+◌, ◌*◌, ◌<◌, ◌≤◌, ◌⊎◌, inl, inr, max, true, false, nat_lt, List, [], ◌∷◌, ◌++◌, sum, refl, sym, ap, ◌∙◌, subst, arith, if◌then◌else◌}
 use Rattle.std.specs.Prelude.{Option, Some, None, Result, Ok, Err, OnOk, IfErr}
 use Rattle.std.proofs.Math.Nat.{suc-mul}
@@ -6,12 +6,11 @@ use Rattle.std.proofs.lemmas.Bool.Decides.{nat_tests}
 use Rattle.std.proofs.lemmas.List.Sums.{sum_by-append, sum_by-cons}
 use Rattle.fz_base.specs.JobBuffers.{slots_buffers}
 use Rattle.fz_base.specs.Meter.{Gauge, handed_back, taken}
-use Rattle.fz_base.specs.Takings.{first_past, piled, TellsShort}
+use Rattle.fz_base.specs.Takings.{PastFirstLaw, PastSecondLaw, TellsShort, first_past, piled}
 use Rattle.fz_base.specs.declared.failure.Short.{Short}
 use Rattle.fz_base.specs.declared.failure.Short.TheVariants.{NoMemory, OverLimit}
 use Rattle.fz_pool.specs.Window.{FillRefused, fresh_bytes, tried}
 use Rattle.fz_survey.specs.Takes.{Takes, TellsTheLimit}
-use Rattle.fz_survey.proofs.Outcomes.{past_none, past_some}
 
 -- ---- one taking passes the limit, or does not
 
@@ -64,14 +63,14 @@ mid_live : (X : Type 0) (xs : List ℕ) (old mid : Gauge) (x : X) → Takes xs o
 mid_live X xs old mid x first = ap (λ (g : Gauge). g.live) first.all.1
 
 -- what passes the limit first is among the others
-among_others : (X : Type 0) (xs ys : List ℕ) (old mid : Gauge) (x : X) (r : Option (ℕ × ℕ)) → Takes xs old mid (Ok x) → first_past mid.limit (piled mid.live ys) ≡ r → first_past old.limit (piled old.live (xs ++ ys)) ≡ r
-among_others X xs ys old mid x r first e =
+among_others : PastSecondLaw → (X : Type 0) (xs ys : List ℕ) (old mid : Gauge) (x : X) (r : Option (ℕ × ℕ)) → Takes xs old mid (Ok x) → first_past mid.limit (piled mid.live ys) ≡ r → first_past old.limit (piled old.live (xs ++ ys)) ≡ r
+among_others past_second X xs ys old mid x r first e =
     let live = mid_live X xs old mid x first in
-    ap (first_past old.limit) (piled_both old.live xs ys) ∙ (past_none old.limit (piled old.live xs) (piled (old.live + sum xs) ys) first.first_past
+    ap (first_past old.limit) (piled_both old.live xs ys) ∙ (past_second old.limit (piled old.live xs) (piled (old.live + sum xs) ys) first.first_past
     ∙ ((λ i. first_past (sym first.limit i) (piled (sym live i) ys)) ∙ e))
 
-pub both_taken : {X Y Z : Type 0} (xs ys : List ℕ) (old mid new : Gauge) (x : X) (y : Y) (z : Z) → Takes xs old mid (Ok x) → Takes ys mid new (Ok y) → Takes (xs ++ ys) old new (Ok z)
-both_taken {X} xs ys old mid new x y z first second =
+pub both_taken : {X Y Z : Type 0} → PastSecondLaw → (xs ys : List ℕ) (old mid new : Gauge) (x : X) (y : Y) (z : Z) → Takes xs old mid (Ok x) → Takes ys mid new (Ok y) → Takes (xs ++ ys) old new (Ok z)
+both_taken {X} past_second xs ys old mid new x y z first second =
     let live = mid_live X xs old mid x first in
     let both = sum_both xs ys in
     record {
@@ -80,18 +79,18 @@ both_taken {X} xs ys old mid new x y z first second =
       limit = second.limit ∙ first.limit;
       risen = omega (arith, first.risen, second.risen);
       peak = omega (arith, first.peak, second.peak, live, both);
-      first_past = among_others X xs ys old mid x None first second.first_past;
+      first_past = among_others past_second X xs ys old mid x None first second.first_past;
       told = tt;
     }
 
-second_tells : (X Y Z : Type 0) (xs ys : List ℕ) (old mid : Gauge) (x : X) (short : Short) → Takes xs old mid (Ok x) → TellsShort {X = Y} mid.limit (piled mid.live ys) (Err short) → TellsShort {X = Z} old.limit (piled old.live (xs ++ ys)) (Err short)
-second_tells X Y Z xs ys old mid x NoMemory first t = tt
-second_tells X Y Z xs ys old mid x (OverLimit live asked told) first t = among_others X xs ys old mid x (Some (live, asked)) first t
+second_tells : PastSecondLaw → (X Y Z : Type 0) (xs ys : List ℕ) (old mid : Gauge) (x : X) (short : Short) → Takes xs old mid (Ok x) → TellsShort {X = Y} mid.limit (piled mid.live ys) (Err short) → TellsShort {X = Z} old.limit (piled old.live (xs ++ ys)) (Err short)
+second_tells past_second X Y Z xs ys old mid x NoMemory first t = tt
+second_tells past_second X Y Z xs ys old mid x (OverLimit live asked told) first t = among_others past_second X xs ys old mid x (Some (live, asked)) first t
 
 -- those that were taken first go back
-pub second_refused : {X Y Z : Type 0} (xs ys : List ℕ) (old mid new last : Gauge) (x : X) (short : Short) → Takes xs old mid (Ok x) → Takes {X = Y} ys mid new (Err short) → last ≡ handed_back new (sum xs) →
+pub second_refused : {X Y Z : Type 0} → PastSecondLaw → (xs ys : List ℕ) (old mid new last : Gauge) (x : X) (short : Short) → Takes xs old mid (Ok x) → Takes {X = Y} ys mid new (Err short) → last ≡ handed_back new (sum xs) →
     Takes {X = Z} (xs ++ ys) old last (Err short)
-second_refused {X} {Y} {Z} xs ys old mid new last x short first second back =
+second_refused {X} {Y} {Z} past_second xs ys old mid new last x short first second back =
     let live = mid_live X xs old mid x first in
     let both = sum_both xs ys in
     let last_live = ap (λ (g : Gauge). g.live) back in
@@ -103,17 +102,17 @@ second_refused {X} {Y} {Z} xs ys old mid new last x short first second back =
       limit = last_limit ∙ (second.limit ∙ first.limit);
       risen = omega (arith, first.risen, second.risen, last_peak);
       peak = omega (arith, first.peak, second.peak, last_peak, live, both);
-      first_past = second_tells X Y Z xs ys old mid x short first second.first_past;
+      first_past = second_tells past_second X Y Z xs ys old mid x short first second.first_past;
       told = subst (λ l. TellsTheLimit l short) first.limit second.told;
     }
 
-first_tells : (X Z : Type 0) (xs ys : List ℕ) (old : Gauge) (short : Short) → TellsShort {X = X} old.limit (piled old.live xs) (Err short) → TellsShort {X = Z} old.limit (piled old.live (xs ++ ys)) (Err short)
-first_tells X Z xs ys old NoMemory t = tt
-first_tells X Z xs ys old (OverLimit live asked told) t =
-    ap (first_past old.limit) (piled_both old.live xs ys) ∙ past_some old.limit (live, asked) (piled old.live xs) (piled (old.live + sum xs) ys) t
+first_tells : PastFirstLaw → (X Z : Type 0) (xs ys : List ℕ) (old : Gauge) (short : Short) → TellsShort {X = X} old.limit (piled old.live xs) (Err short) → TellsShort {X = Z} old.limit (piled old.live (xs ++ ys)) (Err short)
+first_tells past_first X Z xs ys old NoMemory t = tt
+first_tells past_first X Z xs ys old (OverLimit live asked told) t =
+    ap (first_past old.limit) (piled_both old.live xs ys) ∙ past_first old.limit (live, asked) (piled old.live xs) (piled (old.live + sum xs) ys) t
 
-pub first_refused : {X Z : Type 0} (xs ys : List ℕ) (old new : Gauge) (short : Short) → Takes {X = X} xs old new (Err short) → Takes {X = Z} (xs ++ ys) old new (Err short)
-first_refused {X} {Z} xs ys old new short first =
+pub first_refused : {X Z : Type 0} → PastFirstLaw → (xs ys : List ℕ) (old new : Gauge) (short : Short) → Takes {X = X} xs old new (Err short) → Takes {X = Z} (xs ++ ys) old new (Err short)
+first_refused {X} {Z} past_first xs ys old new short first =
     let both = sum_both xs ys in
     record {
       all = tt;
@@ -121,7 +120,7 @@ first_refused {X} {Z} xs ys old new short first =
       limit = first.limit;
       risen = first.risen;
       peak = omega (arith, first.peak, both);
-      first_past = first_tells X Z xs ys old short first.first_past;
+      first_past = first_tells past_first X Z xs ys old short first.first_past;
       told = first.told;
     }
 

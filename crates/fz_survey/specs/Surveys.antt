@@ -89,13 +89,13 @@ pub record IsSurvey (checks : JobChecks) (len : ℕ) (s : Survey) : Type 0 where
 abbrev pub survey_takings : JobChecks → ℕ → List ℕ → List (ℕ × ℕ)
 survey_takings checks live file = walk_takings (judge_of checks file) live (most_hdus checks) 0 0 file
 
--- whether the fill behind the data is looked at: that of an image that is packed is
+-- whether the fill after the data is looked at: that of an image that is packed is
 abbrev pub looks_at_fill : JobChecks → Header → Bool
 looks_at_fill (Pack o) h = is_packable h
 looks_at_fill Unpack h = false
 looks_at_fill (Cut wanted region) h = false
 
--- the first and the last place of the bytes of a file that are looked at behind the header of an HDU
+-- the first and the last place of the bytes of a file that are looked at after the header of an HDU
 abbrev pub fill_places : JobChecks → Header → List (ℕ × ℕ)
 fill_places checks h = if looks_at_fill checks h then (data_end_of h, next_start_of h) ∷ [] else []
 

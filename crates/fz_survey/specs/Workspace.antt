@@ -1,4 +1,4 @@
--- The buffers that a job holds behind its first look: a header, a translated header, the slots of the window, and the copy buffer. A
+-- The buffers that a job holds after its first look: a header, a translated header, the slots of the window, and the copy buffer. A
 -- job takes those that it wants.
 use Rattle.std.specs.Prelude.{ℕ, ◌≡◌, ◌+◌, ◌*◌, ◌<◌, ◌≤◌, List, [], length, replicate, sum, Option, Some, None}
 use Rattle.fz_base.specs.JobBuffers.{buffer_bound}

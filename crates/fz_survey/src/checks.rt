@@ -2,7 +2,7 @@
 use fz_grid::Region;
 use fz_head::PackOptions;
 
-/// The checks that a job makes of the headers of a file, behind those that every job makes.
+/// The checks that a job makes of the headers of a file, after those that every job makes.
 #[derive(Clone, Copy, Debug, PartialEq, Eq)]
 pub enum JobChecks {
     /// Those of `pack`.

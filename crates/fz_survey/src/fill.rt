@@ -1,4 +1,4 @@
-//! The fill behind the data of an image that is packed.
+//! The fill after the data of an image that is packed.
 ghost use Rattle.std.specs.Prelude.{◌≡◌, ◌≤◌, ◌^◌, [], ◌∷◌, Some, length as len, IfSome};
 ghost use Rattle.fz_base.specs.Refusal.{first_refusal};
 ghost use Rattle.fz_base.specs.Source.{LogsWithin};
@@ -11,7 +11,7 @@ use fz_base::{Source, Stop};
 use fz_block::{Header, data_start, next_start};
 use fz_head::fill_check;
 
-/// Reads the fill behind the data into the block, and checks that it is zeros (FITS 4.0, section 3.3.2).
+/// Reads the fill after the data into the block, and checks that it is zeros (FITS 4.0, section 3.3.2).
 pub(crate) fn check_fill<S: Source>(
     source: &mut S,
     length: u64,

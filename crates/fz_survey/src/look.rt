@@ -24,7 +24,7 @@ use fz_head::{
 };
 
 /// What the checks of an HDU learn: the pixels of a tile, where the job works on its tiles, and whether
-/// the job looks at no HDU behind it.
+/// the job looks at no HDU after it.
 #[derive(Clone, Copy, Debug, PartialEq, Eq)]
 pub(crate) struct Look {
     pub(crate) tile: u32,
@@ -38,7 +38,7 @@ pub(crate) struct Looked {
     pub(crate) look: Look,
 }
 
-/// Makes the job's checks of the HDU that has this header: of the header, and then of the fill behind an
+/// Makes the job's checks of the HDU that has this header: of the header, and then of the fill after an
 /// image that is packed. `after_empty` says that it is HDU 1 after a primary with NAXIS 0.
 pub(crate) fn check_hdu<S: Source>(
     source: &mut S,
@@ -77,7 +77,7 @@ pub(crate) fn check_hdu<S: Source>(
     }
 }
 
-// Whether the fill behind the data is looked at.
+// Whether the fill after the data is looked at.
 fn looks_at_fill(checks: &JobChecks, header: &Header, buf: &[u8]) -> bool
     requires header { IsHeaderOf buf.now header.now }
     ensures { result ≡ looks_at_fill_of checks.now header.now }
@@ -172,14 +172,14 @@ fn is_wanted(wanted: Option<u32>, header: &Header, buf: &[u8]) -> bool
     }
 }
 
-// An HDU with tiles of so many pixels, behind which the job goes on.
+// An HDU with tiles of so many pixels, after which the job goes on.
 fn going_on(tile: u32) -> Look
     ensures { result ≡ record { tile = tile; stop = false } }
 {
     Look { tile, stop: false }
 }
 
-// The same, behind which it looks at none.
+// The same, after which it looks at none.
 fn stopping(tile: u32) -> Look
     ensures { result ≡ record { tile = tile; stop = true } }
 {

@@ -15,7 +15,7 @@ ghost use Rattle.fz_survey.specs.Surveys.{IsSurvey, hdu_places, surveyed, survey
 
 use crate::JobChecks;
 use crate::look::{Looked, check_hdu};
-use fz_base::{Fault, Kind, Meter, Place, Source, Stop};
+use fz_base::{Fault, Kind, Meter, Place, Source, Stop, takings_law};
 use fz_block::{BLOCK_LEN, Header, hdu_at_law, header_at, next_start};
 
 /// What the first look of a job learns of a file.
@@ -65,6 +65,8 @@ pub fn survey_headers<S: Source>(
     ensures attached { S.attached source.new ≡ S.attached source.old }
     ensures cause { ReadsAndTakes (S.tally source.old) (S.tally source.new) meter.old.limit result }
 {
+    // The taking of an HDU, and then those after it.
+    takings_law();
     let mut seen = Survey {
         hdus: 0,
         header_len: 0,
@@ -100,14 +102,14 @@ pub fn survey_headers<S: Source>(
     }))
 }
 
-// Whether this is HDU 1 behind an empty one.
+// Whether this is HDU 1 after an empty one.
 fn is_after(hdu: u32, empty: bool) -> bool
     ensures { result ≡ ((hdu == 1) && empty) }
 {
     hdu == 1 && empty
 }
 
-// Whether the job looks at no HDU behind this one: it stops, or the file ends.
+// Whether the job looks at no HDU after this one: it stops, or the file ends.
 fn is_last(found: &Looked, length: u64) -> bool
     requires { next_start_of found.now.header ≤ 2 ^ 62 }
     ensures { result ≡ (found.now.look.stop || next_start_of found.now.header == length) }

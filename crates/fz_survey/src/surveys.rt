@@ -18,7 +18,7 @@ use fz_head::{PackOptions, missing_hdu};
 /// The first look of `pack`, with these options. Block, headers and refusals as in `survey_headers`.
 ///
 /// Refused also: a table is packed already (AlreadyPacked); an image as `plan_to_pack` refuses it, and then
-/// where the fill behind its data is not zeros (DataFill); a 65,536th HDU (Limit).
+/// where the fill after its data is not zeros (DataFill); a 65,536th HDU (Limit).
 pub fn survey_to_pack<S: Source>(
     source: &mut S,
     length: u64,
@@ -84,7 +84,7 @@ pub fn survey_to_unpack<S: Source>(
 }
 
 /// The first look of `cut`, which cuts this box out of the wanted HDU, or out of the first packed one: it
-/// stops at that HDU, and looks at none behind it. Block, headers and refusals as in `survey_headers`.
+/// stops at that HDU, and looks at none after it. Block, headers and refusals as in `survey_headers`.
 ///
 /// Refused also: that HDU as `image_to_cut` refuses it; the file ends before it (NotPacked, at the end of the
 /// file, with the wanted number or else that of the file's HDUs).

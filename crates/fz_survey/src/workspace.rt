@@ -1,4 +1,4 @@
-//! The buffers of a job, taken at once behind its first look.
+//! The buffers of a job, taken at once after its first look.
 ghost use Rattle.std.specs.Prelude.{◌≡◌, ◌+◌, ◌*◌, ◌≤◌, [], ◌∷◌, ◌++◌, Some, sum, length as len, IfOk, OnOk, OnErr};
 ghost use Rattle.fz_base.specs.Meter.{handed_back};
 ghost use Rattle.fz_base.specs.JobBuffers.{slots_buffers};
@@ -7,14 +7,14 @@ ghost use Rattle.fz_pool.specs.Window.{IsEmpty};
 ghost use Rattle.fz_survey.specs.Takes.{Takes};
 ghost use Rattle.fz_survey.specs.Workspace.{HasLengths, copy_len, held_bytes, wanted_buffers, window_for};
 
-use fz_base::{Bytes, Meter, Short};
+use fz_base::{Bytes, Meter, Short, takings_law};
 use fz_block::BLOCK_LEN;
 use fz_pool::{Window, sizes_law};
 
 /// The length of the buffer through which bytes are copied.
 const COPY_LEN: u64 = 65_536;
 
-/// What a job wants at once behind its first look.
+/// What a job wants at once after its first look.
 #[derive(Clone, Copy, Debug, PartialEq, Eq)]
 pub struct Wants {
     /// The bytes of the longest header.
@@ -132,8 +132,9 @@ fn take_slots(meter: &mut Meter, window: &mut Window, pixels: u32) -> Result<Byt
     ensures filled { OnOk result (window.new ≡ window_for window.old.workers (Some pixels)) }
     ensures unfilled { OnErr result (window.new ≡ window.old) }
 {
-    // What is asked for the slots of a window that was filled.
+    // What is asked for the slots of a window that was filled; and the takings of the slots, and then that of the copy.
     sizes_law();
+    takings_law();
     fill(meter, window, pixels)?;
     match buffer(meter, COPY_LEN) {
         Ok(copy) => Ok(copy),

@@ -58,7 +58,7 @@ is_one : (n : ℕ) → (n == 1) ≡ true → n ≡ 1
 is_one n is = grind (is, nat_tests, arith)
 
 module _ (g : List ℕ) (header_len tile : ℕ) (before : Option (List ℕ)) where
-  -- HDU 1, behind an empty primary, is a packed primary if the first that stands for something is HDU 1
+  -- HDU 1, after an empty primary, is a packed primary if the first that stands for something is HDU 1
   primary_by : (hs : List Header) (k start at : ℕ) (flag : Bool) (mid : Option (List ℕ)) (f : First) (n : ℕ) (buf : List ℕ) (a : ReadHdu) (w : AreWritten g header_len tile hs k start at flag before mid) (rest : List Header) → w.rest ≡ rest → k < length hs →
       f ≡ first_of g hs → ReadsAsSeen g k start flag header_len tile (Ok a) → IsAgain (Some g) n buf a → flag ≡ true → was_primary_image a.image ≡ (f.hdu == 1)
   primary_by hs k start at flag mid f n buf a w [] is few found again usable on = absurd (omega (arith, w.count, ap length is, few))
@@ -106,7 +106,7 @@ not_at_end x y k n most last more = apart_by (x == y) x y refl most (λ ends. om
 -- ---- what the loop finds otherwise was not seen
 
 module _ (header_len tile hdus : ℕ) (before : Option (List ℕ)) where
-  -- an HDU behind an empty primary is what it was
+  -- an HDU after an empty primary is what it was
   pub primary_as_seen : 0 < hdus → (X : Type 0) (held : Option (List ℕ)) (stop : Stop) (k start at : ℕ) (flag : Bool) (mid now : Option (List ℕ)) (f : First) (n : ℕ) (buf : List ℕ) (a : ReadHdu) → k < hdus →
       IfSome held (IsUnderway header_len tile hdus k start at flag before mid) → IfSome held (λ g. FindsFirst g header_len tile (Ok f)) →
       IfSome held (λ g. ReadsAsSeen g k start flag header_len tile (Ok a)) → IsAgain held n buf a → ((flag ≡ true → was_primary_image a.image ≡ (f.hdu == 1)) → ⊥) →

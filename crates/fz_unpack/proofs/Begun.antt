@@ -1,4 +1,4 @@
--- Where the HDUs that stand for something begin, and which of them is behind an empty primary (FITS 4.0, section 10.1).
+-- Where the HDUs that stand for something begin, and which of them is after an empty primary (FITS 4.0, section 10.1).
 use Rattle.std.proofs.Common.{◌≡◌, ℕ, zero, suc, ◌+◌, ◌*◌, ◌/◌, ◌-◌, ◌==◌, ◌&&◌, Bool, true, false, List, [], ◌∷◌, length, take, drop, refl, sym, ap, ◌∙◌, subst, if◌then◌else◌, arith}
 use Rattle.std.proofs.lemmas.Bool.Decides.{nat_tests}
 use Rattle.std.proofs.lemmas.List.{drop-take, take-take}
@@ -54,11 +54,11 @@ pub record Begins (file : List ℕ) (header_len tile : ℕ) (hs : List Header) (
   pub first : f.hdu ≡ 0 → f.start ≡ 0
 
 module _ (file : List ℕ) (header_len tile : ℕ) where
-  -- HDU 0 is behind none
+  -- HDU 0 is after none
   pub none_behind_it : (h : Header) (start : ℕ) → WasSeen file 0 start header_len tile h → false ≡ is_after_empty file h
   none_behind_it h start seen = ap (λ k. k == 1 && size_at file 2 == 0) (sym seen.number)
 
-  -- and HDU 1 is behind the primary
+  -- and HDU 1 is after the primary
   pub one_behind : (h k : Header) (start : ℕ) → WasSeen file 0 0 header_len tile h → WasSeen file 1 start header_len tile k → is_empty_primary h ≡ is_after_empty file k
   one_behind h k start first next = empty_is file header_len tile h first ∙ ap (λ n. n == 1 && size_at file 2 == 0) (sym next.number)
 

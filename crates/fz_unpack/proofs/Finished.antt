@@ -1,4 +1,4 @@
--- What the job promises where the first look knows the file, by what the work behind it says.
+-- What the job promises where the first look knows the file, by what the work after it says.
 use Rattle.std.proofs.Common.{◌≡◌, ◌⊎◌, inl, inr, ℕ, List, sym, subst}
 use Rattle.std.specs.Prelude.{Option, Some, None, IfSome, Result, Ok, Err, OnOk, IsErrOf, IsSome}
 use Rattle.fz_base.specs.FirstByte.{IsShut}

@@ -104,7 +104,7 @@ module _ (s : Survey) (old : Option (List (ℕ × ℕ))) where
       by_hdus [] list = absurd (omega (arith, some, list.count))
       by_hdus (h ∷ hs) list = header_there law g s.header_len s.tile 0 0 [] hs h old new list.seen.0 one
 
-  -- and of the HDU behind it
+  -- and of the HDU after it
   pub second_header : HeaderIsOfHdus Unpack → LogsJoinLaw → 0 < s.hdus → (held : Option (List ℕ)) (a : ReadHdu) (start n : ℕ) (mid new : Option (List (ℕ × ℕ))) → start ≡ next_start_of a.header → (start ≡ n → ⊥) → HoldsLength held n →
       IfSome held (λ g. ReadsAsSeen g 0 0 false s.header_len s.tile (Ok a)) → IfSome held (λ g. LogsWithin start (header_touched 1 start g) mid new) →
       IfSome held (λ g. ReadsHdus Unpack g s old mid) → IfSome held (λ g. ReadsHdus Unpack g s old new)

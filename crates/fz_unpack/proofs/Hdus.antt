@@ -12,7 +12,7 @@ none_behind zero (Some c) = refl
 none_behind (suc at) None = refl
 none_behind (suc at) (Some c) = refl
 
--- behind byte 0 all bytes are written
+-- after byte 0 all bytes are written
 pub behind_some : (at : ℕ) (bytes : List ℕ) (contents : Option (List ℕ)) → 0 < at → written_behind at bytes contents ≡ written at bytes contents
 behind_some zero bytes contents some = absurd (omega (arith, some))
 behind_some (suc at) bytes contents some = refl

@@ -55,7 +55,7 @@ long_filled bytes =
     length-append bytes (replicate (whole_blocks_of (length bytes) - length bytes) 0) in
     omega (arith, all, length-replicate {A = ℕ} (whole_blocks_of (length bytes) - length bytes) 0)
 
--- the pixels, and zeros behind them, are one write
+-- the pixels, and zeros after them, are one write
 filled_write : AreOneWrite → (bytes : List ℕ) (at n : ℕ) (before two now : Option (List ℕ)) → length bytes ≡ n → two ≡ written at bytes before →
     now ≡ written (at + n) (replicate (whole_blocks_of n - n) 0) two → now ≡ written at (zero_filled bytes) before
 filled_write next bytes at n before two now long put fill =

@@ -1,4 +1,4 @@
--- A packed primary stands behind an empty primary, and its image begins with the S of SIMPLE (FITS 4.0, sections 4.4.1.1 and 10.1.2).
+-- A packed primary is after an empty primary, and its image begins with the S of SIMPLE (FITS 4.0, sections 4.4.1.1 and 10.1.2).
 use Rattle.std.proofs.Common.{◌≡◌, ℕ, Bool, true, if◌then◌else◌, List, ◌∷◌, drop, Some, None, Ok, ap, ◌∙◌}
 use Rattle.fz_block.specs.Hdus.{cards_of, header_bytes}
 use Rattle.fz_block.specs.declared.header.Header.{Header}

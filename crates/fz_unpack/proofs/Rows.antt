@@ -102,7 +102,7 @@ pub rows_sound : (file : List ℕ) (header_len tile : ℕ) (hs : List Header) (b
 rows_sound file header_len tile hs bytes seen stand =
     subst (λ l. IsFirstRowFault file l None) (sym (rows_standing file header_len tile hs seen)) (hdus_sound file (standing file hs) bytes stand)
 
--- the fault of an HDU behind others that stand for bytes is the first of all
+-- the fault of an HDU after others that stand for bytes is the first of all
 pub fault_among : (file : List ℕ) (header_len tile : ℕ) (hs done rest : List Header) (h : Header) (bytes : List ℕ) (x : Fault) → WereSeen file header_len tile 0 0 hs → standing file hs ≡ done ++ h ∷ rest →
     HdusStandFor file done bytes → IsHduFault file h x → IsFirstRowFault file (all_rows file hs) (Some x)
 fault_among file header_len tile hs done rest h bytes x seen parts stand fault =

@@ -90,7 +90,7 @@ file_begins law file header_len tile (h ∷ []) bytes some seen stand =
     subst BeginsWithS (sym stand.2) (begins_before stand.0 stand.1 (own_begins file (is_image file h) h stand.0 (primary_plain file 0 header_len tile h seen.0) (seen.0.simple refl) stand.3))
 file_begins law file header_len tile (h ∷ k ∷ hs) bytes some seen stand = begins_by law file header_len tile (is_packed_primary file k) h k hs bytes refl seen stand
 
--- ---- what is left behind a seal
+-- ---- what is left after a seal
 
 abbrev pub SealedLaw : Type 0
 SealedLaw = (bytes : List ℕ) → with_first_byte (written 1 bytes (Some [])) ≡ Some (83 ∷ bytes)

@@ -18,7 +18,7 @@ use Rattle.fz_unpack.proofs.Begun.{none_behind_it, one_behind}
 use Rattle.fz_unpack.proofs.Images.{primary_is}
 use Rattle.fz_unpack.proofs.Underway.{none_there, not_refused}
 
--- a packed primary is behind an empty one
+-- a packed primary is after an empty one
 behind_by : PrimariesAreBehind → (file : List ℕ) (header_len tile start : ℕ) (k : Header) (b : Bool) → WasSeen file 1 start header_len tile k → is_image file k ≡ b → (b && was_primary (cards_of (header_in file k))) ≡ true → is_after_empty file k ≡ true
 behind_by law file header_len tile start k false seen is both = absurd cc
 behind_by law file header_len tile start k true seen is both = law k (header_in file k) (is_after_empty file k) (record { image = seen.image; passed = seen.said; packed = is; primary = both })

@@ -29,7 +29,7 @@ use Rattle.fz_unpack.proofs.Rows.{fault_before, fault_behind}
 pub number_at : (first count i : ℕ) → i < count → slice_index (range_with_len first count) i ≡ first + i
 number_at first count i low = get_or-range_with_len first count i 0 low
 
--- numbers from one on are those of a round, and those behind it
+-- numbers from one on are those of a round, and those after it
 pub range_more : (a m n : ℕ) → range_with_len a (m + n) ≡ range_with_len a m ++ range_with_len (a + m) n
 range_more a zero n =
     let none : zero + n ≡ n = omega arith in
@@ -69,7 +69,7 @@ module _ (file : List ℕ) (h : Header) where
   given_at (t ∷ ts) back (x ∷ xs) ys same one two (suc i) e low =
       given_at ts back xs ys (omega (arith, same)) (λ k d near. one (suc k) d (omega (arith, near))) two i e (omega (arith, low))
 
-  -- the fault of a round behind rows that are sound is the first of all
+  -- the fault of a round after rows that are sound is the first of all
   pub fault_in_round : (first count n : ℕ) (x : Fault) → first + count ≤ n → IsFirstRowFault file (map (image_row h) (range_with_len 0 first)) None →
       IsFirstRowFault file (map (image_row h) (range_with_len first count)) (Some x) → IsFirstRowFault file (map (image_row h) (range_with_len 0 n)) (Some x)
   fault_in_round first count n x few sound fault =

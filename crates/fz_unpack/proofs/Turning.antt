@@ -40,7 +40,7 @@ still_rooms image first second first' second' rooms alike =
     let both = alike (2 * n, 8 * n + 64) rooms.1 rooms.2 in
     (n, both.0, both.1, rooms.3)
 
--- the first fault of some rows behind those that are written is that of the image
+-- the first fault of some rows after those that are written is that of the image
 pub refused_in_turn : (held : Option (List ℕ)) (h : Header) (image : PackedImage) (at first tiles : ℕ) (before mid : Option (List ℕ)) (x : Fault) → IfSome held (λ file. IsSaid file h image) → tiles ≡ tiles_in image.plan →
     IfSome held (λ file. AreWrittenTiles file h image.plan at (range_with_len 0 first) before mid) →
     IfSome held (λ file. (more : ℕ) × (first + more ≤ tiles) × IsFirstRowFault file (map (image_row h) (range_with_len first more)) (Some x)) → IfSome held (λ file. IsFirstRowFault file (rows_of file h) (Some x))
@@ -48,7 +48,7 @@ refused_in_turn None h image at first tiles before mid x said all done fault = t
 refused_in_turn (Some file) h image at first tiles before mid x said all done fault =
     refused_in_round (Some file) h image at first fault.0 before mid x said (omega (arith, fault.1, all)) done fault.2
 
--- the first fault of the rows of a turn is behind those that stand fetched
+-- the first fault of the rows of a turn is after those that stand fetched
 pub fault_in_turn : (held : Option (List ℕ)) (h : Header) (p : Plan) (written decoded count tiles : ℕ) (w : Pool) (x : Fault) → StandFetched held h p written decoded tiles w → written + decoded + count ≤ tiles →
     IfSome held (λ file. IsFirstRowFault file (map (image_row h) (range_with_len (written + decoded) count)) (Some x)) →
     IfSome held (λ file. (more : ℕ) × (written + more ≤ tiles) × IsFirstRowFault file (map (image_row h) (range_with_len written more)) (Some x))

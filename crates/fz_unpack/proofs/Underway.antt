@@ -34,7 +34,7 @@ stand_more file [] h front back were is = (back, [], ap (λ l. l ++ back) were �
 stand_more file (j ∷ hs) h front back were is =
     (were.0, were.1 ++ back, ap (λ l. l ++ back) were.2 ∙ append_assoc were.0 were.1 back, were.3, stand_more file hs h were.1 back were.4 is)
 
--- a write behind all that was written before
+-- a write after all that was written before
 joined : AreOneWrite → (front back : List ℕ) (contents : Option (List ℕ)) → written_behind (length front) back (written_behind 0 front contents) ≡ written_behind 0 (front ++ back) contents
 joined next [] back contents = ap (written_behind 0 back) (sym (none_behind 0 contents))
 joined next (b ∷ front) back contents =
@@ -44,7 +44,7 @@ joined next (b ∷ front) back contents =
 
 -- ---- where the file ends
 
--- a check behind two others refuses
+-- a check after two others refuses
 third : (a b c : Bool) (x y z : Fault) (checks : List (Bool × Fault)) → c ≡ true → (f : Fault) × (first_refusal ((a, x) ∷ (b, y) ∷ (c, z) ∷ checks) ≡ Some f)
 third true b c x y z checks is = (x, refl)
 third false true c x y z checks is = (y, refl)

@@ -27,7 +27,7 @@ pub record HoldsHdu (h : Header) (file : List ℕ) (at end : ℕ) (before now : 
 abbrev pub IsHduFault : List ℕ → Header → Fault → Type 0
 IsHduFault file h x = IsFirstRowFault file (all_rows file (h ∷ [])) (Some x)
 
--- what an HDU becomes ends behind where it begins, and is at most 2^46 bytes longer than the HDU
+-- what an HDU becomes ends after where it begins, and is at most 2^46 bytes longer than the HDU
 pub record EndsNear (h : Header) (at end : ℕ) : Type 0 where
   pub some : at < end
   pub near : end + h.start ≤ at + 2 ^ 46 + next_start_of h
@@ -43,7 +43,7 @@ pub record RestoresSeen {X : Type 0} (file : List ℕ) (header_len tile hdus : �
   pub restored : (hs : List Header) → WereSeen file header_len tile 0 0 hs → length hs ≡ hdus → OnOk result (HoldsHdus file hs before now)
   pub first_fault : (hs : List Header) → WereSeen file header_len tile 0 0 hs → length hs ≡ hdus → IfRefused result (λ x. IsFirstRowFault file (all_rows file hs) (Some x))
 
--- the flag says of the first of some HDUs whether it is HDU 1 behind a primary with NAXIS 0
+-- the flag says of the first of some HDUs whether it is HDU 1 after a primary with NAXIS 0
 abbrev pub SaysBehind : List ℕ → Bool → List Header → Type 0
 SaysBehind file after_empty [] = ⊤
 SaysBehind file after_empty (h ∷ hs) = after_empty ≡ is_after_empty file h

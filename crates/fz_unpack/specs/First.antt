@@ -1,4 +1,4 @@
--- The first HDU that stands for something: the primary, or the packed primary behind it (FITS 4.0, section 10.1).
+-- The first HDU that stands for something: the primary, or the packed primary after it (FITS 4.0, section 10.1).
 use Rattle.std.specs.Prelude.{ℕ, ◌≡◌, ◌⊎◌, ◌^◌, ◌<◌, ◌≤◌, false, List, [], ◌∷◌, length, Result, Ok, Err, ⊤, if◌then◌else◌}
 use Rattle.fz_base.specs.Stop.{IfRefused}
 use Rattle.fz_base.specs.declared.failure.Stop.{Stop}
@@ -18,7 +18,7 @@ pub record BeginsWithin (len : ℕ) (f : First) : Type 0 where
 abbrev pub the_primary : First
 the_primary = record { hdu = 0; start = 0; after_empty = false }
 
--- HDU 1, behind the primary with this header
+-- HDU 1, after the primary with this header
 abbrev pub behind_primary : Header → First
 behind_primary h = record { hdu = 1; start = next_start_of h; after_empty = is_empty_primary h }
 

@@ -14,7 +14,7 @@ pub record IsPackedPrimary (h : Header) (header : List ℕ) (after_empty : Bool)
   pub packed : is_packed header h ≡ true
   pub primary : was_primary (cards_of header) ≡ true
 
--- it stands behind an empty primary
+-- it is after an empty primary
 abbrev pub PrimariesAreBehind : Type 0
 PrimariesAreBehind = (h : Header) (header : List ℕ) (after_empty : Bool) → IsPackedPrimary h header after_empty → after_empty ≡ true
 

@@ -45,7 +45,7 @@ pub record HasScattered {X : Type 0} (p : Plan) (at : ℕ) (tiles : List ℕ) (w
   pub workers : w'.workers ≡ w.workers
   pub created_is : created' ≡ created
 
--- so many tiles are written, and the first slots have the pixels that the rows of so many behind them stand for
+-- so many tiles are written, and the first slots have the pixels that the rows of so many after them stand for
 pub record StandFetched (file : Option (List ℕ)) (h : Header) (p : Plan) (written decoded tiles : ℕ) (w : Pool) : Type 0 where
   pub within : written + decoded ≤ tiles
   pub few : decoded ≤ 2 * w.workers

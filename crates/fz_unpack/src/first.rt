@@ -23,7 +23,7 @@ pub(crate) struct First {
     pub(crate) after_empty: bool,
 }
 
-/// The first HDU that stands for something: the primary, unless the packed primary behind it stands for the
+/// The first HDU that stands for something: the primary, unless the packed primary after it stands for the
 /// primary (FITS 4.0, section 10.1).
 pub(crate) fn first_standing<S: Source>(
     source: &mut S,

@@ -24,7 +24,7 @@ use fz_survey::Workspace;
 use std::thread::Threads;
 
 /// Writes what an HDU stands for, whose header is in the workspace, from this byte of the sink on, but not byte 0 of
-/// the file, and answers the byte behind it.
+/// the file, and answers the byte after it.
 pub(crate) fn write_hdu<R: Threads + Sync, S: Source, K: Sink, G: Gate>(
     rt: &R,
     source: &mut S,

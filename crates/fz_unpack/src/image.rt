@@ -42,7 +42,7 @@ use fz_tile::{plain_law, plain_len};
 use std::thread::Threads;
 
 /// Writes the image of a packed HDU, whose header is in the workspace, from this byte of the sink on, but not byte 0 of
-/// the file, and answers the byte behind it.
+/// the file, and answers the byte after it.
 pub(crate) fn write_image<R: Threads + Sync, S: Source, K: Sink, G: Gate>(
     rt: &R,
     source: &mut S,
@@ -86,7 +86,7 @@ pub(crate) fn write_image<R: Threads + Sync, S: Source, K: Sink, G: Gate>(
 }
 
 // Writes the header of the image that a packed header stands for, without byte 0 of the file, and answers the byte
-// behind it.
+// after it.
 fn write_plain_header<K: Sink>(
     sink: &mut K,
     at: u64,

@@ -3,7 +3,7 @@ ghost use Rattle.fz_unpack.specs.Laws.{PrimariesAreBehind, PrimariesBegin};
 
 use fz_head::packed_primary_law;
 
-/// A packed primary stands behind an empty primary, and the header of its image begins with the S of SIMPLE.
+/// A packed primary is after an empty primary, and the header of its image begins with the S of SIMPLE.
 pub(crate) fn primary_law()
     ensures behind { PrimariesAreBehind }
     ensures begins { PrimariesBegin }

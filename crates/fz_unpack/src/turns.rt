@@ -30,7 +30,7 @@ use std::thread::Threads;
 pub(crate) struct Turn {
     /// So many are written.
     pub(crate) written: u32,
-    /// So many behind them are decoded, in the second half.
+    /// So many after them are decoded, in the second half.
     pub(crate) decoded: u32,
 }
 
@@ -148,7 +148,7 @@ fn write_turns<R: Threads + Sync, S: Source, K: Sink, G: Gate>(
     Ok(())
 }
 
-// One turn, behind which the halves change their parts.
+// One turn, after which the halves change their parts.
 fn take_turn<R: Threads + Sync, S: Source, K: Sink, G: Gate>(
     rt: &R,
     source: &mut S,

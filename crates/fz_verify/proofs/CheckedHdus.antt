@@ -82,7 +82,7 @@ module _ (law : SoundRowsAreNotRefused) (file : List ℕ) (s : Survey) (hs done 
   got_some old now front =
       subst (λ l. GotSome file l old now) (sym parts) (front_by old now front)
 
--- where the HDU behind others without a fault has one, these are all before it
+-- where the HDU after others without a fault has one, these are all before it
 pub before_it : (file : List ℕ) (s : Survey) (hs done rest : List Header) (h : Header) (x : Fault) → IsList file s hs → hs ≡ (done ++ h ∷ []) ++ rest → IsHduFault file h x → before_fault (Some x) hs ≡ done
 before_it file s hs done rest h x list parts fault =
     let both : hs ≡ done ++ h ∷ rest = parts ∙ append_assoc done (h ∷ []) rest in
@@ -96,7 +96,7 @@ before_it file s hs done rest h x list parts fault =
 
 -- ---- the loop over the HDUs
 
--- an error that refuses nothing, behind a front of the lines
+-- an error that refuses nothing, after a front of the lines
 stops_by : (X : Type 0) (file : List ℕ) (hs : List Header) (old new : Option (List ℕ)) (stop : Stop) → IfRefused {X = X} (Err stop) (λ x. ⊥) → GotSome file hs old new → GotVerified file hs old new (Err stop)
 stops_by X file hs old new (Refused x) never front = absurd never
 stops_by X file hs old new ReadFault never front = front

@@ -12,7 +12,7 @@ use Rattle.fz_block.specs.Cards.{end_of}
 use Rattle.fz_block.specs.Checks.{block_checks, blocks_to_end, header_room, hdu_at, header_blocks_of, header_in, unless_refused}
 use Rattle.fz_block.specs.declared.header.Header.{Header}
 
--- a check behind two others refuses
+-- a check after two others refuses
 third : (a b c : Bool) (x y z : Fault) (checks : List (Bool × Fault)) → c ≡ true → (f : Fault) × (first_refusal ((a, x) ∷ (b, y) ∷ (c, z) ∷ checks) ≡ Some f)
 third true b c x y z checks is = (x, refl)
 third false true c x y z checks is = (y, refl)

@@ -1,4 +1,4 @@
--- What a job promises where the first look knows the file, by what the work behind it says.
+-- What a job promises where the first look knows the file, by what the work after it says.
 use Rattle.std.proofs.Common.{◌≡◌, inr, ℕ, Bool, List, map, sym, ap, ◌∙◌, subst}
 use Rattle.std.specs.Prelude.{Option, Some, None, IfSome, IfOk, Result, Ok, Err, not, IsSome}
 use Rattle.std.specs.List.{list_any}

@@ -21,11 +21,11 @@ use Rattle.fz_again.specs.declared.again.ReadHdu.{ReadHdu}
 use Rattle.fz_verify.proofs.Parts.{all_by_count, never_changed, never_refused, none_done, one_done}
 use Rattle.fz_verify.proofs.Texts.{appended_none, front_all, front_behind, front_wider, got_both}
 
--- a line behind others
+-- a line after others
 lines_more : (file : List ℕ) (done : List Header) (h : Header) → list_lines file (done ++ h ∷ []) ≡ list_lines file done ++ list_line file h
 lines_more file done h = flat_map-append (list_line file) done (h ∷ []) ∙ ap (λ l. list_lines file done ++ l) (append-nil (list_line file h))
 
--- an error that refuses nothing, behind a front of the lines
+-- an error that refuses nothing, after a front of the lines
 pub stops_listing : (X Y : Type 0) (lines : List ℕ) (old new : Option (List ℕ)) (stop : Stop) → IfRefused {X = X} (Err stop) (λ x. ⊥) → MayAppend lines old new → GotListed {X = Y} lines old new (Err stop)
 stops_listing X Y lines old new (Refused x) never front = absurd never
 stops_listing X Y lines old new ReadFault never front = front

@@ -22,7 +22,7 @@ use Rattle.fz_verify.proofs.Rows.{fault_before, fault_behind, sound_both}
 pub number_at : (first count i : ℕ) → i < count → slice_index (range_with_len first count) i ≡ first + i
 number_at first count i low = get_or-range_with_len first count i 0 low
 
--- numbers from one on are those of a round, and those behind it
+-- numbers from one on are those of a round, and those after it
 pub range_more : (a m n : ℕ) → range_with_len a (m + n) ≡ range_with_len a m ++ range_with_len (a + m) n
 range_more a zero n =
     let none : zero + n ≡ n = omega arith in
@@ -53,7 +53,7 @@ module _ (file : List ℕ) (h : Header) where
   given_sound (t ∷ ts) [] give = ((_, give 0 [] (omega arith)), given_sound ts [] (λ i e low. give (suc i) e (omega (arith, low))))
   given_sound (t ∷ ts) (xs ∷ pixels) give = ((xs, give 0 [] (omega arith)), given_sound ts pixels (λ i e low. give (suc i) e (omega (arith, low))))
 
-  -- the fault of a round behind rows that are sound is the first of all
+  -- the fault of a round after rows that are sound is the first of all
   pub fault_in_round : (first count n : ℕ) (x : Fault) → first + count ≤ n → IsFirstRowFault file (map (image_row h) (range_with_len 0 first)) None →
       IsFirstRowFault file (map (image_row h) (range_with_len first count)) (Some x) → IsFirstRowFault file (map (image_row h) (range_with_len 0 n)) (Some x)
   fault_in_round first count n x few sound fault =

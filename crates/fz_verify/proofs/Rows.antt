@@ -71,7 +71,7 @@ module _ (file : List ℕ) where
   pub sound_joined : (hs ks : List Header) → IsFirstRowFault file (all_rows file hs) None → IsFirstRowFault file (all_rows file ks) None → IsFirstRowFault file (all_rows file (hs ++ ks)) None
   sound_joined hs ks front back = subst (λ l. IsFirstRowFault file l None) (sym (rows_joined hs ks)) (sound_both (all_rows file hs) (all_rows file ks) front back)
 
-  -- the fault of an HDU behind others without one is the first of all
+  -- the fault of an HDU after others without one is the first of all
   pub fault_among : (done rest : List Header) (h : Header) (x : Fault) → IsFirstRowFault file (all_rows file done) None → IsHduFault file h x → IsFirstRowFault file (all_rows file (done ++ h ∷ rest)) (Some x)
   fault_among done rest h x sound fault =
       let behind : IsFirstRowFault file (all_rows file (h ∷ rest)) (Some x) =

@@ -10,7 +10,7 @@ pub appended_none : (old : Option (List ℕ)) → old ≡ appended [] old
 appended_none None = refl
 appended_none (Some text) = ap Some (sym (append-nil text))
 
--- one piece behind another
+-- one piece after another
 pub appended_both : (a b : List ℕ) (old : Option (List ℕ)) → appended b (appended a old) ≡ appended (a ++ b) old
 appended_both a b None = refl
 appended_both a b (Some text) = ap Some (append_assoc text a b)
@@ -35,7 +35,7 @@ front_all a old new is = (length a, is ∙ ap (λ l. appended l old) (sym (take-
 pub front_wider : (a b : List ℕ) (old new : Option (List ℕ)) → MayAppend a old new → MayAppend (a ++ b) old new
 front_wider a b old new (n, is) = (min n (length a), is ∙ ap (λ l. appended l old) (sym (take_front a b n)))
 
--- and so is one behind a whole piece
+-- and so is one after a whole piece
 pub front_behind : (a b : List ℕ) (old mid new : Option (List ℕ)) → mid ≡ appended a old → MayAppend b mid new → MayAppend (a ++ b) old new
 front_behind a b old mid new first (n, is) =
     (length a + n, is ∙ ap (appended (take n b)) first ∙ appended_both a (take n b) old ∙ ap (λ l. appended l old) (sym (take-append-add a b n)))

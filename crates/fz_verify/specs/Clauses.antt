@@ -11,7 +11,7 @@ use Rattle.fz_files.specs.Lines.{has_wrong_sums, report_lines}
 use Rattle.fz_files.specs.declared.job.Job.{Job}
 use Rattle.fz_job.specs.Clauses.{greatest_bound}
 
--- told text with the lines of a job behind it, for a file of which this is the first fault, or none
+-- told text with the lines of a job after it, for a file of which this is the first fault, or none
 abbrev pub GotLines : Job → List ℕ → Option Fault → Option (List ℕ) → Option (List ℕ) → Type 0
 GotLines job file fault old new = new ≡ appended (report_lines job file fault) old
 

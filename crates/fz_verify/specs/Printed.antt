@@ -63,7 +63,7 @@ VerifiesSeen file s old new result = (hs : List Header) → IsList file s hs →
 
 -- ---- so far
 
--- the flag says of the first of some HDUs whether it is HDU 1 behind a primary with NAXIS 0
+-- the flag says of the first of some HDUs whether it is HDU 1 after a primary with NAXIS 0
 abbrev pub SaysBehind : List ℕ → Bool → List Header → Type 0
 SaysBehind file after_empty [] = ⊤
 SaysBehind file after_empty (h ∷ hs) = after_empty ≡ is_after_empty file h

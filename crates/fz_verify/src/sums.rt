@@ -67,7 +67,7 @@ pub(crate) fn judge_sums<S: Source>(
     let mut sum = Sum::new();
     add_data(source, header, copy, &mut sum)?;
     let datasum = datasum_verdict(buf, header.cards, sum.value());
-    // A header is whole words, so the bytes of the data have the same places in words behind it.
+    // A header is whole words, so the bytes of the data have the same places in words after it.
     sum.add(0, buf);
     let checksum = checksum_verdict(buf, header.cards, sum.value());
     Ok(Verdicts { datasum, checksum })

@@ -32,7 +32,7 @@ use std::thread::Threads;
 ///
 /// All checks of headers come first, then all buffers are taken. Refused: as `survey_to_unpack` refuses the file, and
 /// then nothing is printed; the lowest faulty row of the first packed image that has one, as `fetch_tiles` refuses it,
-/// behind the lines of the HDUs before. Of a source that gives other bytes at the second reading also an HDU that is no
+/// after the lines of the HDUs before. Of a source that gives other bytes at the second reading also an HDU that is no
 /// longer the one that was looked at.
 pub fn verify<R: Threads + Sync, S: Source, T: Text, G: Gate>(
     rt: &R,

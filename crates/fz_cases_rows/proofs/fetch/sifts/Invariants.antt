@@ -1,4 +1,4 @@
--- The axes so far have a pick, and none behind the array.
+-- The axes so far have a pick, and none after the array.
 use Rattle.std.proofs.Common.{ℕ, ◌<◌, ◌≤◌, get_or}
 use Rattle.fz_cases_rows.proofs.fetch.sifts.Given as goal
 

@@ -1,4 +1,4 @@
--- The lengths of the part, and zeros behind them.
+-- The lengths of the part, and zeros after them.
 use Rattle.std.proofs.Common.{◌≡◌, ℕ, ◌-◌, ◌++◌, take, replicate, sym, ap, ◌∙◌, arith}
 use Rattle.fz_grid.specs.Sieve.{sieve_lengths}
 use Rattle.fz_cut.proofs.Tables.{front_and_zeros}

@@ -1,4 +1,4 @@
--- The sink is made, the part is written behind byte 0, and then byte 0.
+-- The sink is made, the part is written after byte 0, and then byte 0.
 use Rattle.std.proofs.Common.{◌≡◌, ℕ, ◌<◌, ◌^◌, length, List, Option, Some, IfSome, Result, Ok, Err, sym, subst, rules}
 use Rattle.fz_base.specs.FirstByte.{IsShut}
 use Rattle.fz_base.specs.Ranges.{LogsIn}

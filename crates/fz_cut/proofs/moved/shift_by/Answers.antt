@@ -1,4 +1,4 @@
--- The number behind a stem is above 0.
+-- The number after a stem is above 0.
 use Rattle.std.proofs.Common.{◌≡◌, ◌≤◌, codes, Some, arith, rules}
 use Rattle.fz_card.specs.Naming.{number_behind}
 use Rattle.fz_cut.proofs.moved.shift_by.Goals as goal

@@ -18,7 +18,7 @@ returns-in_err-packed-clause-stops g c =
     let stop : Stop = c.in_err-packed.field-0.0 in
     let is : c.from_residual.result ≡ Err stop = search rules in
     subst (λ r. Stops rows (drill_takings rows c.args.codec) limit r) (sym is)
-    (stops_first rows limit (file_takings (Pack (drill_options c.args.codec)) (drill_file rows) 4) (file_takings Unpack packed 4 ++ file_takings (Cut None (drill_sieve rows)) packed 4) _ _ stop c.in_err-packed.ensures.stops)
+    (stops_first c.takings_law.ensures.first rows limit (file_takings (Pack (drill_options c.args.codec)) (drill_file rows) 4) (file_takings Unpack packed 4 ++ file_takings (Cut None (drill_sieve rows)) packed 4) _ _ stop c.in_err-packed.ensures.stops)
 
 pub returns-in_err-unpacked-clause-stops : goal.returns-in_err-unpacked-clause-stops
 returns-in_err-unpacked-clause-stops g c =
@@ -30,8 +30,8 @@ returns-in_err-unpacked-clause-stops g c =
     let same : c.packed_by.new.meter.limit ≡ limit = c.in_ok-packed.ensures.kept.limit in
     let file : c.deref.result.now ≡ packed = search rules in
     subst (λ r. Stops rows (drill_takings rows c.args.codec) limit r) (sym is)
-    (stops_later rows limit (file_takings (Pack (drill_options c.args.codec)) (drill_file rows) 4) (file_takings Unpack packed 4 ++ file_takings (Cut None (drill_sieve rows)) packed 4) _ (Unit {0}) _ _ stop c.in_ok-packed.ensures.stops
-    (stops_first rows limit (file_takings Unpack packed 4) (file_takings (Cut None (drill_sieve rows)) packed 4) _ (Unit {0}) stop
+    (stops_later c.takings_law.ensures.second rows limit (file_takings (Pack (drill_options c.args.codec)) (drill_file rows) 4) (file_takings Unpack packed 4 ++ file_takings (Cut None (drill_sieve rows)) packed 4) _ (Unit {0}) _ _ stop c.in_ok-packed.ensures.stops
+    (stops_first c.takings_law.ensures.first rows limit (file_takings Unpack packed 4) (file_takings (Cut None (drill_sieve rows)) packed 4) _ (Unit {0}) stop
     (at_limit rows (file_takings Unpack packed 4) same (of_file rows (λ f. file_takings Unpack f 4) file c.in_err-unpacked.ensures.stops))))
 
 pub returns-in_err-cut-clause-stops : goal.returns-in_err-cut-clause-stops
@@ -46,8 +46,8 @@ returns-in_err-cut-clause-stops g c =
     let file : c.deref.result.now ≡ packed = search rules in
     let again : c.deref-2.result.now ≡ packed = search rules in
     subst (λ r. Stops rows (drill_takings rows c.args.codec) limit r) (sym is)
-    (stops_later rows limit (file_takings (Pack (drill_options c.args.codec)) (drill_file rows) 4) (file_takings Unpack packed 4 ++ file_takings (Cut None (drill_sieve rows)) packed 4) _ (Unit {0}) _ _ stop c.in_ok-packed.ensures.stops
-    (stops_later rows limit (file_takings Unpack packed 4) (file_takings (Cut None (drill_sieve rows)) packed 4) _ _ (Unit {0}) _ stop
+    (stops_later c.takings_law.ensures.second rows limit (file_takings (Pack (drill_options c.args.codec)) (drill_file rows) 4) (file_takings Unpack packed 4 ++ file_takings (Cut None (drill_sieve rows)) packed 4) _ (Unit {0}) _ _ stop c.in_ok-packed.ensures.stops
+    (stops_later c.takings_law.ensures.second rows limit (file_takings Unpack packed 4) (file_takings (Cut None (drill_sieve rows)) packed 4) _ _ (Unit {0}) _ stop
     (at_limit rows (file_takings Unpack packed 4) same (of_file rows (λ f. file_takings Unpack f 4) file c.in_ok-unpacked.ensures.stops))
     (at_limit rows (file_takings (Cut None (drill_sieve rows)) packed 4) also (of_file rows (λ f. file_takings (Cut None (drill_sieve rows)) f 4) again c.in_err-cut.ensures.stops))))
 
@@ -60,8 +60,8 @@ returns-clause-stops g c =
     let also : c.unpacks_to_file.new.meter.limit ≡ limit = c.in_ok-unpacked.ensures.kept.limit ∙ same in
     let file : c.deref.result.now ≡ packed = search rules in
     let again : c.deref-2.result.now ≡ packed = search rules in
-    stops_none rows limit (file_takings (Pack (drill_options c.args.codec)) (drill_file rows) 4) (file_takings Unpack packed 4 ++ file_takings (Cut None (drill_sieve rows)) packed 4) _ _ _ _ _ _ c.in_ok-packed.ensures.stops
-    (stops_none rows limit (file_takings Unpack packed 4) (file_takings (Cut None (drill_sieve rows)) packed 4) _ _ (Unit {0}) _ _ tt
+    stops_none c.takings_law.ensures.second rows limit (file_takings (Pack (drill_options c.args.codec)) (drill_file rows) 4) (file_takings Unpack packed 4 ++ file_takings (Cut None (drill_sieve rows)) packed 4) _ _ _ _ _ _ c.in_ok-packed.ensures.stops
+    (stops_none c.takings_law.ensures.second rows limit (file_takings Unpack packed 4) (file_takings (Cut None (drill_sieve rows)) packed 4) _ _ (Unit {0}) _ _ tt
     (at_limit rows (file_takings Unpack packed 4) same (of_file rows (λ f. file_takings Unpack f 4) file c.in_ok-unpacked.ensures.stops))
     (at_limit rows (file_takings (Cut None (drill_sieve rows)) packed 4) also (of_file rows (λ f. file_takings (Cut None (drill_sieve rows)) f 4) again c.in_ok-cut.ensures.stops)))
 

@@ -1,4 +1,4 @@
--- The bytes of the first picks stand behind the place.
+-- The bytes of the first picks are after the place.
 use Rattle.std.proofs.Common.{◌≡◌, ◌+◌, ◌*◌, ◌/◌, ℤ, List, ◌++◌, length, take, drop, unsigned_abs}
 use Rattle.fz_parts.specs.Cutout.{numbers_at}
 use Rattle.fz_parts.specs.Line.{line_in_tile}

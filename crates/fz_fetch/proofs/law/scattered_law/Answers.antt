@@ -1,17 +1,7 @@
 use Rattle.fz_fetch.proofs.Covering.{WriteLaws}
-use Rattle.fz_fetch.proofs.Places.{PlaceLaws}
 use Rattle.fz_fetch.proofs.Rounds.{part_rounds_joined, rounds_joined}
 use Rattle.fz_fetch.proofs.Wholes.{cutout_whole, image_whole}
 use Rattle.fz_fetch.proofs.law.scattered_law.Goals as goal
-
-laws : goal.After-slice_law → PlaceLaws
-laws c =
-    record {
-      inside = c.place_law.ensures.inside;
-      numbers = c.place_law.ensures.numbers;
-      order = c.place_law.ensures.order;
-      pixels = c.place_law.ensures.pixels;
-    }
 
 writes : goal.After-slice_law → WriteLaws
 writes c = record { inside = c.places_law.ensures.inside; outside = c.places_law.ensures.outside; long = c.places_law.ensures.long }
@@ -24,10 +14,10 @@ returns-clause-parts c = part_rounds_joined
 
 pub returns-clause-image : goal.returns-clause-image
 returns-clause-image c p at pixels contents divided size tiles =
-    image_whole (laws c) (writes c) c.tiles_law.ensures.places c.tiles_law.ensures.whole c.tiles_law.ensures.joined c.plain_law.ensures.len c.slice_law.ensures.bytes
+    image_whole c.tiles_law.ensures.inside (writes c) c.tiles_law.ensures.places c.tiles_law.ensures.whole c.tiles_law.ensures.joined c.plain_law.ensures.len c.slice_law.ensures.bytes
     p pixels (c.shape_law.ensures.tiles p.shape p.tile divided) size tiles c.one_tile_law.ensures.numbers at contents
 
 pub returns-clause-cutout : goal.returns-clause-cutout
 returns-clause-cutout c p sieve at a contents divided size sifts is_array same =
-    cutout_whole (laws c) (writes c) c.cutout_law.ensures.count c.cutout_law.ensures.numbers c.plain_law.ensures.len c.slice_law.ensures.bytes
+    cutout_whole c.cutout_law.ensures.inside c.place_law.ensures.pixels (writes c) c.cutout_law.ensures.count c.cutout_law.ensures.numbers c.plain_law.ensures.len c.slice_law.ensures.bytes
     p sieve a (c.shape_law.ensures.tiles p.shape p.tile divided) size sifts same c.cutout_law.ensures.once at contents

@@ -14,7 +14,6 @@ use Rattle.fz_tile.specs.Pixels.{HoldPixels, place_count}
 use Rattle.fz_files.specs.Packed.{pixel_bits}
 use Rattle.fz_files.specs.Restored.{pixels_of}
 use Rattle.fz_fetch.proofs.PartWrites.{back_of, part_held, part_room, picks_same}
-use Rattle.fz_fetch.proofs.Places.{picks_room}
 use Rattle.fz_fetch.proofs.picking.write_part.Goals as goal
 
 pub put_picks-done-requires-clause-pixels : goal.put_picks-done-requires-clause-pixels
@@ -46,7 +45,7 @@ put_picks-done-requires-clause-room g c =
     let back : to_z w32 (of_z w32 p.bitpix) ≡ p.bitpix = back_of p.bitpix c.requires.size in
     let picks : lines_in_tile (lines_left c.tile_lines-lines.result) ≡ picks_in_tile (lengths_of p.shape) (lengths_of p.tile) sieve t =
     c.tile_lines-lines.ensures.tile ∙ ap (λ (a : Axes). picks_in_tile (lengths_of a) (lengths_of c.new-grid.result.tile) sieve t) c.new-grid.ensures.shape ∙ ap (λ (a : Axes). picks_in_tile (lengths_of p.shape) (lengths_of a) sieve t) c.new-grid.ensures.tile in
-    let most = picks_room c.place_law.ensures.pixels (lengths_of p.shape) (lengths_of p.tile) sieve t (c.shape_law.ensures.tiles p.shape p.tile c.requires.divided) c.cutout_axes-cutout.ensures.sifts in
+    let most = c.cutout_law.ensures.room (lengths_of p.shape) (lengths_of p.tile) sieve t (c.shape_law.ensures.tiles p.shape p.tile c.requires.divided) c.cutout_axes-cutout.ensures.sifts in
     let fits : length (lines_in_tile (lines_left c.tile_lines-lines.result)) ≤ pixels_of p t = omega (arith, most, ap length picks) in
     subst (λ (y : ℤ). unsigned_abs y / 8 * length (lines_in_tile (lines_left c.tile_lines-lines.result)) ≤ length c.args.code.now) (sym back)
     (part_room p.bitpix (length (lines_in_tile (lines_left c.tile_lines-lines.result))) (pixels_of p t) (length c.args.code.now) c.requires.size fits c.requires.code)
@@ -59,7 +58,7 @@ slice_bounds-bytes-end g c =
     let back : to_z w32 (of_z w32 p.bitpix) ≡ p.bitpix = back_of p.bitpix c.requires.size in
     let picks : lines_in_tile (lines_left c.tile_lines-lines.result) ≡ picks_in_tile (lengths_of p.shape) (lengths_of p.tile) sieve t =
     c.tile_lines-lines.ensures.tile ∙ ap (λ (a : Axes). picks_in_tile (lengths_of a) (lengths_of c.new-grid.result.tile) sieve t) c.new-grid.ensures.shape ∙ ap (λ (a : Axes). picks_in_tile (lengths_of p.shape) (lengths_of a) sieve t) c.new-grid.ensures.tile in
-    let most = picks_room c.place_law.ensures.pixels (lengths_of p.shape) (lengths_of p.tile) sieve t (c.shape_law.ensures.tiles p.shape p.tile c.requires.divided) c.cutout_axes-cutout.ensures.sifts in
+    let most = c.cutout_law.ensures.room (lengths_of p.shape) (lengths_of p.tile) sieve t (c.shape_law.ensures.tiles p.shape p.tile c.requires.divided) c.cutout_axes-cutout.ensures.sifts in
     let fits : length (lines_in_tile (lines_left c.tile_lines-lines.result)) ≤ pixels_of p t = omega (arith, most, ap length picks) in
     let room : unsigned_abs (to_z w32 (of_z w32 p.bitpix)) / 8 * length (lines_in_tile (lines_left c.tile_lines-lines.result)) ≤ length c.args.code.now =
     subst (λ (y : ℤ). unsigned_abs y / 8 * length (lines_in_tile (lines_left c.tile_lines-lines.result)) ≤ length c.args.code.now) (sym back)
@@ -75,7 +74,7 @@ slice_bounds-bytes-end-2 g c =
     let back : to_z w32 (of_z w32 p.bitpix) ≡ p.bitpix = back_of p.bitpix c.requires.size in
     let picks : lines_in_tile (lines_left c.tile_lines-lines.result) ≡ picks_in_tile (lengths_of p.shape) (lengths_of p.tile) sieve t =
     c.tile_lines-lines.ensures.tile ∙ ap (λ (a : Axes). picks_in_tile (lengths_of a) (lengths_of c.new-grid.result.tile) sieve t) c.new-grid.ensures.shape ∙ ap (λ (a : Axes). picks_in_tile (lengths_of p.shape) (lengths_of a) sieve t) c.new-grid.ensures.tile in
-    let most = picks_room c.place_law.ensures.pixels (lengths_of p.shape) (lengths_of p.tile) sieve t (c.shape_law.ensures.tiles p.shape p.tile c.requires.divided) c.cutout_axes-cutout.ensures.sifts in
+    let most = c.cutout_law.ensures.room (lengths_of p.shape) (lengths_of p.tile) sieve t (c.shape_law.ensures.tiles p.shape p.tile c.requires.divided) c.cutout_axes-cutout.ensures.sifts in
     let fits : length (lines_in_tile (lines_left c.tile_lines-lines.result)) ≤ pixels_of p t = omega (arith, most, ap length picks) in
     let room : unsigned_abs (to_z w32 (of_z w32 p.bitpix)) / 8 * length (lines_in_tile (lines_left c.tile_lines-lines.result)) ≤ length c.args.code.now =
     subst (λ (y : ℤ). unsigned_abs y / 8 * length (lines_in_tile (lines_left c.tile_lines-lines.result)) ≤ length c.args.code.now) (sym back)
@@ -99,7 +98,7 @@ write_lines-requires-clause-bytes g c =
     let back : to_z w32 (of_z w32 p.bitpix) ≡ p.bitpix = back_of p.bitpix c.requires.size in
     let picks : lines_in_tile (lines_left c.tile_lines-lines.result) ≡ picks_in_tile (lengths_of p.shape) (lengths_of p.tile) sieve t =
     c.tile_lines-lines.ensures.tile ∙ ap (λ (a : Axes). picks_in_tile (lengths_of a) (lengths_of c.new-grid.result.tile) sieve t) c.new-grid.ensures.shape ∙ ap (λ (a : Axes). picks_in_tile (lengths_of p.shape) (lengths_of a) sieve t) c.new-grid.ensures.tile in
-    let most = picks_room c.place_law.ensures.pixels (lengths_of p.shape) (lengths_of p.tile) sieve t (c.shape_law.ensures.tiles p.shape p.tile c.requires.divided) c.cutout_axes-cutout.ensures.sifts in
+    let most = c.cutout_law.ensures.room (lengths_of p.shape) (lengths_of p.tile) sieve t (c.shape_law.ensures.tiles p.shape p.tile c.requires.divided) c.cutout_axes-cutout.ensures.sifts in
     let fits : length (lines_in_tile (lines_left c.tile_lines-lines.result)) ≤ pixels_of p t = omega (arith, most, ap length picks) in
     let room : unsigned_abs (to_z w32 (of_z w32 p.bitpix)) / 8 * length (lines_in_tile (lines_left c.tile_lines-lines.result)) ≤ length c.args.code.now =
     subst (λ (y : ℤ). unsigned_abs y / 8 * length (lines_in_tile (lines_left c.tile_lines-lines.result)) ≤ length c.args.code.now) (sym back)

@@ -1,4 +1,4 @@
--- What is left to be written makes the contents that are wanted: the run that was found last, and the lines behind it, which lie within the
+-- What is left to be written makes the contents that are wanted: the run that was found last, and the lines after it, which lie within the
 -- cutout and take the rest of the bytes.
 use Rattle.std.proofs.Common.{◌≡◌, ℕ, ◌+◌, ◌*◌, ◌≤◌, drop, length}
 use Rattle.std.specs.List.{AllByRecursion}

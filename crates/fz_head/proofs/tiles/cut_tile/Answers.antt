@@ -12,7 +12,7 @@ use Rattle.fz_head.proofs.CutTiles.{cut-more}
 use Rattle.fz_head.proofs.PlannedTiles.{length-cut_tile}
 use Rattle.fz_head.proofs.tiles.cut_tile.Goals as goal
 
--- the zeros behind what is written
+-- the zeros after what is written
 zeros-more : (len : List ℕ) (i g : ℕ) → drop i len ≡ replicate (9 - i) 0 → drop (i + 1) (set len i g) ≡ replicate (9 - (i + 1)) 0
 zeros-more len i g behind =
     let past : i < i + 1 = omega arith in

@@ -1,4 +1,4 @@
--- The bytes stand behind those that are held back.
+-- The bytes are after those that are held back.
 use Rattle.std.proofs.Common.{◌≡◌, ℕ, ◌+◌, ◌≤◌, List, ◌++◌, length, take, sym, ap, ◌∙◌, rules, arith}
 use Rattle.std.proofs.lemmas.Slice.{take-put_mid}
 use Rattle.fz_image.proofs.Holding.{held_more}

@@ -1,4 +1,4 @@
--- The bytes of each tile go behind those of the tiles before it, now or later.
+-- The bytes of each tile go after those of the tiles before it, now or later.
 use Rattle.std.proofs.Common.{◌≡◌, ◌+◌, length, refl, sym, ap, ◌∙◌, arith, rules}
 use Rattle.fz_files.specs.Packed.{heap_of}
 use Rattle.fz_pool.specs.Round.{coded_tile, coded_tiles}

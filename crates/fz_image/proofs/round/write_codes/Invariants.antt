@@ -1,4 +1,4 @@
--- The bytes of the first i tiles stand behind the heap, once those that are held back do.
+-- The bytes of the first i tiles are after the heap, once those that are held back do.
 use Rattle.std.proofs.Common.{◌≡◌, ◌+◌, length}
 use Rattle.fz_base.specs.FirstByte.{StaysShut}
 use Rattle.fz_base.specs.Sink.{written}

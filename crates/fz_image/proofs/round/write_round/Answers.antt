@@ -1,4 +1,4 @@
--- The next tiles go behind those that were written.
+-- The next tiles go after those that were written.
 use Rattle.std.proofs.Common.{◌≡◌, ◌+◌, ◌*◌, ◌≤◌, length, ap, ◌∙◌, subst, arith}
 use Rattle.fz_files.specs.Packed.{heap_of}
 use Rattle.fz_pool.specs.Round.{coded_tiles}

@@ -1,4 +1,4 @@
--- The rows go before what is held back, and the bytes of the tiles behind it.
+-- The rows go before what is held back, and the bytes of the tiles after it.
 use Rattle.std.proofs.Common.{◌≡◌, ◌+◌, ◌*◌, ap, arith, rules}
 use Rattle.std.proofs.lemmas.Result.{on_ok_weaker}
 use Rattle.fz_base.specs.Sink.{written}

@@ -1,4 +1,4 @@
--- The tiles of the one half are written behind the others; those of the other are the next ones.
+-- The tiles of the one half are written after the others; those of the other are the next ones.
 use Rattle.std.proofs.Common.{◌+◌, ◌≤◌, arith}
 use Rattle.fz_pool.specs.Round.{coded_tiles}
 use Rattle.fz_image.specs.Held.{heap_caught_up}

@@ -1,4 +1,4 @@
--- The sink is made, the HDUs are written behind byte 0, and then byte 0.
+-- The sink is made, the HDUs are written after byte 0, and then byte 0.
 use Rattle.std.proofs.Common.{◌≡◌, ℕ, List, Option, sym, subst, rules}
 use Rattle.fz_base.specs.FirstByte.{IsShut}
 use Rattle.fz_base.specs.Sink.{emptied}

@@ -1,4 +1,4 @@
--- An image becomes its table, behind an empty primary where it was one, and every other HDU is copied.
+-- An image becomes its table, after an empty primary where it was one, and every other HDU is copied.
 use Rattle.std.proofs.Common.{ℕ, ◌+◌, ◌^◌, ◌<◌, ◌≤◌, List, Option, IfSome, arith}
 use Rattle.std.proofs.lemmas.Result.{IfOk-weaker}
 use Rattle.fz_block.specs.Header.{data_start_of, next_start_of}

@@ -16,7 +16,7 @@ returns g c = record {
   look = record {
     fault = λ job held stop tells. look_faulty g.row.T.Denot job held stop tells;
     works = λ before now sink limit stop reads. look_works g.row.T.Denot before now sink limit stop reads;
-    first_past = λ job checks held W live limit stop before now makes one cause fault tells. look_past g.row.T.Denot job checks held W live limit stop before now makes one cause fault tells;
+    first_past = λ job checks held W live limit stop before now makes one cause fault tells. look_past c.takings_law.ensures.first c.takings_law.ensures.second g.row.T.Denot job checks held W live limit stop before now makes one cause fault tells;
     over_limit = λ job workers live limit stop one tells.
         let within = look_most c.workspace_law.ensures.bound c.workspace_law.ensures.grows job workers in
         tells_most g.row.T.Denot limit (live + 737280) _ stop (omega (arith, within, one)) tells;
@@ -26,7 +26,7 @@ returns g c = record {
     short_past = λ limit takings short tells. short_past g.row.T.Denot limit takings short tells;
     works = λ source source' sink sink' limit r rewrites. rewrite_works source source' sink sink' limit r rewrites;
     past = λ source source' sink sink' limit takings r why none. rewrite_past source source' sink sink' limit takings r why none;
-    first_past = λ job checks held W live limit H n r makes one learnt none tells. work_past job checks held W live limit H n r makes one learnt none tells;
+    first_past = λ job checks held W live limit H n r makes one learnt none tells. work_past c.takings_law.ensures.second job checks held W live limit H n r makes one learnt none tells;
     over_limit = λ job workers live limit H n source source' sink sink' r own one header tile why tells.
         work_tells c.workspace_law.ensures.bound c.workspace_law.ensures.grows c.workspace_law.ensures.past job workers live limit H n source source' sink sink' r own one header tile why tells;
   };
@@ -43,7 +43,7 @@ returns g c = record {
   };
   passes = record {
     block = passes_behind;
-    look = λ job checks held W live limit H n makes one learnt none. passes_look job checks held W live limit H n makes one learnt none;
+    look = λ job checks held W live limit H n makes one learnt none. passes_look c.takings_law.ensures.second job checks held W live limit H n makes one learnt none;
   };
   sizes = record {
     look = λ job workers. look_most c.workspace_law.ensures.bound c.workspace_law.ensures.grows job workers;

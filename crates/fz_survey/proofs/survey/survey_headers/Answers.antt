@@ -71,7 +71,7 @@ returns-in_err-found-clause-first_past g c =
     let cause : StoppedTaking (g.S.Source.tally c.loop-hdu.source) (g.S.Source.tally c.look_at.new.source) c.args.meter.now.limit c.in_err-found.field-0.0 =
     subst (λ (n : ℕ). StoppedTaking (g.S.Source.tally c.loop-hdu.source) (g.S.Source.tally c.look_at.new.source) n c.in_err-found.field-0.0) c.loop-hdu.invariant.limit c.in_err-found.ensures.cause.stop in
     subst (λ (r : Result Survey Stop). IfSome held (λ f. TellsFirstPast c.args.meter.now.limit (survey_takings c.args.checks.now c.args.meter.now.live f) r)) (sym stopped)
-    (past_stops b c.loop-hdu.hdu c.loop-hdu.start c.loop-hdu.meter.peak (g.S.Source.ranges c.loop-hdu.source) c.loop-hdu.seen held c.in_err-found.field-0.0 (g.S.Source.tally c.loop-hdu.source) (g.S.Source.tally c.look_at.new.source) c.loop-hdu.invariant.walked few cause says tells)
+    (past_stops b c.loop-hdu.hdu c.loop-hdu.start c.loop-hdu.meter.peak (g.S.Source.ranges c.loop-hdu.source) c.loop-hdu.seen c.takings_law.ensures.first c.takings_law.ensures.second held c.in_err-found.field-0.0 (g.S.Source.tally c.loop-hdu.source) (g.S.Source.tally c.look_at.new.source) c.loop-hdu.invariant.walked few cause says tells)
 
 pub returns-in_err-found-clause-peak : goal.returns-in_err-found-clause-peak
 returns-in_err-found-clause-peak g c =
@@ -160,7 +160,7 @@ returns-then-is_last-clause-first_past g c =
     let fits : IfSome held (λ f. first_past c.args.meter.now.limit (header_taking c.args.meter.now.live (header_blocks_of c.loop-hdu.hdu c.loop-hdu.start f)) ≡ None) =
     moved (λ f limit live. first_past limit (header_taking live (header_blocks_of c.loop-hdu.hdu c.loop-hdu.start f)) ≡ None) held (g.S.Source.held c.loop-hdu.source)
     c.args.meter.now.limit c.loop-hdu.meter.limit c.args.meter.now.live c.loop-hdu.meter.live c.loop-hdu.invariant.held c.loop-hdu.invariant.limit c.loop-hdu.invariant.live c.in_ok-found.ensures.first_past in
-    past_ends b c.loop-hdu.hdu c.loop-hdu.start c.loop-hdu.meter.peak (g.S.Source.ranges c.loop-hdu.source) c.loop-hdu.seen held c.args.length c.in_ok-found.found told c.loop-hdu.invariant.walked few says (sym c.is_last.ensures ∙ c.if-is_last.true) fits
+    past_ends b c.loop-hdu.hdu c.loop-hdu.start c.loop-hdu.meter.peak (g.S.Source.ranges c.loop-hdu.source) c.loop-hdu.seen c.takings_law.ensures.second held c.args.length c.in_ok-found.found told c.loop-hdu.invariant.walked few says (sym c.is_last.ensures ∙ c.if-is_last.true) fits
 
 pub returns-then-is_last-clause-exact_peak : goal.returns-then-is_last-clause-exact_peak
 returns-then-is_last-clause-exact_peak g c =
@@ -215,7 +215,7 @@ loop-hdu-preserved g c =
       stopped = ap (λ (s : Survey). s.stopped) c.with_hdu-seen.ensures ∙ not_stopped c.in_ok-found.found.look.stop c.in_ok-found.found.header (next_start_of c.in_ok-found.found.header) c.args.length on;
       walked = subst (λ (n : ℕ). IfSome held (IsAt b (c.loop-hdu.hdu + 1) n c.look_at.new.meter.peak (g.S.Source.ranges c.look_at.new.source) c.with_hdu-seen.result)) (sym c.next_start-start.ensures)
           (subst (λ (s : Survey). IfSome held (IsAt b (c.loop-hdu.hdu + 1) (next_start_of c.in_ok-found.found.header) c.look_at.new.meter.peak (g.S.Source.ranges c.look_at.new.source) s)) (sym c.with_hdu-seen.ensures)
-          (walk_next b c.loop-hdu.hdu c.loop-hdu.start c.loop-hdu.meter.peak (g.S.Source.ranges c.loop-hdu.source) c.loop-hdu.seen held c.args.length c.in_ok-found.found c.look_at.new.meter.peak (g.S.Source.ranges c.look_at.new.source) told c.loop-hdu.invariant.walked few c.loop-hdu.invariant.stopped says on fits reached logs));
+          (walk_next b c.loop-hdu.hdu c.loop-hdu.start c.loop-hdu.meter.peak (g.S.Source.ranges c.loop-hdu.source) c.loop-hdu.seen c.takings_law.ensures.second held c.args.length c.in_ok-found.found c.look_at.new.meter.peak (g.S.Source.ranges c.look_at.new.source) told c.loop-hdu.invariant.walked few c.loop-hdu.invariant.stopped says on fits reached logs));
     }
 
 pub returns-clause-exact : goal.returns-clause-exact

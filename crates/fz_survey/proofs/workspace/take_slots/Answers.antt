@@ -14,7 +14,7 @@ returns-in_err-fill-clause-takings c =
     let slots : List ℕ = slots_buffers c.args.pixels (2 * c.args.window.now.workers) in
     let stopped : c.from_residual.result ≡ Err c.in_err-fill.field-0.0 = search rules in
     subst (λ (r : Result Bytes Short). Takes (slots ++ 65536 ∷ []) c.args.meter.now c.fill.new.meter r) (sym stopped)
-    (first_refused slots (65536 ∷ []) c.args.meter.now c.fill.new.meter c.in_err-fill.field-0.0 c.in_err-fill.ensures.takings)
+    (first_refused c.takings_law.ensures.first slots (65536 ∷ []) c.args.meter.now c.fill.new.meter c.in_err-fill.field-0.0 c.in_err-fill.ensures.takings)
 
 pub empty-requires : goal.empty-requires
 empty-requires c =
@@ -26,11 +26,11 @@ empty-requires c =
 pub returns-in-Ok-clause-takings : goal.returns-in-Ok-clause-takings
 returns-in-Ok-clause-takings c =
     let slots : List ℕ = slots_buffers c.args.pixels (2 * c.args.window.now.workers) in
-    both_taken slots (65536 ∷ []) c.args.meter.now c.fill.new.meter c.buffer.new.meter _ c.in-Ok.copy c.in-Ok.copy c.in_ok-fill.ensures.takings c.in-Ok.ensures.takings
+    both_taken c.takings_law.ensures.second slots (65536 ∷ []) c.args.meter.now c.fill.new.meter c.buffer.new.meter _ c.in-Ok.copy c.in-Ok.copy c.in_ok-fill.ensures.takings c.in-Ok.ensures.takings
 
 pub returns-in-Err-clause-takings : goal.returns-in-Err-clause-takings
 returns-in-Err-clause-takings c =
     let slots : List ℕ = slots_buffers c.args.pixels (2 * c.args.window.now.workers) in
     let asked = asked_filled c.sizes_law.ensures.asked c.args.pixels c.args.window.now.workers c.fill.new.window c.in_ok-fill.ensures.filled in
-    second_refused slots (65536 ∷ []) c.args.meter.now c.fill.new.meter c.buffer.new.meter c.empty.new.meter _ c.in-Err.short c.in_ok-fill.ensures.takings c.in-Err.ensures.takings
+    second_refused c.takings_law.ensures.second slots (65536 ∷ []) c.args.meter.now c.fill.new.meter c.buffer.new.meter c.empty.new.meter _ c.in-Err.short c.in_ok-fill.ensures.takings c.in-Err.ensures.takings
     (c.empty.ensures.given ∙ ap (handed_back c.buffer.new.meter) asked)

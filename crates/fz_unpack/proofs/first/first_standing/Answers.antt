@@ -1,4 +1,4 @@
--- The primary, or the packed primary behind it.
+-- The primary, or the packed primary after it.
 use Rattle.std.proofs.Common.{◌≡◌, ℕ, true, false, List, length, Option, IfSome, Result, Ok, Err, sym, ◌∙◌, subst, arith, rules}
 use Rattle.fz_base.specs.Source.{HoldsLength, LogsWithin}
 use Rattle.fz_base.specs.declared.failure.Stop.{Stop}

@@ -1,4 +1,4 @@
--- The buffer for the longest header is taken and handed back; and the work stops by it, or by what is printed behind that.
+-- The buffer for the longest header is taken and handed back; and the work stops by it, or by what is printed after that.
 use Rattle.std.proofs.Common.{◌≡◌, ℕ, ◌+◌, max, List, sum, Option, None, IfSome, Result, Err, length, refl, sym, ap, ◌∙◌, subst, arith, rules}
 use Rattle.std.proofs.lemmas.List.{length-replicate}
 use Rattle.fz_base.specs.Meter.{Gauge}

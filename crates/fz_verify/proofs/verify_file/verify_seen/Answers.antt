@@ -1,4 +1,4 @@
--- What is held is what was taken; and the work stops by its buffers, or by what is written behind that.
+-- What is held is what was taken; and the work stops by its buffers, or by what is written after that.
 use Rattle.std.proofs.Common.{◌≡◌, ℕ, Bool, List, [], Option, IfSome, Result, Err, sum, refl, sym, ap, ◌∙◌, subst, arith, rules}
 use Rattle.fz_base.specs.Stop.{stop_of_short}
 use Rattle.fz_base.specs.Takings.{TellsFirstPast, first_past, piled}
