@@ -1,9 +1,8 @@
 -- What passes the limit: the first taking that does, which is within the bound of the job.
-use Rattle.std.proofs.Common.{◌≡◌, ℕ, ◌+◌, ◌<◌, ◌≤◌, nat_lt, Bool, true, false, List, [], ◌∷◌, refl, subst, arith}
-use Rattle.std.proofs.lemmas.Bool.Decides.{nat_tests}
-use Rattle.std.specs.Prelude.{◌⊎◌, Option, Some, None, IfSome, Result, Ok, Err, IsErrOf, if◌then◌else◌}
+use Rattle.std.proofs.Common.{◌≡◌, ℕ, ◌<◌, List}
+use Rattle.std.specs.Prelude.{◌⊎◌, Option, Some, None, IfSome, Result, Ok, Err, IsErrOf}
 use Rattle.fz_base.specs.Stop.{TellsLimit}
-use Rattle.fz_base.specs.Takings.{TellsFirstPast, first_past}
+use Rattle.fz_base.specs.Takings.{PastWithinLaw, TellsFirstPast, first_past}
 use Rattle.fz_base.specs.declared.failure.Stop.{Stop}
 use Rattle.fz_base.specs.declared.failure.Stop.TheVariants.{Refused as StopRefused, ReadFault as StopRead, WriteFault as StopWrite, OverLimit as StopLimit, NoMemory as StopMemory}
 use Rattle.fz_files.specs.Buffers.{AreBounded, IsOfFile, job_bound, job_takings}
@@ -19,55 +18,36 @@ use Rattle.fz_app.specs.declared.status.Status.{Status}
 use Rattle.fz_app.proofs.Answered.{of_promise}
 use Rattle.fz_app.proofs.RunPromises.{asked_fact}
 
-some_is : (a b : ℕ × ℕ) → ◌≡◌ {A = Option (ℕ × ℕ)} (Some a) (Some b) → a ≡ b
-some_is a b e = cc
+within_answer : PastWithinLaw → (limit most bound : ℕ) (ts : List (ℕ × ℕ)) (r : Result (Unit {0}) Stop) → first_past bound ts ≡ None → TellsLimit limit most r → TellsFirstPast limit ts r → TellsLimit limit bound r
+within_answer past_within limit most bound ts (Ok x) none tells past = tt
+within_answer past_within limit most bound ts (Err (StopRefused x)) none tells past = tt
+within_answer past_within limit most bound ts (Err StopRead) none tells past = tt
+within_answer past_within limit most bound ts (Err StopWrite) none tells past = tt
+within_answer past_within limit most bound ts (Err (StopLimit live asked told)) none tells past = (tells.0, tells.1, past_within limit bound ts (live, asked) none past)
+within_answer past_within limit most bound ts (Err StopMemory) none tells past = tt
 
-on_bool : (b : Bool) (one : ℕ × ℕ) (later : Option (ℕ × ℕ)) → (if b then Some one else later) ≡ None → (b ≡ false) × (later ≡ None)
-on_bool true one later none = absurd cc
-on_bool false one later none = (refl, none)
-
-by_test : (bound : ℕ) (b : Bool) (one found : ℕ × ℕ) (later : Option (ℕ × ℕ)) → one.0 + one.1 ≤ bound → (later ≡ Some found → found.0 + found.1 ≤ bound) → (if b then Some one else later) ≡ Some found → found.0 + found.1 ≤ bound
-by_test bound true one found later here rest is = subst (λ (p : ℕ × ℕ). p.0 + p.1 ≤ bound) (some_is one found is) here
-by_test bound false one found later here rest is = rest is
-
--- where no taking passes the bound, none is told that does
-told_within : (limit bound : ℕ) (ts : List (ℕ × ℕ)) (found : ℕ × ℕ) → first_past bound ts ≡ None → first_past limit ts ≡ Some found → found.0 + found.1 ≤ bound
-told_within limit bound [] found none is = absurd cc
-told_within limit bound ((live, asked) ∷ ts) found none is =
-    let parts : (nat_lt bound (live + asked) ≡ false) × (first_past bound ts ≡ None) = on_bool (nat_lt bound (live + asked)) (live, asked) (first_past bound ts) none in
-    let here : live + asked ≤ bound = grind (arith, nat_tests, parts.0) in
-    by_test bound (nat_lt limit (live + asked)) (live, asked) found (first_past limit ts) here (told_within limit bound ts found parts.1) is
-
-within_answer : (limit most bound : ℕ) (ts : List (ℕ × ℕ)) (r : Result (Unit {0}) Stop) → first_past bound ts ≡ None → TellsLimit limit most r → TellsFirstPast limit ts r → TellsLimit limit bound r
-within_answer limit most bound ts (Ok x) none tells past = tt
-within_answer limit most bound ts (Err (StopRefused x)) none tells past = tt
-within_answer limit most bound ts (Err StopRead) none tells past = tt
-within_answer limit most bound ts (Err StopWrite) none tells past = tt
-within_answer limit most bound ts (Err (StopLimit live asked told)) none tells past = (tells.0, tells.1, told_within limit bound ts (live, asked) none past)
-within_answer limit most bound ts (Err StopMemory) none tells past = tt
-
-on_file : AreBounded → (job : Job) (W : ℕ) (held : Option (List ℕ)) (limit most : ℕ) (r : Result (Unit {0}) Stop) → IsOfFile job → TellsLimit limit most r → IfSome held (λ file. TellsFirstPast limit (job_takings job file W) r) →
+on_file : PastWithinLaw → AreBounded → (job : Job) (W : ℕ) (held : Option (List ℕ)) (limit most : ℕ) (r : Result (Unit {0}) Stop) → IsOfFile job → TellsLimit limit most r → IfSome held (λ file. TellsFirstPast limit (job_takings job file W) r) →
     IfSome held (λ file. TellsLimit limit (job_bound job file W) r)
-on_file bounded job W None limit most r of_file tells past = tt
-on_file bounded job W (Some file) limit most r of_file tells past = within_answer limit most (job_bound job file W) (job_takings job file W) r (bounded job file W of_file) tells past
+on_file past_within bounded job W None limit most r of_file tells past = tt
+on_file past_within bounded job W (Some file) limit most r of_file tells past = within_answer past_within limit most (job_bound job file W) (job_takings job file W) r (bounded job file W of_file) tells past
 
 -- `drill` has one bound, and tells it itself
-within_held : AreBounded → (job : Job) (W : ℕ) (held : Option (List ℕ)) (limit : ℕ) (r : Result (Unit {0}) Stop) → TellsLimit limit (most_bound job W) r → IfSome (given job held) (λ file. TellsFirstPast limit (job_takings job file W) r) →
+within_held : PastWithinLaw → AreBounded → (job : Job) (W : ℕ) (held : Option (List ℕ)) (limit : ℕ) (r : Result (Unit {0}) Stop) → TellsLimit limit (most_bound job W) r → IfSome (given job held) (λ file. TellsFirstPast limit (job_takings job file W) r) →
     IfSome (given job held) (λ file. TellsLimit limit (job_bound job file W) r)
-within_held bounded (Pack o) W held limit r tells past = on_file bounded (Pack o) W held limit _ r tt tells past
-within_held bounded Unpack W held limit r tells past = on_file bounded Unpack W held limit _ r tt tells past
-within_held bounded (Cut wanted sieve) W held limit r tells past = on_file bounded (Cut wanted sieve) W held limit _ r tt tells past
-within_held bounded Verify W held limit r tells past = on_file bounded Verify W held limit _ r tt tells past
-within_held bounded ListHdus W held limit r tells past = on_file bounded ListHdus W held limit _ r tt tells past
-within_held bounded (Drill rows) W held limit r tells past = tells
+within_held past_within bounded (Pack o) W held limit r tells past = on_file past_within bounded (Pack o) W held limit _ r tt tells past
+within_held past_within bounded Unpack W held limit r tells past = on_file past_within bounded Unpack W held limit _ r tt tells past
+within_held past_within bounded (Cut wanted sieve) W held limit r tells past = on_file past_within bounded (Cut wanted sieve) W held limit _ r tt tells past
+within_held past_within bounded Verify W held limit r tells past = on_file past_within bounded Verify W held limit _ r tt tells past
+within_held past_within bounded ListHdus W held limit r tells past = on_file past_within bounded ListHdus W held limit _ r tt tells past
+within_held past_within bounded (Drill rows) W held limit r tells past = tells
 
 -- which taking passed the limit
-pub over_limit : AreBounded → (words : List (List ℕ)) (old new : Ends) (status : Status) → IsPromisedTo (job_of words) status (λ (a : Asked). IsPromised a old new) → OverLimitHasCause words old.held old.meter.limit old.ranges new.ranges status
-over_limit bounded words old new status promise = record {
+pub over_limit : PastWithinLaw → AreBounded → (words : List (List ℕ)) (old new : Ends) (status : Status) → IsPromisedTo (job_of words) status (λ (a : Asked). IsPromised a old new) → OverLimitHasCause words old.held old.meter.limit old.ranges new.ranges status
+over_limit past_within bounded words old new status promise = record {
   told = of_promise (job_of words) status (λ (a : Asked). IsPromised a old new) (λ a r. TellsLimit (limit_of a old.meter.limit) (most_bound a.job a.workers) r) (λ a r p. p.told_limit) promise;
   first_past = of_promise (job_of words) status (λ (a : Asked). IsPromised a old new) (λ a r. IfSome (given a.job old.held) (λ file. TellsFirstPast (limit_of a old.meter.limit) (job_takings a.job file a.workers) r)) (λ a r p. p.first_past) promise;
   within = of_promise (job_of words) status (λ (a : Asked). IsPromised a old new) (λ a r. IfSome (given a.job old.held) (λ file. TellsLimit (limit_of a old.meter.limit) (job_bound a.job file a.workers) r))
-      (λ a r p. within_held bounded a.job a.workers old.held (limit_of a old.meter.limit) r p.told_limit p.first_past) promise;
+      (λ a r p. within_held past_within bounded a.job a.workers old.held (limit_of a old.meter.limit) r p.told_limit p.first_past) promise;
   block = of_promise (job_of words) status (λ (a : Asked). IsPromised a old new) (λ a r. limit_of a old.meter.limit < 2880 → IsErrOf r (StopLimit 0 2880 (limit_of a old.meter.limit)) ⊎ (IsErrOf r StopRead ⊎ IsErrOf r StopMemory)) (λ a r p. p.block) promise;
   unread = asked_fact (job_of words) status (λ (a : Asked). IsPromised a old new) (λ a. limit_of a old.meter.limit < 2880 → new.ranges ≡ old.ranges) (λ a r p. p.unread) promise;
 }

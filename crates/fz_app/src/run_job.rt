@@ -31,7 +31,7 @@ ghost use Rattle.fz_app.specs.declared.status.Status.TheVariants.{Usage as IsUsa
 
 use crate::line::line_of;
 use crate::status::{Status, ended, verified};
-use fz_base::{Gate, Meter, Sink, Source, Stop, Text};
+use fz_base::{Gate, Meter, Sink, Source, Stop, Text, takings_law};
 use fz_cut::{cut, slice_law};
 use fz_drill::drill;
 use fz_files::{Job, buffers_law, one_file_law};
@@ -109,6 +109,7 @@ pub fn run<R: Threads + Sync, S: Source, K: Sink, T: Text, G: Gate>(
     round_trip_law();
     // No taking passes the bound.
     buffers_law();
+    takings_law();
     let status = answer_to(rt, alloc, words, source, sink, text, gate, meter);
     // This call tells that the peak is within the limit.
     let _peak = meter.peak();
@@ -196,7 +197,7 @@ fn run_request<R: Threads + Sync, S: Source, K: Sink, T: Text, G: Gate>(
 }
 
 // Packs the file IN into OUT.
-#[tactic(auto, using(crate::proofs::CutAnswers::nothing_read))]
+#[tactic(auto, using(crate::proofs::CutAnswers::nothing_read, crate::proofs::NamesAnswers::stopped_before))]
 fn run_pack<R: Threads + Sync, S: Source, K: Sink, G: Gate>(
     rt: &R,
     alloc: Global,
@@ -239,7 +240,7 @@ fn run_pack<R: Threads + Sync, S: Source, K: Sink, G: Gate>(
 }
 
 // Unpacks the file IN into OUT.
-#[tactic(auto, using(crate::proofs::CutAnswers::nothing_read))]
+#[tactic(auto, using(crate::proofs::CutAnswers::nothing_read, crate::proofs::NamesAnswers::stopped_before))]
 fn run_unpack<R: Threads + Sync, S: Source, K: Sink, G: Gate>(
     rt: &R,
     alloc: Global,
@@ -271,7 +272,7 @@ fn run_unpack<R: Threads + Sync, S: Source, K: Sink, G: Gate>(
 }
 
 // Cuts the picks of a sieve out of the file IN into OUT.
-#[tactic(auto, using(crate::proofs::CutAnswers::nothing_read))]
+#[tactic(auto, using(crate::proofs::CutAnswers::nothing_read, crate::proofs::NamesAnswers::stopped_before))]
 fn run_cut<R: Threads + Sync, S: Source, K: Sink, G: Gate>(
     rt: &R,
     alloc: Global,
@@ -316,7 +317,7 @@ fn run_cut<R: Threads + Sync, S: Source, K: Sink, G: Gate>(
 }
 
 // Verifies the file IN, with one worker. Answers whether no sum is wrong.
-#[tactic(auto, using(crate::proofs::CutAnswers::nothing_read))]
+#[tactic(auto, using(crate::proofs::CutAnswers::nothing_read, crate::proofs::NamesAnswers::stopped_before))]
 fn run_verify<R: Threads + Sync, S: Source, T: Text, G: Gate>(
     rt: &R,
     alloc: Global,
@@ -343,7 +344,7 @@ fn run_verify<R: Threads + Sync, S: Source, T: Text, G: Gate>(
 }
 
 // Lists the HDUs of the file IN.
-#[tactic(auto, using(crate::proofs::CutAnswers::nothing_read))]
+#[tactic(auto, using(crate::proofs::CutAnswers::nothing_read, crate::proofs::NamesAnswers::stopped_before))]
 fn run_list<S: Source, T: Text>(
     request: &Request<'_>,
     source: &mut S,

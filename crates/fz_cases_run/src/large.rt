@@ -1,4 +1,4 @@
-//! Images that are too large to be held: a source that is zeros behind its header.
+//! Images that are too large to be held: a source that is zeros after its header.
 ghost use Rattle.std.specs.Prelude.{ℕ, ◌≡◌, ◌≤◌, ◌^◌, Some, None, if◌then◌else◌};
 ghost use Rattle.std.specs.Option.{ForSome};
 ghost use Rattle.fz_base.specs.Counts.{uncounted};
@@ -13,7 +13,7 @@ use std::process::Abort;
 use std::test::Fail;
 use std::thread::Threads;
 
-/// Bytes, and behind them zeros up to a length. Its calls never fail.
+/// Bytes, and after them zeros up to a length. Its calls never fail.
 #[derive(Drop)]
 struct HollowSource {
     front: Vec<u8>,

@@ -186,7 +186,7 @@ both_of_unpack file packed is sound NoMemory cause = tt
 
 -- ---- bytes
 
--- a number of a list is the same whatever is said to be behind its end
+-- a number of a list is the same whatever is said to be after its end
 pub same_at : (xs : List ℕ) (k d e : ℕ) → k < length xs → slice_index_or xs k d ≡ slice_index_or xs k e
 same_at [] k d e within = absurd omega (arith, within)
 same_at (x ∷ xs) zero d e within = refl

@@ -43,7 +43,7 @@ returns-clause-counts g c =
     (g.T.Text.tally c.report.new.text) c.report.ensures.counts
 
 pub returns-clause-over_limit : goal.returns-clause-over_limit
-returns-clause-over_limit g c = over_limit c.buffers_law.ensures.bounded (texts_of c.args.words.now) _ _ c.answer_to-status.result c.answer_to-status.ensures.promised
+returns-clause-over_limit g c = over_limit c.takings_law.ensures.within c.buffers_law.ensures.bounded (texts_of c.args.words.now) _ _ c.answer_to-status.result c.answer_to-status.ensures.promised
 
 pub returns-clause-first_byte : goal.returns-clause-first_byte
 returns-clause-first_byte g c =
