@@ -14,8 +14,8 @@ use Rattle.fz_head.specs.declared.plan.Plan.{Plan}
 use Rattle.fz_files.specs.Restored.{plan_in}
 use Rattle.fz_strict.specs.FoundOptions.{found_options, images_agree, images_in, is_image_by, is_plan_by, is_same_codec, is_same_flag, sums_in}
 use Rattle.fz_strict.specs.Laws.{StrictImagesAgree}
-use Rattle.fz_strict.proofs.Options.{StrictLaws, is_known, same_for}
-use Rattle.fz_strict.proofs.Tiles.{Among, plan_tile, tile_by}
+use Rattle.fz_strict.proofs.OptionsFound.{StrictLaws, is_known, same_for}
+use Rattle.fz_strict.proofs.TilesFound.{Among, plan_tile, tile_by}
 
 same_number : (n : ℕ) → (n == n) ≡ true
 same_number n = grind (arith, nat_tests)
@@ -58,15 +58,19 @@ image_by q file h from plan sums =
     λ i. made i && has i
 
 -- the images, one for each that was packed, where the options make the plans of those
-images_by : (o q : PackOptions) (file : List ℕ) (images froms : List Header) → map (plan_in file) images ≡ map (pack_plan_of o) froms → AllByRecursion (λ h. sums_in file h ≡ o.sums) images →
-    ((h : Header) → Among h froms → pack_plan_of q h ≡ pack_plan_of o h) → ((h : Header) → Among h froms → q.sums ≡ o.sums) → list_all (is_image_by q file) images ≡ true
+images_by : (o q : PackOptions) (file : List ℕ) (images froms : List Header) → map (plan_in file) images ≡ map (pack_plan_of o) froms →
+    AllByRecursion (λ h. sums_in file h ≡ o.sums) images →
+    ((h : Header) → Among h froms → pack_plan_of q h ≡ pack_plan_of o h) → ((h : Header) → Among h froms → q.sums ≡ o.sums) →
+    list_all (is_image_by q file) images ≡ true
 images_by o q file [] froms plans each same sums = refl
 images_by o q file (h ∷ hs) [] plans each same sums = absurd cc
 images_by o q file (h ∷ hs) (from ∷ froms) plans each same sums =
-    let plan : plan_in file h ≡ pack_plan_of q from = head_same (plan_in file h) (pack_plan_of o from) (map (plan_in file) hs) (map (pack_plan_of o) froms) plans ∙ sym (same from (inl refl)) in
+    let plan : plan_in file h ≡ pack_plan_of q from =
+    head_same (plan_in file h) (pack_plan_of o from) (map (plan_in file) hs) (map (pack_plan_of o) froms) plans ∙ sym (same from (inl refl)) in
     let here : is_image_by q file h ≡ true = image_by q file h from plan (each.0 ∙ sym (sums from (inl refl))) in
     let rest : list_all (is_image_by q file) hs ≡ true =
-    images_by o q file hs froms (tail_same (plan_in file h) (pack_plan_of o from) (map (plan_in file) hs) (map (pack_plan_of o) froms) plans) each.1 (λ g among. same g (inr among)) (λ g among. sums g (inr among)) in
+    images_by o q file hs froms (tail_same (plan_in file h) (pack_plan_of o from) (map (plan_in file) hs) (map (pack_plan_of o) froms) plans) each.1
+    (λ g among. same g (inr among)) (λ g among. sums g (inr among)) in
     λ i. here i && rest i
 
 -- those that were packed can be
@@ -74,7 +78,8 @@ filtered : (h : Header) (hs : List Header) → Among h (filter is_packable hs) �
 filtered h [] among = absurd among
 filtered h (g ∷ gs) among = by_test (is_packable g) refl among (filtered h gs)
   where
-    by_test : (b : Bool) → is_packable g ≡ b → Among h (cond b (g ∷ filter is_packable gs) (filter is_packable gs)) → (Among h (filter is_packable gs) → is_packable h ≡ true) →
+    by_test : (b : Bool) → is_packable g ≡ b → Among h (cond b (g ∷ filter is_packable gs) (filter is_packable gs)) →
+        (Among h (filter is_packable gs) → is_packable h ≡ true) →
         is_packable h ≡ true
     by_test true e (inl is) later = ap is_packable is ∙ e
     by_test true e (inr rest) later = later rest

@@ -1,22 +1,14 @@
 -- The options that the headers of a packed file say are ones that `pack` takes.
-use Rattle.std.proofs.Common.{◌≡◌, ℕ, Bool, true, false, cond, pos, List, [], ◌∷◌, length, map, Option, Some, None, IsOk, if◌then◌else◌, refl, sym, subst, ap, arith}
+use Rattle.std.proofs.Common.{◌≡◌, ℕ, Bool, true, false, cond, pos, List, [], ◌∷◌, length, map, if◌then◌else◌, refl, ap, arith}
 use Rattle.std.specs.List.{AllByRecursion, filter}
 use Rattle.std.specs.Ordering.{int_eq}
-use Rattle.fz_base.specs.Refusal.{first_refusal}
-use Rattle.fz_base.specs.declared.fault.Fault.{Fault}
-use Rattle.fz_block.specs.Checks.{unless_refused}
-use Rattle.fz_block.specs.Facts.{IsHeaderOf}
 use Rattle.fz_block.specs.Hdus.{cards_of}
-use Rattle.fz_block.specs.Walk.{RefusesNone, hdu_of}
 use Rattle.fz_block.specs.declared.header.Header.{Header}
 use Rattle.fz_grid.specs.Laws.{DividedArraysHaveTiles}
 use Rattle.fz_grid.specs.Region.{lengths_of}
 use Rattle.fz_tile.specs.Codecs.{IsBlock, ReadsCodes}
 use Rattle.fz_tile.specs.declared.codec.Codec.{Codec}
 use Rattle.fz_tile.specs.declared.codec.Codec.TheVariants.{Rice, Plio, Plain}
-use Rattle.fz_head.specs.JobChecks.{IsImageOf, image_in, is_after_empty, unpack_checks, unpack_hdu_checks}
-use Rattle.fz_head.specs.Judges.{unpack_judge}
-use Rattle.fz_head.specs.Packable.{is_packed}
 use Rattle.fz_head.specs.PackedPlan.{plan_of_cards, said_tile}
 use Rattle.fz_head.specs.Planned.{AreOptions}
 use Rattle.fz_head.specs.declared.plan.Plan.{Plan}
@@ -25,9 +17,9 @@ use Rattle.fz_files.specs.Walks.{headers_for}
 use Rattle.fz_files.specs.declared.job.Job.TheVariants.{Unpack}
 use Rattle.fz_strict.specs.FoundOptions.{block_of, codec_found, found_options, images_in}
 use Rattle.fz_strict.specs.Laws.{FoundOptionsAreAllowed}
-use Rattle.fz_strict.proofs.Headers.{IsRead, PackedImages, are_read}
+use Rattle.fz_strict.proofs.HeadersRead.{IsRead, PackedImages, are_read}
 use Rattle.fz_strict.proofs.Same.{WalkLaws}
-use Rattle.fz_strict.proofs.Tiles.{HasShortTile, axes_again, divided_short, found_is_tile}
+use Rattle.fz_strict.proofs.TilesFound.{HasShortTile, axes_again, divided_short, found_is_tile}
 
 -- a plan whose tile and block a call takes
 pub record IsUsable (p : Plan) : Type 0 where
@@ -52,7 +44,8 @@ image_usable tiles file h is packed =
       block = read_block (plan_in file h).codec image.readable.codes;
     }
 
-images_usable : DividedArraysHaveTiles → (file : List ℕ) (hs : List Header) → AllByRecursion (IsRead file) hs → AllByRecursion IsUsable (map (plan_in file) (filter (is_image file) hs))
+images_usable : DividedArraysHaveTiles → (file : List ℕ) (hs : List Header) → AllByRecursion (IsRead file) hs →
+    AllByRecursion IsUsable (map (plan_in file) (filter (is_image file) hs))
 images_usable tiles file [] are = tt
 images_usable tiles file (h ∷ hs) are = by_test (is_image file h) refl (images_usable tiles file hs are.1)
   where
@@ -80,7 +73,12 @@ usable_options : (file : List ℕ) → AllByRecursion IsUsable (map (plan_in fil
 unfolding found_options
 usable_options file each =
     let block : IsBlock (block_of (codec_found (map (plan_in file) (images_in file)))) = usable_block (map (plan_in file) (images_in file)) each in
-    record { low = block.0; high = block.1; tile = found_is_tile (map (plan_in file) (images_in file)) (usable_tiles (map (plan_in file) (images_in file)) each) }
+    record {
+      low = block.0;
+      high = block.1;
+      tile = found_is_tile (map (plan_in file) (images_in file))
+          (usable_tiles (map (plan_in file) (images_in file)) each);
+    }
 
 pub found_are_allowed : WalkLaws → DividedArraysHaveTiles → PackedImages → FoundOptionsAreAllowed
 found_are_allowed w tiles images file sound = usable_options file (images_usable tiles file (headers_for Unpack file) (are_read w images file sound))

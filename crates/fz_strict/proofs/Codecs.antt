@@ -9,13 +9,14 @@ use Rattle.fz_head.specs.declared.options.CodecWord.{CodecWord}
 use Rattle.fz_head.specs.declared.options.CodecWord.TheVariants as word
 use Rattle.fz_head.specs.declared.options.PackOptions.{PackOptions}
 use Rattle.fz_strict.specs.FoundOptions.{block_of, codec_found, word_of}
-use Rattle.fz_strict.proofs.Tiles.{Among}
+use Rattle.fz_strict.proofs.TilesFound.{Among}
 
 -- the codec is what the options ask for some pixels
 abbrev pub IsAsked : PackOptions → Codec → Type 0
 IsAsked o c = (bitpix : ℤ) × (c ≡ asked_codec o.codec o.block bitpix)
 
-pub found_codec : (o : PackOptions) (h : Header) (hs : List Header) → Among h hs → int_eq h.bitpix (pos 64) ≡ false → IsAsked o (codec_found (map (pack_plan_of o) hs))
+pub found_codec : (o : PackOptions) (h : Header) (hs : List Header) → Among h hs → int_eq h.bitpix (pos 64) ≡ false →
+    IsAsked o (codec_found (map (pack_plan_of o) hs))
 unfolding pack_plan_of
 found_codec o h [] among narrow = absurd among
 found_codec o h (g ∷ gs) among narrow = by_width (int_eq g.bitpix (pos 64)) refl among (λ rest. found_codec o h gs rest narrow)

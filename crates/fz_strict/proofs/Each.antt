@@ -1,5 +1,5 @@
 -- Every HDU of a strict file is what `pack` makes of what it stands for.
-use Rattle.std.proofs.Common.{◌≡◌, ℕ, suc, ◌+◌, ◌^◌, ◌<◌, ◌≤◌, Bool, true, false, List, [], ◌∷◌, ◌++◌, length, map, take, Option, Some, None, IsOk, Ok, if◌then◌else◌, refl, sym, subst, ◌∙◌, ap, arith, append_assoc, length-append}
+use Rattle.std.proofs.Common.{◌≡◌, ℕ, suc, ◌+◌, ◌^◌, ◌<◌, ◌≤◌, Bool, true, false, List, [], ◌∷◌, ◌++◌, length, map, take, Some, None, IsOk, Ok, if◌then◌else◌, refl, sym, subst, ◌∙◌, ap, arith, append_assoc, length-append}
 use Rattle.std.proofs.Math.Seq.{take-append_seam}
 use Rattle.std.proofs.lemmas.List.{length-map}
 use Rattle.std.specs.List.{AllByRecursion, flat_map}
@@ -18,7 +18,7 @@ use Rattle.fz_head.specs.declared.options.PackOptions.{PackOptions}
 use Rattle.fz_tile.specs.Plain.{AreBytes}
 use Rattle.fz_files.specs.Laws.{TablesAreHdus, TablesStandForImages}
 use Rattle.fz_files.specs.Packed.{before_table, packed_file, packed_from, packed_hdu, packed_image}
-use Rattle.fz_files.specs.Restored.{HduStandsFor, StandsForAs, is_image, is_packed_primary, plan_in, standing}
+use Rattle.fz_files.specs.Restored.{HduStandsFor, StandsForAs, is_packed_primary, plan_in, standing}
 use Rattle.fz_files.specs.Walks.{headers_for}
 use Rattle.fz_files.specs.declared.job.Job.TheVariants.{Unpack}
 use Rattle.fz_round_trip.specs.PackedHdus.{Become, Becomes, BecomesAs}
@@ -28,8 +28,8 @@ use Rattle.fz_strict.specs.Strict.{IsStrictBy}
 use Rattle.fz_strict.proofs.Ends.{passes_ends}
 use Rattle.fz_strict.proofs.Fill.{FillLaws}
 use Rattle.fz_strict.proofs.Images.{table_image, table_plan}
-use Rattle.fz_strict.proofs.Headers.{PackedImages, answer_none, headers_are, is_walked, one_answer}
-use Rattle.fz_strict.proofs.Options.{StrictLaws}
+use Rattle.fz_strict.proofs.HeadersRead.{PackedImages, answer_none, headers_are, is_walked, one_answer}
+use Rattle.fz_strict.proofs.OptionsFound.{StrictLaws}
 use Rattle.fz_strict.proofs.Same.{is_found}
 
 -- all laws
@@ -43,7 +43,8 @@ pub record EachLaws : Type 0 where
       (most : ℕ) (file : List ℕ) (hs : List Hdu) → flat_map hdu_bytes hs ≡ file → 0 < length hs → length hs ≤ most → PassFrom 0 0 (length file) hs →
       (headers_of most file ≡ Ok (facts_from 0 0 hs)) × (map (hdu_of file) (facts_from 0 0 hs) ≡ hs)
   pub parts : (start len : ℕ) (hs : List Hdu) → PassFrom 0 start len hs → AreHdusOf (flat_map hdu_bytes hs) hs
-  pub moved : (k start len start' len' : ℕ) (h : Hdu) → PassesAt k start len h → start' + length (hdu_bytes h) ≤ len' → start' + length (hdu_bytes h) ≤ 2 ^ 62 → PassesAt k start' len' h
+  pub moved : (k start len start' len' : ℕ) (h : Hdu) → PassesAt k start len h → start' + length (hdu_bytes h) ≤ len' →
+      start' + length (hdu_bytes h) ≤ 2 ^ 62 → PassesAt k start' len' h
 
 -- ---- lists
 
@@ -62,7 +63,8 @@ cut_behind xs ys zs e =
     sym (take-append_seam xs zs) ∙ (λ i. take (same i) (e i)) ∙ take-append_seam ys zs
 
 -- the HDUs that stand for something, and what is in front of them
-pub split_front : (file : List ℕ) (hs : List Header) → flat_map hdu_bytes (map (hdu_of file) hs) ≡ front_of file hs ++ flat_map hdu_bytes (map (hdu_of file) (standing file hs))
+pub split_front : (file : List ℕ) (hs : List Header) →
+    flat_map hdu_bytes (map (hdu_of file) hs) ≡ front_of file hs ++ flat_map hdu_bytes (map (hdu_of file) (standing file hs))
 split_front file [] = refl
 split_front file (h ∷ []) = refl
 split_front file (h ∷ k ∷ hs) = by_test (is_packed_primary file k)
@@ -96,9 +98,11 @@ module _ (laws : EachLaws) (o : PackOptions) (source file : List ℕ) where
       from = facts_of k start d.header
 
       by_test : (packable : Bool) → BecomesAs packable o source from file h →
-          (if packable then before_table k ++ packed_image o.sums (pack_plan_of o from) d else hdu_bytes d) ≡ (if packable then before_table k ++ hdu_bytes (hdu_of file h) else hdu_bytes (hdu_of file h))
+          (if packable then before_table k ++ packed_image o.sums (pack_plan_of o from) d else hdu_bytes d)
+          ≡ (if packable then before_table k ++ hdu_bytes (hdu_of file h) else hdu_bytes (hdu_of file h))
       by_test true t =
-          ap (λ d. before_table k ++ packed_image o.sums (pack_plan_of o from) d) (sym is.here) ∙ ap (λ l. before_table k ++ l) (laws.tables o source from ∙ ap hdu_bytes (sym t.table))
+          ap (λ d. before_table k ++ packed_image o.sums (pack_plan_of o from) d) (sym is.here)
+          ∙ ap (λ l. before_table k ++ l) (laws.tables o source from ∙ ap hdu_bytes (sym t.table))
       by_test false c = ap hdu_bytes (sym is.here ∙ sym c.same)
 
   -- what `pack` answers for it
@@ -115,10 +119,12 @@ module _ (laws : EachLaws) (o : PackOptions) (source file : List ℕ) where
       from = facts_of k start d.header
 
       by_test : (packable : Bool) → BecomesAs packable o source from file h → (if packable then Some (pack_plan_of o from) else None) ≡ plan_again file h
-      by_test true t = λ i. if sym (table_image laws.strict.tables o source from file h t) i then Some (sym (table_plan laws.strict.tables o source from file h t) i) else None
+      by_test true t = λ i. if sym (table_image laws.strict.tables o source from file h t) i then Some
+          (sym (table_plan laws.strict.tables o source from file h t) i) else None
       by_test false c = ap (λ b. if b then Some (plan_in file h) else None) (sym c.plain)
 
-  part_same : (front : List ℕ) (k start : ℕ) (d : Hdu) (h : Header) → IsPart k start d h → packed_hdu o k d ≡ front ++ hdu_bytes (hdu_of file h) → IsSame o file front k start h d
+  part_same : (front : List ℕ) (k start : ℕ) (d : Hdu) (h : Header) → IsPart k start d h → packed_hdu o k d ≡ front ++ hdu_bytes (hdu_of file h) →
+      IsSame o file front k start h d
   part_same front k start d h is packed =
       let from : Header = facts_of k start d.header in
       let ends : start + length (hdu_bytes d) ≤ 2 ^ 62 = passes_ends k start (length source) d is.passes in
@@ -146,7 +152,8 @@ module _ (laws : EachLaws) (o : PackOptions) (source file : List ℕ) where
   first_part : (k start : ℕ) (d : Hdu) (ds : List Hdu) (h : Header) (hs : List Header) → AreParts k start (d ∷ ds) (h ∷ hs) → IsPart k start d h
   first_part k start d ds h hs is =
       let from : Header = facts_of k start d.header in
-      let here : hdu_of source from ≡ d = head_same (hdu_of source from) d (map (hdu_of source) (facts_from (suc k) (start + length (hdu_bytes d)) ds)) ds is.here in
+      let here : hdu_of source from ≡ d =
+      head_same (hdu_of source from) d (map (hdu_of source) (facts_from (suc k) (start + length (hdu_bytes d)) ds)) ds is.here in
       record {
         passes = is.passes.0;
         taken = is.taken.0;
@@ -155,7 +162,8 @@ module _ (laws : EachLaws) (o : PackOptions) (source file : List ℕ) where
         becomes = is.become.0;
       }
 
-  later_parts : (k start : ℕ) (d : Hdu) (ds : List Hdu) (h : Header) (hs : List Header) → AreParts k start (d ∷ ds) (h ∷ hs) → AreParts (suc k) (start + length (hdu_bytes d)) ds hs
+  later_parts : (k start : ℕ) (d : Hdu) (ds : List Hdu) (h : Header) (hs : List Header) → AreParts k start (d ∷ ds) (h ∷ hs) →
+      AreParts (suc k) (start + length (hdu_bytes d)) ds hs
   later_parts k start d ds h hs is = record {
     passes = is.passes.1;
     taken = is.taken.1;
@@ -176,19 +184,25 @@ module _ (laws : EachLaws) (o : PackOptions) (source file : List ℕ) where
   later_same k start [] (h ∷ hs) is = absurd is.become
   later_same k start (d ∷ ds) [] is = absurd is.become
   later_same k start (d ∷ ds) (h ∷ hs) is =
-      let part = first_part (suc k) start d ds h hs is in
-      (part_same [] (suc k) start d h part (later_packed k start d h part), later_same (suc k) (start + length (hdu_bytes d)) ds hs (later_parts (suc k) start d ds h hs is))
+      let part = first_part (suc k) start d ds h hs is in (
+        part_same [] (suc k) start d h part (later_packed k start d h part),
+        later_same (suc k) (start + length (hdu_bytes d)) ds hs
+            (later_parts (suc k) start d ds h hs is),
+      )
 
-  later_bytes : (k start : ℕ) (ds : List Hdu) (hs : List Header) → AreParts (suc k) start ds hs → packed_from o (suc k) ds ≡ flat_map hdu_bytes (map (hdu_of file) hs)
+  later_bytes : (k start : ℕ) (ds : List Hdu) (hs : List Header) → AreParts (suc k) start ds hs →
+      packed_from o (suc k) ds ≡ flat_map hdu_bytes (map (hdu_of file) hs)
   unfolding packed_from
   later_bytes k start [] [] is = refl
   later_bytes k start [] (h ∷ hs) is = absurd is.become
   later_bytes k start (d ∷ ds) [] is = absurd is.become
   later_bytes k start (d ∷ ds) (h ∷ hs) is =
-      λ i. later_packed k start d h (first_part (suc k) start d ds h hs is) i ++ later_bytes (suc k) (start + length (hdu_bytes d)) ds hs (later_parts (suc k) start d ds h hs is) i
+      λ i. later_packed k start d h (first_part (suc k) start d ds h hs is) i ++ later_bytes (suc k) (start + length (hdu_bytes d)) ds hs
+      (later_parts (suc k) start d ds h hs is) i
 
   -- the first has something in front of it, where the file is that and they are the packed file
-  all_same : (front : List ℕ) (ds : List Hdu) (hs : List Header) → AreParts 0 0 ds hs → packed_from o 0 ds ≡ front ++ flat_map hdu_bytes (map (hdu_of file) hs) → AreSame o file front 0 0 hs ds
+  all_same : (front : List ℕ) (ds : List Hdu) (hs : List Header) → AreParts 0 0 ds hs →
+      packed_from o 0 ds ≡ front ++ flat_map hdu_bytes (map (hdu_of file) hs) → AreSame o file front 0 0 hs ds
   unfolding packed_from
   all_same front [] [] is packed = tt
   all_same front [] (h ∷ hs) is packed = absurd is.become
@@ -197,8 +211,12 @@ module _ (laws : EachLaws) (o : PackOptions) (source file : List ℕ) where
       let later = later_parts 0 0 d ds h hs is in
       let rest : List ℕ = flat_map hdu_bytes (map (hdu_of file) hs) in
       let both : packed_hdu o 0 d ++ rest ≡ (front ++ hdu_bytes (hdu_of file h)) ++ rest =
-      ap (λ l. packed_hdu o 0 d ++ l) (sym (later_bytes 0 (0 + length (hdu_bytes d)) ds hs later)) ∙ packed ∙ sym (append_assoc front (hdu_bytes (hdu_of file h)) rest) in
-      (part_same front 0 0 d h (first_part 0 0 d ds h hs is) (cut_behind (packed_hdu o 0 d) (front ++ hdu_bytes (hdu_of file h)) rest both), later_same 0 (0 + length (hdu_bytes d)) ds hs later)
+      ap (λ l. packed_hdu o 0 d ++ l) (sym (later_bytes 0 (0 + length (hdu_bytes d)) ds hs later)) ∙ packed
+      ∙ sym (append_assoc front (hdu_bytes (hdu_of file h)) rest) in (
+        part_same front 0 0 d h (first_part 0 0 d ds h hs is) (cut_behind (packed_hdu o 0 d) (front ++ hdu_bytes (hdu_of file h)) rest both),
+        later_same 0
+            (0 + length (hdu_bytes d)) ds hs later,
+      )
 
 -- ---- the file
 

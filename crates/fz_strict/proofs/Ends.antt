@@ -16,7 +16,7 @@ behind_none [] ys none = none
 behind_none ((true, fault) ∷ xs) ys none = absurd cc
 behind_none ((false, fault) ∷ xs) ys none = behind_none xs ys none
 
-first_false : (test : Bool) (fault : Fault) (more : List (Bool × Fault)) → first_refusal ((test, fault) ∷ more) ≡ None → test ≡ false
+pub first_false : (test : Bool) (fault : Fault) (more : List (Bool × Fault)) → first_refusal ((test, fault) ∷ more) ≡ None → test ≡ false
 first_false true fault more e = absurd cc
 first_false false fault more e = refl
 
@@ -28,13 +28,16 @@ within : (end : ℕ) → nat_lt (2 ^ 62) end ≡ false → end ≤ 2 ^ 62
 within end e = grind (arith, nat_tests, e)
 
 -- an HDU that passes the checks of every job ends there at most
-header_ends : (k start len : ℕ) (header : List ℕ) → IsOk (header_of k start len header) → hdu_end k start header ≤ 2 ^ 62
+pub header_ends : (k start len : ℕ) (header : List ℕ) → IsOk (header_of k start len header) → hdu_end k start header ≤ 2 ^ 62
 unfolding header_of
 header_ends k start len header ok =
-    let none : first_refusal (header_checks k start len header) ≡ None = answer_none (facts_of k start header) (first_refusal (header_checks k start len header)) ok in
+    let none : first_refusal (header_checks k start len header) ≡ None =
+    answer_none (facts_of k start header) (first_refusal (header_checks k start len header)) ok in
     let ends : List (Bool × Fault) = end_checks k len (hdu_end k start header) in
     let mine : first_refusal ends ≡ None =
-    behind_none (group_checks k header) ends (behind_none (mandatory_checks k header) (group_checks k header ++ ends) (behind_none ((_, _) ∷ []) (mandatory_checks k header ++ (group_checks k header ++ ends)) none)) in
+    behind_none (group_checks k header) ends
+    (behind_none (mandatory_checks k header) (group_checks k header ++ ends)
+    (behind_none ((_, _) ∷ []) (mandatory_checks k header ++ (group_checks k header ++ ends)) none)) in
     within (hdu_end k start header) (first_false (nat_lt (2 ^ 62) (hdu_end k start header)) _ _ mine)
 
 pub passes_ends : (k start len : ℕ) (d : Hdu) → PassesAt k start len d → start + length (hdu_bytes d) ≤ 2 ^ 62
@@ -52,5 +55,6 @@ pass_ends k start len (d ∷ []) some pass =
     omega (arith, here, same)
 pass_ends k start len (d ∷ e ∷ ds) some pass =
     let rest = pass_ends (suc k) (start + length (hdu_bytes d)) len (e ∷ ds) (omega arith) pass.1 in
-    let both : length (flat_map hdu_bytes (d ∷ e ∷ ds)) ≡ length (hdu_bytes d) + length (flat_map hdu_bytes (e ∷ ds)) = length-append (hdu_bytes d) (flat_map hdu_bytes (e ∷ ds)) in
+    let both : length (flat_map hdu_bytes (d ∷ e ∷ ds)) ≡ length (hdu_bytes d) + length (flat_map hdu_bytes (e ∷ ds)) =
+    length-append (hdu_bytes d) (flat_map hdu_bytes (e ∷ ds)) in
     omega (arith, rest, both)

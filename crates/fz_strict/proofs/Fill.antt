@@ -1,20 +1,21 @@
 -- The fill behind the data of an image that comes back is zeros.
-use Rattle.std.specs.Prelude.{All, unsigned_abs, unwrap_or}
-use Rattle.std.proofs.Common.{◌≡◌, ℕ, zero, suc, ◌+◌, ◌-◌, ◌*◌, ◌/◌, ◌<◌, ◌≤◌, ◌==◌, ◌&&◌, ◌||◌, not, nat_le, nat_lt, Bool, true, false, cond, ℤ, pos, negsuc, List, [], ◌∷◌, ◌++◌, length, take, drop, replicate, Option, Some, None, is_some, position, if◌then◌else◌, refl, sym, subst, ◌∙◌, ap, arith, length-append}
+use Rattle.std.specs.Prelude.{unsigned_abs, unwrap_or}
+use Rattle.std.proofs.Common.{◌≡◌, ℕ, zero, suc, ◌+◌, ◌-◌, ◌*◌, ◌/◌, ◌≤◌, ◌==◌, ◌&&◌, not, nat_le, nat_lt, Bool, true, false, cond, ℤ, pos, negsuc, List, [], ◌∷◌, length, take, drop, replicate, Option, Some, None, is_some, position, if◌then◌else◌, refl, sym, subst, ◌∙◌, ap, arith}
 use Rattle.std.proofs.lemmas.Bool.Decides.{nat_tests}
 use Rattle.std.proofs.lemmas.List.{drop-drop, drop-take, drop_at}
 use Rattle.std.proofs.lemmas.List.FromFn.{length-map-range_with_len}
-use Rattle.std.specs.List.{list_any, prefix_len}
+use Rattle.std.specs.List.{prefix_len}
 use Rattle.fz_base.specs.Refusal.{first_refusal}
 use Rattle.fz_card.specs.Reading.{integer_of}
 use Rattle.fz_block.specs.Cards.{card_at}
-use Rattle.fz_block.specs.Facts.{IsHeaderOf, facts_of, nine_axes}
-use Rattle.fz_block.specs.Hdus.{HasBlankFill, Hdu, IsCardBeforeEnd, IsHeader, axes_of, cards_of, data_len_of, gcount_of, hdu_bytes, header_bytes, naxis_of, pcount_of, places, size_at, size_in}
+use Rattle.fz_block.specs.Facts.{facts_of, nine_axes}
+use Rattle.fz_block.specs.Hdus.{Hdu, IsHeader, axes_of, cards_of, data_len_of, gcount_of, hdu_bytes, header_bytes, naxis_of, pcount_of, places, size_at, size_in}
 use Rattle.fz_block.specs.Header.{data_start_of, next_start_of, whole_blocks_of}
 use Rattle.fz_block.specs.Walk.{hdu_of}
 use Rattle.fz_block.specs.declared.header.Header.{Header}
 use Rattle.fz_grid.specs.Arrays.{NumberArray, product}
 use Rattle.fz_grid.specs.Region.{lengths_of}
+use Rattle.fz_tile.specs.Codecs.{CanRead}
 use Rattle.fz_tile.specs.Laws.{HasPlainLen}
 use Rattle.fz_tile.specs.Plain.{plain_bytes}
 use Rattle.fz_head.specs.JobChecks.{data_end_of, data_fill, fill_in}
@@ -25,10 +26,10 @@ use Rattle.fz_head.specs.declared.options.PackOptions.{PackOptions}
 use Rattle.fz_head.specs.declared.plan.Plan.{Plan}
 use Rattle.fz_files.specs.Packed.{pixel_bits, zero_filled}
 use Rattle.fz_files.specs.Restored.{HduStandsFor, IsImageOf, StandsForAs, header_in, is_image, plan_in}
-use Rattle.fz_strict.proofs.Headers.{IsRead}
+use Rattle.fz_strict.proofs.HeadersRead.{IsRead}
 use Rattle.fz_strict.proofs.OneHdu.{HeaderLaws, bits_are, restored_header}
 use Rattle.fz_strict.proofs.Split.{one_split}
-use Rattle.fz_strict.proofs.Tiles.{axes_again, both_true}
+use Rattle.fz_strict.proofs.TilesFound.{axes_again, both_true}
 
 -- what is taken of the laws of cards and pixels
 pub record FillLaws : Type 0 where
@@ -63,13 +64,15 @@ plain_image h is =
     record { axes = grind (arith, nat_tests, some); pcount = grind (arith, nat_tests, counts.0); gcount = grind (arith, nat_tests, counts.1) }
 
 facts_len : (k start : ℕ) (header : List ℕ) → 1 ≤ (facts_of k start header).axes.n →
-    data_len_of k header ≡ unsigned_abs (facts_of k start header).bitpix / 8 * (gcount_of k header * (pcount_of k header + product (lengths_of (facts_of k start header).axes)))
+    data_len_of k header ≡ unsigned_abs
+    (facts_of k start header).bitpix / 8 * (gcount_of k header * (pcount_of k header + product (lengths_of (facts_of k start header).axes)))
 facts_len k start header axes =
     let count : length (axes_of header) ≡ naxis_of header = length-map-range_with_len (size_at header) 3 (naxis_of header) in
     let has : 1 ≤ length (axes_of header) = axes in
     let some : (naxis_of header == 0) ≡ false = grind (arith, nat_tests, count, has) in
     let size : size_at header 1 ≡ unsigned_abs (facts_of k start header).bitpix = abs_is (integer_of (card_at header 1)) in
-    let all : places (axes_of header) ≡ product (lengths_of (nine_axes (axes_of header))) = places_are (axes_of header) ∙ ap product (sym (axes_again (axes_of header))) in
+    let all : places (axes_of header) ≡ product (lengths_of (nine_axes (axes_of header))) =
+    places_are (axes_of header) ∙ ap product (sym (axes_again (axes_of header))) in
     ap (λ b. if b then 0 else size_at header 1 / 8 * (gcount_of k header * (pcount_of k header + places (axes_of header)))) some
     ∙ (λ i. size i / 8 * (gcount_of k header * (pcount_of k header + all i)))
 
@@ -80,7 +83,8 @@ image_len k start header packable =
     let pcount : pcount_of k header ≡ 0 = image.pcount in
     let gcount : gcount_of k header ≡ 1 = image.gcount in
     let f : Header = facts_of k start header in
-    facts_len k start header image.axes ∙ ((λ i. unsigned_abs f.bitpix / 8 * (gcount i * (pcount i + product (lengths_of f.axes)))) ∙ one (unsigned_abs f.bitpix / 8) (product (lengths_of f.axes)))
+    facts_len k start header image.axes
+    ∙ ((λ i. unsigned_abs f.bitpix / 8 * (gcount i * (pcount i + product (lengths_of f.axes)))) ∙ one (unsigned_abs f.bitpix / 8) (product (lengths_of f.axes)))
   where
     one : (b m : ℕ) → b * (1 * (0 + m)) ≡ b * m
     one b m = grind arith
@@ -88,13 +92,14 @@ image_len k start header packable =
 -- ---- the data of an image that a packed one stands for
 
 -- the pixels of its data
-record HasPixels (file : List ℕ) (h : Header) (d : Hdu) : Type 0 where
+pub record HasPixels (file : List ℕ) (h : Header) (d : Hdu) : Type 0 where
   pub array : NumberArray
   pub lengths : array.lengths ≡ lengths_of (plan_in file h).shape
   pub whole : length array.numbers ≡ product array.lengths
   pub payload : d.payload ≡ zero_filled (plain_bytes (pixel_bits (plan_in file h)) array.numbers)
 
-has_pixels : FillLaws → (file : List ℕ) (h : Header) (d : Hdu) → IsRead file h → is_image file h ≡ true → HduStandsFor file h (hdu_bytes d) → IsHeader d.header → HasPixels file h d
+has_pixels : FillLaws → (file : List ℕ) (h : Header) (d : Hdu) → IsRead file h → is_image file h ≡ true → HduStandsFor file h (hdu_bytes d) →
+    IsHeader d.header → HasPixels file h d
 has_pixels laws file h d is packed stands header =
     let image : IsImageOf file h (hdu_bytes d) = subst (λ b. StandsForAs b file h (hdu_bytes d)) packed stands in
     let cards : List (List ℕ) = cards_of (header_in file h) in
@@ -116,15 +121,17 @@ unfolding pack_plan_of
 plan_bitpix o f = refl
 
 -- they are as long as the header says, where it asks for the plan of the packed image
-pixels_len : FillLaws → (o : PackOptions) (file : List ℕ) (h : Header) (k start : ℕ) (d : Hdu) → IsRead file h → is_image file h ≡ true → is_packable (facts_of k start d.header) ≡ true →
-    pack_plan_of o (facts_of k start d.header) ≡ plan_in file h → (has : HasPixels file h d) → length (plain_bytes (pixel_bits (plan_in file h)) has.array.numbers) ≡ data_len_of k d.header
-pixels_len laws o file h k start d is packed packable plan has =
+pub pixels_len : HasPlainLen → (o : PackOptions) (file : List ℕ) (h : Header) (k start : ℕ) (d : Hdu) → CanRead (plan_in file h).codec (plan_in file h).bitpix →
+    is_packable (facts_of k start d.header) ≡ true →
+    pack_plan_of o (facts_of k start d.header) ≡ plan_in file h → (has : HasPixels file h d) →
+    length (plain_bytes (pixel_bits (plan_in file h)) has.array.numbers) ≡ data_len_of k d.header
+pixels_len law o file h k start d can packable plan has =
     let f : Header = facts_of k start d.header in
     let p : Plan = plan_in file h in
     let shape : p.shape ≡ f.axes = ap (λ (q : Plan). q.shape) (sym plan) ∙ plan_shape o f in
     let bitpix : p.bitpix ≡ f.bitpix = ap (λ (q : Plan). q.bitpix) (sym plan) ∙ plan_bitpix o f in
     let count : length has.array.numbers ≡ product (lengths_of f.axes) = has.whole ∙ (ap product has.lengths ∙ ap (λ a. product (lengths_of a)) shape) in
-    laws.len (pixel_bits p) has.array.numbers (bits_are p.codec p.bitpix (is.image packed).readable).size
+    law (pixel_bits p) has.array.numbers (bits_are p.codec p.bitpix can).size
     ∙ ((λ i. unsigned_abs (bitpix i) / 8 * count i) ∙ sym (image_len k start d.header packable))
 
 -- ---- the fill
@@ -165,14 +172,16 @@ unfolding zeros
 fill_none f fill n is = ap (λ b. first_refusal ((b, (data_fill f fill).1) ∷ [])) (ap (λ l. is_some (position (λ b. not (b == 0)) l)) is ∙ no_other n)
 
 -- no check refuses it
-pub image_fill : FillLaws → (o : PackOptions) (file source : List ℕ) (h : Header) (k start : ℕ) (d : Hdu) → IsRead file h → is_image file h ≡ true → HduStandsFor file h (hdu_bytes d) → IsHeader d.header →
-    is_packable (facts_of k start d.header) ≡ true → pack_plan_of o (facts_of k start d.header) ≡ plan_in file h → hdu_of source (facts_of k start d.header) ≡ d →
+pub image_fill : FillLaws → (o : PackOptions) (file source : List ℕ) (h : Header) (k start : ℕ) (d : Hdu) → IsRead file h → is_image file h ≡ true →
+    HduStandsFor file h (hdu_bytes d) → IsHeader d.header →
+    is_packable (facts_of k start d.header) ≡ true → pack_plan_of o (facts_of k start d.header) ≡ plan_in file h →
+    hdu_of source (facts_of k start d.header) ≡ d →
     first_refusal (data_fill (facts_of k start d.header) (fill_in source (facts_of k start d.header)) ∷ []) ≡ None
 image_fill laws o file source h k start d is packed stands header packable plan here =
     let f : Header = facts_of k start d.header in
     let has : HasPixels file h d = has_pixels laws file h d is packed stands header in
     let xs : List ℕ = plain_bytes (pixel_bits (plan_in file h)) has.array.numbers in
-    let len : length xs ≡ data_len_of k d.header = pixels_len laws o file h k start d is packed packable plan has in
+    let len : length xs ≡ data_len_of k d.header = pixels_len laws.len o file h k start d (is.image packed).readable packable plan has in
     let fill : fill_in source f ≡ replicate (whole_blocks_of (length xs) - length xs) 0 =
     fill_is source f ∙ (ap (λ (x : Hdu). drop f.data_len x.payload) here ∙ zeros_behind xs d.payload f.data_len has.payload len) in
     fill_none f (fill_in source f) (whole_blocks_of (length xs) - length xs) fill

@@ -21,7 +21,7 @@ use Rattle.fz_files.specs.Laws.{IsTableOf, TablesAreAccepted, table_hdu, totals_
 use Rattle.fz_files.specs.Restored.{header_in, is_image, is_packed_primary, plan_in, standing}
 use Rattle.fz_round_trip.specs.PackedHdus.{Become, BecomesAs, TablesHaveSums}
 use Rattle.fz_strict.specs.FoundOptions.{has_sums, sums_found, sums_in}
-use Rattle.fz_strict.proofs.Tiles.{Among}
+use Rattle.fz_strict.proofs.TilesFound.{Among}
 
 -- ---- one table
 
@@ -38,13 +38,15 @@ is_accepted laws o source from file h is = by_number h.hdu refl is.behind
     by_number zero number behind = absurd omega (arith, behind)
     by_number (suc k) number behind =
         let facts : h ≡ facts_of (suc k) h.start (header_in file h) = is.facts ∙ ap (λ n. facts_of n h.start (header_in file h)) number in
-        let made : IsAccepted (pack_plan_of o from) (totals_from o source from) (table_hdu o source from).header (facts_of (suc k) h.start (table_hdu o source from).header) =
+        let made : IsAccepted (pack_plan_of o from) (totals_from o source from) (table_hdu o source from).header
+        (facts_of (suc k) h.start (table_hdu o source from).header) =
         laws.accepted o source from k h.start is.taken in
         let here : IsAccepted (pack_plan_of o from) (totals_from o source from) (header_in file h) (facts_of (suc k) h.start (header_in file h)) =
         subst (λ d. IsAccepted (pack_plan_of o from) (totals_from o source from) d (facts_of (suc k) h.start d)) (ap (λ d. d.header) (sym is.table)) made in
         subst (IsAccepted (pack_plan_of o from) (totals_from o source from) (header_in file h)) (sym facts) here
 
-pub table_image : TableLaws → (o : PackOptions) (source : List ℕ) (from : Header) (file : List ℕ) (h : Header) → IsTableOf o source from file h → is_image file h ≡ true
+pub table_image : TableLaws → (o : PackOptions) (source : List ℕ) (from : Header) (file : List ℕ) (h : Header) → IsTableOf o source from file h →
+    is_image file h ≡ true
 table_image laws o source from file h is = (is_accepted laws o source from file h is).packed
 
 answered : {A : Type 0} (answer found : A) (refused : Option Fault) → unless_refused answer refused ≡ Ok found → answer ≡ found
@@ -55,14 +57,17 @@ plan_answered : (k : ℕ) (header : List ℕ) (p : Plan) → plan_answer k heade
 unfolding plan_answer
 plan_answered k header p e = answered (plan_of_cards (cards_of header)) p (first_refusal (packed_checks k header true)) e
 
-pub table_plan : TableLaws → (o : PackOptions) (source : List ℕ) (from : Header) (file : List ℕ) (h : Header) → IsTableOf o source from file h → plan_in file h ≡ pack_plan_of o from
-table_plan laws o source from file h is = plan_answered h.hdu (header_in file h) (pack_plan_of o from) ((is_accepted laws o source from file h is).plan true (λ primary. refl))
+pub table_plan : TableLaws → (o : PackOptions) (source : List ℕ) (from : Header) (file : List ℕ) (h : Header) → IsTableOf o source from file h →
+    plan_in file h ≡ pack_plan_of o from
+table_plan laws o source from file h is =
+    plan_answered h.hdu (header_in file h) (pack_plan_of o from) ((is_accepted laws o source from file h is).plan true (λ primary. refl))
 
 both_same : (b : Bool) → (b && b) ≡ b
 both_same true = refl
 both_same false = refl
 
-table_sums : TableLaws → (o : PackOptions) (source : List ℕ) (from : Header) (file : List ℕ) (h : Header) → IsTableOf o source from file h → sums_in file h ≡ o.sums
+table_sums : TableLaws → (o : PackOptions) (source : List ℕ) (from : Header) (file : List ℕ) (h : Header) → IsTableOf o source from file h →
+    sums_in file h ≡ o.sums
 table_sums laws o source from file h is =
     let has = laws.sums o source from is.taken in
     ap (λ d. has_sums (cards_of d.header)) is.table ∙ ((λ i. has.datasum i && has.checksum i) ∙ both_same o.sums)
@@ -70,13 +75,15 @@ table_sums laws o source from file h is =
 -- ---- all tables
 
 module _ (laws : TableLaws) (o : PackOptions) (source file : List ℕ) where
-  pub plans : (froms hs : List Header) → Become o source froms file hs → map (plan_in file) (filter (is_image file) hs) ≡ map (pack_plan_of o) (filter is_packable froms)
+  pub plans : (froms hs : List Header) → Become o source froms file hs →
+      map (plan_in file) (filter (is_image file) hs) ≡ map (pack_plan_of o) (filter is_packable froms)
   plans [] [] become = refl
   plans [] (h ∷ hs) become = absurd become
   plans (from ∷ froms) [] become = absurd become
   plans (from ∷ froms) (h ∷ hs) become = by_test (is_packable from) become.0 (plans froms hs become.1)
     where
-      by_test : (packable : Bool) → BecomesAs packable o source from file h → map (plan_in file) (filter (is_image file) hs) ≡ map (pack_plan_of o) (filter is_packable froms) →
+      by_test : (packable : Bool) → BecomesAs packable o source from file h →
+          map (plan_in file) (filter (is_image file) hs) ≡ map (pack_plan_of o) (filter is_packable froms) →
           map (plan_in file) (cond (is_image file h) (h ∷ filter (is_image file) hs) (filter (is_image file) hs))
           ≡ map (pack_plan_of o) (cond packable (from ∷ filter is_packable froms) (filter is_packable froms))
       by_test true is rest =
@@ -93,7 +100,8 @@ module _ (laws : TableLaws) (o : PackOptions) (source file : List ℕ) where
       by_test : (packable : Bool) → BecomesAs packable o source from file h → AllByRecursion (λ h. sums_in file h ≡ o.sums) (filter (is_image file) hs) →
           AllByRecursion (λ h. sums_in file h ≡ o.sums) (cond (is_image file h) (h ∷ filter (is_image file) hs) (filter (is_image file) hs))
       by_test true is rest =
-          subst (λ b. AllByRecursion (λ h. sums_in file h ≡ o.sums) (cond b (h ∷ filter (is_image file) hs) (filter (is_image file) hs))) (sym (table_image laws o source from file h is))
+          subst (λ b. AllByRecursion (λ h. sums_in file h ≡ o.sums) (cond b (h ∷ filter (is_image file) hs) (filter (is_image file) hs)))
+          (sym (table_image laws o source from file h is))
           (table_sums laws o source from file h is, rest)
       by_test false is rest =
           subst (λ b. AllByRecursion (λ h. sums_in file h ≡ o.sums) (cond b (h ∷ filter (is_image file) hs) (filter (is_image file) hs))) (sym is.plain) rest
@@ -104,7 +112,8 @@ pub first_plain : (file : List ℕ) (h : Header) → h.sort ≡ Primary → is_i
 unfolding is_packed
 first_plain file h is = ap (λ s. is_table s && list_any (is_set (codes "ZIMAGE")) (cards_of (header_in file h))) is
 
-pub standing_images : (file : List ℕ) (end : ℕ) (hs : List Header) → AreHeadersBetween 0 0 end file hs → filter (is_image file) (standing file hs) ≡ filter (is_image file) hs
+pub standing_images : (file : List ℕ) (end : ℕ) (hs : List Header) → AreHeadersBetween 0 0 end file hs →
+    filter (is_image file) (standing file hs) ≡ filter (is_image file) hs
 standing_images file end [] are = refl
 standing_images file end (h ∷ []) are = refl
 standing_images file end (h ∷ k ∷ hs) are = by_test (is_packed_primary file k)

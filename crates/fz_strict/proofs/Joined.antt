@@ -2,7 +2,7 @@
 use Rattle.fz_strict.specs.FoundOptions.{found_options}
 use Rattle.fz_strict.specs.Laws.{FoundOptionsDoForEach, StrictIsHduByHdu}
 use Rattle.fz_strict.proofs.Each.{EachLaws, each_is_same}
-use Rattle.fz_strict.proofs.Options.{found_options_do}
+use Rattle.fz_strict.proofs.OptionsFound.{found_options_do}
 use Rattle.fz_strict.proofs.Whole.{same_is_strict}
 
 pub hdu_by_hdu : EachLaws → StrictIsHduByHdu

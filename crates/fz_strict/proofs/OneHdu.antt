@@ -1,11 +1,9 @@
 -- Each HDU of a packed file stands for one HDU only.
 use Rattle.std.specs.Prelude.{All, unsigned_abs}
-use Rattle.std.proofs.Common.{◌≡◌, inl, inr, ℕ, ◌+◌, ◌*◌, ◌<◌, Bool, true, false, ℤ, pos, List, [], ◌∷◌, length, None, Result, Ok, refl, sym, subst, ◌∙◌, ap}
+use Rattle.std.proofs.Common.{◌≡◌, inl, inr, ℕ, ◌+◌, ◌*◌, ◌<◌, Bool, true, false, ℤ, pos, List, [], ◌∷◌, length, Result, Ok, refl, sym, subst, ◌∙◌, ap}
 use Rattle.std.proofs.lemmas.List.Elements.{All-from_recursion}
 use Rattle.std.specs.List.{AllByRecursion}
-use Rattle.fz_base.specs.Refusal.{first_refusal}
 use Rattle.fz_base.specs.declared.fault.Fault.{Fault}
-use Rattle.fz_block.specs.Facts.{IsHeaderOf}
 use Rattle.fz_block.specs.Hdus.{HasBlankFill, Hdu, IsCardBeforeEnd, IsHeader, cards_of, hdu_bytes, header_bytes}
 use Rattle.fz_block.specs.Header.{whole_blocks_of}
 use Rattle.fz_block.specs.Walk.{hdu_of}
@@ -22,8 +20,7 @@ use Rattle.fz_tile.specs.Pixels.{IsBitpix}
 use Rattle.fz_tile.specs.Record.{IsRecord}
 use Rattle.fz_tile.specs.declared.codec.Codec.{Codec}
 use Rattle.fz_tile.specs.declared.coded.Place2.{Place2}
-use Rattle.fz_head.specs.JobChecks.{IsImageOf, image_in, is_after_empty, unpack_hdu_checks}
-use Rattle.fz_head.specs.Judges.{unpack_judge}
+use Rattle.fz_head.specs.JobChecks.{IsImageOf, image_in}
 use Rattle.fz_head.specs.PlainHeader.{plain_header}
 use Rattle.fz_head.specs.declared.plan.Plan.{Plan}
 use Rattle.fz_files.specs.Packed.{pixel_bits}
@@ -32,7 +29,7 @@ use Rattle.fz_files.specs.Walks.{headers_for}
 use Rattle.fz_files.specs.declared.job.Job.TheVariants.{Unpack}
 use Rattle.fz_strict.specs.Laws.{HdusStandForOne}
 use Rattle.fz_strict.specs.SameHdus.{IsPlainAs, StandsForOne, plain_image}
-use Rattle.fz_strict.proofs.Headers.{IsRead, PackedImages, are_read}
+use Rattle.fz_strict.proofs.HeadersRead.{IsRead, PackedImages, are_read}
 use Rattle.fz_strict.proofs.Same.{WalkLaws}
 use Rattle.fz_strict.proofs.Split.{one_split}
 
@@ -105,15 +102,17 @@ module _ (laws : ImageLaws) (file : List ℕ) (h : Header) where
   one_plain is d header stands = by_packed (is_image file h) refl stands
     where
       same_hdu : (e : Hdu) → IsHeader e.header → hdu_bytes d ≡ hdu_bytes e → d ≡ e
-      same_hdu e other same = let both = one_split d.header e.header d.payload e.payload header other same in λ i. record { header = both.0 i; payload = both.1 i }
+      same_hdu e other same = let both =
+          one_split d.header e.header d.payload e.payload header other same in λ i. record { header = both.0 i; payload = both.1 i }
 
       by_packed : (packed : Bool) → is_image file h ≡ packed → StandsForAs packed file h (hdu_bytes d) → IsPlainAs packed file h d
       by_packed true packed image = λ a rows.
           let same : image.array ≡ a = one_array (is.image packed) image.array a image.rows rows in
-          same_hdu (plain_image file h a) (restored_header laws.headers (header_in file h) is.header.whole) (image.image ∙ ap (image_bytes p (cards_of (header_in file h))) same)
+          same_hdu (plain_image file h a) (restored_header laws.headers (header_in file h) is.header.whole) (image.image
+          ∙ ap (image_bytes p (cards_of (header_in file h))) same)
       by_packed false packed copied = same_hdu (hdu_of file h) is.header.whole copied
 
-  one_of : IsRead file h → StandsForOne file h
+  pub one_of : IsRead file h → StandsForOne file h
   one_of is = record { array = λ packed. one_array (is.image packed); bytes = one_bytes is.image; hdu = one_plain is }
 
 all_of : ImageLaws → (file : List ℕ) (hs : List Header) → AllByRecursion (IsRead file) hs → AllByRecursion (StandsForOne file) hs

@@ -28,11 +28,13 @@ pub record WalkLaws : Type 0 where
   pub headers :
       (judge : Judge) (most : ℕ) (file : List ℕ) (hs : List Header) → walk_of judge most file ≡ Ok hs →
       (0 < length hs) × (length hs ≤ most) × RefusesNone judge hs × ((end : ℕ) × (end ≤ length file) × AreHeadersBetween 0 0 end file hs)
-  pub whole : (judge : Judge) (most : ℕ) (file : List ℕ) (hs : List Header) → walk_of judge most file ≡ Ok hs → stops judge hs ≡ false → headers_of most file ≡ Ok hs
+  pub whole : (judge : Judge) (most : ℕ) (file : List ℕ) (hs : List Header) → walk_of judge most file ≡ Ok hs → stops judge hs ≡ false →
+      headers_of most file ≡ Ok hs
   pub pass : (judge : Judge) (most : ℕ) (file : List ℕ) (hs : List Header) → walk_of judge most file ≡ Ok hs → PassFrom 0 0 (length file) (map (hdu_of file) hs)
   pub parts : (most : ℕ) (file : List ℕ) (hs : List Header) → headers_of most file ≡ Ok hs → AreHdusOf file (map (hdu_of file) hs)
   pub converse : (most : ℕ) (file : List ℕ) (hs : List Header) (ks : List Hdu) → headers_of most file ≡ Ok hs → AreHdusOf file ks → ks ≡ map (hdu_of file) hs
-  pub judged : (judge : Judge) (most : ℕ) (file : List ℕ) (hs : List Header) → headers_of most file ≡ Ok hs → RefusesNone judge hs → stops judge hs ≡ false → walk_of judge most file ≡ Ok hs
+  pub judged : (judge : Judge) (most : ℕ) (file : List ℕ) (hs : List Header) → headers_of most file ≡ Ok hs → RefusesNone judge hs → stops judge hs ≡ false →
+      walk_of judge most file ≡ Ok hs
   pub packed : HdusArePacked
 
 -- ---- the headers that a job finds
@@ -68,33 +70,40 @@ abbrev pub AreSameFor : PackOptions → PackOptions → Header → Type 0
 AreSameFor o q h = is_packable h ≡ true → MakeTheSame o q h
 
 same_checks : (o q : PackOptions) (h : Header) (header : List ℕ) → MakeTheSame o q h → pack_checks q h header ≡ pack_checks o h header
-same_checks o q h header same = λ i. name_checks h header ++ (limit_checks h (same.plan i) (same.sums i) (cards_of header) ++ offset_check h (same.plan i).codec (cards_of header) ∷ [])
+same_checks o q h header same =
+    λ i. name_checks h header ++ (limit_checks h (same.plan i) (same.sums i) (cards_of header) ++ offset_check h (same.plan i).codec (cards_of header) ∷ [])
 
 same_judge : (o q : PackOptions) (file : List ℕ) (h : Header) → AreSameFor o q h → pack_judge q file h ≡ pack_judge o file h
 same_judge o q file h same =
-    ap (λ l. unless_refused false (first_refusal ((already_packed h header ∷ l) ++ (if is_packable h then data_fill h (fill_in file h) ∷ [] else [])))) (by_test (is_packable h) same)
+    ap (λ l. unless_refused false (first_refusal ((already_packed h header ∷ l) ++ (if is_packable h then data_fill h (fill_in file h) ∷ [] else []))))
+    (by_test (is_packable h) same)
   where
     header : List ℕ
     header = (hdu_of file h).header
 
-    by_test : (packable : Bool) → (packable ≡ true → MakeTheSame o q h) → (if packable then pack_checks q h header else []) ≡ (if packable then pack_checks o h header else [])
+    by_test : (packable : Bool) → (packable ≡ true → MakeTheSame o q h) →
+        (if packable then pack_checks q h header else []) ≡ (if packable then pack_checks o h header else [])
     by_test true same = same_checks o q h header (same refl)
     by_test false same = refl
 
-same_refuse : (o q : PackOptions) (file : List ℕ) (hs : List Header) → AllByRecursion (AreSameFor o q) hs → RefusesNone (pack_judge o file) hs → RefusesNone (pack_judge q file) hs
+same_refuse : (o q : PackOptions) (file : List ℕ) (hs : List Header) → AllByRecursion (AreSameFor o q) hs → RefusesNone (pack_judge o file) hs →
+    RefusesNone (pack_judge q file) hs
 same_refuse o q file [] same none = tt
 same_refuse o q file (h ∷ hs) same none = (subst (λ r. IsOk r) (sym (same_judge o q file h same.0)) none.0, same_refuse o q file hs same.1 none.1)
 
-same_hdu : WalkLaws → (o q : PackOptions) (k : ℕ) (h : Header) (d : Hdu) → AreSameFor o q h → h.hdu ≡ k → IsHeaderOf d.header h → packed_hdu o k d ≡ packed_hdu q k d
+same_hdu : WalkLaws → (o q : PackOptions) (k : ℕ) (h : Header) (d : Hdu) → AreSameFor o q h → h.hdu ≡ k → IsHeaderOf d.header h →
+    packed_hdu o k d ≡ packed_hdu q k d
 same_hdu w o q k h d same number is =
     ap (λ n. packed_hdu o n d) (sym number) ∙ w.packed o d h is ∙ by_test (is_packable h) same ∙ sym (w.packed q d h is) ∙ ap (λ n. packed_hdu q n d) number
   where
     by_test : (packable : Bool) → (packable ≡ true → MakeTheSame o q h) →
-        (if packable then before_table h.hdu ++ packed_image o.sums (pack_plan_of o h) d else hdu_bytes d) ≡ (if packable then before_table h.hdu ++ packed_image q.sums (pack_plan_of q h) d else hdu_bytes d)
+        (if packable then before_table h.hdu ++ packed_image o.sums (pack_plan_of o h) d else hdu_bytes d)
+        ≡ (if packable then before_table h.hdu ++ packed_image q.sums (pack_plan_of q h) d else hdu_bytes d)
     by_test true same = let made = same refl in λ i. before_table h.hdu ++ packed_image (sym made.sums i) (sym made.plan i) d
     by_test false same = refl
 
-same_packed : WalkLaws → (o q : PackOptions) (file : List ℕ) (k start end : ℕ) (hs : List Header) → AreHeadersBetween k start end file hs → AllByRecursion (AreSameFor o q) hs →
+same_packed : WalkLaws → (o q : PackOptions) (file : List ℕ) (k start end : ℕ) (hs : List Header) → AreHeadersBetween k start end file hs →
+    AllByRecursion (AreSameFor o q) hs →
     packed_from o k (map (hdu_of file) hs) ≡ packed_from q k (map (hdu_of file) hs)
 unfolding packed_from
 same_packed w o q file k start end [] are same = refl
@@ -137,14 +146,16 @@ sound_by q file hs walk =
     let none : header_fault (Pack q) file ≡ None = ap (fault_of_walk (Pack q) file) walk in
     subst (λ r. IsFaultBehind r (Pack q) file None) (sym none) tt
 
-pub same_taken : WalkLaws → (o q : PackOptions) (file : List ℕ) (hs : List Header) → IsFound o file hs → AllByRecursion (AreSameFor o q) hs → AreOptions q → IsProfileFile o file → IsProfileFile q file
+pub same_taken : WalkLaws → (o q : PackOptions) (file : List ℕ) (hs : List Header) → IsFound o file hs → AllByRecursion (AreSameFor o q) hs → AreOptions q →
+    IsProfileFile o file → IsProfileFile q file
 same_taken w o q file hs found same options is = record {
   bytes = is.bytes;
   options = options;
   sound = sound_by q file hs (w.judged (pack_judge q file) 65535 file hs found.all (same_refuse o q file hs same found.none) (never_stops q file hs));
 }
 
-pub same_file : WalkLaws → (o q : PackOptions) (file bytes : List ℕ) (hs : List Header) → IsFound o file hs → AllByRecursion (AreSameFor o q) hs → IsPackedFile o file bytes → IsPackedFile q file bytes
+pub same_file : WalkLaws → (o q : PackOptions) (file bytes : List ℕ) (hs : List Header) → IsFound o file hs → AllByRecursion (AreSameFor o q) hs →
+    IsPackedFile o file bytes → IsPackedFile q file bytes
 same_file w o q file bytes hs found same is =
     let these : is.hdus ≡ map (hdu_of file) hs = w.converse 65535 file hs is.hdus found.all is.parts in
     record {

@@ -19,7 +19,8 @@ found_first zero n i xs found = grind (arith, found)
 found_first (suc m) n i xs found =
     let count : suc m + n ≡ suc (m + n) = omega arith in
     ap (λ k. end_among k xs) count
-    ∙ by_card (is_named (codes "END") (take 80 xs)) (end_among m (drop 80 xs)) (end_among (m + n) (drop 80 xs)) (λ j h. found_first m n j (drop 80 xs) h) i found
+    ∙ by_card (is_named (codes "END") (take 80 xs)) (end_among m (drop 80 xs)) (end_among (m + n) (drop 80 xs)) (λ j h. found_first m n j (drop 80 xs) h) i
+    found
   where
     by_card : (b : Bool) (less more : Option ℕ) → ((j : ℕ) → less ≡ Some j → more ≡ Some j) → (i : ℕ) → on_card b less ≡ Some i → on_card b more ≡ Some i
     by_card true less more grows i found = found
@@ -65,11 +66,14 @@ not_shorter a b x y one two same less =
     let i = found.0 in
     let cards_a : length a / 80 ≡ 36 * (m + 1) = omega (arith, long_a) in
     let in_a : end_among (36 * (m + 1)) a ≡ Some i = ap (λ c. end_among c a) (sym cards_a) ∙ found.1 in
-    let in_both : end_among (36 * (m + 1)) (a ++ x) ≡ Some i = sym (among_take (36 * (m + 1)) (2880 * (m + 1)) (a ++ x) (omega arith)) ∙ (ap (end_among (36 * (m + 1))) begins ∙ in_a) in
+    let in_both : end_among (36 * (m + 1)) (a ++ x) ≡ Some i =
+    sym (among_take (36 * (m + 1)) (2880 * (m + 1)) (a ++ x) (omega arith)) ∙ (ap (end_among (36 * (m + 1))) begins ∙ in_a) in
     let more : 36 * (m + 1) + (36 * n - 36 * (m + 1)) ≡ 36 * n = omega (arith, less) in
-    let in_front : end_among (36 * n) (a ++ x) ≡ Some i = ap (λ c. end_among c (a ++ x)) (sym more) ∙ found_first (36 * (m + 1)) (36 * n - 36 * (m + 1)) i (a ++ x) in_both in
+    let in_front : end_among (36 * n) (a ++ x) ≡ Some i =
+    ap (λ c. end_among c (a ++ x)) (sym more) ∙ found_first (36 * (m + 1)) (36 * n - 36 * (m + 1)) i (a ++ x) in_both in
     let in_b : end_among (36 * n) b ≡ Some i =
-    sym (among_take (36 * n) (2880 * n) b (omega arith)) ∙ (ap (end_among (36 * n)) front ∙ (among_take (36 * n) (2880 * n) (a ++ x) (omega arith) ∙ in_front)) in
+    sym (among_take (36 * n) (2880 * n) b (omega arith))
+    ∙ (ap (end_among (36 * n)) front ∙ (among_take (36 * n) (2880 * n) (a ++ x) (omega arith) ∙ in_front)) in
     let none : end_among (36 * n) b ≡ None = sym (end_of_blocks n b (omega arith)) ∙ two.none in
     let clash : Some i ≡ None = sym in_b ∙ none in
     cc

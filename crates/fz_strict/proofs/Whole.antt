@@ -23,7 +23,7 @@ use Rattle.fz_strict.specs.Strict.{IsStrictBy}
 use Rattle.fz_strict.proofs.Each.{EachLaws, head_same, split_front, tail_same}
 use Rattle.fz_strict.proofs.Fill.{FillLaws, image_fill}
 use Rattle.fz_strict.proofs.Ends.{pass_ends}
-use Rattle.fz_strict.proofs.Headers.{IsRead, are_read, is_walked, standing_read}
+use Rattle.fz_strict.proofs.HeadersRead.{IsRead, are_read, is_walked, standing_read}
 use Rattle.fz_strict.proofs.Same.{never_stops, sound_by}
 
 module _ (o : PackOptions) (file : List ℕ) where
@@ -33,25 +33,30 @@ module _ (o : PackOptions) (file : List ℕ) where
   same_pass front k start (h ∷ hs) [] same = absurd same
   same_pass front k start (h ∷ hs) (d ∷ ds) same = (same.0.passes, same_pass [] (suc k) (start + length (hdu_bytes d)) hs ds same.1)
 
-  same_stand : (front : List ℕ) (k start : ℕ) (hs : List Header) (ds : List Hdu) → AreSame o file front k start hs ds → HdusStandFor file hs (flat_map hdu_bytes ds)
+  pub same_stand : (front : List ℕ) (k start : ℕ) (hs : List Header) (ds : List Hdu) → AreSame o file front k start hs ds →
+      HdusStandFor file hs (flat_map hdu_bytes ds)
   same_stand front k start [] [] same = refl
   same_stand front k start [] (d ∷ ds) same = absurd same
   same_stand front k start (h ∷ hs) [] same = absurd same
-  same_stand front k start (h ∷ hs) (d ∷ ds) same = (hdu_bytes d, flat_map hdu_bytes ds, refl, same.0.stands, same_stand [] (suc k) (start + length (hdu_bytes d)) hs ds same.1)
+  same_stand front k start (h ∷ hs) (d ∷ ds) same =
+      (hdu_bytes d, flat_map hdu_bytes ds, refl, same.0.stands, same_stand [] (suc k) (start + length (hdu_bytes d)) hs ds same.1)
 
-  later_packed : (k start : ℕ) (hs : List Header) (ds : List Hdu) → AreSame o file [] k start hs ds → packed_from o k ds ≡ flat_map hdu_bytes (map (hdu_of file) hs)
+  later_packed : (k start : ℕ) (hs : List Header) (ds : List Hdu) → AreSame o file [] k start hs ds →
+      packed_from o k ds ≡ flat_map hdu_bytes (map (hdu_of file) hs)
   unfolding packed_from
   later_packed k start [] [] same = refl
   later_packed k start [] (d ∷ ds) same = absurd same
   later_packed k start (h ∷ hs) [] same = absurd same
   later_packed k start (h ∷ hs) (d ∷ ds) same = λ i. same.0.packed i ++ later_packed (suc k) (start + length (hdu_bytes d)) hs ds same.1 i
 
-  all_packed : (front : List ℕ) (hs : List Header) (ds : List Hdu) → 0 < length hs → AreSame o file front 0 0 hs ds → packed_from o 0 ds ≡ front ++ flat_map hdu_bytes (map (hdu_of file) hs)
+  all_packed : (front : List ℕ) (hs : List Header) (ds : List Hdu) → 0 < length hs → AreSame o file front 0 0 hs ds →
+      packed_from o 0 ds ≡ front ++ flat_map hdu_bytes (map (hdu_of file) hs)
   unfolding packed_from
   all_packed front [] ds some same = absurd omega (arith, some)
   all_packed front (h ∷ hs) [] some same = absurd same
   all_packed front (h ∷ hs) (d ∷ ds) some same =
-      (λ i. same.0.packed i ++ later_packed 1 (0 + length (hdu_bytes d)) hs ds same.1 i) ∙ append_assoc front (hdu_bytes (hdu_of file h)) (flat_map hdu_bytes (map (hdu_of file) hs))
+      (λ i. same.0.packed i ++ later_packed 1 (0 + length (hdu_bytes d)) hs ds same.1 i)
+      ∙ append_assoc front (hdu_bytes (hdu_of file h)) (flat_map hdu_bytes (map (hdu_of file) hs))
 
   same_some : (front : List ℕ) (k start : ℕ) (hs : List Header) (ds : List Hdu) → 0 < length hs → AreSame o file front k start hs ds → 0 < length ds
   same_some front k start [] ds some same = absurd omega (arith, some)
@@ -60,12 +65,12 @@ module _ (o : PackOptions) (file : List ℕ) where
 
 -- ---- no check of `pack` refuses anything
 
-both_none : (xs ys : List (Bool × Fault)) → first_refusal xs ≡ None → first_refusal ys ≡ None → first_refusal (xs ++ ys) ≡ None
+pub both_none : (xs ys : List (Bool × Fault)) → first_refusal xs ≡ None → first_refusal ys ≡ None → first_refusal (xs ++ ys) ≡ None
 both_none [] ys none rest = rest
 both_none ((true, fault) ∷ xs) ys none rest = absurd cc
 both_none ((false, fault) ∷ xs) ys none rest = both_none xs ys none rest
 
-plan_ok : {A : Type 0} (answer found : A) (refused : Option Fault) → unless_refused answer refused ≡ Ok found → (refused ≡ None) × (answer ≡ found)
+pub plan_ok : {A : Type 0} (answer found : A) (refused : Option Fault) → unless_refused answer refused ≡ Ok found → (refused ≡ None) × (answer ≡ found)
 plan_ok answer found None e = (refl, (cc))
 plan_ok answer found (Some fault) e = absurd cc
 
@@ -82,21 +87,25 @@ pub record IsPlanned (o : PackOptions) (file : List ℕ) (h f : Header) (header 
   pub packs : is_packable f ≡ is_image file h
   pub plan : is_packable f ≡ true → pack_plan_of o f ≡ plan_in file h
 
-pub is_planned : (o : PackOptions) (file : List ℕ) (h f : Header) (header : List ℕ) → plan_to_pack o f header ≡ Ok (plan_again file h) → IsPlanned o file h f header
+pub is_planned : (o : PackOptions) (file : List ℕ) (h f : Header) (header : List ℕ) → plan_to_pack o f header ≡ Ok (plan_again file h) →
+    IsPlanned o file h f header
 unfolding plan_to_pack
 is_planned o file h f header e =
     let ok = plan_ok (if is_packable f then Some (pack_plan_of o f) else None) (plan_again file h) (first_refusal (pack_header_checks o f header)) e in
     let same = same_test (is_packable f) (is_image file h) (pack_plan_of o f) (plan_in file h) ok.1 in
     record { none = ok.0; packs = same.0; plan = same.1 }
 
-one_taken : FillLaws → (o : PackOptions) (file source front : List ℕ) (k start : ℕ) (h : Header) (d : Hdu) → IsRead file h → hdu_of source (facts_of k start d.header) ≡ d → IsSame o file front k start h d →
+one_taken : FillLaws → (o : PackOptions) (file source front : List ℕ) (k start : ℕ) (h : Header) (d : Hdu) → IsRead file h →
+    hdu_of source (facts_of k start d.header) ≡ d → IsSame o file front k start h d →
     IsOk (pack_judge o source (facts_of k start d.header))
 one_taken laws o file source front k start h d read here same =
     let f : Header = facts_of k start d.header in
     let planned : IsPlanned o file h f d.header = is_planned o file h f d.header same.plan in
-    let header : first_refusal (pack_header_checks o f (hdu_of source f).header) ≡ None = ap (λ (x : Hdu). first_refusal (pack_header_checks o f x.header)) here ∙ planned.none in
+    let header : first_refusal (pack_header_checks o f (hdu_of source f).header) ≡ None =
+    ap (λ (x : Hdu). first_refusal (pack_header_checks o f x.header)) here ∙ planned.none in
     ok_none (first_refusal (pack_hdu_checks o source f))
-    (both_none (pack_header_checks o f (hdu_of source f).header) (if is_packable f then data_fill f (fill_in source f) ∷ [] else []) header (by_test (is_packable f) refl planned))
+    (both_none (pack_header_checks o f (hdu_of source f).header) (if is_packable f then data_fill f (fill_in source f) ∷ [] else []) header
+    (by_test (is_packable f) refl planned))
   where
     ok_none : (found : Option Fault) → found ≡ None → IsOk (unless_refused false found)
     ok_none None none = refl
@@ -104,7 +113,8 @@ one_taken laws o file source front k start h d read here same =
 
     by_test : (packable : Bool) → is_packable (facts_of k start d.header) ≡ packable → IsPlanned o file h (facts_of k start d.header) d.header →
         first_refusal (if packable then data_fill (facts_of k start d.header) (fill_in source (facts_of k start d.header)) ∷ [] else []) ≡ None
-    by_test true is planned = image_fill laws o file source h k start d read (sym planned.packs ∙ is) same.stands same.passes.hdu.header is (planned.plan is) here
+    by_test true is planned = image_fill laws o file source h k start d read (sym planned.packs ∙ is) same.stands same.passes.hdu.header is (planned.plan is)
+        here
     by_test false is planned = refl
 
 all_taken : FillLaws → (o : PackOptions) (file source front : List ℕ) (k start : ℕ) (hs : List Header) (ds : List Hdu) → AllByRecursion (IsRead file) hs →
@@ -131,10 +141,12 @@ standing_some file (h ∷ k ∷ hs) some = by_test (is_packed_primary file k)
     by_test false = omega arith
 
 -- HDUs that end at byte 2^62 at most pass in a file that has them all
-move_pass : EachLaws → (k start len : ℕ) (ds : List Hdu) → PassFrom k start (2 ^ 62) ds → start + length (flat_map hdu_bytes ds) ≤ len → len ≤ 2 ^ 62 → PassFrom k start len ds
+move_pass : EachLaws → (k start len : ℕ) (ds : List Hdu) → PassFrom k start (2 ^ 62) ds → start + length (flat_map hdu_bytes ds) ≤ len → len ≤ 2 ^ 62 →
+    PassFrom k start len ds
 move_pass laws k start len [] pass within few = tt
 move_pass laws k start len (d ∷ ds) pass within few =
-    let both : length (flat_map hdu_bytes (d ∷ ds)) ≡ length (hdu_bytes d) + length (flat_map hdu_bytes ds) = length-append (hdu_bytes d) (flat_map hdu_bytes ds) in (
+    let both : length (flat_map hdu_bytes (d ∷ ds)) ≡ length (hdu_bytes d) + length (flat_map hdu_bytes ds) =
+    length-append (hdu_bytes d) (flat_map hdu_bytes ds) in (
       laws.moved k start (2 ^ 62) start len d pass.0 (omega (arith, both, within)) (omega (arith, both, within, few)),
       move_pass laws (suc k) (start + length (hdu_bytes d)) len ds pass.1 (omega (arith, both, within)) few,
     )
@@ -156,7 +168,8 @@ same_is_strict laws o file is =
     let here : PassFrom 0 0 (length source) ds = move_pass laws 0 0 (length source) ds pass (omega arith) (omega (arith, ends)) in
     let again = laws.walk 65535 source ds refl more is.few here in
     let walk : walk_of (pack_judge o source) 65535 source ≡ Ok (facts_from 0 0 ds) =
-    w.judged (pack_judge o source) 65535 source (facts_from 0 0 ds) again.0 (all_taken laws.fill o file source front 0 0 hs ds read again.1 is.same) (never_stops o source (facts_from 0 0 ds)) in
+    w.judged (pack_judge o source) 65535 source (facts_from 0 0 ds) again.0 (all_taken laws.fill o file source front 0 0 hs ds read again.1 is.same)
+    (never_stops o source (facts_from 0 0 ds)) in
     record {
       restored = source;
       stands = record { sound = is.sound; parts = same_stand o file front 0 0 hs ds is.same };

@@ -1,9 +1,8 @@
 -- The worked file that has no image: a primary alone.
-use Rattle.std.specs.Prelude.{⊤}
-use Rattle.std.proofs.Common.{◌≡◌, ℕ, ◌<◌, ◌==◌, ◌||◌, Bool, true, false, cond, List, [], ◌∷◌, length, None, Ok, refl, sym, subst, ◌∙◌, ap, arith}
+use Rattle.std.proofs.Common.{◌≡◌, ◌<◌, ◌==◌, ◌||◌, true, false, cond, [], ◌∷◌, length, None, Ok, refl, sym, subst, ◌∙◌, ap, arith}
 use Rattle.std.proofs.lemmas.List.Elements.{All-from_recursion}
 use Rattle.std.specs.Fmt.{digits}
-use Rattle.std.specs.List.{filter, flat_map, list_any}
+use Rattle.std.specs.List.{flat_map, list_any}
 use Rattle.fz_card.specs.Made.{numbered_name}
 use Rattle.fz_card.specs.Quoted.{quoted}
 use Rattle.fz_card.specs.Reading.{integer_of, logical_of, text_of}
@@ -13,7 +12,6 @@ use Rattle.fz_block.specs.Facts.{facts_of}
 use Rattle.fz_block.specs.Hdus.{AreHdusOf}
 use Rattle.fz_block.specs.Header.{next_start_of}
 use Rattle.fz_block.specs.declared.header.Header.{Header}
-use Rattle.fz_tile.specs.Plain.{AreBytes}
 use Rattle.fz_head.specs.Judges.{pack_judge, unpack_judge}
 use Rattle.fz_head.specs.Packable.{is_packable, is_packed}
 use Rattle.fz_files.specs.FirstFault.{IsFaultBehind, IsFirstFault, IsFirstRowFault, all_rows, rows_of}
@@ -87,7 +85,8 @@ taken : IsProfileFile plain_options bare_file
 taken = record {
   bytes = All-from_recursion (λ b. b < 256) bare_file (bytes_by bare_file refl);
   options = record { low = omega arith; high = omega arith; tile = (omega arith, omega arith, tile_is) };
-  sound = sound_by plain_options bare_file (bare_facts ∷ []) (ends_with (pack_judge plain_options bare_file) 65534 bare_file bare_facts bare_at pack_takes last_is);
+  sound = sound_by plain_options bare_file (bare_facts ∷ [])
+      (ends_with (pack_judge plain_options bare_file) 65534 bare_file bare_facts bare_at pack_takes last_is);
 }
 
 pub bare_strict : UnpackCopies → PackCopies → IsStrict bare_file

@@ -53,7 +53,8 @@ pub bytes_by : (bytes : List ℕ) → list_all (λ b. nat_lt b 256) bytes ≡ tr
 bytes_by [] few = tt
 bytes_by (b ∷ bytes) few = by_test (nat_lt b 256) refl few (bytes_by bytes)
   where
-    by_test : (less : Bool) → nat_lt b 256 ≡ less → (less && list_all (λ b. nat_lt b 256) bytes) ≡ true → (list_all (λ b. nat_lt b 256) bytes ≡ true → AllByRecursion (λ b. b < 256) bytes) →
+    by_test : (less : Bool) → nat_lt b 256 ≡ less → (less && list_all (λ b. nat_lt b 256) bytes) ≡ true →
+        (list_all (λ b. nat_lt b 256) bytes ≡ true → AllByRecursion (λ b. b < 256) bytes) →
         AllByRecursion (λ b. b < 256) (b ∷ bytes)
     by_test true e few rest = (grind (arith, nat_tests, e), rest few)
     by_test false e few rest = absurd cc
@@ -69,7 +70,8 @@ unfolding hdu_at header_blocks_of header_of end_among first_among integer_of log
 grid_at = refl
 
 -- the only HDU of a file
-pub ends_with : (judge : Judge) (more : ℕ) (file : List ℕ) (h : Header) → hdu_at 0 0 file ≡ Ok h → judge h ≡ Ok false → (next_start_of h == length file) ≡ true →
+pub ends_with : (judge : Judge) (more : ℕ) (file : List ℕ) (h : Header) → hdu_at 0 0 file ≡ Ok h → judge h ≡ Ok false →
+    (next_start_of h == length file) ≡ true →
     walk_from judge (suc more) 0 0 file ≡ Ok (h ∷ [])
 unfolding walk_from
 ends_with judge more file h here says last =
@@ -78,11 +80,13 @@ ends_with judge more file h here says last =
     ∙ ap (λ b. if b then Ok (h ∷ []) else followed_by h (walk_from judge more 1 (next_start_of h) file)) last)
 
 plain_takes : pack_judge plain_options grid_file grid_facts ≡ Ok false
-unfolding is_packable end_among integer_of logical_of is_reserved plain_name packed_names foreign_names renamings number_behind numbered_name digits text_of quoted pack_plan_of packed_header
+unfolding is_packable end_among integer_of logical_of is_reserved plain_name packed_names foreign_names renamings number_behind numbered_name digits text_of
+    quoted pack_plan_of packed_header
 plain_takes = refl
 
 sum_takes : pack_judge sum_options grid_file grid_facts ≡ Ok false
-unfolding is_packable end_among integer_of logical_of is_reserved plain_name packed_names foreign_names renamings number_behind numbered_name digits text_of quoted pack_plan_of packed_header
+unfolding is_packable end_among integer_of logical_of is_reserved plain_name packed_names foreign_names renamings number_behind numbered_name digits text_of
+    quoted pack_plan_of packed_header
 sum_takes = refl
 
 last_is : (next_start_of grid_facts == length grid_file) ≡ true
@@ -98,7 +102,8 @@ plain_taken : IsProfileFile plain_options grid_file
 plain_taken = record {
   bytes = are_bytes;
   options = record { low = omega arith; high = omega arith; tile = (omega arith, omega arith, tile_is) };
-  sound = sound_by plain_options grid_file (grid_facts ∷ []) (ends_with (pack_judge plain_options grid_file) 65534 grid_file grid_facts grid_at plain_takes last_is);
+  sound = sound_by plain_options grid_file (grid_facts ∷ [])
+      (ends_with (pack_judge plain_options grid_file) 65534 grid_file grid_facts grid_at plain_takes last_is);
 }
 
 sum_taken : IsProfileFile sum_options grid_file
@@ -118,7 +123,8 @@ pub sum_stands : ComesBack → IsPackedFile sum_options grid_file sum_file → S
 sum_stands back packed = back sum_options grid_file sum_file sum_taken packed (omega (arith, sum_count))
 
 pub sum_strict : ComesBack → IsPackedFile sum_options grid_file sum_file → IsStrict sum_file
-sum_strict back packed = record { options = sum_options; strict = record { restored = grid_file; stands = sum_stands back packed; taken = sum_taken; packed = packed } }
+sum_strict back packed = record
+    { options = sum_options; strict = record { restored = grid_file; stands = sum_stands back packed; taken = sum_taken; packed = packed } }
 
 -- ---- the file of the image
 
@@ -138,7 +144,8 @@ packed_is : (o : PackOptions) → packed_file o (grid_hdu ∷ []) ≡ (header_by
 unfolding packed_from
 packed_is o = ap (λ b. (if b then before_table 0 ++ packed_image o.sums (pack_plan_of o grid_facts) grid_hdu else grid_file) ++ []) packable
 
-pub grid_not_strict : WalkLaws → PassingWalk → UnpackCopies → StandsForOneFile → ((file : List ℕ) (hs ks : List Hdu) → AreHdusOf file hs → AreHdusOf file ks → hs ≡ ks) → IsStrict grid_file → ⊥
+pub grid_not_strict : WalkLaws → PassingWalk → UnpackCopies → StandsForOneFile →
+    ((file : List ℕ) (hs ks : List Hdu) → AreHdusOf file hs → AreHdusOf file ks → hs ≡ ks) → IsStrict grid_file → ⊥
 grid_not_strict w passing copies one_file one_list is =
     let s = is.strict in
     let o : PackOptions = is.options in
@@ -146,7 +153,8 @@ grid_not_strict w passing copies one_file one_list is =
     let none : list_any (is_image grid_file) (headers_for Unpack grid_file) ≡ false =
     ap (list_any (is_image grid_file)) headers.0 ∙ ap (λ b. b || false) (first_plain grid_file grid_facts refl) in
     let same : s.restored ≡ grid_file = one_file grid_file s.restored grid_file s.stands (copies grid_file s.stands.sound none) in
-    let hdus : s.packed.hdus ≡ grid_hdu ∷ [] = one_list grid_file s.packed.hdus (grid_hdu ∷ []) (subst (λ f. AreHdusOf f s.packed.hdus) same s.packed.parts) is_alone in
+    let hdus : s.packed.hdus ≡ grid_hdu ∷ [] =
+    one_list grid_file s.packed.hdus (grid_hdu ∷ []) (subst (λ f. AreHdusOf f s.packed.hdus) same s.packed.parts) is_alone in
     let bytes = s.packed.packed ∙ (ap (packed_file o) hdus ∙ packed_is o) in
     let clash : 2 ≡ 0 = sym two_axes ∙ (ap (λ l. size_at l 2) bytes ∙ no_axes (packed_image o.sums (pack_plan_of o grid_facts) grid_hdu)) in
     absurd omega (arith, clash)

@@ -1,6 +1,6 @@
 -- The worked file in which one byte of fill is not 0.
 use Rattle.std.specs.Prelude.{None}
-use Rattle.std.proofs.Common.{◌≡◌, ℕ, ◌+◌, ◌&&◌, Bool, true, false, ℤ, pos, List, [], ◌∷◌, ◌++◌, length, map, replicate, Option, Some, Result, Ok, Err, if◌then◌else◌, slice_index, append-nil, refl, sym, subst, ◌∙◌, ap, arith, rules}
+use Rattle.std.proofs.Common.{◌≡◌, ℕ, ◌+◌, ◌&&◌, true, false, ℤ, pos, List, [], ◌∷◌, ◌++◌, length, map, replicate, Some, Result, Ok, Err, if◌then◌else◌, slice_index, append-nil, refl, sym, subst, ◌∙◌, ap, arith, rules}
 use Rattle.std.specs.Fmt.{digits}
 use Rattle.std.specs.List.{flat_map, range_with_len}
 use Rattle.fz_base.specs.declared.fault.Fault.{Fault}
@@ -34,10 +34,9 @@ use Rattle.fz_files.specs.HandMade.{block_of}
 use Rattle.fz_files.specs.Packed.{IsPackedFile, pixel_bits, tiles_in}
 use Rattle.fz_files.specs.PlainFile.{grid_file, plain_cards, plain_file, plain_heap, plain_options, plain_plan, plain_rows}
 use Rattle.fz_files.specs.Restored.{image_bytes, image_table, is_image, is_packed_primary, pixels_of, place_in, plan_in, standing, tile_of}
-use Rattle.fz_files.specs.StandsFor.{StandsFor}
 use Rattle.fz_files.specs.Walks.{headers_for}
 use Rattle.fz_files.specs.declared.job.Job.TheVariants.{Unpack}
-use Rattle.fz_round_trip.specs.Decided.{for_row, row_pixels}
+use Rattle.fz_round_trip.specs.Decided.{for_row}
 use Rattle.fz_round_trip.specs.Pixels.{record_pixels}
 use Rattle.fz_round_trip.specs.RestoredFile.{image_array, pixels_or_none, restored, restored_hdu, tile_pixels}
 use Rattle.fz_round_trip.specs.RoundTrip.{HasOnePackedFile, StandsForNoOther}
@@ -52,7 +51,7 @@ use Rattle.fz_strict.proofs.WorkedSums.{empty_hdu, empty_header, empty_payload, 
 
 -- ---- the HDUs
 
-abbrev fill_table : Hdu
+abbrev pub fill_table : Hdu
 fill_table = record { header = block_of plain_cards; payload = plain_rows ++ (plain_heap ++ (replicate 2768 0 ++ 1 ∷ [])) }
 
 table_header : IsHeader (block_of plain_cards)
@@ -64,19 +63,23 @@ unfolding integer_of
 table_payload = refl
 
 fill_hdus : AreHdusOf filled_file (empty_hdu ∷ fill_table ∷ [])
-fill_hdus = record { parts = refl; each = (record { header = empty_header; payload = empty_payload }, (record { header = table_header; payload = table_payload }, tt)) }
+fill_hdus = record {
+  parts = refl;
+  each =
+      (record { header = empty_header; payload = empty_payload }, (record { header = table_header; payload = table_payload }, tt));
+}
 
-facts_are : facts_of 1 (0 + length (hdu_bytes empty_hdu)) (block_of plain_cards) ≡ table_facts
+pub facts_are : facts_of 1 (0 + length (hdu_bytes empty_hdu)) (block_of plain_cards) ≡ table_facts
 unfolding end_among integer_of text_of quoted
 facts_are = refl
 
 -- ---- the table
 
-packed_is : is_packed (block_of plain_cards) table_facts ≡ true
+pub packed_is : is_packed (block_of plain_cards) table_facts ≡ true
 unfolding is_packed end_among logical_of
 packed_is = refl
 
-cards_are : cards_of (block_of plain_cards) ≡ plain_cards
+pub cards_are : cards_of (block_of plain_cards) ≡ plain_cards
 unfolding end_among
 cards_are = refl
 
@@ -84,7 +87,7 @@ plan_said : plan_of_cards plain_cards ≡ plain_plan
 unfolding plan_of_cards integer_of text_of quoted number_behind numbered_name digits
 plan_said = refl
 
-abbrev plain_table : Table
+abbrev pub plain_table : Table
 plain_table = record {
   row_bytes = 16;
   rows = 6;
@@ -96,7 +99,7 @@ plain_table = record {
   gzip = None;
 }
 
-table_said : table_in (block_of plain_cards) table_facts ≡ plain_table
+pub table_said : table_in (block_of plain_cards) table_facts ≡ plain_table
 unfolding first_among first_named columns_len column_called elements_len form_in integer_of text_of quoted numbered_name digits end_among
 table_said = refl
 
@@ -110,9 +113,10 @@ grid_array = record {
 }
 
 -- the pixels of a tile, by the plan and the table
-abbrev pixels_by_record : Plan → ℕ → Result Record Fault → Result (List ℤ) Fault
+abbrev pub pixels_by_record : Plan → ℕ → Result Record Fault → Result (List ℤ) Fault
 pixels_by_record p t (Ok found) =
-    for_row (image_row table_facts t) (record_pixels p.codec (pixel_bits p) (place_in found.column) found.total (pixels_of p t) (record_bytes filled_file found))
+    for_row (image_row table_facts t)
+    (record_pixels p.codec (pixel_bits p) (place_in found.column) found.total (pixels_of p t) (record_bytes filled_file found))
 pixels_by_record p t (Err fault) = Err fault
 
 abbrev pixels_by : Plan → Table → ℕ → List ℤ
@@ -124,7 +128,8 @@ tile_is t = refl
 array_by : Plan → Table → NumberArray
 array_by p table = joined (lengths_of p.shape) (lengths_of p.tile) (map (pixels_by p table) (range_with_len 0 (tiles_in p)))
 
-same_tiles : (ts : List ℕ) → map (tile_pixels filled_file table_facts) ts ≡ map (pixels_by (plan_in filled_file table_facts) (image_table filled_file table_facts)) ts
+same_tiles : (ts : List ℕ) → map (tile_pixels filled_file table_facts) ts
+    ≡ map (pixels_by (plan_in filled_file table_facts) (image_table filled_file table_facts)) ts
 same_tiles [] = refl
 same_tiles (t ∷ ts) = λ i. tile_is t i ∷ same_tiles ts i
 
@@ -140,13 +145,13 @@ was : was_primary plain_cards ≡ true
 was = refl
 
 module _ (here : hdu_of filled_file table_facts ≡ fill_table) where
-  plan_is : plan_in filled_file table_facts ≡ plain_plan
+  pub plan_is : plan_in filled_file table_facts ≡ plain_plan
   plan_is = ap (λ (x : Hdu). plan_of_cards (cards_of x.header)) here ∙ (ap plan_of_cards cards_are ∙ plan_said)
 
-  table_is : image_table filled_file table_facts ≡ plain_table
+  pub table_is : image_table filled_file table_facts ≡ plain_table
   table_is = ap (λ (x : Hdu). table_in x.header table_facts) here ∙ table_said
 
-  image_is : is_image filled_file table_facts ≡ true
+  pub image_is : is_image filled_file table_facts ≡ true
   image_is = ap (λ (x : Hdu). is_packed x.header table_facts) here ∙ packed_is
 
   said_cards : cards_of (hdu_of filled_file table_facts).header ≡ plain_cards
@@ -156,11 +161,13 @@ module _ (here : hdu_of filled_file table_facts ≡ fill_table) where
   unfolding array_by
   array_is =
       let p : Plan = plan_in filled_file table_facts in
-      ap (joined (lengths_of p.shape) (lengths_of p.tile)) (same_tiles (range_with_len 0 (tiles_in p))) ∙ ((λ i. array_by (plan_is i) (table_is i)) ∙ array_said)
+      ap (joined (lengths_of p.shape) (lengths_of p.tile)) (same_tiles (range_with_len 0 (tiles_in p)))
+      ∙ ((λ i. array_by (plan_is i) (table_is i)) ∙ array_said)
 
   hdu_is : restored_hdu filled_file table_facts ≡ grid_file
   hdu_is =
-      ap (λ b. if b then image_bytes (plan_in filled_file table_facts) (cards_of (hdu_of filled_file table_facts).header) (image_array filled_file table_facts) else hdu_bytes (hdu_of filled_file table_facts)) image_is
+      ap (λ b. if b then image_bytes (plan_in filled_file table_facts) (cards_of (hdu_of filled_file table_facts).header)
+      (image_array filled_file table_facts) else hdu_bytes (hdu_of filled_file table_facts)) image_is
       ∙ ((λ i. image_bytes (plan_is i) (said_cards i) (array_is i)) ∙ bytes_are)
 
   primary_is : is_packed_primary filled_file table_facts ≡ true
@@ -168,7 +175,8 @@ module _ (here : hdu_of filled_file table_facts ≡ fill_table) where
 
 -- ---- the file
 
-restored_by : (e : Header) → headers_for Unpack filled_file ≡ e ∷ table_facts ∷ [] → hdu_of filled_file table_facts ≡ fill_table → restored filled_file ≡ grid_file
+pub restored_by : (e : Header) → headers_for Unpack filled_file ≡ e ∷ table_facts ∷ [] → hdu_of filled_file table_facts ≡ fill_table →
+    restored filled_file ≡ grid_file
 unfolding restored
 restored_by e headers here =
     ap (λ hs. flat_map (restored_hdu filled_file) (standing filled_file hs)) headers
@@ -193,7 +201,8 @@ last_byte bytes same = sym (ap (λ l. slice_index l 8639) same)
 plain_last : slice_index plain_file 8639 ≡ 0
 plain_last = refl
 
-pub filled_not_strict : WalkLaws → PassingWalk → FoundOptionsDo → StandsForNoOther → HasOnePackedFile → IsPackedFile plain_options grid_file plain_file → IsStrict filled_file → ⊥
+pub filled_not_strict : WalkLaws → PassingWalk → FoundOptionsDo → StandsForNoOther → HasOnePackedFile → IsPackedFile plain_options grid_file plain_file →
+    IsStrict filled_file → ⊥
 filled_not_strict w passing found only one packed is =
     let headers = headers_in w passing filled_file (empty_hdu ∷ fill_table ∷ []) fill_hdus is.strict.stands.sound in
     let e : Header = facts_of 0 0 empty_hdu.header in
@@ -203,7 +212,8 @@ filled_not_strict w passing found only one packed is =
     let these : headers_for Unpack filled_file ≡ e ∷ table_facts ∷ [] = headers.0 ∙ ap (λ f. e ∷ f ∷ []) facts_are in
     let images : images_in filled_file ≡ table_facts ∷ [] = images_behind filled_file e table_facts these (first_plain filled_file e refl) (image_is here) in
     let sums : sums_in filled_file table_facts ≡ false = ap has_sums (said_cards here) ∙ no_sums in
-    let options : found_options filled_file ≡ plain_options = found_by filled_file table_facts images ∙ options_are filled_file table_facts (plan_is here) sums in
+    let options : found_options filled_file ≡ plain_options =
+    found_by filled_file table_facts images ∙ options_are filled_file table_facts (plan_is here) sums in
     let s : IsStrictBy plain_options filled_file = subst (λ o. IsStrictBy o filled_file) options ((found filled_file).0 is) in
     let same : s.restored ≡ grid_file = only filled_file s.restored s.stands ∙ restored_by e these here in
     let again : IsPackedFile plain_options grid_file filled_file = subst (λ f. IsPackedFile plain_options f filled_file) same s.packed in

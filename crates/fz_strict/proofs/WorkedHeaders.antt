@@ -13,7 +13,7 @@ use Rattle.fz_files.specs.Walks.{header_fault, headers_for}
 use Rattle.fz_files.specs.declared.job.Job.TheVariants.{Unpack}
 use Rattle.fz_strict.specs.FoundOptions.{found_options, images_agree, images_in, is_image_by, is_plan_by, is_same_flag, options_of, sums_in}
 use Rattle.fz_files.specs.Restored.{plan_in}
-use Rattle.fz_strict.proofs.Headers.{never_stops, one_answer, unpack_headers, unpack_walk}
+use Rattle.fz_strict.proofs.HeadersRead.{never_stops, one_answer, unpack_headers, unpack_walk}
 use Rattle.fz_strict.proofs.Same.{WalkLaws, no_header_fault}
 
 -- what is taken of the law of HDUs that pass
@@ -38,15 +38,18 @@ headers_in w passing file ds are sound =
     (unpack_headers file hs walk.1 ∙ one_answer (headers_of 65536 file) hs (facts_from 0 0 ds) all again.0, again.1)
 
 -- a primary without an image, and tables behind it
-pub images_behind : (file : List ℕ) (e f : Header) → headers_for Unpack file ≡ e ∷ f ∷ [] → is_image file e ≡ false → is_image file f ≡ true → images_in file ≡ f ∷ []
+pub images_behind : (file : List ℕ) (e f : Header) → headers_for Unpack file ≡ e ∷ f ∷ [] → is_image file e ≡ false → is_image file f ≡ true →
+    images_in file ≡ f ∷ []
 images_behind file e f headers none image =
     ap (filter (is_image file)) headers ∙ (λ i. cond (none i) (e ∷ cond (image i) (f ∷ []) []) (cond (image i) (f ∷ []) []))
 
-pub both_behind : (file : List ℕ) (e f g : Header) → headers_for Unpack file ≡ e ∷ f ∷ g ∷ [] → is_image file e ≡ false → is_image file f ≡ true → is_image file g ≡ true →
+pub both_behind : (file : List ℕ) (e f g : Header) → headers_for Unpack file ≡ e ∷ f ∷ g ∷ [] → is_image file e ≡ false → is_image file f ≡ true →
+    is_image file g ≡ true →
     images_in file ≡ f ∷ g ∷ []
 both_behind file e f g headers none image other =
     ap (filter (is_image file)) headers
-    ∙ (λ i. cond (none i) (e ∷ cond (image i) (f ∷ cond (other i) (g ∷ []) []) (cond (other i) (g ∷ []) [])) (cond (image i) (f ∷ cond (other i) (g ∷ []) []) (cond (other i) (g ∷ []) [])))
+    ∙ (λ i. cond (none i) (e ∷ cond (image i) (f ∷ cond (other i) (g ∷ []) []) (cond (other i) (g ∷ []) []))
+    (cond (image i) (f ∷ cond (other i) (g ∷ []) []) (cond (other i) (g ∷ []) [])))
 
 -- sums in the first of two images only
 found_first : (file : List ℕ) (f g : Header) → images_in file ≡ f ∷ g ∷ [] → (found_options file).sums ≡ sums_in file f

@@ -65,7 +65,11 @@ unfolding integer_of
 other_payload = refl
 
 sum_hdus : AreHdusOf sum_file (empty_hdu ∷ sum_table ∷ [])
-sum_hdus = record { parts = refl; each = (record { header = empty_header; payload = empty_payload }, (record { header = sum_header; payload = sum_payload }, tt)) }
+sum_hdus = record {
+  parts = refl;
+  each =
+      (record { header = empty_header; payload = empty_payload }, (record { header = sum_header; payload = sum_payload }, tt));
+}
 
 some_hdus : AreHdusOf some_sums_file (empty_hdu ∷ sum_table ∷ other_table ∷ [])
 some_hdus = record {
@@ -107,10 +111,12 @@ has_none : has_sums image_table_cards ≡ false
 has_none = refl
 
 -- a table among the HDUs of a file
-table_image : (file : List ℕ) (k start : ℕ) (d : Hdu) → hdu_of file (facts_of k start d.header) ≡ d → is_packed d.header (facts_of k start d.header) ≡ true → is_image file (facts_of k start d.header) ≡ true
+table_image : (file : List ℕ) (k start : ℕ) (d : Hdu) → hdu_of file (facts_of k start d.header) ≡ d → is_packed d.header (facts_of k start d.header) ≡ true →
+    is_image file (facts_of k start d.header) ≡ true
 table_image file k start d here packed = ap (λ (x : Hdu). is_packed x.header (facts_of k start d.header)) here ∙ packed
 
-table_sums : (file : List ℕ) (k start : ℕ) (d : Hdu) (cards : List (List ℕ)) (sums : Bool) → hdu_of file (facts_of k start d.header) ≡ d → cards_of d.header ≡ cards → has_sums cards ≡ sums →
+table_sums : (file : List ℕ) (k start : ℕ) (d : Hdu) (cards : List (List ℕ)) (sums : Bool) → hdu_of file (facts_of k start d.header) ≡ d →
+    cards_of d.header ≡ cards → has_sums cards ≡ sums →
     sums_in file (facts_of k start d.header) ≡ sums
 table_sums file k start d cards sums here are has = ap (λ (x : Hdu). has_sums (cards_of x.header)) here ∙ (ap has_sums are ∙ has)
 
@@ -140,7 +146,8 @@ sum_found w passing sound =
     let start : ℕ = 0 + length (hdu_bytes empty_hdu) in
     let f : Header = facts_of 1 start (block_of sum_file_cards) in
     let here : hdu_of sum_file f ≡ sum_table = second_same (hdu_of sum_file e) (hdu_of sum_file f) empty_hdu sum_table [] [] headers.1 in
-    let images : images_in sum_file ≡ f ∷ [] = images_behind sum_file e f headers.0 (first_plain sum_file e refl) (table_image sum_file 1 start sum_table here (sum_packed start)) in
+    let images : images_in sum_file ≡ f ∷ [] =
+    images_behind sum_file e f headers.0 (first_plain sum_file e refl) (table_image sum_file 1 start sum_table here (sum_packed start)) in
     let plan : plan_in sum_file f ≡ plain_plan = ap (λ (x : Hdu). plan_of_cards (cards_of x.header)) here ∙ (ap plan_of_cards sum_cards ∙ plan_said) in
     found_by sum_file f images ∙ options_are sum_file f plan (table_sums sum_file 1 start sum_table sum_file_cards true here sum_cards has_both)
 

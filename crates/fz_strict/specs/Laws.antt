@@ -1,7 +1,6 @@
 -- What is promised of strict files.
 use Rattle.std.specs.Prelude.{ℕ, ◌≡◌, ◌↔◌, ◌++◌, true, All, List, None}
 use Rattle.fz_block.specs.Hdus.{IsHeader}
-use Rattle.fz_grid.specs.Arrays.{NumberArray}
 use Rattle.fz_tile.specs.Plain.{AreBytes}
 use Rattle.fz_head.specs.Planned.{AreOptions}
 use Rattle.fz_head.specs.declared.options.PackOptions.{PackOptions}
@@ -10,7 +9,7 @@ use Rattle.fz_files.specs.StandsFor.{StandsFor}
 use Rattle.fz_files.specs.Walks.{headers_for}
 use Rattle.fz_files.specs.declared.job.Job.TheVariants.{Unpack}
 use Rattle.fz_strict.specs.FoundOptions.{found_options, images_agree}
-use Rattle.fz_strict.specs.SameHdus.{ComesBackAs, HasSameHdus, PacksAgain, StandsForOne}
+use Rattle.fz_strict.specs.SameHdus.{HasSameHdus, IsDecided, StandsForOne}
 use Rattle.fz_strict.specs.Strict.{IsStrict, IsStrictBy}
 
 -- the options that the headers say are ones that `pack` takes
@@ -37,15 +36,14 @@ FoundOptionsDoForEach = (file : List ℕ) → IsStrict file ↔ HasSameHdus (fou
 abbrev pub HdusStandForOne : Type 0
 HdusStandForOne = (file : List ℕ) → IsFirstFault Unpack file None → All (StandsForOne file) (headers_for Unpack file)
 
--- an image that comes back is packed as the table of the same plan
-abbrev pub ImagesPackAgain : Type 0
-ImagesPackAgain =
-    (o : PackOptions) (file : List ℕ) → IsFirstFault Unpack file None →
-    All (λ h. (k start : ℕ) (a : NumberArray) → ComesBackAs o file k start h a → PacksAgain o file k h a) (headers_for Unpack file)
+-- and whether it is what `pack` makes of that is decided by one header, one array and the bytes of one table
+abbrev pub HdusAreDecided : Type 0
+HdusAreDecided = (o : PackOptions) (file : List ℕ) → IsFirstFault Unpack file None → All (IsDecided o file) (headers_for Unpack file)
 
 -- and bytes are a header and what is behind it in one way only
 abbrev pub BytesHaveOneHeader : Type 0
-BytesHaveOneHeader = (header other behind more : List ℕ) → IsHeader header → IsHeader other → header ++ behind ≡ other ++ more → (header ≡ other) × (behind ≡ more)
+BytesHaveOneHeader = (header other behind more : List ℕ) → IsHeader header → IsHeader other → header ++ behind ≡ other ++ more →
+    (header ≡ other) × (behind ≡ more)
 
 -- what a file of bytes stands for are bytes
 abbrev pub RestoredAreBytes : Type 0

@@ -1,6 +1,8 @@
 -- The HDUs of a packed file, each beside what `pack` makes of what it stands for (FITS 4.0, sections 10.1.1 to 10.1.3).
-use Rattle.std.specs.Prelude.{ℕ, suc, ◌≡◌, ◌+◌, ◌^◌, ◌≤◌, List, [], ◌∷◌, ◌++◌, length, Bool, true, false, Option, Some, None, Ok, if◌then◌else◌, ⊤}
+use Rattle.std.specs.Prelude.{ℕ, suc, ◌≡◌, ◌==◌, ◌↔◌, ◌+◌, ◌^◌, ◌<◌, ◌≤◌, List, [], ◌∷◌, ◌++◌, length, codes, Bool, true, false, Option, Some, None, Ok, if◌then◌else◌, ⊤}
 use Rattle.std.specs.List.{flat_map}
+use Rattle.fz_block.specs.Cards.{card_at}
+use Rattle.fz_block.specs.Checks.{header_of, is_set}
 use Rattle.fz_block.specs.Facts.{facts_of}
 use Rattle.fz_block.specs.Hdus.{Hdu, IsHeader, cards_of, hdu_bytes, header_bytes}
 use Rattle.fz_block.specs.Walk.{PassesAt, hdu_of}
@@ -54,10 +56,14 @@ pub record HasSameHdus (o : PackOptions) (file : List ℕ) : Type 0 where
   pub bytes : AreBytes (flat_map hdu_bytes hdus)
   pub same : AreSame o file (front_of file (headers_for Unpack file)) 0 0 (standing file (headers_for Unpack file)) hdus
 
+-- the header of the image that a packed one stands for
+abbrev pub header_again : List ℕ → Header → List ℕ
+header_again file h = header_bytes (plain_header (cards_of (header_in file h)))
+
 -- the image that a packed one stands for, if its tiles are those of this array
 abbrev pub plain_image : List ℕ → Header → NumberArray → Hdu
 plain_image file h a = record {
-  header = header_bytes (plain_header (cards_of (header_in file h)));
+  header = header_again file h;
   payload = zero_filled (plain_bytes (pixel_bits (plan_in file h)) a.numbers);
 }
 
@@ -73,16 +79,39 @@ pub record StandsForOne (file : List ℕ) (h : Header) : Type 0 where
   pub bytes : (x y : List ℕ) → HduStandsFor file h x → HduStandsFor file h y → x ≡ y
   pub hdu : (d : Hdu) → IsHeader d.header → HduStandsFor file h (hdu_bytes d) → IsPlainAs (is_image file h) file h d
 
--- An image comes back as HDU k, which begins at this byte: its tiles are those of this array, and no check of `pack` refuses its header, which
--- asks for the plan of the packed image.
-pub record ComesBackAs (o : PackOptions) (file : List ℕ) (k start : ℕ) (h : Header) (a : NumberArray) : Type 0 where
-  pub image : is_image file h ≡ true
-  pub rows : RowsStandFor file h a
-  pub passes : PassesAt k start (2 ^ 62) (plain_image file h a)
-  pub plan : plan_to_pack o (facts_of k start (plain_image file h a).header) (plain_image file h a).header ≡ Ok (plan_again file h)
+-- The image comes back as HDU k, which begins at this byte: its header passes the checks of every job there, and no check of `pack` refuses
+-- it, which asks for the plan of the packed image.
+pub record ComesBackAs (o : PackOptions) (file : List ℕ) (k start : ℕ) (h : Header) : Type 0 where
+  pub number : k < 65536
+  pub short : length (header_again file h) ≤ 737280
+  pub simple : k ≡ 0 → is_set (codes "SIMPLE") (card_at (header_again file h) 0) ≡ true
+  pub facts : Header
+  pub found : header_of k start (2 ^ 62) (header_again file h) ≡ Ok facts
+  pub plan : plan_to_pack o facts (header_again file h) ≡ Ok (Some (plan_in file h))
 
--- `pack` makes of it the table of the same plan, whose tiles are those of the array
-abbrev pub PacksAgain : PackOptions → List ℕ → ℕ → Header → NumberArray → Type 0
-PacksAgain o file k h a =
-    packed_hdu o k (plain_image file h a)
-    ≡ before_table k ++ packed_table o.sums (plan_in file h) (plain_header (cards_of (header_in file h))) (tile_codes (plan_in file h) a)
+-- the table that `pack` makes of it: that of the plan and of the codes of its tiles
+abbrev pub table_again : PackOptions → List ℕ → Header → NumberArray → List ℕ
+table_again o file h a = packed_table o.sums (plan_in file h) (plain_header (cards_of (header_in file h))) (tile_codes (plan_in file h) a)
+
+-- A packed image whose tiles are those of this array is what `pack` makes of what it stands for: the image comes back, and its table stands in
+-- the file, behind the empty primary where that is due.
+pub record IsSameImage (o : PackOptions) (file front : List ℕ) (k start : ℕ) (h : Header) (a : NumberArray) : Type 0 where
+  pub back : ComesBackAs o file k start h
+  pub table : before_table k ++ table_again o file h a ≡ front ++ hdu_bytes (hdu_of file h)
+
+-- Another HDU is that if `pack` copies it, it ends at byte 2^62 at most, and nothing is in front of it.
+pub record IsSameCopy (o : PackOptions) (file front : List ℕ) (k start : ℕ) (h : Header) : Type 0 where
+  pub number : k < 65536
+  pub end : start + length (hdu_bytes (hdu_of file h)) ≤ 2 ^ 62
+  pub plan : plan_to_pack o h (hdu_of file h).header ≡ Ok None
+  pub alone : front ≡ []
+
+-- So it is decided of an HDU whether it is what `pack` makes of HDU d, for which it stands. One that is no packed image is the first of both
+-- files, or of neither.
+pub record IsDecided (o : PackOptions) (file : List ℕ) (h : Header) : Type 0 where
+  pub image :
+      (front : List ℕ) (k start : ℕ) (d : Hdu) (a : NumberArray) → is_image file h ≡ true → RowsStandFor file h a →
+      IsSame o file front k start h d ↔ ((d ≡ plain_image file h a) × IsSameImage o file front k start h a)
+  pub copy :
+      (front : List ℕ) (k start : ℕ) (d : Hdu) → is_image file h ≡ false → (k == 0) ≡ (h.hdu == 0) →
+      IsSame o file front k start h d ↔ ((d ≡ hdu_of file h) × IsSameCopy o file front k start h)

@@ -1,6 +1,5 @@
 //! The laws of strict files: no code runs.
-ghost use Rattle.fz_strict.specs.Laws.{BytesHaveOneHeader, FoundOptionsAreAllowed, FoundOptionsDo, FoundOptionsDoForEach};
-ghost use Rattle.fz_strict.specs.Laws.{HdusStandForOne, ImagesPackAgain, RestoredAreBytes, StrictImagesAgree, StrictIsHduByHdu};
+ghost use Rattle.fz_strict.specs.Laws.{BytesHaveOneHeader, FoundOptionsAreAllowed, FoundOptionsDo, FoundOptionsDoForEach, HdusAreDecided, HdusStandForOne, RestoredAreBytes, StrictImagesAgree, StrictIsHduByHdu};
 
 use fz_block::{cards_law, found_hdus_law, hdu_list_law, passing_law, walk_law};
 use fz_card::card_laws;
@@ -49,11 +48,11 @@ pub fn same_hdus_law()
     whole_cards_law();
 }
 
-/// Each HDU of a packed file stands for one HDU only: whoever makes that HDU knows what the HDUs are of which
-/// [`same_hdus_law`] speaks, and what `pack` makes of an image. What a file of bytes stands for are bytes.
+/// Each HDU of a packed file stands for one HDU only, and it is decided by that HDU whether it is what `pack` makes of
+/// it, of which [`same_hdus_law`] speaks. What a file of bytes stands for are bytes.
 pub fn one_hdu_law()
     ensures one { HdusStandForOne }
-    ensures packs { ImagesPackAgain }
+    ensures decided { HdusAreDecided }
     ensures split { BytesHaveOneHeader }
     ensures bytes { RestoredAreBytes }
 {

@@ -1,8 +1,23 @@
-//! Which packed files `pack` can have written: the packed files of what they stand for.
+//! Says whether a file is the packed file, by some options, of the file that it stands for.
+//!
+//! Reading order: `laws`, `worked`; `strict_file`, `reread`, `options`, `hdus`, `origin`, `plans`, `headers`, `image`, `tiles`, `coded`, `bytes`.
 #![tactic(auto)]
 
+mod bytes;
+mod coded;
+mod hdus;
+mod headers;
+mod image;
+mod image_law;
 mod laws;
+mod options;
+mod origin;
+mod plans;
+mod reread;
+mod strict_file;
+mod tiles;
 mod worked;
 
 pub use laws::{one_hdu_law, options_law, same_hdus_law};
+pub use strict_file::strict;
 pub use worked::strict_files_law;

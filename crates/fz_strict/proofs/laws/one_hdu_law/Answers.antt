@@ -1,8 +1,8 @@
 -- Tile by tile, and by the first END.
-use Rattle.fz_strict.proofs.Bytes.{restored_are_bytes}
+use Rattle.fz_strict.proofs.RestoredBytes.{restored_are_bytes}
 use Rattle.fz_strict.proofs.Fill.{FillLaws}
 use Rattle.fz_strict.proofs.OneHdu.{HeaderLaws, ImageLaws, hdus_stand_for_one}
-use Rattle.fz_strict.proofs.Packs.{PackLaws, images_pack_again}
+use Rattle.fz_strict.proofs.Packs.{PackLaws, hdus_are_decided}
 use Rattle.fz_strict.proofs.Same.{WalkLaws}
 use Rattle.fz_strict.proofs.Split.{one_split}
 use Rattle.fz_strict.proofs.laws.one_hdu_law.Goals as goal
@@ -20,17 +20,29 @@ returns c =
       packed = c.packed_hdu_law.ensures.packed;
     } in
     let headers : HeaderLaws = record { read = c.whole_cards_law.ensures.read; plain = c.whole_cards_law.ensures.plain; made = c.cards_law.ensures.header } in
-    let images : ImageLaws = record { record_ = c.one_record_law.ensures; arrays = c.tiles_law.ensures.same; tiles = c.shape_law.ensures.tiles; images = c.packed_image_law.ensures.unpack; headers = headers } in
+    let images : ImageLaws = record {
+      record_ = c.one_record_law.ensures;
+      arrays = c.tiles_law.ensures.same;
+      tiles = c.shape_law.ensures.tiles;
+      images = c.packed_image_law.ensures.unpack;
+      headers = headers;
+    } in
     let fill : FillLaws = record { headers = headers; len = c.plain_law.ensures.len } in
     let packs : PackLaws =
     record {
       walks = walks;
       images = images;
       fill = fill;
-      numbers = c.one_tile_law.ensures.numbers;
-      places = c.tiles_law.ensures.places;
-      pixels = c.plain_law.ensures.pixels;
-      slices = c.slice_law.ensures.pixels;
+      pixels = record {
+        tiles = c.shape_law.ensures.tiles;
+        len = c.plain_law.ensures.len;
+        numbers = c.one_tile_law.ensures.numbers;
+        places = c.tiles_law.ensures.places;
+        pixels = c.plain_law.ensures.pixels;
+        slices = c.slice_law.ensures.pixels;
+      };
       cards = c.cards_law.ensures.cards;
+      moved = c.passing_law.ensures.moved;
+      numbered = c.passing_law.ensures.numbered;
     } in
-    record { packs = images_pack_again packs; one = hdus_stand_for_one walks images; split = one_split; bytes = restored_are_bytes c.card_laws.ensures }
+    record { decided = hdus_are_decided packs; one = hdus_stand_for_one walks images; split = one_split; bytes = restored_are_bytes c.card_laws.ensures }

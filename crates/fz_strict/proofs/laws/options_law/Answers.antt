@@ -2,7 +2,7 @@
 use Rattle.fz_strict.proofs.Agree.{strict_images_agree}
 use Rattle.fz_strict.proofs.Allowed.{found_are_allowed}
 use Rattle.fz_strict.proofs.Images.{TableLaws}
-use Rattle.fz_strict.proofs.Options.{StrictLaws, found_options_do}
+use Rattle.fz_strict.proofs.OptionsFound.{StrictLaws, found_options_do}
 use Rattle.fz_strict.proofs.Same.{WalkLaws}
 use Rattle.fz_strict.proofs.laws.options_law.Goals as goal
 

@@ -5,7 +5,7 @@ use Rattle.fz_strict.proofs.Fill.{FillLaws}
 use Rattle.fz_strict.proofs.Images.{TableLaws}
 use Rattle.fz_strict.proofs.Joined.{found_for_each, hdu_by_hdu}
 use Rattle.fz_strict.proofs.OneHdu.{HeaderLaws}
-use Rattle.fz_strict.proofs.Options.{StrictLaws}
+use Rattle.fz_strict.proofs.OptionsFound.{StrictLaws}
 use Rattle.fz_strict.proofs.Same.{WalkLaws}
 use Rattle.fz_strict.proofs.laws.same_hdus_law.Goals as goal
 

@@ -57,7 +57,8 @@ bytes_by : (xs : List ℕ) → list_all (λ b. nat_lt b 256) xs ≡ true → Byt
 bytes_by [] few = tt
 bytes_by (b ∷ xs) few = by_test (nat_lt b 256) refl few (bytes_by xs)
   where
-    by_test : (less : Bool) → nat_lt b 256 ≡ less → (less && list_all (λ b. nat_lt b 256) xs) ≡ true → (list_all (λ b. nat_lt b 256) xs ≡ true → Bytes xs) → Bytes (b ∷ xs)
+    by_test : (less : Bool) → nat_lt b 256 ≡ less → (less && list_all (λ b. nat_lt b 256) xs) ≡ true → (list_all (λ b. nat_lt b 256) xs ≡ true → Bytes xs) →
+        Bytes (b ∷ xs)
     by_test true e few rest = (grind (arith, nat_tests, e), rest few)
     by_test false e few rest = absurd cc
 
@@ -98,7 +99,8 @@ header_are : (cards : List (List ℕ)) → Cards cards → Bytes (header_bytes c
 header_are cards a =
     let text : List ℕ = flat_map (λ c. c) cards ++ codes "END" in
     let front : Bytes text = append_bytes (flat_map (λ c. c) cards) (codes "END") (joined_cards cards a) (bytes_by (codes "END") refl) in
-    append_bytes text (replicate (whole_blocks_of (80 * (length cards + 1)) - length text) 32) front (fill_bytes (whole_blocks_of (80 * (length cards + 1)) - length text) 32 (omega arith))
+    append_bytes text (replicate (whole_blocks_of (80 * (length cards + 1)) - length text) 32) front
+    (fill_bytes (whole_blocks_of (80 * (length cards + 1)) - length text) 32 (omega arith))
 
 cards_are : (header : List ℕ) → Bytes header → Cards (cards_of header)
 cards_are header a = each (range_with_len 0 (unwrap_or (end_of header) 0))
@@ -202,7 +204,8 @@ module _ (laws : CardLaws) (cards : List (List ℕ)) (all : Cards cards) where
   word_are word = plain_cards_are laws (option_to_list (first_of_name (padded word) cards)) (find_cards (has_name (padded word)) cards all)
 
   axis_are : (i : ℕ) → Cards (axis_card cards i)
-  axis_are i = plain_cards_are laws (option_to_list (first_of_name (numbered_name (codes "ZNAXIS") i) cards)) (find_cards (has_name (numbered_name (codes "ZNAXIS") i)) cards all)
+  axis_are i = plain_cards_are laws (option_to_list (first_of_name (numbered_name (codes "ZNAXIS") i) cards))
+      (find_cards (has_name (numbered_name (codes "ZNAXIS") i)) cards all)
 
   leading_are : Cards (leading_card cards)
   leading_are =
@@ -212,7 +215,8 @@ module _ (laws : CardLaws) (cards : List (List ℕ)) (all : Cards cards) where
   counts_are : (primary : Bool) → Cards (count_cards_of primary cards)
   counts_are true = tt
   counts_are false =
-      append_cards (or_card (number_card (codes "PCOUNT") 0) (restored_word (codes "ZPCOUNT") cards)) (or_card (number_card (codes "GCOUNT") 1) (restored_word (codes "ZGCOUNT") cards))
+      append_cards (or_card (number_card (codes "PCOUNT") 0) (restored_word (codes "ZPCOUNT") cards))
+      (or_card (number_card (codes "GCOUNT") 1) (restored_word (codes "ZGCOUNT") cards))
       (or_card_are (number_card (codes "PCOUNT") 0) (restored_word (codes "ZPCOUNT") cards) pcount_card (word_are (codes "ZPCOUNT")))
       (or_card_are (number_card (codes "GCOUNT") 1) (restored_word (codes "ZGCOUNT") cards) gcount_card (word_are (codes "ZGCOUNT")))
 
@@ -225,7 +229,8 @@ module _ (laws : CardLaws) (cards : List (List ℕ)) (all : Cards cards) where
       (append_cards (restored_word (codes "ZBITPIX") cards) (restored_word (codes "ZNAXIS") cards) (word_are (codes "ZBITPIX")) (word_are (codes "ZNAXIS")))
       (append_cards axes (count_cards cards ++ other_cards cards) (flat_cards (axis_card cards) (range_with_len 1 (axis_count cards)) axis_are)
       (append_cards (count_cards cards) (other_cards cards) (counts_are (was_primary cards))
-      (plain_cards_are laws (filter (is_kept (was_primary cards) (axis_count cards)) cards) (filter_cards (is_kept (was_primary cards) (axis_count cards)) cards all)))))
+      (plain_cards_are laws (filter (is_kept (was_primary cards) (axis_count cards)) cards)
+      (filter_cards (is_kept (was_primary cards) (axis_count cards)) cards all)))))
 
 -- ---- pixels
 
@@ -235,7 +240,10 @@ width_bytes bitpix v = by_size (bitpix == 8) (bitpix == 16) (bitpix == 32)
     by_size : (a b c : Bool) → Bytes (to_be_bytes (if a then w8 else (if b then w16 else (if c then w32 else w64))) v)
     by_size true b c = (mod_below _ 256 (omega arith), tt)
     by_size false true c = (mod_below _ 256 (omega arith), (mod_below _ 256 (omega arith), tt))
-    by_size false false true = (mod_below _ 256 (omega arith), (mod_below _ 256 (omega arith), (mod_below _ 256 (omega arith), (mod_below _ 256 (omega arith), tt))))
+    by_size false false true = (
+      mod_below _ 256 (omega arith),
+      (mod_below _ 256 (omega arith), (mod_below _ 256 (omega arith), (mod_below _ 256 (omega arith), tt))),
+    )
     by_size false false false = (
       mod_below _ 256 (omega arith),
       (
@@ -256,7 +264,8 @@ pixels_are bitpix (x ∷ xs) =
     append_bytes (pixel_bytes bitpix x) (plain_bytes bitpix xs) (width_bytes bitpix (cast_unsigned (pixel_width bitpix) x)) (pixels_are bitpix xs)
 
 filled_are : (xs : List ℕ) → Bytes xs → Bytes (zero_filled xs)
-filled_are xs a = append_bytes xs (replicate (whole_blocks_of (length xs) - length xs) 0) a (fill_bytes (whole_blocks_of (length xs) - length xs) 0 (omega arith))
+filled_are xs a = append_bytes xs (replicate (whole_blocks_of (length xs) - length xs) 0) a
+    (fill_bytes (whole_blocks_of (length xs) - length xs) 0 (omega arith))
 
 -- ---- HDUs
 
@@ -285,4 +294,5 @@ hdus_are laws file (h ∷ hs) x all (front, back, parts, here, rest) =
 
 pub restored_are_bytes : CardLaws → RestoredAreBytes
 restored_are_bytes laws file restored all is =
-    All-from_recursion (λ b. b < 256) restored (hdus_are laws file (standing file (headers_for Unpack file)) restored (recursion_from_All (λ b. b < 256) file all) is.parts)
+    All-from_recursion (λ b. b < 256) restored
+    (hdus_are laws file (standing file (headers_for Unpack file)) restored (recursion_from_All (λ b. b < 256) file all) is.parts)

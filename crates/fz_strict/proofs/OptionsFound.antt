@@ -19,10 +19,10 @@ use Rattle.fz_strict.specs.FoundOptions.{block_of, codec_found, found_options, i
 use Rattle.fz_strict.specs.Laws.{FoundOptionsAreAllowed, FoundOptionsDo}
 use Rattle.fz_strict.specs.Strict.{IsStrictBy}
 use Rattle.fz_strict.proofs.Codecs.{asked_again, found_codec}
-use Rattle.fz_strict.proofs.Headers.{is_walked}
+use Rattle.fz_strict.proofs.HeadersRead.{is_walked}
 use Rattle.fz_strict.proofs.Images.{TableLaws, each_among, filter_among, plans, sums, sums_are}
 use Rattle.fz_strict.proofs.Same.{AreSameFor, IsFound, MakeTheSame, WalkLaws, is_found, same_file, same_taken}
-use Rattle.fz_strict.proofs.Tiles.{Among, both_true, found_tile, tile_by}
+use Rattle.fz_strict.proofs.TilesFound.{Among, both_true, found_tile, tile_by}
 
 -- all laws
 pub record StrictLaws : Type 0 where
@@ -46,16 +46,19 @@ pub record HaveFound (q : PackOptions) (ps : List Plan) : Type 0 where
   pub block : q.block ≡ block_of (codec_found ps)
   pub tile : q.tile ≡ tile_found ps
 
-same_codec : (o q : PackOptions) (h : Header) (hs : List Header) → HaveFound q (map (pack_plan_of o) hs) → Among h hs → codec_for q h.bitpix ≡ codec_for o h.bitpix
+same_codec : (o q : PackOptions) (h : Header) (hs : List Header) → HaveFound q (map (pack_plan_of o) hs) → Among h hs →
+    codec_for q h.bitpix ≡ codec_for o h.bitpix
 same_codec o q h hs found among = by_width (int_eq h.bitpix (pos 64)) refl
   where
     by_width : (long : Bool) → int_eq h.bitpix (pos 64) ≡ long →
         (if long then Plain else asked_codec q.codec q.block h.bitpix) ≡ (if long then Plain else asked_codec o.codec o.block h.bitpix)
     by_width true is = refl
     by_width false is =
-        (λ i. asked_codec (found.codec i) (found.block i) h.bitpix) ∙ asked_again o (codec_found (map (pack_plan_of o) hs)) h.bitpix (found_codec o h hs among is)
+        (λ i. asked_codec (found.codec i) (found.block i) h.bitpix)
+        ∙ asked_again o (codec_found (map (pack_plan_of o) hs)) h.bitpix (found_codec o h hs among is)
 
-same_tile : (o q : PackOptions) (h : Header) (hs : List Header) → HaveFound q (map (pack_plan_of o) hs) → Among h hs → is_packable h ≡ true → tile_by q h ≡ tile_by o h
+same_tile : (o q : PackOptions) (h : Header) (hs : List Header) → HaveFound q (map (pack_plan_of o) hs) → Among h hs → is_packable h ≡ true →
+    tile_by q h ≡ tile_by o h
 same_tile o q h hs found among packable =
     ap (λ t. cut_tile (lengths_of h.axes) (asked_tile t (lengths_of h.axes))) found.tile ∙ found_tile o h hs among (packable_axes h packable)
 
@@ -85,11 +88,13 @@ is_known laws o file is =
     let walked = is_walked laws.walks file is.stands.sound in
     let packed : IsPacked o is.restored file = record { taken = is.taken; packed = is.packed; few = walked.few } in
     let all : List Header = standing file (headers_for Unpack file) in
-    let become : Become o is.restored found.0 file all = subst (λ hs. Become o is.restored hs file all) found.1.headers (laws.become o is.restored file packed) in
+    let become : Become o is.restored found.0 file all =
+    subst (λ hs. Become o is.restored hs file all) found.1.headers (laws.become o is.restored file packed) in
     record {
       hs = found.0;
       found = found.1;
-      plans = subst (λ l. map (plan_in file) l ≡ map (pack_plan_of o) (filter is_packable found.0)) walked.images (plans laws.tables o is.restored file found.0 all become);
+      plans = subst (λ l. map (plan_in file) l ≡ map (pack_plan_of o) (filter is_packable found.0)) walked.images
+          (plans laws.tables o is.restored file found.0 all become);
       sums = subst (λ l. AllByRecursion (λ h. sums_in file h ≡ o.sums) l) walked.images (sums laws.tables o is.restored file found.0 all become);
     }
 
@@ -103,7 +108,8 @@ unfolding found_options
 found_sums file = refl
 
 -- make the same of each image that can be packed
-pub same_for : (o : PackOptions) (file source : List ℕ) (known : IsKnown o file source) (h : Header) → Among h (filter is_packable known.hs) → is_packable h ≡ true →
+pub same_for : (o : PackOptions) (file source : List ℕ) (known : IsKnown o file source) (h : Header) → Among h (filter is_packable known.hs) →
+    is_packable h ≡ true →
     MakeTheSame o (found_options file) h
 same_for o file source known h among packable =
     let q : PackOptions = found_options file in

@@ -1,5 +1,4 @@
 -- The headers of a file in which `unpack` finds no fault.
-use Rattle.std.specs.Prelude.{⊤}
 use Rattle.std.proofs.Common.{◌≡◌, ℕ, suc, ◌+◌, ◌^◌, ◌<◌, ◌≤◌, ◌||◌, Bool, true, false, List, [], ◌∷◌, length, map, Option, Some, None, Result, Ok, IsOk, if◌then◌else◌, refl, sym, subst, ap, arith}
 use Rattle.std.specs.List.{AllByRecursion, filter, flat_map}
 use Rattle.fz_base.specs.Refusal.{first_refusal}
@@ -8,7 +7,7 @@ use Rattle.fz_block.specs.Checks.{headers_of, unless_refused, walk_of}
 use Rattle.fz_block.specs.Facts.{IsHeaderOf}
 use Rattle.fz_block.specs.Hdus.{Hdu, hdu_bytes}
 use Rattle.fz_block.specs.Header.{next_start_of}
-use Rattle.fz_block.specs.Walk.{AreHeadersBetween, RefusesNone, hdu_of, is_stop, stops}
+use Rattle.fz_block.specs.Walk.{AreHeadersBetween, PassFrom, PassesAt, RefusesNone, hdu_of, is_stop, stops}
 use Rattle.fz_block.specs.declared.header.Header.{Header}
 use Rattle.fz_head.specs.JobChecks.{IsImageOf, image_in, is_after_empty, unpack_checks, unpack_hdu_checks}
 use Rattle.fz_head.specs.Judges.{unpack_judge}
@@ -25,7 +24,8 @@ use Rattle.fz_strict.proofs.Same.{WalkLaws, found_walk, no_header_fault}
 pub one_answer : (r : Result (List Header) Fault) (xs ys : List Header) → r ≡ Ok xs → r ≡ Ok ys → xs ≡ ys
 one_answer r xs ys first second = cc
 
-pub headers_are : (k start end : ℕ) (file : List ℕ) (hs : List Header) → AreHeadersBetween k start end file hs → AllByRecursion (λ h. IsHeaderOf (hdu_of file h).header h) hs
+pub headers_are : (k start end : ℕ) (file : List ℕ) (hs : List Header) → AreHeadersBetween k start end file hs →
+    AllByRecursion (λ h. IsHeaderOf (hdu_of file h).header h) hs
 headers_are k start end file [] are = tt
 headers_are k start end file (h ∷ hs) are = (are.2, headers_are (suc k) (next_start_of h) end file hs are.3)
 
@@ -64,7 +64,8 @@ is_walked w file sound =
     let ds : List Hdu = map (hdu_of file) hs in
     let all : headers_of 65536 file ≡ Ok hs = w.whole (unpack_judge file) 65536 file hs walk.1 (never_stops file hs) in
     let parts : flat_map hdu_bytes ds ≡ file = (w.parts 65536 file hs all).parts in
-    let ends : 0 + length (flat_map hdu_bytes ds) ≤ 2 ^ 62 = pass_ends 0 0 (length file) ds (some_map file hs found.0) (w.pass (unpack_judge file) 65536 file hs walk.1) in
+    let ends : 0 + length (flat_map hdu_bytes ds) ≤ 2 ^ 62 =
+    pass_ends 0 0 (length file) ds (some_map file hs found.0) (w.pass (unpack_judge file) 65536 file hs walk.1) in
     let same : length (flat_map hdu_bytes ds) ≡ length file = ap length parts in
     let headers : headers_for Unpack file ≡ hs = unpack_headers file hs walk.1 in
     record {
@@ -79,23 +80,35 @@ is_walked w file sound =
 -- what is taken of the law of packed images
 abbrev pub PackedImages : Type 0
 PackedImages =
-    (h : Header) (header : List ℕ) (after_empty : Bool) → IsHeaderOf header h → is_packed header h ≡ true → first_refusal (unpack_checks h header after_empty) ≡ None →
+    (h : Header) (header : List ℕ) (after_empty : Bool) → IsHeaderOf header h → is_packed header h ≡ true →
+    first_refusal (unpack_checks h header after_empty) ≡ None →
     IsImageOf header h (image_in h header)
 
 -- the facts are those of the header, and a packed image is the one that the header says
 pub record IsRead (file : List ℕ) (h : Header) : Type 0 where
   pub header : IsHeaderOf (hdu_of file h).header h
   pub image : is_image file h ≡ true → IsImageOf (header_in file h) h (image_in h (header_in file h))
+  pub start : ℕ
+  pub passes : PassesAt h.hdu start (length file) (hdu_of file h)
 
 pub answer_none : {A : Type 0} (answer : A) (found : Option Fault) → IsOk (unless_refused answer found) → found ≡ None
 answer_none answer None ok = refl
 answer_none answer (Some fault) ok = absurd cc
 
-all_read : PackedImages → (file : List ℕ) (hs : List Header) → AllByRecursion (λ h. IsHeaderOf (hdu_of file h).header h) hs → RefusesNone (unpack_judge file) hs → AllByRecursion (IsRead file) hs
-all_read images file [] are none = tt
-all_read images file (h ∷ hs) are none =
-    let passed : first_refusal (unpack_hdu_checks file h) ≡ None = answer_none false (first_refusal (unpack_hdu_checks file h)) none.0 in
-    (record { header = are.0; image = λ packed. images h (header_in file h) (is_after_empty file h) are.0 packed passed }, all_read images file hs are.1 none.1)
+all_read : PackedImages → (file : List ℕ) (k start end first : ℕ) (hs : List Header) → AreHeadersBetween k start end file hs →
+    PassFrom k first (length file) (map (hdu_of file) hs) →
+    RefusesNone (unpack_judge file) hs → AllByRecursion (IsRead file) hs
+all_read images file k start end first [] are pass none = tt
+all_read images file k start end first (h ∷ hs) are pass none =
+    let passed : first_refusal (unpack_hdu_checks file h) ≡ None = answer_none false (first_refusal (unpack_hdu_checks file h)) none.0 in (
+      record {
+        header = are.2;
+        image = λ packed. images h (header_in file h) (is_after_empty file h) are.2 packed passed;
+        start = first;
+        passes = subst (λ n. PassesAt n first (length file) (hdu_of file h)) (sym are.0) pass.0;
+      },
+      all_read images file (suc k) (next_start_of h) end (first + length (hdu_bytes (hdu_of file h))) hs are.3 pass.1 none.1,
+    )
 
 -- of the headers of a file
 pub are_read : WalkLaws → PackedImages → (file : List ℕ) → IsFirstFault Unpack file None → AllByRecursion (IsRead file) (headers_for Unpack file)
@@ -103,7 +116,8 @@ are_read w images file sound =
     let walk = unpack_walk file (no_header_fault (header_fault Unpack file) Unpack file sound) in
     let hs : List Header = walk.0 in
     let found = w.headers (unpack_judge file) 65536 file hs walk.1 in
-    subst (AllByRecursion (IsRead file)) (sym (unpack_headers file hs walk.1)) (all_read images file hs (headers_are 0 0 found.3.0 file hs found.3.2) found.2)
+    subst (AllByRecursion (IsRead file)) (sym (unpack_headers file hs walk.1))
+    (all_read images file 0 0 found.3.0 0 hs found.3.2 (w.pass (unpack_judge file) 65536 file hs walk.1) found.2)
 
 -- and of those that stand for something
 pub standing_read : (file : List ℕ) (hs : List Header) → AllByRecursion (IsRead file) hs → AllByRecursion (IsRead file) (standing file hs)

@@ -135,7 +135,8 @@ widest_fits : (o : PackOptions) (ns : List ℕ) (hs : List Header) → Fits ns (
 widest_fits o ns [] = fits_none ns (cut_tile ns (asked_tile o.tile ns))
 widest_fits o ns (g ∷ gs) =
     let ts : List ℕ = cut_tile ns (asked_tile o.tile ns) in
-    wider_fits ns ts (lengths_of (pack_plan_of o g).tile) (widest (map (pack_plan_of o) gs)) (subst (Fits ns ts) (sym (plan_tile o g)) (asked_fits o.tile ns (lengths_of g.axes))) (widest_fits o ns gs)
+    wider_fits ns ts (lengths_of (pack_plan_of o g).tile) (widest (map (pack_plan_of o) gs))
+    (subst (Fits ns ts) (sym (plan_tile o g)) (asked_fits o.tile ns (lengths_of g.axes))) (widest_fits o ns gs)
 
 widest_covers : (o : PackOptions) (h : Header) (hs : List Header) → Among h hs → Covers (tile_by o h) (widest (map (pack_plan_of o) hs))
 widest_covers o h [] among = absurd among
@@ -144,7 +145,8 @@ widest_covers o h (g ∷ gs) (inl is) =
     let ws : List ℕ = widest (map (pack_plan_of o) gs) in
     let same : ts ≡ tile_by o h = plan_tile o g ∙ ap (tile_by o) (sym is) in
     subst (λ l. Covers l (wider ts ws)) same (covers_first ts ws)
-widest_covers o h (g ∷ gs) (inr among) = covers_second (tile_by o h) (lengths_of (pack_plan_of o g).tile) (widest (map (pack_plan_of o) gs)) (widest_covers o h gs among)
+widest_covers o h (g ∷ gs) (inr among) =
+    covers_second (tile_by o h) (lengths_of (pack_plan_of o g).tile) (widest (map (pack_plan_of o) gs)) (widest_covers o h gs among)
 
 -- the tile that is found makes the same tile of each image
 pub found_tile : (o : PackOptions) (h : Header) (hs : List Header) → Among h hs → list_all (nat_le 1) (lengths_of h.axes) ≡ true →
@@ -153,7 +155,8 @@ found_tile o h [] among some = absurd among
 found_tile o h (g ∷ gs) among some =
     let ns : List ℕ = lengths_of h.axes in
     let ws : List ℕ = widest (map (pack_plan_of o) (g ∷ gs)) in
-    ap (cut_tile ns) (axes_again ws) ∙ cut_is ns (tile_by o h) ws (cut_inside ns (asked_tile o.tile ns) some) (widest_fits o ns (g ∷ gs)) (widest_covers o h (g ∷ gs) among)
+    ap (cut_tile ns) (axes_again ws)
+    ∙ cut_is ns (tile_by o h) ws (cut_inside ns (asked_tile o.tile ns) some) (widest_fits o ns (g ∷ gs)) (widest_covers o h (g ∷ gs) among)
 
 -- ---- a call takes it
 

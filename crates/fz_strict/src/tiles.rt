@@ -1,0 +1,159 @@
+//! The tiles of a packed image: each is decoded, and then compared with what `pack` writes for its pixels.
+ghost use Rattle.std.specs.Prelude.{ℕ, ◌≡◌, ◌+◌, ◌*◌, ◌^◌, ◌<◌, ◌≤◌, None, Some, map, length as len, IfOk, IfSome, OnOk};
+ghost use Rattle.std.specs.List.{range_with_len};
+ghost use Rattle.fz_base.specs.Stop.{Codes, IfRefused};
+ghost use Rattle.fz_base.specs.Told.{StaysTold};
+ghost use Rattle.fz_block.specs.Header.{next_start_of};
+ghost use Rattle.fz_fetch.specs.Fetched.{AreFetched};
+ghost use Rattle.fz_fetch.specs.Images.{HaveRoom, IsReadable, IsSaid};
+ghost use Rattle.fz_fetch.specs.Rows.{StandsWithin};
+ghost use Rattle.fz_fetch.specs.Stops.{Fetches};
+ghost use Rattle.fz_files.specs.FirstFault.{IsFirstRowFault, image_row, rows_of};
+ghost use Rattle.fz_files.specs.Packed.{tiles_in};
+ghost use Rattle.fz_image.specs.Layout.{IsLayout};
+ghost use Rattle.fz_job.specs.Clauses.{IsOfSomeRow};
+ghost use Rattle.fz_job.specs.Keeps.{SourceStays, WindowStays};
+ghost use Rattle.fz_strict.specs.Compared.{AreReady, ComparesNext, ComparesTable, IsSoFar, begun};
+
+use crate::coded::compare_round;
+use fz_base::{Gate, Source, Stop};
+use fz_block::{Header, next_start};
+use fz_fetch::{MOST_TILES, fetch_tiles, number_tiles};
+use fz_grid::Grid;
+use fz_head::PackedImage;
+use fz_image::{Layout, Progress};
+use fz_pool::Window;
+use fz_sum::sum_law;
+use fz_tile::one_record_law;
+use std::thread::Threads;
+
+/// Decodes all tiles of a packed image, and compares the table with that of a layout, if there is one. Answers what
+/// `pack` has written of the table when all its tiles are written; none if the tables differ.
+///
+/// Refused: the lowest faulty row, as `fetch_tiles` refuses it.
+pub(crate) fn compare_tiles<R: Threads + Sync, S: Source, G: Gate>(
+    rt: &R,
+    source: &mut S,
+    window: &mut Window,
+    gate: &G,
+    header: &Header,
+    image: &PackedImage,
+    layout: &Option<Layout>,
+    copy: &mut [u8],
+) -> Result<Option<Progress>, Stop>
+    requires image { IsReadable image.now }
+    requires within { StandsWithin (S.attached source.old) image.now.table }
+    requires inside { (n : ℕ) × (S.attached source.old ≡ Some n) × (next_start_of header.now ≤ n) }
+    requires end { next_start_of header.now ≤ 2 ^ 62 }
+    requires said { IfSome (S.held source.old) (λ g. IsSaid g header.now image.now) }
+    requires window { HaveRoom image.now window.old }
+    requires layout { IfSome layout.now (λ l. IsLayout l × (l.plan ≡ image.now.plan)) }
+    requires copy { 4096 < len copy.old }
+    ensures compared { IfOk result (λ c. IfSome layout.now (λ l. IfSome (S.held source.old) (λ g. ComparesTable g header.now l c))) }
+    ensures progress { IfOk result (λ c. IfSome c (λ w. IfSome layout.now (λ l. IsSoFar l w × (w.tiles ≡ l.tiles)))) }
+    ensures none { layout.now ≡ None → IfOk result (λ c. c ≡ None) }
+    ensures sound { OnOk result (IfSome (S.held source.old) (λ g. IsFirstRowFault g (rows_of g header.now) None)) }
+    ensures fault { IfRefused result (λ x. IfSome (S.held source.old) (λ g. IsFirstRowFault g (rows_of g header.now) (Some x))) }
+    ensures row { IfRefused result IsOfSomeRow }
+    ensures copy { len copy.new ≡ len copy.old }
+    ensures window { WindowStays window.old window.new }
+    ensures source { SourceStays (S.held source.old) (S.held source.new) (S.attached source.old) (S.attached source.new) }
+    ensures told { StaysTold (S.ranges source.old) (S.ranges source.new) }
+    ensures cause { Fetches (S.tally source.old) (S.tally source.new) result }
+{
+    one_record_law();
+    sum_law();
+    let tiles = Grid::new(image.plan.shape, image.plan.tile).tile_count();
+    let end = next_start(header);
+    let mut progress = begin(layout);
+    let mut first = 0;
+    while first < tiles {
+        let count = (2 * window.workers()).min(tiles - first);
+        fetch_round(rt, source, window, gate, header, image, first, count, copy)?;
+        progress = compare_next(rt, source, window, gate, end, layout, progress, count, copy)?;
+        first += count;
+    }
+    Ok(progress)
+}
+
+// Nothing was compared of the table of a layout, if there is one.
+fn begin(layout: &Option<Layout>) -> Option<Progress>
+    ensures { result ≡ begun layout.now }
+{
+    match layout {
+        Some(_) => Some(Progress::new()),
+        None => None,
+    }
+}
+
+// Compares the next tiles, whose pixels are in the first slots, unless there was a difference before.
+fn compare_next<R: Threads + Sync, S: Source, G: Gate>(
+    rt: &R,
+    source: &mut S,
+    window: &mut Window,
+    gate: &G,
+    end: u64,
+    layout: &Option<Layout>,
+    progress: Option<Progress>,
+    count: u32,
+    copy: &mut [u8],
+) -> Result<Option<Progress>, Stop>
+    requires within { (n : ℕ) × (S.attached source.old ≡ Some n) × (end ≤ n) }
+    requires ready { IfSome layout.now (λ l. IfSome progress (λ w. AreReady l w count window.old)) }
+    requires some { 0 < count }
+    requires few { count ≤ 128 }
+    requires near { count ≤ 2 * window.old.workers }
+    requires copy { 4096 < len copy.old }
+    ensures compared { IfOk result (ComparesNext (S.held source.old) end layout.now progress count window.old.slots) }
+    ensures copy { len copy.new ≡ len copy.old }
+    ensures window { WindowStays window.old window.new }
+    ensures source { SourceStays (S.held source.old) (S.held source.new) (S.attached source.old) (S.attached source.new) }
+    ensures told { StaysTold (S.ranges source.old) (S.ranges source.new) }
+    ensures cause { Codes (S.tally source.old) (S.tally source.new) result }
+{
+    match layout {
+        Some(layout) => match progress {
+            Some(progress) => compare_round(
+                rt, source, window, gate, end, layout, progress, count, copy,
+            ),
+            None => Ok(None),
+        },
+        None => Ok(None),
+    }
+}
+
+// Decodes so many tiles from this one on.
+fn fetch_round<R: Threads + Sync, S: Source, G: Gate>(
+    rt: &R,
+    source: &mut S,
+    window: &mut Window,
+    gate: &G,
+    header: &Header,
+    image: &PackedImage,
+    first: u32,
+    count: u32,
+    rows: &mut [u8],
+) -> Result<(), Stop>
+    requires image { IsReadable image.now }
+    requires within { StandsWithin (S.attached source.old) image.now.table }
+    requires said { IfSome (S.held source.old) (λ g. IsSaid g header.now image.now) }
+    requires tiles { first + count ≤ tiles_in image.now.plan }
+    requires near { count ≤ 2 * window.old.workers }
+    requires few { count ≤ 128 }
+    requires window { HaveRoom image.now window.old }
+    requires rows { 4096 ≤ len rows.old }
+    ensures fetched { OnOk result (AreFetched (S.held source.old) header.now image.now.plan (range_with_len first count) window.new.slots) }
+    ensures sound { OnOk result (IfSome (S.held source.old) (λ g. IsFirstRowFault g (map (image_row header.now) (range_with_len first count)) None)) }
+    ensures fault { IfRefused result (λ x. IfSome (S.held source.old) (λ g. IsFirstRowFault g (map (image_row header.now) (range_with_len first count)) (Some x))) }
+    ensures row { IfRefused result IsOfSomeRow }
+    ensures rows { len rows.new ≡ len rows.old }
+    ensures window { WindowStays window.old window.new }
+    ensures source { SourceStays (S.held source.old) (S.held source.new) (S.attached source.old) (S.attached source.new) }
+    ensures told { StaysTold (S.ranges source.old) (S.ranges source.new) }
+    ensures cause { Fetches (S.tally source.old) (S.tally source.new) result }
+{
+    let mut numbers = [0; MOST_TILES];
+    let tiles = &mut numbers[..count as usize];
+    number_tiles(first, tiles);
+    fetch_tiles(rt, source, header, image, tiles, rows, window, gate)
+}
