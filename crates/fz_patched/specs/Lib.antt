@@ -1,0 +1,16 @@
+pub mod Amends
+pub mod Buffers
+pub mod Checks
+pub mod FirstPatchFault
+pub mod Form
+pub mod Given
+pub mod GridPatch
+pub mod Headers
+pub mod Laws
+pub mod NewNumbers
+pub mod PatchFaults
+pub mod RicePatch
+pub mod Safe
+pub mod SumPatch
+pub mod WidePatch
+pub mod Writes

@@ -1,0 +1,149 @@
+//! The laws of patches: no code runs.
+ghost use Rattle.fz_patched.specs.Laws.{AmendedHeadersSayTheSame, CardsStandInPlace, EachPrefixIsSafe};
+ghost use Rattle.fz_patched.specs.Laws.{HasOnePatch, HasOnePatchFault, HasWritesOrFault};
+ghost use Rattle.fz_patched.specs.Laws.{KeptRowsStand, NewNumbersAreGiven, NewNumbersStay, NewRowsStand, OthersKeepNumbers};
+ghost use Rattle.fz_patched.specs.Laws.{PatchIsBounded, TargetsAreGiven, TilesAreReplaced, WritesAreInOrder};
+
+use fz_base::places_law;
+use fz_block::{cards_law, found_hdus_law, found_law, hdu_at_law, start_law};
+use fz_card::card_laws;
+use fz_grid::{place_law, shape_law, tile_pixels_law, tiles_law};
+use fz_head::{packed_image_law, sum_cards_law};
+use fz_parts::cutout_law;
+use fz_sum::{sum_law, with_card_law};
+use fz_table::descriptor_law;
+use fz_tile::{column_law, one_fault_law, one_record_law, plain_law, tile_code_law};
+
+/// A header in which a patch changed cards passes every check that it passed before, and says the same image.
+pub fn amended_header_law()
+    ensures { AmendedHeadersSayTheSame }
+{
+    card_laws();
+    cards_law();
+}
+
+/// A card that is written in place is in the header of the file, and all others stay.
+pub fn card_in_file_law()
+    ensures { CardsStandInPlace }
+{}
+
+/// The given image of a patch has its pixels, and lies within the packed one. The new numbers of tiles: those of the array
+/// with its box replaced; those of the given image at the pixels of the box, line by line; and the old ones at all others.
+pub fn new_numbers_law()
+    ensures target { TargetsAreGiven }
+    ensures tiles { TilesAreReplaced }
+    ensures others { OthersKeepNumbers }
+    ensures given { NewNumbersAreGiven }
+    ensures stay { NewNumbersStay }
+{
+    cutout_law();
+    hdu_at_law();
+    place_law();
+    plain_law();
+    tiles_law();
+}
+
+/// A row stands for the same numbers if its descriptors and its record stay, and the heap goes at least as far.
+pub fn kept_rows_law()
+    ensures { KeptRowsStand }
+{
+    amended_header_law();
+    found_hdus_law();
+    hdu_at_law();
+    one_fault_law();
+    one_record_law();
+    packed_image_law();
+}
+
+/// A patch has one first fault at most, and one list of writes exactly if it has none.
+pub fn one_patch_law()
+    ensures one { HasOnePatch }
+    ensures fault { HasOnePatchFault }
+    ensures writes { HasWritesOrFault }
+{
+    found_hdus_law();
+    hdu_at_law();
+    one_fault_law();
+    one_record_law();
+    packed_image_law();
+}
+
+/// No taking of a patch passes its bound.
+pub fn patch_buffers_law()
+    ensures { PatchIsBounded }
+{
+    hdu_at_law();
+}
+
+/// A row that describes the code of the new numbers of a tile stands for these.
+pub fn new_row_law()
+    ensures { NewRowsStand }
+{
+    amended_header_law();
+    column_law();
+    descriptor_law();
+    found_hdus_law();
+    hdu_at_law();
+    new_numbers_law();
+    one_fault_law();
+    one_record_law();
+    packed_image_law();
+    place_law();
+    plain_law();
+    shape_law();
+    tile_code_law();
+    tile_pixels_law();
+}
+
+/// Every write of a patch begins within the file or at the end of the one before it, so that none leaves a gap.
+pub fn writes_in_order_law()
+    ensures { WritesAreInOrder }
+{
+    card_laws();
+    cards_law();
+    column_law();
+    found_hdus_law();
+    hdu_at_law();
+    new_numbers_law();
+    one_fault_law();
+    one_record_law();
+    packed_image_law();
+    place_law();
+    plain_law();
+    shape_law();
+    sum_cards_law();
+    sum_law();
+    tile_code_law();
+    tile_pixels_law();
+    with_card_law();
+}
+
+/// After every prefix of the writes of a patch the file is safe to read: a cut finds the image, and each tile that had
+/// numbers has them, or its new ones.
+pub fn safe_patch_law()
+    ensures { EachPrefixIsSafe }
+{
+    amended_header_law();
+    card_laws();
+    cards_law();
+    column_law();
+    found_hdus_law();
+    found_law();
+    hdu_at_law();
+    kept_rows_law();
+    new_numbers_law();
+    new_row_law();
+    one_fault_law();
+    one_record_law();
+    packed_image_law();
+    place_law();
+    places_law();
+    plain_law();
+    shape_law();
+    start_law();
+    sum_cards_law();
+    sum_law();
+    tile_code_law();
+    tile_pixels_law();
+    with_card_law();
+}
