@@ -45,6 +45,14 @@ def wrong_sum(file, h):
         t = text_of(card_at(header, i)).lstrip(b' ')
         if not (t.isdigit() and int(t) < 2 ** 32 and int(t) == ones_sum(data)): return True
     return j is not None and ones_sum(header + data) != 4294967295
+def verdicts(file, h):
+    """what is said of both sums of an HDU"""
+    header, data = header_in(file, h), payload_of(file, h)
+    i, j = told_sum(DATASUM, header), told_sum(CHECKSUM, header)
+    t = text_of(card_at(header, i)).lstrip(b' ') if i is not None else b''
+    return ('Absent' if i is None else 'Right' if t.isdigit() and int(t) == ones_sum(data) else 'Wrong',
+            'Absent' if j is None else 'Right' if ones_sum(header + data) == 4294967295 else 'Wrong')
+def renewed(v): return 'Right' if v == 'Wrong' else v
 def vars_of(h): return {k: v for k, v in h.__dict__.items()}
 
 count = dict(patches=0, prefixes=0, faults=0, hostile=0)
@@ -92,9 +100,20 @@ def tries(file, patch, job, every=True):
             assert vars_of(patch_target(now, patch, job)) == vars_of(hn), ('again', i)
         else:
             assert vars_of(patch_target(now[:len(file)], patch, job)) == vars_of(h), ('back', i)
+            assert all(numbers(now[:len(file)], h, t) is not None for t in tiles), ('back numbers', i)
     for t in tiles: assert numbers(now, hn, t) == new[t], 'new'
     assert next_start_of(hn) == len(now), 'ends'
     assert not wrong_sum(now, hn), 'sums'
+    assert verdicts(now, hn) == tuple(renewed(v) for v in verdicts(file, h)), ('verdicts', verdicts(file, h), verdicts(now, hn))
+    count[verdicts(file, h)] = count.get(verdicts(file, h), 0) + 1
+    if all(xs is not None for xs in before):
+        array = [None] * product(p.shape)
+        for t in range(tiles_in(p)):
+            for c, x in zip(tile_coordinates(p.shape, p.tile, t), before[t]): array[place_of(p.shape, c)] = x
+        given = g.numbers(); after = [new_number(g, given, c, x) for c, x in zip(box_coordinates(p.shape), array)]
+        for t in range(tiles_in(p)):
+            assert numbers(now, hn, t) == [after[place_of(p.shape, c)] for c in tile_coordinates(p.shape, p.tile, t)], ('array', t)
+        count['arrays'] = count.get('arrays', 0) + 1
     assert plan_in(now, hn).__dict__ == p.__dict__, 'plan'
     return None
 
