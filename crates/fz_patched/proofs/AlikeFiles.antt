@@ -105,8 +105,8 @@ module _ (laws : HduLaws) (k start : ℕ) (file : List ℕ) (e : Header) (found 
       ∙ (sym (ap (header_in k start file) (laws.blocks k start file e found)) ∙ found)
 
   -- in another file
-  pub found_in : (other : List ℕ) → length file ≤ length other → take (length header) (drop start other) ≡ header → next_start_of e ≤ length other → next_start_of e ≤ 2 ^ 62 → hdu_at k start other ≡ Ok e
-  found_in other long same within near =
+  pub found_in : (other : List ℕ) → take (length header) (drop start other) ≡ header → next_start_of e ≤ length other → next_start_of e ≤ 2 ^ 62 → hdu_at k start other ≡ Ok e
+  found_in other same within near =
       let stands : StandsAt k start other header = record { whole = facts.2.whole; short = facts.2.short; place = same; number = number; begins = begins } in
       let end : hdu_end k start header ≡ next_start_of e =
       (λ j. sym facts.1 j + header_length j + whole_blocks_of (sym (ap (λ (x : Header). x.data_len) facts.2.facts ∙ ap (λ n. data_len_of n header) facts.0) j)) in

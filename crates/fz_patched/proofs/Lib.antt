@@ -1,7 +1,9 @@
 pub mod Again
 pub mod Alike
+pub mod AlikeEnds
 pub mod AlikeFiles
 pub mod AlikeWalks
+pub mod AllWritten
 pub mod AmendedCards
 pub mod AmendedFacts
 pub mod AmendedHeaders
@@ -12,6 +14,7 @@ pub mod CardWrites
 pub mod CodesWritten
 pub mod Counts
 pub mod DataLen
+pub mod EarlierRows
 pub mod FaultTarget
 pub mod FormColumns
 pub mod FormSteps
@@ -34,6 +37,7 @@ pub mod NewTiles
 pub mod OnePatch
 pub mod Passes
 pub mod PatchBuffers
+pub mod PatchedAgain
 pub mod Patching
 pub mod Prefixes
 pub mod Repeats
@@ -48,6 +52,11 @@ pub mod SaidPlan
 pub mod Slices
 pub mod StepWrites
 pub mod SumSteps
+pub mod SumsPatched
+pub mod SumsRenewed
+pub mod SumsWritten
 pub mod TargetFacts
 pub mod Walked
+pub mod WholeImage
+pub mod WholePatch
 pub mod WideSteps

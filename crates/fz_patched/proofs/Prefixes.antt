@@ -157,6 +157,13 @@ pub record IsPrefix (file : List ℕ) (h : Header) (g : Given) (es : List TileCo
       × (count ≡ h.pcount + length (heap_of es))
       × (drop (heap_end (image_table file h)) x ≡ drop (heap_end (image_table file h)) (with_codes file h es)))
 
+-- and once PCOUNT is written
+pub record LatePrefix (file : List ℕ) (h : Header) (g : Given) (es : List TileCode) (x : List ℕ) : Type 0 where
+  pub is : IsPrefix file h g es x
+  pub count_is : is.count ≡ h.pcount + length (heap_of es)
+  pub long_is : length x ≡ grown_end h (length (heap_of es))
+  pub tail_is : drop (heap_end (image_table file h)) x ≡ drop (heap_end (image_table file h)) (with_codes file h es)
+
 pub codes_after : (start end : ℕ) (es : List TileCode) → start ≤ end → AreAfter start (code_writes end es)
 codes_after start end [] low = tt
 codes_after start end (e ∷ es) low = (low, codes_after start (end + length e.bytes) es (omega arith))
@@ -329,6 +336,30 @@ module _ (places : CardPlaceLaws) (cards : CardLaws) (file : List ℕ) (h : Head
       by_row row (inl same) tail = inl same
       by_row row (inr is) tail = inr (is, refl, tail)
 
+  -- what is after the heap stays, and the file is no longer than it is then
+  late_order : (k : ℕ) → AreInOrder (length (with_codes file h es)) (card ∷ take k later)
+  late_order k =
+      let all_order : AreInOrder (length file) (heap_writes file h es ++ (card ∷ later)) =
+      subst (AreInOrder (length file)) (all_is s ∙ (λ j. are.heap_is j ++ (are.pcount_is j ++ later))) (in_order file h g has es s are) in
+      order_take (suc k) (length (with_codes file h es)) (card ∷ later) (order_rest (heap_writes file h es) (card ∷ later) file all_order)
+
+  late_within : (k : ℕ) → EndWithin end (card ∷ take k later)
+  late_within k =
+      let in_place : AreInPlace file h table (new_rows file h g es) (card ∷ later) =
+      subst (AreInPlace file h table (new_rows file h g es)) (ap (λ l. l ++ later) are.pcount_is) (rest_in_place file h g has es s are) in
+      within_take end (suc k) (card ∷ later) (in_place_within file file h table (new_rows file h g es) (card ∷ later) (lies file h has) (some_row file h has) in_place)
+
+  late_tail : (k : ℕ) → drop end (applied (take k later) (amended card (with_codes file h es))) ≡ drop end (with_codes file h es)
+  late_tail k = rest_stays end (card ∷ take k later) (with_codes file h es) (late_order k) (late_within k)
+
+  late_long : (k : ℕ) → length (applied (take k later) (amended card (with_codes file h es))) ≡ grown_end h (length (heap_of es))
+  late_long k =
+      let z_long : length (with_codes file h es) ≡ grown_end h (length (heap_of es)) = heap_long file h has es are.room are.some in
+      let inside = (lies file h has).within in
+      let ends = has.ends in
+      let grows = whole_rises h.data_len (h.data_len + length (heap_of es)) (omega arith) in
+      no_longer end (card ∷ take k later) (with_codes file h es) (late_order k) (late_within k) (omega arith) ∙ z_long
+
   -- ---- every prefix
 
   pub prefix : (n : ℕ) → IsPrefix file h g es (applied (take n (all_writes s)) file)
@@ -348,3 +379,17 @@ module _ (places : CardPlaceLaws) (cards : CardLaws) (file : List ℕ) (h : Head
           ∙ (all_and n s.heap rest (omega arith)
           ∙ (λ j. are.heap_is j ++ take (parts j) (are.pcount_is j ++ later))) in
           subst (IsPrefix file h g es) (sym (ap (λ ws. applied ws file) list ∙ applied_both (heap_writes file h es) (card ∷ take k later) file)) (late k)
+
+  -- and after PCOUNT is written
+  pub late_prefix : (n : ℕ) → length s.heap < n → LatePrefix file h g es (applied (take n (all_writes s)) file)
+  unfolding late
+  late_prefix n many =
+      let rest : List Amend = s.pcount ++ (s.forms ++ (s.rows ++ s.sums)) in
+      let k : ℕ = n - length s.heap - 1 in
+      let parts : n - length s.heap ≡ suc k = omega arith in
+      let list : take n (all_writes s) ≡ heap_writes file h es ++ (card ∷ take k later) =
+      ap (take n) (all_is s)
+      ∙ (all_and n s.heap rest (omega arith)
+      ∙ (λ j. are.heap_is j ++ take (parts j) (are.pcount_is j ++ later))) in
+      subst (LatePrefix file h g es) (sym (ap (λ ws. applied ws file) list ∙ applied_both (heap_writes file h es) (card ∷ take k later) file))
+      (record { is = late k; count_is = refl; long_is = late_long k; tail_is = late_tail k })

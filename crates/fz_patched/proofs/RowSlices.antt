@@ -48,7 +48,7 @@ in_front n k a b less same = sym (get_or-take n a k 0 less) ∙ (ap (λ l. slice
 after_front : (n m k : ℕ) (a b : List ℕ) → m + k < n → take n a ≡ take n b → slice_index (drop m a) k ≡ slice_index (drop m b) k
 after_front n m k a b less same = get_or-drop m a k 0 ∙ (in_front n (m + k) a b less same ∙ sym (get_or-drop m b k 0))
 
-descriptor_same : (wide : Bool) (a b : List ℕ) → take (descriptor_len wide) a ≡ take (descriptor_len wide) b → descriptor_in wide a ≡ descriptor_in wide b
+pub descriptor_same : (wide : Bool) (a b : List ℕ) → take (descriptor_len wide) a ≡ take (descriptor_len wide) b → descriptor_in wide a ≡ descriptor_in wide b
 descriptor_same true a b same =
     λ j. record {
       count = big_same 0 8 a b (λ k less. in_front 16 k a b (omega arith) same) j;

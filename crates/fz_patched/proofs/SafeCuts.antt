@@ -193,7 +193,7 @@ module _ (laws : CutLaws) (file patch x : List ℕ) (job : PatchJob) (h : Header
       let most = is.most in
       let here : take (length (header_in file e)) (drop start x) ≡ header_in file e =
       (λ j. take (long j) (drop (sym begun j) x)) ∙ header_same k start e at before in
-      found_in laws.hdus k start file e at x is.long here (omega arith) (omega arith)
+      found_in laws.hdus k start file e at x here (omega arith) (omega arith)
 
   pub there : hdu_at h.hdu h.start x ≡ Ok now
   there = found_now laws.hdus laws.amended file x h g es has is found

@@ -83,9 +83,10 @@ module _ (laws : RowLaws) (file patch x : List ℕ) (job : PatchJob) (h : Header
   fits_in true most more low short narrow = omega arith
   fits_in false most more low short narrow = let few = narrow refl in omega arith
 
-  new_row : (t : ℕ) (xs : List ℤ) → t < tiles_in p → RowStandsFor file h t xs → new_rows file h g es t (row_bytes x table t) → is.count ≡ h.pcount + length (heap_of es) →
-      drop (heap_end table) x ≡ drop (heap_end table) (with_codes file h es) → HasOldOrNew file x h g t xs
-  new_row t xs low row w count tail =
+  pub new_row_stands :
+      (t : ℕ) (xs : List ℤ) → t < tiles_in p → RowStandsFor file h t xs → new_rows file h g es t (row_bytes x table t) → is.count ≡ h.pcount + length (heap_of es) →
+      drop (heap_end table) x ≡ drop (heap_end table) (with_codes file h es) → RowStandsFor x (header_now x h) t (new_numbers p g t xs)
+  new_row_stands t xs low row w count tail =
       let same : w.xs ≡ xs = one_row laws.taken file h t xs w.xs (target_readable laws.taken file patch job h target) row w.row in
       let len = heap_len_is file h has in
       let heap_now : (image_table x (header_now x h)).heap_len ≡ is.count = heap_is laws.hdus laws.amended file x h g es has is in
@@ -99,7 +100,7 @@ module _ (laws : RowLaws) (file patch x : List ℕ) (job : PatchJob) (h : Header
         within = omega arith;
         fits = fits_in (is_wide_table (header_in file h)) (w.offset + length (new_code p g t w.xs).bytes) (length (heap_of es)) (omega arith) room.short room.offset;
       }) in
-      inr (w.inside, subst (λ ys. RowStandsFor x (header_now x h) t (new_numbers p g t ys)) same stands)
+      subst (λ ys. RowStandsFor x (header_now x h) t (new_numbers p g t ys)) same stands
 
   pub old_or_new : (t : ℕ) (xs : List ℤ) → t < tiles_in p → RowStandsFor file h t xs → HasOldOrNew file x h g t xs
   old_or_new t xs low row = by_row (is.rows t (subst (λ n. t < n) (sym (rows_are file h has)) low))
@@ -108,4 +109,4 @@ module _ (laws : RowLaws) (file patch x : List ℕ) (job : PatchJob) (h : Header
           ⊎ (new_rows file h g es t (row_bytes x table t) × (is.count ≡ h.pcount + length (heap_of es)) × (drop (heap_end table) x ≡ drop (heap_end table) (with_codes file h es))) →
           HasOldOrNew file x h g t xs
       by_row (inl same) = inl (kept_row t xs row same)
-      by_row (inr w) = new_row t xs low row w.0 w.1 w.2
+      by_row (inr w) = inr (w.0.inside, new_row_stands t xs low row w.0 w.1 w.2)

@@ -187,23 +187,25 @@ module _ (laws : WriteLaws) (file : List ℕ) (h : Header) (is : IsHeaderOf (hea
           let sum : ℕ = ones_sum (with_card i blank_checksum_card (header_in x h) ++ data_now x h) in
           sum_apart x i checksum_name (checksum_card sum) (inr refl) (laws.checksum sum).whole are e
 
-  form_apart : (i : ℕ) (letters news others : List ℕ) → (l : IsCardText (descriptor_form (is_wide_table (header_in file h)) letters (greatest (news ++ others)))) → 1 ≤ i → i < 10 → HasFormCard (header_in file h) i →
-      AreApart (pcount_at file h) (form_writes (header_in file h) h i letters news others)
-  form_apart i letters news others text low high there = by_test (nat_lt (said_most (header_in file h) i) (greatest news))
+  -- the write of a form, and a card that has another name
+  form_apart : (j : ℕ) (name : List ℕ) → card_name (card_at (header_in file h) j) ≡ name → (i : ℕ) → (numbered_name (codes "TFORM") i ≡ name → ⊥) → (letters news others : List ℕ) →
+      (l : IsCardText (descriptor_form (is_wide_table (header_in file h)) letters (greatest (news ++ others)))) → 1 ≤ i → i < 10 → HasFormCard (header_in file h) i →
+      AreApart (h.start + 80 * j) (form_writes (header_in file h) h i letters news others)
+  form_apart j name named i differs letters news others text low high there = by_test (nat_lt (said_most (header_in file h) i) (greatest news))
     where
       card : List ℕ
       card = numbered_word_card (codes "TFORM") i (descriptor_form (is_wide_table (header_in file h)) letters (greatest (news ++ others)))
 
-      by_test : (b : Bool) → AreApart (pcount_at file h) (if b then card_write h (unwrap_or (tform_card (header_in file h) i) 0) card ∷ [] else [])
+      by_test : (b : Bool) → AreApart (h.start + 80 * j) (if b then card_write h (unwrap_or (tform_card (header_in file h) i) 0) card ∷ [] else [])
       by_test true =
           let long : length card ≡ 80 = laws.cards.made.text_length (numbered_name (codes "TFORM") i) (descriptor_form (is_wide_table (header_in file h)) letters (greatest (news ++ others))) (laws.cards.numbers.eight_bytes (codes "TFORM") i (omega arith, omega arith)) text.fits in (
-            subst (λ o. (h.start + 80 * unwrap_or o 0 + length card ≤ pcount_at file h) ⊎ (pcount_at file h + 80 ≤ h.start + 80 * unwrap_or o 0)) (sym there.is)
-                (card_apart h.start there.index (pcount_index (header_in file h)) (header_in file h) card (numbered_name (codes "TFORM") i) (padded (codes "PCOUNT")) long there.name (pcount_named (header_in file h) h is later) (form_differs i)),
+            subst (λ o. (h.start + 80 * unwrap_or o 0 + length card ≤ h.start + 80 * j) ⊎ (h.start + 80 * j + 80 ≤ h.start + 80 * unwrap_or o 0)) (sym there.is)
+                (card_apart h.start there.index j (header_in file h) card (numbered_name (codes "TFORM") i) name long there.name named differs),
             tt,
           )
       by_test false = tt
 
-rows_apart : (place : ℕ) (t : Table) (p : Plan) (offset : ℕ) (pairs : List (ℕ × TileCode)) → place + 80 ≤ t.rows_at → AreApart place (row_writes t p offset pairs)
+pub rows_apart : (place : ℕ) (t : Table) (p : Plan) (offset : ℕ) (pairs : List (ℕ × TileCode)) → place + 80 ≤ t.rows_at → AreApart place (row_writes t p offset pairs)
 rows_apart place t p offset [] before = tt
 rows_apart place t p offset ((row, e) ∷ more) before = (inr (omega arith), rows_apart place t p (offset + length e.bytes) more before)
 
@@ -258,9 +260,9 @@ forms_in_place cards file h says tiles es has bytes few =
     (one_form cards file h t says 2 (pixel_len p.bitpix) (stored_letter p.bitpix) (map (stored_count p) es) (map (λ (r : Row). r.stored.count) (map (row_at file t) ks)) (omega arith) (omega arith) (stored_byte p.bitpix bits)
     (form_card_there header 2 two_text two_some (second_form header h p has.form bits 0)) (second_form header h p has.form bits) (stored_below p (2 ^ 64) es few) (stored_rows_below file t ks bytes))
 
-forms_apart : WriteLaws → (file : List ℕ) (h : Header) (tiles : List ℕ) (es : List TileCode) → HasTarget file h → AreBytes file → length (heap_of es) < 2 ^ 64 →
-    AreApart (pcount_at file h) (column_writes file h tiles es)
-forms_apart laws file h tiles es has bytes few =
+pub forms_apart : WriteLaws → (file : List ℕ) (h : Header) (j : ℕ) (name : List ℕ) → card_name (card_at (header_in file h) j) ≡ name → ((i : ℕ) → numbered_name (codes "TFORM") i ≡ name → ⊥) →
+    (tiles : List ℕ) (es : List TileCode) → HasTarget file h → AreBytes file → length (heap_of es) < 2 ^ 64 → AreApart (h.start + 80 * j) (column_writes file h tiles es)
+forms_apart laws file h j name named differs tiles es has bytes few =
     let header : List ℕ = header_in file h in
     let p : Plan = plan_in file h in
     let t : Table = image_table file h in
@@ -277,10 +279,10 @@ forms_apart laws file h tiles es has bytes few =
     let one_old : List ℕ = map (λ (r : Row). r.coded.count) (map (row_at file t) ks) in
     let two_new : List ℕ = map (stored_count p) es in
     let two_old : List ℕ = map (λ (r : Row). r.stored.count) (map (row_at file t) ks) in
-    apart_both (pcount_at file h) (form_writes header h 1 (coded_letter p.codec) one_new one_old) (form_writes header h 2 (stored_letter p.bitpix) two_new two_old)
-    (form_apart laws file h has.image.is_header has.later 1 (coded_letter p.codec) one_new one_old
+    apart_both (h.start + 80 * j) (form_writes header h 1 (coded_letter p.codec) one_new one_old) (form_writes header h 2 (stored_letter p.bitpix) two_new two_old)
+    (form_apart laws file h has.image.is_header has.later j name named 1 (differs 1) (coded_letter p.codec) one_new one_old
     (form_text wide (coded_unit p.codec) (coded_letter p.codec) one_new one_old (coded_byte p.codec) (coded_below p (2 ^ 64) es few) (coded_rows_below file t ks bytes)) (omega arith) (omega arith) (form_card_there header 1 one_text one_some (first_form header h p has.form bits 0)))
-    (form_apart laws file h has.image.is_header has.later 2 (stored_letter p.bitpix) two_new two_old
+    (form_apart laws file h has.image.is_header has.later j name named 2 (differs 2) (stored_letter p.bitpix) two_new two_old
     (form_text wide (pixel_len p.bitpix) (stored_letter p.bitpix) two_new two_old (stored_byte p.bitpix bits) (stored_below p (2 ^ 64) es few) (stored_rows_below file t ks bytes)) (omega arith) (omega arith) (form_card_there header 2 two_text two_some (second_form header h p has.form bits 0)))
 
 -- ---- all of them
@@ -446,7 +448,7 @@ module _ (laws : WriteLaws) (file : List ℕ) (h : Header) (g : Given) (has : Ha
 
   all_apart : AreApart (pcount_at file h) (made.forms ++ (made.rows ++ sum_writes before h))
   all_apart =
-      apart_both (pcount_at file h) made.forms (made.rows ++ sum_writes before h) (forms_apart laws file h tiles new has bytes few_bytes)
+      apart_both (pcount_at file h) made.forms (made.rows ++ sum_writes before h) (forms_apart laws file h (pcount_index (header_in file h)) (padded (codes "PCOUNT")) (pcount_named (header_in file h) h has.image.is_header has.later) form_differs tiles new has bytes few_bytes)
       (apart_both (pcount_at file h) made.rows (sum_writes before h)
       (rows_apart (pcount_at file h) table (table_plan file h) table.heap_len (zip tiles new) (let in_header = pcount_within (header_in file h) h has.image.is_header has.later in omega arith)) sums_apart)
 

@@ -21,14 +21,17 @@ use Rattle.fz_tile.specs.TileCode.{TileCode, tile_code}
 use Rattle.fz_head.specs.declared.plan.Plan.{Plan}
 use Rattle.fz_files.specs.Packed.{pixel_bits, row_of, tiles_in}
 use Rattle.fz_files.specs.Restored.{RowStandsFor, header_in, image_table, pixels_of, plan_in, tile_of}
+use Rattle.fz_files.specs.Walks.{header_fault}
+use Rattle.fz_files.specs.declared.job.Job.TheVariants.{Unpack}
 use Rattle.fz_patched.specs.Amends.{applied}
 use Rattle.fz_patched.specs.Buffers.{patch_bound, patch_takings}
 use Rattle.fz_patched.specs.Checks.{patch_target}
-use Rattle.fz_patched.specs.FirstPatchFault.{ArePatchSteps, IsFirstPatchFault}
+use Rattle.fz_patched.specs.FirstPatchFault.{ArePatchSteps, BoxHasNumbers, IsFirstPatchFault}
 use Rattle.fz_patched.specs.Form.{is_wide_table}
 use Rattle.fz_patched.specs.Given.{Given, PatchJob, box_sieve, given_by}
 use Rattle.fz_patched.specs.Headers.{IsAmended, SaysTheSame}
 use Rattle.fz_patched.specs.NewNumbers.{box_tiles, new_numbers, replaced}
+use Rattle.fz_patched.specs.Patched.{HasNewTiles, IsPatched}
 use Rattle.fz_patched.specs.Safe.{IsSafeAfter}
 use Rattle.fz_patched.specs.Writes.{Steps, all_writes, card_write, header_now, table_plan}
 
@@ -165,6 +168,38 @@ abbrev pub EachPrefixIsSafe : Type 0
 EachPrefixIsSafe =
     (file patch : List ℕ) (job : PatchJob) (h : Header) (steps : Steps) (n : ℕ) → ArePatching file patch job h steps →
     IsSafeAfter file h (given_by patch job) steps n
+
+-- after all of them each tile with a pixel in the box has its new numbers, and every other its old ones
+abbrev pub AllWritesTile : Type 0
+AllWritesTile =
+    (file patch : List ℕ) (job : PatchJob) (h : Header) (steps : Steps) → ArePatching file patch job h steps →
+    HasNewTiles file (applied (all_writes steps) file) h (given_by patch job)
+
+-- after all of them the file is patched
+abbrev pub AllWritesPatch : Type 0
+AllWritesPatch =
+    (file patch : List ℕ) (job : PatchJob) (h : Header) (steps : Steps) → ArePatching file patch job h steps →
+    IsPatched file (applied (all_writes steps) file) h (given_by patch job)
+
+-- ---- after a stop
+
+-- From the write of PCOUNT on no header check of `unpack` refuses that passed before. The same patch passes the checks of headers again,
+-- and the rows of its tiles have numbers, so that it has no fault but that of the room for the new codes.
+abbrev pub PatchesAgain : Type 0
+PatchesAgain =
+    (file patch : List ℕ) (job : PatchJob) (h : Header) (steps : Steps) (n : ℕ) → ArePatching file patch job h steps → length steps.heap < n →
+    (header_fault Unpack file ≡ None → header_fault Unpack (applied (take n (all_writes steps)) file) ≡ None)
+    × (patch_target (applied (take n (all_writes steps)) file) patch job ≡ Ok (header_now (applied (take n (all_writes steps)) file) h))
+    × ((olds : List (List ℤ))
+    × BoxHasNumbers (applied (take n (all_writes steps)) file) (header_now (applied (take n (all_writes steps)) file) h) (given_by patch job) olds)
+
+-- Before it, a file that has grown is one that can be patched again if it is cut back to its old length: the same patch passes the checks of
+-- headers, and the rows of its tiles have numbers.
+abbrev pub PatchesAgainCutBack : Type 0
+PatchesAgainCutBack =
+    (file patch : List ℕ) (job : PatchJob) (h : Header) (steps : Steps) (n : ℕ) → ArePatching file patch job h steps → n ≤ length steps.heap →
+    (patch_target (take (length file) (applied (take n (all_writes steps)) file)) patch job ≡ Ok h)
+    × ((olds : List (List ℤ)) × BoxHasNumbers (take (length file) (applied (take n (all_writes steps)) file)) h (given_by patch job) olds)
 
 -- ---- buffers
 

@@ -9,6 +9,7 @@ pub mod Headers
 pub mod Laws
 pub mod NewNumbers
 pub mod PatchFaults
+pub mod Patched
 pub mod RicePatch
 pub mod Safe
 pub mod SumPatch

@@ -1,16 +1,17 @@
 //! The laws of patches: no code runs.
-ghost use Rattle.fz_patched.specs.Laws.{AmendedHeadersSayTheSame, CardsStandInPlace, EachPrefixIsSafe};
+ghost use Rattle.fz_patched.specs.Laws.{AllWritesPatch, AllWritesTile, AmendedHeadersSayTheSame, CardsStandInPlace, EachPrefixIsSafe};
 ghost use Rattle.fz_patched.specs.Laws.{HasOnePatch, HasOnePatchFault, HasWritesOrFault};
 ghost use Rattle.fz_patched.specs.Laws.{KeptRowsStand, NewNumbersAreGiven, NewNumbersStay, NewRowsStand, OthersKeepNumbers};
-ghost use Rattle.fz_patched.specs.Laws.{PatchIsBounded, TargetsAreGiven, TilesAreReplaced, WritesAreInOrder};
+ghost use Rattle.fz_patched.specs.Laws.{PatchIsBounded, PatchesAgain, PatchesAgainCutBack, TargetsAreGiven, TilesAreReplaced, WritesAreInOrder};
 
 use fz_base::places_law;
 use fz_block::{cards_law, found_hdus_law, found_law, hdu_at_law, start_law};
-use fz_card::card_laws;
+use fz_card::{card_laws, first_of_name_law};
+use fz_files::table_reads_law;
 use fz_grid::{place_law, shape_law, tile_pixels_law, tiles_law};
 use fz_head::{packed_image_law, sum_cards_law};
 use fz_parts::cutout_law;
-use fz_sum::{sum_law, with_card_law};
+use fz_sum::{all_ones_law, characters_law, datasum_law, sum_law, verdicts_law, with_card_law};
 use fz_table::descriptor_law;
 use fz_tile::{column_law, one_fault_law, one_record_law, plain_law, tile_code_law};
 
@@ -145,5 +146,103 @@ pub fn safe_patch_law()
     sum_law();
     tile_code_law();
     tile_pixels_law();
+    with_card_law();
+}
+
+/// After a stop the same patch passes the checks of headers and rows again: from the write of PCOUNT on as the file is, and
+/// before it if the file is cut back to the length that it had. `unpack` rejects no header then that it accepted before.
+pub fn patch_again_law()
+    ensures again { PatchesAgain }
+    ensures back { PatchesAgainCutBack }
+{
+    amended_header_law();
+    card_laws();
+    cards_law();
+    column_law();
+    found_hdus_law();
+    found_law();
+    hdu_at_law();
+    kept_rows_law();
+    new_numbers_law();
+    new_row_law();
+    one_fault_law();
+    one_record_law();
+    packed_image_law();
+    place_law();
+    places_law();
+    plain_law();
+    shape_law();
+    start_law();
+    sum_cards_law();
+    sum_law();
+    tile_code_law();
+    tile_pixels_law();
+    with_card_law();
+}
+
+/// After all writes of a patch each tile with a pixel in the box has its new numbers, every other that had numbers has
+/// them, and the HDU still ends with the file.
+pub fn new_tiles_law()
+    ensures { AllWritesTile }
+{
+    amended_header_law();
+    card_laws();
+    cards_law();
+    column_law();
+    found_hdus_law();
+    found_law();
+    hdu_at_law();
+    kept_rows_law();
+    new_numbers_law();
+    new_row_law();
+    one_fault_law();
+    one_record_law();
+    packed_image_law();
+    place_law();
+    places_law();
+    plain_law();
+    shape_law();
+    start_law();
+    sum_cards_law();
+    sum_law();
+    tile_code_law();
+    tile_pixels_law();
+    with_card_law();
+}
+
+/// After all writes of a patch the file is patched: it stands for what it stood for, with the box replaced, and each
+/// checksum of the HDU that was there is right.
+pub fn whole_patch_law()
+    ensures { AllWritesPatch }
+{
+    all_ones_law();
+    amended_header_law();
+    card_laws();
+    cards_law();
+    characters_law();
+    column_law();
+    datasum_law();
+    first_of_name_law();
+    found_hdus_law();
+    found_law();
+    hdu_at_law();
+    kept_rows_law();
+    new_numbers_law();
+    new_row_law();
+    new_tiles_law();
+    one_fault_law();
+    one_record_law();
+    packed_image_law();
+    place_law();
+    places_law();
+    plain_law();
+    shape_law();
+    start_law();
+    sum_cards_law();
+    sum_law();
+    table_reads_law();
+    tile_code_law();
+    tile_pixels_law();
+    verdicts_law();
     with_card_law();
 }
