@@ -61,7 +61,10 @@ fn options(rt: HostRuntime) -> Result<(), Fail> {
 fn more_options(rt: HostRuntime) -> Result<(), Fail> {
     let lines = [
         ("cut --tile 1 --box 1:1 a b", "pack --tile 1 a b"),
-        ("verify --strict a", "verify a"),
+        ("list --strict a", "verify --strict a"),
+        ("pack --strict a b", "pack --sums a b"),
+        ("verify --strict=yes a", "verify --strict a"),
+        ("verify --strict --strict a", "verify --strict a"),
         ("pack --Sums a b", "pack --sums a b"),
         ("pack --cod rice a b", "pack --codec rice a b"),
         ("pack --codecs rice a b", "pack --codec rice a b"),
@@ -296,6 +299,7 @@ fn on_files(job: Job, workers: u32, memory: u64) -> Request<'static> {
     Request {
         job,
         workers,
+        strict: false,
         memory,
         input: "a",
         output: "b",
@@ -347,6 +351,7 @@ fn on_file(job: Job, memory: u64) -> Request<'static> {
     Request {
         job,
         workers: 1,
+        strict: false,
         memory,
         input: "-",
         output: "",
@@ -374,9 +379,14 @@ fn cutting_and_looking(rt: HostRuntime) -> Result<(), Fail> {
     let drill = Request {
         job: Job::Drill { rows: 1000 },
         workers: 1,
+        strict: false,
         memory: MEMORY,
         input: "",
         output: "",
+    };
+    let strict = Request {
+        strict: true,
+        ..on_file(Job::Verify, 9)
     };
     let rows = [
         ("cut --box 2:5:3,1:1 a b", on_files(first, 1, MEMORY)),
@@ -388,6 +398,7 @@ fn cutting_and_looking(rt: HostRuntime) -> Result<(), Fail> {
             "verify --memory 1099511627776 -",
             on_file(Job::Verify, 1_099_511_627_776),
         ),
+        ("verify --memory=9 - --strict", strict),
         ("list -", on_file(Job::List, MEMORY)),
         ("drill -- 01000", drill),
     ];

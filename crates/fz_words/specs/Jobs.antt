@@ -15,13 +15,14 @@ use Rattle.fz_words.specs.Values.{box_in, codec_in, lengths_in, number_in}
 use Rattle.fz_words.specs.declared.table.Command.{Command}
 use Rattle.fz_words.specs.declared.table.Command.TheVariants.{Pack, Unpack, Cut, Verify, List as ListHdus, Drill}
 use Rattle.fz_words.specs.declared.table.OptionName.{OptionName}
-use Rattle.fz_words.specs.declared.table.OptionName.TheVariants.{Codec, Tile, Block, Sums, Workers, Memory, Hdu, Box}
+use Rattle.fz_words.specs.declared.table.OptionName.TheVariants.{Codec, Tile, Block, Sums, Workers, Memory, Hdu, Box, Strict}
 
--- What the words ask for: the job, the number of workers, the limit on memory in bytes, and the names of the files; a
--- name is empty where the command has none.
+-- What the words ask for: the job, the number of workers, whether `verify` also compares the file with what `pack` writes, the limit on
+-- memory in bytes, and the names of the files; a name is empty where the command has none.
 pub record Asked : Type 0 where
   pub job : Job
   pub workers : ℕ
+  pub strict : Bool
   pub memory : ℕ
   pub input : List ℕ
   pub output : List ℕ
@@ -73,6 +74,10 @@ block_of codec line = with_some (value_of Block line) (read_or 32 (block_in code
 -- whether sums are asked for
 abbrev pub sums_of : LineIs → Option Bool
 sums_of line = with_some (value_of Sums line) (read_or false (λ _. Some true))
+
+-- whether a file is to be compared with what `pack` writes
+abbrev pub strict_of : LineIs → Option Bool
+strict_of line = with_some (value_of Strict line) (read_or false (λ _. Some true))
 
 abbrev pub workers_of : LineIs → Option ℕ
 workers_of line = with_some (value_of Workers line) (read_or 1 (number_in 1 64))
@@ -127,14 +132,14 @@ pack_of line =
     with_some (pack_options_of line) (λ options.
     with_some (memory_of line) (λ memory.
     with_some (names_in line.operands) (λ names.
-    Some (record { job = job.Pack options; workers = options.workers; memory = memory; input = names.input; output = names.output }))))
+    Some (record { job = job.Pack options; workers = options.workers; strict = false; memory = memory; input = names.input; output = names.output }))))
 
 abbrev pub unpack_of : LineIs → Option Asked
 unpack_of line =
     with_some (workers_of line) (λ workers.
     with_some (memory_of line) (λ memory.
     with_some (names_in line.operands) (λ names.
-    Some (record { job = job.Unpack; workers = workers; memory = memory; input = names.input; output = names.output }))))
+    Some (record { job = job.Unpack; workers = workers; strict = false; memory = memory; input = names.input; output = names.output }))))
 
 abbrev pub cut_of : LineIs → Option Asked
 cut_of line =
@@ -143,24 +148,25 @@ cut_of line =
     with_some (workers_of line) (λ workers.
     with_some (memory_of line) (λ memory.
     with_some (names_in line.operands) (λ names.
-    Some (record { job = job.Cut hdu sieve; workers = workers; memory = memory; input = names.input; output = names.output }))))))
+    Some (record { job = job.Cut hdu sieve; workers = workers; strict = false; memory = memory; input = names.input; output = names.output }))))))
 
 abbrev pub verify_of : LineIs → Option Asked
 verify_of line =
+    with_some (strict_of line) (λ strict.
     with_some (memory_of line) (λ memory.
     with_some (one_operand line.operands) (λ input.
-    Some (record { job = job.Verify; workers = 1; memory = memory; input = input; output = [] })))
+    Some (record { job = job.Verify; workers = 1; strict = strict; memory = memory; input = input; output = [] }))))
 
 abbrev pub list_of : LineIs → Option Asked
 list_of line =
     with_some (one_operand line.operands) (λ input.
-    Some (record { job = job.List; workers = 1; memory = 2 ^ 32; input = input; output = [] }))
+    Some (record { job = job.List; workers = 1; strict = false; memory = 2 ^ 32; input = input; output = [] }))
 
 abbrev pub drill_of : LineIs → Option Asked
 drill_of line =
     with_some (one_operand line.operands) (λ operand.
     with_some (number_in 1 16384 operand) (λ rows.
-    Some (record { job = job.Drill rows; workers = 1; memory = 2 ^ 32; input = []; output = [] })))
+    Some (record { job = job.Drill rows; workers = 1; strict = false; memory = 2 ^ 32; input = []; output = [] })))
 
 abbrev pub asked_by : Command → LineIs → Option Asked
 asked_by Pack line = pack_of line

@@ -43,7 +43,7 @@ seen_range r = record { lo = r.lo; hi = r.hi; step = r.step }
 
 -- what a request asks for
 abbrev pub asked_of : Request → Asked
-asked_of r = record { job = r.job; workers = r.workers; memory = r.memory; input = r.input.now; output = r.output.now }
+asked_of r = record { job = r.job; workers = r.workers; strict = r.strict; memory = r.memory; input = r.input.now; output = r.output.now }
 
 -- what an answer asks for: nothing, where it is Usage
 abbrev pub asked_in : Result Request Usage → Option Asked

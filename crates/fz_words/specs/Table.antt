@@ -5,7 +5,7 @@ use Rattle.std.specs.Str.{bytes_eq}
 use Rattle.fz_words.specs.declared.table.Command.{Command}
 use Rattle.fz_words.specs.declared.table.Command.TheVariants.{Pack, Unpack, Cut, Verify, List as ListHdus, Drill}
 use Rattle.fz_words.specs.declared.table.OptionName.{OptionName}
-use Rattle.fz_words.specs.declared.table.OptionName.TheVariants.{Codec, Tile, Block, Sums, Workers, Memory, Hdu, Box}
+use Rattle.fz_words.specs.declared.table.OptionName.TheVariants.{Codec, Tile, Block, Sums, Workers, Memory, Hdu, Box, Strict}
 
 abbrev pub commands : List Command
 commands = Pack ∷ Unpack ∷ Cut ∷ Verify ∷ ListHdus ∷ Drill ∷ []
@@ -24,7 +24,7 @@ abbrev pub command_named : List ℕ → Option Command
 command_named word = find (λ command. bytes_eq word (command_word command)) commands
 
 abbrev pub options : List OptionName
-options = Codec ∷ Tile ∷ Block ∷ Sums ∷ Workers ∷ Memory ∷ Hdu ∷ Box ∷ []
+options = Codec ∷ Tile ∷ Block ∷ Sums ∷ Workers ∷ Memory ∷ Hdu ∷ Box ∷ Strict ∷ []
 
 -- the name of an option
 abbrev pub option_name : OptionName → List ℕ
@@ -36,12 +36,13 @@ option_name Workers = codes "--workers"
 option_name Memory = codes "--memory"
 option_name Hdu = codes "--hdu"
 option_name Box = codes "--box"
+option_name Strict = codes "--strict"
 
 -- the option of this name
 abbrev pub option_named : List ℕ → Option OptionName
 option_named name = find (λ option. bytes_eq name (option_name option)) options
 
--- whether an option has a value: `--sums` alone has none
+-- whether an option has a value: `--sums` and `--strict` have none
 abbrev pub takes_value : OptionName → Bool
 takes_value Codec = true
 takes_value Tile = true
@@ -51,6 +52,7 @@ takes_value Workers = true
 takes_value Memory = true
 takes_value Hdu = true
 takes_value Box = true
+takes_value Strict = false
 
 -- whether a command has an option
 abbrev pub has_option : Command → OptionName → Bool
@@ -62,6 +64,7 @@ has_option Pack Workers = true
 has_option Pack Memory = true
 has_option Pack Hdu = false
 has_option Pack Box = false
+has_option Pack Strict = false
 has_option Unpack Workers = true
 has_option Unpack Memory = true
 has_option Unpack other = false
@@ -71,6 +74,7 @@ has_option Cut Workers = true
 has_option Cut Memory = true
 has_option Cut other = false
 has_option Verify Memory = true
+has_option Verify Strict = true
 has_option Verify other = false
 has_option ListHdus other = false
 has_option Drill other = false

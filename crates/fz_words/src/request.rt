@@ -11,7 +11,7 @@ ghost use Rattle.fz_words.specs.Seen.{asked_in, seen_line, seen_names, seen_text
 use crate::line::Line;
 use crate::number::short_in;
 use crate::settings::{
-    MEMORY, block_of, box_of, codec_of, hdu_of, memory_of, sums_of, tile_of, workers_of,
+    MEMORY, block_of, box_of, codec_of, hdu_of, memory_of, strict_of, sums_of, tile_of, workers_of,
 };
 use crate::table::Command;
 use fz_files::Job;
@@ -23,6 +23,8 @@ pub struct Request<'a> {
     pub job: Job,
     /// The number of workers, from 1 to 64; 1 for a command that has no such option.
     pub workers: u32,
+    /// Whether `verify` also says if the file is the packed file of the file that it stands for.
+    pub strict: bool,
     /// The bytes that the job's buffers may take together, from 1 to 2^40.
     pub memory: u64,
     /// The name IN of the file that is read; empty for a drill.
@@ -72,6 +74,7 @@ fn pack_of<'a>(line: &Line<'a>) -> Result<Request<'a>, Usage>
     Ok(Request {
         job: Job::Pack(options),
         workers: options.workers,
+        strict: false,
         memory,
         input,
         output,
@@ -102,6 +105,7 @@ fn unpack_of<'a>(line: &Line<'a>) -> Result<Request<'a>, Usage>
     Ok(Request {
         job: Job::Unpack,
         workers,
+        strict: false,
         memory,
         input,
         output,
@@ -120,6 +124,7 @@ fn cut_of<'a>(line: &Line<'a>) -> Result<Request<'a>, Usage>
     Ok(Request {
         job: Job::Cut { hdu, sieve },
         workers,
+        strict: false,
         memory,
         input,
         output,
@@ -130,11 +135,13 @@ fn verify_of<'a>(line: &Line<'a>) -> Result<Request<'a>, Usage>
     ensures value { asked_in result ≡ verify_of (seen_line line.now) }
     ensures lawful { IfOk result IsLawful }
 {
+    let strict = strict_of(line)?;
     let memory = memory_of(line)?;
     let input = one_operand(line)?;
     Ok(Request {
         job: Job::Verify,
         workers: 1,
+        strict,
         memory,
         input,
         output: "",
@@ -149,6 +156,7 @@ fn list_of<'a>(line: &Line<'a>) -> Result<Request<'a>, Usage>
     Ok(Request {
         job: Job::List,
         workers: 1,
+        strict: false,
         memory: MEMORY,
         input,
         output: "",
@@ -164,6 +172,7 @@ fn drill_of<'a>(line: &Line<'a>) -> Result<Request<'a>, Usage>
     Ok(Request {
         job: Job::Drill { rows },
         workers: 1,
+        strict: false,
         memory: MEMORY,
         input: "",
         output: "",

@@ -2,7 +2,7 @@
 ghost use Rattle.std.specs.Prelude.{◌≡◌, ◌≤◌, ◌<◌, ◌^◌, IfOk, IfSome};
 ghost use Rattle.std.specs.Result.{result_ok};
 ghost use Rattle.fz_head.specs.Planned.{IsTile};
-ghost use Rattle.fz_words.specs.Jobs.{block_of, box_of, codec_of, hdu_of, memory_of, sums_of, tile_of, workers_of};
+ghost use Rattle.fz_words.specs.Jobs.{block_of, box_of, codec_of, hdu_of, memory_of, strict_of, sums_of, tile_of, workers_of};
 ghost use Rattle.fz_files.specs.Picks.{HasPicks};
 ghost use Rattle.fz_words.specs.Seen.{seen_line};
 ghost use Rattle.fz_words.specs.Values.{codec_in};
@@ -68,6 +68,13 @@ pub(crate) fn sums_of(line: &Line<'_>) -> Result<bool, Usage>
     ensures { result_ok result ≡ sums_of (seen_line line.now) }
 {
     Ok(line.value(OptionName::Sums)?.is_some())
+}
+
+/// Whether a file is to be compared with what `pack` writes.
+pub(crate) fn strict_of(line: &Line<'_>) -> Result<bool, Usage>
+    ensures { result_ok result ≡ strict_of (seen_line line.now) }
+{
+    Ok(line.value(OptionName::Strict)?.is_some())
 }
 
 /// The number of workers; 1, where it is not given.

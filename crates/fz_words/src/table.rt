@@ -24,6 +24,7 @@ pub(crate) enum OptionName {
     Memory,
     Hdu,
     Box,
+    Strict,
 }
 
 impl Command {
@@ -47,13 +48,16 @@ impl Command {
         ensures { result ≡ has_option self option }
     {
         match self {
-            Command::Pack => !matches!(option, OptionName::Hdu | OptionName::Box),
+            Command::Pack => !matches!(
+                option,
+                OptionName::Hdu | OptionName::Box | OptionName::Strict
+            ),
             Command::Cut => matches!(
                 option,
                 OptionName::Hdu | OptionName::Box | OptionName::Workers | OptionName::Memory
             ),
             Command::Unpack => matches!(option, OptionName::Workers | OptionName::Memory),
-            Command::Verify => matches!(option, OptionName::Memory),
+            Command::Verify => matches!(option, OptionName::Memory | OptionName::Strict),
             Command::List | Command::Drill => false,
         }
     }
@@ -73,6 +77,7 @@ impl OptionName {
             "--memory" => Some(OptionName::Memory),
             "--hdu" => Some(OptionName::Hdu),
             "--box" => Some(OptionName::Box),
+            "--strict" => Some(OptionName::Strict),
             _ => None,
         }
     }
@@ -81,6 +86,6 @@ impl OptionName {
     pub(crate) fn takes_value(self) -> bool
         ensures { result ≡ takes_value self }
     {
-        !matches!(self, OptionName::Sums)
+        !matches!(self, OptionName::Sums | OptionName::Strict)
     }
 }
