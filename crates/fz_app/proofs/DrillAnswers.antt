@@ -1,6 +1,6 @@
 -- What is promised of the answer of `drill`, beside what its contract says: source and sink are as they were, since it is given neither.
 use Rattle.std.proofs.Common.{◌≡◌, ℕ, ◌≤◌, max, List, [], refl, subst, sym, arith, inl, inr}
-use Rattle.std.specs.Prelude.{◌⊎◌, min, Option, Some, None, IfSome, Result, Ok, Err, IsErrOf, OnOk}
+use Rattle.std.specs.Prelude.{◌⊎◌, min, Bool, Option, Some, None, IfSome, Result, Ok, Err, IsErrOf, OnOk}
 use Rattle.fz_base.specs.Counts.{Rose, Tally}
 use Rattle.fz_base.specs.Meter.{Gauge}
 use Rattle.fz_base.specs.Sink.{MayAppend, appended}
@@ -123,12 +123,12 @@ module _ (rows limit : ℕ) (text text' : TextIs) where
   block_of r (inr is) = inr (inr is)
 
 -- the promises of `drill`, whatever the source holds and the sink is
-pub drilled : (rows W memory : ℕ) (input output : List ℕ) (held : Option (List ℕ)) (ranges : Option (List (ℕ × ℕ))) (source : Tally) (sink : SinkIs) (text text' : TextIs) (meter meter' : Gauge) (answer : Result (Unit {0}) Stop) →
+pub drilled : (rows W : ℕ) (strict : Bool) (memory : ℕ) (input output : List ℕ) (held : Option (List ℕ)) (ranges : Option (List (ℕ × ℕ))) (source : Tally) (sink : SinkIs) (text text' : TextIs) (meter meter' : Gauge) (answer : Result (Unit {0}) Stop) →
     IfSome sink.contents (λ c. c ≡ []) → DrillSays rows (min meter.limit memory) text text' meter' answer →
-    IsPromised (record { job = Drill rows; workers = W; memory = memory; input = input; output = output })
+    IsPromised (record { job = Drill rows; workers = W; strict = strict; memory = memory; input = input; output = output })
     (record { held = held; ranges = ranges; source = source; sink = sink; text = text; meter = meter })
     (record { held = held; ranges = ranges; source = source; sink = sink; text = text'; meter = meter' }) answer
-drilled rows W memory input output held ranges source sink text text' meter meter' answer empty s = record {
+drilled rows W strict memory input output held ranges source sink text text' meter meter' answer empty s = record {
   restored = always_ok answer _ (none_restored (Drill rows) (drills rows) held sink.contents);
   output = always_ok answer _ (empty_output (Drill rows) (drills rows) held sink.contents empty, tt);
   slice = always_ok answer _ tt;

@@ -49,7 +49,7 @@ module _ (old new : Ends) (Same : Type 0) (same : Same → new.sink.contents ≡
   shut : Same → IsShut new.sink.contents
   shut is = subst IsShut (sym (same is)) (empty_is_shut old.sink.contents empty)
 
-  pub first_byte : (asked : Option Asked) (status : Status) → IsPromisedTo asked status (λ (a : Asked). IsPromised a old new) → IfSome asked (λ a. IsEnd a.job (given a.job old.held) status) → IfSome asked (λ a. LeavesSink a.job Same) → (status ≡ stat.Usage → Same) →
+  pub first_byte : (asked : Option Asked) (status : Status) → IsPromisedTo asked status (λ (a : Asked). IsPromised a old new) → IfSome asked (λ a. IsEnd a (given a.job old.held) status) → IfSome asked (λ a. LeavesSink a.job Same) → (status ≡ stat.Usage → Same) →
       status ≢ stat.Done → IsShut new.sink.contents ⊎ (IfSome asked (λ a. IsWhole a.job old.held new.sink.contents) × IsLast status)
   first_byte None status p end left usage other = inl (shut (usage p))
   first_byte (Some a) status p end left usage other =

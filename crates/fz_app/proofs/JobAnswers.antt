@@ -1,10 +1,10 @@
 -- What a job promises of its answer, and what is promised of the answer to the words, for every job.
-use Rattle.std.proofs.Common.{◌≡◌, ℕ, ◌≤◌, ◌<◌, List, refl, subst, arith, inl, inr}
+use Rattle.std.proofs.Common.{◌≡◌, ℕ, ◌≤◌, ◌<◌, ◌&&◌, not, Bool, false, List, refl, sym, subst, arith, inl, inr}
 use Rattle.std.specs.Prelude.{◌⊎◌, max, Option, Some, None, IfSome, Result, Ok, Err, IsErrOf, OnOk, OnErr}
 use Rattle.fz_base.specs.Counts.{CountsKept}
 use Rattle.fz_base.specs.FirstByte.{IsShut}
 use Rattle.fz_base.specs.Stop.{TellsLimit}
-use Rattle.fz_base.specs.Takings.{highest}
+use Rattle.fz_base.specs.Takings.{TellsFirstPast, highest}
 use Rattle.fz_base.specs.Told.{StaysTold}
 use Rattle.fz_base.specs.declared.failure.Stop.{Stop}
 use Rattle.fz_base.specs.declared.failure.Stop.TheVariants.{ReadFault as StopRead, WriteFault as StopWrite, OverLimit as StopLimit, NoMemory as StopMemory}
@@ -14,9 +14,9 @@ use Rattle.fz_files.specs.declared.job.Job.{Job}
 use Rattle.fz_files.specs.declared.job.Job.TheVariants.{Pack, Unpack, Cut, Verify, List as ListHdus, Drill}
 use Rattle.fz_job.specs.Clauses.{Answers, HasJobCause, IsShutOrWhole, IsUnmade, TellsFirstFault, greatest_bound}
 use Rattle.fz_words.specs.Jobs.{Asked}
-use Rattle.fz_app.specs.Asked.{given, limit_of, most_bound}
+use Rattle.fz_app.specs.Asked.{given, is_compared, is_write_fault, limit_of, most_bound, takings_with}
 use Rattle.fz_app.specs.Ends.{Ends, IsSameSink, counts_written}
-use Rattle.fz_app.specs.Outputs.{HoldsJobOutput, HoldsJobSlice, IsFinished, IsWhole, JobRestores, ReadsTouched}
+use Rattle.fz_app.specs.Outputs.{HoldsJobOutput, HoldsJobSlice, IsFinished, IsWhole, JobRestores, ReadsBy, ReadsTouched}
 use Rattle.fz_app.specs.Printed.{JobPrinted}
 use Rattle.fz_app.specs.Promised.{IsPromised}
 
@@ -60,7 +60,7 @@ pub record JobSays (asked : Asked) (old new : Ends) (answer : Result (Unit {0}) 
   pub source_counts : CountsKept old.source new.source
   pub sink_counts : CountsKept old.sink.tally new.sink.tally
   pub text_counts : CountsKept old.text.tally new.text.tally
-  pub printed : JobPrinted asked.job (given asked.job old.held) (limit_of asked old.meter.limit) asked.workers old.text new.text answer
+  pub printed : JobPrinted asked.job false (given asked.job old.held) (limit_of asked old.meter.limit) asked.workers old.text new.text answer
   pub one_written : counts_written asked.job new ≡ counts_written asked.job old → (new.sink.tally ≡ old.sink.tally) × (new.text.tally ≡ old.text.tally)
 
 -- the bound of a job on a file, whatever the file
@@ -106,9 +106,9 @@ module _ (asked : Asked) (old new : Ends) where
       limit_of asked old.meter.limit < 2880 → IsErrOf answer (StopLimit 0 2880 (limit_of asked old.meter.limit)) ⊎ (IsErrOf answer StopRead ⊎ IsErrOf answer StopMemory)
   block_of answer says less = inl (says less).0
 
-  -- what the job says of its answer is promised of it, with what it restores and what it is a slice of
-  pub promised : (answer : Result (Unit {0}) Stop) → JobSays asked old new answer → WholeIsSound asked.job old new → OnOk answer (JobRestores asked.job old.held new.sink.contents) → OnOk answer (HoldsJobSlice asked.job old.held new.sink.contents) → IsPromised asked old new answer
-  promised answer s sound restored slice = record {
+  -- what the job says of its answer is promised of it, with what it restores and what it is a slice of, where nothing is compared
+  pub promised : is_compared asked ≡ false → (answer : Result (Unit {0}) Stop) → JobSays asked old new answer → WholeIsSound asked.job old new → OnOk answer (JobRestores asked.job old.held new.sink.contents) → OnOk answer (HoldsJobSlice asked.job old.held new.sink.contents) → IsPromised asked old new answer
+  promised plain answer s sound restored slice = record {
     restored = restored;
     output = on_both answer (HoldsJobOutput asked.job old.held new.sink.contents) (IsFinished asked.job new.sink.finished) s.output s.finished;
     slice = slice;
@@ -118,23 +118,25 @@ module _ (asked : Asked) (old new : Ends) where
     live = s.live;
     limit = s.limit;
     peak = peak_of (given asked.job old.held) s.peak;
-    exact = on_ok answer _ _ (exact_of (given asked.job old.held)) s.exact;
+    exact = subst (λ (b : Bool). OnOk answer (IfSome (given asked.job old.held) (λ file. new.meter.peak ≡ highest (takings_with b file (job_takings asked.job file asked.workers))))) (sym plain)
+        (on_ok answer _ _ (exact_of (given asked.job old.held)) s.exact);
     done = on_ok answer ((new.source ≡ old.source) × (counts_written asked.job new ≡ counts_written asked.job old)) ((new.source ≡ old.source) × (new.sink.tally ≡ old.sink.tally) × (new.text.tally ≡ old.text.tally)) (all_counts s.one_written) s.cause.done;
     refused = λ is. (s.of_file, all_counts s.one_written (s.cause.refused is));
     read_fault = λ is. (s.of_file, s.cause.read_fault is);
     write_fault = s.cause.write_fault;
     most = subst (λ (m : ℕ). new.meter.peak ≤ m) (most_is asked.job asked.workers s.of_file) (omega (arith, s.most));
     told_limit = subst (λ (m : ℕ). TellsLimit (limit_of asked old.meter.limit) m answer) (most_is asked.job asked.workers s.of_file) s.cause.over_limit;
-    first_past = s.cause.first_past;
+    first_past = subst (λ (b : Bool). IfSome (given asked.job old.held) (λ file. TellsFirstPast (limit_of asked old.meter.limit) (takings_with (b && not (is_write_fault answer)) file (job_takings asked.job file asked.workers)) answer)) (sym plain)
+        s.cause.first_past;
     block = block_of answer s.cause.block;
     unread = s.unread;
     unmade = s.unmade;
     held_is = s.held_is;
-    touched = s.touched;
+    touched = subst (λ (b : Bool). ReadsBy b asked.job old.held old.ranges new.ranges) (sym plain) s.touched;
     told_ranges = s.told_ranges;
     told_contents = s.told_contents;
     source_counts = s.source_counts;
     sink_counts = s.sink_counts;
     text_counts = s.text_counts;
-    printed = s.printed;
+    printed = subst (λ (b : Bool). JobPrinted asked.job b (given asked.job old.held) (limit_of asked old.meter.limit) asked.workers old.text new.text answer) (sym plain) s.printed;
   }

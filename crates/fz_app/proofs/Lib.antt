@@ -10,6 +10,9 @@ mod NamesAnswers
 mod PackAnswers
 mod RequestAnswers
 mod RunPromises
+mod StrictAnswers
+mod StrictLines
+mod StrictTakings
 mod Tallies
 mod TextAnswers
 mod UnpackAnswers

@@ -1,7 +1,7 @@
 -- What is promised of the answer of pack beside what its contract says: what was packed comes back, and a whole output is of a file without
 -- a fault.
 use Rattle.std.proofs.Common.{◌≡◌, ℕ, List, [], ◌∷◌, refl, sym, subst, inl, inr}
-use Rattle.std.specs.Prelude.{◌⊎◌, Option, Some, None, IfSome, Result, Ok, Err, OnOk, ⊤}
+use Rattle.std.specs.Prelude.{◌⊎◌, Bool, Option, Some, None, IfSome, Result, Ok, Err, OnOk, ⊤}
 use Rattle.fz_base.specs.FirstByte.{IsShut}
 use Rattle.fz_base.specs.Source.{HoldsOctets}
 use Rattle.fz_base.specs.declared.fault.Fault.{Fault}
@@ -25,9 +25,9 @@ empty_is_shut None e = tt
 empty_is_shut (Some []) e = tt
 empty_is_shut (Some (b ∷ bytes)) e = absurd cc
 
-module _ (o : PackOptions) (W memory : ℕ) (input output : List ℕ) (old new : Ends) (empty : IfSome old.sink.contents (λ c. c ≡ [])) where
+module _ (o : PackOptions) (W : ℕ) (strict : Bool) (memory : ℕ) (input output : List ℕ) (old new : Ends) (empty : IfSome old.sink.contents (λ c. c ≡ [])) where
   abbrev pub asked : Asked
-  asked = record { job = Pack o; workers = W; memory = memory; input = input; output = output }
+  asked = record { job = Pack o; workers = W; strict = strict; memory = memory; input = input; output = output }
 
   -- a file in which a header is refused leaves the sink as it was
   by_fault : (file : List ℕ) (found : Option Fault) → header_fault (Pack o) file ≡ found → (¬ (header_fault (Pack o) file ≡ None) → IsSameSink old.sink new.sink) → IsShut new.sink.contents ⊎ IsFirstFault (Pack o) file None
@@ -49,4 +49,4 @@ module _ (o : PackOptions) (W memory : ℕ) (input output : List ℕ) (old new :
   restored_of law options bytes (Err stop) packed sound = tt
 
   pub packed : ComesBack → AreOptions o → HoldsOctets old.held → (answer : Result (Unit {0}) Stop) → JobSays asked old new answer → IsPromised asked old new answer
-  packed law options bytes answer s = promised asked old new answer s (λ whole. by_held old.held s.unmade.faulty) (restored_of law options bytes answer s.output s.first_fault) (always_ok answer ⊤ tt)
+  packed law options bytes answer s = promised asked old new refl answer s (λ whole. by_held old.held s.unmade.faulty) (restored_of law options bytes answer s.output s.first_fault) (always_ok answer ⊤ tt)

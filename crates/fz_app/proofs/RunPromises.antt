@@ -14,7 +14,7 @@ use Rattle.fz_round_trip.specs.RoundTrip.{ComesBack, HasNoOtherFault}
 use Rattle.fz_job.specs.Clauses.{IsAnswer, TellsFirstFault}
 use Rattle.fz_words.specs.Jobs.{Asked, job_of}
 use Rattle.fz_app.specs.Answer.{IfAnswer, IsEnd, IsPromisedTo}
-use Rattle.fz_app.specs.Asked.{given, limit_of}
+use Rattle.fz_app.specs.Asked.{given, is_compared, limit_of}
 use Rattle.fz_app.specs.Causes.{AreCountsKept}
 use Rattle.fz_app.specs.Ends.{Ends, TextIs, counts_written, written_counts}
 use Rattle.fz_app.specs.Lines.{status_line, GotLine}
@@ -56,9 +56,9 @@ answers_to a None limit r x t = tt
 answers_to a (Some file) limit r x t = λ b. (x b, t)
 
 -- the same of the end of a job
-if_end : (held : Option (List ℕ)) (job : Job) (status : Status) (X Y : List ℕ → Type 0) → ((file : List ℕ) → IsEnd job (Some file) status → X file → Y file) → IsEnd job held status → IfSome held X → IfSome held Y
-if_end None job status X Y f e x = tt
-if_end (Some file) job status X Y f e x = f file e x
+if_end : (held : Option (List ℕ)) (asked : Asked) (status : Status) (X Y : List ℕ → Type 0) → ((file : List ℕ) → IsEnd asked (Some file) status → X file → Y file) → IsEnd asked held status → IfSome held X → IfSome held Y
+if_end None asked status X Y f e x = tt
+if_end (Some file) asked status X Y f e x = f file e x
 
 -- what a job writes to rose, and the text did not fall behind it
 risen : (job : Job) (sink sink' text text' now : Tally) → CountsKept text' now → Rose (written_counts job sink text).faults (written_counts job sink' text').faults → Rose (written_counts job sink text).faults (written_counts job sink' now).faults
@@ -75,21 +75,21 @@ with_file None status B F p = tt
 with_file (Some file) status B F p = λ b. of_answer status (λ r. B file → F file r) (F file) (λ r f. f b) p
 
 module _ (one : HasNoOtherFault) (old new : Ends) where
-  decided : (a : Asked) (status : Status) → IfAnswer status (IsPromised a old new) × (status ≢ Usage) → IsEnd a.job (given a.job old.held) status → (IsOfFile a.job → ¬ Rose old.source.faults new.source.faults) → ¬ Rose (counts_written a.job old).faults (counts_written a.job new).faults →
-      IfSome (given a.job old.held) (λ file. job_bound a.job file a.workers ≤ limit_of a old.meter.limit → IsAnswerTo a.job file (first_fault a.job file) status)
+  decided : (a : Asked) (status : Status) → IfAnswer status (IsPromised a old new) × (status ≢ Usage) → IsEnd a (given a.job old.held) status → (IsOfFile a.job → ¬ Rose old.source.faults new.source.faults) → ¬ Rose (counts_written a.job old).faults (counts_written a.job new).faults →
+      IfSome (given a.job old.held) (λ file. job_bound a.job file a.workers ≤ limit_of a old.meter.limit → IsAnswerTo a file (first_fault a.job file) status)
   decided a status p end s k =
-      if_end (given a.job old.held) a.job status (λ file. job_bound a.job file a.workers ≤ limit_of a old.meter.limit → IfAnswer status (λ r. IsAnswer r × TellsFirstFault a.job (Some file) r)) (λ file. job_bound a.job file a.workers ≤ limit_of a old.meter.limit → IsAnswerTo a.job file (first_fault a.job file) status)
-      (λ file e f b. decides one a.job file status (f b) p.1 e) end
+      if_end (given a.job old.held) a status (λ file. job_bound a.job file a.workers ≤ limit_of a old.meter.limit → IfAnswer status (λ r. IsAnswer r × TellsFirstFault a.job (Some file) r)) (λ file. job_bound a.job file a.workers ≤ limit_of a old.meter.limit → IsAnswerTo a file (first_fault a.job file) status)
+      (λ file e f b. decides one a file status (f b) p.1 e) end
       (with_file (given a.job old.held) status (λ file. job_bound a.job file a.workers ≤ limit_of a old.meter.limit) (λ file r. IsAnswer r × TellsFirstFault a.job (Some file) r)
       (of_answer status (IsPromised a old new) (λ r. IfSome (given a.job old.held) (λ file. job_bound a.job file a.workers ≤ limit_of a old.meter.limit → IsAnswer r × TellsFirstFault a.job (Some file) r))
       (λ r q. answers_to a (given a.job old.held) (limit_of a old.meter.limit) r (q.answered s k) q.first_fault) p.0))
 
-  asked_decided : (asked : Option Asked) (status : Status) (now : Tally) → CountsKept new.text.tally now → IsPromisedTo asked status (λ (a : Asked). IsPromised a old new) → IfSome asked (λ a. IsEnd a.job (given a.job old.held) status) →
-      IfSome asked (λ a. (IsOfFile a.job → ¬ Rose old.source.faults new.source.faults) → ¬ Rose (written_counts a.job old.sink.tally old.text.tally).faults (written_counts a.job new.sink.tally now).faults → IfSome (given a.job old.held) (λ file. job_bound a.job file a.workers ≤ limit_of a old.meter.limit → IsAnswerTo a.job file (first_fault a.job file) status))
+  asked_decided : (asked : Option Asked) (status : Status) (now : Tally) → CountsKept new.text.tally now → IsPromisedTo asked status (λ (a : Asked). IsPromised a old new) → IfSome asked (λ a. IsEnd a (given a.job old.held) status) →
+      IfSome asked (λ a. (IsOfFile a.job → ¬ Rose old.source.faults new.source.faults) → ¬ Rose (written_counts a.job old.sink.tally old.text.tally).faults (written_counts a.job new.sink.tally now).faults → IfSome (given a.job old.held) (λ file. job_bound a.job file a.workers ≤ limit_of a old.meter.limit → IsAnswerTo a file (first_fault a.job file) status))
   asked_decided None status now kept p e = tt
   asked_decided (Some a) status now kept p e = λ s k. decided a status p e s (λ r. k (risen a.job old.sink.tally new.sink.tally old.text.tally new.text.tally now kept r))
 
-  pub complete : (words : List (List ℕ)) (status : Status) (now : Tally) → CountsKept new.text.tally now → IsPromisedTo (job_of words) status (λ (a : Asked). IsPromised a old new) → IfSome (job_of words) (λ a. IsEnd a.job (given a.job old.held) status) →
+  pub complete : (words : List (List ℕ)) (status : Status) (now : Tally) → CountsKept new.text.tally now → IsPromisedTo (job_of words) status (λ (a : Asked). IsPromised a old new) → IfSome (job_of words) (λ a. IsEnd a (given a.job old.held) status) →
       IsComplete words old.held old.source new.source old.sink.tally new.sink.tally old.text.tally now old.meter.limit status
   complete words status now kept p e = asked_decided (job_of words) status now kept p e
 
@@ -127,7 +127,7 @@ module _ (one : HasNoOtherFault) (old new : Ends) where
   -- what the job printed
   pub lines : (asked : Option Asked) (status : Status) → IsPromisedTo asked status (λ (a : Asked). IsPromised a old new) → (status ≡ Usage → new.text ≡ old.text) → IsPrinted asked old.held old.meter.limit old.text new.text status
   lines None status p same = same p
-  lines (Some a) status p same = of_answer status (IsPromised a old new) (JobPrinted a.job (given a.job old.held) (limit_of a old.meter.limit) a.workers old.text new.text) (λ r q. q.printed) p.0
+  lines (Some a) status p same = of_answer status (IsPromised a old new) (JobPrinted a.job (is_compared a) (given a.job old.held) (limit_of a old.meter.limit) a.workers old.text new.text) (λ r q. q.printed) p.0
 
 pub counts : (asked : Option Asked) (old new : Ends) (status : Status) → IsPromisedTo asked status (λ (a : Asked). IsPromised a old new) → (status ≡ Usage → CountsKept old.source new.source) → (status ≡ Usage → CountsKept old.sink.tally new.sink.tally) → (status ≡ Usage → CountsKept old.text.tally new.text.tally) →
     (now : Tally) → CountsKept new.text.tally now → AreCountsKept old.source new.source old.sink.tally new.sink.tally old.text.tally now

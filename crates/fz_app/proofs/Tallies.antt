@@ -23,7 +23,7 @@ kept_twice a b c k l = record {
 }
 
 -- what is kept with names is kept without
-kept_nameless : (before now : Tally) → CountsKept before now → CountsKept (nameless before) (nameless now)
+pub kept_nameless : (before now : Tally) → CountsKept before now → CountsKept (nameless before) (nameless now)
 kept_nameless before now k = record {
   faults_kept = k.faults_kept;
   wants_kept = k.wants_kept;
@@ -33,7 +33,7 @@ kept_nameless before now k = record {
   not_amended = k.not_amended;
 }
 
-nameless_ok : {X : Type 0} (r : Result X Stop) (source source' sink sink' : Tally) → OnOk r ((source' ≡ source) × (sink' ≡ sink)) → OnOk r ((nameless source' ≡ nameless source) × (sink' ≡ sink))
+pub nameless_ok : {X : Type 0} (r : Result X Stop) (source source' sink sink' : Tally) → OnOk r ((source' ≡ source) × (sink' ≡ sink)) → OnOk r ((nameless source' ≡ nameless source) × (sink' ≡ sink))
 nameless_ok (Ok x) source source' sink sink' same = (ap nameless same.0, same.1)
 nameless_ok (Err stop) source source' sink sink' same = tt
 

@@ -1,6 +1,6 @@
 -- What is promised of the answer of a job that prints lines, beside what its contract says: the sink is as it was.
 use Rattle.std.proofs.Common.{◌≡◌, ℕ, ◌≤◌, ◌<◌, List, [], refl, sym, ap, subst, ◌∙◌, inl}
-use Rattle.std.specs.Prelude.{◌⊎◌, max, Bool, Option, Some, None, IfSome, IsSome, Result, Ok, Err, IsErrOf, OnOk, OnErr, ⊤}
+use Rattle.std.specs.Prelude.{◌⊎◌, max, Bool, false, Option, Some, None, IfSome, IsSome, Result, Ok, Err, IsErrOf, OnOk, OnErr, ⊤}
 use Rattle.fz_base.specs.Counts.{CountsKept, Tally}
 use Rattle.fz_base.specs.Stop.{IfRefused, IsRefused, TellsLimit}
 use Rattle.fz_base.specs.Takings.{TellsFirstPast, first_past, highest}
@@ -17,7 +17,7 @@ use Rattle.fz_job.specs.Clauses.{Answers, ComesLate, HasJobCause, IfOverLimit, I
 use Rattle.fz_verify.specs.Clauses.{PrintsLines}
 use Rattle.fz_words.specs.Jobs.{Asked}
 use Rattle.fz_app.specs.Answer.{done_of}
-use Rattle.fz_app.specs.Asked.{given, limit_of}
+use Rattle.fz_app.specs.Asked.{given, is_compared_by, limit_of}
 use Rattle.fz_app.specs.Ends.{Ends, IsSameSink, SinkIs, TextIs, counts_written, written_counts}
 use Rattle.fz_app.specs.Outputs.{HoldsJobOutput, IfCut, IsFinished, IsOutput, JobRestores, ReadsTouched, Restores}
 use Rattle.fz_app.specs.Printed.{HasPrinted, JobPrinted}
@@ -48,7 +48,7 @@ module _ {X : Type 0} where
   error_of (Ok x) stop is = absurd cc
   error_of (Err other) stop is = cc
 
-  limit_done : (r : Result X Stop) (limit most : ℕ) → TellsLimit limit most r → TellsLimit limit most (done_of r)
+  pub limit_done : (r : Result X Stop) (limit most : ℕ) → TellsLimit limit most r → TellsLimit limit most (done_of r)
   limit_done (Ok x) limit most p = tt
   limit_done (Err (StopRefused x)) limit most p = tt
   limit_done (Err StopRead) limit most p = tt
@@ -64,7 +64,7 @@ module _ {X : Type 0} where
   past_done (Err (StopLimit live asked told)) limit takings p = p
   past_done (Err StopMemory) limit takings p = tt
 
-  fault_done : (r : Result X Stop) (job : Job) (held : Option (List ℕ)) → TellsFirstFault job held r → TellsFirstFault job held (done_of r)
+  pub fault_done : (r : Result X Stop) (job : Job) (held : Option (List ℕ)) → TellsFirstFault job held r → TellsFirstFault job held (done_of r)
   fault_done (Ok x) job held p = p
   fault_done (Err (StopRefused x)) job held p = p
   fault_done (Err StopRead) job held p = tt
@@ -80,7 +80,7 @@ module _ {X : Type 0} where
   lines_done (Err (StopLimit live asked limit)) job held old new p = p
   lines_done (Err StopMemory) job held old new p = p
 
-  answer_done : (r : Result X Stop) → IsAnswer r → IsAnswer (done_of r)
+  pub answer_done : (r : Result X Stop) → IsAnswer r → IsAnswer (done_of r)
   answer_done (Ok x) p = tt
   answer_done (Err (StopRefused x)) p = tt
   answer_done (Err StopRead) p = absurd p
@@ -152,7 +152,7 @@ pub record TextSays {X : Type 0} (job : Job) (held : Option (List ℕ)) (limit W
 
 -- what was printed, of the answer without its value
 printed : {X : Type 0} → (job : Job) (held : Option (List ℕ)) (limit W : ℕ) (old new : Ends) (answer : Result X Stop) → ((file : List ℕ) → job_takings job file W ≡ job_takings job file 1) → TextSays job held limit W old new answer →
-    HasPrinted job held limit W old.text new.text (done_of answer)
+    HasPrinted false job held limit W old.text new.text (done_of answer)
 printed job held limit W old new answer same s = record {
   lines = lines_done answer job held old.text.contents new.text.contents s.lines;
   silent = record { faulty = s.silent.faulty; past = past_workers held limit (λ file. job_takings job file 1) (λ file. job_takings job file W) _ same s.silent.past; over_limit = over_done answer _ s.silent.over_limit; refused = if_refused_done answer _ s.silent.refused };
@@ -211,7 +211,7 @@ pub record IsPrinter (job : Job) : Type 1 where
   pub counts : (sink text : Tally) → written_counts job sink text ≡ text
   pub most : (W : ℕ) → greatest_bound job W ≡ greatest_bound job 1
   pub takings : (W : ℕ) (file : List ℕ) → job_takings job file W ≡ job_takings job file 1
-  pub printed : (held : Option (List ℕ)) (limit W : ℕ) (old new : TextIs) (answer : Result (Unit {0}) Stop) → HasPrinted job held limit W old new answer → JobPrinted job held limit W old new answer
+  pub printed : (held : Option (List ℕ)) (limit W : ℕ) (old new : TextIs) (answer : Result (Unit {0}) Stop) → HasPrinted false job held limit W old new answer → JobPrinted job false held limit W old new answer
 
 pub verifies : IsPrinter Verify
 verifies = record { output = λ file. refl; finished = λ is. tt; restores = λ file bytes. tt; no_cut = λ P. tt; counts = λ sink text. refl; most = λ W. refl; takings = λ W file. refl; printed = λ held limit W old new answer p. p }
@@ -233,9 +233,9 @@ module _ (job : Job) (is : IsPrinter job) where
   none_restored (Some file) None = tt
   none_restored (Some file) (Some bytes) = is.restores file bytes
 
-module _ (job : Job) (is : IsPrinter job) (W memory : ℕ) (input output : List ℕ) (old new : Ends) (same : new.sink ≡ old.sink) (empty : IfSome new.sink.contents (λ c. c ≡ [])) where
+module _ (job : Job) (is : IsPrinter job) (W : ℕ) (strict : Bool) (plain : is_compared_by job strict ≡ false) (memory : ℕ) (input output : List ℕ) (old new : Ends) (same : new.sink ≡ old.sink) (empty : IfSome new.sink.contents (λ c. c ≡ [])) where
   abbrev pub asked : Asked
-  asked = record { job = job; workers = W; memory = memory; input = input; output = output }
+  asked = record { job = job; workers = W; strict = strict; memory = memory; input = input; output = output }
 
   abbrev pub limit : ℕ
   limit = limit_of asked old.meter.limit
@@ -255,9 +255,9 @@ module _ (job : Job) (is : IsPrinter job) (W memory : ℕ) (input output : List 
     block = λ less. (error_of answer _ (s.cause.block less).0, (s.cause.block less).1, (s.cause.block less).2);
   }
 
-  -- the promises of a job that prints
+  -- the promises of a job that prints and compares nothing
   pub text_promised : {X : Type 0} (answer : Result X Stop) → TextSays job (given job old.held) limit W old new answer → IsPromised asked old new (done_of answer)
-  text_promised answer s = promised asked old new (done_of answer)
+  text_promised answer s = promised asked old new plain (done_of answer)
       (record {
         of_file = s.of_file;
         output = always_ok (done_of answer) _ (empty_output job is old.held new.sink.contents empty);

@@ -1,7 +1,7 @@
 -- What is promised of the answer of unpack beside what its contract says: the packed file of a plain file gives this again, and a whole
 -- output is of a file without a fault.
-use Rattle.std.proofs.Common.{ℕ, ◌≤◌, ◌^◌, List, arith, inl, inr}
-use Rattle.std.specs.Prelude.{◌⊎◌, Option, Some, None, IfSome, Result, Ok, Err, OnOk, ⊤}
+use Rattle.std.proofs.Common.{refl, ℕ, ◌≤◌, ◌^◌, List, arith, inl, inr}
+use Rattle.std.specs.Prelude.{◌⊎◌, Bool, Option, Some, None, IfSome, Result, Ok, Err, OnOk, ⊤}
 use Rattle.fz_base.specs.FirstByte.{IsShut}
 use Rattle.fz_base.specs.Source.{HoldsLength}
 use Rattle.fz_base.specs.declared.failure.Stop.{Stop}
@@ -28,13 +28,13 @@ comes_back law one n short (Some file) None long stands = tt
 comes_back law one n short (Some file) (Some bytes) long stands =
     λ options plain profile packed. one file bytes plain stands (law options plain file profile packed (omega (arith, long, short)))
 
-module _ (W memory : ℕ) (input output : List ℕ) (old new : Ends) where
+module _ (W : ℕ) (strict : Bool) (memory : ℕ) (input output : List ℕ) (old new : Ends) where
   abbrev pub asked : Asked
-  asked = record { job = Unpack; workers = W; memory = memory; input = input; output = output }
+  asked = record { job = Unpack; workers = W; strict = strict; memory = memory; input = input; output = output }
 
   restored_of : ComesBack → StandsForOneFile → (n : ℕ) → n ≤ 2 ^ 62 → HoldsLength old.held n → (answer : Result (Unit {0}) Stop) → OnOk answer (HoldsJobOutput Unpack old.held new.sink.contents) → OnOk answer (JobRestores Unpack old.held new.sink.contents)
   restored_of law one n short long (Ok done) stands = comes_back law one n short old.held new.sink.contents long stands
   restored_of law one n short long (Err stop) stands = tt
 
   pub unpacked : ComesBack → StandsForOneFile → (n : ℕ) → n ≤ 2 ^ 62 → HoldsLength old.held n → (answer : Result (Unit {0}) Stop) → JobSays asked old new answer → IsPromised asked old new answer
-  unpacked law one n short long answer s = promised asked old new answer s (is_sound old.held new.sink.contents) (restored_of law one n short long answer s.output) (always_ok answer ⊤ tt)
+  unpacked law one n short long answer s = promised asked old new refl answer s (is_sound old.held new.sink.contents) (restored_of law one n short long answer s.output) (always_ok answer ⊤ tt)

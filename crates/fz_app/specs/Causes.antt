@@ -1,23 +1,25 @@
 -- Why a run ended as it did.
-use Rattle.std.specs.Prelude.{ℕ, ◌≡◌, ◌⊎◌, ◌<◌, ◌↔◌, List, Option, None, IfSome, IsErrOf, OnOk}
+use Rattle.std.specs.Prelude.{ℕ, ◌≡◌, ◌⊎◌, ◌<◌, ◌↔◌, List, Option, None, IfSome, Result, IsErrOf, OnOk}
 use Rattle.fz_base.specs.Counts.{Rose, Tally, CountsKept}
 use Rattle.fz_base.specs.Stop.{IsRefused, TellsLimit}
 use Rattle.fz_base.specs.Takings.{TellsFirstPast}
+use Rattle.fz_base.specs.declared.failure.Stop.{Stop}
 use Rattle.fz_base.specs.declared.failure.Stop.TheVariants.{ReadFault as StopRead, WriteFault as StopWrite, OverLimit as StopLimit, NoMemory as StopMemory}
-use Rattle.fz_files.specs.Buffers.{IsOfFile, job_bound, job_takings}
-use Rattle.fz_job.specs.Clauses.{IsUnmade}
+use Rattle.fz_files.specs.Buffers.{IsOfFile, job_bound}
+use Rattle.fz_files.specs.declared.job.Job.TheVariants.{Verify}
+use Rattle.fz_job.specs.Clauses.{IsUnmade, greatest_bound}
 use Rattle.fz_words.specs.Jobs.{job_of}
 use Rattle.fz_app.specs.Answer.{IfRan, IsEnd}
-use Rattle.fz_app.specs.Asked.{IfAsked, given, limit_of, most_bound}
+use Rattle.fz_app.specs.Asked.{IfAsked, given, limit_of, most_bound, takings_told}
 use Rattle.fz_app.specs.Ends.{TextIs, written_counts}
 use Rattle.fz_app.specs.Lines.{status_line, GotLine}
 use Rattle.fz_app.specs.Outputs.{LeavesSink, LeavesSource}
 use Rattle.fz_app.specs.declared.status.Status.{Status}
 use Rattle.fz_app.specs.declared.status.Status.TheVariants.{Usage}
 
--- Different: comes exactly where the job is `verify`, it was done, and a sum of the file is wrong.
+-- Different: comes exactly if the job is `verify`, it was done, and a sum of the file is wrong or, if the file is compared, it is not strict.
 abbrev pub IsDifferent : List (List ℕ) → Option (List ℕ) → Status → Type 0
-IsDifferent words held status = IfAsked words (λ asked. IsEnd asked.job (given asked.job held) status)
+IsDifferent words held status = IfAsked words (λ asked. IsEnd asked (given asked.job held) status)
 
 -- Usage: comes exactly where the words ask for nothing.
 abbrev pub IsUsage : List (List ℕ) → Status → Type 0
@@ -49,13 +51,13 @@ abbrev pub WriteFaultHasCause : List (List ℕ) → Tally → Tally → Tally �
 WriteFaultHasCause words sink sink' text text' status =
     IfRan words status (λ asked answer. IsErrOf answer StopWrite → Rose (written_counts asked.job sink text).faults (written_counts asked.job sink' text').faults)
 
--- Over limit: comes exactly where a taking of the job passes the limit, and tells the first. A read fault or want of memory may come in
--- its place. What passes it, with what is live, is never more than the bound of the job on the file that it is given, of `drill` than the one
--- bound that it has, and whatever the file than the greatest bound: so a limit of at least the bound is never passed. The first taking of all
--- jobs is one block: below that nothing is read of the file, whatever the answer.
+-- Over limit: comes exactly where a taking of what is asked passes the limit, and tells the first. A read fault, want of memory, or, for a
+-- taking of the comparison, a write fault may come in its place. What passes it, with what is live, is never more than the bound of the job
+-- on the file that it is given, of `drill` than the one bound that it has, and whatever the file than the greatest bound: so a limit of at
+-- least the bound is never passed. The first taking of all jobs is one block: below that nothing is read of the file, whatever the answer.
 pub record OverLimitHasCause (words : List (List ℕ)) (held : Option (List ℕ)) (limit : ℕ) (ranges ranges' : Option (List (ℕ × ℕ))) (status : Status) : Type 0 where
   pub told : IfRan words status (λ asked answer. TellsLimit (limit_of asked limit) (most_bound asked.job asked.workers) answer)
-  pub first_past : IfRan words status (λ asked answer. IfSome (given asked.job held) (λ file. TellsFirstPast (limit_of asked limit) (job_takings asked.job file asked.workers) answer))
+  pub first_past : IfRan words status (λ asked answer. IfSome (given asked.job held) (λ file. TellsFirstPast (limit_of asked limit) (takings_told asked answer file) answer))
   pub within : IfRan words status (λ asked answer. IfSome (given asked.job held) (λ file. TellsLimit (limit_of asked limit) (job_bound asked.job file asked.workers) answer))
   pub block : IfRan words status (λ asked answer. limit_of asked limit < 2880 → IsErrOf answer (StopLimit 0 2880 (limit_of asked limit)) ⊎ (IsErrOf answer StopRead ⊎ IsErrOf answer StopMemory))
   pub unread : IfAsked words (λ asked. limit_of asked limit < 2880 → ranges' ≡ ranges)
@@ -70,3 +72,12 @@ pub record AreCountsKept (source source' sink sink' text text' : Tally) : Type 0
   pub of_source : CountsKept source source'
   pub of_sink : CountsKept sink sink'
   pub of_text : CountsKept text text'
+
+-- Why the comparison ended as it did: after Ok no count rose, and after Refused none of the source and of the text; the two faults come only
+-- where that of the source or of the text rose; and what passes the limit is never more than the greatest bound.
+pub record ComparesFor {X : Type 0} (source source' text text' : Tally) (limit : ℕ) (result : Result X Stop) : Type 0 where
+  pub done : OnOk result ((source' ≡ source) × (text' ≡ text))
+  pub refused : IsRefused result → (source' ≡ source) × (text' ≡ text)
+  pub read_fault : IsErrOf result StopRead → Rose source.faults source'.faults
+  pub write_fault : IsErrOf result StopWrite → Rose text.faults text'.faults
+  pub over_limit : TellsLimit limit (greatest_bound Verify 1) result

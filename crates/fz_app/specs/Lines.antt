@@ -1,5 +1,5 @@
 -- The lines that the program prints for the status of a run.
-use Rattle.std.specs.Prelude.{ℕ, ◌≡◌, ◌⊎◌, List, [], ◌∷◌, ◌++◌, codes, decimal, Option}
+use Rattle.std.specs.Prelude.{ℕ, ◌≡◌, ◌⊎◌, Bool, true, false, List, [], ◌∷◌, ◌++◌, codes, decimal, Option}
 use Rattle.fz_base.specs.Counts.{Rose, Tally}
 use Rattle.fz_base.specs.Sink.{appended, MayAppend}
 use Rattle.fz_base.specs.Kind.{kind_number}
@@ -75,3 +75,8 @@ GotLine [] old new before now = (new ≡ old) × (now ≡ before)
 GotLine (b ∷ line) old new before now =
     ((new ≡ appended (b ∷ line) old) × (now ≡ before))
     ⊎ (MayAppend (b ∷ line) old new × (Rose before.faults now.faults ⊎ Rose before.wants now.wants))
+
+-- the line that says whether a file is the packed file of the file that it stands for
+abbrev pub strict_text : Bool → List ℕ
+strict_text true = codes "strict yes\n"
+strict_text false = codes "strict no\n"

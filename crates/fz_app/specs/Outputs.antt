@@ -1,5 +1,5 @@
 -- What a job writes (FITS 4.0, sections 4.4.1 and 10.1).
-use Rattle.std.specs.Prelude.{ℕ, ◌≡◌, ◌≤◌, ◌^◌, true, Bool, List, [], length, Option, None, IfSome, ⊤}
+use Rattle.std.specs.Prelude.{ℕ, ◌≡◌, ◌≤◌, ◌^◌, true, false, Bool, List, [], length, Option, None, IfSome, ⊤}
 use Rattle.fz_base.specs.Ranges.{LogsIn}
 use Rattle.fz_head.specs.declared.options.PackOptions.{PackOptions}
 use Rattle.fz_files.specs.CutoutBytes.{IsCutout}
@@ -11,6 +11,9 @@ use Rattle.fz_files.specs.declared.job.Job.{Job}
 use Rattle.fz_files.specs.declared.job.Job.TheVariants.{Pack, Unpack, Cut, Verify, List as ListHdus, Drill}
 use Rattle.fz_grid.specs.declared.sieve.Sieve.{Sieve}
 use Rattle.fz_cut.specs.Slices.{HoldsSlice}
+use Rattle.fz_round_trip.specs.Decided.{first_fault}
+use Rattle.fz_words.specs.Jobs.{Asked}
+use Rattle.fz_app.specs.Asked.{is_compared}
 
 -- the bytes are what a job writes for a file; some jobs write nothing
 abbrev pub IsOutput : Job → List ℕ → List ℕ → Type 0
@@ -94,6 +97,15 @@ IfCut (Drill rows) P = ⊤
 abbrev pub HoldsJobSlice : Job → Option (List ℕ) → Option (List ℕ) → Type 0
 HoldsJobSlice job held contents = IfCut job (λ wanted sieve. HoldsSlice wanted sieve held contents)
 
--- every byte that a job reads lies in the ranges that it may read
+-- every byte that a job reads itself lies in the ranges that it may read
 abbrev pub ReadsTouched : Job → Option (List ℕ) → Option (List (ℕ × ℕ)) → Option (List (ℕ × ℕ)) → Type 0
 ReadsTouched job held old new = IfSome held (λ file. LogsIn (touched_by job file) old new)
+
+-- Whether every byte that is read lies there. What is read to compare a file is not said: nothing is if the file has a fault.
+abbrev pub ReadsBy : Bool → Job → Option (List ℕ) → Option (List (ℕ × ℕ)) → Option (List (ℕ × ℕ)) → Type 0
+ReadsBy false job held old new = ReadsTouched job held old new
+ReadsBy true job held old new = IfSome held (λ file. ¬ (first_fault job file ≡ None) → LogsIn (touched_by job file) old new)
+
+-- the same of what is asked
+abbrev pub ReadsAsked : Asked → Option (List ℕ) → Option (List (ℕ × ℕ)) → Option (List (ℕ × ℕ)) → Type 0
+ReadsAsked asked held old new = ReadsBy (is_compared asked) asked.job held old new

@@ -1,24 +1,25 @@
 -- What a run promises, whatever the words, the source, the sink, the text and the meter.
-use Rattle.std.specs.Prelude.{ℕ, ◌≡◌, ◌≢◌, ◌⊎◌, ◌≤◌, Bool, List, Option, Some, None, IfSome, OnOk}
+use Rattle.std.specs.Prelude.{ℕ, ◌≡◌, ◌≢◌, ◌⊎◌, ◌≤◌, Bool, true, false, List, Option, Some, None, IfSome, OnOk}
 use Rattle.fz_base.specs.Counts.{Rose, Tally}
 use Rattle.fz_base.specs.FirstByte.{IsShut}
 use Rattle.fz_base.specs.Meter.{Gauge}
 use Rattle.fz_base.specs.Sink.{MayAppend}
 use Rattle.fz_base.specs.Takings.{highest}
 use Rattle.fz_base.specs.declared.fault.Fault.{Fault}
-use Rattle.fz_files.specs.Buffers.{IsOfFile, job_bound, job_takings}
-use Rattle.fz_files.specs.FirstFault.{IsFirstFault}
+use Rattle.fz_files.specs.Buffers.{IsOfFile, job_bound}
 use Rattle.fz_files.specs.Lines.{report_lines}
 use Rattle.fz_files.specs.declared.job.Job.{Job}
+use Rattle.fz_files.specs.declared.job.Job.TheVariants.{Verify}
 use Rattle.fz_round_trip.specs.Decided.{first_fault}
 use Rattle.fz_job.specs.Clauses.{TellsFirstFault}
-use Rattle.fz_words.specs.Jobs.{job_of}
-use Rattle.fz_app.specs.Answer.{IfRan, end_of}
-use Rattle.fz_app.specs.Asked.{IfAsked, given, limit_of, most_bound}
+use Rattle.fz_strict.specs.Clauses.{IsStrictAsSaid}
+use Rattle.fz_words.specs.Jobs.{Asked, job_of}
+use Rattle.fz_app.specs.Answer.{EndsAs, IfRan}
+use Rattle.fz_app.specs.Asked.{IfAsked, asked_takings, given, is_compared, limit_of, most_bound}
 use Rattle.fz_app.specs.Ends.{TextIs, written_counts}
 use Rattle.fz_app.specs.Lines.{status_line, GotLine}
-use Rattle.fz_app.specs.Outputs.{HoldsJobOutput, HoldsJobSlice, JobRestores, IsFinished, IsWhole, PackedIsSound, ReadsTouched}
-use Rattle.fz_app.specs.Printed.{IsPrinted, IsReported}
+use Rattle.fz_app.specs.Outputs.{HoldsJobOutput, HoldsJobSlice, JobRestores, IsFinished, IsWhole, PackedIsSound, ReadsAsked}
+use Rattle.fz_app.specs.Printed.{IsPrinted, IsReported, compared_lines}
 use Rattle.fz_app.specs.declared.status.Status.{Status}
 use Rattle.fz_app.specs.declared.status.Status.TheVariants.{Done, Refused, WriteFault, NoMemory}
 
@@ -42,9 +43,10 @@ HasFirstFault words held status = IfRan words status (λ asked answer. TellsFirs
 abbrev pub HasSlice : List (List ℕ) → Option (List ℕ) → Option (List ℕ) → Status → Type 0
 HasSlice words held contents status = IfRan words status (λ asked answer. OnOk answer (HoldsJobSlice asked.job held contents))
 
--- Touched: whatever the answer, every byte that was read lies in the ranges that the job may read.
+-- Touched: whatever the answer, every byte that was read lies in the ranges that the job may read. Of a file that is compared this is said if
+-- it has a fault.
 abbrev pub ReadsWithin : List (List ℕ) → Option (List ℕ) → Option (List (ℕ × ℕ)) → Option (List (ℕ × ℕ)) → Type 0
-ReadsWithin words held old new = IfAsked words (λ asked. ReadsTouched asked.job held old new)
+ReadsWithin words held old new = IfAsked words (λ asked. ReadsAsked asked held old new)
 
 -- Buffers: nothing is live, the limit is that of the meter or of the words, and the peak is at most that and at most the
 -- bound of the job. After a job that was done the peak is exactly the greatest sum of its takings, for as many workers as were asked for: so
@@ -55,7 +57,7 @@ pub record BuffersAreBounded (words : List (List ℕ)) (held : Option (List ℕ)
   pub limit : IfAsked words (λ asked. new.limit ≡ limit_of asked old.limit)
   pub peak : IfAsked words (λ asked. IfSome (given asked.job held) (λ file. new.peak ≤ job_bound asked.job file asked.workers))
   pub most : IfAsked words (λ asked. new.peak ≤ most_bound asked.job asked.workers)
-  pub exact : IfRan words status (λ asked answer. OnOk answer (IfSome (given asked.job held) (λ file. new.peak ≡ highest (job_takings asked.job file asked.workers))))
+  pub exact : IfRan words status (λ asked answer. OnOk answer (IfSome (given asked.job held) (λ file. new.peak ≡ highest (asked_takings asked file))))
 
 -- First byte: after another status than Done the contents are empty or begin with another byte than S, or they are the whole
 -- output of the job on a file without a fault, and then the status is WriteFault or NoMemory.
@@ -63,21 +65,26 @@ abbrev pub HasFirstByteLast : List (List ℕ) → Option (List ℕ) → Option (
 HasFirstByteLast words held contents status =
     status ≢ Done → IsShut contents ⊎ (IfAsked words (λ asked. IsWhole asked.job held contents) × ((status ≡ WriteFault) ⊎ (status ≡ NoMemory)))
 
+-- a beginning of the lines that the first fault of the file decides, and, if the file is compared, that of the comparison
+abbrev pub GotFrontBy : Bool → Job → List ℕ → Option (List ℕ) → Option (List ℕ) → Type 0
+GotFrontBy false job file old new = MayAppend (report_lines job file (first_fault job file)) old new
+GotFrontBy true job file old new = (same : Bool) → IsStrictAsSaid same file → MayAppend (compared_lines file (first_fault Verify file) same) old new
+
 -- Text: it got the lines of the job, and after them the line of the status. Between them it was as the job left it: with a beginning of the
 -- lines that the first fault of the file decides, whatever the status; and, whatever the source tells, if `verify` was done, with lines in which
--- no sum is reported as wrong, or one is if the status is Different.
+-- no sum is reported as wrong, or one is if the status is Different. If the file is compared, the line that says whether it is strict comes after
+-- those of `verify`, and decides with them.
 pub record GotText (words : List (List ℕ)) (held : Option (List ℕ)) (limit : ℕ) (old new : TextIs) (status : Status) : Type 0 where
   pub between : TextIs
   pub lines : IsPrinted (job_of words) held limit old between status
-  pub front : IfAsked words (λ asked. IfSome (given asked.job held) (λ file.
-      MayAppend (report_lines asked.job file (first_fault asked.job file)) old.contents between.contents))
+  pub front : IfAsked words (λ asked. IfSome (given asked.job held) (λ file. GotFrontBy (is_compared asked) asked.job file old.contents between.contents))
   pub reported : IsReported (job_of words) old.contents between.contents status
   pub line : GotLine (status_line status) between.contents new.contents between.tally new.tally
 
 -- The answers to a file with this first fault, or none: it is refused for it, or the job is done. Want of memory may stop that.
-abbrev pub IsAnswerTo : Job → List ℕ → Option Fault → Status → Type 0
-IsAnswerTo job file None status = (status ≡ end_of job file) ⊎ (status ≡ NoMemory)
-IsAnswerTo job file (Some x) status = (status ≡ Refused x) ⊎ (status ≡ NoMemory)
+abbrev pub IsAnswerTo : Asked → List ℕ → Option Fault → Status → Type 0
+IsAnswerTo asked file None status = EndsAs asked file status ⊎ (status ≡ NoMemory)
+IsAnswerTo asked file (Some x) status = (status ≡ Refused x) ⊎ (status ≡ NoMemory)
 
 -- Completeness: if no count of faults rose, of the source of a job that is given a file, and of what the job writes to, and the limit is at
 -- least the bound of the job, the first fault of the file alone decides.
@@ -86,4 +93,4 @@ IsComplete words held source source' sink sink' text text' limit status =
     IfAsked words (λ asked. (IsOfFile asked.job → ¬ Rose source.faults source'.faults)
     → ¬ Rose (written_counts asked.job sink text).faults (written_counts asked.job sink' text').faults
     → IfSome (given asked.job held) (λ file. job_bound asked.job file asked.workers ≤ limit_of asked limit
-    → IsAnswerTo asked.job file (first_fault asked.job file) status))
+    → IsAnswerTo asked file (first_fault asked.job file) status))

@@ -1,7 +1,7 @@
 //! The line that a status prints.
 ghost use Rattle.std.specs.Prelude.{ℕ, ◌≡◌, ◌+◌, ◌≤◌, ◌++◌, decimal};
 ghost use Rattle.arrayvec.specs.ArrayString.{array_string_len};
-ghost use Rattle.fz_app.specs.Lines.{status_line, refusal_text, place_text};
+ghost use Rattle.fz_app.specs.Lines.{status_line, refusal_text, place_text, strict_text};
 
 use crate::kind_name::kind_name;
 use crate::status::Status;
@@ -78,4 +78,15 @@ fn push_number(line: &mut Line, number: u64)
     ensures len { array_string_len line.new ≤ array_string_len line.old + 40 }
 {
     line.push_str(Buffer::new().format(number));
+}
+
+/// The line that says whether a file is the packed file of the file that it stands for.
+pub(crate) fn strict_line(same: bool) -> &'static [u8]
+    ensures { result.now ≡ strict_text same }
+{
+    if same {
+        b"strict yes\n"
+    } else {
+        b"strict no\n"
+    }
 }

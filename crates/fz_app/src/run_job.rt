@@ -1,5 +1,5 @@
 //! The top call: it does all that the program does.
-ghost use Rattle.std.specs.Prelude.{◌≡◌, ◌≤◌, ◌^◌, ℕ, List, [], Option, Some, IfOk, IfSome};
+ghost use Rattle.std.specs.Prelude.{◌≡◌, ◌≤◌, ◌^◌, ℕ, max, Bool, List, [], Option, Some, IfOk, IfSome, OnOk};
 ghost use Rattle.fz_files.specs.declared.job.Job.TheVariants.{Cut, Drill, List as ListHdus, Pack, Unpack, Verify};
 ghost use Rattle.fz_head.specs.Planned.{AreOptions};
 ghost use Rattle.fz_words.specs.Jobs.{job_of};
@@ -11,25 +11,31 @@ ghost use Rattle.fz_base.specs.Counts.{CountsKept, Tally, nameless};
 ghost use Rattle.fz_base.specs.Meter.{narrowed};
 ghost use Rattle.fz_base.specs.Names.{NamesOnce};
 ghost use Rattle.fz_base.specs.Source.{HoldsLength};
-ghost use Rattle.fz_base.specs.Stop.{Codes};
+ghost use Rattle.fz_base.specs.Sink.{MayAppend, appended};
+ghost use Rattle.fz_base.specs.Stop.{Codes, IfRefused};
+ghost use Rattle.fz_base.specs.Takings.{TellsFirstPast, highest};
 ghost use Rattle.fz_base.specs.Told.{StaysTold};
+ghost use Rattle.fz_files.specs.Buffers.{job_bound};
+ghost use Rattle.fz_job.specs.Clauses.{Answers, IfOverLimit, KeepsSource, TellsFirstFault, greatest_bound};
+ghost use Rattle.fz_pool.specs.Window.{IsEmpty};
+ghost use Rattle.fz_strict.specs.Clauses.{IsStrictAsSaid, strict_takings};
 ghost use Rattle.fz_verify.specs.Clauses.{IsRightAsSaid};
 ghost use Rattle.fz_verify.specs.Reported.{Reports};
-ghost use Rattle.fz_app.specs.Answer.{IfAnswer, IsEnd, IsPromisedTo, done_of};
-ghost use Rattle.fz_app.specs.Asked.{given};
-ghost use Rattle.fz_app.specs.Causes.{AreCountsKept, DoneHasCause, IsDifferent, IsUnmadeFor, IsUntouched, IsUsage};
+ghost use Rattle.fz_app.specs.Answer.{IfAnswer, IsEnd, IsPromisedTo, IsRightBy, done_of};
+ghost use Rattle.fz_app.specs.Asked.{given, uncompared};
+ghost use Rattle.fz_app.specs.Causes.{AreCountsKept, ComparesFor, DoneHasCause, IsDifferent, IsUnmadeFor, IsUntouched, IsUsage};
 ghost use Rattle.fz_app.specs.Causes.{OverLimitHasCause, ReadFaultHasCause, RefusedHasCause, WriteFaultHasCause};
 ghost use Rattle.fz_app.specs.Ends.{SinkIs, TextIs, ends, sink_is, text_is};
-ghost use Rattle.fz_app.specs.Lines.{status_line, GotLine};
+ghost use Rattle.fz_app.specs.Lines.{status_line, strict_text, GotLine};
 ghost use Rattle.fz_app.specs.Names.{AreNamed, JobNames};
 ghost use Rattle.fz_app.specs.Outputs.{LeavesSink, LeavesSource};
-ghost use Rattle.fz_app.specs.Printed.{IsReported};
+ghost use Rattle.fz_app.specs.Printed.{IsReported, ReportsBy};
 ghost use Rattle.fz_app.specs.Promised.{IsPromised};
 ghost use Rattle.fz_app.specs.Promises.{BuffersAreBounded, GotText, HasFirstByteLast, HasFirstFault, HasOutput, HasSlice};
 ghost use Rattle.fz_app.specs.Promises.{IsComplete, IsRestored, ReadsWithin};
 ghost use Rattle.fz_app.specs.declared.status.Status.TheVariants.{Usage as IsUsageStatus};
 
-use crate::line::line_of;
+use crate::line::{line_of, strict_line};
 use crate::status::{Status, ended, verified};
 use fz_base::{Gate, Meter, Sink, Source, Stop, Text, takings_law};
 use fz_cut::{cut, slice_law};
@@ -40,6 +46,7 @@ use fz_head::PackOptions;
 use fz_pack::pack;
 use fz_pool::Window;
 use fz_round_trip::{first_fault_law, round_trip_law};
+use fz_strict::strict;
 use fz_unpack::unpack;
 use fz_verify::{list, verify};
 use fz_words::{Request, Usage, read_words};
@@ -138,7 +145,7 @@ fn answer_to<R: Threads + Sync, S: Source, K: Sink, T: Text, G: Gate>(
         (sink_is (K.contents sink.new) (K.created sink.new) (K.finished sink.new) (nameless (K.tally sink.new)))
         (text_is (T.contents text.new) (T.tally text.new)) meter.new)) }
     ensures untouched { result ≡ IsUsageStatus → (source.new ≡ source.old) × (sink.new ≡ sink.old) × (text.new ≡ text.old) × (meter.new ≡ meter.old) }
-    ensures ended { IfSome (job_of (texts_of words.now)) (λ asked. IsEnd asked.job (given asked.job (S.held source.old)) result) }
+    ensures ended { IfSome (job_of (texts_of words.now)) (λ asked. IsEnd asked (given asked.job (S.held source.old)) result) }
     ensures left { IfSome (job_of (texts_of words.now)) (λ asked. LeavesSink asked.job (sink.new ≡ sink.old)) }
     ensures unread { IfSome (job_of (texts_of words.now)) (λ asked. LeavesSource asked.job (source.new ≡ source.old)) }
     ensures reported { IsReported (job_of (texts_of words.now)) (T.contents text.old) (T.contents text.new) result }
@@ -174,7 +181,7 @@ fn run_request<R: Threads + Sync, S: Source, K: Sink, T: Text, G: Gate>(
         (sink_is (K.contents sink.new) (K.created sink.new) (K.finished sink.new) (nameless (K.tally sink.new)))
         (text_is (T.contents text.new) (T.tally text.new)) meter.new)) }
     ensures untouched { result ≡ IsUsageStatus → (source.new ≡ source.old) × (sink.new ≡ sink.old) × (text.new ≡ text.old) × (meter.new ≡ meter.old) }
-    ensures ended { IfSome (Some (asked_of request.now)) (λ asked. IsEnd asked.job (given asked.job (S.held source.old)) result) }
+    ensures ended { IfSome (Some (asked_of request.now)) (λ asked. IsEnd asked (given asked.job (S.held source.old)) result) }
     ensures left { IfSome (Some (asked_of request.now)) (λ asked. LeavesSink asked.job (sink.new ≡ sink.old)) }
     ensures unread { IfSome (Some (asked_of request.now)) (λ asked. LeavesSource asked.job (source.new ≡ source.old)) }
     ensures reported { IsReported (Some (asked_of request.now)) (T.contents text.old) (T.contents text.new) result }
@@ -197,7 +204,7 @@ fn run_request<R: Threads + Sync, S: Source, K: Sink, T: Text, G: Gate>(
 }
 
 // Packs the file IN into OUT.
-#[tactic(auto, using(crate::proofs::CutAnswers::nothing_read, crate::proofs::NamesAnswers::stopped_before))]
+#[tactic(auto, using(crate::proofs::CutAnswers::nothing_read, crate::proofs::CutAnswers::unread_by, crate::proofs::NamesAnswers::stopped_before))]
 fn run_pack<R: Threads + Sync, S: Source, K: Sink, G: Gate>(
     rt: &R,
     alloc: Global,
@@ -240,7 +247,7 @@ fn run_pack<R: Threads + Sync, S: Source, K: Sink, G: Gate>(
 }
 
 // Unpacks the file IN into OUT.
-#[tactic(auto, using(crate::proofs::CutAnswers::nothing_read, crate::proofs::NamesAnswers::stopped_before))]
+#[tactic(auto, using(crate::proofs::CutAnswers::nothing_read, crate::proofs::CutAnswers::unread_by, crate::proofs::NamesAnswers::stopped_before))]
 fn run_unpack<R: Threads + Sync, S: Source, K: Sink, G: Gate>(
     rt: &R,
     alloc: Global,
@@ -272,7 +279,7 @@ fn run_unpack<R: Threads + Sync, S: Source, K: Sink, G: Gate>(
 }
 
 // Cuts the picks of a sieve out of the file IN into OUT.
-#[tactic(auto, using(crate::proofs::CutAnswers::nothing_read, crate::proofs::NamesAnswers::stopped_before))]
+#[tactic(auto, using(crate::proofs::CutAnswers::nothing_read, crate::proofs::CutAnswers::unread_by, crate::proofs::NamesAnswers::stopped_before))]
 fn run_cut<R: Threads + Sync, S: Source, K: Sink, G: Gate>(
     rt: &R,
     alloc: Global,
@@ -316,8 +323,8 @@ fn run_cut<R: Threads + Sync, S: Source, K: Sink, G: Gate>(
     )
 }
 
-// Verifies the file IN, with one worker. Answers whether no sum is wrong.
-#[tactic(auto, using(crate::proofs::CutAnswers::nothing_read, crate::proofs::NamesAnswers::stopped_before))]
+// Verifies the file IN, with one worker, and if that is asked, compares it with what `pack` writes. Answers whether no
+// sum is wrong and, if it was compared, the file is strict.
 fn run_verify<R: Threads + Sync, S: Source, T: Text, G: Gate>(
     rt: &R,
     alloc: Global,
@@ -336,15 +343,94 @@ fn run_verify<R: Threads + Sync, S: Source, T: Text, G: Gate>(
         (text_is (T.contents text.new) (T.tally text.new)) meter.new) (done_of result) }
     ensures names { (made : Option (List (List ℕ))) → JobNames (asked_of request.now) (S.tally source.old).names
         (S.tally source.new).names made made (done_of result) }
-    ensures right { IfOk result (λ right. IfSome (S.held source.old) (IsRightAsSaid right)) }
-    ensures reported { IfOk result (Reports (T.contents text.old) (T.contents text.new)) }
+    ensures right { IfOk result (λ right. IfSome (S.held source.old) (IsRightBy request.now.strict right)) }
+    ensures reported { IfOk result (ReportsBy request.now.strict (T.contents text.old) (T.contents text.new)) }
+{
+    // A file in which `verify` finds no fault has none.
+    first_fault_law();
+    let (length, mut window, right) = verify_sums(rt, alloc, request, source, text, gate, meter)?;
+    if !request.strict {
+        return Ok(right);
+    }
+    let same = compare(rt, source, length, text, meter, &mut window, gate)?;
+    Ok(right & same)
+}
+
+// Verifies the file IN. Answers its length, the window, which is empty again, and whether no sum is wrong.
+#[tactic(auto, using(crate::proofs::CutAnswers::nothing_read, crate::proofs::NamesAnswers::stopped_before))]
+fn verify_sums<R: Threads + Sync, S: Source, T: Text, G: Gate>(
+    rt: &R,
+    alloc: Global,
+    request: &Request<'_>,
+    source: &mut S,
+    text: &mut T,
+    gate: &G,
+    meter: &mut Meter,
+) -> Result<(u64, Window, bool), Stop>
+    requires job { request.now.job ≡ Verify }
+    requires unused { (meter.old.live ≡ 0) × (meter.old.peak ≡ 0) }
+    ensures promised { (sink : SinkIs) → IfSome sink.contents (λ c. c ≡ []) → IsPromised (uncompared (asked_of request.now))
+        (ends (S.held source.old) (S.ranges source.old) (nameless (S.tally source.old)) sink
+        (text_is (T.contents text.old) (T.tally text.old)) meter.old)
+        (ends (S.held source.new) (S.ranges source.new) (nameless (S.tally source.new)) sink
+        (text_is (T.contents text.new) (T.tally text.new)) meter.new) (done_of result) }
+    ensures names { (made : Option (List (List ℕ))) → JobNames (asked_of request.now) (S.tally source.old).names
+        (S.tally source.new).names made made (done_of result) }
+    ensures right { IfOk result (λ done. IfSome (S.held source.old) (IsRightAsSaid done.2)) }
+    ensures reported { IfOk result (λ done. Reports (T.contents text.old) (T.contents text.new) done.2) }
+    ensures attached { IfOk result (λ done. S.attached source.new ≡ Some done.0) }
+    ensures window { IfOk result (λ done. done.1 ≡ record { slots = []; workers = 1 }) }
+    ensures live { IfOk result (λ done. meter.new.live ≡ 0) }
+    ensures held { S.held source.new ≡ S.held source.old }
 {
     let (length, mut window) = begin(alloc, request, 1, source, meter)?;
-    verify(rt, source, length, text, meter, &mut window, gate)
+    let right = verify(rt, source, length, text, meter, &mut window, gate)?;
+    Ok((length, window, right))
+}
+
+// Compares the file with what `pack` writes, and prints the line that says whether it is strict.
+fn compare<R: Threads + Sync, S: Source, T: Text, G: Gate>(
+    rt: &R,
+    source: &mut S,
+    length: u64,
+    text: &mut T,
+    meter: &mut Meter,
+    window: &mut Window,
+    gate: &G,
+) -> Result<bool, Stop>
+    requires attached { S.attached source.old ≡ Some length }
+    requires nothing_live { meter.old.live ≡ 0 }
+    requires window { IsEmpty window.old }
+    requires one_worker { window.old.workers ≡ 1 }
+    ensures right { IfOk result (λ same. IfSome (S.held source.old) (IsStrictAsSaid same)) }
+    ensures line { IfOk result (λ same. T.contents text.new ≡ appended (strict_text same) (T.contents text.old)) }
+    ensures front { IfSome (S.held source.old) (λ g. (same : Bool) → IsStrictAsSaid same g
+        → MayAppend (strict_text same) (T.contents text.old) (T.contents text.new)) }
+    ensures over_limit { IfOverLimit result ((T.contents text.new ≡ T.contents text.old) × (T.tally text.new ≡ T.tally text.old)) }
+    ensures refused { IfRefused result (λ x. (T.contents text.new ≡ T.contents text.old) × (T.tally text.new ≡ T.tally text.old)) }
+    ensures first_fault { TellsFirstFault Verify (S.held source.old) result }
+    ensures answered { Answers Verify (S.held source.old) (S.tally source.old) (S.tally source.new) (T.tally text.old)
+        (T.tally text.new) meter.old.limit 1 result }
+    ensures cause { ComparesFor (S.tally source.old) (S.tally source.new) (T.tally text.old) (T.tally text.new) meter.old.limit
+        result }
+    ensures first_past { IfSome (S.held source.old) (λ g. TellsFirstPast meter.old.limit (strict_takings g) result) }
+    ensures live { meter.new.live ≡ 0 }
+    ensures limit { meter.new.limit ≡ meter.old.limit }
+    ensures peak { IfSome (S.held source.old) (λ g. meter.new.peak ≤ max meter.old.peak (job_bound Verify g 1)) }
+    ensures most { meter.new.peak ≤ max meter.old.peak (greatest_bound Verify 1) }
+    ensures exact_peak { OnOk result (IfSome (S.held source.old) (λ g. meter.new.peak ≡ max meter.old.peak (highest (strict_takings g)))) }
+    ensures kept { KeepsSource (S.held source.old) (S.held source.new) (S.attached source.old) (S.attached source.new)
+        (S.tally source.old) (S.tally source.new) (T.tally text.old) (T.tally text.new) }
+    ensures told_ranges { StaysTold (S.ranges source.old) (S.ranges source.new) }
+    ensures told_contents { StaysTold (T.contents text.old) (T.contents text.new) }
+{
+    let same = strict(rt, source, length, meter, window, gate)?;
+    text.put(strict_line(same)).map_err(Stop::writing)?;
+    Ok(same)
 }
 
 // Lists the HDUs of the file IN.
-#[tactic(auto, using(crate::proofs::CutAnswers::nothing_read, crate::proofs::NamesAnswers::stopped_before))]
+#[tactic(auto, using(crate::proofs::CutAnswers::nothing_read, crate::proofs::CutAnswers::unread_by, crate::proofs::NamesAnswers::stopped_before))]
 fn run_list<S: Source, T: Text>(
     request: &Request<'_>,
     source: &mut S,

@@ -10,7 +10,7 @@ use fz_base::{Fault, Stop};
 pub enum Status {
     /// The job's output is as defined.
     Done,
-    /// `verify` printed all its lines, and one says `wrong`.
+    /// `verify` printed all its lines, and one says `wrong` or `strict no`.
     Different,
     /// The words are outside the grammar.
     Usage,
@@ -58,7 +58,7 @@ pub(crate) fn ended(answer: Result<(), Stop>) -> Status
     }
 }
 
-/// How a run ends whose verifying answered whether no sum is wrong.
+/// How a run ends whose verifying answered whether all is right.
 pub(crate) fn verified(answer: Result<bool, Stop>) -> Status
     ensures { result ≡ status_of_verify answer }
 {

@@ -1,10 +1,10 @@
 -- What a run says of the bytes, and of why it stopped.
 use Rattle.std.proofs.Common.{◌≡◌, ◌≢◌, ◌⊎◌, inl, inr, ℕ, zero, suc, ◌+◌, ◌<◌, ◌≤◌, ◌^◌, List, [], ◌∷◌, codes, length, arith, refl, subst, sym, ◌∙◌, ap}
-use Rattle.std.specs.Prelude.{Bool, Option, Some, None, min, IfOk, IfErr, IfSome, IsErrOf, OnOk, Result, Ok, Err, ⊤, slice_index_or}
+use Rattle.std.specs.Prelude.{◌&&◌, Bool, true, false, Option, Some, None, min, IfOk, IfErr, IfSome, IsErrOf, OnOk, Result, Ok, Err, ⊤, slice_index_or}
 use Rattle.fz_base.specs.Counts.{Rose, Tally, uncounted}
 use Rattle.fz_base.specs.Takings.{first_past}
 use Rattle.fz_base.specs.declared.fault.Fault.{Fault}
-use Rattle.fz_base.specs.declared.failure.Stop.TheVariants.{ReadFault as StopRead, WriteFault as StopWrite}
+use Rattle.fz_base.specs.declared.failure.Stop.TheVariants.{ReadFault as StopRead, WriteFault as StopWrite, OverLimit as StopLimit}
 use Rattle.fz_files.specs.Buffers.{IsOfFile, job_takings}
 use Rattle.fz_files.specs.FirstFault.{IsFirstFault}
 use Rattle.fz_files.specs.Packed.{IsPackedFile}
@@ -14,7 +14,7 @@ use Rattle.fz_files.specs.declared.job.Job.TheVariants.{Pack, Unpack, Cut, Verif
 use Rattle.fz_tile.specs.Plain.{AreBytes}
 use Rattle.fz_words.specs.Jobs.{Asked, job_of}
 use Rattle.fz_app.specs.Answer.{IfAnswer, IsEnd}
-use Rattle.fz_app.specs.Asked.{IfAsked, given, limit_of, most_bound}
+use Rattle.fz_app.specs.Asked.{IfAsked, given, is_compared_by, limit_of, most_bound, takings_told, takings_with}
 use Rattle.fz_app.specs.Causes.{IsDifferent, IsUsage, OverLimitHasCause, ReadFaultHasCause, WriteFaultHasCause}
 use Rattle.fz_app.specs.Ends.{written_counts}
 use Rattle.fz_app.specs.Outputs.{HoldsJobOutput, IsFinished, IsOutput}
@@ -44,6 +44,15 @@ given_whole Verify file whole = absurd whole
 given_whole ListHdus file whole = absurd whole
 given_whole (Drill rows) file whole = absurd whole
 
+-- and compares nothing, since that is not asked
+not_compared : (job : Job) → is_compared_by job false ≡ false
+not_compared (Pack options) = refl
+not_compared Unpack = refl
+not_compared (Cut wanted sieve) = refl
+not_compared Verify = refl
+not_compared ListHdus = refl
+not_compared (Drill rows) = refl
+
 -- nothing rises from none to none
 none_rose : Rose 0 0 → ⊥
 none_rose rose = omega (arith, rose)
@@ -59,7 +68,7 @@ none_written (Drill rows) s s' t t' whole rose = whole
 
 -- what the words ask for, by the job
 abbrev asked_for : Job → Asked
-asked_for job = record { job = job; workers = 1; memory = 2 ^ 32; input = codes "IN"; output = codes "OUT" }
+asked_for job = record { job = job; workers = 1; strict = false; memory = 2 ^ 32; input = codes "IN"; output = codes "OUT" }
 
 -- something is not nothing
 is_some : Option Asked → Type 0
@@ -91,7 +100,7 @@ module _ (words : List (List ℕ)) (job : Job) (file : List ℕ) (asks : AsksFor
       OverLimitHasCause words (Some file) limit r r' status → IsCause job file status
   cause_of s s' t t' r r' limit least Done other usage different fault read write over = other refl
   cause_of s s' t t' r r' limit least Different other usage different fault read write over =
-      subst IsWhole ((asked (λ a. IsEnd a.job (given a.job (Some file)) Different) different).of_verify refl) asks.whole
+      subst IsWhole ((asked (λ a. IsEnd a (given a.job (Some file)) Different) different).of_verify refl) asks.whole
   cause_of s s' t t' r r' limit least Usage other usage different fault read write over = some_is_none (sym asks.asked ∙ usage.0 refl)
   cause_of s s' t t' r r' limit least (Refused x) other usage different fault read write over =
       file_given (λ f. IsFirstFault job f (Some x)) (asked (λ a. IfSome (given a.job (Some file)) (λ f. IsFirstFault a.job f (Some x))) fault)
@@ -101,10 +110,12 @@ module _ (words : List (List ℕ)) (job : Job) (file : List ℕ) (asks : AsksFor
       none_written job s s' t t' asks.whole
       (asked (λ a. IfAnswer WriteFault (λ answer. IsErrOf answer StopWrite → Rose (written_counts a.job (without_faults s) t).faults (written_counts a.job (without_faults s') t').faults)) write refl)
   cause_of s s' t t' r r' limit least (OverLimit live wanted told) other usage different fault read write over =
-      let past : IfSome (given job (Some file)) (λ f. first_past (min limit (2 ^ 32)) (job_takings job f 1) ≡ Some (live, wanted)) =
-      asked (λ a. IfSome (given a.job (Some file)) (λ f. first_past (limit_of a limit) (job_takings a.job f a.workers) ≡ Some (live, wanted))) over.first_past in
+      let past : IfSome (given job (Some file)) (λ f. first_past (min limit (2 ^ 32)) (takings_with (is_compared_by job false && true) f (job_takings job f 1)) ≡ Some (live, wanted)) =
+      asked (λ a. IfSome (given a.job (Some file)) (λ f. first_past (limit_of a limit) (takings_told a (Err (StopLimit live wanted told)) f) ≡ Some (live, wanted))) over.first_past in
+      let all : first_past (min limit (2 ^ 32)) (takings_with (is_compared_by job false && true) file (job_takings job file 1)) ≡ Some (live, wanted) =
+      file_given (λ f. first_past (min limit (2 ^ 32)) (takings_with (is_compared_by job false && true) f (job_takings job f 1)) ≡ Some (live, wanted)) past in
       let first : first_past (min limit (2 ^ 32)) (job_takings job file 1) ≡ Some (live, wanted) =
-      file_given (λ f. first_past (min limit (2 ^ 32)) (job_takings job f 1) ≡ Some (live, wanted)) past in
+      subst (λ (b : Bool). first_past (min limit (2 ^ 32)) (takings_with (b && true) file (job_takings job file 1)) ≡ Some (live, wanted)) (not_compared job) all in
       let tells : told ≡ min limit (2 ^ 32) =
       (asked (λ a. (told ≡ limit_of a limit) × (limit_of a limit < live + wanted) × (live + wanted ≤ most_bound a.job a.workers)) over.told).0 in
       record {

@@ -34,7 +34,7 @@ IsWhole (Drill rows) = ⊥
 
 -- the words ask for such a job, with one worker and within 4 GiB
 pub record AsksFor (words : List (List ℕ)) (job : Job) : Type 0 where
-  pub asked : job_of words ≡ Some (record { job = job; workers = 1; memory = 2 ^ 32; input = codes "IN"; output = codes "OUT" })
+  pub asked : job_of words ≡ Some (record { job = job; workers = 1; strict = false; memory = 2 ^ 32; input = codes "IN"; output = codes "OUT" })
   pub whole : IsWhole job
 
 -- the first buffer of the job on the file that would pass 4 GiB: what is in use before, what is asked for, and the limit

@@ -24,8 +24,8 @@ returns g c =
     let old : TextIs → Ends = λ text. record { held = g.S.Source.held c.args.source.now; ranges = g.S.Source.ranges c.args.source.now; source = nameless (g.S.Source.tally c.args.source.now); sink = record { contents = g.K.Sink.contents c.args.sink.now; created = g.K.Sink.created c.args.sink.now; finished = g.K.Sink.finished c.args.sink.now; tally = nameless (g.K.Sink.tally c.args.sink.now) }; text = text; meter = c.args.meter.now } in
     let new : TextIs → Ends = λ text. record { held = g.S.Source.held c.cut.new.source; ranges = g.S.Source.ranges c.cut.new.source; source = nameless (g.S.Source.tally c.cut.new.source); sink = record { contents = g.K.Sink.contents c.cut.new.sink; created = g.K.Sink.created c.cut.new.sink; finished = g.K.Sink.finished c.cut.new.sink; tally = nameless (g.K.Sink.tally c.cut.new.sink) }; text = text; meter = c.cut.new.meter } in
     record {
-      promised = λ text. subst (λ (j : Job). IsPromised (record { job = j; workers = c.args.request.now.workers; memory = c.args.request.now.memory; input = c.args.request.now.input.now; output = c.args.request.now.output.now }) (old text) (new text) c.cut.result) (sym c.requires.job)
-          (cut_out c.args.hdu c.args.sieve.now c.args.request.now.workers c.args.request.now.memory c.args.request.now.input.now c.args.request.now.output.now (old text) (new text) c.slice_law.ensures.sink c.cut.result
+      promised = λ text. subst (λ (j : Job). IsPromised (record { job = j; workers = c.args.request.now.workers; strict = c.args.request.now.strict; memory = c.args.request.now.memory; input = c.args.request.now.input.now; output = c.args.request.now.output.now }) (old text) (new text) c.cut.result) (sym c.requires.job)
+          (cut_out c.args.hdu c.args.sieve.now c.args.request.now.workers c.args.request.now.strict c.args.request.now.memory c.args.request.now.input.now c.args.request.now.output.now (old text) (new text) c.slice_law.ensures.sink c.cut.result
           (record {
             of_file = tt;
             output = rw held at c.cut.ensures.output;
@@ -51,5 +51,5 @@ returns g c =
             printed = refl;
             one_written = λ e. (e, refl);
           }));
-      names = subst (λ (j : Job). JobNames (record { job = j; workers = c.args.request.now.workers; memory = c.args.request.now.memory; input = c.args.request.now.input.now; output = c.args.request.now.output.now }) (g.S.Source.tally c.args.source.now).names (g.S.Source.tally c.cut.new.source).names (g.K.Sink.tally c.args.sink.now).names (g.K.Sink.tally c.cut.new.sink).names c.cut.result) (sym c.requires.job) (record { source = once_more c.args.request.now.input.now (g.S.Source.tally c.args.source.now).names (g.S.Source.tally c.begin.new.source).names (g.S.Source.tally c.cut.new.source).names c.cut.result c.in_ok-length.ensures.names.done c.cut.ensures.kept.source_counts.names_kept; sink = c.cut.ensures.names });
+      names = subst (λ (j : Job). JobNames (record { job = j; workers = c.args.request.now.workers; strict = c.args.request.now.strict; memory = c.args.request.now.memory; input = c.args.request.now.input.now; output = c.args.request.now.output.now }) (g.S.Source.tally c.args.source.now).names (g.S.Source.tally c.cut.new.source).names (g.K.Sink.tally c.args.sink.now).names (g.K.Sink.tally c.cut.new.sink).names c.cut.result) (sym c.requires.job) (record { source = once_more c.args.request.now.input.now (g.S.Source.tally c.args.source.now).names (g.S.Source.tally c.begin.new.source).names (g.S.Source.tally c.cut.new.source).names c.cut.result c.in_ok-length.ensures.names.done c.cut.ensures.kept.source_counts.names_kept; sink = c.cut.ensures.names });
     }

@@ -18,8 +18,8 @@ returns g c = record {
       let text' : TextIs = record { contents = g.T.Text.contents c.drill.new.text; tally = g.T.Text.tally c.drill.new.text } in
       let old : Ends = record { held = held; ranges = ranges; source = source; sink = sink; text = text; meter = c.args.meter.now } in
       let new : Ends = record { held = held; ranges = ranges; source = source; sink = sink; text = text'; meter = c.drill.new.meter } in
-      subst (λ (j : Job). IsPromised (record { job = j; workers = c.args.request.now.workers; memory = c.args.request.now.memory; input = c.args.request.now.input.now; output = c.args.request.now.output.now }) old new c.drill.result) (sym c.requires.job)
-      (drilled c.args.rows c.args.request.now.workers c.args.request.now.memory c.args.request.now.input.now c.args.request.now.output.now held ranges source sink text text' c.args.meter.now c.drill.new.meter c.drill.result empty
+      subst (λ (j : Job). IsPromised (record { job = j; workers = c.args.request.now.workers; strict = c.args.request.now.strict; memory = c.args.request.now.memory; input = c.args.request.now.input.now; output = c.args.request.now.output.now }) old new c.drill.result) (sym c.requires.job)
+      (drilled c.args.rows c.args.request.now.workers c.args.request.now.strict c.args.request.now.memory c.args.request.now.input.now c.args.request.now.output.now held ranges source sink text text' c.args.meter.now c.drill.new.meter c.drill.result empty
       (record {
         lines = c.drill.ensures.lines;
         answered = rw limit at c.drill.ensures.answered;
@@ -31,5 +31,5 @@ returns g c = record {
         exact = rw none at c.drill.ensures.exact_peak;
         told = c.drill.ensures.told_contents;
       }));
-  names = λ opened made. subst (λ (j : Job). JobNames (record { job = j; workers = c.args.request.now.workers; memory = c.args.request.now.memory; input = c.args.request.now.input.now; output = c.args.request.now.output.now }) opened opened made made c.drill.result) (sym c.requires.job) (record { source = refl; sink = refl });
+  names = λ opened made. subst (λ (j : Job). JobNames (record { job = j; workers = c.args.request.now.workers; strict = c.args.request.now.strict; memory = c.args.request.now.memory; input = c.args.request.now.input.now; output = c.args.request.now.output.now }) opened opened made made c.drill.result) (sym c.requires.job) (record { source = refl; sink = refl });
 }

@@ -27,8 +27,8 @@ returns g c = record {
       let none : c.attach.new.meter.peak ≡ 0 = search rules in
       let old : Ends = record { held = g.S.Source.held c.args.source.now; ranges = g.S.Source.ranges c.args.source.now; source = nameless (g.S.Source.tally c.args.source.now); sink = sink; text = record { contents = g.T.Text.contents c.args.text.now; tally = g.T.Text.tally c.args.text.now }; meter = c.args.meter.now } in
       let new : Ends = record { held = g.S.Source.held c.list.new.source; ranges = g.S.Source.ranges c.list.new.source; source = nameless (g.S.Source.tally c.list.new.source); sink = sink; text = record { contents = g.T.Text.contents c.list.new.text; tally = g.T.Text.tally c.list.new.text }; meter = c.list.new.meter } in
-      subst (λ (j : Job). IsPromised (record { job = j; workers = c.args.request.now.workers; memory = c.args.request.now.memory; input = c.args.request.now.input.now; output = c.args.request.now.output.now }) old new c.list.result) (sym c.requires.job)
-      (listed _ old new c.list.result (text_promised ListHdus lists c.args.request.now.workers c.args.request.now.memory c.args.request.now.input.now c.args.request.now.output.now old new refl empty c.list.result
+      subst (λ (j : Job). IsPromised (record { job = j; workers = c.args.request.now.workers; strict = c.args.request.now.strict; memory = c.args.request.now.memory; input = c.args.request.now.input.now; output = c.args.request.now.output.now }) old new c.list.result) (sym c.requires.job)
+      (listed _ old new c.list.result (text_promised ListHdus lists c.args.request.now.workers c.args.request.now.strict refl c.args.request.now.memory c.args.request.now.input.now c.args.request.now.output.now old new refl empty c.list.result
       (record {
         of_file = tt;
         lines = rw held at c.list.ensures.lines;
@@ -49,7 +49,7 @@ returns g c = record {
         source_counts = kept_from (g.S.Source.tally c.args.source.now) (g.S.Source.tally c.attach.new.source) (g.S.Source.tally c.list.new.source) tally c.list.ensures.kept.source_counts;
         text_counts = c.list.ensures.kept.sink_counts;
       })));
-  names = λ made. subst (λ (j : Job). JobNames (record { job = j; workers = c.args.request.now.workers; memory = c.args.request.now.memory; input = c.args.request.now.input.now; output = c.args.request.now.output.now }) (g.S.Source.tally c.args.source.now).names (g.S.Source.tally c.list.new.source).names made made c.list.result) (sym c.requires.job) (record { source = once_more c.args.request.now.input.now (g.S.Source.tally c.args.source.now).names (g.S.Source.tally c.attach.new.source).names (g.S.Source.tally c.list.new.source).names c.list.result c.in_ok-length.ensures.names.done c.list.ensures.kept.source_counts.names_kept; sink = refl });
+  names = λ made. subst (λ (j : Job). JobNames (record { job = j; workers = c.args.request.now.workers; strict = c.args.request.now.strict; memory = c.args.request.now.memory; input = c.args.request.now.input.now; output = c.args.request.now.output.now }) (g.S.Source.tally c.args.source.now).names (g.S.Source.tally c.list.new.source).names made made c.list.result) (sym c.requires.job) (record { source = once_more c.args.request.now.input.now (g.S.Source.tally c.args.source.now).names (g.S.Source.tally c.attach.new.source).names (g.S.Source.tally c.list.new.source).names c.list.result c.in_ok-length.ensures.names.done c.list.ensures.kept.source_counts.names_kept; sink = refl });
 }
 
 pub returns-in_err-length-clause-promised : goal.returns-in_err-length-clause-promised

@@ -24,8 +24,8 @@ returns g c =
     let old : TextIs → Ends = λ text. record { held = g.S.Source.held c.args.source.now; ranges = g.S.Source.ranges c.args.source.now; source = nameless (g.S.Source.tally c.args.source.now); sink = record { contents = g.K.Sink.contents c.args.sink.now; created = g.K.Sink.created c.args.sink.now; finished = g.K.Sink.finished c.args.sink.now; tally = nameless (g.K.Sink.tally c.args.sink.now) }; text = text; meter = c.args.meter.now } in
     let new : TextIs → Ends = λ text. record { held = g.S.Source.held c.unpack.new.source; ranges = g.S.Source.ranges c.unpack.new.source; source = nameless (g.S.Source.tally c.unpack.new.source); sink = record { contents = g.K.Sink.contents c.unpack.new.sink; created = g.K.Sink.created c.unpack.new.sink; finished = g.K.Sink.finished c.unpack.new.sink; tally = nameless (g.K.Sink.tally c.unpack.new.sink) }; text = text; meter = c.unpack.new.meter } in
     record {
-      promised = λ text. subst (λ (j : Job). IsPromised (record { job = j; workers = c.args.request.now.workers; memory = c.args.request.now.memory; input = c.args.request.now.input.now; output = c.args.request.now.output.now }) (old text) (new text) c.unpack.result) (sym c.requires.job)
-          (unpacked c.args.request.now.workers c.args.request.now.memory c.args.request.now.input.now c.args.request.now.output.now (old text) (new text) c.round_trip_law.ensures c.one_file_law.ensures c.in_ok-length.length c.in_ok-length.ensures.attached.1 c.in_ok-length.ensures.attached.2 c.unpack.result
+      promised = λ text. subst (λ (j : Job). IsPromised (record { job = j; workers = c.args.request.now.workers; strict = c.args.request.now.strict; memory = c.args.request.now.memory; input = c.args.request.now.input.now; output = c.args.request.now.output.now }) (old text) (new text) c.unpack.result) (sym c.requires.job)
+          (unpacked c.args.request.now.workers c.args.request.now.strict c.args.request.now.memory c.args.request.now.input.now c.args.request.now.output.now (old text) (new text) c.round_trip_law.ensures c.one_file_law.ensures c.in_ok-length.length c.in_ok-length.ensures.attached.1 c.in_ok-length.ensures.attached.2 c.unpack.result
           (record {
             of_file = tt;
             output = rw held at c.unpack.ensures.output;
@@ -51,5 +51,5 @@ returns g c =
             printed = refl;
             one_written = λ e. (e, refl);
           }));
-      names = subst (λ (j : Job). JobNames (record { job = j; workers = c.args.request.now.workers; memory = c.args.request.now.memory; input = c.args.request.now.input.now; output = c.args.request.now.output.now }) (g.S.Source.tally c.args.source.now).names (g.S.Source.tally c.unpack.new.source).names (g.K.Sink.tally c.args.sink.now).names (g.K.Sink.tally c.unpack.new.sink).names c.unpack.result) (sym c.requires.job) (record { source = once_more c.args.request.now.input.now (g.S.Source.tally c.args.source.now).names (g.S.Source.tally c.begin.new.source).names (g.S.Source.tally c.unpack.new.source).names c.unpack.result c.in_ok-length.ensures.names.done c.unpack.ensures.kept.source_counts.names_kept; sink = c.unpack.ensures.names });
+      names = subst (λ (j : Job). JobNames (record { job = j; workers = c.args.request.now.workers; strict = c.args.request.now.strict; memory = c.args.request.now.memory; input = c.args.request.now.input.now; output = c.args.request.now.output.now }) (g.S.Source.tally c.args.source.now).names (g.S.Source.tally c.unpack.new.source).names (g.K.Sink.tally c.args.sink.now).names (g.K.Sink.tally c.unpack.new.sink).names c.unpack.result) (sym c.requires.job) (record { source = once_more c.args.request.now.input.now (g.S.Source.tally c.args.source.now).names (g.S.Source.tally c.begin.new.source).names (g.S.Source.tally c.unpack.new.source).names c.unpack.result c.in_ok-length.ensures.names.done c.unpack.ensures.kept.source_counts.names_kept; sink = c.unpack.ensures.names });
     }
