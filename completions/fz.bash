@@ -10,7 +10,7 @@ _fz() {
         pack) options='--codec --tile --block --sums --workers --memory' ;;
         unpack) options='--workers --memory' ;;
         cut) options='--hdu --box --workers --memory' ;;
-        verify) options='--memory' ;;
+        verify) options='--strict --memory' ;;
         *) options= ;;
     esac
     # readline takes = for a word of its own

@@ -9,5 +9,6 @@ complete -c fz -n '__fish_seen_subcommand_from pack' -l block -x -d 'pixels of a
 complete -c fz -n '__fish_seen_subcommand_from pack' -l sums -d 'add DATASUM and CHECKSUM'
 complete -c fz -n '__fish_seen_subcommand_from cut' -l hdu -x -d 'the HDU to cut from'
 complete -c fz -n '__fish_seen_subcommand_from cut' -l box -x -d 'a piece for each axis: lo:hi[:step],..'
+complete -c fz -n '__fish_seen_subcommand_from verify' -l strict -d 'say whether pack writes this very file'
 complete -c fz -n '__fish_seen_subcommand_from pack unpack cut' -l workers -x -d 'threads that code tiles, 1 to 64'
 complete -c fz -n '__fish_seen_subcommand_from pack unpack cut verify' -l memory -x -d 'the limit on buffers, in bytes'

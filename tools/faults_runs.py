@@ -24,14 +24,15 @@ LINES = {4: b"read fault\n", 5: b"write fault\n", 7: b"no memory\n"}
 STATUS_LINE = re.compile(rb"(usage: [^\n]*|refused: \d+ \w+ hdu \d+ (byte|card|row) \d+|over limit: live \d+ asked \d+ limit \d+)\n")
 # Words by which a program says whether it has a command: outside its grammar it ends with 2.
 ASKED = {
-    "pack": ["in", "out"],
-    "unpack": ["in", "out"],
-    "cut": ["--box", "1:1", "in", "out"],
-    "verify": ["in"],
-    "list": ["in"],
-    "drill": ["1"],
-    "retile": ["in", "out"],
-    "patch": ["--at", "1", "in", "out"],
+    "pack": ["pack", "in", "out"],
+    "unpack": ["unpack", "in", "out"],
+    "cut": ["cut", "--box", "1:1", "in", "out"],
+    "verify": ["verify", "in"],
+    "verify --strict": ["verify", "--strict", "in"],
+    "list": ["list", "in"],
+    "drill": ["drill", "1"],
+    "retile": ["retile", "in", "out"],
+    "patch": ["patch", "--at", "1", "in", "out"],
 }
 
 
@@ -79,9 +80,9 @@ def program(tool):
 
 
 def commands_of(fz):
-    """The commands that the program has."""
+    """The commands that the program has, and whether verify has --strict."""
     with tempfile.TemporaryDirectory() as folder:
-        asked = {it: subprocess.run([fz, it, *words], cwd=folder, capture_output=True, check=False) for it, words in ASKED.items()}
+        asked = {it: subprocess.run([fz, *words], cwd=folder, capture_output=True, check=False) for it, words in ASKED.items()}
     found = {it for it, told in asked.items() if told.returncode != 2}
     if not found:
         sys.exit(f"{fz} has none of the commands {', '.join(ASKED)}")
@@ -219,6 +220,8 @@ def scenarios(room, commands):
         Scenario("verify", ["verify", "in.fits"], tiles),
         Scenario("verify", ["verify", "in.fits"], (SAMPLES / "sums.fits").read_bytes()),
         Scenario("verify", ["verify", "in.fits"], bytes(damaged)),
+        Scenario("verify --strict", ["verify", "--strict", "in.fits"], tiles),
+        Scenario("verify --strict", ["verify", "--strict", "in.fits"], several),
         Scenario("list", ["list", "in.fits"], parts),
         Scenario("drill", ["drill", "1"], None),
         Scenario("drill", ["drill", "40"], None),

@@ -82,14 +82,16 @@ def unpacking(fz, plain, out, ours, theirs):
 
 
 def verifying(fz, plain, out, ours, theirs):
-    """verify of what fz packed with sums and, where it is installed, of what fpack packed, which has sums too; beside it the
-    unpacking of the same files by fz with one worker and by funpack, without sums."""
+    """verify of what fz packed with sums, with --strict and without it, and, where it is installed, of what fpack packed, which has
+    sums too and is not strict; beside it the unpacking of the same files by fz with one worker and by funpack, without sums."""
     files = [("fz", packed_by([fz, "pack", "--sums", *ours, plain, f"{plain}.fz"], f"{plain}.fz"))]
     if theirs and shutil.which("fpack"):
         files.append(("fpack", packed_by(["fpack", *theirs, "-O", f"{plain}.fpack", plain], f"{plain}.fpack")))
     made = []
     for packer, packed in files:
         made.append((f"fz verify, packed by {packer}", [fz, "verify", packed]))
+        if packer == "fz":
+            made.append((f"fz verify --strict, packed by {packer}", [fz, "verify", "--strict", packed]))
         made.append((f"fz unpack, 1 worker, packed by {packer}", [fz, "unpack", packed, out]))
         if shutil.which("funpack"):
             made.append((f"funpack -C, packed by {packer}", ["funpack", "-C", "-O", out, packed]))

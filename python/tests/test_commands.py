@@ -95,6 +95,19 @@ class Packing(InAFolder):
         report = fzfits.verify("any", strict=True, program=new)
         self.assertEqual((report.strict, report.is_right, len(report.verdicts)), (False, False, 1))
 
+    def test_strict_of_the_program(self):
+        try:
+            found = fzfits.verify(PACKED / "small.rice.fits", strict=True)
+        except fzfits.Usage as said:
+            self.assertIn("does not take --strict", str(said))
+            self.skipTest("the program does not take --strict")
+        self.assertEqual((found.strict, found.is_right, len(found.verdicts)), (True, True, 2))
+        plain = fzfits.verify(SAMPLES / "small.fits", strict=True)
+        self.assertEqual((plain.strict, plain.is_right, plain.wrong), (False, False, ()))
+        wrong = fzfits.verify(PACKED / "grid.wrong.fits", strict=True)
+        self.assertEqual((wrong.strict, wrong.is_right, len(wrong.wrong)), (False, False, 1))
+        self.assertIsNone(fzfits.verify(SAMPLES / "small.fits").strict)
+
 
 @needs_program
 class Names(InAFolder):
