@@ -1,3 +1,4 @@
+pub mod Amending
 pub mod Logs
 pub mod Overwriting
 pub mod Ranges

@@ -39,6 +39,11 @@ uncounted = record { faults = 0; wants = 0; names = None; amended = unamended }
 abbrev pub tally_of : Counts → Tally
 tally_of counts = record { faults = counts.faults; wants = counts.wants; names = None; amended = unamended }
 
+-- the tally of a store that shows these writes and no names
+abbrev pub store_tally : Option (List Amend) → Counts → Tally
+store_tally writes counts =
+    record { faults = counts.faults; wants = counts.wants; names = None; amended = record { writes = writes; faults = counts.write_faults } }
+
 -- a tally without its names, for a call that may open or make: only its counts are said
 abbrev pub nameless : Tally → Tally
 nameless t = record { faults = t.faults; wants = t.wants; names = None; amended = t.amended }

@@ -6,6 +6,7 @@ pub mod JobBuffers
 pub mod Kind
 pub mod MemSink
 pub mod MemSource
+pub mod MemStore
 pub mod MemText
 pub mod Meter
 pub mod Names
@@ -14,5 +15,6 @@ pub mod Refusal
 pub mod Sink
 pub mod Source
 pub mod Stop
+pub mod Store
 pub mod Takings
 pub mod Told

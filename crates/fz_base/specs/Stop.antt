@@ -1,5 +1,5 @@
 -- Why a call stopped: by a fault of what it reads or writes, by want of memory, or by its meter's limit.
-use Rattle.std.specs.Prelude.{ℕ, ◌≡◌, ◌+◌, ◌<◌, ◌≤◌, ◌⊎◌, Result, Ok, Err, OnOk, IfErr, ⊤}
+use Rattle.std.specs.Prelude.{ℕ, ◌≡◌, ◌+◌, ◌<◌, ◌≤◌, ◌⊎◌, Result, Ok, Err, OnOk, OnErr, IfErr, ⊤}
 use Rattle.fz_base.specs.declared.fault.Fault.{Fault as Refusal}
 use Rattle.fz_base.specs.declared.failure.Failed.{Failed}
 use Rattle.fz_base.specs.declared.failure.Failed.TheVariants.{Fault as IsFault, NoMemory as IsWant}
@@ -8,6 +8,7 @@ use Rattle.fz_base.specs.declared.failure.Short.TheVariants.{NoMemory as NoRoom,
 use Rattle.fz_base.specs.declared.failure.Stop.{Stop}
 use Rattle.fz_base.specs.declared.failure.Stop.TheVariants.{Refused, ReadFault, WriteFault, OverLimit, NoMemory}
 use Rattle.fz_base.specs.Counts.{Rose, Tally, CountsKept}
+use Rattle.fz_base.specs.Store.{StoreKept}
 
 -- a failed read stops the call that read
 abbrev pub stop_of_read : Failed → Stop
@@ -100,6 +101,23 @@ pub record Writes {X : Type 0} (before now : Tally) (result : Result X Stop) : T
   pub kept : CountsKept before now
   pub ok : OnOk result (now ≡ before)
   pub stop : IfErr result (StoppedByWrite before now)
+
+-- why a call that writes in place stopped
+abbrev pub StoppedByAmend : Tally → Tally → Stop → Type 0
+StoppedByAmend before now (Refused x) = ⊥
+StoppedByAmend before now ReadFault = ⊥
+StoppedByAmend before now WriteFault = Rose before.amended.faults now.amended.faults
+StoppedByAmend before now (OverLimit live asked limit) = ⊥
+StoppedByAmend before now NoMemory = Rose before.wants now.wants
+
+-- a call that writes in place changed the tally of its store as its answer says: if it succeeded, to this one, and otherwise the writes
+-- are as they were
+pub record Amends {X : Type 0} (before after now : Tally) (result : Result X Stop) : Type 0 where
+  pub kept : StoreKept before now
+  pub faults_same : now.faults ≡ before.faults
+  pub ok : OnOk result (now ≡ after)
+  pub unlogged : OnErr result (now.amended.writes ≡ before.amended.writes)
+  pub stop : IfErr result (StoppedByAmend before now)
 
 -- why a call that only reads, and refuses nothing, stopped
 abbrev pub StoppedByRead : Tally → Tally → Stop → Type 0

@@ -37,8 +37,8 @@ impl<R: Files<File = File>> FileSink<R> {
     }
 }
 
-// Writes all bytes at a place that a file can have.
-fn write_all(file: &File, at: u64, bytes: &[u8]) -> io::Result<()> {
+/// Writes all bytes at a place that a file can have.
+pub(crate) fn write_all(file: &File, at: u64, bytes: &[u8]) -> io::Result<()> {
     if at > i64::MAX as u64 - bytes.len() as u64 {
         return Err(io::Error::from(ErrorKind::FileTooLarge));
     }

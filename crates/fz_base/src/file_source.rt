@@ -14,10 +14,11 @@ use std::rt::Files;
 /// A longer file is not attached.
 const MAX_LEN: u64 = 1 << 62;
 
+/// A file that is open, and its length.
 #[derive(Drop)]
-struct Opened {
-    file: File,
-    size: u64,
+pub(crate) struct Opened {
+    pub(crate) file: File,
+    pub(crate) size: u64,
     ghost near: { size ≤ 2 ^ 62 },
 }
 
@@ -47,7 +48,11 @@ impl<R: Files<File = File>> FileSource<R> {
 }
 
 fn open<R: Files<File = File>>(rt: &R, name: &str) -> io::Result<Opened> {
-    let file = File::open(rt, name)?;
+    measured(File::open(rt, name)?)
+}
+
+/// The file with its length, or an error if it is longer than a file may be.
+pub(crate) fn measured(file: File) -> io::Result<Opened> {
     let size = file.metadata()?.len();
     if size > MAX_LEN {
         return Err(io::Error::from(ErrorKind::Unsupported));

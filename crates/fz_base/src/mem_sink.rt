@@ -1,14 +1,15 @@
 //! A sink in memory, whose calls can be set to fail.
 ghost use Rattle.std.specs.Prelude.{◌≡◌, ◌+◌, ◌-◌, ◌^◌, ◌<◌, ◌≤◌, ◌||◌, ◌↔◌, IsTrue, false, min, if◌then◌else◌};
-ghost use Rattle.std.specs.Prelude.{[], ◌++◌, length as len, take, drop, replicate, Contains, Some, OnOk, OnErr, IsErr, IsErrOf, is_ok};
+ghost use Rattle.std.specs.Prelude.{[], length as len, take, Contains, Some, OnOk, OnErr, IsErr, IsErrOf, is_ok};
 ghost use Rattle.fz_base.specs.Counts.{HasCause, CountsFault, nameless, tally_of, uncounted, Rose};
 ghost use Rattle.fz_base.specs.Names.{names_by};
-ghost use Rattle.fz_base.specs.Sink.{overwrite, written, MayWrite, emptied, KeepsFront};
+ghost use Rattle.fz_base.specs.Sink.{written, MayWrite, emptied, KeepsFront};
 ghost use Rattle.fz_base.specs.declared.failure.Failed.TheVariants.{Fault, NoMemory};
 
 use crate::calls::{Calls, Counts};
+use crate::placing::put;
 use crate::{Failed, Sink};
-use std::alloc::{AllocError, Global};
+use std::alloc::Global;
 
 /// A sink in memory. It shows its contents, and fails in the calls of `create`, `write_at` and
 /// `finish`, counted together from 0, that it is set to.
@@ -57,40 +58,6 @@ impl MemSink {
     {
         self.calls.counts.faults
     }
-}
-
-// Grows the contents with zeros to a length that it does not have yet.
-fn extend(contents: &mut Vec<u8>, to: usize) -> Result<(), AllocError>
-    ensures ok { OnOk result (contents.new.items ≡ contents.old.items ++ replicate (to - len contents.old.items) 0) }
-    ensures err { OnErr result (contents.new.items ≡ contents.old.items) }
-{
-    if contents.len() < to {
-        contents.resize(to, 0)?;
-    }
-    Ok(())
-}
-
-// Puts the bytes over those at a place.
-fn place(contents: &mut [u8], at: usize, bytes: &[u8])
-    requires { at + len bytes.now ≤ len contents.old }
-    ensures { contents.new ≡ take at contents.old ++ (bytes.now ++ drop (at + len bytes.now) contents.old) }
-{
-    contents[at..at + bytes.len()].copy_from_slice(bytes);
-}
-
-// Writes the bytes at a place, or nothing if there is no memory for them.
-fn put(contents: &mut Vec<u8>, at: u64, bytes: &[u8]) -> Result<(), AllocError>
-    ensures ok { OnOk result (contents.new.items ≡ overwrite at bytes.now contents.old.items) }
-    ensures err { OnErr result (contents.new.items ≡ contents.old.items) }
-{
-    if bytes.is_empty() {
-        return Ok(());
-    }
-    let at = at as usize;
-    let end = at.checked_add(bytes.len()).ok_or(AllocError)?;
-    extend(contents, end)?;
-    place(contents, at, bytes);
-    Ok(())
 }
 
 // Writes what a failing call keeps, or counts a want if there is no memory for it.

@@ -5,20 +5,23 @@ ghost use Rattle.std.specs.Option.{ForSome};
 ghost use Rattle.fz_base.specs.Counts.{HasCause, CountsFault, nameless, tally_of, uncounted};
 ghost use Rattle.fz_base.specs.Names.{names_by};
 ghost use Rattle.fz_base.specs.Source.{Reads, logged, MayLog, HoldsLength, attached_by};
+ghost use Rattle.fz_base.specs.Sink.{overwrite};
+ghost use Rattle.fz_base.specs.Store.{HasAtLeast, Reaches};
 ghost use Rattle.fz_base.specs.declared.failure.Failed.TheVariants.{Fault};
 
 use crate::calls::Calls;
+use crate::placing::put;
 use crate::{Failed, Source};
-use std::alloc::Global;
+use std::alloc::{AllocError, Global};
 
 /// A source over bytes in memory. It shows its bytes and the ranges that were read, and fails in
 /// the calls of `attach` and `read_at`, counted together from 0, that it is set to.
 #[derive(Drop)]
 pub struct MemSource {
-    bytes: Vec<u8>,
-    size: Option<u64>,
-    ranges: Vec<(u64, u64)>,
-    calls: Calls,
+    pub(crate) bytes: Vec<u8>,
+    pub(crate) size: Option<u64>,
+    pub(crate) ranges: Vec<(u64, u64)>,
+    pub(crate) calls: Calls,
     ghost short: { vec_len bytes ≤ 2 ^ 62 },
     ghost whole: { ForSome size (λ n. n ≡ len bytes.items) },
     ghost near: { ForSome size (λ n. n ≤ 2 ^ 62) },
@@ -37,6 +40,7 @@ impl MemSource {
         ensures tally { ⟦<MemSource as Source>⟧.tally result ≡ uncounted }
         ensures failing { source_failing result ≡ failing.items }
         ensures calls { source_calls result ≡ 0 }
+        ensures write_faults { result.calls.counts.write_faults ≡ 0 }
     {
         MemSource {
             bytes,
@@ -58,6 +62,22 @@ impl MemSource {
         ensures { result ≡ (⟦<MemSource as Source>⟧.tally self.now).faults }
     {
         self.calls.counts.faults
+    }
+
+    /// Puts the bytes over those from a place on, or directly after the last byte, and counts no call.
+    /// If there is no memory for them, nothing changes.
+    pub(crate) fn put(&mut self, at: u64, bytes: &[u8]) -> Result<(), AllocError>
+        requires within { HasAtLeast self.old.size at }
+        requires near { at + len bytes.now ≤ 2 ^ 62 }
+        ensures ok { OnOk result (self.new.bytes.items ≡ overwrite at bytes.now self.old.bytes.items) }
+        ensures err { OnErr result (self.new.bytes.items ≡ self.old.bytes.items) }
+        ensures reach { Reaches at (len bytes.now) self.old.size self.new.size result }
+        ensures ranges { self.new.ranges ≡ self.old.ranges }
+        ensures calls { self.new.calls ≡ self.old.calls }
+    {
+        put(&mut self.bytes, at, bytes)?;
+        self.size = Some(self.bytes.len() as u64);
+        Ok(())
     }
 }
 
@@ -85,6 +105,7 @@ impl Source for MemSource {
         ensures only_faults { IsErr result → IsErrOf result Fault }
         ensures exact { IsErrOf result Fault ↔ Contains (source_failing self.old) (source_calls self.old) }
         ensures counted { CountsFault (source_failing self.old) (source_calls self.old) self.old.calls.counts.faults self.new.calls.counts.faults }
+        ensures write_faults { self.new.calls.counts.write_faults ≡ self.old.calls.counts.write_faults }
         ensures failing { source_failing self.new ≡ source_failing self.old }
         ensures calls { source_calls self.new ≡ min (source_calls self.old + 1) (2 ^ 64 - 1) }
     {
@@ -108,6 +129,7 @@ impl Source for MemSource {
         ensures unlogged { OnErr result (self.new.ranges.items ≡ self.old.ranges.items) }
         ensures exact { IsErrOf result Fault ↔ Contains (source_failing self.old) (source_calls self.old) }
         ensures counted { CountsFault (source_failing self.old) (source_calls self.old) self.old.calls.counts.faults self.new.calls.counts.faults }
+        ensures write_faults { self.new.calls.counts.write_faults ≡ self.old.calls.counts.write_faults }
         ensures failing { source_failing self.new ≡ source_failing self.old }
         ensures calls { source_calls self.new ≡ min (source_calls self.old + 1) (2 ^ 64 - 1) }
     {

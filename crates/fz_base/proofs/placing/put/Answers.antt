@@ -3,7 +3,7 @@ use Rattle.std.proofs.Common.{◌≡◌, ◌+◌, ◌<◌, ◌≤◌, ◌++◌, 
 use Rattle.std.proofs.lemmas.List.{take_all, drop_all, append-nil}
 use Rattle.fz_base.specs.Sink.{overwrite}
 use Rattle.fz_base.proofs.Overwriting.{grown, placed-grown}
-use Rattle.fz_base.proofs.mem_sink.put.Goals as goal
+use Rattle.fz_base.proofs.placing.put.Goals as goal
 
 -- a vector whose whole slice was lent ends as that slice
 refilled_whole : (n : ℕ) (slice items : List ℕ) → length slice ≡ length items → length items ≤ n → take n (slice ++ drop (length slice) items) ≡ slice
