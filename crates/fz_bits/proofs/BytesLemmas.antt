@@ -5,7 +5,7 @@ use Rattle.std.proofs.Math.Nat.{pow-suc}
 use Rattle.std.proofs.Math.Numerals.{one-add}
 use Rattle.std.proofs.lemmas.Bool.{cases_lt}
 use Rattle.std.proofs.lemmas.Nat.{pow-add}
-use Rattle.std.proofs.lemmas.List.{drop-drop, length-take-le, take-append-drop, take_at, drop-append-le, drop_all, length-map, get_or_past, get_or-take, length-take}
+use Rattle.std.proofs.lemmas.List.{drop-drop, length-take-le, take-append-drop, take_at, drop-append-le, drop_all, length-map, get_or_past}
 use Rattle.std.proofs.lemmas.List.FromFn.{length-range_with_len}
 use Rattle.fz_bits.specs.Bits.{last_bit, number_bits, bits_of, bit, bits_value, bytes_of}
 use Rattle.fz_bits.proofs.BitsLemmas.{length-number_bits, length-bits_of, number_bits-joined}
@@ -69,13 +69,6 @@ bits_value-number_bits (suc m) v h =
 
 abbrev pub AreBytes : List ℕ → Type 0
 AreBytes bytes = (i : ℕ) → get_or bytes i 0 < 256
-
--- the first of bytes are bytes
-pub bytes-take : (k : ℕ) (bytes : List ℕ) → AreBytes bytes → AreBytes (take k bytes)
-bytes-take k bytes small i = elim (cases_lt i k) [
-  | inl below ↦ rw (get_or-take k bytes i 0 below) (small i)
-  | inr past ↦ rw (get_or_past (take k bytes) i 0 (omega (arith, length-take k bytes))) (omega arith)
-]
 
 -- bytes one by one
 bytes_at : ℕ → List Bool → List ℕ

@@ -2,7 +2,7 @@
 use Rattle.std.specs.Prelude.{◌≡◌, ℕ, zero, suc, ◌+◌, ◌-◌, ◌*◌, ◌/◌, ◌%◌, ◌^◌, ◌≤◌, ◌==◌, Bool, true, false, List, [], ◌∷◌, ◌++◌, length, map, take, drop, replicate}
 use Rattle.std.specs.List.{range_with_len}
 
--- the last bit of a number: a one where the number is odd
+-- the last bit of a number: a one if the number is odd
 abbrev pub last_bit : ℕ → Bool
 last_bit v = v % 2 == 1
 

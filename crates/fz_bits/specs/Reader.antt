@@ -20,7 +20,7 @@ pub record IsUnmoved (old new : BitReader) : Type 0 where
   pub left : left new ≡ left old
   pub place : place new ≡ place old
 
--- more than `max` zeros stand next
+-- more than `max` zeros are next
 abbrev pub HasZeros : ℕ → List Bool → Type 0
 HasZeros max bits = take (max + 1) bits ≡ replicate (max + 1) false
 

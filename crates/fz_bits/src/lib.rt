@@ -8,6 +8,6 @@ mod laws;
 mod reader;
 mod writer;
 
-pub use laws::bytes_law;
+pub use laws::{bytes_law, number_law, room_law};
 pub use reader::{BitReader, Ended, ZeroStop};
 pub use writer::{BitWriter, Full};

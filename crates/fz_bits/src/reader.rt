@@ -44,7 +44,7 @@ pub struct Ended;
 /// Why no run of zeros with a one after it was read.
 #[derive(Clone, Copy, Debug, PartialEq, Eq)]
 pub enum ZeroStop {
-    /// More zeros stand next than were allowed.
+    /// More zeros are next than were allowed.
     TooMany,
     /// The bits end before a one, and their zeros are not too many.
     Ended,
@@ -139,7 +139,7 @@ impl<'a> BitReader<'a> {
         Ok(zeros)
     }
 
-    /// Loads the next bits, and answers whether 56 of them are ready now. They are where eight bytes are
+    /// Loads the next bits, and answers whether 56 of them are ready now. They are if eight bytes are
     /// left after those that were loaded before.
     #[inline]
     #[tactic(auto, using(crate::proofs::ReaderLemmas::lengths))]
@@ -174,7 +174,7 @@ impl<'a> BitReader<'a> {
         self.count
     }
 
-    /// `zeros` where all pending bits are zeros.
+    /// `zeros` if all pending bits are zeros.
     #[cold]
     #[inline(never)]
     #[tactic(auto, using(crate::proofs::ReaderLemmas::lengths))]
@@ -233,7 +233,7 @@ impl<'a> BitReader<'a> {
         }
     }
 
-    /// Loads more bits where none of the pending ones is a one.
+    /// Loads more bits if none of the pending ones is a one.
     #[inline]
     fn load_one(&mut self)
         ensures { IsUnmoved self.old self.new }
@@ -270,7 +270,7 @@ impl<'a> BitReader<'a> {
         self.count = self.count % 8 + 56;
     }
 
-    /// `refill` where fewer than eight bytes are left after the loaded ones.
+    /// `refill` if fewer than eight bytes are left after the loaded ones.
     #[cold]
     #[inline(never)]
     #[tactic(auto, using(crate::proofs::ReaderLemmas::lengths))]
@@ -347,7 +347,7 @@ fn last_word(bytes: &[u8]) -> u64
     u64::from_be_bytes(word)
 }
 
-/// Why the bits end where all that are left are zeros.
+/// Why the bits end if all that are left are zeros.
 fn stop_in_zeros(zeros: u64, max: u32) -> ZeroStop
     ensures too_many { (result ≡ ZeroStop.TooMany) ↔ (max < zeros) }
     ensures ended { (result ≡ ZeroStop.Ended) ↔ (zeros ≤ max) }

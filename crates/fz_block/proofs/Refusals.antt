@@ -1,4 +1,4 @@
--- The first refusal among checks that stand one list after another.
+-- The first refusal among checks of one list after another.
 use Rattle.std.proofs.Common.{◌≡◌, ℕ, zero, suc, ◌+◌, ◌<◌, Bool, true, false, List, [], ◌∷◌, ◌++◌, Some, None, refl, ap, sym, ◌∙◌, arith}
 use Rattle.std.specs.List.{flat_map, range_with_len}
 use Rattle.fz_base.specs.Refusal.{first_refusal}
@@ -49,5 +49,3 @@ next_stopped checks a (suc i) (suc n) j x at below before here =
     let back = back_passed (checks a) (flat_map checks (range_with_len (a + 1) i)) before in
     passed (checks a) (flat_map checks (range_with_len (a + 1) n)) front
     ∙ next_stopped checks (a + 1) i n j x (omega arith) (omega arith) back here
-
-pub ruleset refusals = (passed, stopped)

@@ -4,17 +4,23 @@ use Rattle.std.specs.Option.{option_map}
 use Rattle.std.proofs.lemmas.Bool.Decides.{nat_tests}
 use Rattle.std.proofs.lemmas.List.{length-drop}
 use Rattle.fz_base.specs.Refusal.{refusal, first_refusal}
-use Rattle.fz_base.specs.Source.{HoldsLength, IsRangeBetween, LogsWithin}
+use Rattle.fz_base.specs.Source.{HoldsLength, LogsWithin}
 use Rattle.fz_base.specs.declared.fault.Fault.{Fault}
 use Rattle.fz_base.specs.declared.fault.Place.TheVariants.{Byte, Card}
 use Rattle.fz_base.specs.declared.kind.Kind.TheVariants.{NotFits, Truncated, TrailingBytes, Limit}
-use Rattle.fz_base.proofs.Logs.{logs_both, logs_within_wider}
 use Rattle.fz_block.specs.Cards.{end_of, end_among}
 use Rattle.fz_block.specs.Checks.{header_room, begin_checks, blocks_looked_at, header_touched}
 use Rattle.fz_block.specs.Scan.{begin_says, Searched}
 use Rattle.fz_block.proofs.Among.{none_first}
 use Rattle.fz_block.proofs.Exits.{begun, no_extension, no_fits}
 use Rattle.fz_block.proofs.Room.{room_blocks, end_of_room, end_of_blocks}
+
+-- what the law of logs says of reads between two places
+abbrev pub LogsBoth : Type 0
+LogsBoth = (from to : ℕ) (old mid new : Option (List (ℕ × ℕ))) → LogsWithin from to old mid → LogsWithin from to mid new → LogsWithin from to old new
+
+abbrev pub LogsWider : Type 0
+LogsWider = (from to from' to' : ℕ) (old new : Option (List (ℕ × ℕ))) → from' ≤ from → to ≤ to' → LogsWithin from to old new → LogsWithin from' to' old new
 
 -- the first block is looked at
 one_at_least : (refused : Option Fault) (end : Option ℕ) → 1 ≤ blocks_looked_at refused end
@@ -57,7 +63,7 @@ end_behind start b i g few within none end =
     behind (36 * b) i (end_among (36 * room_blocks start g - 36 * b) (drop (80 * (36 * b)) (drop start g)))
     (sym all ∙ ap (λ n. end_among n (drop start g)) (sym more) ∙ none_first (36 * b) (36 * room_blocks start g - 36 * b) (drop start g) before)
 
--- the next block is looked at, where there may be one
+-- the next block is looked at, if there may be one
 by_end : (start b : ℕ) (g : List ℕ) (end : Option ℕ) → b ≤ 256 → start + 2880 * b ≤ length g → end_of (take (2880 * b) (drop start g)) ≡ None →
     end_of (header_room start g) ≡ end → min 256 (b + 1) ≤ blocks_looked_at None end
 by_end start b g None few within none end = omega arith
@@ -78,51 +84,51 @@ looked_at k start (suc b) g begins searched few =
     ap (λ r. blocks_looked_at r (end_of (header_room start g))) none in
     omega (arith, blocks, same)
 
--- where the source tells its bytes, what was read is what the definition says
-pub touched_by : (held : Option (List ℕ)) (len k start b : ℕ) (old new : Option (List (ℕ × ℕ))) → HoldsLength held len →
+-- if the source shows its bytes, what was read is what the definition says
+pub touched_by : LogsWider → (held : Option (List ℕ)) (len k start b : ℕ) (old new : Option (List (ℕ × ℕ))) → HoldsLength held len →
     IfSome held (λ g. begin_says k start g ≡ Ok tt) → IfSome held (Searched k start b) → b ≤ 256 →
     LogsWithin start (min len (start + 2880 * min 256 (b + 1))) old new → IfSome held (λ g. LogsWithin start (header_touched k start g) old new)
-touched_by None len k start b old new told begins searched few logs = tt
-touched_by (Some g) len k start b old new told begins searched few logs =
+touched_by wider None len k start b old new told begins searched few logs = tt
+touched_by wider (Some g) len k start b old new told begins searched few logs =
     let most = looked_at k start b g begins searched few in
-    logs_within_wider start (min len (start + 2880 * min 256 (b + 1))) start (header_touched k start g) old new (omega arith) (omega (arith, most, told)) logs
+    wider start (min len (start + 2880 * min 256 (b + 1))) start (header_touched k start g) old new (omega arith) (omega (arith, most, told)) logs
 
-pub touched_first : (held : Option (List ℕ)) (len k start : ℕ) (old new : Option (List (ℕ × ℕ))) → HoldsLength held len →
+pub touched_first : LogsWider → (held : Option (List ℕ)) (len k start : ℕ) (old new : Option (List (ℕ × ℕ))) → HoldsLength held len →
     LogsWithin start (min len (start + 2880)) old new → IfSome held (λ g. LogsWithin start (header_touched k start g) old new)
-touched_first None len k start old new told logs = tt
-touched_first (Some g) len k start old new told logs =
+touched_first wider None len k start old new told logs = tt
+touched_first wider (Some g) len k start old new told logs =
     let most = first_looked_at k start g in
-    logs_within_wider start (min len (start + 2880)) start (header_touched k start g) old new (omega arith) (omega (arith, most, told)) logs
+    wider start (min len (start + 2880)) start (header_touched k start g) old new (omega arith) (omega (arith, most, told)) logs
 
 -- what was read before, and then of the next block
-pub logs_on : (len start b : ℕ) (old mid new : Option (List (ℕ × ℕ))) → LogsWithin start (min len (start + 2880 * b)) old mid →
+pub logs_on : LogsBoth → LogsWider → (len start b : ℕ) (old mid new : Option (List (ℕ × ℕ))) → LogsWithin start (min len (start + 2880 * b)) old mid →
     LogsWithin (start + 2880 * b) (min len (start + 2880 * (b + 1))) mid new → LogsWithin start (min len (start + 2880 * (b + 1))) old new
-logs_on len start b old mid new first second =
-    logs_both (IsRangeBetween start (min len (start + 2880 * (b + 1)))) old mid new
-    (logs_within_wider start (min len (start + 2880 * b)) start (min len (start + 2880 * (b + 1))) old mid (omega arith) (omega arith) first)
-    (logs_within_wider (start + 2880 * b) (min len (start + 2880 * (b + 1))) start (min len (start + 2880 * (b + 1))) mid new (omega arith) (omega arith) second)
+logs_on both wider len start b old mid new first second =
+    both start (min len (start + 2880 * (b + 1))) old mid new
+    (wider start (min len (start + 2880 * b)) start (min len (start + 2880 * (b + 1))) old mid (omega arith) (omega arith) first)
+    (wider (start + 2880 * b) (min len (start + 2880 * (b + 1))) start (min len (start + 2880 * (b + 1))) mid new (omega arith) (omega arith) second)
 
 -- so many blocks were read
-pub logs_of_header : (len start n : ℕ) (old new : Option (List (ℕ × ℕ))) → n ≤ 256 → LogsWithin start (min len (start + 2880 * n)) old new →
+pub logs_of_header : LogsWider → (len start n : ℕ) (old new : Option (List (ℕ × ℕ))) → n ≤ 256 → LogsWithin start (min len (start + 2880 * n)) old new →
     LogsWithin start (min len (start + 737280)) old new
-logs_of_header len start n old new few logs =
-    logs_within_wider start (min len (start + 2880 * n)) start (min len (start + 737280)) old new (omega arith) (omega (arith, few)) logs
+logs_of_header wider len start n old new few logs =
+    wider start (min len (start + 2880 * n)) start (min len (start + 737280)) old new (omega arith) (omega (arith, few)) logs
 
-pub touched_blocks : (held : Option (List ℕ)) (len k start b n : ℕ) (old new : Option (List (ℕ × ℕ))) → HoldsLength held len →
+pub touched_blocks : LogsWider → (held : Option (List ℕ)) (len k start b n : ℕ) (old new : Option (List (ℕ × ℕ))) → HoldsLength held len →
     IfSome held (λ g. begin_says k start g ≡ Ok tt) → IfSome held (Searched k start b) → b ≤ 256 → n ≤ min 256 (b + 1) →
     LogsWithin start (min len (start + 2880 * n)) old new → IfSome held (λ g. LogsWithin start (header_touched k start g) old new)
-touched_blocks held len k start b n old new told begins searched few most logs =
-    touched_by held len k start b old new told begins searched few
-    (logs_within_wider start (min len (start + 2880 * n)) start (min len (start + 2880 * min 256 (b + 1))) old new (omega arith) (omega (arith, most)) logs)
+touched_blocks wider held len k start b n old new told begins searched few most logs =
+    touched_by wider held len k start b old new told begins searched few
+    (wider start (min len (start + 2880 * n)) start (min len (start + 2880 * min 256 (b + 1))) old new (omega arith) (omega (arith, most)) logs)
 
 -- what was read before the search, and in it
-pub touched_both : (held : Option (List ℕ)) (k start : ℕ) (old mid new : Option (List (ℕ × ℕ))) → IfSome held (λ g. LogsWithin start (header_touched k start g) old mid) →
+pub touched_both : LogsBoth → (held : Option (List ℕ)) (k start : ℕ) (old mid new : Option (List (ℕ × ℕ))) → IfSome held (λ g. LogsWithin start (header_touched k start g) old mid) →
     IfSome held (λ g. LogsWithin start (header_touched k start g) mid new) → IfSome held (λ g. LogsWithin start (header_touched k start g) old new)
-touched_both None k start old mid new first second = tt
-touched_both (Some g) k start old mid new first second = logs_both (IsRangeBetween start (header_touched k start g)) old mid new first second
+touched_both both None k start old mid new first second = tt
+touched_both both (Some g) k start old mid new first second = both start (header_touched k start g) old mid new first second
 
-pub logs_begun : (len start : ℕ) (old mid new : Option (List (ℕ × ℕ))) → LogsWithin start (min len (start + 2880)) old mid →
+pub logs_begun : LogsBoth → LogsWider → (len start : ℕ) (old mid new : Option (List (ℕ × ℕ))) → LogsWithin start (min len (start + 2880)) old mid →
     LogsWithin start (min len (start + 737280)) mid new → LogsWithin start (min len (start + 737280)) old new
-logs_begun len start old mid new first second =
-    logs_both (IsRangeBetween start (min len (start + 737280))) old mid new
-    (logs_within_wider start (min len (start + 2880)) start (min len (start + 737280)) old mid (omega arith) (omega arith) first) second
+logs_begun both wider len start old mid new first second =
+    both start (min len (start + 737280)) old mid new
+    (wider start (min len (start + 2880)) start (min len (start + 737280)) old mid (omega arith) (omega arith) first) second

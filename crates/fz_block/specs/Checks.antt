@@ -14,7 +14,7 @@ use Rattle.fz_block.specs.Facts.{facts_of}
 use Rattle.fz_block.specs.Mandatory.{mandatory_checks}
 use Rattle.fz_block.specs.declared.header.Header.{Header}
 
--- the answer where no check refuses, or the fault of the first that does
+-- the answer if no check refuses, or the fault of the first that does
 abbrev pub unless_refused : {A : Type 0} → A → Option Fault → Result A Fault
 unless_refused answer None = Ok answer
 unless_refused answer (Some fault) = Err fault
@@ -60,8 +60,8 @@ blocks_to_end end = unwrap_or end 0 / 36 + 1
 unfoldable pub header_blocks_of : ℕ → ℕ → List ℕ → Result ℕ Fault
 header_blocks_of k start file = unless_refused (blocks_to_end (end_of (header_room start file))) (first_refusal (block_checks k start file))
 
--- How many blocks are looked at: the first where a check of it refuses, else those up to the one with END, or all that a header
--- may have where none has it.
+-- How many blocks are looked at: the first if a check of it refuses, otherwise those up to the one with END, or all that a header
+-- may have if none has it.
 abbrev pub blocks_looked_at : Option Fault → Option ℕ → ℕ
 blocks_looked_at (Some fault) end = 1
 blocks_looked_at None None = 256
@@ -72,7 +72,7 @@ unfoldable pub header_touched : ℕ → ℕ → List ℕ → ℕ
 header_touched k start file =
     min (length file) (start + 2880 * blocks_looked_at (first_refusal (begin_checks k start file)) (end_of (header_room start file)))
 
--- END stands in the last block
+-- END is in the last block
 abbrev pub ends_in_last_block : List ℕ → Bool
 ends_in_last_block header = is_some (end_of header) && (2880 * blocks_to_end (end_of header) == length header)
 
@@ -80,7 +80,7 @@ ends_in_last_block header = is_some (end_of header) && (2880 * blocks_to_end (en
 abbrev pub groups_card : List ℕ → Option ℕ
 groups_card header = first_card (is_set (codes "GROUPS")) header
 
--- a primary whose first axis has length 0 is one of random groups, where a card says so
+-- a primary whose first axis has length 0 is one of random groups, if a card says so
 abbrev pub group_checks : ℕ → List ℕ → List (Bool × Fault)
 group_checks zero header =
     (nat_lt 0 (naxis_of header) && (size_at header 3 == 0 && is_some (groups_card header)), refusal 0 (Card (unwrap_or (groups_card header) 0)) Groups) ∷ []
@@ -110,7 +110,7 @@ header_checks k start len header =
 unfoldable pub header_of : ℕ → ℕ → ℕ → List ℕ → Result Header Fault
 header_of k start len header = unless_refused (facts_of k start header) (first_refusal (header_checks k start len header))
 
--- the same where the header is taken from the file
+-- the same if the header is taken from the file
 abbrev pub header_in : ℕ → ℕ → List ℕ → Result ℕ Fault → Result Header Fault
 header_in k start file (Ok blocks) = header_of k start (length file) (take (2880 * blocks) (drop start file))
 header_in k start file (Err fault) = Err fault
@@ -131,7 +131,7 @@ Judge = Header → Result Bool Fault
 abbrev pub unjudged : Judge
 unjudged h = Ok false
 
--- the headers from one HDU on: it is the last where the job stops or the file ends, else those of the next one follow
+-- the headers from one HDU on: it is the last if the job stops or the file ends, otherwise those of the next one follow
 abbrev pub by_judgement : List ℕ → Header → Result (List Header) Fault → Result Bool Fault → Result (List Header) Fault
 by_judgement file h rest (Err fault) = Err fault
 by_judgement file h rest (Ok true) = Ok (h ∷ [])
@@ -151,7 +151,7 @@ walk_from judge (suc more) k start file = judged file judge (λ h. walk_from jud
 abbrev pub walk_of : Judge → ℕ → List ℕ → Result (List Header) Fault
 walk_of judge most file = walk_from judge most 0 0 file
 
--- the same of all HDUs, by the checks of every job alone
+-- the same of all HDUs, by only the checks of every job
 abbrev pub and_those_after : List ℕ → (Header → Result (List Header) Fault) → Result Header Fault → Result (List Header) Fault
 and_those_after file rest here = judged file unjudged rest here
 

@@ -21,7 +21,7 @@ pub record IsHeader (header : List ℕ) : Type 0 where
   pub none : end_of (take (2880 * before) header) ≡ None
   pub has : IsSome (end_of header)
 
--- how large the number is that a card says, without its sign; 0 where it says none
+-- how large the number is that a card says, without its sign; 0 if it says none
 abbrev pub size_in : Option ℤ → ℕ
 size_in None = 0
 size_in (Some (pos n)) = n

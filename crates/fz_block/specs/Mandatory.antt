@@ -38,7 +38,7 @@ axis_checks k header i =
     must k (2 + i) (is_numbered (codes "NAXIS") i (card_at header (2 + i)) && is_size (integer_of (card_at header (2 + i))))
     ∷ (nat_lt 2147483647 (size_at header (2 + i)), refusal k (Card (2 + i)) Limit) ∷ []
 
--- after the axes of an extension stand PCOUNT and GCOUNT
+-- after the axes of an extension are PCOUNT and GCOUNT
 abbrev pub count_checks : ℕ → List ℕ → List (Bool × Fault)
 count_checks zero header = []
 count_checks (suc k) header =

@@ -8,12 +8,12 @@ use Rattle.fz_block.specs.Header.{next_start_of}
 use Rattle.fz_block.specs.declared.header.Header.{Header}
 use Rattle.fz_block.specs.declared.next.ReadHeader.{ReadHeader}
 
--- the header of an HDU, where its blocks were found, with so many bytes live
+-- the header of an HDU, if its blocks were found, with so many bytes live
 abbrev pub header_taking : ℕ → Result ℕ Fault → List (ℕ × ℕ)
 header_taking live (Err x) = []
 header_taking live (Ok blocks) = (live, 2880 * blocks) ∷ []
 
--- what is taken for the HDUs that follow, where the walk goes on
+-- what is taken for the HDUs that follow, if the walk goes on
 abbrev pub where_going_on : List ℕ → Header → List (ℕ × ℕ) → Result Bool Fault → List (ℕ × ℕ)
 where_going_on file h rest (Err x) = []
 where_going_on file h rest (Ok true) = []

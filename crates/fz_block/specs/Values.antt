@@ -6,7 +6,7 @@ use Rattle.fz_block.specs.Hdus.{places, size_in}
 use Rattle.fz_block.specs.Mandatory.{is_size}
 use Rattle.fz_block.specs.declared.mandatory.Mandatory.{Mandatory}
 
--- the card has this name, as it stands in columns 1 to 8, and says a number that is 0 or more
+-- the card has this name, as it is in columns 1 to 8, and says a number that is 0 or more
 abbrev pub has_size : List ℕ → List ℕ → Bool
 has_size name card = bytes_eq (card_name card) name && is_size (integer_of card)
 

@@ -20,7 +20,7 @@ abbrev pub begins_hdu : ℕ → List ℕ → Bool
 begins_hdu zero header = is_set (codes "SIMPLE") (card_at header 0)
 begins_hdu (suc k) header = bytes_eq (take 8 header) (codes "XTENSION")
 
--- a header of at most 256 blocks stands at this byte of the file, as that of HDU k, which is one of the first 65,536
+-- a header of at most 256 blocks is at this byte of the file, as that of HDU k, which is one of the first 65,536
 pub record StandsAt (k start : ℕ) (file header : List ℕ) : Type 0 where
   pub whole : IsHeader header
   pub short : length header ≤ 737280

@@ -11,12 +11,12 @@ use crate::blocks::{BLOCK_LEN, header_blocks};
 use crate::header::Header;
 use crate::read::read_header;
 use crate::refused::refused;
-use fz_base::{Kind, Place, Source, Stop};
+use fz_base::{Kind, Place, Source, Stop, log_law};
 
 /// Reads and checks the header of the HDU that begins at this byte once more, into the first bytes of a buffer,
 /// which has room for the longest header of the file (FITS 4.0, sections 3.3.1 and 4.4.1).
 ///
-/// Refused as by `header_blocks`; then with BadCard at card 0 where the buffer has no room for the header,
+/// Refused as by `header_blocks`; then with BadCard at card 0 if the buffer has no room for the header,
 /// since the source gives other bytes than before; then as by `read_header`.
 pub fn header_again<S: Source>(
     source: &mut S,
@@ -41,6 +41,7 @@ pub fn header_again<S: Source>(
     ensures attached { S.attached source.new ≡ S.attached source.old }
     ensures cause { ReadsOnly (S.tally source.old) (S.tally source.new) result }
 {
+    log_law();
     let blocks = header_blocks(source, length, hdu, start, block)?;
     let size = BLOCK_LEN * blocks as usize;
     if size > buf.len() {

@@ -8,7 +8,7 @@ ghost use Rattle.fz_block.specs.Scan.{begin_says, block_says, next_block_says};
 
 use crate::cards::{card, end_card, is_set};
 use crate::refused::refused;
-use fz_base::{Failed, Fault, Kind, Place, Source, Stop};
+use fz_base::{Failed, Fault, Kind, Place, Source, Stop, log_law};
 use fz_card::Name;
 
 /// The length of a block in bytes (FITS 4.0, section 3.1).
@@ -45,6 +45,7 @@ pub fn header_blocks<S: Source>(
     ensures attached { S.attached source.new ≡ S.attached source.old }
     ensures cause { ReadsOnly (S.tally source.old) (S.tally source.new) result }
 {
+    log_law();
     check_begin(source, length, hdu, start)?;
     search_end(source, length, hdu, start, block)
 }
@@ -98,6 +99,7 @@ fn search_end<S: Source>(
     ensures attached { S.attached source.new ≡ S.attached source.old }
     ensures cause { ReadsOnly (S.tally source.old) (S.tally source.new) result }
 {
+    log_law();
     for b in 0..MAX_BLOCKS {
         if has_end(source, length, hdu, start, b, block)? {
             return Ok(b + 1);
@@ -117,6 +119,7 @@ fn begins_extension<S: Source>(source: &mut S, length: u64, start: u64) -> Resul
     ensures attached { S.attached source.new ≡ S.attached source.old }
     ensures cause { HasCause (S.tally source.old) (S.tally source.new) result }
 {
+    log_law();
     if length - start < 8 {
         return Ok(false);
     }
@@ -125,7 +128,7 @@ fn begins_extension<S: Source>(source: &mut S, length: u64, start: u64) -> Resul
     Ok(first == Name::XTENSION.bytes)
 }
 
-// Reads block b of a header, and tells whether it has END.
+// Reads block b of a header, and answers whether it has END.
 fn has_end<S: Source>(
     source: &mut S,
     length: u64,
@@ -147,6 +150,7 @@ fn has_end<S: Source>(
     ensures attached { S.attached source.new ≡ S.attached source.old }
     ensures cause { ReadsOnly (S.tally source.old) (S.tally source.new) result }
 {
+    log_law();
     let at = start + BLOCK_LEN as u64 * u64::from(b);
     if length - at < BLOCK_LEN as u64 {
         return Err(Stop::Refused(refused(hdu, Place::Byte(length), Kind::Truncated)));

@@ -1,4 +1,4 @@
-//! The cards of a header that stands in a buffer.
+//! The cards of a header in a buffer.
 ghost use Rattle.std.specs.Prelude.{◌≡◌, ◌+◌, ◌*◌, ◌≤◌, ◌&&◌, false, length, bytes_eq, unwrap_or};
 ghost use Rattle.fz_card.specs.Layout.{card_name};
 ghost use Rattle.fz_card.specs.Reading.{logical_of};

@@ -25,10 +25,11 @@ ghost use Rattle.std.specs.Prelude.{
   map,
   codes,
 };
-ghost use Rattle.std.specs.List.{flat_map, position};
+ghost use Rattle.std.specs.List.{flat_map, position, range_with_len};
 ghost use Rattle.std.specs.Option.{option_map};
 ghost use Rattle.std.specs.Result.{result_map_both};
 ghost use Rattle.fz_base.specs.Refusal.{first_refusal};
+ghost use Rattle.fz_base.specs.declared.fault.Fault.{Fault};
 ghost use Rattle.fz_block.specs.Again.{hdu_again_at};
 ghost use Rattle.fz_block.specs.Cards.{card_at, first_among, first_card};
 ghost use Rattle.fz_block.specs.Checks.{Judge, is_set, fault_as, header_blocks_of, header_of, hdu_at, hdu_end, walk_of, headers_of};
@@ -50,7 +51,7 @@ ghost use Rattle.fz_block.specs.Walk.{
 };
 ghost use Rattle.fz_block.specs.declared.header.Header.{Header};
 
-/// A header that stands at its place in a file, with its data and their fill in the file, is the header
+/// A header that is at its place in a file, with its data and their fill in the file, is the header
 /// of an HDU: the data begin after the header, and the next HDU begins after the data with their fill.
 pub fn hdu_law()
     ensures hdu { (file header : List ℕ) (h : Header) → IsHeaderOf header h → take (length header) (drop h.start file) ≡ header
@@ -59,7 +60,7 @@ pub fn hdu_law()
         → (data_start_of h ≡ h.start + length header) × (next_start_of h ≡ data_start_of h + length (hdu_of file h).payload) }
 {}
 
-/// The bytes of a header and its cards stand for each other, where blanks follow END; and the first card
+/// The bytes of a header and its cards determine each other, if blanks follow END; and the first card
 /// with a property is that of the bytes and that of the list.
 pub fn cards_law()
     ensures bytes { (header : List ℕ) → IsHeader header → HasBlankFill header → header_bytes (cards_of header) ≡ header }
@@ -78,8 +79,19 @@ pub fn first_card_law()
         → first_among has n cards ≡ None }
 {}
 
-/// All facts of a header but where it begins are those of its bytes: they are the same at another place,
-/// where its HDU ends within the file too.
+/// Checks of one place after another, of which those of the first places reject nothing: nor do those of one place
+/// more, if its own do not; and if its own reject, so do those of all places, for the same fault.
+pub fn refusals_law()
+    ensures passed { (checks : ℕ → List (Bool × Fault)) (from i next : ℕ) → from + i ≡ next
+        → first_refusal (flat_map checks (range_with_len from i)) ≡ None → first_refusal (checks next) ≡ None
+        → first_refusal (flat_map checks (range_with_len from (i + 1))) ≡ None }
+    ensures stopped { (checks : ℕ → List (Bool × Fault)) (from i n next : ℕ) (fault : Fault) → from + i ≡ next → i < n
+        → first_refusal (flat_map checks (range_with_len from i)) ≡ None → first_refusal (checks next) ≡ Some fault
+        → first_refusal (flat_map checks (range_with_len from n)) ≡ Some fault }
+{}
+
+/// All facts of a header but the byte at which it begins are those of its bytes: they are the same at another place,
+/// if its HDU ends within the file there too.
 pub fn start_law()
     ensures facts { (header : List ℕ) (h : Header) (start : ℕ) → IsHeaderOf header h → IsHeaderOf header (begun_at start h) }
     ensures checks { (k start len : ℕ) (header : List ℕ) (h : Header) (start' len' : ℕ) → header_of k start len header ≡ Ok h
@@ -96,7 +108,7 @@ pub fn number_law()
         → header_of k start len header ≡ result_map_both (facts_as k) (fault_as k) (header_of j start len header) }
 {}
 
-/// A header that stands in a file is found there: the search ends with its last block, and the checks
+/// A header that is in a file is found there: the search ends with its last block, and the checks
 /// are made of its bytes.
 pub fn found_law()
     ensures blocks { (k start : ℕ) (file header : List ℕ) → StandsAt k start file header → header_blocks_of k start file ≡ Ok (length header / 2880) }
@@ -105,7 +117,7 @@ pub fn found_law()
 {}
 
 /// A header that the checks of every job find at a place: it is the header of that HDU there, it has the blocks
-/// that the search finds, and where it begins the file its axes are as many as card 2 of the file says. A walk
+/// that the search finds, and if it begins the file its axes are as many as card 2 of the file says. A walk
 /// finds each of its headers so.
 pub fn hdu_at_law()
     ensures facts { (k start : ℕ) (file : List ℕ) (h : Header) → hdu_at k start file ≡ Ok h
@@ -117,7 +129,7 @@ pub fn hdu_at_law()
 {}
 
 /// A header that is read once more into a buffer with room for it is the one of the first reading: it is
-/// answered where it passes the checks, and no other is.
+/// answered if it passes the checks, and no other is.
 pub fn again_law()
     ensures room { (room k start : ℕ) (file : List ℕ) (h : Header) → hdu_at k start file ≡ Ok h → 2880 * h.blocks ≤ room
         → hdu_again_at room k start file ≡ Ok h }
@@ -127,7 +139,7 @@ pub fn again_law()
 
 /// A walk over HDUs, which makes the checks of every job and then those of a job for one HDU after
 /// another, and may stop: it passes what the checks of every job pass up to there, finds the first HDUs
-/// of the file, and all of them where it does not stop.
+/// of the file, and all of them if it does not stop.
 pub fn walk_law()
     ensures headers { (judge : Judge) (most : ℕ) (file : List ℕ) (hs : List Header) → walk_of judge most file ≡ Ok hs
         → (0 < length hs) × (length hs ≤ most) × RefusesNone judge hs
@@ -140,7 +152,7 @@ pub fn walk_law()
         → stops judge hs ≡ false → headers_of most file ≡ Ok hs }
 {}
 
-/// What a walk says of the HDUs that it finds: each passes the checks of every job where it stands, the
+/// What a walk says of the HDUs that it finds: each passes the checks of every job at its place, the
 /// file begins with the card SIMPLE and the value T, and the walk stops at no HDU but the last.
 pub fn found_hdus_law()
     ensures pass { (judge : Judge) (most : ℕ) (file : List ℕ) (hs : List Header) → walk_of judge most file ≡ Ok hs

@@ -1,4 +1,4 @@
-//! HDUs of a file: the header at a place, read and checked, and where its data and the next HDU stand.
+//! HDUs of a file: the header at a place, read and checked, and where its data and the next HDU begin.
 //!
 //! Reading order: `axes`, `header`, `cards`, `blocks`, `mandatory`, `read`, `next`, `again`, `laws`.
 #![tactic(auto)]
@@ -21,7 +21,7 @@ pub use cards::card;
 pub use header::{Header, Sort, data_start, next_start};
 pub use laws::{
     again_law, cards_law, first_card_law, found_hdus_law, found_law, hdu_at_law, hdu_law,
-    hdu_list_law, number_law, passing_law, start_law, walk_law,
+    hdu_list_law, number_law, passing_law, refusals_law, start_law, walk_law,
 };
 pub use next::{ReadHeader, header_at};
 pub use read::{buffered_header, read_header};

@@ -12,7 +12,7 @@ ghost use Rattle.fz_block.specs.Takings.{header_taking, facts_in};
 use crate::blocks::{BLOCK_LEN, header_blocks};
 use crate::header::Header;
 use crate::read::read_header;
-use fz_base::{Bytes, Meter, Source, Stop};
+use fz_base::{Bytes, Meter, Source, Stop, log_law};
 
 /// A header that was read: its facts, and its bytes in a buffer that goes back to its meter.
 #[derive(Drop)]
@@ -55,6 +55,7 @@ pub fn header_at<S: Source>(
     ensures attached { S.attached source.new ≡ S.attached source.old }
     ensures cause { ReadsAndTakes (S.tally source.old) (S.tally source.new) meter.old.limit result }
 {
+    log_law();
     let blocks = header_blocks(source, length, hdu, start, block)?;
     let mut buf = meter.bytes(BLOCK_LEN as u64 * u64::from(blocks))?;
     let answer = read_header(source, length, hdu, start, buf.as_mut_slice());

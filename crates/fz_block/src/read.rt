@@ -56,7 +56,7 @@ pub fn read_header<S: Source>(
     buffered_header(buf, length, hdu, start).map_err(Stop::Refused)
 }
 
-/// The facts of the header of 1 to 256 blocks that stands in the buffer, as that of this HDU, which begins
+/// The facts of the header of 1 to 256 blocks that is in the buffer, as that of this HDU, which begins
 /// at this byte of a file of this length.
 ///
 /// Refused as by `read_header`, in the same order.
@@ -88,7 +88,7 @@ pub fn buffered_header(buf: &[u8], length: u64, hdu: u32, start: u64) -> Result<
     })
 }
 
-// The index of END, if it stands in the last block.
+// The index of END, if it is in the last block.
 fn end_in_last_block(buf: &[u8]) -> Option<u32>
     requires { (n : ℕ) × (0 < n) × (n ≤ 256) × (len buf.now ≡ 2880 * n) }
     ensures none { IsNone result → ends_in_last_block buf.now ≡ false }
@@ -97,7 +97,7 @@ fn end_in_last_block(buf: &[u8]) -> Option<u32>
     end_card(buf).filter(|i| BLOCK_LEN * (*i as usize / CARDS_IN_BLOCK + 1) == buf.len())
 }
 
-// A primary without a first axis is refused where a card says that it has random groups.
+// A primary without a first axis is refused if a card says that it has random groups.
 fn check_groups(buf: &[u8], hdu: u32, cards: u32, axes: &Axes) -> Result<(), Fault>
     requires buf { (2880 ≤ len buf.now) × (80 * (cards + 1) ≤ len buf.now) }
     requires end { end_of buf.now ≡ Some cards }
@@ -128,7 +128,7 @@ fn groups_card(buf: &[u8], cards: u32) -> Option<u32>
     None
 }
 
-// The length of the data, or the greatest number where it is longer.
+// The length of the data, or the greatest number if it is longer.
 fn data_len(said: &Mandatory) -> u64
     requires { said.now.axes.n ≤ 9 }
     ensures { result ≡ min (said_len said.now) (2 ^ 64 - 1) }
@@ -141,7 +141,7 @@ fn data_len(said: &Mandatory) -> u64
     pixel_len.saturating_mul(said.gcount.saturating_mul(elements))
 }
 
-// The product of the lengths of the axes, or the greatest number where it is larger.
+// The product of the lengths of the axes, or the greatest number if it is larger.
 fn places(axes: &Axes) -> u64
     requires { axes.now.n ≤ 9 }
     ensures { result ≡ min (places_of (take axes.now.n axes.now.len)) (2 ^ 64 - 1) }

@@ -49,7 +49,7 @@ abbrev pub NumbersAreInOneTile : Type 0
 NumbersAreInOneTile =
     (array tile : List ℕ) (place : ℕ) → AreTileLengths array tile → place < product array → IsPlacedOnce array tile place
 
--- a tile has the numbers that stand at its places in the array
+-- a tile has the numbers at its places in the array
 abbrev pub TilesAreAtTheirPlaces : Type 0
 TilesAreAtTheirPlaces =
     (a : NumberArray) (lengths : List ℕ) (t : ℕ)

@@ -9,7 +9,7 @@ common_corner [] qs = []
 common_corner (p ∷ ps) [] = []
 common_corner (p ∷ ps) (q ∷ qs) = max p q ∷ common_corner ps qs
 
--- the lengths of that box: from the greater corner to the smaller end along each axis, 0 where they do not meet
+-- the lengths of that box: from the greater corner to the smaller end along each axis, 0 if they do not meet
 abbrev pub common_lengths : List ℕ → List ℕ → List ℕ → List ℕ → List ℕ
 common_lengths [] ms qs ns = []
 common_lengths (p ∷ ps) [] qs ns = []

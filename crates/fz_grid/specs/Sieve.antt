@@ -56,11 +56,11 @@ sieve_lengths sieve = pick_counts (sieve_lo sieve) (sieve_hi sieve) (sieve_step 
 abbrev pub picked_places : List ℕ → Sieve → List ℕ
 picked_places array sieve = stepped_places array (sieve_lo sieve) (sieve_step sieve) (sieve_lengths sieve)
 
--- how many picks of an axis stand before a coordinate
+-- how many picks of an axis are before a coordinate
 abbrev pub picks_before : ℕ → ℕ → ℕ → ℕ → ℕ
 picks_before lo hi step x = min ((x - lo + (step - 1)) / step) (pick_count lo hi step)
 
--- how many picks stand before these coordinates, along each axis
+-- how many picks are before these coordinates, along each axis
 abbrev pub all_before : List ℕ → List ℕ → List ℕ → List ℕ → List ℕ
 all_before [] his steps xs = []
 all_before (o ∷ os) [] steps xs = []

@@ -12,7 +12,7 @@ abbrev pub nth_pick : List ℕ → List ℕ → List ℕ → List ℕ → ℕ �
 nth_pick array lo step counts k = place_of array (stepped lo step (coordinates_of counts k))
 
 -- the k-th tile with a pick along an axis: with a step above the tile's length each pick has a tile of its own,
--- else no tile is left out between the first and the last
+-- otherwise no tile is left out between the first and the last
 abbrev pub visited : ℕ → ℕ → ℕ → ℕ → ℕ
 visited lo step tile k = (lo + k * max step tile) / tile
 

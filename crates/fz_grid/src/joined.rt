@@ -1,4 +1,4 @@
-//! Where the lines of a region stand together in the array.
+//! Along which axes the lines of a region are together in the array.
 ghost use Rattle.std.specs.Prelude.{◌≡◌, ◌≢◌, ℕ, ◌+◌, ◌-◌, ◌<◌, ◌≤◌, slice_index};
 ghost use Rattle.fz_grid.specs.Region.{
   IsShape,
@@ -42,7 +42,7 @@ pub fn runs(shape: &Axes, region: &Region) -> Runs
     }
 }
 
-/// How many axes of the region stand together in the array: those along which it is as long as the
+/// How many axes of the region are together in the array: those along which it is as long as the
 /// array, up to the first along which it is shorter, and that one.
 fn joined_axes(shape: &Axes, region: &Region) -> u32
     requires shape { IsShape shape.now }

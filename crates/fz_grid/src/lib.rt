@@ -1,4 +1,4 @@
-//! Arrays and their division into tiles: where a pixel stands, which tiles a region touches, and in which runs it lies.
+//! Arrays and their division into tiles: where a pixel is, which tiles a region touches, and in which runs it lies.
 //!
 //! Reading order: `region`, `sizes`, `pixel`, `grid`, `overlap`, `places`, `overlaps`, `run`, `joined`,
 //! `sieve`, `pick`, `picking`, `sieving`, `part`, `law`.

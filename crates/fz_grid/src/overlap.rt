@@ -17,7 +17,7 @@ use crate::places::Places;
 use crate::{Grid, Overlaps, Region};
 
 impl Grid {
-    /// The pixels that the region has in common with tile `t`; None where there is none.
+    /// The pixels that the region has in common with tile `t`; None if there is none.
     pub fn overlap(&self, region: &Region, t: u32) -> Option<Region>
         requires region { IsWithin self.now.shape region.now }
         requires tile { t < tile_count (lengths_of self.now.shape) (lengths_of self.now.tile) }

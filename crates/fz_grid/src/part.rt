@@ -24,16 +24,16 @@ use fz_block::Axes;
 pub struct Part {
     /// The picks, counted from the corner of the region.
     pub inside: Sieve,
-    /// Where they stand among all picks: a box of what is cut out.
+    /// Where they are among all picks: a box of what is cut out.
     pub at: Region,
 }
 
 /// The same along one axis.
 #[derive(Clone, Copy, Debug)]
 pub struct AxisPart {
-    /// How many picks stand before the region.
+    /// How many picks are before the region.
     pub(crate) first: u32,
-    /// How many stand in it.
+    /// How many are in it.
     pub(crate) count: u32,
     /// The first pick in the region, counted from its corner.
     pub(crate) lo: u32,
@@ -106,7 +106,7 @@ fn part_along(lo: u32, hi: u32, step: u32, corner: u32, len: u32, end: u32) -> A
     }
 }
 
-/// How many picks of an axis, which ends at `end`, stand before `at`.
+/// How many picks of an axis, which ends at `end`, are before `at`.
 fn picks_ahead(lo: u32, hi: u32, step: u32, at: u32, end: u32) -> u32
     requires ordered { lo ≤ hi }
     requires inside { hi < end }

@@ -50,7 +50,7 @@ impl Places {
         }
     }
 
-    /// The next place; None where all were given.
+    /// The next place; None if all were given.
     pub(crate) fn advance(&mut self) -> Option<u64>
         ensures gives { YieldsFirst places_left self.old result self.new }
         ensures inside { IfSome result (λ place. place < product (lengths_of self.new.shape)) }

@@ -36,7 +36,7 @@ impl SieveTiles {
     ghost use Rattle.fz_grid.specs.SieveWalks.{sieve_tiles_left};
     ghost use Rattle.fz_grid.specs.Visits.{nth_visited};
 
-    /// Its place along each axis of the grid, where the next tile has these numbers along the axes.
+    /// Its place along each axis of the grid, at which the next tile has these numbers along the axes.
     fn place(&self, numbers: &[u32; 9]) -> [u32; 9]
         requires { (i : ℕ) → i < self.now.counts.n → slice_index numbers.now i < slice_index self.now.counts.len i }
         ensures place { (i : ℕ) → i < self.now.shape.n → slice_index result i
@@ -57,7 +57,7 @@ impl SieveTiles {
         at
     }
 
-    /// The next tile; None where all were given.
+    /// The next tile; None if all were given.
     fn advance(&mut self) -> Option<u32>
         ensures { YieldsFirst sieve_tiles_left self.old result self.new }
     {

@@ -5,7 +5,7 @@ ghost use Rattle.fz_grid.specs.Region.{lengths_of};
 
 use fz_block::Axes;
 
-/// The number of places of an array of these lengths, or the greatest number where there are more
+/// The number of places of an array of these lengths, or the greatest number if there are more
 /// (FITS 4.0, section 4.4.1.1).
 pub fn volume(axes: &Axes) -> u64
     requires { axes.now.n ≤ 9 }

@@ -9,7 +9,7 @@ use Rattle.fz_grid.specs.Arrays.{AreCoordinatesOf, coordinates_of, place_of, pro
 use Rattle.fz_grid.specs.Grid.{box_coordinates, moved}
 use Rattle.fz_grid.specs.Laws.{BoxesAreInOrder, NumbersHavePlaces, PlacesAreInside, PlacesHaveCoordinates}
 use Rattle.fz_grid.specs.Overlap.{IsInBox, has_pixel}
-use Rattle.fz_grid.proofs.Ranges.{map_range_same}
+use Rattle.fz_parts.proofs.Neighbours.{map_range_same}
 
 -- the laws of places
 pub record PlaceLaws : Type 0 where

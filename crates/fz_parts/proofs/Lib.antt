@@ -1,6 +1,7 @@
 pub mod AxisLemmas
 pub mod BoxLemmas
 pub mod CutoutLemmas
+pub mod Neighbours
 pub mod PartLemmas
 pub mod PickedLemmas
 pub mod PlaceBounds

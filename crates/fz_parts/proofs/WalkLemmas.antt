@@ -8,7 +8,7 @@ use Rattle.std.proofs.Math.Nat.{div-one, mod-one}
 use Rattle.fz_grid.specs.Arrays.{AreCoordinatesOf, coordinates_of, place_of, product}
 use Rattle.fz_grid.specs.Grid.{box_coordinates, moved}
 use Rattle.fz_grid.specs.Sieve.{stepped}
-use Rattle.fz_grid.proofs.Ranges.{flat_map_same, map_flat_map, map_range_same, range_moved}
+use Rattle.fz_parts.proofs.Neighbours.{flat_map_same, map_flat_map, map_range_same, range_moved}
 use Rattle.fz_parts.proofs.BoxLemmas.{PlaceLaws, both_below}
 use Rattle.fz_parts.proofs.TableLemmas.{rest_of}
 

@@ -9,7 +9,7 @@ use Rattle.fz_grid.specs.Arrays.{coordinates_of, place_of, product}
 use Rattle.fz_grid.specs.Grid.{box_coordinates}
 use Rattle.fz_grid.specs.Region.{region_lengths}
 use Rattle.fz_grid.specs.Sieve.{pick_count, pick_counts, picked_places, sieve_lengths, sieve_lo, sieve_step, stepped}
-use Rattle.fz_grid.proofs.Ranges.{range_moved}
+use Rattle.fz_parts.proofs.Neighbours.{range_moved}
 use Rattle.fz_parts.proofs.BoxLemmas.{PlaceLaws, box_same}
 use Rattle.fz_parts.proofs.TableLemmas.{counts_list}
 

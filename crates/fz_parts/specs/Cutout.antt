@@ -64,7 +64,7 @@ picks_in_cutout array tile sieve t =
     (all_before (sieve_lo sieve) (sieve_hi sieve) (sieve_step sieve) (tile_corner array tile t))
     (part_lengths array tile sieve t)
 
--- the numbers that stand at these places of a list
+-- the numbers at these places of a list
 abbrev pub numbers_at : List ℤ → List ℕ → List ℤ
 numbers_at numbers places = map (λ place. slice_index_or numbers place (pos 0)) places
 

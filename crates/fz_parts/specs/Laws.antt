@@ -22,7 +22,7 @@ use Rattle.fz_parts.specs.Cutout.{
 abbrev pub CutoutsAreWhole : Type 0
 CutoutsAreWhole = (a : NumberArray) (sieve : Sieve) → length (picked_numbers a sieve) ≡ product (sieve_lengths sieve)
 
--- the numbers of a tile at its picks stand in the cutout at the places of its part
+-- the numbers of a tile at its picks are in the cutout at the places of its part
 abbrev pub TilesGiveTheirPicks : Type 0
 TilesGiveTheirPicks =
     (a : NumberArray) (lengths : List ℕ) (sieve : Sieve) (t : ℕ)
@@ -75,7 +75,7 @@ TilesMakeTheImage =
     → HoldsTiles a lengths image
     → image ≡ a.numbers
 
--- a tile has a part where a pick lies in it, and nowhere else
+-- a tile has a part if and only if a pick lies in it
 abbrev pub PartsAreOfTilesWithAPick : Type 0
 PartsAreOfTilesWithAPick =
     (array tile : List ℕ) (sieve : Sieve) (t : ℕ)

@@ -1,4 +1,4 @@
-//! Where a pick of a part stands.
+//! Where a pick of a part is.
 ghost use Rattle.std.specs.Prelude.{◌≡◌, ℕ, ◌+◌, ◌*◌, ◌<◌, ◌≤◌, slice_index};
 ghost use Rattle.fz_grid.specs.Region.{IsPlaceOf, IsWithin};
 ghost use Rattle.fz_grid.specs.Sieve.{IsSieveOf, pick_count};

@@ -34,7 +34,7 @@ impl Lines {
     ghost use Rattle.std.specs.Iterator.{YieldsFirst};
     ghost use Rattle.fz_parts.specs.Walk.{lines_left, nth_line};
 
-    /// The next line; None where all were given.
+    /// The next line; None if all were given.
     fn advance(&mut self) -> Option<Line>
         ensures { YieldsFirst lines_left self.old result self.new }
     {

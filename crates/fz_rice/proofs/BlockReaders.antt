@@ -7,12 +7,12 @@ use Rattle.std.proofs.lemmas.List.{length-take-le, length-replicate, take-append
 use Rattle.std.proofs.Math.Seq.{take-append-add}
 use Rattle.std.proofs.lemmas.Bool.Decides.{nat_tests}
 use Rattle.fz_bits.specs.Bits.{number_bits, bits_value}
-use Rattle.fz_bits.proofs.BytesLemmas.{number_bits-bits_value, bits_value-append, bits_value-number_bits}
-use Rattle.fz_bits.proofs.BitsLemmas.{length-number_bits, number_bits-joined, number_bits-zero}
+use Rattle.fz_bits.specs.Laws.{NumberLaws}
 use Rattle.fz_rice.specs.Reading.{number_at, split_at, many_at, id_at, values_at, block_at}
 use Rattle.fz_rice.specs.Numbers.{IsWidth}
 use Rattle.fz_rice.specs.Code.{row, split_bits, values_bits, block_bits, CanHold}
 use Rattle.fz_rice.specs.declared.coder.CodeFault.TheVariants.{Ended, Unlawful}
+use Rattle.fz_rice.proofs.NumberBits.{number_bits-joined, number_bits-zero}
 use Rattle.fz_rice.proofs.Readers.{IsReader, SeqCodes, seq_reader, same_reader, same_read, ok_parts}
 use Rattle.fz_rice.proofs.FieldReaders.{lt-true, lt-false, number_reader}
 use Rattle.fz_rice.proofs.ValueReaders.{split_reader, ManyCodes, many_reader}
@@ -33,39 +33,39 @@ pub id_at-lawful : (n most : ℕ) (bits : List Bool) → n ≤ length bits → b
 id_at-lawful n most bits long low = rw (lt-false (length bits) n long, lt-false most (bits_value (take n bits)) low) refl
 
 -- an id with bits after it
-pub id_at-id : (n most id : ℕ) (rest : List Bool) → most < 2 ^ n → id ≤ most → id_at n most (number_bits n id ++ rest) ≡ Ok (id, rest)
-id_at-id n most id rest fits low =
-    let len = length-number_bits n id in
-    let value : bits_value (take n (number_bits n id ++ rest)) ≡ id = ap bits_value (take_at (number_bits n id) rest n len) ∙ bits_value-number_bits n id (omega arith) in
+pub id_at-id : NumberLaws → (n most id : ℕ) (rest : List Bool) → most < 2 ^ n → id ≤ most → id_at n most (number_bits n id ++ rest) ≡ Ok (id, rest)
+id_at-id laws n most id rest fits low =
+    let len = laws.many n id in
+    let value : bits_value (take n (number_bits n id ++ rest)) ≡ id = ap bits_value (take_at (number_bits n id) rest n len) ∙ laws.value n id (omega arith) in
     id_at-lawful n most (number_bits n id ++ rest) (omega (arith, length-append (number_bits n id) rest, len)) (omega (arith, value)) ∙ ap (λ p. Ok p) (λ i. (value i, drop_at (number_bits n id) rest n len i))
 
 -- the bits after a high front leave it high
 stays_high : (v t a b most : ℕ) → most < v * (a * b) → most < (v * a + t) * b
 stays_high v t a b most h = omega arith
 
-id_stays_unlawful : (n most : ℕ) (bits tail : List Bool) → length bits < n → most < bits_value bits * 2 ^ (n - length bits) → id_at n most (bits ++ tail) ≡ Err Unlawful
-id_stays_unlawful n most bits tail short high =
+id_stays_unlawful : NumberLaws → (n most : ℕ) (bits tail : List Bool) → length bits < n → most < bits_value bits * 2 ^ (n - length bits) → id_at n most (bits ++ tail) ≡ Err Unlawful
+id_stays_unlawful laws n most bits tail short high =
     let len = length-append bits tail in
     elim (cases_lt (length (bits ++ tail)) n) [
       | inl h ↦
           let rest = n - length (bits ++ tail) in
           let e : 2 ^ (n - length bits) ≡ 2 ^ length tail * 2 ^ rest = ap (λ k. 2 ^ k) (omega (arith, len)) ∙ pow-add 2 (length tail) rest in
           let more = stays_high (bits_value bits) (bits_value tail) (2 ^ length tail) (2 ^ rest) most (subst (λ (k : ℕ). most < bits_value bits * k) e high) in
-          id_at-cut_high n most (bits ++ tail) h (subst (λ (k : ℕ). most < k * 2 ^ rest) (sym (bits_value-append bits tail)) more)
+          id_at-cut_high n most (bits ++ tail) h (subst (λ (k : ℕ). most < k * 2 ^ rest) (sym (laws.joined_value bits tail)) more)
       | inr h ↦
           let rest = n - length bits in
           let front : take n (bits ++ tail) ≡ bits ++ take rest tail = ap (λ k. take k (bits ++ tail)) (omega arith) ∙ take-append-add bits tail rest in
           let size : length (take rest tail) ≡ rest = length-take-le rest tail (omega (arith, len)) in
-          let value : bits_value (take n (bits ++ tail)) ≡ bits_value bits * 2 ^ rest + bits_value (take rest tail) = ap bits_value front ∙ bits_value-append bits (take rest tail) ∙ ap (λ k. bits_value bits * 2 ^ k + bits_value (take rest tail)) size in
+          let value : bits_value (take n (bits ++ tail)) ≡ bits_value bits * 2 ^ rest + bits_value (take rest tail) = ap bits_value front ∙ laws.joined_value bits (take rest tail) ∙ ap (λ k. bits_value bits * 2 ^ k + bits_value (take rest tail)) size in
           id_at-high n most (bits ++ tail) h (omega (arith, value))
     ]
 
-pub id_reader : (n most : ℕ) → most < 2 ^ n → IsReader (IdCodes n most) (id_at n most)
-id_reader n most fits = record {
+pub id_reader : NumberLaws → (n most : ℕ) → most < 2 ^ n → IsReader (IdCodes n most) (id_at n most)
+id_reader laws n most fits = record {
   some = 0;
   some_code = number_bits n 0;
   is_some = (omega arith, refl);
-  complete = λ id code rest is. ap (λ bits. id_at n most (bits ++ rest)) is.1 ∙ id_at-id n most id rest fits is.0;
+  complete = λ id code rest is. ap (λ bits. id_at n most (bits ++ rest)) is.1 ∙ id_at-id laws n most id rest fits is.0;
   sound = λ bits id rest e. elim (cases_lt (length bits) n) [
     | inl short ↦ elim (cases_lt most (bits_value bits * 2 ^ (n - length bits))) [
       | inl high ↦ let u = id_at-cut_high n most bits short high in cc
@@ -76,7 +76,7 @@ id_reader n most fits = record {
       | inr low ↦
           let parts = ok_parts (bits_value (take n bits)) id (drop n bits) rest (sym (id_at-lawful n most bits long low) ∙ e) in
           let len = length-take-le n bits long in
-          (take n bits, (omega (arith, parts.0), sym (ap (number_bits n) (sym parts.0) ∙ ap (λ k. number_bits k (bits_value (take n bits))) (sym len) ∙ number_bits-bits_value (take n bits))), sym (take-append-drop n bits) ∙ ap (λ x. take n bits ++ x) parts.1)
+          (take n bits, (omega (arith, parts.0), sym (ap (number_bits n) (sym parts.0) ∙ ap (λ k. number_bits k (bits_value (take n bits))) (sym len) ∙ laws.bits (take n bits))), sym (take-append-drop n bits) ∙ ap (λ x. take n bits ++ x) parts.1)
     ]
   ];
   ended = λ bits e. elim (cases_lt (length bits) n) [
@@ -85,7 +85,7 @@ id_reader n most fits = record {
       | inr low ↦
           let rest = n - length bits in
           let tail = replicate rest false in
-          let whole : number_bits n (bits_value bits * 2 ^ rest) ≡ bits ++ tail = ap (λ k. number_bits k (bits_value bits * 2 ^ rest)) (omega arith) ∙ ap (number_bits (length bits + rest)) (omega arith) ∙ number_bits-joined (length bits) rest (bits_value bits) 0 (pow_pos rest) ∙ ap (λ front. front ++ number_bits rest 0) (number_bits-bits_value bits) ∙ ap (λ back. bits ++ back) (number_bits-zero rest) in
+          let whole : number_bits n (bits_value bits * 2 ^ rest) ≡ bits ++ tail = ap (λ k. number_bits k (bits_value bits * 2 ^ rest)) (omega arith) ∙ ap (number_bits (length bits + rest)) (omega arith) ∙ number_bits-joined laws (length bits) rest (bits_value bits) 0 (pow_pos rest) ∙ ap (λ front. front ++ number_bits rest 0) (laws.bits bits) ∙ ap (λ back. bits ++ back) (number_bits-zero rest) in
           (bits_value bits * 2 ^ rest, tail, λ none. absurd (omega (arith, ap length none, length-replicate rest false)), (low, sym whole))
     ]
     | inr long ↦ elim (cases_lt most (bits_value (take n bits))) [
@@ -95,7 +95,7 @@ id_reader n most fits = record {
   ];
   unlawful = λ bits tail e. elim (cases_lt (length bits) n) [
     | inl short ↦ elim (cases_lt most (bits_value bits * 2 ^ (n - length bits))) [
-      | inl high ↦ id_stays_unlawful n most bits tail short high
+      | inl high ↦ id_stays_unlawful laws n most bits tail short high
       | inr low ↦ let u = id_at-cut n most bits short low in cc
     ]
     | inr long ↦ elim (cases_lt most (bits_value (take n bits))) [
@@ -172,20 +172,20 @@ k_lt w id is h = elim is [
   ]
 ]
 
-pub values_reader : (w n id : ℕ) → IsWidth w → id ≤ (row w).raw_id → IsReader (ValuesCodes w n id) (values_at w n id)
-values_reader w n id is low = elim (cases_eq id 0) [
+pub values_reader : NumberLaws → (w n id : ℕ) → IsWidth w → id ≤ (row w).raw_id → IsReader (ValuesCodes w n id) (values_at w n id)
+values_reader laws w n id is low = elim (cases_eq id 0) [
   | inl e ↦ same_read (ValuesCodes w n id) (λ bits. Ok (replicate n 0, bits)) (values_at w n id) (λ bits. sym (values_at-zero w n id bits e)) (zeros_reader w n id e)
   | inr some ↦ elim (cases_eq id (row w).raw_id) [
     | inl e ↦ same_read (ValuesCodes w n id) (many_at (number_at w) n) (values_at w n id) (λ bits. sym (values_at-raw w n id bits some e))
         (same_reader (ManyCodes (IsValue w) (number_bits w) n) (ValuesCodes w n id) (many_at (number_at w) n)
         (λ vs code c. record { len = c.0; values = c.1; holds = λ z. absurd (some z); is = c.2 ∙ sym (values_bits-raw w id vs some e) })
         (λ vs code c. (c.len, c.values, c.is ∙ values_bits-raw w id vs some e))
-        (many_reader (IsValue w) (number_bits w) (number_at w) (number_reader w) n))
+        (many_reader (IsValue w) (number_bits w) (number_at w) (number_reader laws w) n))
     | inr other ↦ same_read (ValuesCodes w n id) (many_at (split_at w (id - 1)) n) (values_at w n id) (λ bits. sym (values_at-split w n id bits some other))
         (same_reader (ManyCodes (IsValue w) (split_bits (id - 1)) n) (ValuesCodes w n id) (many_at (split_at w (id - 1)) n)
         (λ vs code c. record { len = c.0; values = c.1; holds = λ z. absurd (some z); is = c.2 ∙ sym (values_bits-split w id vs some other) })
         (λ vs code c. (c.len, c.values, c.is ∙ values_bits-split w id vs some other))
-        (many_reader (IsValue w) (split_bits (id - 1)) (split_at w (id - 1)) (split_reader w (id - 1) (omega (arith, k_lt w id is (omega arith)))) n))
+        (many_reader (IsValue w) (split_bits (id - 1)) (split_at w (id - 1)) (split_reader laws w (id - 1) (omega (arith, k_lt w id is (omega arith)))) n))
   ]
 ]
 
@@ -215,10 +215,10 @@ id_len_le w is = elim is [
   ]
 ]
 
-pub block_reader : (w n : ℕ) → IsWidth w → IsReader (BlockCodes w n) (block_at w n)
-block_reader w n is =
+pub block_reader : NumberLaws → (w n : ℕ) → IsWidth w → IsReader (BlockCodes w n) (block_at w n)
+block_reader laws w n is =
     let Ids = IdCodes (row w).id_len (row w).raw_id in
     same_reader (SeqCodes Ids (ValuesCodes w n)) (BlockCodes w n) (block_at w n)
     (λ vs code c. record { len = c.4.len; values = c.4.values; id = c.0; holds = (c.3.0, c.4.holds); is = c.5 ∙ ap (λ front. front ++ c.2) c.3.1 ∙ ap (λ back. number_bits (row w).id_len c.0 ++ back) c.4.is })
     (λ vs code c. (c.id, number_bits (row w).id_len c.id, values_bits w c.id vs, (c.holds.0, refl), record { len = c.len; values = c.values; holds = c.holds.1; is = refl }, c.is))
-    (seq_reader Ids (ValuesCodes w n) (id_at (row w).id_len (row w).raw_id) (values_at w n) (id_reader (row w).id_len (row w).raw_id (raw_fits w is)) (λ id code c. values_reader w n id is c.0))
+    (seq_reader Ids (ValuesCodes w n) (id_at (row w).id_len (row w).raw_id) (values_at w n) (id_reader laws (row w).id_len (row w).raw_id (raw_fits w is)) (λ id code c. values_reader laws w n id is c.0))

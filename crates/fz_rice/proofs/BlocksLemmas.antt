@@ -2,6 +2,7 @@
 use Rattle.std.proofs.Common.{◌≡◌, ℕ, zero, suc, ◌+◌, ◌-◌, ◌<◌, ◌≤◌, min, Bool, ℤ, List, [], ◌∷◌, ◌++◌, length, take, drop, get_or, Ok, Err, refl, sym, subst, ap, ◌∙◌, arith, append_assoc, length-drop}
 use Rattle.std.specs.List.{flat_map}
 use Rattle.std.proofs.lemmas.List.{append-nil, take_min, drop_all, drop-drop, get_or-drop, drop_min}
+use Rattle.fz_bits.specs.Writer.{written, room}
 use Rattle.fz_bits.specs.declared.writer.BitWriter.{BitWriter}
 use Rattle.fz_bits.specs.declared.writer.Full.{Full}
 use Rattle.fz_rice.specs.Numbers.{residue}
@@ -46,8 +47,8 @@ pub record BlocksWritten (w block : ℕ) (xs : List ℤ) (whole : List Bool) (at
   pub written : Writes {A = Unit {0}} (Ok tt) front old new
   pub is : whole ≡ front ++ flat_map (chosen_block w) (pieces block (differences w last (drop at xs)))
 
-pub blocks_begin : (w block start : ℕ) (xs : List ℤ) (old : BitWriter) → BlocksWritten w block xs (flat_map (chosen_block w) (pieces block (differences w start xs))) 0 start old old
-blocks_begin w block start xs old = record { front = []; written = writes_nothing old; is = refl }
+pub blocks_begin : (w block start : ℕ) (xs : List ℤ) (old : BitWriter) → length (written old) ≤ room old → BlocksWritten w block xs (flat_map (chosen_block w) (pieces block (differences w start xs))) 0 start old old
+blocks_begin w block start xs old fits = record { front = []; written = writes_nothing old fits; is = refl }
 
 next_block : (w block last : ℕ) (xs : List ℤ) → 0 < block → 0 < length xs → flat_map (chosen_block w) (pieces block (differences w last xs)) ≡ chosen_block w (differences w last (take block xs)) ++ flat_map (chosen_block w) (pieces block (differences w (last_residue w last (take block xs)) (drop block xs)))
 next_block w block last xs some h =

@@ -5,6 +5,7 @@ use Rattle.std.proofs.lemmas.Bool.{cases_lt}
 use Rattle.std.proofs.lemmas.List.{append-nil, take-append-drop, take_at, drop_at, take_all, drop_all}
 use Rattle.std.proofs.lemmas.List.Elements.{All-from_recursion, recursion_from_All}
 use Rattle.fz_bits.specs.Bits.{number_bits}
+use Rattle.fz_bits.specs.Laws.{NumberLaws}
 use Rattle.fz_rice.specs.Reading.{reading_map, number_at, block_at, blocks_at, numbers_from, code_at}
 use Rattle.fz_rice.specs.Numbers.{IsWidth, IsNumber}
 use Rattle.fz_rice.specs.Code.{differences, pieces, pieces_of, block_bits, AreBlocks, IsRiceCode}
@@ -80,11 +81,11 @@ no_blocks w block fuel =
       unlawful = λ bits tail e. cc;
     }
 
-pub blocks_reader : (w block fuel n : ℕ) → IsWidth w → 0 < block → n ≤ fuel → IsReader (BlocksCodes w block fuel n) (blocks_at w block fuel n)
+pub blocks_reader : NumberLaws → (w block fuel n : ℕ) → IsWidth w → 0 < block → n ≤ fuel → IsReader (BlocksCodes w block fuel n) (blocks_at w block fuel n)
 unfolding blocks_at
-blocks_reader w block fuel zero is some enough = no_blocks w block fuel
-blocks_reader w block zero (suc n) is some enough = absurd (omega arith)
-blocks_reader w block (suc fuel) (suc n) is some enough =
+blocks_reader laws w block fuel zero is some enough = no_blocks w block fuel
+blocks_reader laws w block zero (suc n) is some enough = absurd (omega arith)
+blocks_reader laws w block (suc fuel) (suc n) is some enough =
     let size = min block (suc n) in
     let Next : List ℕ → List ℕ → List Bool → Type 0 = λ vs. MapCodes (λ more. vs ++ more) (BlocksCodes w block fuel (suc n - block)) in
     same_reader (SeqCodes (BlockCodes w size) Next) (BlocksCodes w block (suc fuel) (suc n)) (blocks_at w block (suc fuel) (suc n))
@@ -103,13 +104,13 @@ blocks_reader w block (suc fuel) (suc n) is some enough =
     let one : BlockCodes w size (take block vs) (block_bits w blocks.0 (take block vs)) = record { len = length-take block vs ∙ ap (min block) c.len; values = all-take (IsValue w) block vs c.values; id = blocks.0; holds = blocks.2; is = refl } in
     let rest : BlocksCodes w block fuel (suc n - block) (drop block vs) blocks.1 = record { len = length-drop block vs ∙ ap (λ k. k - block) c.len; values = all-drop (IsValue w) block vs c.values; is = blocks.3 } in
     (take block vs, block_bits w blocks.0 (take block vs), blocks.1, one, (drop block vs, rest, take-append-drop block vs), blocks.4))
-    (seq_reader (BlockCodes w size) Next (block_at w size) (λ vs rest. reading_map (λ more. vs ++ more) (blocks_at w block fuel (suc n - block) rest)) (block_reader w size is) (λ vs code c. map_reader (λ more. vs ++ more) (BlocksCodes w block fuel (suc n - block)) (blocks_at w block fuel (suc n - block)) (blocks_reader w block fuel (suc n - block) is some (omega arith))))
+    (seq_reader (BlockCodes w size) Next (block_at w size) (λ vs rest. reading_map (λ more. vs ++ more) (blocks_at w block fuel (suc n - block) rest)) (block_reader laws w size is) (λ vs code c. map_reader (λ more. vs ++ more) (BlocksCodes w block fuel (suc n - block)) (blocks_at w block fuel (suc n - block)) (blocks_reader laws w block fuel (suc n - block) is some (omega arith))))
 
 abbrev pub RiceCodes : ℕ → ℕ → ℕ → List ℤ → List Bool → Type 0
 RiceCodes w block n xs code = (length xs ≡ n) × IsRiceCode w block xs code
 
-pub code_reader : (w block n : ℕ) → IsWidth w → 0 < block → IsReader (RiceCodes w block n) (code_at w block n)
-code_reader w block n is some =
+pub code_reader : NumberLaws → (w block n : ℕ) → IsWidth w → 0 < block → IsReader (RiceCodes w block n) (code_at w block n)
+code_reader laws w block n is some =
     let Next : ℕ → List ℤ → List Bool → Type 0 = λ start. MapCodes (numbers_from w start) (BlocksCodes w block n n) in
     same_reader (SeqCodes (NumberCodes w) Next) (RiceCodes w block n) (code_at w block n)
     (λ xs code c.
@@ -138,4 +139,4 @@ code_reader w block n is some =
     let cut : pieces block vs ≡ pieces_of n block vs = ap (λ k. pieces_of k block vs) len in
     let blocks : BlocksCodes w block n n vs rice.blocks = record { len = len; values = values-differences w start xs is; is = subst (λ (x : List (List ℕ)). AreBlocks w x rice.blocks) cut rice.are_blocks } in
     (start, number_bits w start, rice.blocks, (rice.start_fits, refl), (vs, blocks, numbers_from-differences w start xs is rice.start_fits (recursion_from_All (IsNumber w) xs rice.numbers)), rice.is))
-    (seq_reader (NumberCodes w) Next (number_at w) (λ start rest. reading_map (numbers_from w start) (blocks_at w block n n rest)) (number_reader w) (λ start code c. map_reader (numbers_from w start) (BlocksCodes w block n n) (blocks_at w block n n) (blocks_reader w block n n is some (omega arith))))
+    (seq_reader (NumberCodes w) Next (number_at w) (λ start rest. reading_map (numbers_from w start) (blocks_at w block n n rest)) (number_reader laws w) (λ start code c. map_reader (numbers_from w start) (BlocksCodes w block n n) (blocks_at w block n n) (blocks_reader laws w block n n is some (omega arith))))

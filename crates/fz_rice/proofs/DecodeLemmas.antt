@@ -1,6 +1,7 @@
 -- What a reading of the whole code says of the bits.
 use Rattle.std.proofs.Common.{◌≡◌, ℕ, ◌+◌, ◌-◌, ◌/◌, ◌<◌, Bool, ℤ, List, length, Ok, Err, ◌↔◌, IsOk, IsErrOf, refl, sym, ap, ◌∙◌, arith, length-append}
 use Rattle.std.specs.Int.{div_ceil}
+use Rattle.fz_bits.specs.Laws.{NumberLaws}
 use Rattle.fz_rice.specs.Numbers.{IsWidth}
 use Rattle.fz_rice.specs.Prefix.{BeginsWith, BeginsWithCode, IsBeginning}
 use Rattle.fz_rice.specs.Reading.{and_then, reading_map, number_at, blocks_at, numbers_from, code_at, GivesNumbers}
@@ -9,10 +10,10 @@ use Rattle.fz_rice.specs.declared.coder.CodeFault.TheVariants.{Ended, Unlawful}
 use Rattle.fz_rice.proofs.Readers.{beginning_ends}
 use Rattle.fz_rice.proofs.CodeReaders.{RiceCodes, code_reader}
 
-module _ (w block n : ℕ) (is : IsWidth w) (some : 0 < block) (bits : List Bool) where
+module _ (laws : NumberLaws) (w block n : ℕ) (is : IsWidth w) (some : 0 < block) (bits : List Bool) where
   pub begins : (xs : List ℤ) (rest : List Bool) (bytes : ℕ) → code_at w block n bits ≡ Ok (xs, rest) → bytes ≡ (length bits - length rest + 7) / 8 → BeginsWith w block xs bytes bits
   begins xs rest bytes read size =
-      let front = (code_reader w block n is some).sound bits xs rest read in
+      let front = (code_reader laws w block n is some).sound bits xs rest read in
       let len = ap length front.2 ∙ length-append front.0 rest in
       record {
         code = front.0;
@@ -23,22 +24,22 @@ module _ (w block n : ℕ) (is : IsWidth w) (some : 0 < block) (bits : List Bool
       }
 
   pub begins_len : (xs : List ℤ) (rest : List Bool) → code_at w block n bits ≡ Ok (xs, rest) → length xs ≡ n
-  begins_len xs rest read = ((code_reader w block n is some).sound bits xs rest read).1.0
+  begins_len xs rest read = ((code_reader laws w block n is some).sound bits xs rest read).1.0
 
   pub begins_reads : BeginsWithCode w block n bits → (xs : List ℤ) × (rest : List Bool) × (code_at w block n bits ≡ Ok (xs, rest))
   begins_reads b =
       let whole = b.3 in
-      (b.0, whole.rest, ap (code_at w block n) whole.is ∙ (code_reader w block n is some).complete b.0 whole.code whole.rest (b.2, whole.is_code))
+      (b.0, whole.rest, ap (code_at w block n) whole.is ∙ (code_reader laws w block n is some).complete b.0 whole.code whole.rest (b.2, whole.is_code))
 
   pub beginning_reads : IsBeginning w block n bits → code_at w block n bits ≡ Err Ended
-  beginning_reads b = beginning_ends (RiceCodes w block n) (code_at w block n) (code_reader w block n is some) bits b.0 b.1 b.3 (b.2, b.4)
+  beginning_reads b = beginning_ends (RiceCodes w block n) (code_at w block n) (code_reader laws w block n is some) bits b.0 b.1 b.3 (b.2, b.4)
 
   pub ended_begins : code_at w block n bits ≡ Err Ended → IsBeginning w block n bits
   ended_begins read =
-      let front = (code_reader w block n is some).ended bits read in
+      let front = (code_reader laws w block n is some).ended bits read in
       (front.0, front.1, front.3.0, front.2, front.3.1)
 
-  -- where a fault was met
+  -- if a fault was met
   pub fault_ok : (e : CodeFault) → code_at w block n bits ≡ Err e → BeginsWithCode w block n bits → ⊥
   fault_ok e read b = let whole = begins_reads b in cc
 

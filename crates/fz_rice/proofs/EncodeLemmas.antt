@@ -3,10 +3,10 @@ use Rattle.std.proofs.Common.{◌≡◌, ℕ, ◌+◌, ◌*◌, ◌/◌, ◌%◌
 use mir.Val.{Fits}
 use Rattle.std.specs.Int.{w8}
 use Rattle.std.proofs.lemmas.List.{length-replicate}
+use Rattle.std.proofs.lemmas.List.Elements.{All-from_get_or, All-take}
 use Rattle.std.specs.List.{flat_map}
 use Rattle.fz_bits.specs.Bits.{fill_len, filled, number_bits, bits_of, bytes_of}
-use Rattle.fz_bits.proofs.BitsLemmas.{length-number_bits}
-use Rattle.fz_bits.proofs.BytesLemmas.{length-bytes_of, bytes_of-bits_of, bits_of-bytes_of, bytes-take}
+use Rattle.fz_bits.specs.Laws.{NumberLaws, HasWholeBytes, GivesBitsAgain, GivesBytesAgain}
 use Rattle.fz_bits.specs.Writer.{written, buffer}
 use Rattle.fz_bits.specs.declared.writer.BitWriter.{BitWriter}
 use Rattle.fz_bits.specs.declared.writer.Full.{Full}
@@ -15,7 +15,6 @@ use Rattle.fz_rice.specs.Code.{differences, pieces}
 use Rattle.fz_rice.specs.Producer.{first_residue, chosen_block, rice_bits, rice_code, rice_bytes}
 use Rattle.fz_rice.specs.Writing.{Writes}
 
--- whole bytes hold bits where they hold them filled to whole bytes
 length-filled : (bits : List Bool) → length (filled bits) ≡ length bits + fill_len (length bits)
 length-filled bits =
     length-append bits (replicate (fill_len (length bits)) false) ∙ ap (λ k. length bits + k) (length-replicate (fill_len (length bits)) false)
@@ -28,21 +27,22 @@ first_is w (x ∷ xs) d h = refl
 whole_code : (bits : List Bool) → length (filled bits) % 8 ≡ 0
 whole_code bits = omega (arith, length-filled bits)
 
-pub full_is : {A : Type 0} (r : Result A Full) (bits : List Bool) (out : List ℕ) (old new : BitWriter) → buffer old ≡ out → written old ≡ [] → Writes r bits old new → IsErr r ↔ (length out < length (bytes_of (filled bits)))
-full_is r bits out old new lent empty one =
+pub full_is : HasWholeBytes → {A : Type 0} (r : Result A Full) (bits : List Bool) (out : List ℕ) (old new : BitWriter) → buffer old ≡ out → written old ≡ [] → Writes r bits old new → IsErr r ↔ (length out < length (bytes_of (filled bits)))
+full_is whole r bits out old new lent empty one =
     let size = ap length empty in
     let room = ap length lent in
     let len = length-filled bits in
-    let bytes = length-bytes_of (filled bits) in
+    let bytes = whole (filled bits) in
     (λ e. let h = one.full.0 e in omega (arith, h), λ h. one.full.1 (omega (arith, h)))
 
 -- written bytes that have the bits of a code are its bytes
-pub code_is : (out : List ℕ) (len : ℕ) (bits : List Bool) → ((i : ℕ) → Fits w8 (get_or out i 0)) → bits_of (take len out) ≡ filled bits → take len out ≡ bytes_of (filled bits)
-code_is out len bits small is = sym (bytes_of-bits_of (take len out) (bytes-take len out (λ i. omega (arith, small i)))) ∙ ap bytes_of is
+pub code_is : GivesBytesAgain → (out : List ℕ) (len : ℕ) (bits : List Bool) → ((i : ℕ) → Fits w8 (get_or out i 0)) → bits_of (take len out) ≡ filled bits → take len out ≡ bytes_of (filled bits)
+code_is again out len bits small is =
+    sym (again (take len out) (All-take (λ b. b < 256) len out (All-from_get_or (λ b. b < 256) out 0 (λ i within. omega (arith, small i))))) ∙ ap bytes_of is
 
 -- the bytes of a code
-pub code_bits : (w block : ℕ) (xs : List ℤ) → bits_of (rice_bytes w block xs) ≡ rice_code w block xs
-code_bits w block xs = bits_of-bytes_of (rice_code w block xs) (whole_code (rice_bits w block xs))
+pub code_bits : GivesBitsAgain → (w block : ℕ) (xs : List ℤ) → bits_of (rice_bytes w block xs) ≡ rice_code w block xs
+code_bits again w block xs = again (rice_code w block xs) (whole_code (rice_bits w block xs))
 
 width_some : (w : ℕ) → IsWidth w → 8 ≤ w
 width_some w is = elim is [
@@ -51,9 +51,9 @@ width_some w is = elim is [
 ]
 
 -- the code has at least the bits of its start value
-pub code_some : (w block : ℕ) (xs : List ℤ) → IsWidth w → 1 ≤ length (rice_bytes w block xs)
-code_some w block xs is =
+pub code_some : NumberLaws → HasWholeBytes → (w block : ℕ) (xs : List ℤ) → IsWidth w → 1 ≤ length (rice_bytes w block xs)
+code_some numbers whole w block xs is =
     let blocks = flat_map (chosen_block w) (pieces block (differences w (first_residue w xs) xs)) in
     let front = length-append (number_bits w (first_residue w xs)) blocks in
-    let size = length-number_bits w (first_residue w xs) in
-    omega (arith, length-bytes_of (rice_code w block xs), length-filled (rice_bits w block xs), front, size, width_some w is)
+    let size = numbers.many w (first_residue w xs) in
+    omega (arith, whole (rice_code w block xs), length-filled (rice_bits w block xs), front, size, width_some w is)

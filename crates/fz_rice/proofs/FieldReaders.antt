@@ -5,8 +5,7 @@ use Rattle.std.proofs.lemmas.Nat.{pow_pos}
 use Rattle.std.proofs.lemmas.List.{length-take-le, length-replicate, take-append-drop, take_at, drop_at}
 use Rattle.std.proofs.lemmas.Bool.Decides.{nat_tests}
 use Rattle.fz_bits.specs.Bits.{number_bits, bits_value}
-use Rattle.fz_bits.proofs.BitsLemmas.{length-number_bits}
-use Rattle.fz_bits.proofs.BytesLemmas.{bits_value-lt, number_bits-bits_value, bits_value-number_bits}
+use Rattle.fz_bits.specs.Laws.{NumberLaws}
 use Rattle.fz_rice.specs.Reading.{reading_map, number_at, zeros_at}
 use Rattle.fz_rice.specs.declared.coder.CodeFault.TheVariants.{Ended, Unlawful}
 use Rattle.fz_rice.proofs.Readers.{reading_map-ok, reading_map-err, IsReader, ok_parts}
@@ -27,29 +26,29 @@ number_at-long m bits h = rw (lt-false (length bits) m h) refl
 pub number_at-short : (m : ℕ) (bits : List Bool) → length bits < m → number_at m bits ≡ Err Ended
 number_at-short m bits h = rw (lt-true (length bits) m h) refl
 
-pub number_at-number : (m v : ℕ) (rest : List Bool) → v < 2 ^ m → number_at m (number_bits m v ++ rest) ≡ Ok (v, rest)
-number_at-number m v rest h =
-    let len = length-number_bits m v in
-    number_at-long m (number_bits m v ++ rest) (omega (arith, length-append (number_bits m v) rest, len)) ∙ ap (λ p. Ok p) (λ i. ((ap bits_value (take_at (number_bits m v) rest m len) ∙ bits_value-number_bits m v h) i, drop_at (number_bits m v) rest m len i))
+pub number_at-number : NumberLaws → (m v : ℕ) (rest : List Bool) → v < 2 ^ m → number_at m (number_bits m v ++ rest) ≡ Ok (v, rest)
+number_at-number laws m v rest h =
+    let len = laws.many m v in
+    number_at-long m (number_bits m v ++ rest) (omega (arith, length-append (number_bits m v) rest, len)) ∙ ap (λ p. Ok p) (λ i. ((ap bits_value (take_at (number_bits m v) rest m len) ∙ laws.value m v h) i, drop_at (number_bits m v) rest m len i))
 
-pub number_reader : (m : ℕ) → IsReader (NumberCodes m) (number_at m)
-number_reader m = record {
+pub number_reader : NumberLaws → (m : ℕ) → IsReader (NumberCodes m) (number_at m)
+number_reader laws m = record {
   some = 0;
   some_code = number_bits m 0;
   is_some = (pow_pos m, refl);
-  complete = λ v code rest is. ap (λ bits. number_at m (bits ++ rest)) is.1 ∙ number_at-number m v rest is.0;
+  complete = λ v code rest is. ap (λ bits. number_at m (bits ++ rest)) is.1 ∙ number_at-number laws m v rest is.0;
   sound = λ bits v rest e. elim (cases_lt (length bits) m) [
     | inl h ↦ let short = number_at-short m bits h in cc
     | inr h ↦
         let parts = ok_parts (bits_value (take m bits)) v (drop m bits) rest (sym (number_at-long m bits h) ∙ e) in
         let len = length-take-le m bits h in
-        (take m bits, (subst (λ (k : ℕ). k < 2 ^ m) parts.0 (subst (λ (k : ℕ). bits_value (take m bits) < 2 ^ k) len (bits_value-lt (take m bits))), sym (ap (number_bits m) (sym parts.0) ∙ ap (λ k. number_bits k (bits_value (take m bits))) (sym len) ∙ number_bits-bits_value (take m bits))), sym (take-append-drop m bits) ∙ ap (λ x. take m bits ++ x) parts.1)
+        (take m bits, (subst (λ (k : ℕ). k < 2 ^ m) parts.0 (subst (λ (k : ℕ). bits_value (take m bits) < 2 ^ k) len (laws.below (take m bits))), sym (ap (number_bits m) (sym parts.0) ∙ ap (λ k. number_bits k (bits_value (take m bits))) (sym len) ∙ laws.bits (take m bits))), sym (take-append-drop m bits) ∙ ap (λ x. take m bits ++ x) parts.1)
   ];
   ended = λ bits e. elim (cases_lt (length bits) m) [
     | inl h ↦
         let tail = replicate (m - length bits) false in
         let len : length (bits ++ tail) ≡ m = length-append bits tail ∙ omega (arith, length-replicate (m - length bits) false) in
-        (bits_value (bits ++ tail), tail, λ none. absurd (omega (arith, ap length none, length-replicate (m - length bits) false)), (subst (λ (k : ℕ). bits_value (bits ++ tail) < 2 ^ k) len (bits_value-lt (bits ++ tail)), sym (ap (λ k. number_bits k (bits_value (bits ++ tail))) (sym len) ∙ number_bits-bits_value (bits ++ tail))))
+        (bits_value (bits ++ tail), tail, λ none. absurd (omega (arith, ap length none, length-replicate (m - length bits) false)), (subst (λ (k : ℕ). bits_value (bits ++ tail) < 2 ^ k) len (laws.below (bits ++ tail)), sym (ap (λ k. number_bits k (bits_value (bits ++ tail))) (sym len) ∙ laws.bits (bits ++ tail))))
     | inr h ↦ let long = number_at-long m bits h in cc
   ];
   unlawful = λ bits tail e. elim (cases_lt (length bits) m) [

@@ -6,6 +6,7 @@ use Rattle.std.proofs.lemmas.Nat.{pow_pos, mod_below, or_shifted, one_shl}
 use Rattle.std.proofs.Math.Nat.{pow-suc, pow-le-pow_right}
 use Rattle.std.proofs.Math.Seq.{take-add}
 use Rattle.fz_bits.specs.Bits.{number_bits}
+use Rattle.fz_bits.specs.Laws.{NumberLaws}
 use Rattle.fz_bits.specs.declared.writer.BitWriter.{BitWriter}
 use Rattle.fz_bits.specs.declared.writer.Full.{Full}
 use Rattle.fz_rice.specs.Writing.{Writes, IsField}
@@ -24,7 +25,7 @@ value_write {A} {B} a f vs i d r old mid new within half one =
     let all : flat_map f (take i vs) ++ f v ≡ flat_map f (take (i + 1) vs) = sym (ap (flat_map f) (take_more vs i d within) ∙ flat_map-append f (take i vs) (v ∷ []) ∙ ap (λ l. flat_map f (take i vs) ++ l) (append-nil (f v))) in
     subst (λ (x : List Bool). Writes {A = B} r x old new) all (writes_seq a r (flat_map f (take i vs)) (f v) old mid new half one)
 
--- there is no room for all where there is none for the first
+-- there is no room for all if there is none for the first
 pub values_stop : {A B : Type 0} (e e' : Full) (f : ℕ → List Bool) (vs : List ℕ) (i : ℕ) (old new : BitWriter) → Writes {A = A} (Err e) (flat_map f (take i vs)) old new → Writes {A = B} (Err e') (flat_map f vs) old new
 values_stop {A} {B} e e' f vs i old new stop =
     let all : flat_map f (take i vs) ++ flat_map f (drop i vs) ≡ flat_map f vs = sym (flat_map-append f (take i vs) (drop i vs)) ∙ ap (flat_map f) (take-append-drop i vs) in
@@ -43,8 +44,8 @@ pub four_values : (f : ℕ → List Bool) (vs : List ℕ) (d : ℕ) (p q r s : L
 four_values f vs d p q r s len ep eq er es = rw (ep, eq, er, es) (four_bits_of f vs d len)
 
 -- the low bits of a value after a one, as far as its zeros have room
-pub field_is : (k v q : ℕ) → k < 32 → q ≡ min (v / 2 ^ k) 64 → IsField k v (bit_or (1 * 2 ^ k % 2 ^ 32) (bit_and v (1 * 2 ^ k % 2 ^ 32 - 1))) (q + (k + 1))
-field_is k v q h cut =
+pub field_is : NumberLaws → (k v q : ℕ) → k < 32 → q ≡ min (v / 2 ^ k) 64 → IsField k v (bit_or (1 * 2 ^ k % 2 ^ 32) (bit_and v (1 * 2 ^ k % 2 ^ 32 - 1))) (q + (k + 1))
+field_is laws k v q h cut =
     let pos = pow_pos k in
     let rest = mod_below v (2 ^ k) pos in
     let twice : 2 ^ suc k ≡ 2 ^ k * 2 = pow-suc 2 k in
@@ -56,5 +57,5 @@ field_is k v q h cut =
       is = λ less.
           let same : v / 2 ^ k ≡ q = omega (arith, less, cut) in
           let size : q + (k + 1) ≡ v / 2 ^ k + 1 + k = omega (arith, same) in
-          ap (number_bits (q + (k + 1))) bits ∙ ap (λ n. number_bits n (2 ^ k + v % 2 ^ k)) size ∙ one_field k (v / 2 ^ k) v refl;
+          ap (number_bits (q + (k + 1))) bits ∙ ap (λ n. number_bits n (2 ^ k + v % 2 ^ k)) size ∙ one_field laws k (v / 2 ^ k) v refl;
     }

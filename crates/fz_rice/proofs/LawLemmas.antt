@@ -6,6 +6,7 @@ use Rattle.std.proofs.lemmas.List.{length-replicate}
 use Rattle.std.proofs.lemmas.List.Sums.{sum_by-cons}
 use Rattle.std.proofs.lemmas.Nat.{pow_pos}
 use Rattle.fz_bits.specs.Bits.{fill_len}
+use Rattle.fz_bits.specs.Laws.{NumberLaws}
 use Rattle.fz_rice.specs.Numbers.{IsWidth, IsNumber}
 use Rattle.fz_rice.specs.Code.{row, differences, pieces, CanHold, AreBlocks, IsRiceCode}
 use Rattle.fz_rice.specs.Producer.{chosen_id, chosen_block, first_residue, rice_bits, rice_code}
@@ -16,9 +17,9 @@ use Rattle.fz_rice.proofs.CodeReaders.{RiceCodes, code_reader}
 use Rattle.fz_rice.proofs.NumbersLemmas.{residue_lt}
 use Rattle.fz_rice.proofs.ProducerLemmas.{chosen_id-some, chosen_id_le}
 
-pub one_code_is : (w block : ℕ) (xs ys : List ℤ) (code rest : List Bool) → IsWidth w → 1 ≤ block → length xs ≡ length ys → IsRiceCode w block xs code → IsRiceCode w block ys (code ++ rest) → (xs ≡ ys) × (rest ≡ [])
-one_code_is w block xs ys code rest is some same x y =
-    one_code (RiceCodes w block (length ys)) (code_at w block (length ys)) (code_reader w block (length ys) is (omega arith)) xs ys code rest (same, x) (refl, y)
+pub one_code_is : NumberLaws → (w block : ℕ) (xs ys : List ℤ) (code rest : List Bool) → IsWidth w → 1 ≤ block → length xs ≡ length ys → IsRiceCode w block xs code → IsRiceCode w block ys (code ++ rest) → (xs ≡ ys) × (rest ≡ [])
+one_code_is laws w block xs ys code rest is some same x y =
+    one_code (RiceCodes w block (length ys)) (code_at w block (length ys)) (code_reader laws w block (length ys) is (omega arith)) xs ys code rest (same, x) (refl, y)
 
 sum-zero : (vs : List ℕ) → sum vs ≡ 0 → vs ≡ replicate (length vs) 0
 sum-zero [] none = refl
@@ -66,9 +67,9 @@ producer_is w block xs is all = record {
   is = refl;
 }
 
-pub round_trip_is : (w block : ℕ) (xs ys : List ℤ) (rest : List Bool) (bytes : ℕ) → IsWidth w → 1 ≤ block → All (IsNumber w) xs → length ys ≡ length xs → BeginsWith w block ys bytes (rice_code w block xs ++ rest) → (ys ≡ xs) × (bytes ≡ length (rice_code w block xs) / 8)
-round_trip_is w block xs ys rest bytes is some all same b =
-    let reader = code_reader w block (length xs) is (omega arith) in
+pub round_trip_is : NumberLaws → (w block : ℕ) (xs ys : List ℤ) (rest : List Bool) (bytes : ℕ) → IsWidth w → 1 ≤ block → All (IsNumber w) xs → length ys ≡ length xs → BeginsWith w block ys bytes (rice_code w block xs ++ rest) → (ys ≡ xs) × (bytes ≡ length (rice_code w block xs) / 8)
+round_trip_is laws w block xs ys rest bytes is some all same b =
+    let reader = code_reader laws w block (length xs) is (omega arith) in
     let bits = rice_bits w block xs in
     let fill = replicate (fill_len (length bits)) false in
     let mine : code_at w block (length xs) (rice_code w block xs ++ rest) ≡ Ok (xs, fill ++ rest) = ap (code_at w block (length xs)) (append_assoc bits fill rest) ∙ reader.complete xs bits (fill ++ rest) (refl, producer_is w block xs is all) in

@@ -1,3 +1,4 @@
+pub mod NumberBits
 pub mod Readers
 pub mod FieldReaders
 pub mod ValueReaders

@@ -8,9 +8,10 @@ use Rattle.std.proofs.lemmas.List.{take-append-drop, take-take, drop-take, drop-
 use Rattle.std.proofs.Math.Seq.{drop-append_seam}
 use Rattle.std.proofs.Math.Nat.{mul_assoc, mod-eq_of_lt, pow-le-pow_right}
 use Rattle.fz_bits.specs.Bits.{number_bits}
-use Rattle.fz_bits.proofs.BitsLemmas.{length-number_bits, number_bits-append, number_bits-mod, number_bits-front, number_bits-lead}
+use Rattle.fz_bits.specs.Laws.{NumberLaws}
 use Rattle.fz_rice.specs.Numbers.{IsWidth}
 use Rattle.fz_rice.specs.Reading.{Reading, many_at, split_at, most_zeros, number, next_residue, numbers_from, last_of, IsPiece, ReadsFour, ReadsTwo}
+use Rattle.fz_rice.proofs.NumberBits.{number_bits-front, number_bits-lead}
 use Rattle.fz_rice.proofs.MachineLemmas.{width_le, mod_turns}
 use Rattle.fz_rice.proofs.LeafLemmas.{zeros_read, number_read, split_read}
 use Rattle.fz_rice.proofs.ValueReaders.{value_lt}
@@ -43,10 +44,10 @@ low_part t q z k =
     and_mask (t * 2 ^ (z + (k + 1)) + q) k ∙ ap (λ x. (x + q) % 2 ^ k) (ap (λ j. t * 2 ^ j) e ∙ regrouped t (z + 1) k) ∙ mod_turns k (t * 2 ^ (z + 1)) q
 
 -- the last bits of a number
-bits_behind : (m n v : ℕ) → drop m (number_bits (m + n) v) ≡ number_bits n v
-bits_behind m n v =
+bits_behind : NumberLaws → (m n v : ℕ) → drop m (number_bits (m + n) v) ≡ number_bits n v
+bits_behind laws m n v =
     let high = number_bits m (v / 2 ^ n) in
-    ap (drop m) (number_bits-append m n v) ∙ ap (λ k. drop k (high ++ number_bits n v)) (sym (length-number_bits m (v / 2 ^ n))) ∙ drop-append_seam high (number_bits n v)
+    ap (drop m) (laws.joined m n v) ∙ ap (λ k. drop k (high ++ number_bits n v)) (sym (laws.many m (v / 2 ^ n))) ∙ drop-append_seam high (number_bits n v)
 
 some_ones : (v : ℕ) → count_leading_zeros 64 v < 64 → 0 < v
 some_ones v near =
@@ -58,8 +59,8 @@ some_ones v near =
 mod_small : (a n : ℕ) → a < n → a % n ≡ a
 mod_small a n h = mod-eq_of_lt h
 
-pub piece_is : (k tail word one turned mask : ℕ) → tail ≡ k + 1 → one ≡ 2 ^ k → word < 2 ^ 64 → turned ≡ rotate_left w64 word ((count_leading_zeros 64 word + tail) % 64) → mask ≡ one - 1 → count_leading_zeros 64 word + tail < 64 → IsPiece k word ((count_leading_zeros 64 word * one % 4294967296 + bit_and turned mask) % 4294967296) (count_leading_zeros 64 word + tail) turned
-piece_is k tail word one turned mask tail_is one_is fits turned_by mask_is near =
+pub piece_is : NumberLaws → (k tail word one turned mask : ℕ) → tail ≡ k + 1 → one ≡ 2 ^ k → word < 2 ^ 64 → turned ≡ rotate_left w64 word ((count_leading_zeros 64 word + tail) % 64) → mask ≡ one - 1 → count_leading_zeros 64 word + tail < 64 → IsPiece k word ((count_leading_zeros 64 word * one % 4294967296 + bit_and turned mask) % 4294967296) (count_leading_zeros 64 word + tail) turned
+piece_is laws k tail word one turned mask tail_is one_is fits turned_by mask_is near =
     let z = count_leading_zeros 64 word in
     let width = z + tail in
     let n = 64 - width in
@@ -78,8 +79,8 @@ piece_is k tail word one turned mask tail_is one_is fits turned_by mask_is near 
     let whole : width + n ≡ 64 = omega arith in
     let narrow : q < 2 ^ width = omega (arith, most, pow-le-pow_right (let p : 0 < 2 = omega arith in p) (let e : suc k ≤ width = omega (arith, tail_is) in e)) in
     let flipped : n + width ≡ 64 = omega arith in
-    let front_word : take n (number_bits 64 turned) ≡ number_bits n t = ap (λ x. take n (number_bits 64 x)) turned_to ∙ ap (λ i. take n (number_bits i (t * 2 ^ width + q))) (sym flipped) ∙ sym (number_bits-front n width (t * 2 ^ width + q)) ∙ ap (number_bits n) (shr_high t width q narrow) in
-    let behind_word : drop width (number_bits 64 word) ≡ number_bits n t = ap (λ i. drop width (number_bits i word)) (sym whole) ∙ bits_behind width n word ∙ sym (number_bits-mod n word) in
+    let front_word : take n (number_bits 64 turned) ≡ number_bits n t = ap (λ x. take n (number_bits 64 x)) turned_to ∙ ap (λ i. take n (number_bits i (t * 2 ^ width + q))) (sym flipped) ∙ sym (number_bits-front laws n width (t * 2 ^ width + q)) ∙ ap (number_bits n) (shr_high t width q narrow) in
+    let behind_word : drop width (number_bits 64 word) ≡ number_bits n t = ap (λ i. drop width (number_bits i word)) (sym whole) ∙ bits_behind laws width n word ∙ sym (laws.last n word) in
     let size : width ≡ z + suc k = omega arith in
     let one_same : z * one ≡ z * 2 ^ k = ap (λ x. z * x) one_is in
     record {
@@ -87,14 +88,14 @@ piece_is k tail word one turned mask tail_is one_is fits turned_by mask_is near 
       low = q % 2 ^ k;
       size = ap (λ x. z + x) tail_is;
       fits = mod_below q (2 ^ k) (pow_pos k);
-      front = sym (number_bits-front width n word ∙ ap (λ i. take width (number_bits i word)) whole) ∙ ap (λ i. number_bits i q) size ∙ number_bits-lead z k q least most;
+      front = sym (number_bits-front laws width n word ∙ ap (λ i. take width (number_bits i word)) whole) ∙ ap (λ i. number_bits i q) size ∙ number_bits-lead laws z k q least most;
       behind = front_word ∙ sym behind_word;
       exact = λ h. ap (λ x. (x % 4294967296 + bit_and turned mask) % 4294967296) one_same ∙ ap (λ x. (x + bit_and turned mask) % 4294967296) (mod_small (z * 2 ^ k) 4294967296 (omega (arith, h))) ∙ ap (λ x. (z * 2 ^ k + x) % 4294967296) low ∙ mod_small (z * 2 ^ k + q % 2 ^ k) 4294967296 h;
     }
 
 -- a value at the top of a word whose first bits are the next ones
-piece_reads : (w k : ℕ) → IsWidth w → k < w → (n word value width rest : ℕ) (bits : List Bool) → n ≤ 64 → n ≤ length bits → take n (number_bits 64 word) ≡ take n bits → width ≤ n → width ≤ most_zeros w k + (k + 1) → IsPiece k word value width rest → (split_at w k bits ≡ Ok (value, drop width bits)) × (value < 2 ^ w) × (take (n - width) (number_bits 64 rest) ≡ take (n - width) (drop width bits))
-piece_reads w k is less n word value width rest bits few within same le lawful p =
+piece_reads : NumberLaws → (w k : ℕ) → IsWidth w → k < w → (n word value width rest : ℕ) (bits : List Bool) → n ≤ 64 → n ≤ length bits → take n (number_bits 64 word) ≡ take n bits → width ≤ n → width ≤ most_zeros w k + (k + 1) → IsPiece k word value width rest → (split_at w k bits ≡ Ok (value, drop width bits)) × (value < 2 ^ w) × (take (n - width) (number_bits 64 rest) ≡ take (n - width) (drop width bits))
+piece_reads laws w k is less n word value width rest bits few within same le lawful p =
     let z = p.zeros in
     let low = p.low in
     let all = number_bits 64 word in
@@ -104,7 +105,7 @@ piece_reads w k is less n word value width rest bits few within same le lawful p
     let exact : value ≡ z * 2 ^ k + low = p.exact (omega (arith, small, wide)) in
     let front : take width bits ≡ replicate z false ++ true ∷ number_bits k low = sym (take-take width n bits le) ∙ ap (take width) (sym same) ∙ take-take width n all le ∙ p.front in
     let whole : bits ≡ replicate z false ++ true ∷ (number_bits k low ++ drop width bits) = sym (take-append-drop width bits) ∙ ap (λ l. l ++ drop width bits) front ∙ append_assoc (replicate z false) (true ∷ number_bits k low) (drop width bits) in
-    let read : split_at w k bits ≡ Ok (z * 2 ^ k + low, drop width bits) = split_read w k z low bits (number_bits k low ++ drop width bits) (drop width bits) (zeros_read (most_zeros w k) z bits (number_bits k low ++ drop width bits) whole most) (number_read k low (number_bits k low ++ drop width bits) (drop width bits) refl p.fits) in
+    let read : split_at w k bits ≡ Ok (z * 2 ^ k + low, drop width bits) = split_read w k z low bits (number_bits k low ++ drop width bits) (drop width bits) (zeros_read (most_zeros w k) z bits (number_bits k low ++ drop width bits) whole most) (number_read laws k low (number_bits k low ++ drop width bits) (drop width bits) refl p.fits) in
     let e : width + (n - width) ≡ n = omega arith in
     let behind : take (n - width) (number_bits 64 rest) ≡ take (n - width) (drop width bits) = sym (take-take (n - width) (64 - width) (number_bits 64 rest) (omega arith)) ∙ ap (take (n - width)) p.behind ∙ sym (drop-take width (n - width) all) ∙ ap (λ i. drop width (take i all)) e ∙ ap (drop width) same ∙ ap (λ i. drop width (take i bits)) (sym e) ∙ drop-take width (n - width) bits in
     (read ∙ ap (λ v. Ok (v, drop width bits)) (sym exact), subst (λ (v : ℕ). v < 2 ^ w) (sym exact) small, behind)
@@ -117,18 +118,18 @@ pub record FourStand (w k a b c d : ℕ) (bits rest : List Bool) : Type 0 where
   pub c_fits : c < 2 ^ w
   pub d_fits : d < 2 ^ w
 
-pub four_stand : (w k : ℕ) → IsWidth w → k < w → (n word a b c d i j l m x y z u : ℕ) (bits rest : List Bool) → n < 64 → n ≤ length bits → take n (number_bits 64 word) ≡ take n bits → i + j + l + m ≤ n → i + j + l + m ≤ min (most_zeros w k) 1024 + 4 * (k + 1) → k + 1 ≤ i → k + 1 ≤ j → k + 1 ≤ l → k + 1 ≤ m → (i < 64 → IsPiece k word a i x) → (j < 64 → IsPiece k x b j y) → (l < 64 → IsPiece k y c l z) → (m < 64 → IsPiece k z d m u) → rest ≡ drop (i + j + l + m) bits → FourStand w k a b c d bits rest
-four_stand w k is less n word a b c d i j l m x y z u bits rest few within same fit lawful ti tj tl tm pa pb pc pd gone =
+pub four_stand : NumberLaws → (w k : ℕ) → IsWidth w → k < w → (n word a b c d i j l m x y z u : ℕ) (bits rest : List Bool) → n < 64 → n ≤ length bits → take n (number_bits 64 word) ≡ take n bits → i + j + l + m ≤ n → i + j + l + m ≤ min (most_zeros w k) 1024 + 4 * (k + 1) → k + 1 ≤ i → k + 1 ≤ j → k + 1 ≤ l → k + 1 ≤ m → (i < 64 → IsPiece k word a i x) → (j < 64 → IsPiece k x b j y) → (l < 64 → IsPiece k y c l z) → (m < 64 → IsPiece k z d m u) → rest ≡ drop (i + j + l + m) bits → FourStand w k a b c d bits rest
+four_stand laws w k is less n word a b c d i j l m x y z u bits rest few within same fit lawful ti tj tl tm pa pb pc pd gone =
     let second = drop i bits in
     let third = drop j second in
     let fourth = drop l third in
     let in_second = length-drop i bits in
     let in_third = length-drop j second in
     let in_fourth = length-drop l third in
-    let first_read = piece_reads w k is less n word a i x bits (omega arith) within same (omega arith) (omega arith) (pa (omega arith)) in
-    let second_read = piece_reads w k is less (n - i) x b j y second (omega arith) (omega (arith, in_second)) first_read.2 (omega arith) (omega arith) (pb (omega arith)) in
-    let third_read = piece_reads w k is less (n - i - j) y c l z third (omega arith) (omega (arith, in_second, in_third)) second_read.2 (omega arith) (omega arith) (pc (omega arith)) in
-    let fourth_read = piece_reads w k is less (n - i - j - l) z d m u fourth (omega arith) (omega (arith, in_second, in_third, in_fourth)) third_read.2 (omega arith) (omega arith) (pd (omega arith)) in
+    let first_read = piece_reads laws w k is less n word a i x bits (omega arith) within same (omega arith) (omega arith) (pa (omega arith)) in
+    let second_read = piece_reads laws w k is less (n - i) x b j y second (omega arith) (omega (arith, in_second)) first_read.2 (omega arith) (omega arith) (pb (omega arith)) in
+    let third_read = piece_reads laws w k is less (n - i - j) y c l z third (omega arith) (omega (arith, in_second, in_third)) second_read.2 (omega arith) (omega arith) (pc (omega arith)) in
+    let fourth_read = piece_reads laws w k is less (n - i - j - l) z d m u fourth (omega arith) (omega (arith, in_second, in_third, in_fourth)) third_read.2 (omega arith) (omega arith) (pd (omega arith)) in
     let end : drop m fourth ≡ rest = ap (λ xs. drop m (drop l xs)) (drop-drop j i bits) ∙ ap (drop m) (drop-drop l (i + j) bits) ∙ drop-drop m (i + j + l) bits ∙ sym gone in
     record {
       reads = record { second = second; third = third; fourth = fourth; a_is = first_read.0; b_is = second_read.0; c_is = third_read.0; d_is = fourth_read.0 ∙ ap (λ xs. Ok (d, xs)) end };
@@ -171,12 +172,12 @@ pub record TwoStand (w k a b : ℕ) (bits rest : List Bool) : Type 0 where
   pub a_fits : a < 2 ^ w
   pub b_fits : b < 2 ^ w
 
-pub two_stand : (w k : ℕ) → IsWidth w → k < w → (n word a b i j x y : ℕ) (bits rest : List Bool) → n < 64 → n ≤ length bits → take n (number_bits 64 word) ≡ take n bits → i + j ≤ n → i + j ≤ min (most_zeros w k) 1024 + 2 * (k + 1) → k + 1 ≤ i → k + 1 ≤ j → (i < 64 → IsPiece k word a i x) → (j < 64 → IsPiece k x b j y) → rest ≡ drop (i + j) bits → TwoStand w k a b bits rest
-two_stand w k is less n word a b i j x y bits rest few within same fit lawful ti tj pa pb gone =
+pub two_stand : NumberLaws → (w k : ℕ) → IsWidth w → k < w → (n word a b i j x y : ℕ) (bits rest : List Bool) → n < 64 → n ≤ length bits → take n (number_bits 64 word) ≡ take n bits → i + j ≤ n → i + j ≤ min (most_zeros w k) 1024 + 2 * (k + 1) → k + 1 ≤ i → k + 1 ≤ j → (i < 64 → IsPiece k word a i x) → (j < 64 → IsPiece k x b j y) → rest ≡ drop (i + j) bits → TwoStand w k a b bits rest
+two_stand laws w k is less n word a b i j x y bits rest few within same fit lawful ti tj pa pb gone =
     let second = drop i bits in
     let in_second = length-drop i bits in
-    let first_read = piece_reads w k is less n word a i x bits (omega arith) within same (omega arith) (omega arith) (pa (omega arith)) in
-    let second_read = piece_reads w k is less (n - i) x b j y second (omega arith) (omega (arith, in_second)) first_read.2 (omega arith) (omega arith) (pb (omega arith)) in
+    let first_read = piece_reads laws w k is less n word a i x bits (omega arith) within same (omega arith) (omega arith) (pa (omega arith)) in
+    let second_read = piece_reads laws w k is less (n - i) x b j y second (omega arith) (omega (arith, in_second)) first_read.2 (omega arith) (omega arith) (pb (omega arith)) in
     record {
       reads = record { second = second; a_is = first_read.0; b_is = second_read.0 ∙ ap (λ xs. Ok (b, xs)) (drop-drop j i bits ∙ sym gone) };
       a_fits = first_read.1;

@@ -5,7 +5,7 @@ use Rattle.std.proofs.Math.Nat.{mul-le-mul_right, le-div_iff_mul-le}
 use Rattle.std.proofs.lemmas.Bool.{cases_lt}
 use Rattle.std.proofs.lemmas.Nat.{pow_pos, pow-add, shr_high, mod_low, mod_below, shr_split, le-div}
 use Rattle.fz_bits.specs.Bits.{number_bits}
-use Rattle.fz_bits.proofs.BitsLemmas.{number_bits-mod}
+use Rattle.fz_bits.specs.Laws.{NumberLaws}
 use Rattle.fz_rice.specs.Reading.{Reading, reading_map, number_at, zeros_at, most_zeros, split_at, many_at}
 use Rattle.fz_rice.specs.Code.{split_bits}
 use Rattle.fz_rice.proofs.Readers.{IsReader, SeqCodes, MapCodes, seq_reader, map_reader, same_reader, ok_parts}
@@ -37,24 +37,24 @@ quotient_le w k v h =
 abbrev pub SplitCodes : ℕ → ℕ → ℕ → List Bool → Type 0
 SplitCodes w k v code = (v < 2 ^ w) × (code ≡ split_bits k v)
 
-split_joined : (k q low : ℕ) → low < 2 ^ k → (replicate q false ++ true ∷ []) ++ number_bits k low ≡ split_bits k (q * 2 ^ k + low)
-split_joined k q low h =
-    append_assoc (replicate q false) (true ∷ []) (number_bits k low) ∙ ap (λ n. replicate n false ++ true ∷ number_bits k low) (sym (shr_high q k low h)) ∙ ap (λ bits. replicate ((q * 2 ^ k + low) / 2 ^ k) false ++ true ∷ bits) (ap (number_bits k) (sym (mod_low q k low h)) ∙ number_bits-mod k (q * 2 ^ k + low))
+split_joined : NumberLaws → (k q low : ℕ) → low < 2 ^ k → (replicate q false ++ true ∷ []) ++ number_bits k low ≡ split_bits k (q * 2 ^ k + low)
+split_joined laws k q low h =
+    append_assoc (replicate q false) (true ∷ []) (number_bits k low) ∙ ap (λ n. replicate n false ++ true ∷ number_bits k low) (sym (shr_high q k low h)) ∙ ap (λ bits. replicate ((q * 2 ^ k + low) / 2 ^ k) false ++ true ∷ bits) (ap (number_bits k) (sym (mod_low q k low h)) ∙ laws.last k (q * 2 ^ k + low))
 
-pub split_reader : (w k : ℕ) → k ≤ w → IsReader (SplitCodes w k) (split_at w k)
-split_reader w k h =
+pub split_reader : NumberLaws → (w k : ℕ) → k ≤ w → IsReader (SplitCodes w k) (split_at w k)
+split_reader laws w k h =
     let Next : ℕ → ℕ → List Bool → Type 0 = λ q. MapCodes (λ low. q * 2 ^ k + low) (NumberCodes k) in
     same_reader (SeqCodes (ZerosCodes (most_zeros w k)) Next) (SplitCodes w k) (split_at w k)
     (λ v code is.
     let low = is.4.0 in
     let value = is.4.2 in
-    (subst (λ (x : ℕ). x < 2 ^ w) value (value_lt w k is.0 low h is.3.0 is.4.1.0), is.5 ∙ ap (λ front. front ++ is.2) is.3.1 ∙ ap (λ back. (replicate is.0 false ++ true ∷ []) ++ back) is.4.1.1 ∙ split_joined k is.0 low is.4.1.0 ∙ ap (split_bits k) value))
+    (subst (λ (x : ℕ). x < 2 ^ w) value (value_lt w k is.0 low h is.3.0 is.4.1.0), is.5 ∙ ap (λ front. front ++ is.2) is.3.1 ∙ ap (λ back. (replicate is.0 false ++ true ∷ []) ++ back) is.4.1.1 ∙ split_joined laws k is.0 low is.4.1.0 ∙ ap (split_bits k) value))
     (λ v code is.
     let q = v / 2 ^ k in
     let low = v % 2 ^ k in
     let small : low < 2 ^ k = mod_below v (2 ^ k) (pow_pos k) in
-    (q, replicate q false ++ true ∷ [], number_bits k low, (quotient_le w k v is.0, refl), (low, (small, refl), shr_split v k), is.1 ∙ ap (split_bits k) (sym (shr_split v k)) ∙ sym (split_joined k q low small)))
-    (seq_reader (ZerosCodes (most_zeros w k)) Next (zeros_at (most_zeros w k)) (λ q rest. reading_map (λ low. q * 2 ^ k + low) (number_at k rest)) (zeros_reader (most_zeros w k)) (λ q code is. map_reader (λ low. q * 2 ^ k + low) (NumberCodes k) (number_at k) (number_reader k)))
+    (q, replicate q false ++ true ∷ [], number_bits k low, (quotient_le w k v is.0, refl), (low, (small, refl), shr_split v k), is.1 ∙ ap (split_bits k) (sym (shr_split v k)) ∙ sym (split_joined laws k q low small)))
+    (seq_reader (ZerosCodes (most_zeros w k)) Next (zeros_at (most_zeros w k)) (λ q rest. reading_map (λ low. q * 2 ^ k + low) (number_at k rest)) (zeros_reader (most_zeros w k)) (λ q code is. map_reader (λ low. q * 2 ^ k + low) (NumberCodes k) (number_at k) (number_reader laws k)))
 
 abbrev pub ManyCodes : (ℕ → Type 0) → (ℕ → List Bool) → ℕ → List ℕ → List Bool → Type 0
 ManyCodes P f n vs code = (length vs ≡ n) × AllByRecursion P vs × (code ≡ flat_map f vs)

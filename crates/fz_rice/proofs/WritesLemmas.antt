@@ -1,20 +1,20 @@
 -- Bits written one after another.
-use Rattle.std.proofs.Common.{pos, bit_and, ◌≡◌, ℕ, suc, ◌+◌, ◌-◌, ◌*◌, ◌/◌, ◌%◌, ◌^◌, ◌<◌, ◌↔◌, Bool, true, false, ℤ, List, [], ◌∷◌, ◌++◌, length, take, drop, get_or, replicate, Result, Ok, Err, IsErr, OnOk, refl, sym, subst, ap, ◌∙◌, arith, append_assoc, length-append}
+use Rattle.std.proofs.Common.{pos, bit_and, ◌≡◌, ℕ, suc, ◌+◌, ◌-◌, ◌*◌, ◌/◌, ◌%◌, ◌^◌, ◌<◌, ◌≤◌, ◌↔◌, Bool, true, false, ℤ, List, [], ◌∷◌, ◌++◌, length, take, drop, get_or, replicate, Result, Ok, Err, IsErr, OnOk, refl, sym, subst, ap, ◌∙◌, arith, append_assoc, length-append}
 use Rattle.std.specs.List.{flat_map}
 use Rattle.std.proofs.lemmas.Result.{on_ok_weaker}
 use Rattle.std.proofs.lemmas.List.{append-nil, take_more, take-append-drop}
 use Rattle.std.proofs.lemmas.Nat.{pow_pos, mod_below, mod_low, one_shl, and_mask}
 use Rattle.std.proofs.Math.Nat.{pow-suc}
 use Rattle.fz_bits.specs.Bits.{number_bits}
+use Rattle.fz_bits.specs.Laws.{NumberLaws}
 use Rattle.fz_bits.specs.Writer.{written, lent, room}
 use Rattle.fz_bits.specs.declared.writer.BitWriter.{BitWriter}
 use Rattle.fz_bits.specs.declared.writer.Full.{Full}
-use Rattle.fz_bits.proofs.BitsLemmas.{number_bits-lead, number_bits-mod}
-use Rattle.fz_bits.proofs.WriterLemmas.{length-written}
 use Rattle.fz_rice.specs.Numbers.{residue}
 use Rattle.fz_rice.specs.Code.{difference, mapped, differences, split_bits}
 use Rattle.std.proofs.Math.Seq.{take-add}
 use Rattle.fz_rice.specs.Writing.{Writes}
+use Rattle.fz_rice.proofs.NumberBits.{number_bits-lead}
 
 pub writes_of : {A : Type 0} (r : Result A Full) (bits other : List Bool) (width : ℕ) (old new : BitWriter) → lent new ≡ lent old → room new ≡ room old → OnOk r (written new ≡ written old ++ other) → (IsErr r ↔ (room old < length (written old) + width)) → other ≡ bits → length bits ≡ width → Writes r bits old new
 writes_of r bits other width old new same space ok full is len = record {
@@ -45,12 +45,12 @@ writes_stop e f front back old new first =
       full = (λ k. let h = first.full.0 refl in omega (arith, h), λ h. refl);
     }
 
-pub writes_nothing : (w : BitWriter) → Writes {A = Unit {0}} (Ok tt) [] w w
-writes_nothing w = record {
+pub writes_nothing : (w : BitWriter) → length (written w) ≤ room w → Writes {A = Unit {0}} (Ok tt) [] w w
+writes_nothing w fits = record {
   same = refl;
   space = refl;
   ok = sym (append-nil (written w));
-  full = (λ k. cc, λ h. absurd (omega (arith, length-written w)));
+  full = (λ k. cc, λ h. absurd (omega (arith, fits)));
 }
 
 -- what was written, whatever the answer's value
@@ -67,15 +67,15 @@ pub low_bits : (n k v : ℕ) → k < n → bit_and v (1 * 2 ^ k % 2 ^ n - 1) ≡
 low_bits n k v h = ap (λ m. bit_and v (m - 1)) (one_shl k n h) ∙ and_mask v k
 
 -- one field of zeros, a one and k bits
-pub one_field : (k q value : ℕ) → q ≡ value / 2 ^ k → number_bits (q + 1 + k) (2 ^ k + value % 2 ^ k) ≡ split_bits k value
-one_field k q value is =
+pub one_field : NumberLaws → (k q value : ℕ) → q ≡ value / 2 ^ k → number_bits (q + 1 + k) (2 ^ k + value % 2 ^ k) ≡ split_bits k value
+one_field laws k q value is =
     let v = 2 ^ k + value % 2 ^ k in
     let pos = pow_pos k in
     let rest = mod_below value (2 ^ k) pos in
     let twice : 2 ^ suc k ≡ 2 ^ k * 2 = pow-suc 2 k in
     let e : q + 1 + k ≡ q + suc k = omega arith in
     let low : v % 2 ^ k ≡ value % 2 ^ k = ap (λ x. x % 2 ^ k) (omega arith) ∙ mod_low 1 k (value % 2 ^ k) rest in
-    ap (λ n. number_bits n v) e ∙ number_bits-lead q k v (omega arith) (omega arith) ∙ ap (λ x. replicate q false ++ true ∷ number_bits k x) low ∙ ap (λ x. replicate q false ++ true ∷ x) (number_bits-mod k value) ∙ ap (λ n. replicate n false ++ true ∷ number_bits k value) is
+    ap (λ n. number_bits n v) e ∙ number_bits-lead laws q k v (omega arith) (omega arith) ∙ ap (λ x. replicate q false ++ true ∷ number_bits k x) low ∙ ap (λ x. replicate q false ++ true ∷ x) (laws.last k value) ∙ ap (λ n. replicate n false ++ true ∷ number_bits k value) is
 
 -- the residue of the last number
 abbrev pub last_residue : ℕ → ℕ → List ℤ → ℕ
@@ -124,7 +124,7 @@ loop_writes {A} {B} a f w start xs i d r v old mid new within is half one =
     let all : front ++ f v ≡ flat_map f (differences w start (take (i + 1) xs)) = ap (λ k. front ++ f k) is ∙ sym (bits-more f w start xs i d within) in
     subst (λ (x : List Bool). Writes {A = B} r x old new) all (writes_seq a r front (f v) old mid new half one)
 
--- there is no room for all where there is none for the first
+-- there is no room for all if there is none for the first
 pub loop_stops : {A B : Type 0} (e f' : Full) (f : ℕ → List Bool) (w start : ℕ) (xs : List ℤ) (i : ℕ) (old new : BitWriter) → Writes {A = A} (Err e) (flat_map f (differences w start (take i xs))) old new → Writes {A = B} (Err f') (flat_map f (differences w start xs)) old new
 loop_stops {A} {B} e f' f w start xs i old new stop =
     subst (λ (x : List Bool). Writes {A = B} (Err f') x old new) (sym (bits-front f w start xs i)) (writes_stop e f' (flat_map f (differences w start (take i xs))) (flat_map f (differences w (last_residue w start (take i xs)) (drop i xs))) old new stop)

@@ -10,7 +10,7 @@ pub record Row : Type 0 where
   pub id_len : ℕ
   pub raw_id : ℕ
 
--- An id has so many bits. Id 0 stands for zeros, an id from 1 to below the raw one for k, which is one
+-- An id has so many bits. Id 0 means zeros, an id from 1 to below the raw one for k, which is one
 -- less: at most 5, 13 and 24. Ids above the raw one are unlawful.
 abbrev pub row : ℕ → Row
 row w = if w == 8 then record { id_len = 3; raw_id = 7 } else (if w == 16 then record { id_len = 4; raw_id = 15 } else record { id_len = 5; raw_id = 26 })
@@ -19,7 +19,7 @@ row w = if w == 8 then record { id_len = 3; raw_id = 7 } else (if w == 16 then r
 abbrev pub difference : ℕ → ℕ → ℕ → ℕ
 difference w last next = (next + (2 ^ w - last)) % 2 ^ w
 
--- A difference d is taken as signed in w bits: 2d where it is 0 or more, and -2d - 1 where it is below.
+-- A difference d is taken as signed in w bits: 2d if it is 0 or more, and -2d - 1 if it is below.
 abbrev pub mapped : ℕ → ℕ → ℕ
 mapped w d = if nat_lt d (2 ^ (w - 1)) then 2 * d else 2 * (2 ^ w - d) - 1
 
@@ -40,7 +40,7 @@ values_bits w id vs = if id == 0 then [] else (if id == (row w).raw_id then flat
 abbrev pub block_bits : ℕ → ℕ → List ℕ → List Bool
 block_bits w id vs = number_bits (row w).id_len id ++ values_bits w id vs
 
--- the id is lawful and can hold the values: id 0 holds zeros alone
+-- the id is lawful and can hold the values: id 0 holds only zeros
 abbrev pub CanHold : ℕ → ℕ → List ℕ → Type 0
 CanHold w id vs = (id ≤ (row w).raw_id) × (id ≡ 0 → vs ≡ replicate (length vs) 0)
 

@@ -1,4 +1,4 @@
--- What the laws of readings say, over the definitions alone.
+-- What the laws of readings say, over only the definitions.
 use Rattle.std.specs.Prelude.{◌≡◌, ℕ, ◌≤◌, ◌⊎◌, Bool, ℤ, List, ◌++◌, length, All}
 use Rattle.fz_bits.specs.Bits.{bits_of}
 use Rattle.fz_rice.specs.Numbers.{IsWidth, IsNumber}

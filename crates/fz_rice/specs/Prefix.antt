@@ -1,4 +1,4 @@
--- How bits stand to the codes of so many numbers.
+-- How bits relate to the codes of so many numbers.
 use Rattle.std.specs.Prelude.{◌≡◌, ◌≢◌, ℕ, ◌+◌, ◌/◌, Bool, ℤ, List, [], ◌++◌, length}
 use Rattle.fz_rice.specs.Code.{IsRiceCode}
 

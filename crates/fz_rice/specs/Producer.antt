@@ -20,7 +20,7 @@ binary_len q = halvings q q
 abbrev pub chosen_k : ℕ → ℕ → ℕ
 chosen_k count total = binary_len ((total - count / 2 - 1) / count / 2)
 
--- the id of a block: 0 for zeros, raw where k is above the table's greatest
+-- the id of a block: 0 for zeros, raw if k is above the table's greatest
 abbrev pub chosen_id : ℕ → ℕ → ℕ → ℕ
 chosen_id w count total = if total == 0 then 0 else (if nat_lt (chosen_k count total + 1) (row w).raw_id then chosen_k count total + 1 else (row w).raw_id)
 

@@ -45,7 +45,7 @@ unfoldable pub many_at : (List Bool → Reading ℕ) → ℕ → List Bool → R
 many_at read zero bits = Ok ([], bits)
 many_at read (suc n) bits = and_then (read bits) (λ v rest. reading_map (λ vs. v ∷ vs) (many_at read n rest))
 
--- an id of n bits, at most `most`; a part of one ends only where an id can begin so
+-- an id of n bits, at most `most`; a part of one is Ended only if an id can begin so
 abbrev pub id_at : ℕ → ℕ → List Bool → Reading ℕ
 id_at n most bits = if nat_lt (length bits) n then (if nat_lt most (bits_value bits * 2 ^ (n - length bits)) then Err Unlawful else Err Ended) else (if nat_lt most (bits_value (take n bits)) then Err Unlawful else Ok (bits_value (take n bits), drop n bits))
 
@@ -113,7 +113,7 @@ ReadsAll w start read numbers result rest = MatchResult result (λ _. (last : �
 abbrev pub bit_count : BitReader → ℕ
 bit_count r = place r + length (left r)
 
--- at the top of a word of 64 bits stand zeros, a one and k bits, and the bits after them are the first ones of `rest`
+-- at the top of a word of 64 bits are zeros, a one and k bits, and the bits after them are the first ones of `rest`
 pub record IsPiece (k word value width rest : ℕ) : Type 0 where
   pub zeros : ℕ
   pub low : ℕ

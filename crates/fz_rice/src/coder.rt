@@ -30,9 +30,9 @@ ghost use Rattle.fz_rice.specs.Producer.{rice_bytes};
 ghost use Rattle.fz_rice.specs.Prefix.{BeginsWith, BeginsWithCode, IsBeginning};
 
 use crate::decode::{read_blocks, read_number};
-use crate::encode::write_blocks;
+use crate::encode::{write_blocks, write_number};
 use crate::numbers::residue;
-use fz_bits::{BitReader, BitWriter, Full};
+use fz_bits::{BitReader, BitWriter, Full, bytes_law, number_law};
 
 /// Why a code gives no numbers.
 #[derive(Clone, Copy, Debug, PartialEq, Eq)]
@@ -58,9 +58,10 @@ impl<const W: u32> Coder<W> {
         ensures code { IfOk result (λ len. take len out.new ≡ rice_bytes W block numbers.now) }
         ensures full { IsErr result ↔ (length out.old < length (rice_bytes W block numbers.now)) }
     {
+        bytes_law();
         let start = residue::<W>(numbers[0]);
         let mut writer = BitWriter::new(out);
-        writer.put(start, W)?;
+        write_number(&mut writer, start, W)?;
         write_blocks::<W>(&mut writer, start, block, numbers)?;
         Ok(writer.finish())
     }
@@ -80,6 +81,7 @@ impl<const W: u32> Coder<W> {
             ↔ (¬ BeginsWithCode W block (length numbers.old) (bits_of code.now)
             × ¬ IsBeginning W block (length numbers.old) (bits_of code.now)) }
     {
+        number_law();
         let mut reader = BitReader::new(code);
         let start = read_number(&mut reader, W)?;
         read_blocks::<W>(&mut reader, start, block, numbers)?;

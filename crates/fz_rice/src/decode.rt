@@ -23,7 +23,7 @@ ghost use Rattle.fz_rice.specs.Reading.{
 use crate::coder::CodeFault;
 use crate::numbers::{greatest, id_len, next_residue, number, raw_id};
 use crate::several::{Shape, put_four, put_two, take_four, take_ones, take_two};
-use fz_bits::{BitReader, ZeroStop};
+use fz_bits::{BitReader, ZeroStop, number_law};
 
 /// Reads the numbers in blocks, the first difference from the residue `start`.
 pub fn read_blocks<const W: u32>(
@@ -122,7 +122,7 @@ fn read_split<const W: u32>(
         numbers.new result (left reader.new) }
     ensures count { OnOk result (bit_count reader.new ≡ bit_count reader.old) }
 {
-    // Four longer values seldom stand in one word.
+    // Four longer values are seldom in one word.
     if k == 0 {
         read_unary::<W>(reader, start, numbers)
     } else if k < 11 {
@@ -132,7 +132,7 @@ fn read_split<const W: u32>(
     }
 }
 
-/// `read_split` of values in unary alone: many that are 0, or four values, at once, where they stand in one word.
+/// `read_split` of values in only unary: many that are 0, or four values, at once if they are in one word.
 fn read_unary<const W: u32>(
     reader: &mut BitReader,
     start: u32,
@@ -145,6 +145,7 @@ fn read_unary<const W: u32>(
         numbers.new result (left reader.new) }
     ensures count { OnOk result (bit_count reader.new ≡ bit_count reader.old) }
 {
+    number_law();
     let shape = Shape::of::<W>(0, 4);
     let mut ahead = *reader;
     let mut last = start;
@@ -173,7 +174,7 @@ fn read_unary<const W: u32>(
     Ok(last)
 }
 
-/// `read_split` with four values at once, where they stand in one word.
+/// `read_split` with four values at once if they are in one word.
 fn read_fours<const W: u32>(
     reader: &mut BitReader,
     start: u32,
@@ -210,7 +211,7 @@ fn read_fours<const W: u32>(
     Ok(last)
 }
 
-/// `read_split` with two values at once, where they stand in one word.
+/// `read_split` with two values at once if they are in one word.
 fn read_twos<const W: u32>(
     reader: &mut BitReader,
     start: u32,
@@ -284,6 +285,7 @@ pub fn read_number(reader: &mut BitReader, width: u32) -> Result<u32, CodeFault>
     ensures fits { IfOk result (λ v. v < 2 ^ width) }
     ensures count { OnOk result (bit_count reader.new ≡ bit_count reader.old) }
 {
+    number_law();
     match reader.get(width) {
         Ok(number) => Ok(number),
         Err(_) => Err(CodeFault::Ended),
@@ -298,6 +300,7 @@ fn read_id<const W: u32>(reader: &mut BitReader) -> Result<u32, CodeFault>
     ensures lawful { IfOk result (λ id. id ≤ (row W).raw_id) }
     ensures count { OnOk result (bit_count reader.new ≡ bit_count reader.old) }
 {
+    number_law();
     match reader.get(id_len::<W>()) {
         Ok(id) if id <= raw_id::<W>() => Ok(id),
         Ok(_) => Err(CodeFault::Unlawful),
@@ -305,13 +308,14 @@ fn read_id<const W: u32>(reader: &mut BitReader) -> Result<u32, CodeFault>
     }
 }
 
-/// Why there is no id where the bits end in it: `Unlawful` where no lawful id begins with them.
+/// Why there is no id if the bits end in it: `Unlawful` if no lawful id begins with them.
 #[cold]
 fn cut_id<const W: u32>(reader: &BitReader) -> CodeFault
     requires width { IsWidth W }
     requires cut { length (left reader.now) < (row W).id_len }
     ensures { id_at (row W).id_len (row W).raw_id (left reader.now) ≡ Err result }
 {
+    number_law();
     for missing in 1..id_len::<W>() {
         let mut ahead = *reader;
         if let Ok(front) = ahead.get(id_len::<W>() - missing) {

@@ -12,7 +12,7 @@ ghost use Rattle.fz_rice.specs.Writing.{Writes};
 use crate::fields::Field;
 use crate::full_block::write_full_block;
 use crate::numbers::{id_len, mapped, raw_id, residue};
-use fz_bits::{BitWriter, Full};
+use fz_bits::{BitWriter, Full, number_law, room_law};
 
 /// Writes the numbers in blocks, the first difference from the residue `start`.
 pub fn write_blocks<const W: u32>(
@@ -28,6 +28,7 @@ pub fn write_blocks<const W: u32>(
         (flat_map (chosen_block W) (pieces block (differences W start numbers.now)))
         writer.old writer.new }
 {
+    room_law();
     let mut last = start;
     let mut at = 0;
     while at < numbers.len() {
@@ -51,7 +52,7 @@ fn write_block<const W: u32>(writer: &mut BitWriter, last: u32, numbers: &[i32])
         return write_full_block::<W>(writer, last, numbers);
     }
     let id = chosen_id::<W>(total::<W>(last, numbers), numbers.len() as u32);
-    writer.put(id, id_len::<W>())?;
+    write_number(writer, id, id_len::<W>())?;
     if id == 0 {
         Ok(())
     } else if id == raw_id::<W>() {
@@ -105,10 +106,11 @@ pub fn write_raw<const W: u32>(
     ensures { Writes result (flat_map (number_bits W) (differences W start numbers.now))
         writer.old writer.new }
 {
+    room_law();
     let mut last = start;
     for number in numbers {
         let next = residue::<W>(*number);
-        writer.put(mapped::<W>(last, next), W)?;
+        write_number(writer, mapped::<W>(last, next), W)?;
         last = next;
     }
     Ok(())
@@ -127,6 +129,7 @@ fn write_split<const W: u32>(
     ensures { Writes result (flat_map (split_bits k) (differences W start numbers.now))
         writer.old writer.new }
 {
+    room_law();
     let mut last = start;
     let mut at = 0;
     while at < numbers.len() {
@@ -138,7 +141,7 @@ fn write_split<const W: u32>(
     Ok(())
 }
 
-/// `write_split` of a few numbers. The bits of four go to the writer at once, where 63 hold them.
+/// `write_split` of a few numbers. The bits of four go to the writer at once if 63 hold them.
 #[inline]
 fn write_few<const W: u32>(
     writer: &mut BitWriter,
@@ -158,7 +161,7 @@ fn write_few<const W: u32>(
         let front = (mapped::<W>(start, a), mapped::<W>(a, b));
         let back = (mapped::<W>(b, c), mapped::<W>(c, d));
         if let Some(four) = Field::of_four(k, front, back) {
-            return writer.put_long(four.bits, four.width);
+            return four.write(writer);
         }
     }
     write_each::<W>(writer, start, k, numbers)
@@ -177,6 +180,7 @@ fn write_each<const W: u32>(
     ensures { Writes result (flat_map (split_bits k) (differences W start numbers.now))
         writer.old writer.new }
 {
+    room_law();
     let mut last = start;
     for number in numbers {
         let next = residue::<W>(*number);
@@ -194,9 +198,20 @@ pub fn write_value(writer: &mut BitWriter, k: u32, value: u32) -> Result<(), Ful
 {
     let zeros = value >> k;
     if zeros < 63 - k {
-        let field = Field::of_value(k, value);
-        return writer.put_long(field.bits, field.width);
+        return Field::of_value(k, value).write(writer);
     }
+    number_law();
     writer.unary(zeros)?;
-    writer.put(value & ((1 << k) - 1), k)
+    write_number(writer, value & ((1 << k) - 1), k)
+}
+
+/// Writes the `width` bits of a number.
+#[inline]
+pub fn write_number(writer: &mut BitWriter, number: u32, width: u32) -> Result<(), Full>
+    requires width { width ≤ 32 }
+    requires fits { number < 2 ^ width }
+    ensures { Writes result (number_bits width number) writer.old writer.new }
+{
+    number_law();
+    writer.put(number, width)
 }

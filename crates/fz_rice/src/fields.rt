@@ -5,6 +5,8 @@ ghost use Rattle.std.specs.Prelude.{◌≡◌, ℕ, ◌+◌, ◌*◌, ◌/◌, �
 ghost use Rattle.fz_bits.specs.Bits.{number_bits};
 ghost use Rattle.fz_rice.specs.Code.{split_bits};
 
+use fz_bits::{BitWriter, Full, number_law};
+
 /// The `width` bits of a number.
 #[derive(Clone, Copy)]
 pub struct Field {
@@ -17,6 +19,7 @@ pub struct Field {
 impl Field {
     ghost use Rattle.fz_bits.specs.Bits.{number_bits};
     ghost use Rattle.fz_rice.specs.Code.{split_bits};
+    ghost use Rattle.fz_rice.specs.Writing.{Writes};
 
     /// `value >> k` zeros, a one, and the last `k` bits of a value.
     #[inline]
@@ -26,6 +29,7 @@ impl Field {
         ensures bits { number_bits result.width result.bits ≡ split_bits k value }
         ensures width { result.width ≡ value / 2 ^ k + 1 + k }
     {
+        number_law();
         let low = u64::from(value) & ((1 << k) - 1);
         Field {
             bits: (1 << k) | low,
@@ -41,13 +45,14 @@ impl Field {
             ≡ number_bits self.width self.bits ++ number_bits next.width next.bits }
         ensures width { result.width ≡ self.width + next.width }
     {
+        number_law();
         Field {
             bits: (self.bits << next.width) | next.bits,
             width: self.width + next.width,
         }
     }
 
-    /// The bits of four values, `None` where they are more than 63.
+    /// The bits of four values, `None` if they are more than 63.
     #[inline]
     pub fn of_four(k: u32, front: (u32, u32), back: (u32, u32)) -> Option<Field>
         requires { k < 32 }
@@ -66,7 +71,7 @@ impl Field {
         Some(front.joined(back))
     }
 
-    /// The bits of four fields, one after another, `None` where they are more than 63.
+    /// The bits of four fields, one after another, `None` if they are more than 63.
     #[inline]
     pub fn of_fields(bits: (u32, u32, u32, u32), widths: (u32, u32, u32, u32)) -> Option<Field>
         requires few { widths.0 + widths.1 + widths.2 + widths.3 < 2 ^ 32 }
@@ -85,6 +90,15 @@ impl Field {
         let front = Field::of_bits(bits.0, widths.0).joined(Field::of_bits(bits.1, widths.1));
         let back = Field::of_bits(bits.2, widths.2).joined(Field::of_bits(bits.3, widths.3));
         Some(front.joined(back))
+    }
+
+    /// Writes the bits.
+    #[inline]
+    pub fn write(self, writer: &mut BitWriter) -> Result<(), Full>
+        ensures { Writes result (number_bits self.width self.bits) writer.old writer.new }
+    {
+        number_law();
+        writer.put_long(self.bits, self.width)
     }
 
     /// The `width` bits of a number.

@@ -9,10 +9,10 @@ ghost use Rattle.fz_rice.specs.Code.{differences, split_bits};
 ghost use Rattle.fz_rice.specs.Producer.{chosen_id, chosen_block};
 ghost use Rattle.fz_rice.specs.Writing.{Writes, IsField};
 
-use crate::encode::{chosen_id, write_raw, write_value};
+use crate::encode::{chosen_id, write_number, write_raw, write_value};
 use crate::fields::Field;
 use crate::numbers::{id_len, mapped, number, raw_id, residue};
-use fz_bits::{BitWriter, Full};
+use fz_bits::{BitWriter, Full, number_law, room_law};
 
 /// Writes a block of 32 numbers.
 pub fn write_full_block<const W: u32>(
@@ -26,7 +26,7 @@ pub fn write_full_block<const W: u32>(
     ensures { Writes result (chosen_block W (differences W last numbers.now)) writer.old writer.new }
 {
     if repeats::<W>(last, numbers) {
-        return writer.put(0, id_len::<W>());
+        return write_number(writer, 0, id_len::<W>());
     }
     write_values_of::<W>(writer, last, numbers)
 }
@@ -44,7 +44,7 @@ fn write_values_of<const W: u32>(
 {
     let values = values_of::<W>(last, numbers);
     let id = chosen_id::<W>(sum_of(&values), 32);
-    writer.put(id, id_len::<W>())?;
+    write_number(writer, id, id_len::<W>())?;
     if id == 0 {
         Ok(())
     } else if id == raw_id::<W>() {
@@ -54,7 +54,7 @@ fn write_values_of<const W: u32>(
     }
 }
 
-/// All numbers are that of the residue `last`. The last one, which is looked at first, mostly tells that they are not.
+/// All numbers are that of the residue `last`. The last one, which is looked at first, mostly shows that they are not.
 #[inline]
 fn repeats<const W: u32>(last: u32, numbers: &[i32]) -> bool
     requires width { IsWidth W }
@@ -111,6 +111,7 @@ fn write_split_values(writer: &mut BitWriter, k: u32, values: &[u32; 32]) -> Res
     requires { k < 32 }
     ensures { Writes result (flat_map (split_bits k) values.now) writer.old writer.new }
 {
+    room_law();
     let fields = Fields::of(k, values);
     for q in 0..8usize {
         let i = 4 * q;
@@ -131,7 +132,7 @@ fn write_split_values(writer: &mut BitWriter, k: u32, values: &[u32; 32]) -> Res
     Ok(())
 }
 
-/// Writes four values, whose fields are given: at once, where 63 bits hold them.
+/// Writes four values, whose fields are given: at once if 63 bits hold them.
 #[inline]
 fn write_four(
     writer: &mut BitWriter,
@@ -149,7 +150,7 @@ fn write_four(
     ensures { Writes result (flat_map (split_bits k) values.now) writer.old writer.new }
 {
     if let Some(four) = Field::of_fields(bits, widths) {
-        return writer.put_long(four.bits, four.width);
+        return four.write(writer);
     }
     write_values(writer, k, values)
 }
@@ -161,6 +162,7 @@ fn write_values(writer: &mut BitWriter, k: u32, values: &[u32]) -> Result<(), Fu
     requires { k < 32 }
     ensures { Writes result (flat_map (split_bits k) values.now) writer.old writer.new }
 {
+    room_law();
     for value in values {
         write_value(writer, k, *value)?;
     }
@@ -202,6 +204,7 @@ fn field_of(k: u32, value: u32) -> (u32, u32)
     requires { k < 32 }
     ensures { IsField k value result.0 result.1 }
 {
+    number_law();
     let one = 1u32 << k;
     (one | (value & (one - 1)), (value >> k).min(64) + (k + 1))
 }

@@ -8,19 +8,26 @@ ghost use Rattle.fz_rice.specs.Producer.{rice_code};
 ghost use Rattle.fz_rice.specs.Prefix.{BeginsWith};
 ghost use Rattle.fz_rice.specs.Laws.{IsItsCode, HasOneReading, IsNoBeginning, HasSomeAnswer, HasCodeBits, HasCodeBytes};
 
+use fz_bits::{bytes_law, number_law};
+
 /// No code of so many numbers is a proper prefix of another one, and a code has one list of them.
 pub fn one_code_law()
     ensures { (w block : ℕ) (xs ys : List ℤ) (code rest : List Bool) → IsWidth w → 1 ≤ block
         → length xs ≡ length ys → IsRiceCode w block xs code → IsRiceCode w block ys (code ++ rest)
         → (xs ≡ ys) × (rest ≡ []) }
-{}
+{
+    number_law();
+}
 
 /// What `encode` writes is a code of the numbers, and zeros after it, in some whole bytes.
 pub fn producer_law()
     ensures code { IsItsCode }
     ensures bits { HasCodeBits }
     ensures some { HasCodeBytes }
-{}
+{
+    bytes_law();
+    number_law();
+}
 
 /// Numbers that are read from what `encode` wrote, with any bits after it, are the numbers again.
 pub fn round_trip_law()
@@ -28,11 +35,15 @@ pub fn round_trip_law()
         → All (IsNumber w) xs → length ys ≡ length xs
         → BeginsWith w block ys bytes (rice_code w block xs ++ rest)
         → (ys ≡ xs) × (bytes ≡ length (rice_code w block xs) / 8) }
-{}
+{
+    number_law();
+}
 
 /// Bits begin with at most one code of so many numbers, or are a proper prefix of one, or neither; not both.
 pub fn reading_law()
     ensures one { HasOneReading }
     ensures none { IsNoBeginning }
     ensures some { HasSomeAnswer }
-{}
+{
+    number_law();
+}

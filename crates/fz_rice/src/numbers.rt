@@ -54,7 +54,7 @@ pub fn residue<const W: u32>(number: i32) -> u32
     number.cast_unsigned() & greatest::<W>()
 }
 
-/// The number of a residue: unsigned at 8 bits, else two's complement.
+/// The number of a residue: unsigned at 8 bits, otherwise two's complement.
 #[inline]
 pub fn number<const W: u32>(residue: u32) -> i32
     requires width { IsWidth W }

@@ -31,7 +31,7 @@ ghost use Rattle.fz_rice.specs.Numbers.{IsWidth};
 ghost use Rattle.fz_rice.specs.Reading.{split_at, most_zeros, last_of, numbers_from, bit_count, IsPiece, ReadsFour, ReadsTwo};
 
 use crate::numbers::{greatest, next_residue, number};
-use fz_bits::BitReader;
+use fz_bits::{BitReader, number_law};
 
 /// What a block's values in unary and `k` bits have in common.
 #[derive(Clone, Copy)]
@@ -77,7 +77,7 @@ fn power(k: u32) -> u32
     1 << k
 }
 
-/// A value that stands at the top of a word, how many bits it takes, and the word without them.
+/// The value at the top of a word, how many bits it takes, and the word without them.
 #[derive(Clone, Copy)]
 struct Piece {
     value: u32,
@@ -93,6 +93,7 @@ fn next_piece(word: u64, shape: Shape) -> Piece
     ensures is { result.width < 64
         → IsPiece (shape.tail - 1) word result.value result.width result.rest }
 {
+    number_law();
     let zeros = word.leading_zeros();
     let width = zeros + shape.tail;
     let turned = word.rotate_left(width % 64);
@@ -113,8 +114,8 @@ pub struct Four {
     pub d: u32,
 }
 
-/// Reads four values where so many are wanted and stand in one word of the code, and none of them has
-/// too many zeros.
+/// Reads four values if so many are wanted and are in one word of the code, and none of them has too
+/// many zeros.
 #[inline]
 pub fn take_four<const W: u32>(
     reader: &mut BitReader,
@@ -136,6 +137,7 @@ pub fn take_four<const W: u32>(
     ensures none { IsNone result → left reader.new ≡ left reader.old }
     ensures count { bit_count reader.new ≡ bit_count reader.old }
 {
+    number_law();
     if wanted < 4 || !reader.load_word() {
         return None;
     }
@@ -156,17 +158,18 @@ pub fn take_four<const W: u32>(
     })
 }
 
-/// How many ones stand at the top of a word.
+/// How many ones are at the top of a word.
 #[inline]
 fn ones_of(word: u64) -> u32
     ensures few { result ≤ 64 }
     ensures ones { take result (number_bits 64 word) ≡ replicate result true }
 {
+    number_law();
     (u64::MAX - word).leading_zeros()
 }
 
-/// Reads ones: as many as are wanted, or those that stand next in one word of the code. Answers how many;
-/// none where they are few, since four values at once are then faster.
+/// Reads ones: as many as are wanted, or those that are next in one word of the code. Answers how many;
+/// none if they are few, since four values at once are then faster.
 #[inline]
 pub fn take_ones(reader: &mut BitReader, wanted: usize) -> usize
     ensures ones { left reader.old ≡ replicate result true ++ left reader.new }
@@ -237,6 +240,7 @@ pub fn take_two<const W: u32>(
     ensures none { IsNone result → left reader.new ≡ left reader.old }
     ensures count { bit_count reader.new ≡ bit_count reader.old }
 {
+    number_law();
     if wanted < 2 || !reader.load_word() {
         return None;
     }

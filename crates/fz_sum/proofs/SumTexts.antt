@@ -1,4 +1,4 @@
--- The number that a text gives: the function gives it exactly where the text does.
+-- The number that a text gives: the function gives it if and only if the text does.
 use Rattle.std.proofs.Common.{◌≡◌, ℕ, ◌^◌, ◌<◌, ◌≢◌, Bool, true, false, cond, eqb, ltb, List, [], ◌∷◌, length, take, get_or, sym, refl, ap, ◌∙◌, subst, arith}
 use Rattle.std.specs.Prelude.{◌&&◌, Option, Some, None, IfSome, IfNone}
 use Rattle.std.specs.Char.{is_ascii_digit}
@@ -6,13 +6,22 @@ use Rattle.std.specs.List.{list_all}
 use Rattle.std.specs.Option.{option_and_then, option_map}
 use Rattle.std.specs.Str.{all_ascii_digits}
 use Rattle.std.specs.Str.Parse.{IsNumeral, digits_value, without_leading_plus}
+use Rattle.std.proofs.lemmas.Bool.{and_parts, ltb-true}
 use Rattle.std.proofs.lemmas.Bool.Decides.{nat_tests}
-use Rattle.std.proofs.lemmas.Str.Parse.{without_leading_plus_none}
+use Rattle.std.proofs.lemmas.Str.Parse.{IsNumeralModel, numerals_by_value, tells_all_ascii_digits, without_leading_plus_none}
 use Rattle.fz_card.specs.Laws.{BlankLaws, CardLaws}
 use Rattle.fz_card.specs.Plain.{skip_blanks, ReadsNumeral}
 use Rattle.fz_card.specs.Reading.{text_of}
-use Rattle.fz_card.proofs.Readings.{some-if, and-true, lt-true, digits}
 use Rattle.fz_sum.specs.Texts.{GivesSum, CardGivesSum, sum_of_digits, sum_of_text, sum_of_card}
+
+-- a number that is given only after a test
+some-if : (test : Bool) (n v : ℕ) → cond test (Some n) None ≡ Some v → (test ≡ true) × (n ≡ v)
+some-if true n v e = (refl, cc)
+some-if false n v e = cc
+
+-- digits are the numerals of their value
+digits : IsNumeralModel (λ ds. all_ascii_digits ds ≡ true) (digits_value 10)
+digits = numerals_by_value (λ ds. all_ascii_digits ds ≡ true) tells_all_ascii_digits
 
 pub all-digits : (text : List ℕ) → list_all is_ascii_digit text ≡ all_ascii_digits text
 all-digits [] = refl
@@ -22,7 +31,7 @@ all-digits (b ∷ bs) = ap (λ (rest : Bool). is_ascii_digit b && rest) (all-dig
 first-digit : (text : List ℕ) → all_ascii_digits text ≡ true → get_or text 0 0 ≢ 43
 first-digit [] e same = omega arith
 first-digit (b ∷ bs) e same =
-    let parts = and-true (is_ascii_digit b) (all_ascii_digits bs) e in
+    let parts = and_parts (is_ascii_digit b) (all_ascii_digits bs) e in
     let f : is_ascii_digit b ≡ is_ascii_digit 43 = ap is_ascii_digit same in
     let g : is_ascii_digit 43 ≡ true = sym f ∙ parts.0 in
     cc
@@ -54,12 +63,12 @@ pub digits-sum : (text : List ℕ) (sum : ℕ) → sum_of_digits text ≡ Some s
 digits-sum text sum e =
     let value = digits_value 10 text in
     let parts = some-if (all_ascii_digits text && (ltb 0 (length text) && ltb value (2 ^ 32))) value sum e in
-    let tests = and-true (all_ascii_digits text) (ltb 0 (length text) && ltb value (2 ^ 32)) parts.0 in
-    let bounds = and-true (ltb 0 (length text)) (ltb value (2 ^ 32)) tests.1 in
+    let tests = and_parts (all_ascii_digits text) (ltb 0 (length text) && ltb value (2 ^ 32)) parts.0 in
+    let bounds = and_parts (ltb 0 (length text)) (ltb value (2 ^ 32)) tests.1 in
     record {
-      numeral = (lt-true 0 (length text) bounds.0, digits.to text tests.0);
+      numeral = (ltb-true 0 (length text) bounds.0, digits.to text tests.0);
       value = sym parts.1;
-      fits = subst (λ (n : ℕ). n < 2 ^ 32) parts.1 (lt-true value (2 ^ 32) bounds.1);
+      fits = subst (λ (n : ℕ). n < 2 ^ 32) parts.1 (ltb-true value (2 ^ 32) bounds.1);
     }
 
 pub sum-digits : (text : List ℕ) (sum : ℕ) → IsSum text sum → sum_of_digits text ≡ Some sum
@@ -77,9 +86,9 @@ read-digits text None never e =
   where
     refuted : ((IsNumeral 10 text × (digits_value 10 text < 2 ^ 32)) → ⊥) → (all_ascii_digits text && (ltb 0 (length text) && ltb (digits_value 10 text) (2 ^ 32))) ≡ true → ⊥
     refuted refused tests =
-        let parts = and-true (all_ascii_digits text) (ltb 0 (length text) && ltb (digits_value 10 text) (2 ^ 32)) tests in
-        let bounds = and-true (ltb 0 (length text)) (ltb (digits_value 10 text) (2 ^ 32)) parts.1 in
-        refused ((lt-true 0 (length text) bounds.0, digits.to text parts.0), lt-true (digits_value 10 text) (2 ^ 32) bounds.1)
+        let parts = and_parts (all_ascii_digits text) (ltb 0 (length text) && ltb (digits_value 10 text) (2 ^ 32)) tests in
+        let bounds = and_parts (ltb 0 (length text)) (ltb (digits_value 10 text) (2 ^ 32)) parts.1 in
+        refused ((ltb-true 0 (length text) bounds.0, digits.to text parts.0), ltb-true (digits_value 10 text) (2 ^ 32) bounds.1)
 read-digits text (Some n) whole e =
     let plain : without_leading_plus text ≡ text = without_leading_plus_none text (first-digit text e) in
     let is = subst (λ (t : List ℕ). IsNumeral 10 t × (n ≡ digits_value 10 t) × (n < 2 ^ 32)) plain whole in
@@ -91,7 +100,7 @@ no-digits text e = rw e refl
 -- digits begin with no blank
 unblank : (text : List ℕ) → all_ascii_digits text ≡ true → skip_blanks text ≡ text
 unblank [] e = refl
-unblank (b ∷ bs) e = by_test (eqb b 32) (other b (and-true (is_ascii_digit b) (all_ascii_digits bs) e).0)
+unblank (b ∷ bs) e = by_test (eqb b 32) (other b (and_parts (is_ascii_digit b) (all_ascii_digits bs) e).0)
   where
     other : (x : ℕ) → is_ascii_digit x ≡ true → eqb x 32 ≡ false
     other x digit = grind (arith, nat_tests)

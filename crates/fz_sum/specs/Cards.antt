@@ -21,7 +21,7 @@ datasum_card sum = text_card_bytes datasum_name (decimal sum)
 unfoldable pub checksum_card : ℕ → List ℕ
 checksum_card sum = text_card_bytes checksum_name (characters sum)
 
--- CHECKSUM with sixteen times the character `0`, as it stands while the sum of its HDU is taken
+-- CHECKSUM with sixteen times the character `0`, as it is while the sum of its HDU is taken
 unfoldable pub blank_checksum_card : List ℕ
 blank_checksum_card = text_card_bytes checksum_name (replicate 16 (byte "0"))
 

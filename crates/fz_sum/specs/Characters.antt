@@ -2,7 +2,7 @@
 use Rattle.std.specs.Prelude.{ℕ, ◌≡◌, ◌⊎◌, ◌+◌, ◌-◌, ◌/◌, ◌%◌, ◌^◌, ◌<◌, ◌≤◌, ◌&&◌, ◌||◌, zero, suc, nat_le, if◌then◌else◌, Bool, List, [], ◌∷◌, ◌++◌, map, take, drop, slice_index}
 use Rattle.std.specs.Int.{w32, to_be_bytes}
 
--- the punctuation of ASCII that stands between digits, capitals and small letters
+-- the punctuation of ASCII between digits, capitals and small letters
 abbrev pub IsPunctuation : ℕ → Type 0
 IsPunctuation c = ((58 ≤ c) × (c ≤ 64)) ⊎ ((91 ≤ c) × (c ≤ 96))
 

@@ -8,7 +8,7 @@ use Rattle.fz_card.specs.Plain.{skip_blanks}
 use Rattle.fz_card.specs.Value.{TextValue}
 use Rattle.fz_card.specs.Reading.{text_of}
 
--- the text gives this sum: after any blanks at its front it is one or more digits, which write a number of 32 bits; zeros may stand at their front
+-- the text gives this sum: after any blanks at its front it is one or more digits, which write a number of 32 bits; zeros may be at their front
 pub record GivesSum (text : List ℕ) (sum : ℕ) : Type 0 where
   pub before : ℕ
   pub digits : List ℕ

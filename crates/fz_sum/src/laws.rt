@@ -50,7 +50,7 @@ pub fn sum_law()
 {}
 
 /// The characters of a byte are those of the rule, and no others: four quarters and the rest, evened in two pairs by
-/// the least number that leaves no punctuation. Character j of byte i of a sum's complement stands at place
+/// the least number that leaves no punctuation. Character j of byte i of a sum's complement is at place
 /// `4j + i + 1`, and the last of all at place 0. All sixteen characters of a sum are letters or digits.
 pub fn characters_law()
     ensures rule { (byte : ℕ) (text : List ℕ) → byte < 256 → AreByteCharacters byte text ↔ (text ≡ byte_characters byte) }
@@ -75,7 +75,7 @@ pub fn datasum_law()
     made_cards_law();
 }
 
-/// A card that is put in place of another stands there, all other cards and the number of bytes stay.
+/// A card that is put in place of another is there, all other cards and the number of bytes stay.
 pub fn with_card_law()
     ensures there { (i : ℕ) (card bytes : List ℕ) → length card ≡ 80 → 80 * (i + 1) ≤ length bytes
         → take 80 (drop (80 * i) (with_card i card bytes)) ≡ card }

@@ -32,7 +32,7 @@ impl Sum {
         Sum { total: 0, count: 0 }
     }
 
-    /// Adds bytes, the first of which stands at this position: only what is left of the position by division by 4
+    /// Adds bytes, the first of which is at this position: only what is left of the position by division by 4
     /// counts. Fewer than `2^63` bytes may be added in all.
     pub fn add(&mut self, at: u64, bytes: &[u8])
         requires { self.old.count + length bytes.now < 2 ^ 63 }
@@ -42,7 +42,7 @@ impl Sum {
         self.count += bytes.len() as u64;
     }
 
-    /// The sum of all bytes that were added: 0 where all of them are 0, else at least 1.
+    /// The sum of all bytes that were added: 0 if all of them are 0, otherwise at least 1.
     pub fn value(&self) -> u32
         ensures { result ≡ carried self.now.total }
     {

@@ -10,7 +10,7 @@ const WORD_LEN: usize = 4;
 /// So many bytes are totalled in 64 bits, which they cannot pass.
 const STRETCH_LEN: usize = 1 << 24;
 
-/// The total of bytes, the first of which stands at this position.
+/// The total of bytes, the first of which is at this position.
 pub(crate) fn total_from(at: u64, bytes: &[u8]) -> u128
     requires { length bytes.now < 2 ^ 63 }
     ensures total { result ≡ total_at at bytes.now }
@@ -22,7 +22,7 @@ pub(crate) fn total_from(at: u64, bytes: &[u8]) -> u128
     u128::from(part_total(at, front)) + total_of_words(words) + u128::from(part_total(0, tail))
 }
 
-/// How many of so many bytes stand before the next word, where the first stands at this place in a word.
+/// How many of so many bytes are before the next word, if the first is at this place in a word.
 fn front_len(at: u64, len: usize) -> usize
     requires { at < 4 }
     ensures within { result ≤ len }
@@ -32,7 +32,7 @@ fn front_len(at: u64, len: usize) -> usize
     len.min((WORD_LEN - at as usize) % WORD_LEN)
 }
 
-/// The total of less than a word, of which the first byte stands at this place in a word.
+/// The total of less than a word, of which the first byte is at this place in a word.
 fn part_total(at: u64, part: &[u8]) -> u64
     requires at { at < 4 }
     requires short { length part.now < 4 }

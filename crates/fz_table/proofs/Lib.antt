@@ -3,5 +3,6 @@ pub mod Descriptors
 pub mod Digits
 pub mod Headers
 pub mod Places
+pub mod Refusals
 pub mod RowReads
 pub mod Tables

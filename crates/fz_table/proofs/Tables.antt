@@ -12,7 +12,7 @@ use Rattle.fz_block.specs.Facts.{IsHeaderOf, nine_axes}
 use Rattle.fz_block.specs.Header.{data_start_of}
 use Rattle.fz_block.specs.Checks.{unless_refused}
 use Rattle.fz_block.specs.declared.header.Header.{Header}
-use Rattle.fz_block.proofs.Refusals.{passed, stopped}
+use Rattle.fz_table.proofs.Refusals.{passed, stopped}
 use Rattle.fz_table.specs.Columns.{field_count, columns_len, column_called}
 use Rattle.fz_table.specs.Tables.{array_checks, field_checks, form_checks, width_checks, heap_checks, column_checks, table_checks, table_in, table_of, row_len_of, row_count_of, rows_len_of, heap_start_of, bad_table, coded_name, stored_name, gzip_name}
 use Rattle.fz_table.specs.declared.table.Table.{Table}

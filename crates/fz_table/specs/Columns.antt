@@ -12,11 +12,11 @@ use Rattle.fz_table.specs.Forms.{is_any, elements_len, form_in}
 use Rattle.fz_table.specs.declared.column.Column.{Column}
 use Rattle.fz_table.specs.declared.form.Form.{Form}
 
--- the index of the first card before END with this name, as it stands in columns 1 to 8
+-- the index of the first card before END with this name, as it is in columns 1 to 8
 unfoldable pub first_named : List ℕ → List ℕ → Option ℕ
 first_named name header = first_card (λ card. bytes_eq (card_name card) name) header
 
--- the integer and the text that a card says, if it stands and says one
+-- the integer and the text that a card says, if it is there and says one
 abbrev pub integer_at : List ℕ → Option ℕ → Option ℤ
 integer_at header None = None
 integer_at header (Some i) = integer_of (card_at header i)
@@ -81,7 +81,7 @@ abbrev pub unit_of : Option ℕ → ℕ
 unit_of None = 0
 unit_of (Some element) = unwrap_or (elements_len element 1) 0
 
--- a column of array descriptors, by the byte of the row at which it stands and its form: those of Q are the wide ones
+-- a column of array descriptors, by the byte of the row at which it is and its form: those of Q are the wide ones
 abbrev pub column_of : ℕ → Option Form → Column
 column_of at None = record { at = at; wide = false; unit = 0 }
 column_of at (Some form) = record { at = at; wide = form.letter == byte "Q"; unit = unit_of form.element }

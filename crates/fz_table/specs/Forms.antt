@@ -24,7 +24,7 @@ elements_len letter count =
 abbrev pub first_digits : List ℕ → List ℕ
 first_digits text = take (prefix_len is_ascii_digit text) text
 
--- the repeat count that these digits write: 1 where there are none
+-- the repeat count that these digits write: 1 if there are none
 abbrev pub repeat_in : List ℕ → ℕ
 repeat_in digits = if length digits == 0 then 1 else digits_value 10 digits
 
@@ -32,13 +32,13 @@ repeat_in digits = if length digits == 0 then 1 else digits_value 10 digits
 abbrev pub may_repeat : ℕ → ℕ → Bool
 may_repeat letter repeat = not (is_any (codes "PQ") letter && nat_lt 1 repeat)
 
--- the form whose letter stands first in the text, and takes so many bytes
+-- the form whose letter is first in the text, and takes so many bytes
 abbrev pub form_of_len : ℕ → ℕ → List ℕ → Option ℕ → Option Form
 form_of_len repeat letter behind None = None
 form_of_len repeat letter behind (Some len) =
     if may_repeat letter repeat then Some (record { repeat = repeat; letter = letter; len = len; element = slice_get behind 0 }) else None
 
--- the form with this repeat count whose letter stands first in the text
+-- the form with this repeat count whose letter is first in the text
 abbrev pub lettered : ℕ → List ℕ → Option Form
 lettered repeat [] = None
 lettered repeat (letter ∷ behind) = form_of_len repeat letter behind (elements_len letter repeat)

@@ -7,7 +7,7 @@ use Rattle.fz_table.specs.Tables.{coded_name, stored_name, gzip_name}
 use Rattle.fz_table.specs.declared.column.Column.{Column}
 use Rattle.fz_table.specs.declared.columns.Columns.{Columns}
 
--- the column of this name among the first so many: it stands within them, and its elements have bytes
+-- the column of this name among the first so many: it is one of them, and its elements have bytes
 pub record IsFound (name header : List ℕ) (i : ℕ) (found : Option Column) : Type 0 where
   pub called : found ≡ column_called name header i
   pub within : IfSome found (λ c. (c.at + descriptor_len c.wide ≤ columns_len header i) × (1 ≤ c.unit))

@@ -23,7 +23,7 @@ abbrev pub record_ranges : Result Record Fault → List (ℕ × ℕ)
 record_ranges (Ok chosen) = (chosen.start, chosen.read) ∷ []
 record_ranges (Err fault) = []
 
--- what the reading of a tile touches: the descriptors of its row, and where no check refuses the row, the bytes of its record
+-- what the reading of a tile touches: the descriptors of its row, and if no check refuses the row, the bytes of its record
 -- that are read
 abbrev pub tile_ranges : List ℕ → ℕ → Table → ℕ → Tile → List (ℕ × ℕ)
 tile_ranges file hdu t row tile = row_ranges t row ++ record_ranges (record_at file hdu t row tile)
@@ -32,7 +32,7 @@ tile_ranges file hdu t row tile = row_ranges t row ++ record_ranges (record_at f
 abbrev pub follows : Column → Column → Bool
 follows first second = first.at + descriptor_len first.wide == second.at
 
--- the reads of two columns: one where their descriptors stand together
+-- the reads of two columns: one if their descriptors are together
 abbrev pub two_reads : Table → Option Column → Option Column → ℕ → List (ℕ × ℕ)
 two_reads t None second row = descriptor_ranges t second row
 two_reads t (Some c) None row = descriptor_ranges t (Some c) row

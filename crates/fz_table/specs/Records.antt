@@ -1,4 +1,4 @@
--- The record of a tile: which column of its row is chosen, where it stands in the heap, and how much of it is read (FITS 4.0,
+-- The record of a tile: which column of its row is chosen, where it is in the heap, and how much of it is read (FITS 4.0,
 -- sections 7.3.5 and 10.1.3).
 use Rattle.std.specs.Prelude.{ℕ, ◌≡◌, ◌+◌, ◌*◌, ◌<◌, ◌≤◌, ◌==◌, ◌&&◌, not, nat_lt, min, Bool, true, List, [], ◌∷◌, take, drop, Option, Some, None, Result, if◌then◌else◌}
 use Rattle.fz_base.specs.Refusal.{refusal, first_refusal}
@@ -17,7 +17,7 @@ use Rattle.fz_table.specs.declared.record.TileColumn.TheVariants.{Coded, Stored}
 use Rattle.fz_table.specs.declared.row.Row.{Row}
 use Rattle.fz_table.specs.declared.table.Table.{Table}
 
--- the codes are chosen where the row describes any, and else the plain bytes
+-- the codes are chosen if the row describes any, and otherwise the plain bytes
 abbrev pub chosen_column : Row → TileColumn
 chosen_column r = if nat_lt 0 r.coded.count then Coded else Stored
 
@@ -50,7 +50,7 @@ chosen_record t r tile = record_in t r tile (chosen_column r)
 abbrev pub record_bytes : List ℕ → Record → List ℕ
 record_bytes file chosen = take chosen.read (drop chosen.start file)
 
--- whether a record is the plain bytes of its tile: in their own column, and in both where the codec is NOCOMPRESS
+-- whether a record is the plain bytes of its tile: in their own column, and in both if the codec is NOCOMPRESS
 abbrev pub is_plain : Tile → TileColumn → Bool
 is_plain tile Coded = tile.plain
 is_plain tile Stored = true
@@ -63,7 +63,7 @@ has_none r = r.coded.count == 0 && r.stored.count == 0
 abbrev pub missing_kind : Row → Kind
 missing_kind r = if nat_lt 0 r.gzip.count then GzipTile else TileMissing
 
--- The checks of a row, in order: the tile's bytes are not those of another algorithm alone, it has some, they end within the
+-- The checks of a row, in order: the tile's bytes are not only those of another algorithm, it has some, they end within the
 -- heap, and plain bytes have the length of the tile's.
 abbrev pub row_checks : ℕ → ℕ → Table → Row → Tile → List (Bool × Fault)
 row_checks hdu row t r tile =
@@ -83,7 +83,7 @@ record_of hdu row t r tile = unless_refused (chosen_record t r tile) (first_refu
 abbrev pub record_at : List ℕ → ℕ → Table → ℕ → Tile → Result Record Fault
 record_at file hdu t row tile = record_of hdu row t (row_at file t row) tile
 
--- a record has bytes, which stand within the heap; of these at most 8 for each pixel and 64 more are read
+-- a record has bytes, which are within the heap; of these at most 8 for each pixel and 64 more are read
 pub record StandsInHeap (t : Table) (tile : Tile) (chosen : Record) : Type 0 where
   pub some : 0 < chosen.read
   pub limit : chosen.read ≡ min chosen.total (8 * tile.pixels + 64)

@@ -7,11 +7,11 @@ use Rattle.fz_table.specs.declared.array.Descriptor.{Descriptor}
 use Rattle.fz_table.specs.declared.row.Row.{Row}
 use Rattle.fz_table.specs.declared.table.Table.{Table}
 
--- the bytes of a descriptor: two numbers of 32 bits, or of 64 where it is wide
+-- the bytes of a descriptor: two numbers of 32 bits, or of 64 if it is wide
 abbrev pub descriptor_len : Bool → ℕ
 descriptor_len wide = if wide then 16 else 8
 
--- the descriptor that stands at the front of these bytes
+-- the descriptor at the front of these bytes
 abbrev pub descriptor_in : Bool → List ℕ → Descriptor
 descriptor_in true bytes = record { count = big_number 8 bytes; offset = big_number 8 (drop 8 bytes) }
 descriptor_in false bytes = record { count = big_number 4 bytes; offset = big_number 4 (drop 4 bytes) }
@@ -20,7 +20,7 @@ descriptor_in false bytes = record { count = big_number 4 bytes; offset = big_nu
 abbrev pub row_start : Table → ℕ → ℕ
 row_start t row = t.rows_at + t.row_bytes * row
 
--- the byte of the file at which a column's descriptor stands in this row
+-- the byte of the file at which a column's descriptor is in this row
 abbrev pub descriptor_start : Table → Column → ℕ → ℕ
 descriptor_start t c row = row_start t row + c.at
 
@@ -41,7 +41,7 @@ row_at file t row = record {
   gzip = described_at file t t.gzip row;
 }
 
--- what a row says whose bytes stand at the front of these
+-- what a row says whose bytes are at the front of these
 abbrev pub described_in_row : Option Column → List ℕ → Descriptor
 described_in_row None bytes = record { count = 0; offset = 0 }
 described_in_row (Some c) bytes = descriptor_in c.wide (drop c.at bytes)
@@ -59,7 +59,7 @@ pub record IsRowOf (t : Table) (r : Row) : Type 0 where
   pub stored : IfNone t.stored (r.stored.count ≡ 0)
   pub gzip : IfNone t.gzip (r.gzip.count ≡ 0)
 
--- where elements of so many bytes start in the file, and how many bytes they are, if they stand within the heap
+-- where elements of so many bytes start in the file, and how many bytes they are, if they are within the heap
 abbrev pub heap_range : Table → ℕ → Descriptor → Option (ℕ × ℕ)
 heap_range t unit d = if nat_le (d.offset + d.count * unit) t.heap_len then Some (t.heap_at + d.offset, d.count * unit) else None
 
@@ -75,16 +75,16 @@ descriptor_bytes wide count offset = if wide then big_bytes 8 count ++ big_bytes
 abbrev pub packed_row : Bool → Descriptor → Descriptor → List ℕ
 packed_row wide coded stored = descriptor_bytes wide coded.count coded.offset ++ descriptor_bytes wide stored.count stored.offset
 
--- the two numbers of a descriptor that is written have 31 bits, or 63 where it is wide
+-- the two numbers of a descriptor that is written have 31 bits, or 63 if it is wide
 abbrev pub FitsDescriptor : Bool → Descriptor → Type 0
 FitsDescriptor true d = (d.count < 2 ^ 63) × (d.offset < 2 ^ 63)
 FitsDescriptor false d = (d.count < 2 ^ 31) × (d.offset < 2 ^ 31)
 
--- a column of descriptors stands within the row
+-- a column of descriptors is within the row
 abbrev pub StandsInRow : Table → Column → Type 0
 StandsInRow t c = c.at + descriptor_len c.wide ≤ t.row_bytes
 
--- the rows of a table end before its heap, and its columns stand within the row. The elements that are described have bytes.
+-- the rows of a table end before its heap, and its columns are within the row. The elements that are described have bytes.
 pub record IsTable (t : Table) : Type 0 where
   pub rows : t.rows_at + t.row_bytes * t.rows ≤ t.heap_at
   pub heap : t.heap_at + t.heap_len ≤ 2 ^ 62

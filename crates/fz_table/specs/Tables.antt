@@ -26,14 +26,14 @@ row_count_of h = slice_index h.axes.len 1
 abbrev pub rows_len_of : Header → ℕ
 rows_len_of h = row_len_of h * row_count_of h
 
--- the byte of the data at which the heap begins: THEAP, or directly after the rows where no card says it
+-- the byte of the data at which the heap begins: THEAP, or directly after the rows if no card says it
 abbrev pub theap_card : List ℕ → Option ℕ
 theap_card header = first_named (padded (codes "THEAP")) header
 
 abbrev pub heap_start_of : List ℕ → Header → ℕ
 heap_start_of header h = if is_some (theap_card header) then size_in (integer_at header (theap_card header)) else rows_len_of h
 
--- a fault at this card, or, where there is none, at END
+-- a fault at this card, or, if there is none, at END
 abbrev pub bad_table : Header → Option ℕ → Fault
 bad_table h found = refusal h.hdu (Card (unwrap_or found h.cards)) BadTable
 
@@ -49,7 +49,7 @@ array_checks h =
 abbrev pub field_checks : List ℕ → Header → List (Bool × Fault)
 field_checks header h = (not (is_from 1 999 (integer_at header (tfields_card header))), bad_table h (tfields_card header)) ∷ []
 
--- TFORMi stands, and can be read
+-- TFORMi is there, and can be read
 abbrev pub form_checks : List ℕ → Header → ℕ → List (Bool × Fault)
 form_checks header h i = (is_none (form_of header i), bad_table h (tform_card header i)) ∷ []
 
@@ -63,7 +63,7 @@ heap_checks header h =
     (is_some (theap_card header) && not (is_from (rows_len_of h) (rows_len_of h + h.pcount) (integer_at header (theap_card header))), bad_table h (theap_card header))
     ∷ []
 
--- where column i has this name, no column before it has, and it is one of descriptors of elements of these letters
+-- if column i has this name, no column before it has, and it is one of descriptors of elements of these letters
 abbrev pub name_checks : List ℕ → List ℕ → List ℕ → Header → ℕ → List (Bool × Fault)
 name_checks name letters header h i =
     (is_called name (title_of header i) && is_some (column_called name header (i - 1)), bad_table h (ttype_card header i))

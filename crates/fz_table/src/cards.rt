@@ -44,7 +44,7 @@ fn has_name(buf: &[u8], i: u32, name: &Name) -> bool
     buf[start..start + NAME_LEN] == name.bytes[..]
 }
 
-/// The integer that a card says, if it stands and says one.
+/// The integer that a card says, if it is there and says one.
 pub(crate) fn integer_at(buf: &[u8], found: Option<u32>) -> Option<i64>
     requires { IfSome found (λ i. 80 * (i + 1) ≤ len buf.now) }
     ensures { result ≡ integer_at buf.now found }
@@ -66,7 +66,7 @@ pub(crate) fn form_of(buf: &[u8], header: &Header, i: u32) -> Option<Form>
 }
 
 /// Whether column i has this name; the case of letters does not count.
-pub(crate) fn is_called(buf: &[u8], header: &Header, i: u32, name: &[u8]) -> bool
+pub fn is_called(buf: &[u8], header: &Header, i: u32, name: &[u8]) -> bool
     requires header { IsHeaderOf buf.now header.now }
     requires column { i < 1000 }
     ensures { result ≡ is_called name.now (title_of buf.now i) }
@@ -81,7 +81,7 @@ pub(crate) fn is_called(buf: &[u8], header: &Header, i: u32, name: &[u8]) -> boo
     }
 }
 
-/// A fault at this card, or, where there is none, at END.
+/// A fault at this card, or, if there is none, at END.
 pub(crate) fn bad_table(header: &Header, found: Option<u32>) -> Fault
     ensures { result ≡ bad_table header.now found }
 {

@@ -19,7 +19,7 @@ ghost use Rattle.fz_table.specs.Tables.{
 
 use crate::cards::{bad_table, first_named, form_of, integer_at};
 use fz_base::Fault;
-use fz_block::Header;
+use fz_block::{Header, refusals_law};
 use fz_card::{Name, numbered};
 
 /// The most columns of a table.
@@ -62,6 +62,7 @@ pub(crate) fn columns_len(buf: &[u8], header: &Header, fields: u32) -> Result<u6
     ensures exact { IsFirstOf (flat_map (form_checks buf.now header.now) (range_with_len 1 fields)) result }
     ensures len { IfOk result (λ n. n ≡ columns_len buf.now fields) }
 {
+    refusals_law();
     let mut len = 0;
     for before in 0..fields {
         len += width(buf, header, before + 1)?;
@@ -84,7 +85,7 @@ fn width(buf: &[u8], header: &Header, i: u32) -> Result<u64, Fault>
 }
 
 /// NAXIS1, the length of a row: the columns fill it.
-#[tactic(auto, using(fz_block::proofs::Refusals::refusals))]
+#[tactic(auto, using(crate::proofs::Refusals::refusals))]
 pub(crate) fn row_len(buf: &[u8], header: &Header, fields: u32) -> Result<u32, Fault>
     requires header { IsHeaderOf buf.now header.now }
     requires count { (fields ≡ field_count buf.now) × (fields < 1000) }

@@ -10,8 +10,8 @@ use fz_base::{Fault, Kind, Place};
 
 /// The record of a tile, by what its row says (FITS 4.0, sections 7.3.5 and 10.1.3).
 ///
-/// COMPRESSED_DATA is chosen where its count is above 0, else UNCOMPRESSED_DATA where its count is. The
-/// row is refused, in this order: GZIP_COMPRESSED_DATA alone describes elements (GzipTile); no column
+/// COMPRESSED_DATA is chosen if its count is above 0, otherwise UNCOMPRESSED_DATA if its count is. The
+/// row is refused, in this order: only GZIP_COMPRESSED_DATA describes elements (GzipTile); no column
 /// does (TileMissing); the described bytes pass the end of the heap (DescriptorRange); plain bytes have
 /// another length than the tile's (TileSize).
 #[tactic(auto, unfolding(crate::specs::Records::record_of))]
@@ -65,7 +65,7 @@ fn missing(says: &Row) -> Kind
     }
 }
 
-// The column of the codes where the row describes any, and else that of the plain bytes.
+// The column of the codes if the row describes any, and otherwise that of the plain bytes.
 fn chosen_column(says: &Row) -> TileColumn
     ensures { result ≡ chosen_column says.now }
 {

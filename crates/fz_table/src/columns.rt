@@ -11,7 +11,7 @@ use crate::Column;
 use crate::cards::{bad_table, first_named, form_of, is_called};
 use crate::form::{Form, elements_len, is_descriptor};
 use fz_base::Fault;
-use fz_block::Header;
+use fz_block::{Header, refusals_law};
 use fz_card::numbered;
 
 /// The letters that elements of the tiles' codes and plain bytes may have.
@@ -36,6 +36,7 @@ pub(crate) fn packed_columns(buf: &[u8], header: &Header, fields: u32) -> Result
     ensures exact { IsFirstOf (flat_map (column_checks buf.now header.now) (range_with_len 1 fields)) result }
     ensures found { IfOk result (AreFound buf.now fields) }
 {
+    refusals_law();
     let mut found = Columns {
         coded: None,
         stored: None,
@@ -61,8 +62,8 @@ fn width(buf: &[u8], header: &Header, i: u32) -> u64
     }
 }
 
-// The columns of a packed image among the first i, of which column i stands at this byte of the row.
-#[tactic(auto, using(fz_block::proofs::Refusals::refusals))]
+// The columns of a packed image among the first i, of which column i is at this byte of the row.
+#[tactic(auto, using(crate::proofs::Refusals::refusals))]
 fn with_column(
     buf: &[u8],
     header: &Header,
@@ -109,7 +110,7 @@ fn with_column(
     })
 }
 
-// The column of this name among the first i, where `before` is that among the columns before it.
+// The column of this name among the first i, if `before` is that among the columns before it.
 fn named_column(
     buf: &[u8],
     header: &Header,
@@ -140,6 +141,18 @@ fn named_column(
     }
 }
 
+/// Whether the form of column i is one array descriptor of elements of one of these letters.
+pub fn is_described(buf: &[u8], header: &Header, i: u32, letters: &[u8]) -> bool
+    requires header { IsHeaderOf buf.now header.now }
+    requires column { i < 1000 }
+    ensures { result ≡ describes letters.now (form_of buf.now i) }
+{
+    match form_of(buf, header, i) {
+        Some(form) => describes(letters, &form),
+        None => false,
+    }
+}
+
 // Whether the form is one array descriptor of elements of one of these letters.
 fn describes(letters: &[u8], form: &Form) -> bool
     ensures { result ≡ describes letters.now (Some form.now) }
@@ -157,7 +170,7 @@ fn is_element(letters: &[u8], element: Option<u8>) -> bool
     }
 }
 
-// The column of descriptors of this form that stands at this byte of the row.
+// The column of descriptors of this form that is at this byte of the row.
 fn column_of(at: u32, form: &Form) -> Column
     ensures { result ≡ column_of at (Some form.now) }
 {

@@ -33,8 +33,8 @@ pub(crate) fn form_in(text: &[u8]) -> Option<Form>
     lettered(repeat_in(digits), &text[digits.len()..])
 }
 
-// The digits at the front of the text.
-fn first_digits(text: &[u8]) -> &[u8]
+/// The digits at the front of the text.
+pub fn first_digits(text: &[u8]) -> &[u8]
     ensures value { result.now ≡ first_digits text.now }
     ensures digits { AllDigits 10 result.now }
 {
@@ -51,7 +51,7 @@ fn first_other(text: &[u8]) -> Option<usize>
     text.iter().position(|byte| !byte.is_ascii_digit())
 }
 
-// The repeat count that the digits write: 1 where there are none.
+// The repeat count that the digits write: 1 if there are none.
 fn repeat_in(digits: &[u8]) -> u32
     requires few { len digits.now ≤ 9 }
     requires digits { AllDigits 10 digits.now }
@@ -68,7 +68,7 @@ fn repeat_in(digits: &[u8]) -> u32
     number
 }
 
-// The form with this repeat count whose letter stands first in the text.
+// The form with this repeat count whose letter is first in the text.
 fn lettered(repeat: u32, text: &[u8]) -> Option<Form>
     requires { repeat < 10 ^ 9 }
     ensures form { result ≡ lettered repeat text.now }

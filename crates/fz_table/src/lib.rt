@@ -18,9 +18,11 @@ mod rows;
 mod table;
 
 pub use array::Descriptor;
-pub use cards::first_named;
+pub use cards::{first_named, is_called};
 pub use choice::record_of;
 pub use column::Column;
+pub use columns::is_described;
+pub use form::first_digits;
 pub use neighbours::{filled_law, is_filled, row_in, row_in_law};
 pub use reading::{find_record, read_record, read_row, row_reads_law};
 pub use record::{Record, Tile, TileColumn};

@@ -43,8 +43,8 @@ pub fn row_in_law()
     ensures { RowInLaw }
 {}
 
-/// Whether the descriptors of the two columns that may hold a tile fill the row. Rows that stand one
-/// after another may then be read by one reading, whose bytes are those of their descriptors alone
+/// Whether the descriptors of the two columns that may hold a tile fill the row. Rows that are one
+/// after another may then be read by one reading, whose bytes are only those of their descriptors
 /// (`filled_law`).
 pub fn is_filled(table: &Table) -> bool
     ensures { result ≡ is_filled table.now }

@@ -26,7 +26,7 @@ use fz_base::{Source, Stop};
 /// Finds the record of a tile: reads what its row says, and makes the checks of the row in their order
 /// (`record_of`), of which the first that refuses is answered.
 ///
-/// It stops with ReadFault or NoMemory where the source does.
+/// It stops with ReadFault or NoMemory if the source does.
 pub fn find_record<S: Source>(
     source: &mut S,
     hdu: u32,
@@ -51,10 +51,10 @@ pub fn find_record<S: Source>(
 }
 
 /// Reads what a row says of its tile (FITS 4.0, section 10.1.3): the descriptors of the two columns that
-/// may hold it, by one reading where they stand together, and then that of GZIP_COMPRESSED_DATA, each
-/// where there is such a column.
+/// may hold it, by one reading if they are together, and then that of GZIP_COMPRESSED_DATA, each
+/// if there is such a column.
 ///
-/// It stops with ReadFault or NoMemory where the source does, and refuses nothing.
+/// It stops with ReadFault or NoMemory if the source does, and refuses nothing.
 pub fn read_row<S: Source>(source: &mut S, table: &Table, row: u32) -> Result<Row, Stop>
     requires table { IsTable table.now }
     requires row { row < table.now.rows }
@@ -166,7 +166,7 @@ pub(crate) fn follows(first: &Column, second: &Column) -> bool
     u64::from(first.at) + descriptor_len(first.wide) as u64 == u64::from(second.at)
 }
 
-// Reads two descriptors that stand together.
+// Reads two descriptors that are together.
 fn read_pair<S: Source>(
     source: &mut S,
     table: &Table,
@@ -214,7 +214,7 @@ fn pair_in(bytes: &[u8], first: bool, second: bool) -> (Descriptor, Descriptor)
 /// Reads what is read of a record into the front of a buffer, by one reading (FITS 4.0, section 7.3.5).
 /// The bytes after stay as they are.
 ///
-/// It stops with ReadFault or NoMemory where the source does, and refuses nothing; the buffer then holds
+/// It stops with ReadFault or NoMemory if the source does, and refuses nothing; the buffer then holds
 /// some bytes.
 pub fn read_record<S: Source>(source: &mut S, chosen: &Record, into: &mut [u8]) -> Result<(), Stop>
     requires within { (n : ℕ) × (S.attached source.old ≡ Some n) × (chosen.now.start + chosen.now.total ≤ n) }

@@ -16,11 +16,11 @@ pub struct Tile {
     pub pixels: u32,
     /// The length of its plain bytes.
     pub plain_len: u64,
-    /// Whether the codec is NOCOMPRESS, so that plain bytes may stand in either column.
+    /// Whether the codec is NOCOMPRESS, so that plain bytes may be in either column.
     pub plain: bool,
 }
 
-/// Where the bytes of a tile stand in the file.
+/// Where the bytes of a tile are in the file.
 #[derive(Clone, Copy, Debug, PartialEq, Eq)]
 pub struct Record {
     /// The column that is chosen.

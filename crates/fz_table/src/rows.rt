@@ -28,7 +28,7 @@ pub(crate) const NARROW_LEN: usize = 8;
 /// Reads the descriptor of a column in a row, by one reading of its 8 or 16 bytes (FITS 4.0, section
 /// 7.3.5). Both numbers are read as unsigned.
 ///
-/// It stops with ReadFault or NoMemory where the source does, and refuses nothing.
+/// It stops with ReadFault or NoMemory if the source does, and refuses nothing.
 pub fn descriptor<S: Source>(
     source: &mut S,
     table: &Table,
@@ -74,7 +74,7 @@ pub(crate) fn descriptor_len(wide: bool) -> usize
     if wide { WIDE_LEN } else { NARROW_LEN }
 }
 
-/// The descriptor that stands at the front of these bytes.
+/// The descriptor at the front of these bytes.
 pub(crate) fn descriptor_in(bytes: &[u8], wide: bool) -> Descriptor
     requires { descriptor_len wide ≤ len bytes.now }
     ensures { result ≡ descriptor_in wide bytes.now }
@@ -100,7 +100,7 @@ pub(crate) const NOTHING: Descriptor = Descriptor {
 };
 
 /// The range of the file that a descriptor describes, by its start and its length in bytes, or None
-/// exactly where it passes the end of the heap.
+/// if and only if it passes the end of the heap.
 pub fn range(table: &Table, column: &Column, d: &Descriptor) -> Option<(u64, u64)>
     requires { table.now.heap_at + table.now.heap_len ≤ 2 ^ 62 }
     ensures { result ≡ range_of table.now column.now d.now }

@@ -48,12 +48,12 @@ returns-clause-refused g c =
 pub returns-clause-log : goal.returns-clause-log
 returns-clause-log g c =
     let size : length c.read_header.new.buf ≡ 2880 * c.in_ok-blocks.blocks = search rules in
-    logs_next c.args.length c.args.start c.in_ok-blocks.blocks _ (g.S.Source.ranges c.args.source.now) (g.S.Source.ranges c.header_blocks.new.source) (g.S.Source.ranges c.read_header.new.source)
+    logs_next c.log_law.ensures.one c.log_law.ensures.both c.args.length c.args.start c.in_ok-blocks.blocks _ (g.S.Source.ranges c.args.source.now) (g.S.Source.ranges c.header_blocks.new.source) (g.S.Source.ranges c.read_header.new.source)
     (search rules) c.in_ok-blocks.ensures.range.0 c.in_ok-blocks.ensures.range.1 c.in_ok-blocks.ensures.range.2 c.in_ok-blocks.ensures.log c.read_header.ensures.log
 
 pub returns-clause-touched : goal.returns-clause-touched
 returns-clause-touched g c =
     let held : Option (List ℕ) = g.S.Source.held c.args.source.now in
     let told : HoldsLength held c.args.length = g.met.S.Source.agrees c.args.source.now c.args.length c.requires.attached in
-    touched_next held c.args.length c.args.hdu c.args.start c.in_ok-blocks.blocks _ (g.S.Source.ranges c.args.source.now) (g.S.Source.ranges c.header_blocks.new.source) (g.S.Source.ranges c.read_header.new.source)
+    touched_next c.log_law.ensures.one c.log_law.ensures.both held c.args.length c.args.hdu c.args.start c.in_ok-blocks.blocks _ (g.S.Source.ranges c.args.source.now) (g.S.Source.ranges c.header_blocks.new.source) (g.S.Source.ranges c.read_header.new.source)
     told c.in_ok-blocks.ensures.exact (search rules) c.in_ok-blocks.ensures.range.0 c.in_ok-blocks.ensures.range.2 c.in_ok-blocks.ensures.touched c.read_header.ensures.log

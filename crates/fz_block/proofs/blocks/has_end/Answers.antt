@@ -1,7 +1,6 @@
--- What the next block says: in a source that tells its bytes, the block that was read is the file's.
+-- What the next block says: in a source that shows its bytes, the block that was read is the file's.
 use Rattle.std.proofs.Common.{◌+◌, ◌*◌, min, length, Ok, Err, arith, rules}
 use Rattle.fz_base.specs.Source.{Reads, MayLog}
-use Rattle.fz_base.proofs.Logs.{logs_within_one}
 use Rattle.fz_block.proofs.Search.{past_end, by_block}
 use Rattle.fz_block.proofs.blocks.has_end.Goals as goal
 
@@ -27,17 +26,17 @@ returns-in-Err-clause-exact g c =
 pub returns-in_err-map_err-clause-log : goal.returns-in_err-map_err-clause-log
 returns-in_err-map_err-clause-log g c =
     let may : MayLog (c.args.start + 2880 * c.from.result) (length c.args.block.now) (g.S.Source.ranges c.args.source.now) (g.S.Source.ranges c.read_at.new.self) = search rules in
-    logs_within_one (c.args.start + 2880 * c.args.b) (min c.args.length (c.args.start + 2880 * (c.args.b + 1))) (c.args.start + 2880 * c.from.result) (length c.args.block.now)
+    c.log_law.ensures.one (c.args.start + 2880 * c.args.b) (min c.args.length (c.args.start + 2880 * (c.args.b + 1))) (c.args.start + 2880 * c.from.result) (length c.args.block.now)
     (g.S.Source.ranges c.args.source.now) (g.S.Source.ranges c.read_at.new.self) (omega (arith, c.requires.block)) (omega (arith, c.from.ensures)) (omega (arith, c.from.ensures, c.requires.block)) may
 
 pub returns-in-Ok-clause-log : goal.returns-in-Ok-clause-log
 returns-in-Ok-clause-log g c =
     let may : MayLog (c.args.start + 2880 * c.from.result) (length c.args.block.now) (g.S.Source.ranges c.args.source.now) (g.S.Source.ranges c.read_at.new.self) = search rules in
-    logs_within_one (c.args.start + 2880 * c.args.b) (min c.args.length (c.args.start + 2880 * (c.args.b + 1))) (c.args.start + 2880 * c.from.result) (length c.args.block.now)
+    c.log_law.ensures.one (c.args.start + 2880 * c.args.b) (min c.args.length (c.args.start + 2880 * (c.args.b + 1))) (c.args.start + 2880 * c.from.result) (length c.args.block.now)
     (g.S.Source.ranges c.args.source.now) (g.S.Source.ranges c.read_at.new.self) (omega (arith, c.requires.block)) (omega (arith, c.from.ensures)) (omega (arith, c.from.ensures, c.requires.block)) may
 
 pub returns-in-Err-clause-log : goal.returns-in-Err-clause-log
 returns-in-Err-clause-log g c =
     let may : MayLog (c.args.start + 2880 * c.from.result) (length c.args.block.now) (g.S.Source.ranges c.args.source.now) (g.S.Source.ranges c.read_at.new.self) = search rules in
-    logs_within_one (c.args.start + 2880 * c.args.b) (min c.args.length (c.args.start + 2880 * (c.args.b + 1))) (c.args.start + 2880 * c.from.result) (length c.args.block.now)
+    c.log_law.ensures.one (c.args.start + 2880 * c.args.b) (min c.args.length (c.args.start + 2880 * (c.args.b + 1))) (c.args.start + 2880 * c.from.result) (length c.args.block.now)
     (g.S.Source.ranges c.args.source.now) (g.S.Source.ranges c.read_at.new.self) (omega (arith, c.requires.block)) (omega (arith, c.from.ensures)) (omega (arith, c.from.ensures, c.requires.block)) may

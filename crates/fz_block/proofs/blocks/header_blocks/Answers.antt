@@ -16,21 +16,21 @@ returns-in_err-check_begin-clause-exact g c =
 
 pub returns-in_err-check_begin-clause-touched : goal.returns-in_err-check_begin-clause-touched
 returns-in_err-check_begin-clause-touched g c =
-    touched_first (g.S.Source.held c.args.source.now) c.args.length c.args.hdu c.args.start (g.S.Source.ranges c.args.source.now) (g.S.Source.ranges c.check_begin.new.source)
+    touched_first c.log_law.ensures.wider (g.S.Source.held c.args.source.now) c.args.length c.args.hdu c.args.start (g.S.Source.ranges c.args.source.now) (g.S.Source.ranges c.check_begin.new.source)
     (g.met.S.Source.agrees c.args.source.now c.args.length c.requires.attached) c.in_err-check_begin.ensures.log
 
 pub returns-clause-log : goal.returns-clause-log
 returns-clause-log g c =
-    logs_begun c.args.length c.args.start (g.S.Source.ranges c.args.source.now) (g.S.Source.ranges c.check_begin.new.source) (g.S.Source.ranges c.search_end.new.source)
+    logs_begun c.log_law.ensures.both c.log_law.ensures.wider c.args.length c.args.start (g.S.Source.ranges c.args.source.now) (g.S.Source.ranges c.check_begin.new.source) (g.S.Source.ranges c.search_end.new.source)
     c.in_ok-check_begin.ensures.log c.search_end.ensures.log
 
 pub returns-clause-touched : goal.returns-clause-touched
 returns-clause-touched g c =
     let held : Option (List ℕ) = g.S.Source.held c.args.source.now in
     let first : IfSome held (λ f. LogsWithin c.args.start (header_touched c.args.hdu c.args.start f) (g.S.Source.ranges c.args.source.now) (g.S.Source.ranges c.check_begin.new.source)) =
-    touched_first held c.args.length c.args.hdu c.args.start (g.S.Source.ranges c.args.source.now) (g.S.Source.ranges c.check_begin.new.source)
+    touched_first c.log_law.ensures.wider held c.args.length c.args.hdu c.args.start (g.S.Source.ranges c.args.source.now) (g.S.Source.ranges c.check_begin.new.source)
     (g.met.S.Source.agrees c.args.source.now c.args.length c.requires.attached) c.in_ok-check_begin.ensures.log in
     let second : IfSome held (λ f. LogsWithin c.args.start (header_touched c.args.hdu c.args.start f) (g.S.Source.ranges c.check_begin.new.source) (g.S.Source.ranges c.search_end.new.source)) =
     subst (λ (h : Option (List ℕ)). IfSome h (λ f. LogsWithin c.args.start (header_touched c.args.hdu c.args.start f) (g.S.Source.ranges c.check_begin.new.source) (g.S.Source.ranges c.search_end.new.source)))
     c.in_ok-check_begin.ensures.held c.search_end.ensures.touched in
-    touched_both held c.args.hdu c.args.start (g.S.Source.ranges c.args.source.now) (g.S.Source.ranges c.check_begin.new.source) (g.S.Source.ranges c.search_end.new.source) first second
+    touched_both c.log_law.ensures.both held c.args.hdu c.args.start (g.S.Source.ranges c.args.source.now) (g.S.Source.ranges c.check_begin.new.source) (g.S.Source.ranges c.search_end.new.source) first second

@@ -1,8 +1,7 @@
--- Where the source tells its bytes, the search answers what the definition says.
+-- If the source shows its bytes, the search answers what the definition says.
 use Rattle.std.proofs.Common.{◌≡◌, ◌+◌, ◌*◌, min, ℕ, List, Option, Result, Ok, Err, refl, sym, subst, arith, rules, IfSome}
-use Rattle.fz_base.specs.Source.{HoldsLength, IsRangeBetween}
+use Rattle.fz_base.specs.Source.{HoldsLength}
 use Rattle.fz_base.specs.Stop.{IsDefined}
-use Rattle.fz_base.proofs.Logs.{logs_none}
 use Rattle.fz_base.specs.declared.failure.Stop.{Stop}
 use Rattle.fz_block.specs.Checks.{header_blocks_of}
 use Rattle.fz_block.specs.Scan.{next_block_says}
@@ -15,7 +14,7 @@ loop-b-init g c = record {
   held = refl;
   attached = refl;
   tally = refl;
-  log = logs_none (IsRangeBetween c.args.start (min c.args.length (c.args.start + 2880 * 0))) (g.S.Source.ranges c.args.source.now);
+  log = c.log_law.ensures.none c.args.start (min c.args.length (c.args.start + 2880 * 0)) (g.S.Source.ranges c.args.source.now);
   within = omega (arith, c.requires.within);
   searched = search_begins (g.S.Source.held c.args.source.now) c.args.length c.args.hdu c.args.start
       (g.met.S.Source.agrees c.args.source.now c.args.length c.requires.attached) c.requires.within;
@@ -48,7 +47,7 @@ loop-b-preserved g c =
       held = search rules;
       attached = search rules;
       tally = search rules;
-      log = logs_on c.args.length c.args.start c.loop-b.b (g.S.Source.ranges c.args.source.now) (g.S.Source.ranges c.loop-b.source) (g.S.Source.ranges c.has_end.new.source)
+      log = logs_on c.log_law.ensures.both c.log_law.ensures.wider c.args.length c.args.start c.loop-b.b (g.S.Source.ranges c.args.source.now) (g.S.Source.ranges c.loop-b.source) (g.S.Source.ranges c.has_end.new.source)
           c.loop-b.invariant.log c.in_ok-has_end.ensures.log;
       within = search rules;
       searched = search_goes_on (g.S.Source.held c.args.source.now) c.args.hdu c.args.start c.loop-b.b c.in_ok-has_end.field-0 c.if-branch.false
@@ -62,38 +61,38 @@ returns-clause-exact g c =
 
 pub returns-in_err-has_end-clause-log : goal.returns-in_err-has_end-clause-log
 returns-in_err-has_end-clause-log g c =
-    logs_of_header c.args.length c.args.start (c.loop-b.b + 1) (g.S.Source.ranges c.args.source.now) (g.S.Source.ranges c.has_end.new.source) (omega arith)
-    (logs_on c.args.length c.args.start c.loop-b.b (g.S.Source.ranges c.args.source.now) (g.S.Source.ranges c.loop-b.source) (g.S.Source.ranges c.has_end.new.source)
+    logs_of_header c.log_law.ensures.wider c.args.length c.args.start (c.loop-b.b + 1) (g.S.Source.ranges c.args.source.now) (g.S.Source.ranges c.has_end.new.source) (omega arith)
+    (logs_on c.log_law.ensures.both c.log_law.ensures.wider c.args.length c.args.start c.loop-b.b (g.S.Source.ranges c.args.source.now) (g.S.Source.ranges c.loop-b.source) (g.S.Source.ranges c.has_end.new.source)
     c.loop-b.invariant.log c.in_err-has_end.ensures.log)
 
 pub returns-in_err-has_end-clause-touched : goal.returns-in_err-has_end-clause-touched
 returns-in_err-has_end-clause-touched g c =
     let told : HoldsLength (g.S.Source.held c.args.source.now) c.args.length = g.met.S.Source.agrees c.args.source.now c.args.length c.requires.attached in
-    touched_blocks (g.S.Source.held c.args.source.now) c.args.length c.args.hdu c.args.start c.loop-b.b (c.loop-b.b + 1) (g.S.Source.ranges c.args.source.now) (g.S.Source.ranges c.has_end.new.source)
+    touched_blocks c.log_law.ensures.wider (g.S.Source.held c.args.source.now) c.args.length c.args.hdu c.args.start c.loop-b.b (c.loop-b.b + 1) (g.S.Source.ranges c.args.source.now) (g.S.Source.ranges c.has_end.new.source)
     told c.requires.begins c.loop-b.invariant.searched (omega arith) (omega arith)
-    (logs_on c.args.length c.args.start c.loop-b.b (g.S.Source.ranges c.args.source.now) (g.S.Source.ranges c.loop-b.source) (g.S.Source.ranges c.has_end.new.source)
+    (logs_on c.log_law.ensures.both c.log_law.ensures.wider c.args.length c.args.start c.loop-b.b (g.S.Source.ranges c.args.source.now) (g.S.Source.ranges c.loop-b.source) (g.S.Source.ranges c.has_end.new.source)
     c.loop-b.invariant.log c.in_err-has_end.ensures.log)
 
 pub returns-then-branch-clause-log : goal.returns-then-branch-clause-log
 returns-then-branch-clause-log g c =
-    logs_of_header c.args.length c.args.start (c.loop-b.b + 1) (g.S.Source.ranges c.args.source.now) (g.S.Source.ranges c.has_end.new.source) (omega arith)
-    (logs_on c.args.length c.args.start c.loop-b.b (g.S.Source.ranges c.args.source.now) (g.S.Source.ranges c.loop-b.source) (g.S.Source.ranges c.has_end.new.source)
+    logs_of_header c.log_law.ensures.wider c.args.length c.args.start (c.loop-b.b + 1) (g.S.Source.ranges c.args.source.now) (g.S.Source.ranges c.has_end.new.source) (omega arith)
+    (logs_on c.log_law.ensures.both c.log_law.ensures.wider c.args.length c.args.start c.loop-b.b (g.S.Source.ranges c.args.source.now) (g.S.Source.ranges c.loop-b.source) (g.S.Source.ranges c.has_end.new.source)
     c.loop-b.invariant.log c.in_ok-has_end.ensures.log)
 
 pub returns-then-branch-clause-touched : goal.returns-then-branch-clause-touched
 returns-then-branch-clause-touched g c =
     let told : HoldsLength (g.S.Source.held c.args.source.now) c.args.length = g.met.S.Source.agrees c.args.source.now c.args.length c.requires.attached in
-    touched_blocks (g.S.Source.held c.args.source.now) c.args.length c.args.hdu c.args.start c.loop-b.b (c.loop-b.b + 1) (g.S.Source.ranges c.args.source.now) (g.S.Source.ranges c.has_end.new.source)
+    touched_blocks c.log_law.ensures.wider (g.S.Source.held c.args.source.now) c.args.length c.args.hdu c.args.start c.loop-b.b (c.loop-b.b + 1) (g.S.Source.ranges c.args.source.now) (g.S.Source.ranges c.has_end.new.source)
     told c.requires.begins c.loop-b.invariant.searched (omega arith) (omega arith)
-    (logs_on c.args.length c.args.start c.loop-b.b (g.S.Source.ranges c.args.source.now) (g.S.Source.ranges c.loop-b.source) (g.S.Source.ranges c.has_end.new.source)
+    (logs_on c.log_law.ensures.both c.log_law.ensures.wider c.args.length c.args.start c.loop-b.b (g.S.Source.ranges c.args.source.now) (g.S.Source.ranges c.loop-b.source) (g.S.Source.ranges c.has_end.new.source)
     c.loop-b.invariant.log c.in_ok-has_end.ensures.log)
 
 pub returns-clause-log : goal.returns-clause-log
 returns-clause-log g c =
-    logs_of_header c.args.length c.args.start c.loop-b.b (g.S.Source.ranges c.args.source.now) (g.S.Source.ranges c.loop-b.source) (omega arith) c.loop-b.invariant.log
+    logs_of_header c.log_law.ensures.wider c.args.length c.args.start c.loop-b.b (g.S.Source.ranges c.args.source.now) (g.S.Source.ranges c.loop-b.source) (omega arith) c.loop-b.invariant.log
 
 pub returns-clause-touched : goal.returns-clause-touched
 returns-clause-touched g c =
     let told : HoldsLength (g.S.Source.held c.args.source.now) c.args.length = g.met.S.Source.agrees c.args.source.now c.args.length c.requires.attached in
-    touched_blocks (g.S.Source.held c.args.source.now) c.args.length c.args.hdu c.args.start c.loop-b.b c.loop-b.b (g.S.Source.ranges c.args.source.now) (g.S.Source.ranges c.loop-b.source)
+    touched_blocks c.log_law.ensures.wider (g.S.Source.held c.args.source.now) c.args.length c.args.hdu c.args.start c.loop-b.b c.loop-b.b (g.S.Source.ranges c.args.source.now) (g.S.Source.ranges c.loop-b.source)
     told c.requires.begins c.loop-b.invariant.searched (omega arith) (omega arith) c.loop-b.invariant.log

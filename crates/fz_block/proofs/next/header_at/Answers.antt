@@ -39,7 +39,7 @@ returns-in-Ok-clause-log g c =
     let count : 2880 * c.from.result ≡ 2880 * c.in_ok-blocks.blocks = ap (λ n. 2880 * n) c.from.ensures in
     let size : length c.as_mut_slice.result.now ≡ 2880 * c.in_ok-blocks.blocks =
     ap length c.as_mut_slice.ensures.value ∙ (ap length zeros ∙ (length-replicate (2880 * c.from.result) 0 ∙ count)) in
-    logs_next c.args.length c.args.start c.in_ok-blocks.blocks (length c.as_mut_slice.result.now) (g.S.Source.ranges c.args.source.now) (g.S.Source.ranges c.header_blocks.new.source) (g.S.Source.ranges c.read_header-answer.new.source)
+    logs_next c.log_law.ensures.one c.log_law.ensures.both c.args.length c.args.start c.in_ok-blocks.blocks (length c.as_mut_slice.result.now) (g.S.Source.ranges c.args.source.now) (g.S.Source.ranges c.header_blocks.new.source) (g.S.Source.ranges c.read_header-answer.new.source)
     size c.in_ok-blocks.ensures.range.0 c.in_ok-blocks.ensures.range.1 c.in_ok-blocks.ensures.range.2 c.in_ok-blocks.ensures.log c.read_header-answer.ensures.log
 
 pub returns-in-Ok-clause-touched : goal.returns-in-Ok-clause-touched
@@ -50,7 +50,7 @@ returns-in-Ok-clause-touched g c =
     let count : 2880 * c.from.result ≡ 2880 * c.in_ok-blocks.blocks = ap (λ n. 2880 * n) c.from.ensures in
     let size : length c.as_mut_slice.result.now ≡ 2880 * c.in_ok-blocks.blocks =
     ap length c.as_mut_slice.ensures.value ∙ (ap length zeros ∙ (length-replicate (2880 * c.from.result) 0 ∙ count)) in
-    touched_next held c.args.length c.args.hdu c.args.start c.in_ok-blocks.blocks (length c.as_mut_slice.result.now) (g.S.Source.ranges c.args.source.now) (g.S.Source.ranges c.header_blocks.new.source) (g.S.Source.ranges c.read_header-answer.new.source)
+    touched_next c.log_law.ensures.one c.log_law.ensures.both held c.args.length c.args.hdu c.args.start c.in_ok-blocks.blocks (length c.as_mut_slice.result.now) (g.S.Source.ranges c.args.source.now) (g.S.Source.ranges c.header_blocks.new.source) (g.S.Source.ranges c.read_header-answer.new.source)
     told c.in_ok-blocks.ensures.exact size c.in_ok-blocks.ensures.range.0 c.in_ok-blocks.ensures.range.2 c.in_ok-blocks.ensures.touched c.read_header-answer.ensures.log
 
 pub returns-in-Err-clause-exact : goal.returns-in-Err-clause-exact
@@ -75,7 +75,7 @@ returns-in-Err-clause-log g c =
     let count : 2880 * c.from.result ≡ 2880 * c.in_ok-blocks.blocks = ap (λ n. 2880 * n) c.from.ensures in
     let size : length c.as_mut_slice.result.now ≡ 2880 * c.in_ok-blocks.blocks =
     ap length c.as_mut_slice.ensures.value ∙ (ap length zeros ∙ (length-replicate (2880 * c.from.result) 0 ∙ count)) in
-    logs_next c.args.length c.args.start c.in_ok-blocks.blocks (length c.as_mut_slice.result.now) (g.S.Source.ranges c.args.source.now) (g.S.Source.ranges c.header_blocks.new.source) (g.S.Source.ranges c.read_header-answer.new.source)
+    logs_next c.log_law.ensures.one c.log_law.ensures.both c.args.length c.args.start c.in_ok-blocks.blocks (length c.as_mut_slice.result.now) (g.S.Source.ranges c.args.source.now) (g.S.Source.ranges c.header_blocks.new.source) (g.S.Source.ranges c.read_header-answer.new.source)
     size c.in_ok-blocks.ensures.range.0 c.in_ok-blocks.ensures.range.1 c.in_ok-blocks.ensures.range.2 c.in_ok-blocks.ensures.log c.read_header-answer.ensures.log
 
 pub returns-in-Err-clause-touched : goal.returns-in-Err-clause-touched
@@ -86,7 +86,7 @@ returns-in-Err-clause-touched g c =
     let count : 2880 * c.from.result ≡ 2880 * c.in_ok-blocks.blocks = ap (λ n. 2880 * n) c.from.ensures in
     let size : length c.as_mut_slice.result.now ≡ 2880 * c.in_ok-blocks.blocks =
     ap length c.as_mut_slice.ensures.value ∙ (ap length zeros ∙ (length-replicate (2880 * c.from.result) 0 ∙ count)) in
-    touched_next held c.args.length c.args.hdu c.args.start c.in_ok-blocks.blocks (length c.as_mut_slice.result.now) (g.S.Source.ranges c.args.source.now) (g.S.Source.ranges c.header_blocks.new.source) (g.S.Source.ranges c.read_header-answer.new.source)
+    touched_next c.log_law.ensures.one c.log_law.ensures.both held c.args.length c.args.hdu c.args.start c.in_ok-blocks.blocks (length c.as_mut_slice.result.now) (g.S.Source.ranges c.args.source.now) (g.S.Source.ranges c.header_blocks.new.source) (g.S.Source.ranges c.read_header-answer.new.source)
     told c.in_ok-blocks.ensures.exact size c.in_ok-blocks.ensures.range.0 c.in_ok-blocks.ensures.range.2 c.in_ok-blocks.ensures.touched c.read_header-answer.ensures.log
 
 pub returns-in-Ok-clause-first_past : goal.returns-in-Ok-clause-first_past

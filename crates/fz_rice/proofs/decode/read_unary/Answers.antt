@@ -31,7 +31,7 @@ loop-i-preserved-then-same-gt0 g c =
     let len : length more ≡ n = ap length filled ∙ length-replicate {A = ℤ} n x in
     let taken : take (i + n) after ≡ take i numbers ++ replicate n x = take-put_mid i (i + n - i) numbers more (i + n) (omega (arith, len)) (omega arith) ∙ ap (λ l. take i numbers ++ l) filled in
     let same : length after ≡ length numbers = simp (length-append, length-take, length-drop) (omega (arith, len, few)) in
-    let half = halfway_ones w c.args.start whole (length numbers - i) n (length after - (i + n)) (left c.loop-i.ahead) rest (take i numbers) c.loop-i.last c.loop-i.invariant.below c.loop-i.invariant.half (omega (arith, same, few)) c.take_ones-same.ensures.ones in
+    let half = halfway_ones c.number_law.ensures w c.args.start whole (length numbers - i) n (length after - (i + n)) (left c.loop-i.ahead) rest (take i numbers) c.loop-i.last c.loop-i.invariant.below c.loop-i.invariant.half (omega (arith, same, few)) c.take_ones-same.ensures.ones in
     record {
       half = subst (λ (l : List ℤ). Halfway w c.args.start whole (many_at read (length after - (i + n)) rest) l c.loop-i.last) (sym taken) half;
       within = omega (arith, same, few);

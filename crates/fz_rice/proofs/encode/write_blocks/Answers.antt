@@ -14,7 +14,7 @@ use Rattle.fz_rice.proofs.encode.write_blocks.Goals as goal
 
 pub loop-at-init : goal.loop-at-init
 loop-at-init g c = record {
-  half = blocks_begin g.row.W c.args.block c.args.start c.args.numbers.now c.args.writer.now;
+  half = blocks_begin g.row.W c.args.block c.args.start c.args.numbers.now c.args.writer.now (c.room_law.ensures c.args.writer.now);
   within = omega arith;
   below = c.requires.start;
 }

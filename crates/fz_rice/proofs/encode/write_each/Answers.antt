@@ -12,7 +12,7 @@ use Rattle.fz_rice.proofs.encode.write_each.Goals as goal
 
 pub loop-number-init : goal.loop-number-init
 loop-number-init g c = record {
-  half = writes_nothing c.args.writer.now;
+  half = writes_nothing c.args.writer.now (c.room_law.ensures c.args.writer.now);
   last = sym (last_residue-nil g.row.W c.args.start);
   below = c.requires.start;
 }

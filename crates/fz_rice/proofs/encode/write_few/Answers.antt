@@ -1,13 +1,13 @@
-use Rattle.std.proofs.Common.{◌≡◌, ℕ, Bool, pos, List, get_or, length, sym, ap, ◌∙◌, arith, rules}
+use Rattle.std.proofs.Common.{◌≡◌, ℕ, Bool, pos, List, get_or, length, subst, ap, ◌∙◌, arith, rules}
 use Rattle.std.specs.List.{flat_map}
 use Rattle.std.specs.Int.{w32}
 use Rattle.std.specs.Prelude.{FitsSigned}
 use Rattle.std.proofs.lemmas.Int.{to_z-of_z}
 use Rattle.fz_bits.specs.Bits.{number_bits}
-use Rattle.fz_bits.proofs.BitsLemmas.{length-number_bits}
 use Rattle.fz_rice.specs.Numbers.{residue}
 use Rattle.fz_rice.specs.Code.{differences, split_bits}
-use Rattle.fz_rice.proofs.WritesLemmas.{writes_of, four_bits}
+use Rattle.fz_rice.specs.Writing.{Writes}
+use Rattle.fz_rice.proofs.WritesLemmas.{four_bits}
 use Rattle.fz_rice.proofs.encode.write_few.Goals as goal
 
 pub returns-in-Some : goal.returns-in-Some
@@ -31,5 +31,4 @@ returns-in-Some g c =
     let e : c.residue-d.result ≡ residue w x3 = c.residue-d.ensures ∙ ap (residue w) (to_z-of_z w32 x3 f3) in
     let len : length xs ≡ 4 = omega (arith, c.in-len4.len_at_least, c.in-len4.len_below) in
     let is : number_bits four.width four.bits ≡ flat_map f (differences w start xs) = c.in-Some.ensures ∙ four_bits f w start xs c.residue-a.result c.residue-b.result c.residue-c.result c.residue-d.result c.mapped.result c.mapped-in-len4.result c.mapped-in-len4-2.result c.mapped-in-len4-3.result len a b d e c.mapped.ensures c.mapped-in-len4.ensures c.mapped-in-len4-2.ensures c.mapped-in-len4-3.ensures in
-    let put = c.put_long.ensures in
-    writes_of c.put_long.result (flat_map f (differences w start xs)) (number_bits four.width four.bits) four.width c.args.writer.now c.put_long.new.self put.same put.room put.ok put.full is (ap length (sym is) ∙ length-number_bits four.width four.bits)
+    subst (λ (x : List Bool). Writes c.write.result x c.args.writer.now c.write.new.writer) is c.write.ensures

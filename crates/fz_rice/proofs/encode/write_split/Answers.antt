@@ -14,7 +14,7 @@ use Rattle.fz_rice.proofs.encode.write_split.Goals as goal
 
 pub loop-at-init : goal.loop-at-init
 loop-at-init g c = record {
-  half = writes_nothing c.args.writer.now;
+  half = writes_nothing c.args.writer.now (c.room_law.ensures c.args.writer.now);
   last = sym (last_residue-nil g.row.W c.args.start);
   within = omega arith;
   below = c.requires.start;

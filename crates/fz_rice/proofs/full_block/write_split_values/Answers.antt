@@ -8,7 +8,7 @@ use Rattle.fz_rice.proofs.FieldsLemmas.{values_write, values_stop}
 use Rattle.fz_rice.proofs.full_block.write_split_values.Goals as goal
 
 pub loop-q-init : goal.loop-q-init
-loop-q-init c = writes_nothing c.args.writer.now
+loop-q-init c = writes_nothing c.args.writer.now (c.room_law.ensures c.args.writer.now)
 
 pub returns-in_err-write_four : goal.returns-in_err-write_four
 returns-in_err-write_four c =

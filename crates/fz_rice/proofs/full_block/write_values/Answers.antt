@@ -7,7 +7,7 @@ use Rattle.fz_rice.proofs.FieldsLemmas.{value_write, values_stop}
 use Rattle.fz_rice.proofs.full_block.write_values.Goals as goal
 
 pub loop-value-init : goal.loop-value-init
-loop-value-init c = writes_nothing c.args.writer.now
+loop-value-init c = writes_nothing c.args.writer.now (c.room_law.ensures c.args.writer.now)
 
 pub returns-in_err-write_value : goal.returns-in_err-write_value
 returns-in_err-write_value c =

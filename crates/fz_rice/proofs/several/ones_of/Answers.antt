@@ -4,4 +4,4 @@ use Rattle.fz_rice.proofs.several.ones_of.Goals as goal
 
 pub returns-clause-ones : goal.returns-clause-ones
 returns-clause-ones c =
-    ones_front c.args.word (omega (arith, c.ranges.word.fits))
+    ones_front c.number_law.ensures c.args.word (omega (arith, c.ranges.word.fits))

@@ -1,5 +1,4 @@
 use Rattle.std.proofs.Common.{◌≡◌, ℕ, ◌+◌, ◌-◌, refl, sym, subst, arith, rules}
-use Rattle.fz_block.proofs.Refusals.{next_passed, next_stopped}
 use Rattle.fz_table.specs.Tables.{column_checks}
 use Rattle.fz_table.specs.Found.{AreFound}
 use Rattle.fz_table.proofs.Places.{columns_len-none, columns_len-more, columns_len-le, none_are}
@@ -20,7 +19,7 @@ with_column-requires-clause-before c =
 pub returns-in_err-found-clause-exact : goal.returns-in_err-found-clause-exact
 returns-in_err-found-clause-exact c =
     let i = c.loop-before.before in
-    let stopped = next_stopped (column_checks c.args.buf.now c.args.header.now) 1 i c.args.fields (i + 1) _ (omega arith) c.loop-before-test.true c.loop-before.invariant.passed c.in_err-found.ensures.exact in
+    let stopped = c.refusals_law.ensures.stopped (column_checks c.args.buf.now c.args.header.now) 1 i c.args.fields (i + 1) _ (omega arith) c.loop-before-test.true c.loop-before.invariant.passed c.in_err-found.ensures.exact in
     search (rules, stopped)
 
 pub overflow_add-at : goal.overflow_add-at
@@ -34,7 +33,7 @@ loop-before-preserved c =
     let h = c.args.buf.now in
     let i = c.loop-before.before in
     record {
-      passed = next_passed (column_checks h c.args.header.now) 1 i (i + 1) (omega arith) c.loop-before.invariant.passed c.in_ok-found.ensures.exact;
+      passed = c.refusals_law.ensures.passed (column_checks h c.args.header.now) 1 i (i + 1) (omega arith) c.loop-before.invariant.passed c.in_ok-found.ensures.exact;
       at = omega (arith, columns_len-more h i (i + 1) refl);
       found = c.in_ok-found.ensures.found;
     }

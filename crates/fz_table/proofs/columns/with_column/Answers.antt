@@ -1,5 +1,5 @@
 use Rattle.std.proofs.Common.{◌++◌, ◌∙◌, rules}
-use Rattle.fz_block.proofs.Refusals.{stopped}
+use Rattle.fz_table.proofs.Refusals.{stopped}
 use Rattle.fz_table.specs.Tables.{name_checks, coded_name, stored_name, gzip_name, tile_letters, gzip_letters}
 use Rattle.fz_table.proofs.Places.{tile_bytes, gzip_bytes}
 use Rattle.fz_table.proofs.Tables.{in_second, after_two}

@@ -27,4 +27,4 @@ pub returns-clause-bits : goal.returns-clause-bits
 returns-clause-bits c =
     let k = c.args.k in
     let q = c.args.value / 2 ^ k in
-    ap (number_bits (q + 1 + k)) (is k c.args.value c.from.result (omega arith) c.from.ensures) ∙ one_field k q c.args.value refl
+    ap (number_bits (q + 1 + k)) (is k c.args.value c.from.result (omega arith) c.from.ensures) ∙ one_field c.number_law.ensures k q c.args.value refl
