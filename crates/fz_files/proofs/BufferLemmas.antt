@@ -12,9 +12,11 @@ use Rattle.fz_head.specs.Greatest.{greatest}
 use Rattle.fz_head.specs.declared.options.CodecWord.{CodecWord}
 use Rattle.fz_head.specs.declared.options.CodecWord.TheVariants as word
 use Rattle.fz_files.specs.declared.job.Job.{Job}
-use Rattle.fz_files.specs.declared.job.Job.TheVariants.{Pack, Unpack, Cut, Verify, List as ListHdus, Drill}
+use Rattle.fz_files.specs.declared.job.Job.TheVariants.{Pack, Unpack, Cut, Verify, List as ListHdus, Drill, Retile}
 use Rattle.fz_base.specs.JobBuffers.{buffer_bound, slots_buffers}
-use Rattle.fz_files.specs.Buffers.{found_len, header_len, job_buffers, longest_header, largest_tile, header_takings, work_takings, file_takings, drill_takings, job_bound, job_takings, IsOfFile}
+use Rattle.fz_head.specs.declared.options.PackOptions.{PackOptions}
+use Rattle.fz_files.specs.Retiled.{plain_of}
+use Rattle.fz_files.specs.Buffers.{found_len, header_len, job_buffers, longest_header, longest_plain, largest_tile, largest_plain, header_takings, work_takings, file_takings, plain_takings, drill_takings, job_bound, job_takings, IsOfFile}
 use Rattle.fz_files.specs.Drill.{drill_file, drill_options, drill_packed, drill_sieve}
 use Rattle.fz_files.specs.Laws.{AreWithinDrill}
 use Rattle.fz_files.specs.Walks.{reached_behind, reached_after, reached_from, reached_by, header_fault}
@@ -114,6 +116,7 @@ work_within (Cut wanted sieve) H n W = let same : _ = slots_and_copy n W in omeg
 work_within Verify H n W = let same : _ = slots_and_copy n W in omega arith
 work_within ListHdus H n W = omega arith
 work_within (Drill rows) H n W = omega arith
+work_within (Retile o) H n W = omega arith
 
 behind_within : (found : Option Fault) (job : Job) (file : List ℕ) (W : ℕ) →
     first_past (buffer_bound (longest_header job file) (largest_tile job file) W) (work_takings found job file W) ≡ None
@@ -134,6 +137,7 @@ headers_within (Cut wanted sieve) file n W = walk_within _ _ (longest_header (Cu
 headers_within Verify file n W = walk_within _ _ (longest_header Verify file) 65536 0 0 file (omega arith) (header_room (longest_header Verify file) n W)
 headers_within ListHdus file n W = walk_within _ _ (longest_header ListHdus file) 65536 0 0 file (omega arith) (header_room (longest_header ListHdus file) n W)
 headers_within (Drill rows) file n W = refl
+headers_within (Retile o) file n W = walk_within _ _ (longest_header (Retile o) file) 65536 0 0 file (omega arith) (header_room (longest_header (Retile o) file) n W)
 
 block_room : (H n W : ℕ) → 0 + 2880 ≤ buffer_bound H n W
 unfolding buffer_bound
@@ -145,14 +149,6 @@ file_within job file W =
     one_within bound 0 2880 (header_takings job file ++ work_takings (header_fault job file) job file W) (block_room (longest_header job file) (largest_tile job file) W)
     (both_within bound (header_takings job file) (work_takings (header_fault job file) job file W)
     (headers_within job file (largest_tile job file) W) (behind_within (header_fault job file) job file W))
-
-pub all_within : (job : Job) (file : List ℕ) (asked : ℕ) → IsOfFile job → first_past (job_bound job file asked) (job_takings job file asked) ≡ None
-all_within (Pack o) file asked of = file_within (Pack o) file asked
-all_within Unpack file asked of = file_within Unpack file asked
-all_within (Cut wanted sieve) file asked of = file_within (Cut wanted sieve) file asked
-all_within Verify file asked of = file_within Verify file 1
-all_within ListHdus file asked of = file_within ListHdus file 1
-all_within (Drill rows) file asked of = absurd of
 
 -- ---- greater bounds
 
@@ -172,6 +168,33 @@ grown b c ((live, asked) ∷ ts) most none = by_test (λ rest. grown b c ts most
         first_past c ((live, asked) ∷ ts) ≡ None
     by_test later true is none = absurd cc
     by_test later false is none = one_within c live asked ts (grind (arith, nat_tests, is, most)) (later none)
+
+-- the file that is packed anew, within the greater of two bounds
+plain_within : (o : PackOptions) (plain : Option (List ℕ)) (H n W : ℕ) → first_past (buffer_bound (max H (longest_plain o plain)) (max n (largest_plain o plain)) W) (plain_takings o plain W) ≡ None
+plain_within o None H n W = refl
+plain_within o (Some u) H n W =
+    grown (buffer_bound (longest_header (Pack o) u) (largest_tile (Pack o) u) W) (buffer_bound (max H (longest_header (Pack o) u)) (max n (largest_tile (Pack o) u)) W) (file_takings (Pack o) u W)
+    (bound_rises (longest_header (Pack o) u) (max H (longest_header (Pack o) u)) (largest_tile (Pack o) u) (max n (largest_tile (Pack o) u)) W W (omega arith) (omega arith) (omega arith))
+    (file_within (Pack o) u W)
+
+retile_within : (o : PackOptions) (file : List ℕ) (W : ℕ) → first_past (job_bound (Retile o) file W) (file_takings Unpack file W ++ plain_takings o (plain_of file) W) ≡ None
+retile_within o file W =
+    let H : ℕ = longest_header Unpack file in
+    let n : ℕ = largest_tile Unpack file in
+    let H' : ℕ = longest_header (Retile o) file in
+    let n' : ℕ = largest_tile (Retile o) file in
+    both_within (job_bound (Retile o) file W) (file_takings Unpack file W) (plain_takings o (plain_of file) W)
+    (grown (buffer_bound H n W) (buffer_bound H' n' W) (file_takings Unpack file W) (bound_rises H H' n n' W W (omega arith) (omega arith) (omega arith)) (file_within Unpack file W))
+    (plain_within o (plain_of file) H n W)
+
+pub all_within : (job : Job) (file : List ℕ) (asked : ℕ) → IsOfFile job → first_past (job_bound job file asked) (job_takings job file asked) ≡ None
+all_within (Pack o) file asked of = file_within (Pack o) file asked
+all_within Unpack file asked of = file_within Unpack file asked
+all_within (Cut wanted sieve) file asked of = file_within (Cut wanted sieve) file asked
+all_within Verify file asked of = file_within Verify file 1
+all_within ListHdus file asked of = file_within ListHdus file 1
+all_within (Drill rows) file asked of = absurd of
+all_within (Retile o) file asked of = retile_within o file asked
 
 codec_within : (rows : ℕ) (codec : CodecWord) → AreWithinDrill rows codec → first_past (job_bound (Drill rows) [] 4) (drill_takings rows codec) ≡ None
 codec_within rows codec are =

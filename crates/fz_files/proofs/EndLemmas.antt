@@ -8,7 +8,7 @@ use Rattle.fz_block.specs.Checks.{Judge, by_judgement, followed_by, hdu_at, judg
 use Rattle.fz_block.specs.Header.{next_start_of}
 use Rattle.fz_block.specs.declared.header.Header.{Header}
 use Rattle.fz_files.specs.declared.job.Job.{Job}
-use Rattle.fz_files.specs.declared.job.Job.TheVariants.{Pack, Unpack, Cut, Verify, List as ListHdus, Drill}
+use Rattle.fz_files.specs.declared.job.Job.TheVariants.{Pack, Unpack, Cut, Verify, List as ListHdus, Drill, Retile}
 use Rattle.fz_files.specs.Ends.{EndsAtTheFault, EndsAtTheLimit, EndsWithTheFile, IsRejectedAt, judge_for, most_for}
 use Rattle.fz_files.specs.Walks.{Reached, fault_of_walk, header_fault, job_walk, reached_after, reached_behind, reached_by, reached_from}
 use Rattle.fz_files.proofs.FaultHduLemmas.{hdu_fault, judge_hdu}
@@ -162,6 +162,7 @@ walk_is (Cut wanted sieve) file x e = record { some = omega arith; walk = refl; 
 walk_is Verify file x e = record { some = omega arith; walk = refl; reached = refl }
 walk_is ListHdus file x e = record { some = omega arith; walk = refl; reached = refl }
 walk_is (Drill rows) file x e = absurd cc
+walk_is (Retile o) file x e = record { some = omega arith; walk = refl; reached = refl }
 
 pub walks_end : HeaderIsFound → (job : Job) (file : List ℕ) (x : Fault) → header_fault job file ≡ Some x → EndsAtTheFault job file x ⊎ (EndsAtTheLimit job file x ⊎ EndsWithTheFile job file x)
 walks_end find job file x e = by_walk find job file x (walk_is job file x e) (job_walk job file) refl e

@@ -23,7 +23,7 @@ use Rattle.fz_head.specs.PlainHeader.{axis_count}
 use Rattle.fz_head.specs.TableChecks.{compressed_table, repeated_table_names, table_card_checks}
 use Rattle.fz_head.specs.declared.options.PackOptions.{PackOptions}
 use Rattle.fz_files.specs.declared.job.Job.{Job}
-use Rattle.fz_files.specs.declared.job.Job.TheVariants.{Pack, Unpack, Cut, Verify, List as ListHdus, Drill}
+use Rattle.fz_files.specs.declared.job.Job.TheVariants.{Pack, Unpack, Cut, Verify, List as ListHdus, Drill, Retile}
 use Rattle.fz_files.specs.Ends.{judge_for}
 use Rattle.fz_files.specs.Restored.{header_in as header_bytes_in}
 use Rattle.fz_files.specs.Walks.{box_of}
@@ -232,3 +232,4 @@ judge_hdu (Cut wanted sieve) file h x e = by_wanted (is_wanted wanted (header_by
 judge_hdu Verify file h x e = refused_of h.hdu false (unpack_hdu_checks file h) x (unpack_of h (header_bytes_in file h) (is_after_empty file h)) e
 judge_hdu ListHdus file h x e = refused_of h.hdu false (unpack_hdu_checks file h) x (unpack_of h (header_bytes_in file h) (is_after_empty file h)) e
 judge_hdu (Drill rows) file h x e = absurd cc
+judge_hdu (Retile o) file h x e = refused_of h.hdu false (unpack_hdu_checks file h) x (unpack_of h (header_bytes_in file h) (is_after_empty file h)) e

@@ -21,10 +21,12 @@ use Rattle.fz_head.specs.Judges.{unpack_judge, cut_judge}
 use Rattle.fz_head.specs.TileKinds.{kind_of_tile}
 use Rattle.fz_head.specs.declared.plan.Plan.{Plan}
 use Rattle.fz_files.specs.declared.job.Job.{Job}
-use Rattle.fz_files.specs.declared.job.Job.TheVariants.{Pack, Unpack, Cut, Verify, List as ListHdus, Drill}
-use Rattle.fz_files.specs.FirstFault.{ImageRow, IsRowFault, IsRowSound, IsFirstRowFault, IsFirstFault, IsFaultBehind, image_row, rows_of, all_rows, picked_rows, picked_tiles_of, rows_for}
+use Rattle.fz_files.specs.declared.job.Job.TheVariants.{Pack, Unpack, Cut, Verify, List as ListHdus, Drill, Retile}
+use Rattle.fz_files.specs.FirstFault.{ImageRow, IsRowFault, IsRowSound, IsFirstRowFault, IsFirstFault, IsFaultBehind, IsFaultThen, IsRowsFault, image_row, rows_of, all_rows, picked_rows, picked_tiles_of, rows_for}
 use Rattle.fz_files.specs.Packed.{pixel_bits, tiles_in}
 use Rattle.fz_files.specs.Restored.{is_image, pixels_of, place_in, plan_in}
+use Rattle.std.proofs.lemmas.Option.{none-some}
+use Rattle.fz_files.specs.PlainFault.{plain_fault}
 use Rattle.fz_files.specs.Walks.{header_fault, headers_for, found_headers, job_walk, fault_of_walk, cut_end_fault, missing_of, last_of, box_of}
 use Rattle.fz_files.proofs.ImageLemmas.{UnpackFindsImage, CutFindsImage, EachIs, IsReadable, ReadableIf, cut_from_passed, cut_from_readable, unpacked_readable}
 
@@ -193,13 +195,39 @@ rows_readable finds law law' Verify file none =
     subst (λ r. AreReadable file (all_rows file (found_headers r))) (sym found.1) (unpacked_rows finds law file found.0 found.1)
 rows_readable finds law law' ListHdus file none = tt
 rows_readable finds law law' (Drill rows) file none = tt
+rows_readable finds law law' (Retile o) file none =
+    let found = found_walk (Retile o) file (walk_of (unpack_judge file) 65536 file) none in
+    subst (λ r. AreReadable file (all_rows file (found_headers r))) (sym found.1) (unpacked_rows finds law file found.0 found.1)
 
 -- ---- the file
+
+-- of the rows, or else of what is looked for after them
+one_then : StandsUnrefused → IsRefusedOnce → (file : List ℕ) (rows : List ImageRow) (later found other : Option Fault) → AreReadable file rows → IsFaultThen file rows later found → IsFaultThen file rows later other → found ≡ other
+one_then none one file rows later None None can a b = refl
+one_then none one file rows later None (Some y) can a (inl b) = one_among none one file rows None (Some y) can a.0 b
+one_then none one file rows later None (Some y) can a (inr b) = sym a.1 ∙ b.1
+one_then none one file rows later (Some x) None can (inl a) b = one_among none one file rows (Some x) None can a b.0
+one_then none one file rows later (Some x) None can (inr a) b = sym a.1 ∙ b.1
+one_then none one file rows later (Some x) (Some y) can (inl a) (inl b) = one_among none one file rows (Some x) (Some y) can a b
+one_then none one file rows later (Some x) (Some y) can (inl a) (inr b) = absurd (none-some x (sym (one_among none one file rows (Some x) None can a b.0)))
+one_then none one file rows later (Some x) (Some y) can (inr a) (inl b) = absurd (none-some y (sym (one_among none one file rows (Some y) None can b a.0)))
+one_then none one file rows later (Some x) (Some y) can (inr a) (inr b) = sym a.1 ∙ b.1
+
+one_of_rows : StandsUnrefused → IsRefusedOnce → (job : Job) (file : List ℕ) (found other : Option Fault) → AreReadable file (rows_for job file (headers_for job file)) →
+    IsRowsFault job file found → IsRowsFault job file other → found ≡ other
+one_of_rows none one (Pack o) file found other can a b = one_among none one file (rows_for (Pack o) file (headers_for (Pack o) file)) found other can a b
+one_of_rows none one Unpack file found other can a b = one_among none one file (rows_for Unpack file (headers_for Unpack file)) found other can a b
+one_of_rows none one (Cut wanted sieve) file found other can a b =
+    one_among none one file (rows_for (Cut wanted sieve) file (headers_for (Cut wanted sieve) file)) found other can a b
+one_of_rows none one Verify file found other can a b = one_among none one file (rows_for Verify file (headers_for Verify file)) found other can a b
+one_of_rows none one ListHdus file found other can a b = one_among none one file (rows_for ListHdus file (headers_for ListHdus file)) found other can a b
+one_of_rows none one (Drill rows) file found other can a b = one_among none one file (rows_for (Drill rows) file (headers_for (Drill rows) file)) found other can a b
+one_of_rows none one (Retile o) file found other can a b = one_then none one file (rows_for (Retile o) file (headers_for (Retile o) file)) (plain_fault o file) found other can a b
 
 one_behind : StandsUnrefused → IsRefusedOnce → (refused : Option Fault) (job : Job) (file : List ℕ) (found other : Option Fault) →
     (refused ≡ None → AreReadable file (rows_for job file (headers_for job file))) → IsFaultBehind refused job file found → IsFaultBehind refused job file other → found ≡ other
 one_behind none one (Some fault) job file found other can a b = a ∙ sym b
-one_behind none one None job file found other can a b = one_among none one file (rows_for job file (headers_for job file)) found other (can refl) a b
+one_behind none one None job file found other can a b = one_of_rows none one job file found other (can refl) a b
 
 pub one_first_fault : StandsUnrefused → IsRefusedOnce → WalkFindsHeaders → UnpackFindsImage → CutFindsImage → (job : Job) (file : List ℕ) (found other : Option Fault) →
     IsFirstFault job file found → IsFirstFault job file other → found ≡ other

@@ -25,8 +25,9 @@ use Rattle.fz_head.specs.WorkBuffers.{pixels_of_tile}
 use Rattle.fz_head.specs.declared.options.PackOptions.{PackOptions}
 use Rattle.fz_head.specs.declared.plan.Plan.{Plan}
 use Rattle.fz_files.specs.declared.job.Job.{Job}
-use Rattle.fz_files.specs.declared.job.Job.TheVariants.{Pack, Unpack, Cut, Verify, List as ListHdus, Drill}
-use Rattle.fz_files.specs.Buffers.{found_len, header_len, largest_tile, longest_header, plans_behind, plans_for}
+use Rattle.fz_files.specs.declared.job.Job.TheVariants.{Pack, Unpack, Cut, Verify, List as ListHdus, Drill, Retile}
+use Rattle.fz_files.specs.Buffers.{found_len, header_len, largest_behind, largest_plain, largest_tile, longest_header, longest_plain, longest_reached, plans_behind, plans_for}
+use Rattle.fz_files.specs.Retiled.{plain_of}
 use Rattle.fz_files.specs.Restored.{header_in, is_image, plan_in}
 use Rattle.fz_files.specs.Walks.{Reached, found_headers, header_fault, headers_for, job_walk, last_of, reached_by}
 use Rattle.fz_files.proofs.FaultLemmas.{WalkFindsHeaders, cut_header, found_walk}
@@ -84,6 +85,14 @@ longest_is_short (Cut wanted sieve) file = short_headers file (reached_by (Cut w
 longest_is_short Verify file = short_headers file (reached_by Verify file)
 longest_is_short ListHdus file = short_headers file (reached_by ListHdus file)
 longest_is_short (Drill rows) file = omega arith
+longest_is_short (Retile o) file =
+    let packed : longest_reached Unpack file ≤ 737280 = short_headers file (reached_by Unpack file) in
+    let plain : longest_plain o (plain_of file) ≤ 737280 = by_plain (plain_of file) in
+    omega (arith, packed, plain)
+  where
+    by_plain : (plain : Option (List ℕ)) → longest_plain o plain ≤ 737280
+    by_plain None = omega arith
+    by_plain (Some u) = short_headers u (reached_by (Pack o) u)
 
 -- ---- tiles
 
@@ -180,6 +189,7 @@ module _ (finds : WalkFindsHeaders) (unpacks : UnpackFindsImage) (cuts : CutFind
   small_for Verify file none = small_unpacked Verify file refl none
   small_for ListHdus file none = omega arith
   small_for (Drill rows) file none = omega arith
+  small_for (Retile o) file none = small_unpacked (Retile o) file refl none
 
   small_behind : (job : Job) (file : List ℕ) (found : Option Fault) → header_fault job file ≡ found → greatest (map pixels_of_tile (plans_behind found job file)) ≤ 2 ^ 26
   small_behind job file (Some x) is = omega arith
@@ -192,6 +202,14 @@ module _ (finds : WalkFindsHeaders) (unpacks : UnpackFindsImage) (cuts : CutFind
   largest_is_small Verify file = small_behind Verify file (header_fault Verify file) refl
   largest_is_small ListHdus file = small_behind ListHdus file (header_fault ListHdus file) refl
   largest_is_small (Drill rows) file = omega arith
+  largest_is_small (Retile o) file =
+      let packed : largest_behind Unpack file ≤ 2 ^ 26 = small_behind Unpack file (header_fault Unpack file) refl in
+      let plain : largest_plain o (plain_of file) ≤ 2 ^ 26 = by_plain (plain_of file) in
+      omega (arith, packed, plain)
+    where
+      by_plain : (plain : Option (List ℕ)) → largest_plain o plain ≤ 2 ^ 26
+      by_plain None = omega arith
+      by_plain (Some u) = small_behind (Pack o) u (header_fault (Pack o) u) refl
 
 none_listed : (file : List ℕ) (found : Option Fault) → greatest (map pixels_of_tile (plans_behind found ListHdus file)) ≡ 0
 none_listed file (Some x) = refl

@@ -14,7 +14,7 @@ use Rattle.fz_block.specs.Walk.{hdu_of}
 use Rattle.fz_block.specs.declared.header.Header.{Header}
 use Rattle.fz_head.specs.Judges.{cut_judge, pack_judge, unpack_judge}
 use Rattle.fz_files.specs.declared.job.Job.{Job}
-use Rattle.fz_files.specs.declared.job.Job.TheVariants.{Pack, Unpack, Cut, Verify, List as ListHdus, Drill}
+use Rattle.fz_files.specs.declared.job.Job.TheVariants.{Pack, Unpack, Cut, Verify, List as ListHdus, Drill, Retile}
 use Rattle.fz_files.specs.Cutout.{header_range}
 use Rattle.fz_files.specs.Laws.{place_of}
 use Rattle.fz_files.specs.Walks.{Reached, box_of, fault_of_walk, found_headers, header_fault, headers_for, job_walk, reached_after, reached_behind, reached_by, reached_from}
@@ -85,6 +85,7 @@ reached_is find (Cut wanted sieve) file none = walk_reached find (Cut wanted sie
 reached_is find Verify file none = walk_reached find Verify (unpack_judge file) 65536 file none
 reached_is find ListHdus file none = walk_reached find ListHdus (unpack_judge file) 65536 file none
 reached_is find (Drill rows) file none = refl
+reached_is find (Retile o) file none = walk_reached find (Retile o) (unpack_judge file) 65536 file none
 
 -- ---- what is reached lies within the file
 
@@ -174,3 +175,4 @@ reached_within (Cut wanted sieve) file = lie_from (cut_judge wanted (box_of siev
 reached_within Verify file = lie_from (unpack_judge file) 65536 0 0 file (omega arith)
 reached_within ListHdus file = lie_from (unpack_judge file) 65536 0 0 file (omega arith)
 reached_within (Drill rows) file = All-nil (LiesWithin file)
+reached_within (Retile o) file = lie_from (unpack_judge file) 65536 0 0 file (omega arith)

@@ -11,7 +11,7 @@ use Rattle.fz_block.specs.declared.header.Header.{Header}
 use Rattle.fz_grid.specs.declared.sieve.Sieve.{Sieve}
 use Rattle.fz_head.specs.Judges.{cut_judge, pack_judge, unpack_judge}
 use Rattle.fz_files.specs.declared.job.Job.{Job}
-use Rattle.fz_files.specs.declared.job.Job.TheVariants.{Pack, Unpack, Cut, Verify, List as ListHdus, Drill}
+use Rattle.fz_files.specs.declared.job.Job.TheVariants.{Pack, Unpack, Cut, Verify, List as ListHdus, Drill, Retile}
 use Rattle.fz_files.specs.Buffers.{largest_tile, longest_header}
 use Rattle.fz_files.specs.Cutout.{touched}
 use Rattle.fz_files.specs.Laws.{place_of}
@@ -25,6 +25,7 @@ judge_for (Cut wanted sieve) file = cut_judge wanted (box_of sieve) file
 judge_for Verify file = unpack_judge file
 judge_for ListHdus file = unpack_judge file
 judge_for (Drill rows) file = unjudged
+judge_for (Retile o) file = unpack_judge file
 
 -- how many HDUs it may look at
 abbrev pub most_for : Job → ℕ
@@ -34,6 +35,7 @@ most_for (Cut wanted sieve) = 65536
 most_for Verify = 65536
 most_for ListHdus = 65536
 most_for (Drill rows) = 0
+most_for (Retile o) = 65536
 
 -- an HDU is rejected for this fault: by the checks of every job, or by those of the job
 abbrev pub IsRejectedAt : Judge → List ℕ → Reached → Fault → Type 0

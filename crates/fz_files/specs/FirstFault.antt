@@ -16,15 +16,12 @@ use Rattle.fz_tile.specs.declared.fault.TileFault.{TileFault}
 use Rattle.fz_head.specs.TileKinds.{kind_of_tile}
 use Rattle.fz_head.specs.declared.plan.Plan.{Plan}
 use Rattle.fz_files.specs.declared.job.Job.{Job}
-use Rattle.fz_files.specs.declared.job.Job.TheVariants.{Pack, Unpack, Cut, Verify, List as ListHdus, Drill}
+use Rattle.fz_files.specs.declared.job.Job.TheVariants.{Pack, Unpack, Cut, Verify, List as ListHdus, Drill, Retile}
 use Rattle.fz_files.specs.Packed.{pixel_bits, tiles_in}
+use Rattle.fz_files.specs.PlainFault.{plain_fault}
 use Rattle.fz_files.specs.Restored.{RowStandsFor, image_table, is_image, pixels_of, place_in, plan_in, tile_of}
+pub use Rattle.fz_files.specs.RowPixels.{ImageRow, image_row}
 use Rattle.fz_files.specs.Walks.{header_fault, headers_for, last_of}
-
--- a row of the packed image with this header
-pub record ImageRow : Type 0 where
-  pub header : Header
-  pub row : ℕ
 
 -- the record of a row stands for no pixels, for this reason
 pub record RecordIsFaulty (file : List ℕ) (r : ImageRow) (why : TileFault) : Type 0 where
@@ -51,9 +48,6 @@ IsFirstRowFault file [] (Some fault) = ⊥
 IsFirstRowFault file (r ∷ rs) None = IsRowSound file r × IsFirstRowFault file rs None
 IsFirstRowFault file (r ∷ rs) (Some fault) = IsRowFault file r fault ⊎ (IsRowSound file r × IsFirstRowFault file rs (Some fault))
 
-abbrev pub image_row : Header → ℕ → ImageRow
-image_row h row = record { header = h; row = row }
-
 -- the rows of a packed image, a row for each tile
 abbrev pub rows_of : List ℕ → Header → List ImageRow
 rows_of file h = map (image_row h) (range_with_len 0 (tiles_in (plan_in file h)))
@@ -78,10 +72,22 @@ rows_for (Cut wanted sieve) file hs = flat_map (picked_rows file sieve) (last_of
 rows_for Verify file hs = all_rows file hs
 rows_for ListHdus file hs = []
 rows_for (Drill rows) file hs = []
+rows_for (Retile o) file hs = all_rows file hs
 
--- the first fault among the rows that a job looks at, or none
+-- the first of some rows that is refused, or, where all stand for pixels, the fault that is looked for after them, or none
+abbrev pub IsFaultThen : List ℕ → List ImageRow → Option Fault → Option Fault → Type 0
+IsFaultThen file rows later None = IsFirstRowFault file rows None × (later ≡ None)
+IsFaultThen file rows later (Some fault) = IsFirstRowFault file rows (Some fault) ⊎ (IsFirstRowFault file rows None × (later ≡ Some fault))
+
+-- the first fault among the rows that a job looks at, or none; of `retile` that of the file that is packed anew comes after them
 abbrev pub IsRowsFault : Job → List ℕ → Option Fault → Type 0
-IsRowsFault job file fault = IsFirstRowFault file (rows_for job file (headers_for job file)) fault
+IsRowsFault (Pack o) file fault = IsFirstRowFault file (rows_for (Pack o) file (headers_for (Pack o) file)) fault
+IsRowsFault Unpack file fault = IsFirstRowFault file (rows_for Unpack file (headers_for Unpack file)) fault
+IsRowsFault (Cut wanted sieve) file fault = IsFirstRowFault file (rows_for (Cut wanted sieve) file (headers_for (Cut wanted sieve) file)) fault
+IsRowsFault Verify file fault = IsFirstRowFault file (rows_for Verify file (headers_for Verify file)) fault
+IsRowsFault ListHdus file fault = IsFirstRowFault file (rows_for ListHdus file (headers_for ListHdus file)) fault
+IsRowsFault (Drill rows) file fault = IsFirstRowFault file (rows_for (Drill rows) file (headers_for (Drill rows) file)) fault
+IsRowsFault (Retile o) file fault = IsFaultThen file (rows_for (Retile o) file (headers_for (Retile o) file)) (plain_fault o file) fault
 
 -- the first fault of a file for a job, where the headers have this one or none
 abbrev pub IsFaultBehind : Option Fault → Job → List ℕ → Option Fault → Type 0

@@ -4,6 +4,7 @@ pub mod CutEnds
 pub mod CutFile
 pub mod Cutout
 pub mod CutoutBytes
+pub mod Decided
 pub mod Drill
 pub mod DrillRows
 pub mod Ends
@@ -19,9 +20,14 @@ pub mod LongFile
 pub mod OtherFile
 pub mod Packed
 pub mod Picks
+pub mod PlainFault
 pub mod PlainFile
 pub mod Reads
+pub mod RecordPixels
 pub mod Restored
+pub mod RestoredFile
+pub mod Retiled
+pub mod RowPixels
 pub mod PlanFacts
 pub mod PlioFile
 pub mod RiceFile

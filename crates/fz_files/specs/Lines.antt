@@ -16,7 +16,7 @@ use Rattle.fz_sum.specs.declared.verdicts.Verdict.TheVariants.{Absent, Right, Wr
 use Rattle.fz_head.specs.declared.plan.Plan.{Plan}
 use Rattle.fz_head.specs.PackedHeader.{codec_name}
 use Rattle.fz_files.specs.declared.job.Job.{Job}
-use Rattle.fz_files.specs.declared.job.Job.TheVariants.{Pack, Unpack, Cut, Verify, List as ListHdus, Drill}
+use Rattle.fz_files.specs.declared.job.Job.TheVariants.{Pack, Unpack, Cut, Verify, List as ListHdus, Drill, Retile}
 use Rattle.fz_files.specs.Drill.{drill_lines}
 use Rattle.fz_files.specs.Packed.{tiles_in}
 use Rattle.fz_files.specs.Restored.{is_image, plan_in}
@@ -110,6 +110,7 @@ lines_of (Cut wanted sieve) file hs fault = []
 lines_of Verify file hs fault = flat_map (verify_line file) (before_fault fault hs)
 lines_of ListHdus file hs fault = flat_map (list_line file) hs
 lines_of (Drill rows) file hs fault = drill_lines rows
+lines_of (Retile o) file hs fault = []
 
 -- the lines of a job, where the headers of the file have this fault or none, and this is its first fault or none
 abbrev pub lines_behind : Option Fault → Job → List ℕ → Option Fault → List ℕ

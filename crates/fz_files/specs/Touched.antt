@@ -13,7 +13,7 @@ use Rattle.fz_files.specs.Reads.{header_ranges}
 use Rattle.fz_files.specs.Restored.{is_image}
 use Rattle.fz_files.specs.Walks.{Reached, header_fault, headers_for, reached_by}
 use Rattle.fz_files.specs.declared.job.Job.{Job}
-use Rattle.fz_files.specs.declared.job.Job.TheVariants.{Pack, Unpack, Cut, Verify, List as ListHdus, Drill}
+use Rattle.fz_files.specs.declared.job.Job.TheVariants.{Pack, Unpack, Cut, Verify, List as ListHdus, Drill, Retile}
 
 -- the data of an HDU with their padding, as a range
 abbrev pub data_range : Header → ℕ × ℕ
@@ -38,7 +38,8 @@ fill_ranges file r = fill_of (hdu_at r.hdu r.start file)
 
 -- What a job may read of an HDU after its header, if it comes to all HDUs: `pack` the data with their padding; `unpack` the rows and records of
 -- a packed image, and the data of any other HDU with their padding, which it copies; `verify` the rows and records of a packed image, and the
--- data of every HDU with their padding, of which it computes the checksums. `cut` has its own definition; `list` and `drill` read no data.
+-- data of every HDU with their padding, of which it computes the checksums; `retile` what `unpack` reads. `cut` has its own definition; `list`
+-- and `drill` read no data.
 abbrev pub data_touched : Job → List ℕ → Header → List (ℕ × ℕ)
 data_touched (Pack options) file h = data_range h ∷ []
 data_touched Unpack file h = if is_image file h then image_ranges file h else data_range h ∷ []
@@ -46,6 +47,7 @@ data_touched (Cut wanted sieve) file h = []
 data_touched Verify file h = packed_ranges file h ++ data_range h ∷ []
 data_touched ListHdus file h = []
 data_touched (Drill rows) file h = []
+data_touched (Retile o) file h = if is_image file h then image_ranges file h else data_range h ∷ []
 
 -- the same of all HDUs, if no header is rejected; otherwise nothing
 unfoldable pub all_data_touched : Option Fault → Job → List ℕ → List (ℕ × ℕ)
@@ -64,3 +66,4 @@ touched_by (Cut wanted sieve) file = touched wanted sieve file
 touched_by Verify file = hdus_touched Verify file
 touched_by ListHdus file = header_ranges ListHdus file
 touched_by (Drill rows) file = []
+touched_by (Retile o) file = hdus_touched (Retile o) file

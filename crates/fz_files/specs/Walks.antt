@@ -11,7 +11,7 @@ use Rattle.fz_grid.specs.declared.sieve.Sieve.{Sieve}
 use Rattle.fz_head.specs.JobChecks.{missing_hdu}
 use Rattle.fz_head.specs.Judges.{pack_judge, unpack_judge, cut_judge}
 use Rattle.fz_files.specs.declared.job.Job.{Job}
-use Rattle.fz_files.specs.declared.job.Job.TheVariants.{Pack, Unpack, Cut, Verify, List as ListHdus, Drill}
+use Rattle.fz_files.specs.declared.job.Job.TheVariants.{Pack, Unpack, Cut, Verify, List as ListHdus, Drill, Retile}
 
 -- how long a box is along each axis, both ends included
 abbrev pub lengths_between : List ℕ → List ℕ → List ℕ
@@ -36,6 +36,7 @@ job_walk (Cut wanted sieve) file = walk_of (cut_judge wanted (box_of sieve) file
 job_walk Verify file = walk_of (unpack_judge file) 65536 file
 job_walk ListHdus file = walk_of (unpack_judge file) 65536 file
 job_walk (Drill rows) file = Ok []
+job_walk (Retile o) file = walk_of (unpack_judge file) 65536 file
 
 -- the last of some headers: a list of this, or of none
 abbrev pub last_of : List Header → List Header
@@ -54,6 +55,7 @@ cut_end_fault (Cut wanted sieve) file hs = missing_of wanted (cut_judge wanted (
 cut_end_fault Verify file hs = None
 cut_end_fault ListHdus file hs = None
 cut_end_fault (Drill rows) file hs = None
+cut_end_fault (Retile o) file hs = None
 
 abbrev pub fault_of_walk : Job → List ℕ → Result (List Header) Fault → Option Fault
 fault_of_walk job file (Err fault) = Some fault
@@ -100,3 +102,4 @@ reached_by (Cut wanted sieve) file = reached_from (cut_judge wanted (box_of siev
 reached_by Verify file = reached_from (unpack_judge file) 65536 0 0 file
 reached_by ListHdus file = reached_from (unpack_judge file) 65536 0 0 file
 reached_by (Drill rows) file = []
+reached_by (Retile o) file = reached_from (unpack_judge file) 65536 0 0 file

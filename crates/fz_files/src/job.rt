@@ -18,4 +18,6 @@ pub enum Job {
     List,
     /// Packs, unpacks and cuts a file of so many rows in memory.
     Drill { rows: u32 },
+    /// Writes the packed file of the file that a packed file stands for.
+    Retile(PackOptions),
 }

@@ -120,7 +120,7 @@ letter-long : (letter : List ℕ) (unit : ℕ) → IsLetter letter unit → leng
 letter-long letter unit is = ap length is.is
 
 pub form-fits : (wide : Bool) (letter : List ℕ) (most unit : ℕ) → IsLetter letter unit → most < 10 ^ 18 → length (descriptor_form wide letter most) ≤ 68
-form-fits wide letter most unit is short = (form_is_text wide letter most (letter-long letter unit is) is.plain short).fits
+form-fits wide letter most unit is short = (form_is_text wide letter most (letter-long letter unit is) is.plain (omega (arith, short))).fits
 
 -- the bytes of a number of a code
 pub writes-bytes : (block bytepix : ℕ) (v : ℤ) → CanWrite (Rice block bytepix) v → (bytepix ≡ 1) ⊎ ((bytepix ≡ 2) ⊎ (bytepix ≡ 4))
@@ -366,7 +366,7 @@ module _ (laws : CardLaws) where
           form_of bytes i ≡ form_in (descriptor_form p.wide (l.byte ∷ []) 0)
       form-by i letter most unit small short l e =
           ap (option_and_then form_in) (said-text bytes (numbered_name (codes "TFORM") i) (tform_card bytes i) refl ∙ (ap text_of (said (numbered_name (codes "TFORM") i) _ e)
-          ∙ text-says laws (numbered_name (codes "TFORM") i) (descriptor_form p.wide letter most) (numbered (codes "TFORM") i refl small) (form_is_text p.wide letter most (letter-long letter unit l) l.plain short)))
+          ∙ text-says laws (numbered_name (codes "TFORM") i) (descriptor_form p.wide letter most) (numbered (codes "TFORM") i refl small) (form_is_text p.wide letter most (letter-long letter unit l) l.plain (omega (arith, short)))))
           ∙ (ap (λ x. form_in (descriptor_form p.wide x most)) l.is ∙ form-read p.wide l.byte most)
 
       title-by : (i : ℕ) (text : List ℕ) → i < 10 → IsCardText text → find (has_name (numbered_name (codes "TTYPE") i)) C ≡ Some (numbered_word_card (codes "TTYPE") i text) → title_of bytes i ≡ Some text

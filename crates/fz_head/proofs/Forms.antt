@@ -64,9 +64,9 @@ kind_plain true = refl
 kind_plain false = refl
 
 -- a form with a letter that is no quote is a text that a card can hold
-pub form_is_text : (wide : Bool) (letter : List ℕ) (most : ℕ) → length letter ≡ 1 → IsTrue (list_all (λ b. not (b == 39)) letter) → most < 10 ^ 18 → IsCardText (descriptor_form wide letter most)
+pub form_is_text : (wide : Bool) (letter : List ℕ) (most : ℕ) → length letter ≡ 1 → IsTrue (list_all (λ b. not (b == 39)) letter) → most < 2 ^ 64 → IsCardText (descriptor_form wide letter most)
 form_is_text wide letter most one plain small =
     let kind = if wide then codes "1Q" else codes "1P" in
     bracket_text (kind ++ letter ++ codes "(" ++ decimal most)
-    (omega (arith, length-form_front kind letter (decimal most) (kind_len wide) one, length-decimal-le 18 most (omega arith) (omega arith) (omega arith)))
+    (omega (arith, length-form_front kind letter (decimal most) (kind_len wide) one, length-decimal-le 20 most (omega arith) (omega arith) (omega arith)))
     (plain_front kind letter (decimal most) (kind_plain wide) (search rules) (digits_unquoted (decimal most) (digits_decimal own most (omega arith))))

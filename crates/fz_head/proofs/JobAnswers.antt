@@ -1,12 +1,12 @@
 -- The checks of a job, one after another: the first that refuses, and what is answered where none does.
 use Rattle.std.proofs.Common.{◌≡◌, ℕ, Bool, true, false, cond, List, [], ◌∷◌, ◌++◌, ap, sym, ◌∙◌}
-use Rattle.std.specs.Prelude.{◌&&◌, not, Option, Some, None, Result, Ok, Err, codes, is_some, unwrap_or}
+use Rattle.std.specs.Prelude.{◌&&◌, not, Option, Some, None, Result, Ok, Err, IfOk, codes, is_some, unwrap_or}
+use Rattle.std.specs.Result.{MatchResult}
 use Rattle.std.specs.List.{list_any, position}
 use Rattle.fz_base.specs.Refusal.{first_refusal, refusal}
 use Rattle.fz_base.specs.declared.fault.Fault.{Fault}
 use Rattle.fz_base.specs.declared.fault.Place.TheVariants.{Byte, Card}
 use Rattle.fz_base.specs.declared.kind.Kind.TheVariants.{AlreadyPacked, Duplicate, NotPacked}
-use Rattle.fz_block.proofs.Refusals.{passed, stopped}
 use Rattle.fz_block.specs.Checks.{is_set, unless_refused}
 use Rattle.fz_block.specs.Facts.{IsHeaderOf, nine_axes}
 use Rattle.fz_block.specs.Hdus.{cards_of}
@@ -17,7 +17,7 @@ use Rattle.fz_table.specs.declared.table.Table.{Table}
 use Rattle.fz_head.specs.declared.job_checks.PackedImage.{PackedImage}
 use Rattle.fz_head.specs.declared.options.PackOptions.{PackOptions}
 use Rattle.fz_head.specs.declared.plan.Plan.{Plan}
-use Rattle.fz_head.specs.JobChecks.{already_packed, box_checks, image_checks, image_in, image_to_cut, image_to_unpack, not_packed, packed_card_checks, plan_to_pack, says_packed}
+use Rattle.fz_head.specs.JobChecks.{already_packed, box_checks, image_checks, image_in, image_to_amend, image_to_cut, image_to_unpack, not_packed, packed_card_checks, plan_to_pack, says_packed}
 use Rattle.fz_head.specs.Packable.{is_packable, is_packed, is_table}
 use Rattle.fz_head.specs.PackChecks.{pack_answer, pack_checks, refused_at}
 use Rattle.fz_head.specs.PackedChecks.{packed_checks, plan_answer}
@@ -28,6 +28,7 @@ use Rattle.fz_head.specs.TableChecks.{compressed_table, repeated_table_names, ta
 use Rattle.fz_head.specs.Written.{first_cards}
 use Rattle.fz_head.proofs.FrontCards.{header-cards}
 use Rattle.fz_head.proofs.PlannedTiles.{unless-ok}
+use Rattle.fz_head.proofs.RefusalLists.{passed, stopped}
 
 -- what an answer with a refusal says
 unless-err : {A : Type 0} (answer : A) (o : Option Fault) (x : Fault) → unless_refused answer o ≡ Err x → o ≡ Some x
@@ -199,6 +200,26 @@ module _ (h : Header) (header : List ℕ) (after_empty : Bool) (region : Region)
   unfolding image_to_cut
   image-is-cut image one two e same =
       ap (unless_refused (image_in h header)) (passed (packed_card_checks h header) (image_checks h header after_empty ++ box) one ∙ (passed (image_checks h header after_empty) box two ∙ e)) ∙ ap Ok (sym same)
+
+module _ (h : Header) (header : List ℕ) (after_empty : Bool) where
+  pub cards-refuse-amend : (x : Fault) → first_refusal (packed_card_checks h header) ≡ Some x → image_to_amend h header after_empty ≡ Err x
+  unfolding image_to_amend
+  cards-refuse-amend x e = ap (unless_refused (image_in h header)) (stopped (packed_card_checks h header) (image_checks h header after_empty) x e)
+
+  pub image-refuses-amend : (x : Fault) → first_refusal (packed_card_checks h header) ≡ None → first_refusal (image_checks h header after_empty) ≡ Some x → image_to_amend h header after_empty ≡ Err x
+  unfolding image_to_amend
+  image-refuses-amend x one e = ap (unless_refused (image_in h header)) (passed (packed_card_checks h header) (image_checks h header after_empty) one ∙ e)
+
+  pub image-is-amended : (image : PackedImage) → first_refusal (packed_card_checks h header) ≡ None → first_refusal (image_checks h header after_empty) ≡ None → image ≡ image_in h header → image_to_amend h header after_empty ≡ Ok image
+  unfolding image_to_amend
+  image-is-amended image one two same =
+      ap (unless_refused (image_in h header)) (passed (packed_card_checks h header) (image_checks h header after_empty) one ∙ two) ∙ ap Ok (sym same)
+
+  pub amend-answer : (r : Result PackedImage Fault) → first_refusal (packed_card_checks h header) ≡ None →
+      MatchResult r (λ _. first_refusal (image_checks h header after_empty) ≡ None) (λ x. first_refusal (image_checks h header after_empty) ≡ Some x) →
+      IfOk r (λ image. image ≡ image_in h header) → image_to_amend h header after_empty ≡ r
+  amend-answer (Ok image) one two same = image-is-amended image one two same
+  amend-answer (Err x) one two same = image-refuses-amend x one two
 
 -- the shape of the image is that of its cards
 pub shape-said : (h : Header) (header : List ℕ) (image : PackedImage) → image ≡ image_in h header → image.plan.shape ≡ nine_axes (said_axes (cards_of header))

@@ -1,4 +1,5 @@
 pub mod Accepted
+pub mod AxesCounts
 pub mod BackAgain
 pub mod CardNames
 pub mod Forms

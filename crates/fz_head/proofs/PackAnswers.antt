@@ -5,7 +5,6 @@ use Rattle.std.proofs.lemmas.List.{length-append, length-map}
 use Rattle.std.proofs.lemmas.List.FromFn.{length-map-range_with_len}
 use Rattle.fz_base.specs.Refusal.{first_refusal}
 use Rattle.fz_base.specs.declared.fault.Fault.{Fault}
-use Rattle.fz_block.proofs.Refusals.{passed, stopped}
 use Rattle.fz_block.specs.Cards.{card_at}
 use Rattle.fz_block.specs.Checks.{unless_refused}
 use Rattle.fz_block.specs.Facts.{IsHeaderOf, nine_axes}
@@ -23,6 +22,7 @@ use Rattle.fz_head.specs.Planned.{AreOptions, asked_tile, cut_tile, pack_plan_of
 use Rattle.fz_head.specs.Written.{first_cards}
 use Rattle.fz_head.proofs.FrontCards.{header-cards}
 use Rattle.fz_head.proofs.PlannedTiles.{ArePositive, asked-positive, axes-few, cut-between, length-cut_tile, lengths-nine_axes, nine-entry, packable-parts}
+use Rattle.fz_head.proofs.RefusalLists.{passed, stopped}
 
 pub in-names : (o : PackOptions) (h : Header) (header : List ℕ) (x : Fault) → first_refusal (name_checks h header) ≡ Some x → pack_answer o h header ≡ Err x
 unfolding pack_answer

@@ -5,12 +5,12 @@ use Rattle.std.specs.Option.{option_map}
 use Rattle.std.specs.List.{find, position}
 use Rattle.fz_base.specs.Refusal.{first_refusal}
 use Rattle.fz_base.specs.declared.fault.Fault.{Fault}
-use Rattle.fz_block.proofs.Refusals.{passed, stopped}
 use Rattle.fz_block.specs.Checks.{unless_refused}
 use Rattle.fz_block.specs.Hdus.{cards_of}
 use Rattle.fz_head.specs.PackedChecks.{bitpix_checks, codec_checks, line_list_check, packed_checks, parameter_checks, plan_answer, row_check, scaling_check, shape_checks, sort_checks}
 use Rattle.fz_head.specs.PackedPlan.{plan_of_cards}
 use Rattle.fz_head.proofs.SaidCards.{position-step}
+use Rattle.fz_head.proofs.RefusalLists.{passed, stopped}
 
 -- the checks after each group
 abbrev behind-line_list : ℕ → List ℕ → List (Bool × Fault)

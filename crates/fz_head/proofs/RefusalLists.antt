@@ -1,9 +1,20 @@
--- Checks that stand one after another, each by itself: the first that refuses.
+-- Checks one after another, each by itself: the first that refuses.
 use Rattle.std.proofs.Common.{◌≡◌, Bool, true, false, List, [], ◌∷◌, ◌++◌, refl, ap, sym, ◌∙◌, subst}
 use Rattle.std.specs.Prelude.{Option, Some, None, Result, Ok, Err, is_none, is_some, not}
 use Rattle.fz_base.specs.Refusal.{IsFirstOf, first_refusal}
 use Rattle.fz_base.specs.declared.fault.Fault.{Fault}
-use Rattle.fz_block.proofs.Refusals.{passed, stopped}
+
+-- no check of the first list refuses
+pub passed : (xs ys : List (Bool × Fault)) → first_refusal xs ≡ None → first_refusal (xs ++ ys) ≡ first_refusal ys
+passed [] ys none = refl
+passed ((true, fault) ∷ xs) ys none = absurd cc
+passed ((false, fault) ∷ xs) ys none = passed xs ys none
+
+-- a check of the first list refuses
+pub stopped : (xs ys : List (Bool × Fault)) (x : Fault) → first_refusal xs ≡ Some x → first_refusal (xs ++ ys) ≡ Some x
+stopped [] ys x some = absurd cc
+stopped ((true, fault) ∷ xs) ys x some = some
+stopped ((false, fault) ∷ xs) ys x some = stopped xs ys x some
 
 -- the same check in other words
 pub check-of : (b c : Bool) (f g : Fault) (answer : Option Fault) → b ≡ c → f ≡ g → first_refusal ((b, f) ∷ []) ≡ answer → first_refusal ((c, g) ∷ []) ≡ answer

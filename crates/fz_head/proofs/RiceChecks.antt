@@ -3,9 +3,9 @@ use Rattle.std.proofs.Common.{◌≡◌, ℕ, Bool, true, List, [], ◌++◌, ap
 use Rattle.std.specs.Prelude.{Some, None, if◌then◌else◌}
 use Rattle.fz_base.specs.Refusal.{first_refusal}
 use Rattle.fz_base.specs.declared.fault.Fault.{Fault}
-use Rattle.fz_block.proofs.Refusals.{passed, stopped}
 use Rattle.fz_head.specs.PackedChecks.{block_checks, bytepix_checks, parameter_checks}
 use Rattle.fz_head.specs.PackedPlan.{is_rice_name, parameter_number, said_codec}
+use Rattle.fz_head.proofs.RefusalLists.{passed, stopped}
 
 -- the checks of BLOCKSIZE, and those of BYTEPIX
 abbrev pub blocks : ℕ → List (List ℕ) → List (Bool × Fault)

@@ -1,9 +1,9 @@
 -- Tables of nine lengths that are written axis by axis.
-use Rattle.std.proofs.Common.{◌≡◌, ◌≢◌, ℕ, ◌+◌, ◌-◌, ◌<◌, ◌≤◌, List, ◌++◌, length, get_or, set, map, replicate, ap, sym, ◌∙◌, subst, arith, inl, inr, length-append, get_or-set_other, get_or-set_same}
+use Rattle.std.proofs.Common.{◌≡◌, ◌≢◌, ℕ, suc, ◌+◌, ◌-◌, ◌<◌, ◌≤◌, List, [], ◌∷◌, ◌++◌, length, get_or, set, map, replicate, refl, ap, sym, ◌∙◌, subst, arith, inl, inr, append_assoc, length-append, get_or-set_other, get_or-set_same}
 use Rattle.std.specs.List.{range_with_len}
 use Rattle.std.proofs.lemmas.Bool.{cases_eq}
-use Rattle.std.proofs.lemmas.List.{get_or_append_left, length-replicate}
-use Rattle.std.proofs.lemmas.List.FromFn.{length-map-range_with_len, get_or-map-range_with_len}
+use Rattle.std.proofs.lemmas.List.{get_or_append_left, length-replicate, set_at}
+use Rattle.std.proofs.lemmas.List.FromFn.{length-map-range_with_len, get_or-map-range_with_len, map-range_with_len_more}
 use Rattle.fz_block.specs.declared.axes.Axes.{Axes}
 use Rattle.fz_block.specs.Facts.{nine_axes}
 
@@ -15,6 +15,20 @@ each-more P xs i v inside here below k within = elim (cases_eq k i) [
       let apart : k ≢ i = omega arith in
       subst (λ w. P k w) (sym (get_or-set_other xs i k v 0 apart)) (below k (omega arith))
 ]
+
+-- the next length takes the place of the first 0
+pub write_next : (f : ℕ → ℕ) (i most : ℕ) (ns : List ℕ) (n : ℕ) → i < most → ns ≡ map f (range_with_len 1 i) ++ replicate (most - i) 0 → n ≡ f (1 + i) →
+    set ns i n ≡ map f (range_with_len 1 (i + 1)) ++ replicate (most - (i + 1)) 0
+write_next f i most ns n below written here =
+    let before : List ℕ = map f (range_with_len 1 i) in
+    let rest : List ℕ = replicate (most - (i + 1)) 0 in
+    let more : most - i ≡ suc (most - (i + 1)) = omega arith in
+    let now : ns ≡ before ++ 0 ∷ rest = written ∙ ap (λ k. before ++ replicate k 0) more in
+    ap (λ l. set l i n) now
+    ∙ (set_at before 0 rest n i (length-map-range_with_len f 1 i)
+    ∙ (sym (append_assoc before (n ∷ []) rest)
+    ∙ (ap (λ k. (before ++ k ∷ []) ++ rest) here
+    ∙ ap (λ l. l ++ rest) (sym (map-range_with_len_more f 1 i (1 + i) refl)))))
 
 -- how long a table is whose front was written
 pub long-of : (f : ℕ → ℕ) (n most : ℕ) (xs : List ℕ) → n ≤ most → xs ≡ map f (range_with_len 1 n) ++ replicate (most - n) 0 → length xs ≡ most

@@ -14,8 +14,7 @@ use Rattle.fz_head.specs.PackedChecks.{axis_checks, axis_count_checks, grid_chec
 use Rattle.fz_head.specs.PackedPlan.{said_axes, said_tile}
 use Rattle.fz_head.specs.PlainHeader.{axis_count}
 use Rattle.fz_head.proofs.PlannedTiles.{lengths-nine_axes}
-use Rattle.fz_head.proofs.RefusalLists.{in-second-list, in-third-list, after-three-lists}
-use Rattle.fz_block.proofs.Refusals.{stopped}
+use Rattle.fz_head.proofs.RefusalLists.{in-second-list, in-third-list, after-three-lists, stopped}
 
 -- the checks of so many axes, and of the tile along them
 abbrev pub axes-checks : ℕ → List (List ℕ) → ℕ → List (Bool × Fault)

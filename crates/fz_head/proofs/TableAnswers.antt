@@ -6,7 +6,6 @@ use Rattle.fz_base.specs.Refusal.{first_refusal, refusal}
 use Rattle.fz_base.specs.declared.fault.Fault.{Fault}
 use Rattle.fz_base.specs.declared.fault.Place.TheVariants.{Card}
 use Rattle.fz_base.specs.declared.kind.Kind.TheVariants.{CompressedTable, Duplicate}
-use Rattle.fz_block.proofs.Refusals.{passed, stopped}
 use Rattle.fz_block.specs.Checks.{is_set}
 use Rattle.fz_block.specs.Facts.{IsHeaderOf}
 use Rattle.fz_block.specs.Hdus.{cards_of}
@@ -17,6 +16,7 @@ use Rattle.fz_head.specs.Repeats.{first_repeat, table_names, counted_name}
 use Rattle.fz_head.specs.TableChecks.{table_card_checks}
 use Rattle.fz_head.specs.Written.{first_cards}
 use Rattle.fz_head.proofs.FrontCards.{header-cards}
+use Rattle.fz_head.proofs.RefusalLists.{passed, stopped}
 
 abbrev set-check : Header → List ℕ → Bool × Fault
 set-check h header = refused_at h.hdu (position (is_set (codes "ZTABLE")) (cards_of header)) CompressedTable

@@ -14,7 +14,7 @@ use Rattle.fz_head.specs.PackedTable.{packed_table, planned_row, planned_rows}
 use Rattle.fz_head.specs.TableChecks.{table_card_checks}
 
 -- The header is that of a binary table of bytes with a row for each tile and a heap after them, it is a packed one, no check of
--- its cards, its table and its plan refuses, and it stands for the table and the plan; a primary stands after an empty primary.
+-- its cards, its table and its plan refuses, and it stands for the table and the plan; a primary is after an empty primary.
 pub record IsAccepted (p : Plan) (s : Totals) (header : List ℕ) (h : Header) : Type 0 where
   pub header_is : IsHeaderOf header h
   pub sort : h.sort ≡ BinTable

@@ -1,7 +1,7 @@
 -- Numbers of which one may be none: for functions inside the crate.
 use Rattle.std.specs.Prelude.{ℕ, min, Option, Some, None}
 
--- the length of a tile along an axis, cut to it, where one is asked for; else 1
+-- the length of a tile along an axis, cut to it, if one is asked for; otherwise 1
 abbrev pub cut_length : ℕ → Option ℕ → ℕ
 cut_length axis None = 1
 cut_length axis (Some asked) = min asked axis

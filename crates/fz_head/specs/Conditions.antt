@@ -17,7 +17,7 @@ pub record IsPackPlan (header : List ℕ) (h : Header) (sums : Bool) (p : Plan) 
   pub packable : is_packable h ≡ true
   pub answer : pack_answer options h header ≡ Ok p
 
--- the plan is one that a packed header with these cards stands for, where its checks pass
+-- the plan is one that a packed header with these cards stands for, if its checks pass
 pub record IsPackedPlan (header : List ℕ) (h : Header) (p : Plan) : Type 0 where
   pub after_empty : Bool
   pub answer : plan_answer h.hdu header after_empty ≡ Ok p

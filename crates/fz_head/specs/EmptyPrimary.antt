@@ -1,4 +1,4 @@
--- The primary without data that stands before a packed primary (FITS 4.0, sections 4.4.1.1 and 10.1).
+-- The primary without data before a packed primary (FITS 4.0, sections 4.4.1.1 and 10.1).
 use Rattle.std.specs.Prelude.{ℕ, List, [], ◌∷◌, codes}
 use Rattle.fz_head.specs.PackedHeader.{flag_card, number_card}
 

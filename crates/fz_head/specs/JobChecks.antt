@@ -40,11 +40,11 @@ already_packed h header =
     let found = position says_packed (cards_of header) in
     (is_table h.sort && (refused_at h.hdu found AlreadyPacked).0, (refused_at h.hdu found AlreadyPacked).1)
 
--- the checks of the header of an HDU that is given to `pack`: those of an image are made where it can be packed
+-- the checks of the header of an HDU that is given to `pack`: those of an image are made if it can be packed
 abbrev pub pack_header_checks : PackOptions → Header → List ℕ → List (Bool × Fault)
 pack_header_checks o h header = already_packed h header ∷ (if is_packable h then pack_checks o h header else [])
 
--- the plan of an HDU that is given to `pack`, none where it is copied; or the fault of the first check that refuses
+-- the plan of an HDU that is given to `pack`, none if it is copied; or the fault of the first check that refuses
 unfoldable pub plan_to_pack : PackOptions → Header → List ℕ → Result (Option Plan) Fault
 plan_to_pack o h header = unless_refused (if is_packable h then Some (pack_plan_of o h) else None) (first_refusal (pack_header_checks o h header))
 
@@ -99,7 +99,7 @@ pub record IsImageOf (header : List ℕ) (h : Header) (image : PackedImage) : Ty
   pub readable : CanRead image.plan.codec image.plan.bitpix
   pub rows : image.table.rows ≡ tile_count (lengths_of image.plan.shape) (lengths_of image.plan.tile)
 
--- the image of an HDU, none where it is copied; or the fault of the first check that refuses
+-- the image of an HDU, none if it is copied; or the fault of the first check that refuses
 unfoldable pub image_to_unpack : Header → List ℕ → Bool → Result (Option PackedImage) Fault
 image_to_unpack h header after_empty = unless_refused (if is_packed header h then Some (image_in h header) else None) (first_refusal (unpack_checks h header after_empty))
 
@@ -120,9 +120,12 @@ axis_inside k cards region i = (
   at_name k (numbered_name (codes "ZNAXIS") (i + 1)) cards OutOfBox,
 )
 
+abbrev pub axes_check : ℕ → List (List ℕ) → ℕ → Bool × Fault
+axes_check k cards axes = (not (axes == axis_count cards), at_word k (codes "ZNAXIS") cards OutOfBox)
+
 abbrev pub box_checks : ℕ → List (List ℕ) → Region → List (Bool × Fault)
 box_checks k cards region =
-    (not (region.n == axis_count cards), at_word k (codes "ZNAXIS") cards OutOfBox) ∷ flat_map (λ i. axis_inside k cards region i ∷ []) (range_with_len 0 (axis_count cards))
+    axes_check k cards region.n ∷ flat_map (λ i. axis_inside k cards region i ∷ []) (range_with_len 0 (axis_count cards))
 
 -- the HDU that a part is cut from must be packed
 abbrev pub not_packed : Header → List ℕ → Bool × Fault
@@ -144,6 +147,18 @@ image_to_cut h header after_empty region = unless_refused (image_in h header) (f
 -- the checks that `cut` makes of the HDU of a file that it cuts from
 abbrev pub cut_hdu_checks : List ℕ → Region → Header → List (Bool × Fault)
 cut_hdu_checks file region h = cut_checks h (hdu_of file h).header (is_after_empty file h) region
+
+-- the checks of the header of the HDU whose image is changed in place: those of `cut`, without its box
+abbrev pub amend_checks : Header → List ℕ → Bool → List (Bool × Fault)
+amend_checks h header after_empty = packed_card_checks h header ++ image_checks h header after_empty
+
+-- the image that is changed in place, or the fault of the first check that refuses
+unfoldable pub image_to_amend : Header → List ℕ → Bool → Result PackedImage Fault
+image_to_amend h header after_empty = unless_refused (image_in h header) (first_refusal (amend_checks h header after_empty))
+
+-- the checks of the HDU of a file whose image is changed in place
+abbrev pub amend_hdu_checks : List ℕ → Header → List (Bool × Fault)
+amend_hdu_checks file h = amend_checks h (hdu_of file h).header (is_after_empty file h)
 
 -- a file of so many HDUs and bytes ends before the HDU of this number, or before one that is packed
 abbrev pub missing_hdu : Option ℕ → ℕ → ℕ → Fault

@@ -5,7 +5,7 @@ use Rattle.fz_block.specs.Checks.{Judge, unless_refused}
 use Rattle.fz_block.specs.Walk.{hdu_of}
 use Rattle.fz_block.specs.declared.header.Header.{Header}
 use Rattle.fz_grid.specs.declared.region.Region.{Region}
-use Rattle.fz_head.specs.JobChecks.{pack_hdu_checks, unpack_hdu_checks, cut_hdu_checks}
+use Rattle.fz_head.specs.JobChecks.{pack_hdu_checks, unpack_hdu_checks, cut_hdu_checks, amend_hdu_checks}
 use Rattle.fz_head.specs.Packable.{is_packed}
 use Rattle.fz_head.specs.declared.options.PackOptions.{PackOptions}
 
@@ -26,3 +26,8 @@ is_wanted (Some k) header h = h.hdu == k
 abbrev pub cut_judge : Option ℕ → Region → List ℕ → Judge
 cut_judge wanted region file h =
     if is_wanted wanted (hdu_of file h).header h then unless_refused true (first_refusal (cut_hdu_checks file region h)) else Ok false
+
+-- what is said of an HDU while that is looked for whose image is changed in place: the search stops at it
+abbrev pub amend_judge : Option ℕ → List ℕ → Judge
+amend_judge wanted file h =
+    if is_wanted wanted (hdu_of file h).header h then unless_refused true (first_refusal (amend_hdu_checks file h)) else Ok false

@@ -1,11 +1,11 @@
--- The two sorts of headers in which some names stand once: for functions inside the crate.
+-- The two sorts of headers in which some names occur once: for functions inside the crate.
 use Rattle.std.specs.Prelude.{ℕ, List}
 use Rattle.fz_card.specs.Tables.{Names}
 use Rattle.fz_head.specs.declared.repeats.Once.{Once}
 use Rattle.fz_head.specs.declared.repeats.Once.TheVariants.{Image, Table}
 use Rattle.fz_head.specs.Repeats.{image_names, table_names, itself, counted_name}
 
--- the names that stand once
+-- the names that occur once
 abbrev pub once_names : Once → List Names
 once_names Image = image_names
 once_names Table = table_names

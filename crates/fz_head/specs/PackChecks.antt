@@ -28,7 +28,7 @@ use Rattle.fz_head.specs.PackedHeader.{packed_header}
 use Rattle.fz_head.specs.Planned.{pack_plan_of}
 use Rattle.fz_head.specs.Repeats.{first_repeat, image_names, itself}
 
--- where a card of this property stands, the header is refused at it
+-- if there is a card of this property, the header is refused at it
 abbrev pub refused_at : ℕ → Option ℕ → Kind → Bool × Fault
 refused_at k found kind = (is_some found, refusal k (Card (unwrap_or found 0)) kind)
 
@@ -78,7 +78,7 @@ no_totals sums = record { heap = 0; emax_coded = 0; emax_stored = 0; sums = sums
 abbrev pub reserved_names : Header → List ℕ → Bool × Fault
 reserved_names h header = refused_at h.hdu (reserved_index (is_primary h.sort) h.axes.n (cards_of header)) Reserved
 
--- no name that stands once stands twice
+-- no name that may occur only once occurs twice
 abbrev pub repeated_names : Header → List ℕ → Bool × Fault
 repeated_names h header = refused_at h.hdu (first_repeat image_names itself (cards_of header)) Duplicate
 
@@ -86,7 +86,7 @@ repeated_names h header = refused_at h.hdu (first_repeat image_names itself (car
 abbrev pub header_fill : Header → List ℕ → Bool × Fault
 header_fill h header = (is_some (fill_place header), refusal h.hdu (Byte (h.start + behind_end header + unwrap_or (fill_place header) 0)) HeaderFill)
 
--- the checks of the cards alone, in their order
+-- the checks of only the cards, in their order
 abbrev pub name_checks : Header → List ℕ → List (Bool × Fault)
 name_checks h header = reserved_names h header ∷ repeated_names h header ∷ header_fill h header ∷ []
 

@@ -1,4 +1,4 @@
--- Which HDUs are images that can be packed, and which are tables that a packed image stands in (FITS 4.0, sections 7.1 and 10.1.1).
+-- Which HDUs are images that can be packed, and which are tables that a packed image is in (FITS 4.0, sections 7.1 and 10.1.1).
 use Rattle.std.specs.Prelude.{ℕ, pos, ◌==◌, ◌&&◌, ◌||◌, nat_le, Bool, true, false, ℤ, List, codes}
 use Rattle.std.specs.List.{list_all, list_any}
 use Rattle.std.specs.Ordering.{int_eq}

@@ -112,7 +112,7 @@ axis_checks k cards i =
     ∷ (nat_lt 2147483647 (size_of (numbered_in (codes "ZNAXIS") i cards)), at_name k name cards Limit)
     ∷ []
 
--- ZTILEi is 1 or more, where it stands
+-- ZTILEi is 1 or more, if it is there
 abbrev pub tile_check : ℕ → List (List ℕ) → ℕ → Bool × Fault
 tile_check k cards i =
     let name = numbered_name (codes "ZTILE") i in
@@ -136,7 +136,7 @@ shape_checks k cards =
     ++ (flat_map (λ i. tile_check k cards i ∷ []) axes
     ++ grid_check k cards ∷ []))
 
--- the value of a parameter, ZVALi, must be there; it is refused at ZNAMEi where it is not
+-- the value of a parameter, ZVALi, must be there; it is refused at ZNAMEi if it is not
 abbrev pub value_missing : ℕ → List (List ℕ) → ℕ → Bool × Fault
 value_missing k cards i =
     (is_none (index_of (numbered_name (codes "ZVAL") i) cards), at_name k (numbered_name (codes "ZNAME") i) cards BadCard)
@@ -174,12 +174,12 @@ parameter_checks k cards =
     then block_checks k cards (parameter_number (codes "BLOCKSIZE") cards) ++ bytepix_checks k cards (parameter_number (codes "BYTEPIX") cards)
     else []
 
--- where this card stands and does not say this number, the header is refused at it
+-- if this card is there and does not say this number, the header is refused at it
 abbrev pub must_be : ℕ → List (List ℕ) → List ℕ → ℤ → Bool × Fault
 must_be k cards word v =
     (not (has_word (codes "ZSIMPLE") cards) && (has_word word cards && not (is_integer v (integer_of (word_in word cards)))), at_word k word cards BadCard)
 
--- ZSIMPLE is T, and stands in HDU 1 after a primary with NAXIS 0; ZTENSION is IMAGE; without ZSIMPLE, ZPCOUNT is 0 and ZGCOUNT 1
+-- ZSIMPLE is T, and is in HDU 1 after a primary with NAXIS 0; ZTENSION is IMAGE; without ZSIMPLE, ZPCOUNT is 0 and ZGCOUNT 1
 abbrev pub sort_checks : ℕ → List (List ℕ) → Bool → List (Bool × Fault)
 sort_checks k cards after_empty =
     (has_word (codes "ZSIMPLE") cards && not (unwrap_or (logical_of (word_in (codes "ZSIMPLE") cards)) false), at_word k (codes "ZSIMPLE") cards BadCard)

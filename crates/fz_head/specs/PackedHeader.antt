@@ -1,4 +1,4 @@
--- The header of the table that a packed image stands in (FITS 4.0, sections 7.3.1, 7.3.5 and 10.1.1 to 10.1.3).
+-- The header of the table that a packed image is in (FITS 4.0, sections 7.3.1, 7.3.5 and 10.1.1 to 10.1.3).
 use Rattle.std.specs.Prelude.{ℕ, pos, ◌-◌, true, Bool, ℤ, List, [], ◌∷◌, ◌++◌, drop, map, unwrap_or, codes, decimal, slice_index, if◌then◌else◌}
 use Rattle.std.specs.List.{range_with_len}
 use Rattle.std.specs.Ordering.{int_eq}
@@ -30,7 +30,7 @@ numbered_number_card stem i value = int_card_bytes (numbered_name stem i) (pos v
 abbrev pub numbered_word_card : List ℕ → ℕ → List ℕ → List ℕ
 numbered_word_card stem i text = text_card_bytes (numbered_name stem i) text
 
--- the card under another name, if it has another one there: columns 1 to 8 change, and nothing else
+-- the card under another name, if it has another one there: only columns 1 to 8 change
 abbrev pub packed_card : List ℕ → List ℕ
 packed_card card = unwrap_or (packed_name (card_name card)) (card_name card) ++ drop 8 card
 
@@ -38,7 +38,7 @@ packed_card card = unwrap_or (packed_name (card_name card)) (card_name card) ++ 
 abbrev pub descriptor_form : Bool → List ℕ → ℕ → List ℕ
 descriptor_form wide letter most = (if wide then codes "1Q" else codes "1P") ++ letter ++ codes "(" ++ decimal most ++ codes ")"
 
--- the elements of coded tiles: 16-bit words of a line list, else bytes
+-- the elements of coded tiles: 16-bit words of a line list, otherwise bytes
 abbrev pub coded_letter : Codec → List ℕ
 coded_letter (Rice block bytepix) = codes "B"
 coded_letter Plio = codes "I"

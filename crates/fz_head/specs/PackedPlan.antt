@@ -1,4 +1,4 @@
--- How the image of a packed header is packed: what its cards say, and what counts where they say nothing (FITS 4.0, sections 10.1.1,
+-- How the image of a packed header is packed: what its cards say, and what counts if they say nothing (FITS 4.0, sections 10.1.1,
 -- 10.1.2 and 10.4.1).
 use Rattle.std.specs.Prelude.{ℕ, pos, ◌==◌, ◌||◌, Bool, min, ℤ, List, [], ◌∷◌, map, codes, Option, Some, None, is_some, unwrap_or, if◌then◌else◌}
 use Rattle.std.specs.List.{filter_map, range_with_len}
@@ -23,7 +23,7 @@ word_in word cards = the_card (padded word) cards
 abbrev pub numbered_in : List ℕ → ℕ → List (List ℕ) → List ℕ
 numbered_in stem i cards = the_card (numbered_name stem i) cards
 
--- the number that a card says, without its sign; 0 where it says none
+-- the number that a card says, without its sign; 0 if it says none
 abbrev pub size_of : List ℕ → ℕ
 size_of card = size_in (integer_of card)
 
@@ -31,7 +31,7 @@ size_of card = size_in (integer_of card)
 abbrev pub said_axes : List (List ℕ) → List ℕ
 said_axes cards = map (λ i. size_of (numbered_in (codes "ZNAXIS") i cards)) (range_with_len 1 (axis_count cards))
 
--- the length of a tile along axis i where no card says it: the whole first axis, and 1 along the others
+-- the length of a tile along axis i if no card says it: the whole first axis, and 1 along the others
 abbrev pub default_tile : ℕ → ℕ → ℕ
 default_tile i axis = if i == 1 then axis else 1
 
@@ -58,7 +58,7 @@ least (n ∷ ns) = Some (unwrap_or (option_map (min n) (least ns)) n)
 abbrev pub parameter_number : List ℕ → List (List ℕ) → Option ℕ
 parameter_number text cards = least (filter_map (parameter_in text) cards)
 
--- the value of the parameter of this number, or another where there is none
+-- the value of the parameter of this number, or another if there is none
 abbrev pub value_of_number : List (List ℕ) → ℕ → Option ℕ → ℕ
 value_of_number cards other None = other
 value_of_number cards other (Some i) = size_of (numbered_in (codes "ZVAL") i cards)
@@ -83,7 +83,7 @@ is_codec_name text = is_rice_name text || (is_plio_name text || is_plain_name te
 abbrev pub said_codec : List (List ℕ) → Option (List ℕ)
 said_codec cards = text_of (word_in (codes "ZCMPTYPE") cards)
 
--- the codec of a name: the parameters of a Rice code are 32 and 4 where no card says them
+-- the codec of a name: the parameters of a Rice code are 32 and 4 if no card says them
 abbrev pub codec_named : Option (List ℕ) → List (List ℕ) → Codec
 codec_named text cards =
     if is_rice_name text then Rice (parameter (codes "BLOCKSIZE") 32 cards) (parameter (codes "BYTEPIX") 4 cards)

@@ -1,4 +1,4 @@
--- The table that a packed header says, where the plan is known (FITS 4.0, sections 7.3.5 and 10.1.3).
+-- The table that a packed header says, if the plan is known (FITS 4.0, sections 7.3.5 and 10.1.3).
 use Rattle.std.specs.Prelude.{ℕ, ◌+◌, ◌*◌, Some, None, if◌then◌else◌}
 use Rattle.fz_grid.specs.Grid.{tile_count}
 use Rattle.fz_grid.specs.Region.{lengths_of}
@@ -8,7 +8,7 @@ use Rattle.fz_tile.specs.declared.codec.Codec.TheVariants.{Rice, Plio, Plain}
 use Rattle.fz_head.specs.declared.plan.Plan.{Plan}
 use Rattle.fz_head.specs.Planned.{pixel_len}
 
--- a descriptor has two numbers of 32 bits, or of 64 where the image is wide; a row has two descriptors
+-- a descriptor has two numbers of 32 bits, or of 64 if the image is wide; a row has two descriptors
 abbrev pub planned_descriptor : Plan → ℕ
 planned_descriptor p = if p.wide then 16 else 8
 

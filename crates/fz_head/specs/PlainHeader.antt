@@ -15,11 +15,11 @@ use Rattle.fz_grid.specs.declared.region.Region.{Region}
 use Rattle.fz_head.specs.CardLists.{the_card}
 use Rattle.fz_head.specs.PackedHeader.{number_card, flag_card, word_card, numbered_number_card}
 
--- the card under the name that it has in the image: columns 1 to 8 change, and nothing else
+-- the card under the name that it has in the image: only columns 1 to 8 change
 abbrev pub plain_card : List ℕ → List ℕ
 plain_card card = unwrap_or (plain_name (card_name card)) (card_name card) ++ drop 8 card
 
--- the cards, or this one where there is none
+-- the cards, or this one if there is none
 abbrev pub or_card : List ℕ → List (List ℕ) → List (List ℕ)
 or_card card [] = card ∷ []
 or_card card (c ∷ cs) = c ∷ cs
@@ -40,7 +40,7 @@ axis_count cards = size_in (integer_of (the_card (padded (codes "ZNAXIS")) cards
 abbrev pub says_what : List ℕ → Bool
 says_what card = is_named (codes "ZSIMPLE") card || is_named (codes "ZTENSION") card
 
--- the first card of the image: SIMPLE or XTENSION, and XTENSION = 'IMAGE' where the packed header has neither
+-- the first card of the image: SIMPLE or XTENSION, and XTENSION = 'IMAGE' if the packed header has neither
 abbrev pub leading_card : List (List ℕ) → List (List ℕ)
 leading_card cards = or_card (word_card (codes "XTENSION") (codes "IMAGE")) (map plain_card (option_to_list (find says_what cards)))
 
@@ -52,7 +52,7 @@ axis_card cards i = map plain_card (option_to_list (first_of_name (numbered_name
 abbrev pub size_cards : List (List ℕ) → List (List ℕ)
 size_cards cards = restored_word (codes "ZBITPIX") cards ++ restored_word (codes "ZNAXIS") cards
 
--- PCOUNT and GCOUNT, which an extension has after its axes: 0 and 1 where the packed header does not say them
+-- PCOUNT and GCOUNT, which an extension has after its axes: 0 and 1 if the packed header does not say them
 abbrev pub count_cards_of : Bool → List (List ℕ) → List (List ℕ)
 count_cards_of primary cards =
     if primary then []
@@ -62,7 +62,7 @@ count_cards_of primary cards =
 abbrev pub count_cards : List (List ℕ) → List (List ℕ)
 count_cards cards = count_cards_of (was_primary cards) cards
 
--- the names of the cards that stand at the front of the image's header, which has so many axes
+-- the names of the cards that are at the front of the image's header, which has so many axes
 abbrev pub front_names : ℕ → List Names
 front_names n =
     Word (codes "ZSIMPLE") ∷ Word (codes "ZTENSION") ∷ Word (codes "ZBITPIX") ∷ Word (codes "ZNAXIS") ∷ Numbered (codes "ZNAXIS") n ∷ []
@@ -71,12 +71,12 @@ front_names n =
 abbrev pub count_names : List Names
 count_names = Word (codes "ZPCOUNT") ∷ Word (codes "ZGCOUNT") ∷ []
 
--- the card stands at the front of the image's header
+-- the card is at the front of the image's header
 abbrev pub is_front : Bool → ℕ → List ℕ → Bool
 is_front primary n card =
     is_in_some (front_names n) (card_name card) || (not primary && is_in_some count_names (card_name card))
 
--- the card is the table's alone: by its name, as an axis that the image has not, or as the name of the table
+-- the card is only the table's: by its name, as an axis that the image has not, or as the name of the table
 abbrev pub is_table_card : ℕ → List ℕ → Bool
 is_table_card n card =
     is_dropped (card_name card)

@@ -1,4 +1,4 @@
--- Names that stand once in a header (FITS 4.0, section 4.4).
+-- Names that occur once in a header (FITS 4.0, section 4.4).
 use Rattle.std.specs.Prelude.{ℕ, Bool, ◌&&◌, List, [], ◌∷◌, ◌++◌, length, take, bytes_eq, Option, codes, slice_index_or, if◌then◌else◌}
 use Rattle.std.specs.List.{list_any, position, range_with_len}
 use Rattle.fz_card.specs.Layout.{card_name, padded}
@@ -6,7 +6,7 @@ use Rattle.fz_card.specs.Naming.{is_in_some}
 use Rattle.fz_card.specs.Tables.{Names}
 use Rattle.fz_card.specs.Tables.Names.{Word, Numbered}
 
--- the card of this index has a name that stands once, and a card before it has the name too
+-- the card of this index has a name that occurs once, and a card before it has the name too
 abbrev pub repeats : List Names → (List ℕ → List ℕ) → List (List ℕ) → ℕ → Bool
 repeats once as_name cards i =
     let name = card_name (slice_index_or cards i []) in
@@ -16,20 +16,20 @@ repeats once as_name cards i =
 abbrev pub first_repeat : List Names → (List ℕ → List ℕ) → List (List ℕ) → Option ℕ
 first_repeat once as_name cards = position (repeats once as_name cards) (range_with_len 0 (length cards))
 
--- the names that stand once in the header of an image
+-- the names that occur once in the header of an image
 abbrev pub image_names : List Names
 image_names =
     Word (codes "SIMPLE") ∷ Word (codes "XTENSION") ∷ Word (codes "BITPIX") ∷ Word (codes "NAXIS") ∷ Numbered (codes "NAXIS") 999
     ∷ Word (codes "PCOUNT") ∷ Word (codes "GCOUNT") ∷ []
 
--- the names that stand once in the header of a table
+-- the names that occur once in the header of a table
 abbrev pub array_names : List Names
 array_names =
     Word (codes "XTENSION") ∷ Word (codes "BITPIX") ∷ Word (codes "NAXIS") ∷ Numbered (codes "NAXIS") 999
     ∷ Word (codes "PCOUNT") ∷ Word (codes "GCOUNT") ∷ Word (codes "TFIELDS") ∷ Numbered (codes "TTYPE") 999
     ∷ Numbered (codes "TFORM") 999 ∷ Word (codes "THEAP") ∷ []
 
--- the names that tell of the packed image, and stand once
+-- the names that tell of the packed image, and occur once
 abbrev pub compression_names : List Names
 compression_names =
     Word (codes "ZIMAGE") ∷ Word (codes "ZCMPTYPE") ∷ Word (codes "ZBITPIX") ∷ Word (codes "ZNAXIS")
@@ -37,7 +37,7 @@ compression_names =
     ∷ Numbered (codes "ZVAL") 999 ∷ Word (codes "ZSIMPLE") ∷ Word (codes "ZTENSION") ∷ Word (codes "ZPCOUNT")
     ∷ Word (codes "ZGCOUNT") ∷ []
 
--- the names that stand once in a packed header
+-- the names that occur once in a packed header
 abbrev pub table_names : List Names
 table_names = array_names ++ compression_names
 

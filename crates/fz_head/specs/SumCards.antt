@@ -1,4 +1,4 @@
--- The cards of sums, which stand at the end of a packed header (FITS 4.0, section 4.4.2.7).
+-- The cards of sums, which are at the end of a packed header (FITS 4.0, section 4.4.2.7).
 use Rattle.std.specs.Prelude.{◌≡◌, ◌⊎◌, ℕ, true, List, length, codes}
 use Rattle.std.specs.List.{AllByRecursion}
 use Rattle.fz_card.specs.Layout.{card_name, padded}
@@ -12,7 +12,7 @@ pub record IsSumCard (card : List ℕ) : Type 0 where
 abbrev pub AreSumCards : List (List ℕ) → Type 0
 AreSumCards cards = AllByRecursion IsSumCard cards
 
--- cards of the table alone, which do not come back with the image
+-- cards of only the table, which do not come back with the image
 abbrev pub IsDroppedCard : List ℕ → Type 0
 IsDroppedCard card = is_dropped (card_name card) ≡ true
 

@@ -16,7 +16,7 @@ use Rattle.fz_head.specs.Repeats.{first_repeat, table_names, counted_name}
 abbrev pub compressed_table : Header → List ℕ → Bool × Fault
 compressed_table h header = refused_at h.hdu (position (is_set (codes "ZTABLE")) (cards_of header)) CompressedTable
 
--- no name that stands once stands twice in a packed header
+-- no name that may occur only once occurs twice in a packed header
 abbrev pub repeated_table_names : Header → List ℕ → Bool × Fault
 repeated_table_names h header = (
   is_packed header h && is_some (first_repeat table_names counted_name (cards_of header)),

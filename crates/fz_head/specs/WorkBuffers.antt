@@ -20,7 +20,7 @@ abbrev pub tile_buffers : ℕ → Option ℕ → List ℕ
 tile_buffers W None = []
 tile_buffers W (Some n) = slots_buffers n (2 * W) ++ 65536 ∷ []
 
--- what a job with W workers takes, in this order: the longest header, the translated one where it translates, and the buffers of
--- its largest tile where it works on tiles
+-- what a job with W workers takes, in this order: the longest header, the translated one if it translates, and the buffers of
+-- its largest tile if it works on tiles
 abbrev pub work_buffers : ℕ → Bool → Option ℕ → ℕ → List ℕ
 work_buffers header_len translates tile W = header_len ∷ (translated_buffers translates header_len ++ tile_buffers W tile)

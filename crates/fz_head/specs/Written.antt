@@ -4,12 +4,12 @@ use Rattle.std.specs.List.{flat_map, range_with_len}
 use Rattle.fz_card.specs.declared.card.Card.{Card}
 use Rattle.fz_block.specs.Cards.{card_at}
 
--- so many cards stand at the front of the buffer, and they are these
+-- so many cards are at the front of the buffer, and they are these
 pub record AreWritten (cards : List (List ℕ)) (count : ℕ) (out : List ℕ) : Type 0 where
   pub bytes : take (80 * count) out ≡ flat_map (λ card. card) cards
   pub number : count ≡ length cards
 
--- a step writes these cards after those that stand there
+-- a step writes these cards after those that are there
 abbrev pub Adds : List (List ℕ) → ℕ → List ℕ → ℕ → List ℕ → Type 0
 Adds new before old after out = (cards : List (List ℕ)) → AreWritten cards before old → AreWritten (cards ++ new) after out
 

@@ -37,7 +37,7 @@ pub fn fill_law()
 {}
 
 /// An image of a file of which no check of `pack` refuses anything has a plan, which divides it into tiles that its
-/// codec can write; blanks alone are after END of its header, and zeros after its data.
+/// codec can write; only blanks are after END of its header, and zeros after its data.
 pub fn image_to_pack_law()
     ensures plan { (o : PackOptions) (file : List ℕ) (h : Header) → IsImageToPack o file h
         → pack_answer o h (hdu_of file h).header ≡ Ok (pack_plan_of o h) }
@@ -83,7 +83,7 @@ pub fn plan_to_pack_law()
     ensures plan { (o : PackOptions) (start : ℕ) (h : Header) → pack_plan_of o (begun_at start h) ≡ pack_plan_of o h }
 {}
 
-/// A packed image that was a primary is answered only where its HDU stands after an empty primary; and the header
+/// A packed image that was a primary is answered only if its HDU is after an empty primary; and the header
 /// of the image then begins with the S of SIMPLE.
 pub fn packed_primary_law()
     ensures plan { (k : ℕ) (header : List ℕ) (after_empty : Bool) (p : Plan) → plan_answer k header after_empty ≡ Ok p

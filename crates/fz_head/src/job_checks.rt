@@ -24,7 +24,7 @@ use fz_block::{Header, card, data_start};
 use fz_card::{Card, Name};
 use fz_table::Table;
 
-/// A packed image: its plan, and the table in which it stands.
+/// A packed image: its plan, and the table in which it is.
 #[derive(Clone, Copy, Debug, PartialEq, Eq)]
 pub struct PackedImage {
     pub plan: Plan,
@@ -104,7 +104,7 @@ pub fn fill_check(header: &Header, fill: &[u8]) -> Result<(), Fault>
     }
 }
 
-// How many zeros stand before the first other byte.
+// How many zeros are before the first other byte.
 fn first_non_zero(bytes: &[u8]) -> Option<usize>
     ensures { result ≡ position (λ b. not (b == 0)) bytes.now }
 {

@@ -30,7 +30,7 @@ mod unpacking;
 mod volumes;
 mod written;
 
-pub use boxes::image_to_cut;
+pub use boxes::{check_axes, check_ends, image_to_amend, image_to_cut};
 pub use checked::{
     fill_law, image_to_pack_law, pack_plan_law, packed_image_law, packed_primary_law,
     plan_to_pack_law, primary_law,
@@ -42,7 +42,7 @@ pub use law::{
 };
 pub use options::{CodecWord, PackOptions};
 pub use packable::{is_packable, is_packed};
-pub use packed::{codec_name, to_packed};
+pub use packed::{codec_name, coded_letter, form_card, stored_letter, to_packed};
 pub use plain::{to_cut, to_plain};
 pub use plan::Plan;
 pub use planning::pack_plan;

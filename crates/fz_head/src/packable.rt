@@ -37,7 +37,7 @@ fn has_integers(header: &Header) -> bool
     matches!(header.bitpix, 8 | 16 | 32 | 64)
 }
 
-// Whether nothing stands beside the array. A primary has PCOUNT 0 and GCOUNT 1.
+// Whether nothing is beside the array. A primary has PCOUNT 0 and GCOUNT 1.
 fn has_array_alone(header: &Header) -> bool
     ensures { result ≡ (header.now.pcount == 0 && header.now.gcount == 1) }
 {
@@ -54,7 +54,7 @@ fn has_places(axes: &Axes) -> bool
         .all(|length| *length >= 1)
 }
 
-/// Whether the HDU is a binary table of which a card ZIMAGE with T says that a packed image stands in
+/// Whether the HDU is a binary table of which a card ZIMAGE with T says that a packed image is in
 /// it (FITS 4.0, section 10.1.1).
 #[tactic(auto, unfolding(crate::specs::Packable::is_packed))]
 pub fn is_packed(buf: &[u8], header: &Header) -> bool

@@ -88,7 +88,6 @@ fn column_cards(plan: &Plan, totals: &Totals) -> [Card; 4]
 fn form_text(wide: bool, letter: &str, most: u64) -> ArrayString<32>
     requires letter { len letter.now ≡ 1 }
     requires unquoted { IsTrue (list_all (λ b. not (b == 39)) letter.now) }
-    requires most { most < 10 ^ 18 }
     ensures form { result.bytes ≡ descriptor_form wide letter.now most }
     ensures text { IsCardText result.bytes }
 {
@@ -110,20 +109,20 @@ fn descriptor_kind(wide: bool) -> &'static str
     if wide { "1Q" } else { "1P" }
 }
 
-// The card with the form of a descriptor column.
-fn form_card(column: u32, wide: bool, letter: &str, most: u64) -> Card
+/// The card TFORMi of a descriptor column: how long its numbers are, the letter of its elements, and the
+/// greatest count in it.
+pub fn form_card(column: u32, wide: bool, letter: &str, most: u64) -> Card
     requires column { column < 10 }
     requires letter { len letter.now ≡ 1 }
     requires unquoted { IsTrue (list_all (λ b. not (b == 39)) letter.now) }
-    requires most { most < 10 ^ 18 }
     ensures { result.bytes ≡ numbered_word_card (codes "TFORM") column (descriptor_form wide letter.now most) }
 {
     let form = form_text(wide, letter, most);
     text_card(numbered(b"TFORM", column), form.as_str().as_bytes())
 }
 
-// The elements of coded tiles: 16-bit words of a line list, else bytes.
-fn coded_letter(codec: Codec) -> &'static str
+/// The letter of the elements of coded tiles: 16-bit words of a line list, else bytes.
+pub fn coded_letter(codec: Codec) -> &'static str
     ensures value { result.now ≡ coded_letter_of codec }
     ensures one { len result.now ≡ 1 }
     ensures unquoted { IsTrue (list_all (λ b. not (b == 39)) result.now) }
@@ -134,8 +133,8 @@ fn coded_letter(codec: Codec) -> &'static str
     }
 }
 
-// The elements of stored tiles: pixels.
-fn stored_letter(plan: &Plan) -> &'static str
+/// The letter of the elements of stored tiles, which are pixels.
+pub fn stored_letter(plan: &Plan) -> &'static str
     ensures value { result.now ≡ stored_letter_of plan.now.bitpix }
     ensures one { len result.now ≡ 1 }
     ensures unquoted { IsTrue (list_all (λ b. not (b == 39)) result.now) }
@@ -214,9 +213,9 @@ fn put_sum_cards(sums: bool, count: usize, out: &mut [u8]) -> usize
 }
 
 /// Writes the header of the packed table of the image with this header, and answers its length in
-/// bytes: whole blocks, of which the buffer has enough where it is a block longer than the image's
+/// bytes: whole blocks, of which the buffer has enough if it is a block longer than the image's
 /// header. The cards of the image follow those of the table, in their order; with sums the two cards
-/// of sums come last, with the text `0` and with sixteen of it. The totals have sums where the options
+/// of sums come last, with the text `0` and with sixteen of it. The totals have sums if the options
 /// of the plan asked for them, so that the header has at most 256 blocks.
 pub fn to_packed(buf: &[u8], header: &Header, plan: &Plan, totals: &Totals, out: &mut [u8]) -> usize
     requires header { IsHeaderOf buf.now header.now }

@@ -20,10 +20,10 @@ use fz_block::{Header, card};
 use fz_card::{Card, Name, number_behind, numbered};
 use fz_tile::Codec;
 
-/// BLOCKSIZE where no card says it.
+/// BLOCKSIZE if no card says it.
 const DEFAULT_BLOCK: u32 = 32;
 
-/// BYTEPIX where no card says it.
+/// BYTEPIX if no card says it.
 const DEFAULT_BYTEPIX: u32 = 4;
 
 /// The greatest BLOCKSIZE.
@@ -130,7 +130,7 @@ fn block_of(buf: &[u8], header: &Header, i: u32) -> Result<u32, Fault>
     Ok(size(value) as u32)
 }
 
-// The BLOCKSIZE of this number, or the default where there is none.
+// The BLOCKSIZE of this number, or the default if there is none.
 fn block_or_default(buf: &[u8], header: &Header, number: Option<u32>) -> Result<u32, Fault>
     requires header { IsHeaderOf buf.now header.now }
     requires number { IfSome number (λ i. i ≤ 999) }
@@ -173,7 +173,7 @@ fn bytepix_of(buf: &[u8], header: &Header, i: u32) -> Result<u32, Fault>
     Ok(size(value) as u32)
 }
 
-// The BYTEPIX of this number, or the default where there is none.
+// The BYTEPIX of this number, or the default if there is none.
 fn bytepix_or_default(buf: &[u8], header: &Header, number: Option<u32>) -> Result<u32, Fault>
     requires header { IsHeaderOf buf.now header.now }
     requires number { IfSome number (λ i. i ≤ 999) }

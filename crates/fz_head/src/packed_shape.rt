@@ -16,7 +16,7 @@ use crate::planning::{MAX_PIXELS, MAX_TILE_PIXELS, MAX_TILES};
 use crate::said::{at_name, integer_said, is_positive, refuse_when, require, size, stands};
 use crate::volumes::{has_more_places, has_more_tiles};
 use fz_base::{Fault, Kind};
-use fz_block::{Axes, Header};
+use fz_block::{Axes, Header, refusals_law};
 use fz_card::{Name, numbered};
 
 /// The most axes of an image.
@@ -82,6 +82,7 @@ fn axis_lengths(buf: &[u8], header: &Header, n: u32) -> Result<[u32; MAX_AXES], 
         (range_with_len 1 n) ++ replicate (9 - n) 0) }
     ensures some { IfOk result (λ a. (i : ℕ) → i < n → 1 ≤ slice_index a i) }
 {
+    refusals_law();
     let mut lengths = [0; MAX_AXES];
     for i in 0..n {
         lengths[i as usize] = axis(buf, header, i + 1)?;
@@ -89,7 +90,7 @@ fn axis_lengths(buf: &[u8], header: &Header, n: u32) -> Result<[u32; MAX_AXES], 
     Ok(lengths)
 }
 
-// The length of a tile along an axis of this length, which ZTILEi says, where it stands.
+// The length of a tile along an axis of this length, which ZTILEi says, if there is one.
 fn tile_length(buf: &[u8], header: &Header, i: u32, axis: u32) -> Result<u32, Fault>
     requires header { IsHeaderOf buf.now header.now }
     requires number { i ≤ 9 }
@@ -107,8 +108,8 @@ fn tile_length(buf: &[u8], header: &Header, i: u32, axis: u32) -> Result<u32, Fa
     Ok(length_within(said, size(length), i, axis))
 }
 
-// The length of a tile along axis i: as it is said, cut to the axis; else the whole first axis, and 1 along
-// the others.
+// The length of a tile along axis i: as it is said, cut to the axis; otherwise the whole first axis, and 1
+// along the others.
 fn length_within(said: bool, length: u64, i: u32, axis: u32) -> u32
     ensures { result ≡ (if said then min length axis else default_tile i axis) }
 {
@@ -146,6 +147,7 @@ fn tile_lengths(buf: &[u8], header: &Header, shape: &Axes) -> Result<[u32; MAX_A
     ensures value { IfOk result (λ a. a ≡ map (tile_along (cards_of buf.now)) (range_with_len 1 shape.now.n) ++ replicate (9 - shape.now.n) 0) }
     ensures some { IfOk result (λ a. (i : ℕ) → i < shape.now.n → (1 ≤ slice_index a i) × (slice_index a i ≤ slice_index shape.now.len i)) }
 {
+    refusals_law();
     let mut lengths = [0; MAX_AXES];
     for i in 0..shape.n {
         lengths[i as usize] = tile_length(buf, header, i + 1, shape.len[i as usize])?;

@@ -50,7 +50,7 @@ fn put_found(buf: &[u8], found: Option<u32>, count: usize, out: &mut [u8]) -> us
     }
 }
 
-// Writes the card of this index under its name in the image, or another one where there is none.
+// Writes the card of this index under its name in the image, or another one if there is none.
 fn put_or(buf: &[u8], found: Option<u32>, other: &Card, count: usize, out: &mut [u8]) -> usize
     requires found { ForSome found (λ i. 80 * (i + 1) ≤ len buf.now) }
     requires room { 80 * (count + 1) ≤ len out.old }
@@ -156,7 +156,7 @@ fn put_count_cards(
     )
 }
 
-// Whether the card stands at the front of the image's header, which has so many axes.
+// Whether the card is at the front of the image's header, which has so many axes.
 fn is_front(card: &Card, primary: bool, n: u32) -> bool
     ensures { result ≡ is_front_of primary n card.now.bytes }
 {
@@ -164,7 +164,7 @@ fn is_front(card: &Card, primary: bool, n: u32) -> bool
     is_front_name(name, n) || (!primary && is_count_name(name))
 }
 
-// Whether a card of this name stands at the front of the header of each image of so many axes.
+// Whether a card of this name is at the front of the header of each image of so many axes.
 fn is_front_name(name: Name, n: u32) -> bool
     ensures { result ≡ is_in_some (front_names n) name.bytes }
 {
@@ -182,7 +182,7 @@ fn is_count_name(name: Name) -> bool
     name == Name::ZPCOUNT || name == Name::ZGCOUNT
 }
 
-// Whether the card is the table's alone.
+// Whether the card is only the table's.
 fn is_table_card(card: &Card, n: u32) -> bool
     ensures { result ≡ is_table_card_of n card.now.bytes }
 {
@@ -234,7 +234,7 @@ fn put_other_cards(buf: &[u8], header: &Header, plan: &Plan, count: usize, out: 
 
 /// Writes the header of the image that a packed header stands for, and answers its length in bytes: whole
 /// blocks, no more than the packed header has. The buffer is a block longer than the packed header. SIMPLE
-/// or XTENSION, BITPIX, NAXIS, its axes, and in an extension PCOUNT and GCOUNT stand at the front; all
+/// or XTENSION, BITPIX, NAXIS, its axes, and in an extension PCOUNT and GCOUNT are at the front; all
 /// cards of the image follow in their order.
 pub fn to_plain(buf: &[u8], header: &Header, plan: &Plan, out: &mut [u8]) -> usize
     requires header { IsHeaderOf buf.now header.now }

@@ -15,6 +15,6 @@ pub struct Plan {
     /// Whether the image is a primary, and not an extension.
     pub primary: bool,
     /// Whether the image's plain bytes are more than 2,147,483,647, so that its descriptors have 64
-    /// bits where `fz` packs it. It does not say how wide those of a table are that is read.
+    /// bits if `fz` packs it. It does not say how wide those of a table are that is read.
     pub wide: bool,
 }

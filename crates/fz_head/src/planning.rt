@@ -46,7 +46,7 @@ const MAX_CARDS: u32 = 9216;
 /// The plan of an image that is to be packed, by its header and the options.
 ///
 /// Refused, in this order: a card has a reserved name (Reserved); a card repeats the name of an earlier
-/// one, where it stands once (Duplicate); a byte after the letters END is not blank (HeaderFill); there
+/// one, if it is there once (Duplicate); a byte after the letters END is not blank (HeaderFill); there
 /// are more than 2^40 pixels, more than 2^26 in a tile or more than 2^31 - 1 tiles, at card 2, or the
 /// packed header would pass 256 blocks, at END (Limit); the codec is PLIO_1 and BZERO is not zero
 /// (PlioOffset).
@@ -173,7 +173,7 @@ fn is_plio(codec: Codec) -> bool
     }
 }
 
-// No card has a reserved name, none repeats a name that stands once, and only blanks are after END.
+// No card has a reserved name, none repeats a name that occurs once, and only blanks are after END.
 fn check_names(buf: &[u8], header: &Header) -> Result<(), Fault>
     requires header { IsHeaderOf buf.now header.now }
     requires end { next_start_of header.now ≤ 2 ^ 62 }
@@ -262,7 +262,7 @@ fn check_header_fill(buf: &[u8], header: &Header) -> Result<(), Fault>
     }
 }
 
-// How many blanks stand before the first other byte.
+// How many blanks are before the first other byte.
 fn first_non_blank(bytes: &[u8]) -> Option<usize>
     ensures place { result ≡ position (λ b. not (b == 32)) bytes.now }
     ensures within { IfSome result (λ i. i < len bytes.now) }

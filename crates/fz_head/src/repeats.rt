@@ -1,4 +1,4 @@
-//! Names that stand once in a header.
+//! Names that occur once in a header.
 ghost use Rattle.std.specs.Prelude.{◌≡◌, ◌+◌, ◌*◌, ◌<◌, ◌≤◌, ◌&&◌, bytes_eq, length as len};
 ghost use Rattle.std.specs.List.{list_any};
 ghost use Rattle.fz_card.specs.Layout.{card_name};
@@ -11,7 +11,7 @@ ghost use Rattle.fz_head.specs.Written.{first_cards};
 use fz_block::card;
 use fz_card::{Name, is_numbered};
 
-/// The headers in which some names stand once: that of an image, and that of a packed table.
+/// The headers in which some names occur once: that of an image, and that of a packed table.
 #[derive(Clone, Copy)]
 pub(crate) enum Once {
     Image,
@@ -65,7 +65,7 @@ fn counted(name: Name, of: Once) -> Name
     }
 }
 
-// Whether the name stands once in such a header.
+// Whether the name occurs once in such a header.
 fn stands_once(name: Name, of: Once) -> bool
     ensures { result ≡ is_in_some (once_names of) name.bytes }
 {
@@ -75,7 +75,7 @@ fn stands_once(name: Name, of: Once) -> bool
     }
 }
 
-// Whether the name stands once in the header of an image.
+// Whether the name occurs once in the header of an image.
 fn is_image_name(name: Name) -> bool
     ensures { result ≡ is_in_some image_names name.bytes }
 {
@@ -88,7 +88,7 @@ fn is_image_name(name: Name) -> bool
         || name == Name::GCOUNT
 }
 
-// Whether the name stands once in a packed header.
+// Whether the name occurs once in a packed header.
 #[tactic(auto, using(crate::proofs::Positions::names_after_names))]
 fn is_packed_name(name: Name) -> bool
     ensures { result ≡ is_in_some table_names name.bytes }
@@ -96,7 +96,7 @@ fn is_packed_name(name: Name) -> bool
     is_array_name(name) || is_compression_name(name)
 }
 
-// Whether the name stands once in the header of a table.
+// Whether the name occurs once in the header of a table.
 fn is_array_name(name: Name) -> bool
     ensures { result ≡ is_in_some array_names name.bytes }
 {
@@ -112,7 +112,7 @@ fn is_array_name(name: Name) -> bool
         || name == Name::THEAP
 }
 
-// Whether the name tells of the packed image, and stands once.
+// Whether the name tells of the packed image, and occurs once.
 fn is_compression_name(name: Name) -> bool
     ensures { result ≡ is_in_some compression_names name.bytes }
 {

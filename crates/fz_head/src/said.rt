@@ -25,7 +25,7 @@ pub(crate) fn find(buf: &[u8], header: &Header, name: &Name) -> Option<u32>
     first_named(buf, header, name)
 }
 
-/// Whether a card of this name stands.
+/// Whether there is a card of this name.
 pub(crate) fn stands(buf: &[u8], header: &Header, name: &Name) -> bool
     requires { IsHeaderOf buf.now header.now }
     ensures { result ≡ is_some (index_of name.now.bytes (cards_of buf.now)) }
@@ -82,7 +82,7 @@ pub(crate) fn is_no_text(buf: &[u8], header: &Header, name: &Name) -> bool
     }
 }
 
-/// How large an integer is, without its sign; 0 where there is none.
+/// How large an integer is, without its sign; 0 if there is none.
 pub(crate) fn size(integer: Option<i64>) -> u64
     ensures { result ≡ size_in integer }
 {
@@ -128,7 +128,7 @@ pub(crate) fn refuse_when(condition: bool, fault: Fault) -> Result<(), Fault>
     if condition { Err(fault) } else { Ok(()) }
 }
 
-/// Refused at END, if no card of this name stands.
+/// Refused at END, if there is no card of this name.
 pub(crate) fn require(buf: &[u8], header: &Header, name: &Name) -> Result<(), Fault>
     requires { IsHeaderOf buf.now header.now }
     ensures { IsFirstOf (missing header.now.hdu name.now.bytes (cards_of buf.now) ∷ []) result }

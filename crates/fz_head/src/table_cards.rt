@@ -14,7 +14,7 @@ use fz_block::Header;
 use fz_card::Name;
 
 /// Checks the cards of a binary table: it is no compressed table (else CompressedTable at ZTABLE), and in
-/// a packed header no name that stands once stands twice (Duplicate).
+/// a packed header no name that may occur only once occurs twice (Duplicate).
 pub fn table_check(buf: &[u8], header: &Header) -> Result<(), Fault>
     requires header { IsHeaderOf buf.now header.now }
     requires table { header.now.sort ≡ BinTable }

@@ -25,7 +25,7 @@ pub(crate) fn cut_tile(axes: &Axes, asked: &Option<Axes>) -> Axes
     tile
 }
 
-// The length of a tile along an axis, cut to it, where one is asked for; else 1.
+// The length of a tile along an axis, cut to it, if one is asked for; otherwise 1.
 fn cut_length(axis: u32, asked: Option<u32>) -> u32
     ensures { result ≡ cut_length axis asked }
 {

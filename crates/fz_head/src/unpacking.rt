@@ -38,10 +38,10 @@ use fz_tile::Codec;
 /// Refused, in this order: pixels were scaled or masked (Quantised); ZCMPTYPE is missing or no text
 /// (BadCard), or names no codec (UnknownCodec); ZBITPIX is missing (BadCard), of floating-point numbers
 /// (Quantised), no size of an integer (BadCard), or 64 beside a code (UnknownCodec); ZNAXIS or ZNAXISi is
-/// missing or no number above 0 (BadCard), or passes a limit (Limit); ZTILEi stands and is no number above
+/// missing or no number above 0 (BadCard), or passes a limit (Limit); ZTILEi is there and is no number above
 /// 0 (BadCard); the pixels, those of a tile or the tiles are too many (Limit); a parameter of RICE_1 has no
-/// allowed value (BadCard, UnknownCodec); ZSIMPLE or ZTENSION has none (BadCard), ZSIMPLE stands elsewhere
-/// (MisplacedPrimary), or ZPCOUNT or ZGCOUNT beside no ZSIMPLE has none (BadCard); PLIO_1 stands beside an
+/// allowed value (BadCard, UnknownCodec); ZSIMPLE or ZTENSION has none (BadCard), ZSIMPLE is elsewhere
+/// (MisplacedPrimary), or ZPCOUNT or ZGCOUNT beside no ZSIMPLE has none (BadCard); PLIO_1 is beside an
 /// offset (PlioOffset); NAXIS2 is not the number of tiles (RowCount).
 pub fn plan_of(buf: &[u8], header: &Header, table: &Table, after_empty: bool) -> Result<Plan, Fault>
     requires header { IsHeaderOf buf.now header.now }
@@ -100,7 +100,7 @@ fn was_primary(buf: &[u8], header: &Header) -> bool
     stands(buf, header, &Name::ZSIMPLE)
 }
 
-// Whether the first card of this name stands and says another number.
+// Whether the first card of this name is there and says another number.
 fn says_other(buf: &[u8], header: &Header, name: &Name, value: i64) -> bool
     requires { IsHeaderOf buf.now header.now }
     ensures { result ≡ (is_some (index_of name.now.bytes (cards_of buf.now)) && not
@@ -119,7 +119,7 @@ fn is_other_count(buf: &[u8], header: &Header, name: &Name, value: i64) -> bool
     !stands(buf, header, &Name::ZSIMPLE) && says_other(buf, header, name, value)
 }
 
-// ZPCOUNT of an extension is 0, where it stands.
+// ZPCOUNT of an extension is 0, if it is there.
 fn check_pcount(buf: &[u8], header: &Header) -> Result<(), Fault>
     requires { IsHeaderOf buf.now header.now }
     ensures { IsFirstOf (must_be header.now.hdu (cards_of buf.now) (codes "ZPCOUNT") (pos 0) ∷ []) result }
@@ -128,7 +128,7 @@ fn check_pcount(buf: &[u8], header: &Header) -> Result<(), Fault>
     refuse_when(other, at_name(buf, header, &Name::ZPCOUNT, Kind::BadCard))
 }
 
-// ZGCOUNT of an extension is 1, where it stands.
+// ZGCOUNT of an extension is 1, if it is there.
 fn check_gcount(buf: &[u8], header: &Header) -> Result<(), Fault>
     requires { IsHeaderOf buf.now header.now }
     ensures { IsFirstOf (must_be header.now.hdu (cards_of buf.now) (codes "ZGCOUNT") (pos 1) ∷ []) result }
@@ -137,7 +137,7 @@ fn check_gcount(buf: &[u8], header: &Header) -> Result<(), Fault>
     refuse_when(other, at_name(buf, header, &Name::ZGCOUNT, Kind::BadCard))
 }
 
-// Whether ZSIMPLE stands and is not T.
+// Whether ZSIMPLE is there and is not T.
 fn is_untrue(buf: &[u8], header: &Header) -> bool
     requires { IsHeaderOf buf.now header.now }
     ensures { result ≡ (has_word (codes "ZSIMPLE") (cards_of buf.now) && not
@@ -146,7 +146,7 @@ fn is_untrue(buf: &[u8], header: &Header) -> bool
     stands(buf, header, &Name::ZSIMPLE) && !is_true(buf, header, &Name::ZSIMPLE)
 }
 
-// Whether ZTENSION stands and is not IMAGE.
+// Whether ZTENSION is there and is not IMAGE.
 fn is_no_image(buf: &[u8], header: &Header) -> bool
     requires { IsHeaderOf buf.now header.now }
     ensures { result ≡ (has_word (codes "ZTENSION") (cards_of buf.now) && not
@@ -155,7 +155,7 @@ fn is_no_image(buf: &[u8], header: &Header) -> bool
     stands(buf, header, &Name::ZTENSION) && !is_text(buf, header, &Name::ZTENSION, b"IMAGE")
 }
 
-// Whether ZSIMPLE stands elsewhere than after an empty primary.
+// Whether ZSIMPLE is elsewhere than after an empty primary.
 fn is_misplaced(buf: &[u8], header: &Header, after_empty: bool) -> bool
     requires { IsHeaderOf buf.now header.now }
     ensures { result ≡ (has_word (codes "ZSIMPLE") (cards_of buf.now) && not after_empty) }

@@ -29,7 +29,7 @@ pub(crate) fn has_more_tiles(shape: &Axes, tile: &Axes, most: u64) -> bool
     tile_count(shape, tile) > most
 }
 
-// How many tiles there are, or the greatest number where there are more.
+// How many tiles there are, or the greatest number if there are more.
 fn tile_count(shape: &Axes, tile: &Axes) -> u64
     requires axes { shape.now.n ≤ 9 }
     requires same { tile.now.n ≡ shape.now.n }

@@ -21,7 +21,7 @@ pub(crate) fn length_card(stem: &[u8], i: u32, length: u32) -> Card
     int_card(numbered(stem, i), i64::from(length))
 }
 
-/// Writes a card after so many cards, and answers how many stand there then.
+/// Writes a card after so many cards, and answers how many are there then.
 pub(crate) fn put(card: &Card, count: usize, out: &mut [u8]) -> usize
     requires { 80 * (count + 1) ≤ len out.old }
     ensures written { Adds (card.now.bytes ∷ []) count out.old result out.new }
@@ -32,7 +32,7 @@ pub(crate) fn put(card: &Card, count: usize, out: &mut [u8]) -> usize
     count + 1
 }
 
-/// Writes the cards after so many cards, and answers how many stand there then.
+/// Writes the cards after so many cards, and answers how many are there then.
 pub(crate) fn put_all(cards: &[Card], count: usize, out: &mut [u8]) -> usize
     requires { 80 * (count + len cards.now) ≤ len out.old }
     ensures written { Adds (card_list cards.now) count out.old result out.new }

@@ -34,7 +34,7 @@ use Rattle.fz_head.specs.Repeats.{counted_name, first_repeat, image_names, itsel
 use Rattle.fz_head.specs.TableChecks.{compressed_table, repeated_table_names, table_card_checks}
 use Rattle.fz_head.specs.declared.options.PackOptions.{PackOptions}
 use Rattle.fz_files.specs.declared.job.Job.{Job}
-use Rattle.fz_files.specs.declared.job.Job.TheVariants.{Pack, Unpack, Cut, Verify, List as ListHdus, Drill}
+use Rattle.fz_files.specs.declared.job.Job.TheVariants.{Pack, Unpack, Cut, Verify, List as ListHdus, Drill, Retile}
 use Rattle.fz_files.specs.Ends.{judge_for}
 use Rattle.fz_files.specs.Restored.{header_in}
 use Rattle.fz_files.specs.Walks.{box_of}
@@ -386,3 +386,4 @@ module _ (file : List ℕ) (h : Header) (s : Stands file h) where
   judge_within Verify x says = refused_is P ⊤ false (unpack_hdu_checks file h) x (unpack_within (is_after_empty file h)) says
   judge_within ListHdus x says = refused_is P ⊤ false (unpack_hdu_checks file h) x (unpack_within (is_after_empty file h)) says
   judge_within (Drill rows) x says = absurd cc
+  judge_within (Retile o) x says = refused_is P ⊤ false (unpack_hdu_checks file h) x (unpack_within (is_after_empty file h)) says

@@ -36,8 +36,8 @@ use Rattle.fz_head.specs.Packable.{is_packed, is_table}
 use Rattle.fz_head.specs.PackedChecks.{packed_checks}
 use Rattle.fz_head.specs.TableChecks.{compressed_table, repeated_table_names, table_card_checks}
 use Rattle.fz_files.specs.declared.job.Job.{Job}
-use Rattle.fz_files.specs.declared.job.Job.TheVariants.{Pack, Unpack, Cut, Verify, List as ListHdus, Drill}
-use Rattle.fz_files.specs.FirstFault.{ImageRow, IsFirstRowFault, IsRowFault, IsRowsFault, all_rows, image_row, picked_rows, rows_for, rows_of}
+use Rattle.fz_files.specs.declared.job.Job.TheVariants.{Pack, Unpack, Cut, Verify, List as ListHdus, Drill, Retile}
+use Rattle.fz_files.specs.FirstFault.{ImageRow, IsFirstRowFault, IsRowFault, all_rows, image_row, picked_rows, rows_for, rows_of}
 use Rattle.fz_files.specs.Packed.{tiles_in}
 use Rattle.fz_files.specs.Restored.{header_in, image_table, is_image, plan_in, tile_of}
 use Rattle.fz_files.specs.Walks.{box_of, cut_end_fault, fault_of_walk, found_headers, header_fault, headers_for, job_walk, last_of, missing_of}
@@ -341,6 +341,9 @@ rows_are laws Verify file none =
     subst (RowsAre Verify file) (sym found.1) (rows_of_walk laws file found.0 found.1)
 rows_are laws ListHdus file none = tt
 rows_are laws (Drill rows) file none = tt
+rows_are laws (Retile o) file none =
+    let found = found_walk (Retile o) file (walk_of (unpack_judge file) 65536 file) none in
+    subst (RowsAre (Retile o) file) (sym found.1) (rows_of_walk laws file found.0 found.1)
 
 -- ---- the row of a fault
 
@@ -355,7 +358,7 @@ row_place file [] x first = absurd first
 row_place file (r ∷ rs) x (inl refused) = (r.row, (row_fault file r x refused).1)
 row_place file (r ∷ rs) x (inr later) = row_place file rs x later.1
 
-pub row_lies : Laws → (job : Job) (file : List ℕ) (x : Fault) (row : ℕ) → x.at ≡ AtRow row → header_fault job file ≡ None → IsRowsFault job file (Some x) → RowLies job file x row
+pub row_lies : Laws → (job : Job) (file : List ℕ) (x : Fault) (row : ℕ) → x.at ≡ AtRow row → header_fault job file ≡ None → IsFirstRowFault file (rows_for job file (headers_for job file)) (Some x) → RowLies job file x row
 row_lies laws job file x row at none first =
     let found = faulty_row (IsRowOf file (headers_for job file)) file (rows_for job file (headers_for job file)) x (rows_are laws job file none) first in
     by_row found.0 found.1 (row_fault file found.0 x found.2)

@@ -11,7 +11,7 @@ use Rattle.fz_head.specs.Judges.{pack_judge, unpack_judge}
 use Rattle.fz_head.specs.Packable.{is_packable}
 use Rattle.fz_head.specs.declared.options.PackOptions.{PackOptions}
 use Rattle.fz_files.specs.declared.job.Job.{Job}
-use Rattle.fz_files.specs.declared.job.Job.TheVariants.{Pack, Unpack, Cut, Verify, List as ListHdus, Drill}
+use Rattle.fz_files.specs.declared.job.Job.TheVariants.{Pack, Unpack, Cut, Verify, List as ListHdus, Drill, Retile}
 use Rattle.fz_files.specs.Cutout.{header_range, ranges_of_row}
 use Rattle.fz_files.specs.Ends.{CutsLieWithin}
 use Rattle.fz_files.specs.FirstFault.{ImageRow, image_row, rows_of}
@@ -128,6 +128,12 @@ module _ (laws : Laws) (reads : RowsLieWithin) (file : List ℕ) where
       let found = found_walk Unpack file (walk_of (unpack_judge file) 65536 file) none in
       subst (DataLie Unpack) (sym found.1) (met_lie (data_touched Unpack file) unpack_lies found.0 found.1)
 
+  retile_data : (o : PackOptions) → header_fault (Retile o) file ≡ None → DataLie (Retile o) (job_walk (Retile o) file)
+  unfolding job_walk
+  retile_data o none =
+      let found = found_walk (Retile o) file (walk_of (unpack_judge file) 65536 file) none in
+      subst (DataLie (Retile o)) (sym found.1) (met_lie (data_touched (Retile o) file) unpack_lies found.0 found.1)
+
   verify_data : header_fault Verify file ≡ None → DataLie Verify (job_walk Verify file)
   unfolding job_walk
   verify_data none =
@@ -158,3 +164,4 @@ lie_within laws reached reads cuts (Cut wanted sieve) file = cuts wanted sieve f
 lie_within laws reached reads cuts Verify file = hdus_lie reached Verify file (verify_data laws reads file)
 lie_within laws reached reads cuts ListHdus file = headers_lie reached ListHdus file
 lie_within laws reached reads cuts (Drill rows) file = All-nil (Lies file)
+lie_within laws reached reads cuts (Retile o) file = hdus_lie reached (Retile o) file (retile_data laws reads file o)

@@ -13,7 +13,7 @@ use Rattle.fz_block.specs.declared.header.Header.{Header}
 use Rattle.fz_head.specs.JobChecks.{missing_hdu}
 use Rattle.fz_head.specs.Judges.{cut_judge}
 use Rattle.fz_files.specs.declared.job.Job.{Job}
-use Rattle.fz_files.specs.declared.job.Job.TheVariants.{Pack, Unpack, Cut, Verify, List as ListHdus, Drill}
+use Rattle.fz_files.specs.declared.job.Job.TheVariants.{Pack, Unpack, Cut, Verify, List as ListHdus, Drill, Retile}
 use Rattle.fz_files.specs.Ends.{EndsAtTheFault, EndsAtTheLimit, EndsWithTheFile, IsRejectedAt, WalksEndAtTheFault, judge_for}
 use Rattle.fz_files.specs.Walks.{Reached, box_of, cut_end_fault, fault_of_walk, header_fault, job_walk, missing_of, reached_by}
 use Rattle.fz_places.specs.Places.{CardLies, IsByteOf}
@@ -133,6 +133,7 @@ byte_lies find count (Cut wanted sieve) file x p at e =
 byte_lies find count Verify file x p at e = by_walk find count Verify file x p at 65536 some_hdus (job_walk Verify file) refl (λ hs none. no_cut_end x none) e
 byte_lies find count ListHdus file x p at e = by_walk find count ListHdus file x p at 65536 some_hdus (job_walk ListHdus file) refl (λ hs none. no_cut_end x none) e
 byte_lies find count (Drill rows) file x p at e = no_cut_end x e
+byte_lies find count (Retile o) file x p at e = by_walk find count (Retile o) file x p at 65536 some_hdus (job_walk (Retile o) file) refl (λ hs none. no_cut_end x none) e
 
 -- ---- cards, and no rows
 
@@ -168,6 +169,7 @@ module _ (find : HduIsFound) (count : BlocksAreFound) (file : List ℕ) (x : Fau
   cut_ends_at_byte Verify hs e = no_cut_end x e
   cut_ends_at_byte ListHdus hs e = no_cut_end x e
   cut_ends_at_byte (Drill rows) hs e = no_cut_end x e
+  cut_ends_at_byte (Retile o) hs e = no_cut_end x e
 
   lies_last : (job : Job) → EndsAtTheFault job file x ⊎ (EndsAtTheLimit job file x ⊎ EndsWithTheFile job file x) → LiesLast job file x place
   lies_last job (inl s) = record {

@@ -1,5 +1,5 @@
 -- Where the place that a first fault names lies in the file: bytes, cards and rows (FITS 4.0, sections 3.1, 3.3.1 and 7.3).
-use Rattle.std.specs.Prelude.{ℕ, ◌≡◌, ◌⊎◌, ◌+◌, ◌*◌, ◌<◌, ◌≤◌, true, Contains, List, [], ◌∷◌, ◌++◌, length, take, drop, Some, Ok}
+use Rattle.std.specs.Prelude.{ℕ, ◌≡◌, ◌⊎◌, ◌+◌, ◌*◌, ◌<◌, ◌≤◌, true, Contains, List, [], ◌∷◌, ◌++◌, length, take, drop, Some, Ok, ⊤}
 use Rattle.fz_base.specs.declared.fault.Fault.{Fault}
 use Rattle.fz_base.specs.declared.fault.Place.TheVariants.{Byte, Card, Row as AtRow}
 use Rattle.fz_base.specs.declared.kind.Kind.{Kind}
@@ -9,7 +9,11 @@ use Rattle.fz_block.specs.Checks.{header_blocks_of}
 use Rattle.fz_block.specs.declared.header.Header.{Header}
 use Rattle.fz_table.specs.Rows.{row_start}
 use Rattle.fz_files.specs.declared.job.Job.{Job}
+use Rattle.fz_files.specs.declared.job.Job.TheVariants.{Pack, Unpack, Cut, Verify, List as ListHdus, Drill, Retile}
+use Rattle.fz_head.specs.declared.options.PackOptions.{PackOptions}
 use Rattle.fz_files.specs.FirstFault.{IsFirstFault}
+use Rattle.fz_files.specs.PlainFault.{too_long}
+use Rattle.fz_files.specs.RestoredFile.{restored}
 use Rattle.fz_files.specs.Restored.{image_table, is_image}
 use Rattle.fz_files.specs.Walks.{Reached, headers_for, reached_by}
 
@@ -52,14 +56,30 @@ pub record RowLies (job : Job) (file : List ℕ) (x : Fault) (row : ℕ) : Type 
   pub row_is : row < (image_table file header).rows
   pub within : row_start (image_table file header) (row + 1) ≤ length file
 
+-- The job looks at one file. `retile` looks at two: at the packed file for `unpack`, and for `pack` at the file that it stands for.
+abbrev pub LooksAtOneFile : Job → Type 0
+LooksAtOneFile (Pack o) = ⊤
+LooksAtOneFile Unpack = ⊤
+LooksAtOneFile (Cut wanted sieve) = ⊤
+LooksAtOneFile Verify = ⊤
+LooksAtOneFile ListHdus = ⊤
+LooksAtOneFile (Drill rows) = ⊤
+LooksAtOneFile (Retile o) = ⊥
+
 -- a first fault at a byte
 abbrev pub BytesLie : Type 0
-BytesLie = (job : Job) (file : List ℕ) (x : Fault) (p : ℕ) → IsFirstFault job file (Some x) → x.at ≡ Byte p → IsByteOf file x.kind p
+BytesLie = (job : Job) (file : List ℕ) (x : Fault) (p : ℕ) → LooksAtOneFile job → IsFirstFault job file (Some x) → x.at ≡ Byte p → IsByteOf file x.kind p
 
 -- at a card
 abbrev pub CardsLie : Type 0
-CardsLie = (job : Job) (file : List ℕ) (x : Fault) (i : ℕ) → IsFirstFault job file (Some x) → x.at ≡ Card i → CardLies job file x i
+CardsLie = (job : Job) (file : List ℕ) (x : Fault) (i : ℕ) → LooksAtOneFile job → IsFirstFault job file (Some x) → x.at ≡ Card i → CardLies job file x i
 
 -- at a row
 abbrev pub RowsLie : Type 0
-RowsLie = (job : Job) (file : List ℕ) (x : Fault) (row : ℕ) → IsFirstFault job file (Some x) → x.at ≡ AtRow row → RowLies job file x row
+RowsLie = (job : Job) (file : List ℕ) (x : Fault) (row : ℕ) → LooksAtOneFile job → IsFirstFault job file (Some x) → x.at ≡ AtRow row → RowLies job file x row
+
+-- a first fault of `retile` is that of `unpack` in the packed file, or that of `pack` in the file that it stands for, if this is not too long
+abbrev pub RetileFaultsAreOfBoth : Type 0
+RetileFaultsAreOfBoth =
+    (o : PackOptions) (file : List ℕ) (x : Fault) → IsFirstFault (Retile o) file (Some x) →
+    IsFirstFault Unpack file (Some x) ⊎ ((x ≡ too_long file) ⊎ IsFirstFault (Pack o) (restored file) (Some x))

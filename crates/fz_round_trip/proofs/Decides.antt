@@ -8,7 +8,7 @@ use Rattle.fz_bits.specs.Numbers.{IsNumber}
 use Rattle.fz_plio.specs.Instructions.{Instruction}
 use Rattle.fz_plio.specs.Meaning.{effect, expand, LeavesRange, SomeLeavesRange, AreRefused, past_end, out_of_range, no_high, unknown, no_second, IsRefused, odd, short, header_length, old_header, length_low, length_high, too_short, too_long, instruction, instructions_of, list_len}
 use Rattle.fz_plio.specs.Words.{words}
-use Rattle.fz_round_trip.specs.Pixels.{any_of, are_numbers, has_no_high, has_no_second, instruction_tests, is_no_second, is_number, is_unknown, leaves_range, list_tests, some_leaves_range}
+use Rattle.fz_files.specs.RecordPixels.{any_of, are_numbers, has_no_high, has_no_second, instruction_tests, is_no_second, is_number, is_unknown, leaves_range, list_tests, some_leaves_range}
 use Rattle.fz_round_trip.proofs.Tests.{AreFalse, and_false, and_true, eq_false, eq_true, le_false, le_true, lt_false, lt_true, none_of_them, not_false, not_true, one_of_them, or_false, or_true}
 
 -- ---- the range of BITPIX

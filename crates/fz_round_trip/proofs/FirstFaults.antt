@@ -24,12 +24,14 @@ use Rattle.fz_head.specs.Judges.{cut_judge, is_wanted, unpack_judge}
 use Rattle.fz_head.specs.Packable.{is_packed}
 use Rattle.fz_head.specs.declared.plan.Plan.{Plan}
 use Rattle.fz_files.specs.declared.job.Job.{Job}
-use Rattle.fz_files.specs.declared.job.Job.TheVariants.{Pack, Unpack, Cut, Verify, List as ListHdus, Drill}
-use Rattle.fz_files.specs.FirstFault.{ImageRow, IsFaultBehind, IsFirstFault, IsFirstRowFault, IsRowFault, all_rows, image_row, picked_rows, picked_tiles_of, rows_for, rows_of}
+use Rattle.fz_files.specs.declared.job.Job.TheVariants.{Pack, Unpack, Cut, Verify, List as ListHdus, Drill, Retile}
+use Rattle.fz_files.specs.FirstFault.{ImageRow, IsFaultBehind, IsFaultThen, IsFirstFault, IsFirstRowFault, IsRowFault, IsRowsFault, all_rows, image_row, picked_rows, picked_tiles_of, rows_for, rows_of}
 use Rattle.fz_files.specs.Packed.{pixel_bits, tiles_in}
 use Rattle.fz_files.specs.Restored.{RowStandsFor, header_in, image_table, is_image, pixels_of, place_in, plan_in, tile_of}
 use Rattle.fz_files.specs.Walks.{box_of, cut_end_fault, fault_of_walk, found_headers, header_fault, headers_for, job_walk, last_of, missing_of}
-use Rattle.fz_round_trip.specs.Decided.{fault_after, fault_or, first_fault, first_row_fault, for_row, pixels_after, pixels_found, row_pixels}
+use Rattle.fz_files.specs.Decided.{fault_after, fault_behind, fault_then, first_fault, rows_fault}
+use Rattle.fz_files.specs.PlainFault.{plain_fault}
+use Rattle.fz_files.specs.RowPixels.{fault_or, first_row_fault, for_row, pixels_after, pixels_found, row_pixels}
 use Rattle.fz_round_trip.proofs.Passing.{table_none}
 use Rattle.fz_round_trip.proofs.Readable.{heap_within, record_len, starts_before}
 use Rattle.fz_round_trip.proofs.RecordPixels.{IsRecordResult, PixelLaws, record_is}
@@ -251,11 +253,31 @@ rows_readable laws Verify file none =
     subst (λ r. AreReadable file (all_rows file (found_headers r))) (sym found.1) (unpacked_rows laws file found.0 found.1)
 rows_readable laws ListHdus file none = tt
 rows_readable laws (Drill rows) file none = tt
+rows_readable laws (Retile o) file none =
+    let found = found_walk (Retile o) file (walk_of (unpack_judge file) 65536 file) none in
+    subst (λ r. AreReadable file (all_rows file (found_headers r))) (sym found.1) (unpacked_rows laws file found.0 found.1)
+
+-- the fault of rows, or else what is looked for after them
+then_is : (file : List ℕ) (rows : List ImageRow) (found later : Option Fault) → IsFirstRowFault file rows found → IsFaultThen file rows later (fault_then found later)
+then_is file rows (Some x) later is = inl is
+then_is file rows None None is = (is, refl)
+then_is file rows None (Some x) is = inr (is, refl)
+
+of_rows : FaultLaws → (job : Job) (file : List ℕ) → AreBytes file → AreReadable file (rows_for job file (headers_for job file)) → IsRowsFault job file (fault_behind job file)
+of_rows laws (Pack o) file bytes can = rows_are laws.pixels file (rows_for (Pack o) file (headers_for (Pack o) file)) bytes can
+of_rows laws Unpack file bytes can = rows_are laws.pixels file (rows_for Unpack file (headers_for Unpack file)) bytes can
+of_rows laws (Cut wanted sieve) file bytes can = rows_are laws.pixels file (rows_for (Cut wanted sieve) file (headers_for (Cut wanted sieve) file)) bytes can
+of_rows laws Verify file bytes can = rows_are laws.pixels file (rows_for Verify file (headers_for Verify file)) bytes can
+of_rows laws ListHdus file bytes can = rows_are laws.pixels file (rows_for ListHdus file (headers_for ListHdus file)) bytes can
+of_rows laws (Drill rows) file bytes can = rows_are laws.pixels file (rows_for (Drill rows) file (headers_for (Drill rows) file)) bytes can
+of_rows laws (Retile o) file bytes can =
+    then_is file (rows_for (Retile o) file (headers_for (Retile o) file)) (rows_fault (Retile o) file) (plain_fault o file)
+    (rows_are laws.pixels file (rows_for (Retile o) file (headers_for (Retile o) file)) bytes can)
 
 fault_is : FaultLaws → (refused : Option Fault) (job : Job) (file : List ℕ) → AreBytes file → (refused ≡ None → AreReadable file (rows_for job file (headers_for job file))) →
     IsFaultBehind refused job file (fault_after refused job file)
 fault_is laws (Some fault) job file bytes can = refl
-fault_is laws None job file bytes can = rows_are laws.pixels file (rows_for job file (headers_for job file)) bytes (can refl)
+fault_is laws None job file bytes can = of_rows laws job file bytes (can refl)
 
 pub first_fault_is : FaultLaws → (job : Job) (file : List ℕ) → AreBytes file → IsFirstFault job file (first_fault job file)
 unfolding first_fault

@@ -18,12 +18,15 @@ use Rattle.fz_tile.specs.declared.fault.TileFault.{TileFault}
 use Rattle.fz_tile.specs.declared.fault.TileFault.TheVariants.{TileSize}
 use Rattle.fz_head.specs.declared.plan.Plan.{Plan}
 use Rattle.fz_files.specs.declared.job.Job.{Job}
-use Rattle.fz_files.specs.FirstFault.{ImageRow, IsFaultBehind, IsFirstFault, IsFirstRowFault, IsRowFault, rows_for}
+use Rattle.fz_files.specs.FirstFault.{ImageRow, IsFaultBehind, IsFaultThen, IsFirstFault, IsFirstRowFault, IsRowFault, IsRowsFault, rows_for}
 use Rattle.fz_files.specs.Packed.{pixel_bits}
 use Rattle.fz_files.specs.Restored.{RowStandsFor, image_table, pixels_of, place_in, plan_in, tile_of}
 use Rattle.fz_files.specs.Walks.{header_fault, headers_for}
-use Rattle.fz_round_trip.specs.Decided.{fault_after, fault_or, first_fault, first_row_fault, for_row, pixels_after, row_pixels}
-use Rattle.fz_round_trip.specs.Pixels.{plain_pixels, record_pixels}
+use Rattle.fz_files.specs.Decided.{fault_after, fault_behind, fault_then, first_fault}
+use Rattle.fz_files.specs.PlainFault.{plain_fault}
+use Rattle.fz_files.specs.declared.job.Job.TheVariants.{Pack, Unpack, Cut, Verify, List as ListHdus, Drill, Retile}
+use Rattle.fz_files.specs.RowPixels.{fault_or, first_row_fault, for_row, pixels_after, row_pixels}
+use Rattle.fz_files.specs.RecordPixels.{plain_pixels, record_pixels}
 use Rattle.fz_round_trip.proofs.FirstFaults.{AreReadable, FaultLaws, IsReadable, rows_readable}
 use Rattle.fz_round_trip.proofs.Readable.{record_len}
 use Rattle.fz_round_trip.proofs.RecordPixels.{CodesAreRead, IsRecordResult, code_result, line_result}
@@ -50,8 +53,8 @@ plain_record again bitpix total n read xs size len numbers stored = by_test (tot
         ap (λ l. Ok l) (ap (λ k. stored_pixels bitpix k read) (sym len) ∙ ap (stored_pixels bitpix (length xs)) stored.1 ∙ again bitpix xs size numbers)
     by_test false e = absurd (eq_false total (bitpix / 8 * n) e (stored.0 ∙ ap (λ k. bitpix / 8 * k) len))
 
-plain_fault : (bitpix total n : ℕ) (read : List ℕ) (why : TileFault) → IsPlainFault bitpix total n why → plain_pixels bitpix total n read ≡ Err why
-plain_fault bitpix total n read why is = by_test (total == bitpix / 8 * n) refl
+plain_refused : (bitpix total n : ℕ) (read : List ℕ) (why : TileFault) → IsPlainFault bitpix total n why → plain_pixels bitpix total n read ≡ Err why
+plain_refused bitpix total n read why is = by_test (total == bitpix / 8 * n) refl
   where
     by_test : (b : Bool) → (total == bitpix / 8 * n) ≡ b → ◌≡◌ {A = Result (List ℤ) TileFault} (if b then Ok (stored_pixels bitpix n read) else Err TileSize) (Err why)
     by_test true e = absurd (is.size (eq_true total (bitpix / 8 * n) e))
@@ -77,11 +80,11 @@ record_known laws Plain bitpix Coded total n read xs can size len is = plain_rec
 
 fault_known : KnownLaws → (codec : Codec) (bitpix : ℕ) (place : Place2) (total n : ℕ) (read : List ℕ) (why : TileFault) → CanRead codec (pos bitpix) → length read ≡ read_len n total →
     IsFault codec bitpix place total read n why → record_pixels codec bitpix place total n read ≡ Err why
-fault_known laws codec bitpix Stored total n read why can size is = plain_fault bitpix total n read why is
+fault_known laws codec bitpix Stored total n read why can size is = plain_refused bitpix total n read why is
 fault_known laws (Rice block bytepix) bitpix Coded total n read why can size is =
     of_fault laws (Rice block bytepix) bitpix Coded total n read why _ can is (code_result laws.rice block bytepix bitpix total n read can size)
 fault_known laws Plio bitpix Coded total n read why can size is = of_fault laws Plio bitpix Coded total n read why _ can is (line_result bitpix total n read can size)
-fault_known laws Plain bitpix Coded total n read why can size is = plain_fault bitpix total n read why is
+fault_known laws Plain bitpix Coded total n read why can size is = plain_refused bitpix total n read why is
 
 -- ---- a row
 
@@ -117,10 +120,27 @@ rows_known laws file (r ∷ rs) (Some fault) can (inr is) =
 
 -- ---- the file
 
+-- of the rows, or else of what is looked for after them
+then_known : KnownLaws → (file : List ℕ) (rows : List ImageRow) (later found : Option Fault) → AreReadable file rows → IsFaultThen file rows later found →
+    fault_then (first_row_fault file rows) later ≡ found
+then_known laws file rows later None can is = ap (λ x. fault_then x later) (rows_known laws file rows None can is.0) ∙ is.1
+then_known laws file rows later (Some x) can (inl is) = ap (λ y. fault_then y later) (rows_known laws file rows (Some x) can is)
+then_known laws file rows later (Some x) can (inr is) = ap (λ y. fault_then y later) (rows_known laws file rows None can is.0) ∙ is.1
+
+rows_known_for : KnownLaws → (job : Job) (file : List ℕ) (found : Option Fault) → AreReadable file (rows_for job file (headers_for job file)) → IsRowsFault job file found →
+    fault_behind job file ≡ found
+rows_known_for laws (Pack o) file found can is = rows_known laws file (rows_for (Pack o) file (headers_for (Pack o) file)) found can is
+rows_known_for laws Unpack file found can is = rows_known laws file (rows_for Unpack file (headers_for Unpack file)) found can is
+rows_known_for laws (Cut wanted sieve) file found can is = rows_known laws file (rows_for (Cut wanted sieve) file (headers_for (Cut wanted sieve) file)) found can is
+rows_known_for laws Verify file found can is = rows_known laws file (rows_for Verify file (headers_for Verify file)) found can is
+rows_known_for laws ListHdus file found can is = rows_known laws file (rows_for ListHdus file (headers_for ListHdus file)) found can is
+rows_known_for laws (Drill rows) file found can is = rows_known laws file (rows_for (Drill rows) file (headers_for (Drill rows) file)) found can is
+rows_known_for laws (Retile o) file found can is = then_known laws file (rows_for (Retile o) file (headers_for (Retile o) file)) (plain_fault o file) found can is
+
 fault_is_known : KnownLaws → (refused : Option Fault) (job : Job) (file : List ℕ) (found : Option Fault) → (refused ≡ None → AreReadable file (rows_for job file (headers_for job file))) →
     IsFaultBehind refused job file found → fault_after refused job file ≡ found
 fault_is_known laws (Some fault) job file found can is = sym is
-fault_is_known laws None job file found can is = rows_known laws file (rows_for job file (headers_for job file)) found (can refl) is
+fault_is_known laws None job file found can is = rows_known_for laws job file found (can refl) is
 
 pub first_fault_known : KnownLaws → FaultLaws → (job : Job) (file : List ℕ) (found : Option Fault) → IsFirstFault job file found → found ≡ first_fault job file
 unfolding first_fault

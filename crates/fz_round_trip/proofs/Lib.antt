@@ -11,6 +11,7 @@ pub mod Outs
 pub mod Passing
 pub mod Readable
 pub mod RecordPixels
+pub mod RestoredBytes
 pub mod Restoring
 pub mod RiceBits
 pub mod RiceBlocks

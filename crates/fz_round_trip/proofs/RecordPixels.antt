@@ -22,7 +22,7 @@ use Rattle.fz_tile.specs.declared.coded.Place2.{Place2}
 use Rattle.fz_tile.specs.declared.coded.Place2.TheVariants.{Coded, Stored}
 use Rattle.fz_tile.specs.declared.fault.TileFault.{TileFault}
 use Rattle.fz_tile.specs.declared.fault.TileFault.TheVariants.{CodeShort, CodeValue, LineList, PixelRange, TileSize}
-use Rattle.fz_round_trip.specs.Pixels.{any_of, are_numbers, line_pixels, list_tests, pixels_if, pixels_of_code, plain_pixels, record_pixels}
+use Rattle.fz_files.specs.RecordPixels.{any_of, are_numbers, line_pixels, list_tests, pixels_if, pixels_of_code, plain_pixels, record_pixels}
 use Rattle.fz_round_trip.proofs.Decides.{are_in_range, are_not_in_range, list_fits, list_is_lawful, list_is_refused}
 use Rattle.fz_round_trip.proofs.Tests.{eq_false, eq_true, lt_false, lt_true}
 

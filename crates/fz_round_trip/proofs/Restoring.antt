@@ -1,7 +1,8 @@
 -- A packed file in which `unpack` finds no fault stands for the file that its bytes say.
-use Rattle.std.specs.Prelude.{slice_index_or}
+use Rattle.std.specs.Prelude.{All, slice_index_or}
 use Rattle.std.proofs.Common.{◌≡◌, ℕ, zero, suc, ◌+◌, ◌<◌, Bool, true, false, cond, ℤ, List, [], ◌∷◌, map, None, Ok, if◌then◌else◌, refl, sym, subst, ap, arith}
-use Rattle.std.specs.List.{filter, flat_map, range_with_len}
+use Rattle.std.specs.List.{AllByRecursion, filter, flat_map, range_with_len}
+use Rattle.std.proofs.lemmas.List.Elements.{All-from_recursion}
 use Rattle.std.proofs.lemmas.List.FromFn.{get_or-map-range_with_len, length-map-range_with_len}
 use Rattle.fz_base.specs.Refusal.{first_refusal}
 use Rattle.fz_block.specs.Checks.{walk_of}
@@ -22,8 +23,8 @@ use Rattle.fz_files.specs.Restored.{HduStandsFor, HdusStandFor, RowStandsFor, Ro
 use Rattle.fz_files.specs.StandsFor.{StandsFor}
 use Rattle.fz_files.specs.Walks.{found_headers, header_fault, headers_for, job_walk}
 use Rattle.fz_files.specs.declared.job.Job.TheVariants.{Unpack}
-use Rattle.fz_round_trip.specs.RestoredFile.{image_array, pixels_or_none, restored, restored_hdu, tile_pixels}
-use Rattle.fz_round_trip.specs.RoundTrip.{StandsForExactly, StandsForNoOther, StandsForRestored}
+use Rattle.fz_files.specs.RestoredFile.{image_array, pixels_or_none, restored, restored_hdu, tile_pixels}
+use Rattle.fz_round_trip.specs.RoundTrip.{ImageArraysStand, StandsForExactly, StandsForNoOther, StandsForRestored}
 use Rattle.fz_round_trip.proofs.FirstFaults.{EachIs, FaultLaws, IsReadable, Stands, each_stands, first_fault_is, image_is}
 use Rattle.fz_round_trip.proofs.Known.{KnownLaws, first_fault_known, row_known}
 use Rattle.fz_round_trip.proofs.Sources.{answer_none}
@@ -116,6 +117,42 @@ standing_restored file (h ∷ (k ∷ hs)) each = by_test (is_packed_primary file
     by_test : (packed : Bool) → EachIs (IsRestored file) (if packed then k ∷ hs else h ∷ k ∷ hs)
     by_test true = each.1
     by_test false = each
+
+-- ---- the arrays of the images
+
+abbrev HasArray : List ℕ → Header → Type 0
+HasArray file h = is_image file h ≡ true → RowsStandFor file h (image_array file h)
+
+each_array : RestoringLaws → (file : List ℕ) (hs : List Header) → EachIs (Stands file) hs → RefusesNone (unpack_judge file) hs → IsFirstRowFault file (all_rows file hs) None →
+    EachIs (HasArray file) hs
+each_array laws file [] each none sound = tt
+each_array laws file (h ∷ hs) each none sound = by_packed (each_array laws file hs each.1 none.1) (is_image file h) refl sound
+  where
+    by_packed : (IsFirstRowFault file (all_rows file hs) None → EachIs (HasArray file) hs) → (packed : Bool) → is_image file h ≡ packed →
+        IsFirstRowFault file (flat_map (rows_of file) (cond packed (h ∷ filter (is_image file) hs) (filter (is_image file) hs))) None → EachIs (HasArray file) (h ∷ hs)
+    by_packed later true is sound =
+        let passed : first_refusal (unpack_hdu_checks file h) ≡ None = answer_none false (first_refusal (unpack_hdu_checks file h)) none.0 in
+        let image : IsImageOf (header_in file h) h (image_in h (header_in file h)) = laws.faults.unpack h (header_in file h) (is_after_empty file h) each.0.0 is passed in
+        let divided : AreTileLengths (lengths_of (plan_in file h).shape) (lengths_of (plan_in file h).tile) = laws.lengths (plan_in file h).shape (plan_in file h).tile image.divided in (
+          λ same. array_stands laws file h (image_is file h each.0.0 each.0.1 image) divided (sound_front file (rows_of file h) (all_rows file hs) sound),
+          later (sound_back file (rows_of file h) (all_rows file hs) sound),
+        )
+    by_packed later false is sound = (λ same. absurd cc, later sound)
+
+as_recursion : (P : Header → Type 0) (hs : List Header) → EachIs P hs → AllByRecursion P hs
+as_recursion P [] each = tt
+as_recursion P (h ∷ hs) each = (each.0, as_recursion P hs each.1)
+
+pub arrays_stand : RestoringLaws → ImageArraysStand
+unfolding job_walk
+arrays_stand laws file sound =
+    let refused : header_fault Unpack file ≡ None = no_header_fault (header_fault Unpack file) Unpack file sound in
+    let walk = found_walk Unpack file (walk_of (unpack_judge file) 65536 file) refused in
+    let rows : IsFirstRowFault file (all_rows file (headers_for Unpack file)) None = subst (λ r. IsFaultBehind r Unpack file None) refused sound in
+    let these : IsFirstRowFault file (all_rows file walk.0) None = subst (λ r. IsFirstRowFault file (all_rows file (found_headers r)) None) walk.1 rows in
+    let found = laws.faults.headers (unpack_judge file) 65536 file walk.0 walk.1 in
+    let each = each_array laws file walk.0 (each_stands 0 0 found.3.0 file walk.0 found.3.2 found.3.1) found.2 these in
+    subst (λ r. All (HasArray file) (found_headers r)) (sym walk.1) (All-from_recursion (HasArray file) walk.0 (as_recursion (HasArray file) walk.0 each))
 
 -- ---- the file
 

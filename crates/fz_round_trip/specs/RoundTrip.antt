@@ -16,13 +16,13 @@ use Rattle.fz_head.specs.declared.options.PackOptions.{PackOptions}
 use Rattle.fz_files.specs.CutoutBytes.{IsCutout}
 use Rattle.fz_files.specs.FirstFault.{IsFirstFault}
 use Rattle.fz_files.specs.Packed.{IsPackedFile}
-use Rattle.fz_files.specs.Restored.{is_image}
+use Rattle.fz_files.specs.Restored.{RowsStandFor, is_image}
 use Rattle.fz_files.specs.StandsFor.{IsProfileFile, StandsFor}
 use Rattle.fz_files.specs.Walks.{headers_for}
 use Rattle.fz_files.specs.declared.job.Job.{Job}
 use Rattle.fz_files.specs.declared.job.Job.TheVariants.{Cut, Pack, Unpack, Verify}
-use Rattle.fz_round_trip.specs.Decided.{first_fault}
-use Rattle.fz_round_trip.specs.RestoredFile.{restored}
+use Rattle.fz_files.specs.Decided.{first_fault}
+use Rattle.fz_files.specs.RestoredFile.{image_array, restored}
 
 -- ---- first faults
 
@@ -88,6 +88,15 @@ StandsForNoOther = (file other : List ℕ) → StandsFor file other → other �
 -- a file of bytes stands for another exactly if `first_fault` gives none for `unpack`, and the other is `restored` of it
 abbrev pub StandsForExactly : Type 0
 StandsForExactly = (file other : List ℕ) → AreBytes file → StandsFor file other ↔ ((first_fault Unpack file ≡ None) × (other ≡ restored file))
+
+-- the rows of each of its packed images stand for the array that its bytes say
+abbrev pub ImageArraysStand : Type 0
+ImageArraysStand = (file : List ℕ) → IsFirstFault Unpack file None →
+    All (λ h. is_image file h ≡ true → RowsStandFor file h (image_array file h)) (headers_for Unpack file)
+
+-- what a file of bytes stands for are bytes
+abbrev pub RestoredAreBytes : Type 0
+RestoredAreBytes = (file restored : List ℕ) → AreBytes file → StandsFor file restored → AreBytes restored
 
 -- a file without a packed image stands for itself
 abbrev pub UnpackCopies : Type 0

@@ -2,8 +2,8 @@
 ghost use Rattle.fz_files.specs.Laws.{PicksCutOneFile};
 ghost use Rattle.fz_round_trip.specs.PackedHdus.{HdusBecome, TablesHaveSums};
 ghost use Rattle.fz_round_trip.specs.RoundTrip.{ComesBack, OnlyTheFileComesBack, HasCutout, HasFirstFault, HasNoOtherFault};
-ghost use Rattle.fz_round_trip.specs.RoundTrip.{HasOnePackedFile, HasPackedFile, HasRestoredFile, LosesNothing};
-ghost use Rattle.fz_round_trip.specs.RoundTrip.{OptionsDoNotMatter, PackCopies, StandsForNoOther, StandsForRestored};
+ghost use Rattle.fz_round_trip.specs.RoundTrip.{HasOnePackedFile, HasPackedFile, HasRestoredFile, ImageArraysStand, LosesNothing};
+ghost use Rattle.fz_round_trip.specs.RoundTrip.{OptionsDoNotMatter, PackCopies, RestoredAreBytes, StandsForNoOther, StandsForRestored};
 ghost use Rattle.fz_round_trip.specs.RoundTrip.{SumsAreRight, UnpackCopies, WorkersDoNotMatter, PackedIsFound, StandsForExactly};
 
 use fz_block::{cards_law, found_hdus_law, hdu_list_law, passing_law, start_law, walk_law};
@@ -75,6 +75,27 @@ pub fn restored_law()
     shape_law();
     tiles_law();
     walk_law();
+}
+
+/// The rows of each image of a packed file in which `unpack` finds no fault stand for the array that its bytes say.
+pub fn image_arrays_law()
+    ensures { ImageArraysStand }
+{
+    found_hdus_law();
+    one_fault_law();
+    one_record_law();
+    packed_image_law();
+    plain_law();
+    shape_law();
+    tiles_law();
+    walk_law();
+}
+
+/// What a file of bytes stands for are bytes.
+pub fn restored_bytes_law()
+    ensures { RestoredAreBytes }
+{
+    card_laws();
 }
 
 /// The packed file of a file that `pack` takes has no fault of `unpack`, and stands for the file; a packed file has at

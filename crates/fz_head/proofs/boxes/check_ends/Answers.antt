@@ -2,7 +2,6 @@ use Rattle.std.proofs.Common.{◌≡◌, ℕ, ◌+◌, ◌≤◌, [], ◌∷◌,
 use Rattle.std.proofs.lemmas.List.FromFn.{length-map-range_with_len}
 use Rattle.std.proofs.lemmas.Bool.{cases_eq}
 use Rattle.fz_block.specs.Hdus.{cards_of}
-use Rattle.fz_block.proofs.Refusals.{next_passed, next_stopped}
 use Rattle.fz_block.specs.declared.axes.Axes.{Axes}
 use Rattle.fz_head.specs.JobChecks.{axis_inside}
 use Rattle.fz_head.specs.PackedPlan.{numbered_in, size_of}
@@ -21,14 +20,14 @@ check_end-requires-clause-axis c =
 pub returns-in_err-check_end-clause-exact : goal.returns-in_err-check_end-clause-exact
 returns-in_err-check_end-clause-exact c =
     let i = c.loop-i.i in
-    let stopped = next_stopped (λ k. axis_inside c.args.header.now.hdu (cards_of c.args.buf.now) c.args.region.now k ∷ []) 0 i c.args.shape.now.n i _ (omega arith) (omega arith) c.loop-i.invariant.passed c.in_err-check_end.ensures.exact in
+    let stopped = c.refusals_law.ensures.stopped (λ k. axis_inside c.args.header.now.hdu (cards_of c.args.buf.now) c.args.region.now k ∷ []) 0 i c.args.shape.now.n i _ (omega arith) (omega arith) c.loop-i.invariant.passed c.in_err-check_end.ensures.exact in
     search (rules, stopped)
 
 pub loop-i-preserved : goal.loop-i-preserved
 loop-i-preserved c =
     let i = c.loop-i.i in
     record {
-      passed = next_passed (λ k. axis_inside c.args.header.now.hdu (cards_of c.args.buf.now) c.args.region.now k ∷ []) 0 i i (omega arith) c.loop-i.invariant.passed c.in_ok-check_end.ensures.exact;
+      passed = c.refusals_law.ensures.passed (λ k. axis_inside c.args.header.now.hdu (cards_of c.args.buf.now) c.args.region.now k ∷ []) 0 i i (omega arith) c.loop-i.invariant.passed c.in_ok-check_end.ensures.exact;
       inside = λ k below. elim (cases_eq k i) [
         | inl same ↦ subst (λ j. get_or c.args.region.now.lo j 0 + get_or c.args.region.now.len j 0 ≤ get_or c.args.shape.now.len j 0) (sym same) c.in_ok-check_end.ensures.inside
         | inr other ↦ c.loop-i.invariant.inside k (omega arith)

@@ -1,5 +1,5 @@
 -- Place by place.
-use Rattle.fz_places.proofs.Faults.{bytes_lie, cards_lie, rows_lie}
+use Rattle.fz_places.proofs.Faults.{bytes_lie, cards_lie, retile_faults, rows_lie}
 use Rattle.fz_places.proofs.Rows.{Laws}
 use Rattle.fz_places.proofs.laws.fault_place_law.Goals as goal
 
@@ -15,4 +15,4 @@ returns c =
       unpack = c.packed_image_law.ensures.unpack;
       cut = c.packed_image_law.ensures.cut;
     } in
-    record { byte = bytes_lie laws; card = cards_lie laws c.walk_end_law.ensures; row = rows_lie laws c.walk_end_law.ensures }
+    record { byte = bytes_lie laws; card = cards_lie laws c.walk_end_law.ensures; row = rows_lie laws c.walk_end_law.ensures; retile = retile_faults }

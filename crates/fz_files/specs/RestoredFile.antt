@@ -10,11 +10,10 @@ use Rattle.fz_grid.specs.Arrays.{NumberArray}
 use Rattle.fz_grid.specs.Region.{lengths_of}
 use Rattle.fz_grid.specs.Whole.{joined}
 use Rattle.fz_files.specs.declared.job.Job.TheVariants.{Unpack}
-use Rattle.fz_files.specs.FirstFault.{image_row}
 use Rattle.fz_files.specs.Packed.{tiles_in}
 use Rattle.fz_files.specs.Restored.{header_in, image_bytes, is_image, plan_in, standing}
 use Rattle.fz_files.specs.Walks.{headers_for}
-use Rattle.fz_round_trip.specs.Decided.{row_pixels}
+use Rattle.fz_files.specs.RowPixels.{image_row, row_pixels}
 
 -- the pixels of a row; none if it has a fault
 abbrev pub pixels_or_none : Result (List ℤ) Fault → List ℤ

@@ -1,19 +1,25 @@
--- The pixels of a row of a packed image, and the first fault of a file for a job, by the bytes of the file only (FITS 4.0, sections
--- 7.3.5 and 10.1.3).
+-- The rows of packed images, and the pixels that a row stands for or its fault, by the bytes of the file only (FITS 4.0, sections 7.3.5
+-- and 10.1.3).
 use Rattle.std.specs.Prelude.{ℕ, ℤ, List, [], ◌∷◌, Option, Some, None, Result, Ok, Err}
 use Rattle.fz_base.specs.Refusal.{refusal}
 use Rattle.fz_base.specs.declared.fault.Fault.{Fault}
 use Rattle.fz_base.specs.declared.fault.Place.TheVariants.{Row as AtRow}
+use Rattle.fz_block.specs.declared.header.Header.{Header}
 use Rattle.fz_table.specs.Records.{record_at, record_bytes}
 use Rattle.fz_table.specs.declared.record.Record.{Record}
 use Rattle.fz_tile.specs.declared.fault.TileFault.{TileFault}
 use Rattle.fz_head.specs.TileKinds.{kind_of_tile}
-use Rattle.fz_files.specs.declared.job.Job.{Job}
-use Rattle.fz_files.specs.FirstFault.{ImageRow, rows_for}
 use Rattle.fz_files.specs.Packed.{pixel_bits}
+use Rattle.fz_files.specs.RecordPixels.{record_pixels}
 use Rattle.fz_files.specs.Restored.{image_table, pixels_of, place_in, plan_in, tile_of}
-use Rattle.fz_files.specs.Walks.{header_fault, headers_for}
-use Rattle.fz_round_trip.specs.Pixels.{record_pixels}
+
+-- a row of the packed image with this header
+pub record ImageRow : Type 0 where
+  pub header : Header
+  pub row : ℕ
+
+abbrev pub image_row : Header → ℕ → ImageRow
+image_row h row = record { header = h; row = row }
 
 -- what is wrong with the record of a row is a fault of the row
 abbrev pub for_row : ImageRow → Result (List ℤ) TileFault → Result (List ℤ) Fault
@@ -44,12 +50,3 @@ fault_or (Err fault) later = Some fault
 unfoldable pub first_row_fault : List ℕ → List ImageRow → Option Fault
 first_row_fault file [] = None
 first_row_fault file (r ∷ rs) = fault_or (row_pixels file r) (first_row_fault file rs)
-
--- the fault of the headers of a file, or else the first of the rows that the job looks at
-abbrev pub fault_after : Option Fault → Job → List ℕ → Option Fault
-fault_after (Some fault) job file = Some fault
-fault_after None job file = first_row_fault file (rows_for job file (headers_for job file))
-
--- the first fault of a file for a job, or none
-unfoldable pub first_fault : Job → List ℕ → Option Fault
-first_fault job file = fault_after (header_fault job file) job file
