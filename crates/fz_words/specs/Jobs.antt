@@ -13,9 +13,9 @@ use Rattle.fz_words.specs.Parts.{PartIs, is_inside, operands_of, parts_of, value
 use Rattle.fz_words.specs.Table.{command_named}
 use Rattle.fz_words.specs.Values.{box_in, codec_in, lengths_in, number_in}
 use Rattle.fz_words.specs.declared.table.Command.{Command}
-use Rattle.fz_words.specs.declared.table.Command.TheVariants.{Pack, Unpack, Cut, Verify, List as ListHdus, Drill}
+use Rattle.fz_words.specs.declared.table.Command.TheVariants.{Pack, Unpack, Cut, Verify, List as ListHdus, Drill, Retile, Patch}
 use Rattle.fz_words.specs.declared.table.OptionName.{OptionName}
-use Rattle.fz_words.specs.declared.table.OptionName.TheVariants.{Codec, Tile, Block, Sums, Workers, Memory, Hdu, Box, Strict}
+use Rattle.fz_words.specs.declared.table.OptionName.TheVariants.{Codec, Tile, Block, Sums, Workers, Memory, Hdu, Box, Strict, At}
 
 -- What the words ask for: the job, the number of workers, whether `verify` also compares the file with what `pack` writes, the limit on
 -- memory in bytes, and the names of the files; a name is empty where the command has none.
@@ -97,6 +97,14 @@ box_given (Some text) = box_in text
 abbrev pub box_of : LineIs → Option Sieve
 box_of line = with_some (value_of Box line) box_given
 
+-- a place along each axis has to be given
+abbrev pub at_given : Option (List ℕ) → Option Axes
+at_given None = None
+at_given (Some text) = lengths_in text
+
+abbrev pub at_of : LineIs → Option Axes
+at_of line = with_some (value_of At line) at_given
+
 -- a word that is not empty
 abbrev pub nonempty : List ℕ → Option (List ℕ)
 nonempty [] = None
@@ -108,7 +116,7 @@ one_operand [] = None
 one_operand (word ∷ []) = nonempty word
 one_operand (word ∷ more ∷ others) = None
 
--- the names IN and OUT
+-- two names: IN and OUT, or PATCH and FILE
 pub record Names : Type 0 where
   pub input : List ℕ
   pub output : List ℕ
@@ -168,6 +176,14 @@ drill_of line =
     with_some (number_in 1 16384 operand) (λ rows.
     Some (record { job = job.Drill rows; workers = 1; strict = false; memory = 2 ^ 32; input = []; output = [] })))
 
+abbrev pub retile_of : LineIs → Option Asked
+retile_of line =
+    with_some (pack_options_of line) (λ options.
+    with_some (memory_of line) (λ memory.
+    with_some (names_in line.operands) (λ names.
+    Some (record { job = job.Retile options; workers = options.workers; strict = false; memory = memory; input = names.input; output = names.output }))))
+
+-- what the words behind a command ask for; those of `patch` ask for no job
 abbrev pub asked_by : Command → LineIs → Option Asked
 asked_by Pack line = pack_of line
 asked_by Unpack line = unpack_of line
@@ -175,6 +191,8 @@ asked_by Cut line = cut_of line
 asked_by Verify line = verify_of line
 asked_by ListHdus line = list_of line
 asked_by Drill line = drill_of line
+asked_by Retile line = retile_of line
+asked_by Patch line = None
 
 -- what the words behind a command ask for: each is an option of the command, its value or an operand
 abbrev pub job_of_line : Command → LineIs → Option Asked

@@ -3,6 +3,7 @@ use Rattle.std.specs.Prelude.{◌++◌, ℕ, List, [], String, Option, Some, Non
 use Rattle.std.specs.Borrow.{Bor}
 use Rattle.std.specs.Option.{option_map}
 use Rattle.fz_words.specs.Jobs.{Asked, LineIs, Names}
+use Rattle.fz_words.specs.PatchJobs.{PatchAsked}
 use Rattle.fz_words.specs.Parts.{PartIs, operands_in, parts_behind, texts_of}
 use Rattle.fz_words.specs.Parts.PartIs.{Given as IsGiven, Awaiting as IsAwaiting, Operand as IsOperand, Outside as IsOutside}
 use Rattle.fz_words.specs.Values.{Range as RangeIs}
@@ -10,6 +11,7 @@ use Rattle.fz_words.specs.declared.line.Line.{Line}
 use Rattle.fz_words.specs.declared.lists.Range.{Range}
 use Rattle.fz_words.specs.declared.part.Part.{Part}
 use Rattle.fz_words.specs.declared.part.Part.TheVariants.{Given, Awaiting, Operand, Outside}
+use Rattle.fz_words.specs.declared.patch_request.PatchRequest.{PatchRequest}
 use Rattle.fz_words.specs.declared.request.Request.{Request}
 use Rattle.fz_words.specs.declared.request.Usage.{Usage}
 
@@ -49,3 +51,11 @@ asked_of r = record { job = r.job; workers = r.workers; strict = r.strict; memor
 abbrev pub asked_in : Result Request Usage → Option Asked
 asked_in (Ok r) = Some (asked_of r)
 asked_in (Err usage) = None
+
+-- the same of the words of `patch`
+abbrev pub patch_asked_of : PatchRequest → PatchAsked
+patch_asked_of r = record { hdu = r.hdu; at = r.at; memory = r.memory; patch = r.patch.now; file = r.file.now }
+
+abbrev pub patch_asked_in : Result PatchRequest Usage → Option PatchAsked
+patch_asked_in (Ok r) = Some (patch_asked_of r)
+patch_asked_in (Err usage) = None

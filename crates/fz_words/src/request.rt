@@ -3,7 +3,7 @@ ghost use Rattle.std.specs.Prelude.{◌≡◌, ◌≤◌, IfOk};
 ghost use Rattle.std.specs.Option.{option_map};
 ghost use Rattle.std.specs.Result.{result_ok};
 ghost use Rattle.fz_head.specs.Planned.{AreOptions};
-ghost use Rattle.fz_words.specs.Jobs.{cut_of, drill_of, job_of, list_of, names_in, one_operand, pack_of, pack_options_of, unpack_of, verify_of};
+ghost use Rattle.fz_words.specs.Jobs.{cut_of, drill_of, job_of, list_of, names_in, one_operand, pack_of, pack_options_of, retile_of, unpack_of, verify_of};
 ghost use Rattle.fz_words.specs.Lawful.{IsLawful};
 ghost use Rattle.fz_words.specs.Parts.{texts_of};
 ghost use Rattle.fz_words.specs.Seen.{asked_in, seen_line, seen_names, seen_text};
@@ -37,8 +37,8 @@ pub struct Request<'a> {
 #[derive(Clone, Copy, Debug, PartialEq, Eq)]
 pub struct Usage;
 
-/// What the words ask for, which are those behind the program's name; Usage exactly where they are outside the
-/// grammar.
+/// What the words ask for, which are those after the program's name; Usage if and only if they are outside the grammar of
+/// the commands but `patch`.
 #[tactic(auto, unfolding(crate::specs::Jobs::job_of))]
 pub fn read_words(words: &[String]) -> Result<Request<'_>, Usage>
     ensures job { asked_in result ≡ job_of (texts_of words.now) }
@@ -61,6 +61,8 @@ pub fn read_words(words: &[String]) -> Result<Request<'_>, Usage>
         Command::Verify => verify_of(&line),
         Command::List => list_of(&line),
         Command::Drill => drill_of(&line),
+        Command::Retile => retile_of(&line),
+        Command::Patch => Err(Usage),
     }
 }
 
@@ -73,6 +75,23 @@ fn pack_of<'a>(line: &Line<'a>) -> Result<Request<'a>, Usage>
     let (input, output) = names_of(line)?;
     Ok(Request {
         job: Job::Pack(options),
+        workers: options.workers,
+        strict: false,
+        memory,
+        input,
+        output,
+    })
+}
+
+fn retile_of<'a>(line: &Line<'a>) -> Result<Request<'a>, Usage>
+    ensures value { asked_in result ≡ retile_of (seen_line line.now) }
+    ensures lawful { IfOk result IsLawful }
+{
+    let options = pack_options_of(line)?;
+    let memory = memory_of(line)?;
+    let (input, output) = names_of(line)?;
+    Ok(Request {
+        job: Job::Retile(options),
         workers: options.workers,
         strict: false,
         memory,
@@ -189,8 +208,8 @@ fn one_operand<'a>(line: &Line<'a>) -> Result<&'a str, Usage>
     }
 }
 
-// The names IN and OUT.
-fn names_of<'a>(line: &Line<'a>) -> Result<(&'a str, &'a str), Usage>
+/// The two names: IN and OUT, or PATCH and FILE.
+pub(crate) fn names_of<'a>(line: &Line<'a>) -> Result<(&'a str, &'a str), Usage>
     ensures { seen_names result ≡ names_in (seen_line line.now).operands }
 {
     match (line.operand(0), line.operand(1), line.operand(2)) {

@@ -1,8 +1,8 @@
 //! What the options of a line say.
-ghost use Rattle.std.specs.Prelude.{◌≡◌, ◌≤◌, ◌<◌, ◌^◌, IfOk, IfSome};
+ghost use Rattle.std.specs.Prelude.{◌≡◌, ◌≤◌, ◌<◌, ◌^◌, IfOk, IfSome, Some};
 ghost use Rattle.std.specs.Result.{result_ok};
 ghost use Rattle.fz_head.specs.Planned.{IsTile};
-ghost use Rattle.fz_words.specs.Jobs.{block_of, box_of, codec_of, hdu_of, memory_of, strict_of, sums_of, tile_of, workers_of};
+ghost use Rattle.fz_words.specs.Jobs.{at_of, block_of, box_of, codec_of, hdu_of, memory_of, strict_of, sums_of, tile_of, workers_of};
 ghost use Rattle.fz_files.specs.Picks.{HasPicks};
 ghost use Rattle.fz_words.specs.Seen.{seen_line};
 ghost use Rattle.fz_words.specs.Values.{codec_in};
@@ -117,4 +117,14 @@ pub(crate) fn box_of(line: &Line<'_>) -> Result<Sieve, Usage>
 {
     let text = line.value(OptionName::Box)?.ok_or(Usage)?;
     box_in(text).ok_or(Usage)
+}
+
+/// Where the first pixel of what is put into an image goes: a place along each axis, counted from 1, which have to be
+/// given.
+pub(crate) fn at_of(line: &Line<'_>) -> Result<Axes, Usage>
+    ensures value { result_ok result ≡ at_of (seen_line line.now) }
+    ensures lawful { IfOk result (λ at. IsTile (Some at)) }
+{
+    let text = line.value(OptionName::At)?.ok_or(Usage)?;
+    lengths_in(text).ok_or(Usage)
 }

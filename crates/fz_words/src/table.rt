@@ -11,6 +11,9 @@ pub(crate) enum Command {
     Verify,
     List,
     Drill,
+    Retile,
+    /// Its words are read by `read_patch_words`, and are none of `read_words`.
+    Patch,
 }
 
 /// An option.
@@ -25,6 +28,7 @@ pub(crate) enum OptionName {
     Hdu,
     Box,
     Strict,
+    At,
 }
 
 impl Command {
@@ -39,6 +43,7 @@ impl Command {
             "verify" => Some(Command::Verify),
             "list" => Some(Command::List),
             "drill" => Some(Command::Drill),
+            "retile" => Some(Command::Retile),
             _ => None,
         }
     }
@@ -48,9 +53,9 @@ impl Command {
         ensures { result ≡ has_option self option }
     {
         match self {
-            Command::Pack => !matches!(
+            Command::Pack | Command::Retile => !matches!(
                 option,
-                OptionName::Hdu | OptionName::Box | OptionName::Strict
+                OptionName::Hdu | OptionName::Box | OptionName::Strict | OptionName::At
             ),
             Command::Cut => matches!(
                 option,
@@ -59,6 +64,10 @@ impl Command {
             Command::Unpack => matches!(option, OptionName::Workers | OptionName::Memory),
             Command::Verify => matches!(option, OptionName::Memory | OptionName::Strict),
             Command::List | Command::Drill => false,
+            Command::Patch => matches!(
+                option,
+                OptionName::Hdu | OptionName::At | OptionName::Memory
+            ),
         }
     }
 }
@@ -78,6 +87,7 @@ impl OptionName {
             "--hdu" => Some(OptionName::Hdu),
             "--box" => Some(OptionName::Box),
             "--strict" => Some(OptionName::Strict),
+            "--at" => Some(OptionName::At),
             _ => None,
         }
     }
