@@ -12,7 +12,7 @@ use Rattle.fz_files.specs.Buffers.{header_len, longest_header, plans_behind}
 use Rattle.fz_files.specs.Restored.{is_image, plan_in}
 use Rattle.fz_files.specs.Walks.{cut_end_fault, header_fault, headers_for, job_walk, reached_by, reached_from}
 use Rattle.fz_files.specs.declared.job.Job.{Job}
-use Rattle.fz_files.specs.declared.job.Job.TheVariants.{Pack, Unpack, Cut, Verify, List as ListHdus, Drill}
+use Rattle.fz_files.specs.declared.job.Job.TheVariants.{Pack, Unpack, Cut, Verify, List as ListHdus, Drill, Retile}
 use Rattle.fz_survey.specs.declared.survey.Survey.{Survey}
 use Rattle.fz_again.specs.Known.{ChecksAsUnpack, MeetsTile}
 
@@ -64,3 +64,4 @@ is_reader (Cut wanted sieve) checks = absurd checks
 is_reader Verify checks = verifies
 is_reader ListHdus checks = lists
 is_reader (Drill rows) checks = absurd checks
+is_reader (Retile o) checks = absurd checks

@@ -4,6 +4,8 @@ pub mod Jobs
 pub mod Known
 pub mod Plans
 pub mod Products
+pub mod RoundReads
+pub mod Rounds
 pub mod Seen
 pub mod Usable
 pub mod Walked

@@ -5,7 +5,7 @@ use Rattle.fz_block.specs.declared.header.Header.{Header}
 use Rattle.fz_files.specs.Buffers.{largest_tile, longest_header}
 use Rattle.fz_files.specs.Walks.{header_fault, headers_for}
 use Rattle.fz_files.specs.declared.job.Job.{Job}
-use Rattle.fz_files.specs.declared.job.Job.TheVariants.{Pack, Unpack, Cut, Verify, List as ListHdus, Drill}
+use Rattle.fz_files.specs.declared.job.Job.TheVariants.{Pack, Unpack, Cut, Verify, List as ListHdus, Drill, Retile}
 use Rattle.fz_survey.specs.Surveys.{surveyed}
 use Rattle.fz_survey.specs.declared.checks.JobChecks.TheVariants.{Unpack as UnpackChecks}
 use Rattle.fz_survey.specs.declared.survey.Survey.{Survey}
@@ -19,6 +19,7 @@ ChecksAsUnpack (Cut wanted sieve) = ⊥
 ChecksAsUnpack Verify = ⊤
 ChecksAsUnpack ListHdus = ⊤
 ChecksAsUnpack (Drill rows) = ⊥
+ChecksAsUnpack (Retile o) = ⊥
 
 -- the headers of the file, which were seen at the first look
 pub record IsList (file : List ℕ) (s : Survey) (hs : List Header) : Type 0 where

@@ -1,6 +1,6 @@
 //! The header of an HDU, read once more, and the image that stands in the HDU.
 
-ghost use Rattle.std.specs.Prelude.{◌≡◌, ◌⊎◌, ◌<◌, ◌≤◌, Some, length as len, IfOk, IfSome};
+ghost use Rattle.std.specs.Prelude.{◌≡◌, ◌⊎◌, ◌<◌, ◌≤◌, Ok, Some, length as len, IfOk, IfSome};
 ghost use Rattle.fz_base.specs.Refusal.{refusal};
 ghost use Rattle.fz_base.specs.Source.{LogsWithin};
 ghost use Rattle.fz_base.specs.Stop.{IfRefused, ReadsOnly};
@@ -10,8 +10,9 @@ ghost use Rattle.fz_base.specs.declared.fault.Place.TheVariants.{Card as AtCard}
 ghost use Rattle.fz_base.specs.declared.kind.Kind.TheVariants.{BadCard};
 ghost use Rattle.fz_block.specs.Checks.{header_touched};
 ghost use Rattle.fz_grid.specs.Region.{IsDivided};
+ghost use Rattle.fz_head.specs.JobChecks.{image_to_unpack as image_found};
 ghost use Rattle.fz_files.specs.Restored.{pixels_of};
-ghost use Rattle.fz_again.specs.Again.{IsAgain, ReadsAsSeen, is_larger as is_larger_of};
+ghost use Rattle.fz_again.specs.Again.{IsAgain, ReadsAsSeen, header_at_front, is_larger as is_larger_of};
 ghost use Rattle.fz_job.specs.Clauses.{IsChanged};
 ghost use Rattle.fz_job.specs.Keeps.{SourceStays};
 
@@ -70,6 +71,7 @@ pub fn read_again<S: Source>(
     requires block { len block.old ≡ 2880 }
     ensures again { IfOk result (IsAgain (S.held source.old) length buf.new) }
     ensures place { IfOk result (λ a. (a.header.hdu ≡ hdu) × (a.header.start ≡ start)) }
+    ensures found { IfOk result (λ a. image_found a.header (header_at_front a buf.new) after_empty ≡ Ok a.image) }
     ensures small { IfOk result (λ a. IfSome a.image (λ i. pixels_of i.plan 0 ≤ tile)) }
     ensures as_seen { IfSome (S.held source.old) (λ g. ReadsAsSeen g hdu start after_empty (len buf.old) tile result) }
     ensures refused { IfRefused result IsChanged }
@@ -102,6 +104,7 @@ fn read_image<S: Source>(
     requires block { len block.old ≡ 2880 }
     ensures again { IfOk result (IsAgain (S.held source.old) length buf.new) }
     ensures place { IfOk result (λ a. (a.header.hdu ≡ hdu) × (a.header.start ≡ start)) }
+    ensures found { IfOk result (λ a. image_found a.header (header_at_front a buf.new) after_empty ≡ Ok a.image) }
     ensures small { IfOk result (λ a. IfSome a.image (λ i. pixels_of i.plan 0 ≤ tile)) }
     ensures as_seen { IfSome (S.held source.old) (λ g. ReadsAsSeen g hdu start after_empty (len buf.old) tile result) }
     ensures block { len block.new ≡ 2880 }

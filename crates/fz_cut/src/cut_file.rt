@@ -27,7 +27,7 @@ use crate::law::{known_law, touched_law};
 use fz_base::{Gate, Meter, Sink, Source, Stop, ranges_law};
 use fz_block::{BLOCK_LEN, Header};
 use fz_grid::Sieve;
-use fz_pool::{Window, sizes_law};
+use fz_pool::{Crew, Window, sizes_law};
 use fz_stages::stages_law;
 use fz_survey::{Survey, Wants, Workspace, survey_to_cut};
 use std::thread::Threads;
@@ -86,16 +86,20 @@ pub fn cut<R: Threads + Sync, S: Source, K: Sink, G: Gate>(
 {
     // How the promises of the job follow from its stages.
     stages_law::<()>();
+    let crew = Crew {
+        rt,
+        gate,
+        workers: window.workers(),
+    };
     let mut block = meter.bytes(BLOCK_LEN as u64)?;
     let answer = with_block(
-        rt,
+        &crew,
         source,
         length,
         name,
         sink,
         meter,
         window,
-        gate,
         hdu,
         sieve,
         block.as_mut_slice(),
@@ -106,14 +110,13 @@ pub fn cut<R: Threads + Sync, S: Source, K: Sink, G: Gate>(
 
 // Looks at the headers, and then works.
 fn with_block<R: Threads + Sync, S: Source, K: Sink, G: Gate>(
-    rt: &R,
+    crew: &Crew<'_, R, G>,
     source: &mut S,
     length: u64,
     name: &str,
     sink: &mut K,
     meter: &mut Meter,
     window: &mut Window,
-    gate: &G,
     hdu: Option<u32>,
     sieve: &Sieve,
     block: &mut [u8],
@@ -160,20 +163,19 @@ fn with_block<R: Threads + Sync, S: Source, K: Sink, G: Gate>(
         unreachable!()
     };
     work(
-        rt, source, length, name, sink, meter, window, gate, &survey, from, sieve, block,
+        crew, source, length, name, sink, meter, window, &survey, from, sieve, block,
     )
 }
 
 // Takes all buffers, writes the cutout, and hands the buffers back.
 fn work<R: Threads + Sync, S: Source, K: Sink, G: Gate>(
-    rt: &R,
+    crew: &Crew<'_, R, G>,
     source: &mut S,
     length: u64,
     name: &str,
     sink: &mut K,
     meter: &mut Meter,
     window: &mut Window,
-    gate: &G,
     survey: &Survey,
     from: &Header,
     sieve: &Sieve,
@@ -222,13 +224,12 @@ fn work<R: Threads + Sync, S: Source, K: Sink, G: Gate>(
     };
     let mut space = Workspace::take(meter, window, &wants)?;
     let answer = write_file(
-        rt,
+        crew,
         source,
         length,
         name,
         sink,
         window,
-        gate,
         from,
         survey.tile,
         sieve,

@@ -39,20 +39,19 @@ use fz_grid::{Sieve, shape_law, volume};
 use fz_head::PackedImage;
 use fz_job::write_fill;
 use fz_parts::{cutout_axes, cutout_law};
-use fz_pool::Window;
+use fz_pool::{Crew, Window};
 use fz_survey::Workspace;
 use fz_tile::{plain_law, plain_len};
 use std::thread::Threads;
 
 /// Reads the header of the HDU once more, makes the sink, writes the cutout, its byte 0 last, and finishes.
 pub(crate) fn write_file<R: Threads + Sync, S: Source, K: Sink, G: Gate>(
-    rt: &R,
+    crew: &Crew<'_, R, G>,
     source: &mut S,
     length: u64,
     name: &str,
     sink: &mut K,
     window: &mut Window,
-    gate: &G,
     from: &Header,
     tile: u32,
     sieve: &Sieve,
@@ -88,17 +87,16 @@ pub(crate) fn write_file<R: Threads + Sync, S: Source, K: Sink, G: Gate>(
     let buf = space.header.as_mut_slice();
     let again = read_again(source, length, from, &region, tile, block, buf)?;
     sink.create(name).map_err(Stop::writing)?;
-    write_cutout(rt, source, sink, window, gate, &again, sieve, space)?;
+    write_cutout(crew, source, sink, window, &again, sieve, space)?;
     seal(sink)
 }
 
 // Writes the cutout, without byte 0.
 fn write_cutout<R: Threads + Sync, S: Source, K: Sink, G: Gate>(
-    rt: &R,
+    crew: &Crew<'_, R, G>,
     source: &mut S,
     sink: &mut K,
     window: &mut Window,
-    gate: &G,
     again: &Again,
     sieve: &Sieve,
     space: &mut Workspace,
@@ -134,7 +132,7 @@ fn write_cutout<R: Threads + Sync, S: Source, K: Sink, G: Gate>(
     let data_at = write_header(sink, packed, header, image, sieve, made)?;
     let copy = space.copy.as_mut_slice();
     write_picks(
-        rt, source, sink, window, gate, header, image, sieve, data_at, copy,
+        crew, source, sink, window, header, image, sieve, data_at, copy,
     )?;
     write_fill(sink, data_at, data_len(image, sieve), copy)?;
     Ok(())

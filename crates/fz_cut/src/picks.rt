@@ -23,17 +23,16 @@ use fz_fetch::{MOST_TILES, fetch_tiles, scatter_picks, scattered_law};
 use fz_grid::{Grid, Sieve, shape_law, tiles_law};
 use fz_head::PackedImage;
 use fz_parts::cutout_axes;
-use fz_pool::Window;
+use fz_pool::{Crew, Window};
 use std::thread::Threads;
 
 /// Writes the picks of all tiles that hold one, round by round, to their places in the part, whose data begin at this
 /// byte of the sink.
 pub(crate) fn write_picks<R: Threads + Sync, S: Source, K: Sink, G: Gate>(
-    rt: &R,
+    crew: &Crew<'_, R, G>,
     source: &mut S,
     sink: &mut K,
     window: &mut Window,
-    gate: &G,
     header: &Header,
     image: &PackedImage,
     sieve: &Sieve,
@@ -75,7 +74,7 @@ pub(crate) fn write_picks<R: Threads + Sync, S: Source, K: Sink, G: Gate>(
         if count == most {
             let round = &tiles[..count];
             write_round(
-                rt, source, sink, window, gate, header, image, sieve, data_at, round, rows,
+                crew, source, sink, window, header, image, sieve, data_at, round, rows,
             )?;
             count = 0;
         }
@@ -84,17 +83,16 @@ pub(crate) fn write_picks<R: Threads + Sync, S: Source, K: Sink, G: Gate>(
     }
     let round = &tiles[..count];
     write_round(
-        rt, source, sink, window, gate, header, image, sieve, data_at, round, rows,
+        crew, source, sink, window, header, image, sieve, data_at, round, rows,
     )
 }
 
 // Writes the picks of these tiles.
 fn write_round<R: Threads + Sync, S: Source, K: Sink, G: Gate>(
-    rt: &R,
+    crew: &Crew<'_, R, G>,
     source: &mut S,
     sink: &mut K,
     window: &mut Window,
-    gate: &G,
     header: &Header,
     image: &PackedImage,
     sieve: &Sieve,
@@ -131,6 +129,6 @@ fn write_round<R: Threads + Sync, S: Source, K: Sink, G: Gate>(
     shape_law();
     // This call tells that the part has no more than 2^40 pixels.
     let _part = cutout_axes(&image.plan.shape, sieve);
-    fetch_tiles(rt, source, header, image, tiles, rows, window, gate)?;
+    fetch_tiles(crew, source, header, image, tiles, rows, window)?;
     scatter_picks(sink, data_at, &image.plan, sieve, tiles, window)
 }

@@ -39,7 +39,7 @@ use Rattle.fz_fetch.proofs.Faults.{first_fault_at}
 -- ---- one tile
 
 -- a record of the image is that of the row in the file
-chosen_in : (file : List ℕ) (h : Header) (image : PackedImage) (t : ℕ) → IsSaid file h image
+pub chosen_in : (file : List ℕ) (h : Header) (image : PackedImage) (t : ℕ) → IsSaid file h image
     → record_at file h.hdu (image_table file h) t (tile_of (plan_in file h) t) ≡ record_at file h.hdu image.table t (tile_of image.plan t)
 chosen_in file h image t said =
     ap (λ (s : Table). record_at file h.hdu s t (tile_of (plan_in file h) t)) said.table ∙ ap (λ (p : Plan). record_at file h.hdu image.table t (tile_of p t)) said.plan

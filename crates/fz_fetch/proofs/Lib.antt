@@ -4,8 +4,10 @@ pub mod FetchedTiles
 pub mod Gathering
 pub mod LineWrites
 pub mod LoadedTiles
+pub mod OneTile
 pub mod PartWrites
 pub mod PixelBytes
+pub mod PlacedLines
 pub mod Places
 pub mod Reading
 pub mod Records

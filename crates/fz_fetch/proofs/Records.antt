@@ -75,3 +75,12 @@ told_record (Some file) held' hdu row t says known tile found bytes same is exac
 pub all_three : {X E : Type 0} {A B C D : Type 0} (result : Result X E) → OnOk result A → OnOk result B → OnOk result C → (A → B → C → D) → OnOk result D
 all_three (Ok x) a b c make = make a b c
 all_three (Err e) a b c make = tt
+
+-- each of two facts of the bytes, if they are told
+pub first_told : (held : Option (List ℕ)) (A B : List ℕ → Type 0) → IfSome held (λ file. A file × B file) → IfSome held A
+first_told None A B both = tt
+first_told (Some file) A B both = both.0
+
+pub second_told : (held : Option (List ℕ)) (A B : List ℕ → Type 0) → IfSome held (λ file. A file × B file) → IfSome held B
+second_told None A B both = tt
+second_told (Some file) A B both = both.1

@@ -38,6 +38,12 @@ pub record AreFetched (held : Option (List ℕ)) (h : Header) (p : Plan) (tiles 
   pub have : HaveTiles p tiles slots pixels
   pub told : IfSome held (λ file. RowsGive file h tiles pixels)
 
+-- these numbers have the pixels that the row of tile t stands for
+pub record IsFetched (held : Option (List ℕ)) (h : Header) (p : Plan) (t : ℕ) (numbers : List ℤ) : Type 0 where
+  pub pixels : List ℤ
+  pub hold : HoldsPixels p t numbers pixels
+  pub told : IfSome held (λ file. RowStandsFor file h t pixels)
+
 -- a fault of the row of one of these tiles
 abbrev pub IsOfRowAmong : ℕ → List ℕ → Fault → Type 0
 IsOfRowAmong hdu tiles x = (i : ℕ) × (i < length tiles) × IsOfRow hdu (slice_index tiles i) x

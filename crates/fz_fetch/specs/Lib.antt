@@ -1,3 +1,4 @@
+pub mod Decoded
 pub mod Fetched
 pub mod Images
 pub mod Laws

@@ -100,8 +100,8 @@ pub(crate) fn put_picks(bitpix: i32, numbers: &[i32], lines: Lines, code: &mut [
     done
 }
 
-// Writes the plain bytes of the picks of a line to a place of the code.
-fn put_line(bitpix: i32, numbers: &[i32], line: &Line, code: &mut [u8], at: u64)
+/// Writes the plain bytes of the picks of a line to a place of the code.
+pub(crate) fn put_line(bitpix: i32, numbers: &[i32], line: &Line, code: &mut [u8], at: u64)
     requires size { IsBitpix bitpix }
     requires pixels { (xs : List ℤ) × HoldPixels (unsigned_abs bitpix) numbers.now xs × (len xs ≤ 2 ^ 26)
         × ((cutout : ℕ) × IsLineWithin (len xs) cutout line.now) }

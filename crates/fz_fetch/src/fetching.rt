@@ -18,7 +18,7 @@ use crate::loading::load_round;
 use fz_base::{Fault, Gate, Place, Source, Stop};
 use fz_block::Header;
 use fz_head::{PackedImage, tile_kind};
-use fz_pool::{Window, decode_beside, decode_window, round_law, sizes_law};
+use fz_pool::{Crew, Window, decode_beside, decode_window, round_law, sizes_law};
 use fz_tile::TileFault;
 use std::thread::Threads;
 
@@ -32,14 +32,13 @@ use std::thread::Threads;
 /// PixelRange). No record after a row whose record is not found is read, and of a record at most 8 bytes for each
 /// pixel and 64 more.
 pub fn fetch_tiles<R: Threads + Sync, S: Source, G: Gate>(
-    rt: &R,
+    crew: &Crew<'_, R, G>,
     source: &mut S,
     header: &Header,
     image: &PackedImage,
     tiles: &[u32],
     rows: &mut [u8],
     window: &mut Window,
-    gate: &G,
 ) -> Result<(), Stop>
     requires image { IsReadable image.now }
     requires within { StandsWithin (S.attached source.old) image.now.table }
@@ -66,7 +65,7 @@ pub fn fetch_tiles<R: Threads + Sync, S: Source, G: Gate>(
     // This call tells that there are at most 64 workers.
     let _workers = window.workers();
     let loaded = load_round(source, header.hdu, image, tiles, rows, window)?;
-    match decode_window(rt, window, loaded.count, gate) {
+    match decode_window(crew.rt, window, loaded.count, crew.gate) {
         Ok(Some((i, fault))) => Err(faulty(header.hdu, tiles[i as usize], fault)),
         Ok(None) => match loaded.refused {
             Some(fault) => Err(Stop::Refused(fault)),
@@ -76,18 +75,16 @@ pub fn fetch_tiles<R: Threads + Sync, S: Source, G: Gate>(
     }
 }
 
-/// Fetches as `fetch_tiles` does, but decodes by so many workers, and does the job beside that on this thread, which
+/// Fetches as `fetch_tiles` does, but decodes by the workers of the crew, and does the job beside that on this thread, which
 /// then helps. The job is done once, whatever the answer is.
 pub fn fetch_beside<R: Threads + Sync, S: Source, G: Gate, J: FnMut() -> B, B>(
-    rt: &R,
+    crew: &Crew<'_, R, G>,
     source: &mut S,
     header: &Header,
     image: &PackedImage,
     tiles: &[u32],
     rows: &mut [u8],
     window: &mut Window,
-    workers: u32,
-    gate: &G,
     job: &mut J,
 ) -> (Result<(), Stop>, B)
     requires image { IsReadable image.now }
@@ -97,7 +94,6 @@ pub fn fetch_beside<R: Threads + Sync, S: Source, G: Gate, J: FnMut() -> B, B>(
     requires few { len tiles.now ≤ 2 * window.old.workers }
     requires rows { 4096 ≤ len rows.old }
     requires window { HaveRoom image.now window.old }
-    requires workers { (1 ≤ workers) × (workers ≤ 64) }
     requires job { J.pre job.old }
     ensures fetched { OnOk result.0 (AreFetched (S.held source.old) header.now image.now.plan tiles.now window.new.slots) }
     ensures row { IfRefused result.0 (IsOfRowAmong header.now.hdu tiles.now) }
@@ -121,7 +117,7 @@ pub fn fetch_beside<R: Threads + Sync, S: Source, G: Gate, J: FnMut() -> B, B>(
         Ok(loaded) => loaded,
         Err(stop) => return (Err(stop), job()),
     };
-    let (decoded, done) = decode_beside(rt, window, loaded.count, workers, gate, job);
+    let (decoded, done) = decode_beside(crew, window, loaded.count, job);
     match decoded {
         Ok(Some((i, fault))) => (Err(faulty(header.hdu, tiles[i as usize], fault)), done),
         Ok(None) => match loaded.refused {
@@ -132,8 +128,8 @@ pub fn fetch_beside<R: Threads + Sync, S: Source, G: Gate, J: FnMut() -> B, B>(
     }
 }
 
-// The record of this row stands for no pixels.
-fn faulty(hdu: u32, row: u32, fault: TileFault) -> Stop
+/// The record of this row stands for no pixels.
+pub(crate) fn faulty(hdu: u32, row: u32, fault: TileFault) -> Stop
     ensures { result ≡ Refused (refusal hdu (AtRow row) (kind_of_tile fault)) }
 {
     Stop::Refused(Fault {

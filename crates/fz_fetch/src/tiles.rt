@@ -87,8 +87,8 @@ pub(crate) fn job_of(plan: &Plan, tile: u32, pixels: u32, found: &Record) -> Job
     }
 }
 
-// The place of a tile whose record was found in this column.
-fn place_in(column: TileColumn) -> Place2
+/// The place of a tile whose record was found in this column.
+pub(crate) fn place_in(column: TileColumn) -> Place2
     ensures { result ≡ place_in_column column }
 {
     match column {

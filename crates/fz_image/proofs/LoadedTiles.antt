@@ -1,11 +1,10 @@
 -- The tiles of an image, from the bytes of their pixels to the slots of a window.
-use Rattle.std.proofs.Common.{◌≡◌, ℕ, zero, suc, ◌+◌, ◌-◌, ◌*◌, ◌/◌, ◌^◌, ◌<◌, ◌≤◌, ◌⊎◌, inl, inr, true, ℤ, pos, to_z, of_z, w32, ⊎_elim, List, [], ◌∷◌, ◌++◌, length, take, drop, map, slice_index_or, Option, Some, None, IfSome, refl, sym, ap, ◌∙◌, subst, arith}
+use Rattle.std.proofs.Common.{◌≡◌, ℕ, zero, suc, ◌+◌, ◌-◌, ◌*◌, ◌/◌, ◌^◌, ◌<◌, ◌≤◌, ◌⊎◌, inl, inr, ℤ, pos, to_z, of_z, w32, ⊎_elim, List, [], ◌∷◌, ◌++◌, length, take, drop, map, slice_index_or, Option, Some, None, IfSome, refl, sym, ap, ◌∙◌, subst, arith}
 use Rattle.std.specs.List.{range_with_len}
 use Rattle.std.proofs.lemmas.List.{get_or_append_left, get_or_push, length-append, length-drop, length-take-le, take_at}
 use Rattle.std.proofs.lemmas.List.FromFn.{get_or-map-range_with_len, length-map-range_with_len, map-range_with_len_more}
 use Rattle.std.proofs.Math.Seq.{drop-append-add}
 use Rattle.std.proofs.Math.Nat.{mul-le-mul_left, mul-suc, mul-zero}
-use Rattle.fz_grid.proofs.Ranges.{map_range_same}
 use Rattle.fz_grid.specs.Arrays.{product}
 use Rattle.fz_grid.specs.Division.{tile_places}
 use Rattle.fz_grid.specs.Laws.{TilesAreAtTheirPlaces}
@@ -14,6 +13,7 @@ use Rattle.fz_base.specs.Source.{HoldsLength}
 use Rattle.fz_tile.specs.Pixels.{HoldPixels, IsBitpix, place_count}
 use Rattle.fz_tile.specs.Plain.{pixel_of, stored_pixels}
 use Rattle.fz_files.specs.Packed.{pixel_bits}
+use Rattle.fz_pool.specs.declared.task.Task.TheVariants.{Encode}
 use Rattle.fz_pool.specs.declared.slot.Slot.{Slot}
 use Rattle.fz_pool.specs.Laws.{ReadiesNext}
 use Rattle.fz_pool.specs.Round.{HoldsTile}
@@ -23,6 +23,19 @@ use Rattle.fz_image.specs.Tiles.{AreBelow, AreLoaded, HaveTheirPixels, HoldTile,
 use Rattle.fz_image.specs.declared.layout.Layout.{Layout}
 
 -- ---- pixels
+
+-- two lists from functions of the place that give the same
+map_range_same : {X : Type 0} (f g : ℕ → X) (a b n : ℕ) → ((i : ℕ) → i < n → f (a + i) ≡ g (b + i)) → map f (range_with_len a n) ≡ map g (range_with_len b n)
+map_range_same f g a b zero same = refl
+map_range_same f g a b (suc n) same =
+    let at_a : a + zero ≡ a = omega arith in
+    let at_b : b + zero ≡ b = omega arith in
+    let here : f a ≡ g b = ap f (sym at_a) ∙ (same zero (omega arith) ∙ ap g at_b) in
+    let later : (i : ℕ) → i < n → f (a + 1 + i) ≡ g (b + 1 + i) = λ i h.
+    let next_a : a + 1 + i ≡ a + suc i = omega arith in
+    let next_b : b + 1 + i ≡ b + suc i = omega arith in
+    ap f next_a ∙ (same (suc i) (omega arith) ∙ ap g (sym next_b)) in
+    ap (λ x. x ∷ map f (range_with_len (a + 1) n)) here ∙ ap (λ l. g b ∷ l) (map_range_same f g (a + 1) (b + 1) n later)
 
 -- pixels of which the first is stored in a chunk of its own
 chunk_more : (bits n : ℕ) (chunk rest : List ℕ) → length chunk ≡ bits / 8 → stored_pixels bits (suc n) (chunk ++ rest) ≡ pixel_of bits chunk ∷ stored_pixels bits n rest
@@ -113,7 +126,7 @@ module _ (l : Layout) (held : Option (List ℕ)) (first i : ℕ) (old new : Pool
 
   pub loaded_more : ReadiesNext → AreLoaded l held first (i + 1) new
   loaded_more readies = record {
-    ready = readies true i old new x before.ready put now.ready;
+    ready = readies Encode i old new x before.ready put now.ready;
     tiles = more;
     count_is = count_more;
     pixels = pixels_more l first before.tiles now.pixels before.pixels (now.count ∙ ap (λ n. pixels_of l (first + n)) (sym before.count_is)) now.some now.most;

@@ -1,9 +1,8 @@
 -- A table that is written tile by tile: what was written, with one tile more, and with many.
-use Rattle.std.proofs.Common.{◌≡◌, ℕ, ◌+◌, ◌*◌, ◌^◌, ◌≤◌, max, List, [], ◌∷◌, ◌++◌, length, map, Option, Some, None, IfSome, refl, sym, ap, ◌∙◌, subst, arith}
+use Rattle.std.proofs.Common.{◌≡◌, ℕ, zero, suc, ◌+◌, ◌*◌, ◌^◌, ◌≤◌, max, List, [], ◌∷◌, ◌++◌, length, map, Option, Some, None, IfSome, refl, sym, ap, ◌∙◌, subst, arith}
 use Rattle.std.specs.List.{range_with_len}
 use Rattle.std.proofs.lemmas.List.{length-append, map-append}
 use Rattle.std.proofs.Math.Nat.{mul-add, mul-le-mul_left, mul-zero}
-use Rattle.fz_grid.proofs.Ranges.{range_append}
 use Rattle.fz_base.specs.Sink.{written}
 use Rattle.fz_sum.specs.Pieces.{total_at}
 use Rattle.fz_tile.specs.TileCode.{TileCode, tile_code}
@@ -18,6 +17,17 @@ use Rattle.fz_image.specs.declared.progress.Progress.{Progress}
 use Rattle.fz_image.proofs.Codes.{greatest_map, greatest_more, heap_append, heap_more, no_heap, no_rows, rows_append, rows_len}
 use Rattle.fz_image.proofs.Sizes.{pixel_bytes_small, rows_small}
 use Rattle.fz_image.proofs.TileTotals.{codes_append, codes_within}
+
+-- neighbouring numbers, and those after them
+range_append : (a m n : ℕ) → range_with_len a (m + n) ≡ range_with_len a m ++ range_with_len (a + m) n
+range_append a zero n =
+    let same : a ≡ a + zero = omega arith in
+    let none : zero + n ≡ n = omega arith in
+    ap (range_with_len a) none ∙ ap (λ b. range_with_len b n) same
+range_append a (suc m) n =
+    let next : a + 1 + m ≡ a + suc m = omega arith in
+    let more : suc m + n ≡ suc (m + n) = omega arith in
+    ap (range_with_len a) more ∙ ap (λ l. a ∷ l) (range_append (a + 1) m n) ∙ ap (λ b. range_with_len a (suc m) ++ range_with_len b n) next
 
 -- the total of joined lists
 abbrev pub Joins : Type 0
@@ -89,7 +99,7 @@ no_heap_written at contents = sym (ap (λ k. written at k contents) no_heap ∙ 
 -- what is written for tiles is that for the first and that for the others
 codes_split : (l : Layout) (file : List ℕ) (m n k : ℕ) → k ≡ m + n → codes_from l file 0 k ≡ codes_from l file 0 m ++ codes_from l file (0 + m) n
 codes_split l file m n k whole =
-    ap (λ ts. map (tile_code l.plan.codec (pixel_bits l.plan)) ts) (ap (map (tile_in l file)) (range_append 0 m n k (0 + m) whole refl) ∙ map-append (tile_in l file) (range_with_len 0 m) (range_with_len (0 + m) n))
+    ap (λ ts. map (tile_code l.plan.codec (pixel_bits l.plan)) ts) (ap (map (tile_in l file)) (ap (range_with_len 0) whole ∙ range_append 0 m n) ∙ map-append (tile_in l file) (range_with_len 0 m) (range_with_len (0 + m) n))
     ∙ map-append (tile_code l.plan.codec (pixel_bits l.plan)) (tiles_from l file 0 m) (tiles_from l file (0 + m) n)
 
 -- what was written with many tiles more

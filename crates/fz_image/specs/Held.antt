@@ -9,7 +9,7 @@ use Rattle.fz_image.specs.declared.progress.Progress.{Progress}
 abbrev pub caught_up : ℕ → ℕ → List ℕ → Option (List ℕ) → Option (List ℕ)
 caught_up end n held contents = written (end - n) (take n held) contents
 
--- the same where they are the last bytes of the heap so far
+-- the same if they are the last bytes of the heap so far
 abbrev pub heap_caught_up : Layout → Progress → ℕ → List ℕ → Option (List ℕ) → Option (List ℕ)
 heap_caught_up l w n held contents = caught_up (heap_at_of l + w.heap) n held contents
 

@@ -1,4 +1,4 @@
--- Where the parts of an image and of its table stand (FITS 4.0, sections 3.3.2, 7.3 and 10.1).
+-- Where the parts of an image and of its table are (FITS 4.0, sections 3.3.2, 7.3 and 10.1).
 use Rattle.std.specs.Prelude.{ℕ, ◌≡◌, ◌+◌, ◌*◌, ◌^◌, ◌<◌, ◌≤◌, List, Option, Some}
 use Rattle.fz_base.specs.Source.{LogsWithin}
 use Rattle.fz_block.specs.Header.{data_start_of}
@@ -51,7 +51,7 @@ pub record IsLayout (l : Layout) : Type 0 where
   pub near : l.rows_at ≤ 2 ^ 63
   pub pixels : l.pixels_at ≤ 2 ^ 62
 
--- the pixels stand within what is attached
+-- the pixels are within what is attached
 abbrev pub HasPixels : Option ℕ → Layout → Type 0
 HasPixels attached l = (n : ℕ) × (attached ≡ Some n) × (l.pixels_at + pixel_bytes_of l ≤ n)
 

@@ -45,14 +45,14 @@ fn coded_unit(codec: Codec) -> u32
     }
 }
 
-// A descriptor of so many elements, which stand at this byte of the heap.
+// A descriptor of so many elements, which are at this byte of the heap.
 fn described(count: u64, offset: u64) -> Descriptor
     ensures { result ≡ record { count = count; offset = offset } }
 {
     Descriptor { count, offset }
 }
 
-// Writes the row of a tile whose bytes stand at this byte of the heap.
+// Writes the row of a tile whose bytes are at this byte of the heap.
 fn put_row(layout: &Layout, slot: &Slot, offset: u64, into: &mut [u8])
     requires layout { IsLayout layout.now }
     requires within { slot.now.job.len ≤ len slot.now.code }
@@ -74,7 +74,7 @@ fn put_row(layout: &Layout, slot: &Slot, offset: u64, into: &mut [u8])
     }
 }
 
-/// Writes the rows of the tiles in the first slots, whose bytes stand one after another from this byte of the
+/// Writes the rows of the tiles in the first slots, whose bytes are one after another from this byte of the
 /// heap on.
 pub fn put_rows(layout: &Layout, window: &Window, count: u32, offset: u64, into: &mut [u8])
     requires layout { IsLayout layout.now }

@@ -63,7 +63,7 @@ pub fn make_header(
     len
 }
 
-// How many cards stand before those of sums.
+// How many cards are before those of sums.
 fn cards_before_sums(header: &Header, plan: &Plan) -> u32
     requires axes { plan.now.shape.n ≤ 9 }
     requires cards { header.now.cards < 9216 }

@@ -9,7 +9,7 @@ ghost use Rattle.fz_image.specs.Held.{caught_up};
 use fz_base::{Sink, Stop, output_law, write_behind};
 
 /// Has bytes written to a place after byte 0, now or later: the first `count` bytes of `held` are held back, and
-/// go just before that place. A piece is held back where it leaves room for others.
+/// go just before that place. A piece is held back if it leaves room for others.
 pub(crate) fn hold_back<K: Sink>(
     sink: &mut K,
     at: u64,
@@ -37,7 +37,7 @@ pub(crate) fn hold_back<K: Sink>(
     Ok(())
 }
 
-// The same where there is no room for the bytes: those that are held back are written.
+// The same if there is no room for the bytes: those that are held back are written.
 fn write_first<K: Sink>(
     sink: &mut K,
     at: u64,
@@ -63,7 +63,7 @@ fn write_first<K: Sink>(
     begin(sink, at, bytes, held, count)
 }
 
-// The same where none are held back.
+// The same if none are held back.
 fn begin<K: Sink>(
     sink: &mut K,
     at: u64,

@@ -33,7 +33,7 @@ use fz_base::{Gate, Sink, Source, Stop, log_law, output_law, write_behind};
 use fz_block::{Header, cards_law};
 use fz_head::{Plan, Totals, pack_plan_law, sizes_law, sum_cards_law, to_packed, whole_cards_law};
 use fz_job::write_fill;
-use fz_pool::{BY_TURNS, Window};
+use fz_pool::{BY_TURNS, Crew, Window};
 use fz_tile::slice_law;
 use std::thread::Threads;
 
@@ -47,7 +47,7 @@ const ROWS_LEN: usize = 4096;
 /// header that is a block longer, and `copy` for the rows of a round and for codes that are held back; the slots
 /// of the window are those of a tile of the plan or of a larger one.
 pub fn write_image<R: Threads + Sync, S: Source, K: Sink, G: Gate>(
-    rt: &R,
+    crew: &Crew<'_, R, G>,
     source: &mut S,
     buf: &[u8],
     header: &Header,
@@ -58,7 +58,6 @@ pub fn write_image<R: Threads + Sync, S: Source, K: Sink, G: Gate>(
     made: &mut [u8],
     copy: &mut [u8],
     window: &mut Window,
-    gate: &G,
 ) -> Result<u64, Stop>
     requires header { IsHeaderOf buf.now header.now }
     requires simple { header.now.hdu ≡ 0 → is_set (codes "SIMPLE") (card_at buf.now 0) ≡ true }
@@ -93,13 +92,13 @@ pub fn write_image<R: Threads + Sync, S: Source, K: Sink, G: Gate>(
     let rows_at = at + header_len(buf, header, plan, sums, made);
     let layout = Layout::of(header, plan, rows_at);
     write_table(
-        rt, source, buf, header, plan, sums, sink, at, &layout, made, copy, window, gate,
+        crew, source, buf, header, plan, sums, sink, at, &layout, made, copy, window,
     )
 }
 
 // Writes the rows, the heap, the fill and then the header.
 fn write_table<R: Threads + Sync, S: Source, K: Sink, G: Gate>(
-    rt: &R,
+    crew: &Crew<'_, R, G>,
     source: &mut S,
     buf: &[u8],
     header: &Header,
@@ -111,7 +110,6 @@ fn write_table<R: Threads + Sync, S: Source, K: Sink, G: Gate>(
     made: &mut [u8],
     copy: &mut [u8],
     window: &mut Window,
-    gate: &G,
 ) -> Result<u64, Stop>
     requires header { IsHeaderOf buf.now header.now }
     requires simple { header.now.hdu ≡ 0 → is_set (codes "SIMPLE") (card_at buf.now 0) ≡ true }
@@ -145,7 +143,7 @@ fn write_table<R: Threads + Sync, S: Source, K: Sink, G: Gate>(
     ensures cause { CodesAndWrites (S.tally source.old) (S.tally source.new) (K.tally sink.old) (K.tally sink.new) result }
 {
     output_law();
-    let progress = write_tiles(rt, source, sink, layout, window, gate, copy)?;
+    let progress = write_tiles(crew, source, sink, layout, window, copy)?;
     let data_len = layout.rows_len() + progress.heap;
     let end = write_fill(sink, layout.rows_at, data_len, copy)?;
     let len = make_header(buf, header, plan, sums, progress, made);
@@ -155,12 +153,11 @@ fn write_table<R: Threads + Sync, S: Source, K: Sink, G: Gate>(
 
 // Writes the rows and the heap of all tiles, round by round.
 fn write_tiles<R: Threads + Sync, S: Source, K: Sink, G: Gate>(
-    rt: &R,
+    crew: &Crew<'_, R, G>,
     source: &mut S,
     sink: &mut K,
     layout: &Layout,
     window: &mut Window,
-    gate: &G,
     copy: &mut [u8],
 ) -> Result<Progress, Stop>
     requires layout { IsLayout layout.now }
@@ -184,21 +181,18 @@ fn write_tiles<R: Threads + Sync, S: Source, K: Sink, G: Gate>(
 {
     let (rows, held) = copy.split_at_mut(ROWS_LEN);
     let mut count = 0;
-    let progress = write_rounds(
-        rt, source, sink, layout, window, gate, rows, held, &mut count,
-    )?;
+    let progress = write_rounds(crew, source, sink, layout, window, rows, held, &mut count)?;
     write_held(sink, layout.heap_at() + progress.heap, held, count)?;
     Ok(progress)
 }
 
 // The same, but the last bytes of the heap are held back.
 fn write_rounds<R: Threads + Sync, S: Source, K: Sink, G: Gate>(
-    rt: &R,
+    crew: &Crew<'_, R, G>,
     source: &mut S,
     sink: &mut K,
     layout: &Layout,
     window: &mut Window,
-    gate: &G,
     rows: &mut [u8],
     held: &mut [u8],
     count: &mut usize,
@@ -226,19 +220,18 @@ fn write_rounds<R: Threads + Sync, S: Source, K: Sink, G: Gate>(
     ensures cause { CodesAndWrites (S.tally source.old) (S.tally source.new) (K.tally sink.old) (K.tally sink.new) result }
 {
     if window.workers() < BY_TURNS || layout.tiles <= 2 * window.workers() {
-        return write_whole_rounds(rt, source, sink, layout, window, gate, rows, held, count);
+        return write_whole_rounds(crew, source, sink, layout, window, rows, held, count);
     }
-    write_by_turns(rt, source, sink, layout, window, gate, rows, held, count)
+    write_by_turns(crew, source, sink, layout, window, rows, held, count)
 }
 
 // The same with one part of the work after the other, and all slots in each round.
 fn write_whole_rounds<R: Threads + Sync, S: Source, K: Sink, G: Gate>(
-    rt: &R,
+    crew: &Crew<'_, R, G>,
     source: &mut S,
     sink: &mut K,
     layout: &Layout,
     window: &mut Window,
-    gate: &G,
     rows: &mut [u8],
     held: &mut [u8],
     count: &mut usize,
@@ -269,13 +262,12 @@ fn write_whole_rounds<R: Threads + Sync, S: Source, K: Sink, G: Gate>(
     let mut progress = Progress::new();
     while progress.tiles < layout.tiles {
         write_round(
-            rt,
+            crew,
             source,
             sink,
             layout,
             &mut progress,
             window,
-            gate,
             rows,
             held,
             count,
@@ -284,7 +276,7 @@ fn write_whole_rounds<R: Threads + Sync, S: Source, K: Sink, G: Gate>(
     Ok(progress)
 }
 
-// The length of the header of the table, which does not depend on what it tells of the heap.
+// The length of the header of the table, which does not depend on what it says of the heap.
 fn header_len(buf: &[u8], header: &Header, plan: &Plan, sums: bool, made: &mut [u8]) -> u64
     requires header { IsHeaderOf buf.now header.now }
     requires simple { header.now.hdu ≡ 0 → is_set (codes "SIMPLE") (card_at buf.now 0) ≡ true }

@@ -1,4 +1,4 @@
-//! Where the parts of an image and of its table stand.
+//! Where the parts of an image and of its table are.
 ghost use Rattle.std.specs.Prelude.{◌≡◌, ◌+◌, ◌≤◌, ◌^◌};
 ghost use Rattle.fz_block.specs.Header.{next_start_of};
 ghost use Rattle.fz_image.specs.Layout.{IsLayout, IsPlan, heap_at_of, layout_of, rows_len_of};

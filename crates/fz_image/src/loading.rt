@@ -74,7 +74,7 @@ fn load_next<S: Source>(
     load_slot(source, layout, tile, window.slot_mut(i))
 }
 
-// Reads the pixels of a tile into the slot, where it is to be encoded.
+// Reads the pixels of a tile into the slot, in which it is to be encoded.
 fn load_slot<S: Source>(
     source: &mut S,
     layout: &Layout,
@@ -160,7 +160,7 @@ pub fn tile_pixels(layout: &Layout, tile: u32) -> u32
     ensures no_larger { pixels_of layout.now tile ≤ pixels_of layout.now 0 }
 {
     let grid = layout.grid();
-    // This call tells that no tile has more than 2^26 pixels.
+    // This call says that no tile has more than 2^26 pixels.
     let _largest = grid.largest();
     grid.tile_box(tile).pixels() as u32
 }

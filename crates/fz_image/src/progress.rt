@@ -10,7 +10,7 @@ use fz_head::Totals;
 use fz_pool::Slot;
 use fz_sum::Sum;
 
-/// What was written of a table, and what its header tells of that.
+/// What was written of a table, and what its header says of that.
 #[derive(Drop)]
 pub struct Progress {
     /// How many tiles.
@@ -39,7 +39,7 @@ impl Progress {
         }
     }
 
-    /// What the header tells of the heap.
+    /// What the header says of the heap.
     pub fn totals(&self, sums: bool) -> Totals
         ensures { result ≡ record { heap = self.now.heap; emax_coded = self.now.coded; emax_stored = self.now.stored; sums = sums } }
     {

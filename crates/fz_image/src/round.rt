@@ -19,7 +19,7 @@ use crate::layout::Layout;
 use crate::loading::load_round;
 use crate::progress::{Progress, code_of};
 use fz_base::{Gate, Sink, Source, Stop, output_law, write_behind};
-use fz_pool::{Window, encode_window, round_law, sizes_law};
+use fz_pool::{Crew, Window, encode_window, round_law, sizes_law};
 use fz_sum::sum_law;
 use fz_tile::column_law;
 use std::thread::Threads;
@@ -27,13 +27,12 @@ use std::thread::Threads;
 /// Packs the next tiles, as many as the window has slots for: their codes go after the heap, and their rows
 /// after the rows. The last bytes of the heap may be held back, before and then: the first `count` of `held`.
 pub(crate) fn write_round<R: Threads + Sync, S: Source, K: Sink, G: Gate>(
-    rt: &R,
+    crew: &Crew<'_, R, G>,
     source: &mut S,
     sink: &mut K,
     layout: &Layout,
     progress: &mut Progress,
     window: &mut Window,
-    gate: &G,
     rows: &mut [u8],
     held: &mut [u8],
     count: &mut usize,
@@ -70,19 +69,18 @@ pub(crate) fn write_round<R: Threads + Sync, S: Source, K: Sink, G: Gate>(
     output_law();
     sum_law();
     let tiles = (2 * window.workers()).min(layout.tiles - progress.tiles);
-    encode_tiles(rt, source, layout, progress.tiles, window, tiles, gate)?;
+    encode_tiles(crew, source, layout, progress.tiles, window, tiles)?;
     write_tiles(sink, layout, progress, window, tiles, rows, held, count)
 }
 
 // Reads so many tiles into the first slots, and encodes them.
 fn encode_tiles<R: Threads + Sync, S: Source, G: Gate>(
-    rt: &R,
+    crew: &Crew<'_, R, G>,
     source: &mut S,
     layout: &Layout,
     first: u32,
     window: &mut Window,
     count: u32,
-    gate: &G,
 ) -> Result<(), Stop>
     requires layout { IsLayout layout.now }
     requires pixels { HasPixels (S.attached source.old) layout.now }
@@ -99,17 +97,16 @@ fn encode_tiles<R: Threads + Sync, S: Source, G: Gate>(
     ensures cause { Codes (S.tally source.old) (S.tally source.new) result }
 {
     load_round(source, layout, first, window, count)?;
-    encode_loaded(rt, layout, first, window, count, gate)
+    encode_loaded(crew, layout, first, window, count)
 }
 
 /// Encodes the tiles in the first slots, which are so many from the first on.
 pub fn encode_loaded<R: Threads + Sync, G: Gate>(
-    rt: &R,
+    crew: &Crew<'_, R, G>,
     layout: &Layout,
     first: u32,
     window: &mut Window,
     count: u32,
-    gate: &G,
 ) -> Result<(), Stop>
     requires layout { IsLayout layout.now }
     requires window { HaveRoom layout.now window.old }
@@ -124,7 +121,7 @@ pub fn encode_loaded<R: Threads + Sync, G: Gate>(
     sizes_law();
     round_law();
     column_law();
-    encode_window(rt, window, count, gate).map_err(|_| Stop::NoMemory)
+    encode_window(crew.rt, window, count, crew.gate).map_err(|_| Stop::NoMemory)
 }
 
 /// Writes the tiles in the first slots, which were encoded.

@@ -16,13 +16,13 @@ use crate::loading::load_round;
 use crate::progress::Progress;
 use crate::round::write_tiles;
 use fz_base::{Gate, Sink, Source, Stop, log_law, output_law};
-use fz_pool::{Window, encode_beside, halves_law, round_law, sizes_law};
+use fz_pool::{Crew, Window, encode_beside, halves_law, round_law, sizes_law};
 use fz_sum::sum_law;
 use fz_tile::column_law;
 use std::mem;
 use std::thread::Threads;
 
-/// How many tiles stand in the halves of the window between two turns, from the first one on that is not written.
+/// How many tiles are in the halves of the window between two turns, from the first one on that is not written.
 #[derive(Clone, Copy)]
 pub(crate) struct Turn {
     /// So many are encoded, in the second half.
@@ -33,12 +33,11 @@ pub(crate) struct Turn {
 
 /// Writes the rows and the heap of all tiles by turns. The last bytes of the heap are held back.
 pub(crate) fn write_by_turns<R: Threads + Sync, S: Source, K: Sink, G: Gate>(
-    rt: &R,
+    crew: &Crew<'_, R, G>,
     source: &mut S,
     sink: &mut K,
     layout: &Layout,
     window: &mut Window,
-    gate: &G,
     rows: &mut [u8],
     held: &mut [u8],
     count: &mut usize,
@@ -69,19 +68,16 @@ pub(crate) fn write_by_turns<R: Threads + Sync, S: Source, K: Sink, G: Gate>(
     sizes_law();
     halves_law();
     log_law();
-    let workers = window.workers();
     let Ok((mut first, mut second)) = window.halve() else {
         return Err(Stop::NoMemory);
     };
     let answer = write_turns(
-        rt,
+        crew,
         source,
         sink,
         layout,
         &mut first,
         &mut second,
-        workers,
-        gate,
         rows,
         held,
         count,
@@ -92,14 +88,12 @@ pub(crate) fn write_by_turns<R: Threads + Sync, S: Source, K: Sink, G: Gate>(
 
 // The same, in the halves of the window.
 fn write_turns<R: Threads + Sync, S: Source, K: Sink, G: Gate>(
-    rt: &R,
+    crew: &Crew<'_, R, G>,
     source: &mut S,
     sink: &mut K,
     layout: &Layout,
     first: &mut Window,
     second: &mut Window,
-    workers: u32,
-    gate: &G,
     rows: &mut [u8],
     held: &mut [u8],
     count: &mut usize,
@@ -108,7 +102,6 @@ fn write_turns<R: Threads + Sync, S: Source, K: Sink, G: Gate>(
     requires pixels { HasPixels (S.attached source.old) layout.now }
     requires created { IsTrue (K.created sink.old) }
     requires rooms { HaveRooms layout.now first.old second.old }
-    requires workers { (1 ≤ workers) × (workers ≤ 64) }
     requires rows { 4096 ≤ len rows.old }
     requires none { count.old ≡ 0 }
     ensures written { IfOk result (λ w. IsWritten layout.now (S.held source.old) (K.contents sink.old)
@@ -136,7 +129,7 @@ fn write_turns<R: Threads + Sync, S: Source, K: Sink, G: Gate>(
     };
     while progress.tiles < layout.tiles {
         take_turn(
-            rt,
+            crew,
             source,
             sink,
             layout,
@@ -144,8 +137,6 @@ fn write_turns<R: Threads + Sync, S: Source, K: Sink, G: Gate>(
             &mut turn,
             first,
             second,
-            workers,
-            gate,
             rows,
             held,
             count,
@@ -156,7 +147,7 @@ fn write_turns<R: Threads + Sync, S: Source, K: Sink, G: Gate>(
 
 // One turn, after which the halves change their parts.
 fn take_turn<R: Threads + Sync, S: Source, K: Sink, G: Gate>(
-    rt: &R,
+    crew: &Crew<'_, R, G>,
     source: &mut S,
     sink: &mut K,
     layout: &Layout,
@@ -164,8 +155,6 @@ fn take_turn<R: Threads + Sync, S: Source, K: Sink, G: Gate>(
     turn: &mut Turn,
     first: &mut Window,
     second: &mut Window,
-    workers: u32,
-    gate: &G,
     rows: &mut [u8],
     held: &mut [u8],
     count: &mut usize,
@@ -174,7 +163,6 @@ fn take_turn<R: Threads + Sync, S: Source, K: Sink, G: Gate>(
     requires pixels { HasPixels (S.attached source.old) layout.now }
     requires created { IsTrue (K.created sink.old) }
     requires rooms { HaveRooms layout.now first.old second.old }
-    requires workers { (1 ≤ workers) × (workers ≤ 64) }
     requires rows { 4096 ≤ len rows.old }
     requires held { AreLast count.old held.old progress.old }
     requires so_far { (before : Option (List ℕ)) × IsWritten layout.now (S.held source.old) before
@@ -207,8 +195,7 @@ fn take_turn<R: Threads + Sync, S: Source, K: Sink, G: Gate>(
     let next = progress.tiles + turn.coded + turn.loaded;
     let more = (2 * second.workers()).min(layout.tiles - next);
     encode_and_move(
-        rt, source, sink, layout, progress, *turn, next, more, first, second, workers, gate, count,
-        rows, held,
+        crew, source, sink, layout, progress, *turn, next, more, first, second, count, rows, held,
     )?;
     *turn = Turn {
         coded: turn.loaded,
@@ -220,7 +207,7 @@ fn take_turn<R: Threads + Sync, S: Source, K: Sink, G: Gate>(
 
 // Encodes the tiles of the first half, and beside that has those of the second written and more read into it.
 fn encode_and_move<R: Threads + Sync, S: Source, K: Sink, G: Gate>(
-    rt: &R,
+    crew: &Crew<'_, R, G>,
     source: &mut S,
     sink: &mut K,
     layout: &Layout,
@@ -230,8 +217,6 @@ fn encode_and_move<R: Threads + Sync, S: Source, K: Sink, G: Gate>(
     more: u32,
     first: &mut Window,
     second: &mut Window,
-    workers: u32,
-    gate: &G,
     count: &mut usize,
     rows: &mut [u8],
     held: &mut [u8],
@@ -248,7 +233,6 @@ fn encode_and_move<R: Threads + Sync, S: Source, K: Sink, G: Gate>(
           sink.old;
     }) progress.old second.old turn.coded next more rows.old count.old held.old }
     requires first { HaveRoom layout.now first.old }
-    requires workers { (1 ≤ workers) × (workers ≤ 64) }
     requires loaded { AreLoaded layout.now (S.held source.old) (progress.old.tiles + turn.coded) turn.loaded first.old }
     requires few { turn.loaded ≤ 2 * first.old.workers }
     ensures encoded { OnOk result (AreEncodedTiles layout.now (S.held source.old) (progress.old.tiles + turn.coded) turn.loaded first.new) }
@@ -321,7 +305,7 @@ fn encode_and_move<R: Threads + Sync, S: Source, K: Sink, G: Gate>(
             source, sink, layout, progress, second, coded, next, more, count, rows, held,
         )
     };
-    let (encoded, moved) = encode_beside(rt, first, loaded, workers, gate, &mut job);
+    let (encoded, moved) = encode_beside(crew, first, loaded, &mut job);
     moved?;
     encoded.map_err(|_| Stop::NoMemory)
 }

@@ -4,7 +4,7 @@ use Rattle.fz_files.specs.Buffers.{job_bound, largest_tile, longest_header, work
 use Rattle.fz_files.specs.Ends.{HeadersAreShort, ListHasNoTiles, TilesAreSmall}
 use Rattle.fz_files.specs.Laws.{BoundRises}
 use Rattle.fz_files.specs.declared.job.Job.{Job}
-use Rattle.fz_files.specs.declared.job.Job.TheVariants.{Pack, Unpack, Cut, Verify, List as ListHdus, Drill}
+use Rattle.fz_files.specs.declared.job.Job.TheVariants.{Pack, Unpack, Cut, Verify, List as ListHdus, Drill, Retile}
 use Rattle.fz_job.specs.Clauses.{greatest_bound, greatest_tile}
 
 module _ (short : HeadersAreShort) (small : TilesAreSmall) (none : ListHasNoTiles) where
@@ -15,6 +15,7 @@ module _ (short : HeadersAreShort) (small : TilesAreSmall) (none : ListHasNoTile
   tile_within Verify file = small Verify file
   tile_within ListHdus file = let zero_is : largest_tile ListHdus file ≡ 0 = none file in omega (arith, zero_is)
   tile_within (Drill rows) file = small (Drill rows) file
+  tile_within (Retile o) file = small (Retile o) file
 
   pub bound_within : BoundRises → (job : Job) (file : List ℕ) (asked : ℕ) → job_bound job file asked ≤ greatest_bound job asked
   bound_within rises job file asked =

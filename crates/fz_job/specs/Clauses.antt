@@ -17,7 +17,7 @@ use Rattle.fz_files.specs.Buffers.{job_bound, job_takings, workers_of}
 use Rattle.fz_files.specs.FirstFault.{IsFirstFault}
 use Rattle.fz_files.specs.Walks.{header_fault}
 use Rattle.fz_files.specs.declared.job.Job.{Job}
-use Rattle.fz_files.specs.declared.job.Job.TheVariants.{Pack, Unpack, Cut, Verify, List as ListHdus, Drill}
+use Rattle.fz_files.specs.declared.job.Job.TheVariants.{Pack, Unpack, Cut, Verify, List as ListHdus, Drill, Retile}
 
 -- the contents, where they and the bytes of the source are told, are an output of the bytes
 abbrev pub HoldsOutput : (List ℕ → List ℕ → Type 0) → Option (List ℕ) → Option (List ℕ) → Type 0
@@ -55,6 +55,7 @@ greatest_tile (Cut wanted sieve) = 2 ^ 26
 greatest_tile Verify = 2 ^ 26
 greatest_tile ListHdus = 0
 greatest_tile (Drill rows) = 2 ^ 26
+greatest_tile (Retile o) = 2 ^ 26
 
 -- the greatest bound that a job has, whatever the file: no header is longer than 256 blocks
 abbrev pub greatest_bound : Job → ℕ → ℕ
@@ -104,6 +105,7 @@ ComesLate (Cut wanted sieve) x = IsChanged x ⊎ IsOfSomeRow x
 ComesLate Verify x = IsChanged x ⊎ IsOfSomeRow x
 ComesLate ListHdus x = IsChanged x
 ComesLate (Drill rows) x = ⊥
+ComesLate (Retile o) x = IsChanged x ⊎ IsOfSomeRow x
 
 -- The sink is not made if a header of the file is refused or one of these takings passes the limit, whatever the answer, nor after OverLimit.
 -- A refusal leaves it unmade too, except one that comes after the first look.

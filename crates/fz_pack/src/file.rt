@@ -20,19 +20,18 @@ use crate::hdu::write_hdu;
 use fz_base::{Gate, Sink, Source, Stop, output_law, ranges_law, seal};
 use fz_block::{hdu_at_law, next_start};
 use fz_head::PackOptions;
-use fz_pool::Window;
+use fz_pool::{Crew, Window};
 use fz_survey::{Survey, Workspace};
 use std::thread::Threads;
 
 /// Makes the sink, writes the packed file, its byte 0 last, and finishes.
 pub(crate) fn write_file<R: Threads + Sync, S: Source, K: Sink, G: Gate>(
-    rt: &R,
+    crew: &Crew<'_, R, G>,
     source: &mut S,
     length: u64,
     name: &str,
     sink: &mut K,
     window: &mut Window,
-    gate: &G,
     options: &PackOptions,
     survey: &Survey,
     space: &mut Workspace,
@@ -65,19 +64,18 @@ pub(crate) fn write_file<R: Threads + Sync, S: Source, K: Sink, G: Gate>(
     output_law();
     sink.create(name).map_err(Stop::writing)?;
     write_hdus(
-        rt, source, length, sink, window, gate, options, survey, space, block,
+        crew, source, length, sink, window, options, survey, space, block,
     )?;
     seal(sink)
 }
 
 // Writes the HDUs of the packed file, without byte 0.
 fn write_hdus<R: Threads + Sync, S: Source, K: Sink, G: Gate>(
-    rt: &R,
+    crew: &Crew<'_, R, G>,
     source: &mut S,
     length: u64,
     sink: &mut K,
     window: &mut Window,
-    gate: &G,
     options: &PackOptions,
     survey: &Survey,
     space: &mut Workspace,
@@ -114,7 +112,7 @@ fn write_hdus<R: Threads + Sync, S: Source, K: Sink, G: Gate>(
         let buf = space.header.as_mut_slice();
         let again = read_again(source, length, hdu, start, options, survey.tile, block, buf)?;
         at = write_hdu(
-            rt, source, sink, window, gate, options, &again, at, space, block,
+            crew, source, sink, window, options, &again, at, space, block,
         )?;
         start = next_start(&again.header);
         // An HDU ends the file exactly if it is the last.

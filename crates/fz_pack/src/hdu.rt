@@ -19,18 +19,17 @@ use fz_block::{BLOCK_LEN, Header};
 use fz_head::{PackOptions, Plan, to_empty_primary};
 use fz_image::write_image;
 use fz_job::copy_hdu;
-use fz_pool::Window;
+use fz_pool::{Crew, Window};
 use fz_survey::Workspace;
 use std::thread::Threads;
 
 /// Writes an HDU, whose header is in the workspace, from this byte of the sink on, but not byte 0 of the file, and
 /// answers the byte after it.
 pub(crate) fn write_hdu<R: Threads + Sync, S: Source, K: Sink, G: Gate>(
-    rt: &R,
+    crew: &Crew<'_, R, G>,
     source: &mut S,
     sink: &mut K,
     window: &mut Window,
-    gate: &G,
     options: &PackOptions,
     again: &Again,
     at: u64,
@@ -64,11 +63,10 @@ pub(crate) fn write_hdu<R: Threads + Sync, S: Source, K: Sink, G: Gate>(
             output_law();
             let at = write_before(sink, plan, at, block)?;
             write_table(
-                rt,
+                crew,
                 source,
                 sink,
                 window,
-                gate,
                 options,
                 &again.header,
                 plan,
@@ -113,11 +111,10 @@ fn write_before<K: Sink>(sink: &mut K, plan: &Plan, at: u64, block: &mut [u8]) -
 
 // Writes the table of an image.
 fn write_table<R: Threads + Sync, S: Source, K: Sink, G: Gate>(
-    rt: &R,
+    crew: &Crew<'_, R, G>,
     source: &mut S,
     sink: &mut K,
     window: &mut Window,
-    gate: &G,
     options: &PackOptions,
     header: &Header,
     plan: &Plan,
@@ -145,7 +142,7 @@ fn write_table<R: Threads + Sync, S: Source, K: Sink, G: Gate>(
 {
     let buf = &space.header.as_slice()[..BLOCK_LEN * header.blocks as usize];
     write_image(
-        rt,
+        crew,
         source,
         buf,
         header,
@@ -156,6 +153,5 @@ fn write_table<R: Threads + Sync, S: Source, K: Sink, G: Gate>(
         space.translated.as_mut_slice(),
         space.copy.as_mut_slice(),
         window,
-        gate,
     )
 }

@@ -25,7 +25,7 @@ use crate::law::{known_law, touched_law};
 use fz_base::{Gate, Meter, Sink, Source, Stop, ranges_law};
 use fz_block::BLOCK_LEN;
 use fz_head::PackOptions;
-use fz_pool::{Window, sizes_law};
+use fz_pool::{Crew, Window, sizes_law};
 use fz_stages::stages_law;
 use fz_survey::{Survey, Wants, Workspace, survey_to_pack};
 use std::thread::Threads;
@@ -81,16 +81,20 @@ pub fn pack<R: Threads + Sync, S: Source, K: Sink, G: Gate>(
 {
     // How the promises of the job follow from its stages.
     stages_law::<()>();
+    let crew = Crew {
+        rt,
+        gate,
+        workers: window.workers(),
+    };
     let mut block = meter.bytes(BLOCK_LEN as u64)?;
     let answer = with_block(
-        rt,
+        &crew,
         source,
         length,
         name,
         sink,
         meter,
         window,
-        gate,
         options,
         block.as_mut_slice(),
     );
@@ -100,14 +104,13 @@ pub fn pack<R: Threads + Sync, S: Source, K: Sink, G: Gate>(
 
 // Looks at the headers, and then works.
 fn with_block<R: Threads + Sync, S: Source, K: Sink, G: Gate>(
-    rt: &R,
+    crew: &Crew<'_, R, G>,
     source: &mut S,
     length: u64,
     name: &str,
     sink: &mut K,
     meter: &mut Meter,
     window: &mut Window,
-    gate: &G,
     options: &PackOptions,
     block: &mut [u8],
 ) -> Result<(), Stop>
@@ -148,20 +151,19 @@ fn with_block<R: Threads + Sync, S: Source, K: Sink, G: Gate>(
     stages_law::<()>();
     let survey = survey_to_pack(source, length, meter, block, options)?;
     work(
-        rt, source, length, name, sink, meter, window, gate, options, &survey, block,
+        crew, source, length, name, sink, meter, window, options, &survey, block,
     )
 }
 
 // Takes all buffers, writes the packed file, and hands the buffers back.
 fn work<R: Threads + Sync, S: Source, K: Sink, G: Gate>(
-    rt: &R,
+    crew: &Crew<'_, R, G>,
     source: &mut S,
     length: u64,
     name: &str,
     sink: &mut K,
     meter: &mut Meter,
     window: &mut Window,
-    gate: &G,
     options: &PackOptions,
     survey: &Survey,
     block: &mut [u8],
@@ -208,7 +210,7 @@ fn work<R: Threads + Sync, S: Source, K: Sink, G: Gate>(
     };
     let mut space = Workspace::take(meter, window, &wants)?;
     let answer = write_file(
-        rt, source, length, name, sink, window, gate, options, survey, &mut space, block,
+        crew, source, length, name, sink, window, options, survey, &mut space, block,
     );
     space.give_back(meter, window);
     answer

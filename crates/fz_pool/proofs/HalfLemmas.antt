@@ -1,10 +1,9 @@
 -- The slots of two halves, and the lengths of their buffers.
-use Rattle.std.proofs.Common.{◌≡◌, ℕ, ◌+◌, ◌-◌, ◌*◌, List, [], ◌∷◌, ◌++◌, map, length, take, drop, replicate, reverse, refl, sym, ap, ◌∙◌, arith}
+use Rattle.std.proofs.Common.{◌≡◌, ℕ, ◌+◌, ◌-◌, ◌*◌, List, [], ◌∷◌, ◌++◌, length, take, drop, replicate, reverse, refl, sym, ap, ◌∙◌, arith}
 use Rattle.std.proofs.lemmas.List.{map-append, reverse-append, replicate-append-replicate, length-map, take-replicate, drop-replicate}
 use Rattle.std.proofs.Math.Seq.{drop-append_seam, take-append_seam}
-use Rattle.fz_pool.specs.declared.slot.Slot.{Slot}
 use Rattle.fz_pool.specs.Laws.{HalvesAlike, BothAlike}
-use Rattle.fz_pool.specs.Window.{AreHalves, Pool, slot_size, slot_sizes}
+use Rattle.fz_pool.specs.Window.{slot_size, slot_sizes}
 
 -- one more slot moved from the end of a list to that of another
 pub one_more : {A : Type 0} (left xs moved all : List A) (x : A) → left ++ reverse moved ≡ all → left ≡ xs ++ x ∷ [] → xs ++ reverse (moved ++ x ∷ []) ≡ all

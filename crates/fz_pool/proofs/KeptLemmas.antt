@@ -5,6 +5,7 @@ use mathlib.Core.Option as maybe
 use lib.ListN.{get_elem?}
 use Rattle.atomic_table.specs.Table.{State}
 use Rattle.atomic_table.proofs.Lists.{at_set, set_else}
+use Rattle.fz_pool.specs.declared.task.Task.{Task}
 use Rattle.fz_pool.specs.declared.slot.Slot.{Slot}
 use Rattle.fz_pool.specs.declared.board.View.{View}
 use Rattle.fz_pool.specs.declared.board.Turn.{Turn}
@@ -15,7 +16,7 @@ use Rattle.fz_pool.specs.Running.{is_unjoined, is_finished, total, tile_of, turn
 use Rattle.fz_pool.proofs.CoreLemmas.{changed_else}
 use Rattle.fz_pool.proofs.TurnLemmas.{below_at, total_set, view_at, turns_set, lead_parts}
 
-module _ (starts : List Slot) (workers : ℕ) (encode : Bool) where
+module _ (starts : List Slot) (workers : ℕ) (task : Task) where
   abbrev St : Type 0
   St = State (Option Slot) View
 
@@ -23,13 +24,13 @@ module _ (starts : List Slot) (workers : ℕ) (encode : Bool) where
   Homes = List (maybe.Option (Option Slot))
 
   abbrev Rule : State (Option Slot) View → Type 0
-  Rule = Kept starts workers encode
+  Rule = Kept starts workers task
 
   abbrev K : ℕ → ℕ → View → Turn → Type 0
-  K = Knows starts workers encode
+  K = Knows starts workers task
 
   abbrev Key : View → Type 0
-  Key = HasKey starts workers encode
+  Key = HasKey starts workers task
 
   later : (t t' j : ℕ) (v : View) (u : Turn) → t ≤ t' → K t j v u → K t' j v u
   later t t' j v Idle l k = (k.0, k.1, omega arith)
@@ -45,7 +46,7 @@ module _ (starts : List Slot) (workers : ℕ) (encode : Bool) where
       (λ (p : (j ≢ id) × (get_elem? vs j ≡ some v)). later t t' j v v.turn l (old j v p.1))
       (at_set vs id j w v e)
 
-  pub led_set : (vs : List View) (id : ℕ) (v w : View) → get_elem? vs id ≡ some v → 0 < id → is_unjoined w.turn ≡ is_unjoined v.turn → Led starts workers encode vs → Led starts workers encode (set vs id w)
+  pub led_set : (vs : List View) (id : ℕ) (v w : View) → get_elem? vs id ≡ some v → 0 < id → is_unjoined w.turn ≡ is_unjoined v.turn → Led starts workers task vs → Led starts workers task (set vs id w)
   led_set vs id v w at some_id same l = let moved = total_set is_unjoined vs id v w at in record {
     left = l.left;
     n = l.n;
@@ -74,7 +75,7 @@ module _ (starts : List Slot) (workers : ℕ) (encode : Bool) where
       → ((i j k : ℕ) → changed (turns s.views) id (tile_of w.turn) i ≡ Some k → changed (turns s.views) id (tile_of w.turn) j ≡ Some k → i ≡ j)
       → t' ≤ length starts + total is_finished (set s.views id w)
       → ((k : ℕ) (y : Slot) → t' ≤ k → get_elem? starts k ≡ some y → get_elem? homes' k ≡ some (some (Some y)))
-      → ((k : ℕ) → k < t' → k < length starts → Gone starts workers encode (changed (turns s.views) id (tile_of w.turn)) homes' k)
+      → ((k : ℕ) → k < t' → k < length starts → Gone starts workers task (changed (turns s.views) id (tile_of w.turn)) homes' k)
       → ((j k : ℕ) → changed (turns s.views) id (tile_of w.turn) j ≡ Some k → get_elem? homes' k ≡ some none)
       → HasStory workers (length starts) t' (changed (turns s.views) id (tile_of w.turn))
       → Rule record { words = set s.words 0 x; homes = homes'; views = set s.views id w }
@@ -93,17 +94,17 @@ module _ (starts : List Slot) (workers : ℕ) (encode : Bool) where
         led = led_set s.views id v w at some_id same r.led;
         tickets = tickets;
         fresh = fresh;
-        gone = subst (λ (f : ℕ → Option ℕ). (k : ℕ) → k < t' → k < length starts → Gone starts workers encode f homes' k) (sym e) gone;
+        gone = subst (λ (f : ℕ → Option ℕ). (k : ℕ) → k < t' → k < length starts → Gone starts workers task f homes' k) (sym e) gone;
         away = subst (λ (f : ℕ → Option ℕ). (j k : ℕ) → f j ≡ Some k → get_elem? homes' k ≡ some none) (sym e) away;
         story = subst (HasStory workers (length starts) t') (sym e) story;
       }
 
   -- a tile that was gone stays so, where the seat id has another turn and its slot does not change
   pub stays_gone : (f : ℕ → Option ℕ) (id : ℕ) (o : Option ℕ) (homes homes' : Homes) (k : ℕ) → ¬ (f id ≡ Some k) → get_elem? homes' k ≡ get_elem? homes k
-      → Gone starts workers encode f homes k → Gone starts workers encode (changed f id o) homes' k
+      → Gone starts workers task f homes k → Gone starts workers task (changed f id o) homes' k
   stays_gone f id o homes homes' k not_mine same g = ⊎_elim
       (λ (p : (j : ℕ) × (f j ≡ Some k)). inl (p.0, changed_else f id o p.0 (λ e. not_mine (ap f (sym e) ∙ p.1)) ∙ p.1))
-      (λ (p : (x y : Slot) × (get_elem? starts k ≡ some x) × (get_elem? homes k ≡ some (some (Some y))) × IsResult encode x y). inr (p.0, p.1, p.2, same ∙ p.3, p.4))
+      (λ (p : (x y : Slot) × (get_elem? starts k ≡ some x) × (get_elem? homes k ≡ some (some (Some y))) × IsResult task x y). inr (p.0, p.1, p.2, same ∙ p.3, p.4))
       g
 
   -- the number of slots that a seat knows of

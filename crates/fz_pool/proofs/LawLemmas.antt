@@ -13,6 +13,7 @@ use Rattle.fz_tile.specs.Pixels.{IsBitpix, HoldPixels, halves}
 use Rattle.fz_tile.specs.Codecs.{CanRead, CanWrite}
 use Rattle.fz_tile.specs.TileCode.{TileCode, tile_code, IsWritten, AreElements}
 use Rattle.fz_tile.specs.Laws.{StandsUnrefused, IsRefusedOnce, FillsColumn}
+use Rattle.fz_pool.specs.declared.task.Task.{Task}
 use Rattle.fz_pool.specs.declared.slot.Job.{Job}
 use Rattle.fz_pool.specs.declared.slot.Slot.{Slot}
 use Rattle.fz_pool.specs.Slots.{bits_of_pixel, places_of, numbers_of, record_of, IsForEncoding, IsEncoded, IsReady, HasNumbers, HasFault}
@@ -32,8 +33,8 @@ put_is w i x y at size = record {
   workers = refl;
 }
 
-pub next_ready : (encode : Bool) (i : ℕ) (old new : Pool) (x : Slot) → AreReady encode i old.slots → IsPut old i x new → IsReady encode x → AreReady encode (i + 1) new.slots
-next_ready encode i old new x are put is = more_ready (IsReady encode) old.slots new.slots i (λ d. subst (IsReady encode) (sym (put.here d)) is) put.others are
+pub next_ready : (task : Task) (i : ℕ) (old new : Pool) (x : Slot) → AreReady task i old.slots → IsPut old i x new → IsReady task x → AreReady task (i + 1) new.slots
+next_ready task i old new x are put is = more_ready (IsReady task) old.slots new.slots i (λ d. subst (IsReady task) (sym (put.here d)) is) put.others are
 
 -- ---- the tiles of a call
 

@@ -1,31 +1,33 @@
 -- What a call over a window asks of its first slots, what it leaves in them, and what it keeps.
-use Rattle.std.specs.Prelude.{◌≡◌, ℕ, ◌<◌, ◌≤◌, Bool, true, false, List, length, Result, OnErr, slice_index_or}
+use Rattle.std.specs.Prelude.{◌≡◌, ℕ, ◌<◌, ◌≤◌, List, length, Result, OnErr, slice_index_or}
 use Rattle.fz_tile.specs.declared.fault.TileFault.{TileFault}
 use Rattle.fz_pool.specs.declared.slot.Slot.{Slot}
+use Rattle.fz_pool.specs.declared.task.Task.{Task}
+use Rattle.fz_pool.specs.declared.task.Task.TheVariants.{Encode, Decode}
 use Rattle.fz_pool.specs.Slots.{numbers_for, record_of, HasNumbers, HasFault, IsReady, IsResult}
 use Rattle.fz_pool.specs.Window.{Pool, slot_sizes}
 
 -- each of the first slots is ready for its call
-abbrev pub AreReady : Bool → ℕ → List Slot → Type 0
-AreReady encode count slots = (i : ℕ) (d : Slot) → i < count → IsReady encode (slice_index_or slots i d)
+abbrev pub AreReady : Task → ℕ → List Slot → Type 0
+AreReady task count slots = (i : ℕ) (d : Slot) → i < count → IsReady task (slice_index_or slots i d)
 
 -- each of the first slots is ready to be encoded, or to be decoded
 abbrev pub AreForEncoding : ℕ → List Slot → Type 0
-AreForEncoding = AreReady true
+AreForEncoding = AreReady Encode
 
 abbrev pub AreForDecoding : ℕ → List Slot → Type 0
-AreForDecoding = AreReady false
+AreForDecoding = AreReady Decode
 
 -- each of the first slots is what comes of itself
-abbrev pub AreResults : Bool → ℕ → List Slot → List Slot → Type 0
-AreResults encode count old new = (i : ℕ) (d : Slot) → i < count → IsResult encode (slice_index_or old i d) (slice_index_or new i d)
+abbrev pub AreResults : Task → ℕ → List Slot → List Slot → Type 0
+AreResults task count old new = (i : ℕ) (d : Slot) → i < count → IsResult task (slice_index_or old i d) (slice_index_or new i d)
 
 -- each of the first slots was encoded, or decoded
 abbrev pub AreEncoded : ℕ → List Slot → List Slot → Type 0
-AreEncoded = AreResults true
+AreEncoded = AreResults Encode
 
 abbrev pub AreDecoded : ℕ → List Slot → List Slot → Type 0
-AreDecoded = AreResults false
+AreDecoded = AreResults Decode
 
 -- the other slots are as before
 abbrev pub AreSameFrom : ℕ → List Slot → List Slot → Type 0

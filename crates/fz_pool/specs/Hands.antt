@@ -8,6 +8,7 @@ use Rattle.fz_pool.specs.declared.slot.Slot.{Slot}
 use Rattle.fz_pool.specs.declared.board.TableKey.{TableKey}
 use Rattle.fz_pool.specs.declared.board.View.{View}
 use Rattle.fz_pool.specs.declared.board.Turn.TheVariants.{Idle, Tile, Ended, Lead}
+use Rattle.fz_pool.specs.declared.task.Task.{Task}
 use Rattle.fz_pool.specs.Slots.{IsReady, IsResult}
 use Rattle.fz_pool.specs.Running.{starts_of}
 
@@ -33,7 +34,7 @@ pub record HoldsStart (h : Hand) (i : ℕ) : Type 0 where
   pub turn : h.me.0.turn ≡ Tile i
   pub slot : Slot
   pub at : get_elem? h.me.0.starts i ≡ some slot
-  pub ready : IsReady h.me.0.encode slot
+  pub ready : IsReady h.me.0.task slot
   pub held : h.me.1 ≡ (i, Some slot) ∷ []
 
 -- the same, with the slot's result
@@ -42,14 +43,14 @@ pub record HoldsResult (h : Hand) (i : ℕ) : Type 0 where
   pub slot : Slot
   pub at : get_elem? h.me.0.starts i ≡ some slot
   pub after : Slot
-  pub result : IsResult h.me.0.encode slot after
+  pub result : IsResult h.me.0.task slot after
   pub held : h.me.1 ≡ (i, Some after) ∷ []
 
 -- a worker's hand before its first draw, for the slots that its table was made for
-pub record IsSeated (table : TableId) (key : TableKey) (encode : Bool) (h : Hand) : Type 0 where
+pub record IsSeated (table : TableId) (key : TableKey) (task : Task) (h : Hand) : Type 0 where
   pub at : h.table_id ≡ table
   pub has_starts : h.me.0.starts ≡ starts_of key
-  pub encodes : h.me.0.encode ≡ encode
+  pub task_is : h.me.0.task ≡ task
   pub idle : IsIdle h
 
 -- a worker's hand after its last draw
@@ -58,10 +59,10 @@ pub record IsBack (table : TableId) (h : Hand) : Type 0 where
   pub ended : HasEnded h
 
 -- the first seat may still split off so many hands, and so many are not joined again
-pub record Leads (table : TableId) (key : TableKey) (encode : Bool) (left unjoined : ℕ) (late : Bool) (h : Hand) : Type 0 where
+pub record Leads (table : TableId) (key : TableKey) (task : Task) (left unjoined : ℕ) (late : Bool) (h : Hand) : Type 0 where
   pub at : h.table_id ≡ table
   pub has_starts : h.me.0.starts ≡ starts_of key
-  pub encodes : h.me.0.encode ≡ encode
+  pub task_is : h.me.0.task ≡ task
   pub turn : h.me.0.turn ≡ Lead left unjoined late
 
 -- a seat of the same table and number, for the same slots
@@ -70,4 +71,4 @@ pub record IsSame (h h' : Hand) : Type 0 where
   pub id : h'.id ≡ h.id
   pub starts : h'.me.0.starts ≡ h.me.0.starts
   pub workers : h'.me.0.workers ≡ h.me.0.workers
-  pub encode : h'.me.0.encode ≡ h.me.0.encode
+  pub task : h'.me.0.task ≡ h.me.0.task

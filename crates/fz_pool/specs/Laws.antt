@@ -1,8 +1,9 @@
 -- What the laws of this crate say, over the definitions alone.
-use Rattle.std.specs.Prelude.{◌≡◌, ℕ, ◌+◌, ◌*◌, ◌<◌, ◌≤◌, ◌++◌, Bool, ℤ, List, length, map, replicate, slice_get, slice_index_or, Some}
+use Rattle.std.specs.Prelude.{◌≡◌, ℕ, ◌+◌, ◌*◌, ◌<◌, ◌≤◌, ◌++◌, ℤ, List, length, map, replicate, slice_get, slice_index_or, Some}
 use Rattle.fz_tile.specs.declared.codec.Codec.{Codec}
 use Rattle.fz_tile.specs.declared.fault.TileFault.{TileFault}
 use Rattle.fz_tile.specs.TileCode.{tile_code, AreElements}
+use Rattle.fz_pool.specs.declared.task.Task.{Task}
 use Rattle.fz_pool.specs.declared.slot.Slot.{Slot}
 use Rattle.fz_pool.specs.Slots.{bits_of_pixel, record_of, IsForEncoding, IsEncoded, IsReady, HasFault}
 use Rattle.fz_pool.specs.Window.{AreHalves, Pool, fresh_slot, fresh_bytes, slot_size, slot_sizes, asked_for, with_slot, IsPut}
@@ -49,7 +50,7 @@ PutsSlot = (w : Pool) (i : ℕ) (x y : Slot) → slice_get w.slots i ≡ Some x 
 
 -- where those below i are ready, and a slot that is ready is put at i, those below i + 1 are
 abbrev pub ReadiesNext : Type 0
-ReadiesNext = (encode : Bool) (i : ℕ) (old new : Pool) (x : Slot) → AreReady encode i old.slots → IsPut old i x new → IsReady encode x → AreReady encode (i + 1) new.slots
+ReadiesNext = (task : Task) (i : ℕ) (old new : Pool) (x : Slot) → AreReady task i old.slots → IsPut old i x new → IsReady task x → AreReady task (i + 1) new.slots
 
 -- ---- the tiles of a call
 

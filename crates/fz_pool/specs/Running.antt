@@ -9,6 +9,8 @@ use Rattle.fz_pool.specs.declared.board.TableKey.{TableKey}
 use Rattle.fz_pool.specs.declared.board.View.{View}
 use Rattle.fz_pool.specs.declared.board.Turn.{Turn}
 use Rattle.fz_pool.specs.declared.board.Turn.TheVariants.{Idle, Tile, Ended, Spent, Lead}
+use Rattle.fz_pool.specs.declared.task.Task.{Task}
+use Rattle.fz_pool.specs.declared.task.Task.TheVariants.{Decode}
 use Rattle.fz_pool.specs.Slots.{IsReady, IsResult}
 use Rattle.fz_pool.specs.WindowCore.{Event, start, out, done, WindowState, first_state, AreEvents, last_state}
 
@@ -20,8 +22,8 @@ abbrev pub turned_to : View → Turn → View
 turned_to v t = record v { turn = t }
 
 -- the view of the first seat before any split
-abbrev pub leading : List Slot → ℕ → Bool → View
-leading starts workers encode = record { starts = starts; workers = workers; encode = encode; turn = Lead workers 0 false; seen = 0 }
+abbrev pub leading : List Slot → ℕ → Task → View
+leading starts workers task = record { starts = starts; workers = workers; task = task; turn = Lead workers 0 false; seen = 0 }
 
 -- a seat that was not joined away
 abbrev pub is_unjoined : Turn → ℕ
@@ -79,13 +81,13 @@ pub record HasStory (workers count ticket : ℕ) (turn : ℕ → Option ℕ) : T
   pub are : AreEvents workers count (λ k. k) first_state events
   pub shows : Shows count ticket turn (last_state workers count (λ k. k) first_state events)
 
--- for the slots' starts, the number of workers, and whether the slots are encoded
-module _ (starts : List Slot) (workers : ℕ) (encode : Bool) where
+-- for the slots' starts, the number of workers, and what is done with the slots
+module _ (starts : List Slot) (workers : ℕ) (task : Task) where
   -- the view holds the same as the key
   pub record HasKey (v : View) : Type 0 where
     pub has_starts : v.starts ≡ starts
     pub has_workers : v.workers ≡ workers
-    pub has_encode : v.encode ≡ encode
+    pub has_task : v.task ≡ task
 
   -- what is known of the view of the seat j, by its turn
   abbrev pub Knows : ℕ → ℕ → View → Turn → Type 0
@@ -98,7 +100,7 @@ module _ (starts : List Slot) (workers : ℕ) (encode : Bool) where
   -- Of a tile that was drawn: it is a seat's turn, or its slot is at home with its result
   abbrev pub Gone : (ℕ → Option ℕ) → List (maybe.Option (Option Slot)) → ℕ → Type 0
   Gone turn homes k = ((j : ℕ) × (turn j ≡ Some k))
-      ⊎ ((x y : Slot) × (get_elem? starts k ≡ some x) × (get_elem? homes k ≡ some (some (Some y))) × IsResult encode x y)
+      ⊎ ((x y : Slot) × (get_elem? starts k ≡ some x) × (get_elem? homes k ≡ some (some (Some y))) × IsResult task x y)
 
   -- the first seat's view counts the others
   pub record Led (views : List View) : Type 0 where
@@ -128,7 +130,7 @@ module _ (starts : List Slot) (workers : ℕ) (encode : Bool) where
     -- there are at most 128 such slots, and 1 to 64 workers
     pub small : (length starts ≤ 128) × (0 < workers) × (workers ≤ 64)
     -- each slot was ready for its call
-    pub ready : (k : ℕ) (x : Slot) → get_elem? starts k ≡ some x → IsReady encode x
+    pub ready : (k : ℕ) (x : Slot) → get_elem? starts k ≡ some x → IsReady task x
     -- each seat's view is true
     pub each : (j : ℕ) (v : View) → get_elem? s.views j ≡ some v → Knows ticket j v v.turn
     -- no two seats have the same tile
@@ -159,7 +161,7 @@ pub record DrewTile (m : SeatState) (n : ℕ) (m' : SeatState) : Type 0 where
   pub view : m'.0 ≡ record m.0 { turn = Tile n; seen = n + 1 }
   pub slot : Slot
   pub at : get_elem? m.0.starts n ≡ some slot
-  pub ready : IsReady m.0.encode slot
+  pub ready : IsReady m.0.task slot
   pub held : m'.1 ≡ (n, Some slot) ∷ m.1
 
 -- a draw that found the word n and no tile of this number
@@ -199,4 +201,4 @@ abbrev pub view_after_join : View → View → View
 view_after_join v w = turned_to v (turn_after_join v.turn)
 
 abbrev pub joined_view : View
-joined_view = record { starts = []; workers = 0; encode = false; turn = Spent; seen = 0 }
+joined_view = record { starts = []; workers = 0; task = Decode; turn = Spent; seen = 0 }

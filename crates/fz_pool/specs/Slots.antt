@@ -9,6 +9,8 @@ use Rattle.fz_tile.specs.Refusals.{IsFault}
 use Rattle.fz_tile.specs.TileCode.{tile_code, IsWritten}
 use Rattle.fz_pool.specs.declared.slot.Job.{Job}
 use Rattle.fz_pool.specs.declared.slot.Slot.{Slot}
+use Rattle.fz_pool.specs.declared.task.Task.{Task}
+use Rattle.fz_pool.specs.declared.task.Task.TheVariants.{Encode, Decode}
 
 -- the bits of a pixel
 abbrev pub bits_of_pixel : Job → ℕ
@@ -80,11 +82,16 @@ pub record IsDecoded (x y : Slot) : Type 0 where
   pub size : length y.numbers ≡ length x.numbers
 
 -- the slot is ready to be encoded, or to be decoded
-abbrev pub IsReady : Bool → Slot → Type 0
-IsReady true x = IsForEncoding x
-IsReady false x = IsForDecoding x
+abbrev pub IsReady : Task → Slot → Type 0
+IsReady Encode x = IsForEncoding x
+IsReady Decode x = IsForDecoding x
 
 -- the slot y is what comes of x
-abbrev pub IsResult : Bool → Slot → Slot → Type 0
-IsResult true x y = IsEncoded x y
-IsResult false x y = IsDecoded x y
+abbrev pub IsResult : Task → Slot → Slot → Type 0
+IsResult Encode x y = IsEncoded x y
+IsResult Decode x y = IsDecoded x y
+
+-- to encode, or else to decode
+abbrev pub task_of : Bool → Task
+task_of true = Encode
+task_of false = Decode

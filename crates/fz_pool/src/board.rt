@@ -1,6 +1,6 @@
 //! The table that the workers share. Its one word is the ticket: the number of the next tile. Each of
 //! its slots holds a slot of the window.
-use crate::Slot;
+use crate::{Slot, Task};
 use atomic_table::{Seat, Table, TableRule};
 use std::alloc::Global;
 use std::collections::LinkedList;
@@ -16,8 +16,8 @@ pub struct TableKey {
     pub count: u64,
     /// How many seats are split off the first one.
     pub workers: u64,
-    /// True where the slots are encoded, false where they are decoded.
-    pub encode: bool,
+    /// Whether the slots are encoded or decoded.
+    pub task: Task,
 }
 
 /// What a seat has to do. No value of it is made.
@@ -41,8 +41,8 @@ pub struct View {
     pub starts: LinkedList<Slot>,
     /// How many seats are split off the first one.
     pub workers: u64,
-    /// True where the slots are encoded, false where they are decoded.
-    pub encode: bool,
+    /// Whether the slots are encoded or decoded.
+    pub task: Task,
     /// What this seat has to do.
     pub turn: Turn,
     /// At most the ticket: one more than the ticket of its last draw.
@@ -55,9 +55,9 @@ pub struct Running;
 impl TableRule<Option<Slot>, View, TableKey> for Running {
     ghost use Rattle.fz_pool.specs.Running.{Kept, leading, starts_of};
 
-    ghost holds = { λ key. Kept (starts_of key) key.workers key.encode };
+    ghost holds = { λ key. Kept (starts_of key) key.workers key.task };
 
-    ghost first = { λ key. leading (starts_of key) key.workers key.encode };
+    ghost first = { λ key. leading (starts_of key) key.workers key.task };
 }
 
 /// The table of one call. Workers step on it with a `Hand`.

@@ -5,7 +5,7 @@ ghost use Rattle.fz_tile.specs.Codecs.{CanRead};
 ghost use Rattle.fz_tile.specs.Record.{read_len};
 ghost use Rattle.fz_pool.specs.Slots.{places_of, ReadsAs, IsReady, IsResult, IsForEncoding, IsEncoded, IsForDecoding, IsDecoded};
 
-use crate::{Job, Slot};
+use crate::{Job, Slot, Task};
 use fz_tile::{TileFault, decode_tile, encode_tile};
 
 // How many places the job uses.
@@ -74,13 +74,12 @@ fn decode_slot(slot: &mut Slot)
 }
 
 /// Encodes or decodes the slot's tile.
-pub(crate) fn code_slot(slot: &mut Slot, encode: bool)
-    requires { IsReady encode slot.old }
-    ensures { IsResult encode slot.old slot.new }
+pub(crate) fn code_slot(slot: &mut Slot, task: Task)
+    requires { IsReady task slot.old }
+    ensures { IsResult task slot.old slot.new }
 {
-    if encode {
-        encode_slot(slot);
-    } else {
-        decode_slot(slot);
+    match task {
+        Task::Encode => encode_slot(slot),
+        Task::Decode => decode_slot(slot),
     }
 }

@@ -5,13 +5,11 @@ ghost use Rattle.fz_pool.specs.Window.{IsFilled};
 ghost use Rattle.fz_pool.specs.Calls.{AreForDecoding, AreDecoded, HaveNumbers, KeepsWindow, IsLowestFault};
 
 use crate::round::code_slots;
-use crate::{Slot, Window};
+use crate::task::Start;
+use crate::{Crew, Slot, Task, Window};
 use fz_base::{Gate, NoMemory};
 use fz_tile::TileFault;
 use std::thread::Threads;
-
-// The slots are not encoded, but decoded.
-const ENCODE: bool = false;
 
 // The lowest of the first slots that has a fault.
 fn lowest_fault(slots: &[Slot], count: u32) -> Option<(u32, TileFault)>
@@ -50,16 +48,19 @@ pub fn decode_window<R: Threads + Sync, G: Gate>(
     ensures kept { KeepsWindow result count window.old window.new }
     ensures none { count ≡ 0 → result ≡ Ok None }
 {
-    let workers = window.workers();
-    let (answer, ()) = code_slots(
+    let crew = Crew {
         rt,
+        gate,
+        workers: window.workers(),
+    };
+    let start = Start::of(window.slot(0));
+    let (answer, ()) = code_slots(
+        &crew,
         window.alloc,
         &mut window.slots,
         count,
-        workers,
-        gate,
-        ENCODE,
-        false,
+        Task::Decode,
+        start,
         &mut || {},
     );
     match answer {
@@ -68,19 +69,16 @@ pub fn decode_window<R: Threads + Sync, G: Gate>(
     }
 }
 
-/// Decodes as `decode_window` does, but by so many workers, and does the job beside it on this thread, which then
+/// Decodes as `decode_window` does, but by the workers of a crew, and does the job beside it on this thread, which then
 /// helps. The job is done once, whatever the answer is.
 pub fn decode_beside<R: Threads + Sync, G: Gate, J: FnMut() -> B, B>(
-    rt: &R,
+    crew: &Crew<'_, R, G>,
     window: &mut Window,
     count: u32,
-    workers: u32,
-    gate: &G,
     job: &mut J,
 ) -> (Result<Option<(u32, TileFault)>, NoMemory>, B)
     requires filled { IsFilled window.old }
     requires count { count ≤ 2 * window.old.workers }
-    requires workers { (1 ≤ workers) × (workers ≤ 64) }
     requires ready { AreForDecoding count window.old.slots }
     requires job { J.pre job.old }
     ensures numbers { IfOk result.0 (λ o. IfNone o (HaveNumbers count window.old.slots window.new.slots)) }
@@ -92,15 +90,14 @@ pub fn decode_beside<R: Threads + Sync, G: Gate, J: FnMut() -> B, B>(
 {
     // This call tells that there are no more than 128 slots.
     let _half = window.workers();
+    let start = Start::with_job(window.slot(0), count);
     let (answer, done) = code_slots(
-        rt,
+        crew,
         window.alloc,
         &mut window.slots,
         count,
-        workers,
-        gate,
-        ENCODE,
-        true,
+        Task::Decode,
+        start,
         job,
     );
     match answer {

@@ -3,8 +3,9 @@ ghost use Rattle.std.specs.Prelude.{◌≡◌, ◌*◌, ◌≤◌, Ok, OnOk};
 ghost use Rattle.fz_pool.specs.Window.{IsFilled};
 ghost use Rattle.fz_pool.specs.Calls.{AreForEncoding, AreEncoded, KeepsWindow};
 
-use crate::Window;
 use crate::round::code_slots;
+use crate::task::Start;
+use crate::{Crew, Task, Window};
 use fz_base::{Gate, NoMemory};
 use std::thread::Threads;
 
@@ -27,34 +28,34 @@ pub fn encode_window<R: Threads + Sync, G: Gate>(
     ensures kept { KeepsWindow result count window.old window.new }
     ensures none { count ≡ 0 → result ≡ Ok tt }
 {
-    let workers = window.workers();
-    code_slots(
+    let crew = Crew {
         rt,
+        gate,
+        workers: window.workers(),
+    };
+    let start = Start::of(window.slot(0));
+    code_slots(
+        &crew,
         window.alloc,
         &mut window.slots,
         count,
-        workers,
-        gate,
-        true,
-        false,
+        Task::Encode,
+        start,
         &mut || {},
     )
     .0
 }
 
-/// Encodes as `encode_window` does, but by so many workers, and does the job beside it on this thread, which then
+/// Encodes as `encode_window` does, but by the workers of a crew, and does the job beside it on this thread, which then
 /// helps. The job is done once, whatever the answer is.
 pub fn encode_beside<R: Threads + Sync, G: Gate, J: FnMut() -> B, B>(
-    rt: &R,
+    crew: &Crew<'_, R, G>,
     window: &mut Window,
     count: u32,
-    workers: u32,
-    gate: &G,
     job: &mut J,
 ) -> (Result<(), NoMemory>, B)
     requires filled { IsFilled window.old }
     requires count { count ≤ 2 * window.old.workers }
-    requires workers { (1 ≤ workers) × (workers ≤ 64) }
     requires ready { AreForEncoding count window.old.slots }
     requires job { J.pre job.old }
     ensures encoded { OnOk result.0 (AreEncoded count window.old.slots window.new.slots) }
@@ -64,15 +65,14 @@ pub fn encode_beside<R: Threads + Sync, G: Gate, J: FnMut() -> B, B>(
 {
     // This call tells that there are no more than 128 slots.
     let _half = window.workers();
+    let start = Start::with_job(window.slot(0), count);
     code_slots(
-        rt,
+        crew,
         window.alloc,
         &mut window.slots,
         count,
-        workers,
-        gate,
-        true,
-        true,
+        Task::Encode,
+        start,
         job,
     )
 }

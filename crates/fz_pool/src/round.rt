@@ -11,72 +11,64 @@ ghost use Rattle.fz_pool.specs.Window.{slot_sizes};
 ghost use Rattle.fz_pool.specs.Hands.{Leads};
 ghost use Rattle.fz_pool.specs.Calls.{AreReady, AreResults, AreSameFrom};
 
-use crate::Slot;
 use crate::board::{Board, Hand, TableKey};
 use crate::moving::{gather, move_back, move_out};
-use crate::workers::{Start, run};
+use crate::task::Start;
+use crate::workers::run;
+use crate::{Crew, Slot, Task};
 use atomic_table::{Closed, Refused, Table};
 use fz_base::{Gate, NoMemory};
 use std::alloc::Global;
 use std::snapshot::Snapshot;
 use std::thread::Threads;
 
-// From so many pixels on a tile takes longer than the start of some threads.
-const LARGE: u32 = 16_384;
-
 // Has the table's tiles worked on, and the job done, and closes it.
 fn work_all<R: Threads + Sync, G: Gate, J: FnMut() -> B, B>(
-    rt: &R,
+    crew: &Crew<'_, R, G>,
     board: Board,
     mut first: Hand,
     hands: Vec<Hand>,
-    workers: usize,
-    gate: &G,
-    encode: bool,
+    task: Task,
     start: Start,
     job: &mut J,
 ) -> (Closed<Option<Slot>, Global>, B)
     requires table { board.shared.table_id.words ≡ 1 }
-    requires workers { (0 < workers) × (workers ≤ 64) }
-    requires lead { Leads board.shared.table_id board.shared.key encode workers 0 false first }
-    requires encode { board.shared.key.encode ≡ encode }
+    requires lead { Leads board.shared.table_id board.shared.key task crew.now.workers 0 false first }
+    requires task { board.shared.key.task ≡ task }
     requires empty { hands.items ≡ [] }
-    requires room { workers ≤ vec_capacity hands }
+    requires room { crew.now.workers ≤ vec_capacity hands }
     requires job { J.pre job.old }
     ensures full { IsFull result.0.slots × (slots_len result.0.slots ≡ board.shared.table_id.slots) }
     ensures results { (k : ℕ) (x : Slot) → get_elem? (starts_of board.shared.key) k ≡ some x
-        → (y : Slot) × (get_elem? (slots_items result.0.slots) k ≡ some (Some y)) × IsResult encode x y }
+        → (y : Slot) × (get_elem? (slots_items result.0.slots) k ≡ some (Some y)) × IsResult task x y }
     ensures job { J.step job.old result.1 job.new }
 {
-    let answer = run(
-        rt, &board, &mut first, hands, workers, gate, encode, start, job,
-    );
+    let answer = run(crew, &board, &mut first, hands, task, start, job);
     (board.close_with(first), answer)
 }
 
 // Makes a table of the first slots, has it worked on, and moves the slots back. The job is done in any case.
 fn code_on_table<R: Threads + Sync, G: Gate, J: FnMut() -> B, B>(
-    rt: &R,
+    crew: &Crew<'_, R, G>,
     alloc: Global,
     slots: &mut [Slot],
     key: &TableKey,
-    gate: &G,
     start: Start,
     job: &mut J,
 ) -> (Result<(), NoMemory>, B)
     requires was { key.now.slots.value.items ≡ slots.old }
-    requires workers { (0 < key.now.workers) × (key.now.workers ≤ 64) }
+    requires workers { key.now.workers ≡ crew.now.workers }
     requires near { (key.now.count ≤ length slots.old) × (key.now.count ≤ 128) }
-    requires ready { AreReady key.now.encode key.now.count slots.old }
+    requires ready { AreReady key.now.task key.now.count slots.old }
     requires job { J.pre job.old }
-    ensures results { OnOk result.0 (AreResults key.now.encode key.now.count slots.old slots.new) }
+    ensures results { OnOk result.0 (AreResults key.now.task key.now.count slots.old slots.new) }
     ensures others { AreSameFrom key.now.count slots.old slots.new }
     ensures sizes { slot_sizes slots.new ≡ slot_sizes slots.old }
     ensures no_memory { OnErr result.0 (slots.new ≡ slots.old) }
     ensures job { J.step job.old result.1 job.new }
 {
     let count = key.count as usize;
-    let workers = key.workers as usize;
+    let workers = crew.workers as usize;
     let Ok(mut out) = Vec::with_capacity(alloc, count) else {
         return (Err(NoMemory), job());
     };
@@ -86,9 +78,7 @@ fn code_on_table<R: Threads + Sync, G: Gate, J: FnMut() -> B, B>(
     move_out(slots, &mut out, count, alloc);
     match Table::new(alloc, &[0], out, key) {
         Ok((board, first)) => {
-            let (mut closed, answer) = work_all(
-                rt, board, first, hands, workers, gate, key.encode, start, job,
-            );
+            let (mut closed, answer) = work_all(crew, board, first, hands, key.task, start, job);
             gather(&mut closed, slots, count);
             closed.free();
             (Ok(()), answer)
@@ -100,34 +90,20 @@ fn code_on_table<R: Threads + Sync, G: Gate, J: FnMut() -> B, B>(
     }
 }
 
-// How the workers of a call over slots of so many pixels begin.
-fn start_of(pixels: u32, count: u32, beside: bool) -> Start {
-    if beside {
-        Start::Beside(u64::from(pixels) * u64::from(count))
-    } else if pixels >= LARGE {
-        Start::AtOnce
-    } else {
-        Start::OnDemand
-    }
-}
-
-/// Encodes or decodes the first slots, with so many workers, and does the job: beside them, or after them.
+/// Encodes or decodes the first slots, and does the job: beside them, or after them.
 pub(crate) fn code_slots<R: Threads + Sync, G: Gate, J: FnMut() -> B, B>(
-    rt: &R,
+    crew: &Crew<'_, R, G>,
     alloc: Global,
     slots: &mut Vec<Slot>,
     count: u32,
-    workers: u32,
-    gate: &G,
-    encode: bool,
-    beside: bool,
+    task: Task,
+    start: Start,
     job: &mut J,
 ) -> (Result<(), NoMemory>, B)
-    requires workers { (0 < workers) × (workers ≤ 64) }
     requires near { (count ≤ vec_len slots.old) × (count ≤ 128) }
-    requires ready { AreReady encode count slots.old.items }
+    requires ready { AreReady task count slots.old.items }
     requires job { J.pre job.old }
-    ensures results { OnOk result.0 (AreResults encode count slots.old.items slots.new.items) }
+    ensures results { OnOk result.0 (AreResults task count slots.old.items slots.new.items) }
     ensures others { AreSameFrom count slots.old.items slots.new.items }
     ensures sizes { slot_sizes slots.new.items ≡ slot_sizes slots.old.items }
     ensures len { vec_len slots.new ≡ vec_len slots.old }
@@ -139,12 +115,11 @@ pub(crate) fn code_slots<R: Threads + Sync, G: Gate, J: FnMut() -> B, B>(
     if count == 0 {
         return (Ok(()), job());
     }
-    let start = start_of(slots[0].job.pixels, count, beside);
     let key = TableKey {
         slots: Snapshot::of(slots),
         count: u64::from(count),
-        workers: u64::from(workers),
-        encode,
+        workers: u64::from(crew.workers),
+        task,
     };
-    code_on_table(rt, alloc, slots.as_mut_slice(), &key, gate, start, job)
+    code_on_table(crew, alloc, slots.as_mut_slice(), &key, start, job)
 }

@@ -1,7 +1,9 @@
 //! The three calls that a worker makes, each in turn, until no tile is left.
 ghost use Rattle.std.specs.Prelude.{◌≡◌, ℕ, ◌+◌, ◌<◌, ◌≤◌, IfSome, IfNone};
+ghost use Rattle.fz_pool.specs.Slots.{task_of};
 ghost use Rattle.fz_pool.specs.Hands.{IsIdle, HoldsStart, HoldsResult, HasEnded, IsSame, IsSeatOf};
 
+use crate::Task;
 use crate::board::{Board, Hand};
 use crate::code::code_slot;
 use crate::step_facts::{DrawFact, HomeFact};
@@ -29,14 +31,26 @@ pub fn draw(board: &Board, hand: &mut Hand) -> Option<u32>
 pub fn work(board: &Board, hand: &mut Hand, i: u32, encode: bool)
     requires seat { IsSeatOf board.now.shared.table_id hand.old }
     requires start { HoldsStart hand.old i }
-    requires encode { encode ≡ hand.old.me.0.encode }
+    requires task { task_of encode ≡ hand.old.me.0.task }
+    ensures same { IsSame hand.old hand.new }
+    ensures seen { hand.new.me.0.seen ≡ hand.old.me.0.seen }
+    ensures done { HoldsResult hand.new i }
+{
+    work_on(board, hand, i, Task::of(encode));
+}
+
+/// The same by a task.
+pub(crate) fn work_on(board: &Board, hand: &mut Hand, i: u32, task: Task)
+    requires seat { IsSeatOf board.now.shared.table_id hand.old }
+    requires start { HoldsStart hand.old i }
+    requires task { task ≡ hand.old.me.0.task }
     ensures same { IsSame hand.old hand.new }
     ensures seen { hand.new.me.0.seen ≡ hand.old.me.0.seen }
     ensures done { HoldsResult hand.new i }
 {
     let slot = board.shared.exchange(hand, i as usize, None);
     let Some(mut slot) = slot else { unreachable!() };
-    code_slot(&mut slot, encode);
+    code_slot(&mut slot, task);
     let _ = board.shared.exchange(hand, i as usize, Some(slot));
 }
 

@@ -9,7 +9,9 @@ ghost use Rattle.fz_pool.specs.Hands.{IsIdle, HoldsStart, HasEnded, IsSame, IsSe
 
 use crate::board::{Board, Hand};
 use crate::step_facts::{JoinFact, SplitFact};
-use crate::steps::{draw, home, work};
+use crate::steps::{draw, home, work_on};
+use crate::task::Start;
+use crate::{Crew, Task};
 use fz_base::Gate;
 use std::thread;
 use std::thread::{Threads, available_parallelism, join_mut};
@@ -31,28 +33,28 @@ fn tile_number(board: &Board, hand: &mut Hand, i: u32) -> u32
 }
 
 // One worker draws tiles until none is left.
-fn code_tiles<G: Gate>(board: &Board, hand: &mut Hand, gate: &G, worker: u32, encode: bool)
+fn code_tiles<G: Gate>(board: &Board, hand: &mut Hand, gate: &G, worker: u32, task: Task)
     requires seat { IsSeatOf board.now.shared.table_id hand.old }
     requires idle { IsIdle hand.old }
-    requires encode { encode ≡ hand.old.me.0.encode }
+    requires task { task ≡ hand.old.me.0.task }
     ensures same { IsSame hand.old hand.new }
     ensures ended { HasEnded hand.new }
 {
     while let Some(i) = draw(board, hand) {
         gate.pass(worker, tile_number(board, hand, i));
-        work(board, hand, i, encode);
+        work_on(board, hand, i, task);
         home(board, hand);
     }
 }
 
 // Splits off a hand for each worker.
-fn split_hands(board: &Board, first: &mut Hand, hands: &mut Vec<Hand>, workers: usize, encode: bool)
+fn split_hands(board: &Board, first: &mut Hand, hands: &mut Vec<Hand>, workers: usize, task: Task)
     requires table { board.now.shared.table_id.words ≡ 1 }
-    requires lead { Leads board.now.shared.table_id board.now.shared.key encode workers 0 false first.old }
+    requires lead { Leads board.now.shared.table_id board.now.shared.key task workers 0 false first.old }
     requires empty { hands.old.items ≡ [] }
     requires room { workers ≤ vec_capacity hands.old }
-    ensures lead { Leads board.now.shared.table_id board.now.shared.key encode 0 workers false first.new }
-    ensures seated { All (IsSeated board.now.shared.table_id board.now.shared.key encode) hands.new.items }
+    ensures lead { Leads board.now.shared.table_id board.now.shared.key task 0 workers false first.new }
+    ensures seated { All (IsSeated board.now.shared.table_id board.now.shared.key task) hands.new.items }
     ensures count { vec_len hands.new ≡ workers }
 {
     for _i in 0..workers {
@@ -61,12 +63,12 @@ fn split_hands(board: &Board, first: &mut Hand, hands: &mut Vec<Hand>, workers: 
 }
 
 // Joins the hands again.
-fn join_hands(board: &Board, first: &mut Hand, mut hands: Vec<Hand>, encode: bool)
+fn join_hands(board: &Board, first: &mut Hand, mut hands: Vec<Hand>, task: Task)
     requires table { board.now.shared.table_id.words ≡ 1 }
     requires some { 0 < vec_len hands }
-    requires lead { Leads board.now.shared.table_id board.now.shared.key encode 0 (vec_len hands) false first.old }
+    requires lead { Leads board.now.shared.table_id board.now.shared.key task 0 (vec_len hands) false first.old }
     requires back { All (IsBack board.now.shared.table_id) hands.items }
-    ensures { Leads board.now.shared.table_id board.now.shared.key encode 0 0 true first.new }
+    ensures { Leads board.now.shared.table_id board.now.shared.key task 0 0 true first.new }
 {
     while let Some(hand) = hands.pop() {
         board.shared.join_seat::<JoinFact>(first, hand);
@@ -75,10 +77,9 @@ fn join_hands(board: &Board, first: &mut Hand, mut hands: Vec<Hand>, encode: boo
 
 // Has each hand work in its turn, on this thread and on others that start at once.
 fn work_at_once<R: Threads + Sync, G: Gate>(
-    rt: &R,
+    crew: &Crew<'_, R, G>,
     board: &Board,
-    gate: &G,
-    encode: bool,
+    task: Task,
     worker: usize,
     threads: usize,
     hands: &mut [Hand],
@@ -86,18 +87,19 @@ fn work_at_once<R: Threads + Sync, G: Gate>(
     requires table { board.now.shared.table_id.words ≡ 1 }
     requires workers { worker + length hands.old ≤ 64 }
     requires threads { 0 < threads }
-    requires seated { All (IsSeated board.now.shared.table_id board.now.shared.key encode) hands.old }
+    requires seated { All (IsSeated board.now.shared.table_id board.now.shared.key task) hands.old }
     ensures { All (IsBack board.now.shared.table_id) hands.new }
 {
+    let gate = crew.gate;
     thread::for_each_mut(
-        rt,
+        crew.rt,
         hands,
         threads,
         &|i: usize, hand: &mut Hand|
             requires { (worker + i < 64) × (board.now.shared.table_id.words ≡ 1)
-                × IsSeated board.now.shared.table_id board.now.shared.key encode hand.old }
+                × IsSeated board.now.shared.table_id board.now.shared.key task hand.old }
             ensures { IsBack board.entry.now.shared.table_id hand.new }
-        { code_tiles(board, hand, gate, (worker + i) as u32, encode) },
+        { code_tiles(board, hand, gate, (worker + i) as u32, task) },
     );
 }
 
@@ -115,33 +117,31 @@ fn one_more_pays(board: &Board, threads: usize) -> bool
 // Has each hand work. A new thread does the same with all but the first hand, where one more pays.
 #[cycle(on_demand)]
 fn work_on_demand<R: Threads + Sync, G: Gate>(
-    rt: &R,
+    crew: &Crew<'_, R, G>,
     board: &Board,
-    gate: &G,
-    encode: bool,
+    task: Task,
     worker: usize,
     hands: &mut [Hand],
 )
     requires table { board.now.shared.table_id.words ≡ 1 }
     requires workers { worker + length hands.old ≤ 64 }
-    requires seated { All (IsSeated board.now.shared.table_id board.now.shared.key encode) hands.old }
+    requires seated { All (IsSeated board.now.shared.table_id board.now.shared.key task) hands.old }
     ensures { All (IsBack board.now.shared.table_id) hands.new }
 {
     if hands.len() < 2 || !one_more_pays(board, worker) {
-        work_at_once(rt, board, gate, encode, worker, 1, hands);
+        work_at_once(crew, board, task, worker, 1, hands);
         return;
     }
     let (own, others) = hands.split_at_mut(1);
-    work_beside(rt, board, gate, encode, worker, own, others);
+    work_beside(crew, board, task, worker, own, others);
 }
 
 // Starts a thread for the other hands, and then has the own hand work on this one.
 #[cycle(on_demand)]
 fn work_beside<R: Threads + Sync, G: Gate>(
-    rt: &R,
+    crew: &Crew<'_, R, G>,
     board: &Board,
-    gate: &G,
-    encode: bool,
+    task: Task,
     worker: usize,
     own: &mut [Hand],
     others: &mut [Hand],
@@ -149,23 +149,23 @@ fn work_beside<R: Threads + Sync, G: Gate>(
     requires table { board.now.shared.table_id.words ≡ 1 }
     requires one { length own.old ≡ 1 }
     requires workers { worker + 1 + length others.old ≤ 64 }
-    requires own { All (IsSeated board.now.shared.table_id board.now.shared.key encode) own.old }
-    requires others { All (IsSeated board.now.shared.table_id board.now.shared.key encode) others.old }
+    requires own { All (IsSeated board.now.shared.table_id board.now.shared.key task) own.old }
+    requires others { All (IsSeated board.now.shared.table_id board.now.shared.key task) others.old }
     ensures own { All (IsBack board.now.shared.table_id) own.new }
     ensures others { All (IsBack board.now.shared.table_id) others.new }
 {
     let mut there = ||
         requires { IsSync R.row × IsSync G.row × (board.now.shared.table_id.words ≡ 1)
             × (worker + 1 + length others.now ≤ 64)
-            × All (IsSeated board.now.shared.table_id board.now.shared.key encode) others.now }
+            × All (IsSeated board.now.shared.table_id board.now.shared.key task) others.now }
         ensures { All (IsBack board.entry.now.shared.table_id) others.exit.now }
-    { work_on_demand(rt, board, gate, encode, worker + 1, others) };
+    { work_on_demand(crew, board, task, worker + 1, others) };
     let mut here = ||
         requires { IsSync R.row × IsSync G.row × (board.now.shared.table_id.words ≡ 1) × (worker + length own.now ≤ 64)
-            × All (IsSeated board.now.shared.table_id board.now.shared.key encode) own.now }
+            × All (IsSeated board.now.shared.table_id board.now.shared.key task) own.now }
         ensures { All (IsBack board.entry.now.shared.table_id) own.exit.now }
-    { work_at_once(rt, board, gate, encode, worker, 1, own) };
-    join_mut(rt, &mut there, &mut here);
+    { work_at_once(crew, board, task, worker, 1, own) };
+    join_mut(crew.rt, &mut there, &mut here);
 }
 
 // As many threads as there are processors, but two or more, so that a tile that is held holds up no other.
@@ -194,10 +194,9 @@ fn threads_beside(rt: &impl Threads, pixels: u64, tiles: usize) -> usize
 // tiles that are held hold up no other then.
 #[cycle(beside)]
 fn work_with<R: Threads + Sync, G: Gate, J: FnMut() -> B, B>(
-    rt: &R,
+    crew: &Crew<'_, R, G>,
     board: &Board,
-    gate: &G,
-    encode: bool,
+    task: Task,
     worker: usize,
     threads: usize,
     job: &mut J,
@@ -205,27 +204,26 @@ fn work_with<R: Threads + Sync, G: Gate, J: FnMut() -> B, B>(
 ) -> B
     requires table { board.now.shared.table_id.words ≡ 1 }
     requires workers { worker + length hands.old ≤ 64 }
-    requires seated { All (IsSeated board.now.shared.table_id board.now.shared.key encode) hands.old }
+    requires seated { All (IsSeated board.now.shared.table_id board.now.shared.key task) hands.old }
     requires job { J.pre job.old }
     ensures hands { All (IsBack board.now.shared.table_id) hands.new }
     ensures job { J.step job.old result job.new }
 {
     if threads == 0 || hands.len() < 2 {
         let answer = job();
-        work_on_demand(rt, board, gate, encode, worker, hands);
+        work_on_demand(crew, board, task, worker, hands);
         return answer;
     }
     let (own, others) = hands.split_at_mut(1);
-    hand_over(rt, board, gate, encode, worker, threads, job, own, others)
+    hand_over(crew, board, task, worker, threads, job, own, others)
 }
 
 // Starts a thread for its own hand, and then does the same with the others.
 #[cycle(beside)]
 fn hand_over<R: Threads + Sync, G: Gate, J: FnMut() -> B, B>(
-    rt: &R,
+    crew: &Crew<'_, R, G>,
     board: &Board,
-    gate: &G,
-    encode: bool,
+    task: Task,
     worker: usize,
     threads: usize,
     job: &mut J,
@@ -236,8 +234,8 @@ fn hand_over<R: Threads + Sync, G: Gate, J: FnMut() -> B, B>(
     requires one { length own.old ≡ 1 }
     requires workers { worker + 1 + length others.old ≤ 64 }
     requires threads { 0 < threads }
-    requires own { All (IsSeated board.now.shared.table_id board.now.shared.key encode) own.old }
-    requires others { All (IsSeated board.now.shared.table_id board.now.shared.key encode) others.old }
+    requires own { All (IsSeated board.now.shared.table_id board.now.shared.key task) own.old }
+    requires others { All (IsSeated board.now.shared.table_id board.now.shared.key task) others.old }
     requires job { J.pre job.old }
     ensures own { All (IsBack board.now.shared.table_id) own.new }
     ensures others { All (IsBack board.now.shared.table_id) others.new }
@@ -245,98 +243,72 @@ fn hand_over<R: Threads + Sync, G: Gate, J: FnMut() -> B, B>(
 {
     let mut there = ||
         requires { IsSync R.row × IsSync G.row × (board.now.shared.table_id.words ≡ 1) × (worker + length own.now ≤ 64)
-            × All (IsSeated board.now.shared.table_id board.now.shared.key encode) own.now }
+            × All (IsSeated board.now.shared.table_id board.now.shared.key task) own.now }
         ensures { All (IsBack board.entry.now.shared.table_id) own.exit.now }
-    { work_at_once(rt, board, gate, encode, worker, 1, own) };
+    { work_at_once(crew, board, task, worker, 1, own) };
     let mut here = || -> B
         requires { IsSync R.row × IsSync G.row × (board.now.shared.table_id.words ≡ 1)
             × (worker + 1 + length others.now ≤ 64) × (0 < threads) × J.pre job.now
-            × All (IsSeated board.now.shared.table_id board.now.shared.key encode) others.now }
+            × All (IsSeated board.now.shared.table_id board.now.shared.key task) others.now }
         ensures { J.step job.entry.now result job.exit.now × All (IsBack board.entry.now.shared.table_id) others.exit.now }
-    {
-        work_with(
-            rt,
-            board,
-            gate,
-            encode,
-            worker + 1,
-            threads - 1,
-            job,
-            others,
-        )
-    };
-    let ((), answer) = join_mut(rt, &mut there, &mut here);
+    { work_with(crew, board, task, worker + 1, threads - 1, job, others) };
+    let ((), answer) = join_mut(crew.rt, &mut there, &mut here);
     answer
-}
-
-/// How the workers of a call begin.
-#[derive(Clone, Copy)]
-pub(crate) enum Start {
-    /// All at once, as many as there are processors: for large tiles.
-    AtOnce,
-    /// One after the other, while that pays.
-    OnDemand,
-    /// Beside a job, for so many pixels.
-    Beside(u64),
 }
 
 // Has all hands work, and does the job beside them or after them.
 fn work_all_hands<R: Threads + Sync, G: Gate, J: FnMut() -> B, B>(
-    rt: &R,
+    crew: &Crew<'_, R, G>,
     board: &Board,
-    gate: &G,
-    encode: bool,
+    task: Task,
     start: Start,
     job: &mut J,
     hands: &mut [Hand],
 ) -> B
     requires table { board.now.shared.table_id.words ≡ 1 }
     requires workers { length hands.old ≤ 64 }
-    requires seated { All (IsSeated board.now.shared.table_id board.now.shared.key encode) hands.old }
+    requires seated { All (IsSeated board.now.shared.table_id board.now.shared.key task) hands.old }
     requires job { J.pre job.old }
     ensures hands { All (IsBack board.now.shared.table_id) hands.new }
     ensures job { J.step job.old result job.new }
 {
     match start {
         Start::AtOnce => {
-            let threads = processors(rt).min(board.slot_count()).max(1);
-            work_at_once(rt, board, gate, encode, 0, threads, hands);
+            let threads = processors(crew.rt).min(board.slot_count()).max(1);
+            work_at_once(crew, board, task, 0, threads, hands);
             job()
         }
         Start::OnDemand => {
-            work_on_demand(rt, board, gate, encode, 0, hands);
+            work_on_demand(crew, board, task, 0, hands);
             job()
         }
         Start::Beside(pixels) => {
-            let threads = threads_beside(rt, pixels, board.slot_count());
-            work_with(rt, board, gate, encode, 0, threads, job, hands)
+            let threads = threads_beside(crew.rt, pixels, board.slot_count());
+            work_with(crew, board, task, 0, threads, job, hands)
         }
     }
 }
 
-/// Has all tiles drawn and worked on by so many workers, and the job done.
+/// Has all tiles drawn and worked on by the workers, and the job done.
 pub(crate) fn run<R: Threads + Sync, G: Gate, J: FnMut() -> B, B>(
-    rt: &R,
+    crew: &Crew<'_, R, G>,
     board: &Board,
     first: &mut Hand,
     mut hands: Vec<Hand>,
-    workers: usize,
-    gate: &G,
-    encode: bool,
+    task: Task,
     start: Start,
     job: &mut J,
 ) -> B
     requires table { board.now.shared.table_id.words ≡ 1 }
-    requires workers { (0 < workers) × (workers ≤ 64) }
-    requires lead { Leads board.now.shared.table_id board.now.shared.key encode workers 0 false first.old }
+    requires lead { Leads board.now.shared.table_id board.now.shared.key task crew.now.workers 0 false first.old }
     requires empty { hands.items ≡ [] }
-    requires room { workers ≤ vec_capacity hands }
+    requires room { crew.now.workers ≤ vec_capacity hands }
     requires job { J.pre job.old }
-    ensures lead { Leads board.now.shared.table_id board.now.shared.key encode 0 0 true first.new }
+    ensures lead { Leads board.now.shared.table_id board.now.shared.key task 0 0 true first.new }
     ensures job { J.step job.old result job.new }
 {
-    split_hands(board, first, &mut hands, workers, encode);
-    let answer = work_all_hands(rt, board, gate, encode, start, job, hands.as_mut_slice());
-    join_hands(board, first, hands, encode);
+    split_hands(board, first, &mut hands, crew.workers as usize, task);
+    let answer = work_all_hands(crew, board, task, start, job, hands.as_mut_slice());
+    join_hands(board, first, hands, task);
     answer
 }

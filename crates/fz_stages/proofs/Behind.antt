@@ -14,7 +14,7 @@ use Rattle.fz_base.specs.declared.failure.Stop.TheVariants.{Refused, ReadFault, 
 use Rattle.fz_files.specs.Buffers.{AreBounded, IsOfFile, job_bound, job_takings, workers_of}
 use Rattle.fz_files.specs.declared.job.Job.{Job}
 use Rattle.fz_job.specs.Clauses.{Answers, HasJobCause, greatest_bound}
-use Rattle.fz_stages.specs.Stages.{StoppedWorking, Works, later_takings}
+use Rattle.fz_stages.specs.Stages.{HasStages, StoppedWorking, Works, later_takings}
 use Rattle.fz_stages.proofs.Jobs.{takings_of_file}
 use Rattle.fz_stages.proofs.Takings.{past_wider, tells_same}
 
@@ -32,7 +32,7 @@ block_within : (job : Job) (file : List ℕ) (workers : ℕ) → 2880 ≤ job_bo
 unfolding buffer_bound
 block_within job file workers = omega arith
 
-module _ (job : Job) (own : IsOfFile job) (file : List ℕ) (workers limit : ℕ) where
+module _ (job : Job) (own : HasStages job) (file : List ℕ) (workers limit : ℕ) where
   block_past : limit < 2880 → first_past limit (job_takings job file workers) ≡ Some (0, 2880)
   block_past low =
       let test : nat_lt limit (0 + 2880) ≡ true = grind (arith, nat_tests, low) in
@@ -45,13 +45,13 @@ module _ (job : Job) (own : IsOfFile job) (file : List ℕ) (workers limit : ℕ
       ap (first_past limit) (takings_of_file job file workers own)
       ∙ ap (λ b. if b then Some (0, 2880) else first_past limit (later_takings job file (workers_of job workers))) test
 
-pub passes_behind : (job : Job) (held : Option (List ℕ)) (limit workers : ℕ) → IsOfFile job → 2880 ≤ limit →
+pub passes_behind : (job : Job) (held : Option (List ℕ)) (limit workers : ℕ) → HasStages job → 2880 ≤ limit →
     IfSome held (λ file. first_past limit (job_takings job file workers) ≡ first_past limit (later_takings job file (workers_of job workers)))
 passes_behind job held limit workers own room = always held (λ file. first_past limit (job_takings job file workers) ≡ first_past limit (later_takings job file (workers_of job workers))) (λ g. behind_block job own g workers limit room)
 
 -- ---- why the job ended
 
-pub short_cause : (X : Type 0) (job : Job) (held : Option (List ℕ)) (source sink : Tally) (workers : ℕ) (meter : Gauge) (short : Short) → IsOfFile job → meter.live ≡ 0 → RefusedFor meter 2880 short →
+pub short_cause : (X : Type 0) (job : Job) (held : Option (List ℕ)) (source sink : Tally) (workers : ℕ) (meter : Gauge) (short : Short) → HasStages job → meter.live ≡ 0 → RefusedFor meter 2880 short →
     HasJobCause {X = X} job held source source sink sink meter.limit workers (Err (stop_of_short short))
 short_cause X job held source sink workers meter NoRoom own nothing why = record {
   done = tt;
@@ -83,13 +83,13 @@ module _ {X : Type 0} (source source' sink sink' : Tally) (limit : ℕ) (r : Res
   refused_by : IsRefused r → (source' ≡ source) × (sink' ≡ sink)
   refused_by is = stopped_by (Refused is.0) is.1
 
-with_block : {X : Type 0} (job : Job) (held : Option (List ℕ)) (limit workers : ℕ) (r : Result X Stop) → IsOfFile job → 2880 ≤ limit → IfSome held (λ file. TellsFirstPast limit (later_takings job file (workers_of job workers)) r) →
+with_block : {X : Type 0} (job : Job) (held : Option (List ℕ)) (limit workers : ℕ) (r : Result X Stop) → HasStages job → 2880 ≤ limit → IfSome held (λ file. TellsFirstPast limit (later_takings job file (workers_of job workers)) r) →
     IfSome held (λ file. TellsFirstPast limit (job_takings job file workers) r)
 with_block job None limit workers r own room tells = tt
 with_block job (Some g) limit workers r own room tells =
     tells_same limit (later_takings job g (workers_of job workers)) (job_takings job g workers) r (behind_block job own g workers limit room) tells
 
-pub behind_cause : {X : Type 0} (job : Job) (held : Option (List ℕ)) (source source' sink sink' : Tally) (limit workers : ℕ) (r : Result X Stop) → IsOfFile job → 2880 ≤ limit → Works source source' sink sink' limit r →
+pub behind_cause : {X : Type 0} (job : Job) (held : Option (List ℕ)) (source source' sink sink' : Tally) (limit workers : ℕ) (r : Result X Stop) → HasStages job → 2880 ≤ limit → Works source source' sink sink' limit r →
     TellsLimit limit (greatest_bound job workers) r → IfSome held (λ file. TellsFirstPast limit (later_takings job file (workers_of job workers)) r) → HasJobCause job held source source' sink sink' limit workers r
 behind_cause job held source source' sink sink' limit workers r own room works most tells = record {
   done = works.ok;
@@ -125,7 +125,7 @@ module _ (bounded : AreBounded) (job : Job) (own : IsOfFile job) where
 
 -- ---- the peak
 
-pub block_reached : (job : Job) (held : Option (List ℕ)) (workers old mid new : ℕ) → IsOfFile job → mid ≡ max old 2880 → IfSome held (λ file. new ≡ max mid (highest (later_takings job file (workers_of job workers)))) →
+pub block_reached : (job : Job) (held : Option (List ℕ)) (workers old mid new : ℕ) → HasStages job → mid ≡ max old 2880 → IfSome held (λ file. new ≡ max mid (highest (later_takings job file (workers_of job workers)))) →
     IfSome held (λ file. new ≡ max old (highest (job_takings job file workers)))
 block_reached job None workers old mid new own begun reached = tt
 block_reached job (Some g) workers old mid new own begun reached =

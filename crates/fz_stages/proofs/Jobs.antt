@@ -11,7 +11,7 @@ use Rattle.fz_grid.specs.declared.sieve.Sieve.{Sieve}
 use Rattle.fz_files.specs.Buffers.{IsOfFile, file_takings, header_takings, job_bound, job_buffers, job_takings, largest_tile, longest_header, work_takings, workers_of}
 use Rattle.fz_files.specs.Walks.{box_of, header_fault}
 use Rattle.fz_files.specs.declared.job.Job.{Job}
-use Rattle.fz_files.specs.declared.job.Job.TheVariants.{Pack, Unpack, Cut, Verify, List as ListHdus, Drill}
+use Rattle.fz_files.specs.declared.job.Job.TheVariants.{Pack, Unpack, Cut, Verify, List as ListHdus, Drill, Retile}
 use Rattle.fz_job.specs.Clauses.{greatest_tile}
 use Rattle.fz_survey.specs.Judges.{judge_of}
 use Rattle.fz_survey.specs.Surveys.{survey_takings}
@@ -19,26 +19,38 @@ use Rattle.fz_survey.specs.Workspace.{BoundGrows, StaysInBound, pixels_of, wante
 use Rattle.fz_survey.specs.declared.checks.JobChecks.{JobChecks}
 use Rattle.fz_survey.specs.declared.checks.JobChecks.TheVariants.{Pack as PackChecks, Unpack as UnpackChecks, Cut as CutChecks}
 use Rattle.fz_survey.specs.declared.workspace.Wants.{Wants}
-use Rattle.fz_stages.specs.Stages.{HasLargest, MakesChecks, wants_of}
+use Rattle.fz_stages.specs.Stages.{HasLargest, HasStages, MakesChecks, wants_of}
 
--- a job that makes checks works on a file
-pub of_file : (job : Job) (checks : JobChecks) → MakesChecks job checks → IsOfFile job
+-- a job that makes checks has stages
+pub of_file : (job : Job) (checks : JobChecks) → MakesChecks job checks → HasStages job
 of_file (Pack o) checks makes = tt
 of_file Unpack checks makes = tt
 of_file (Cut wanted sieve) checks makes = tt
 of_file Verify checks makes = tt
 of_file ListHdus checks makes = tt
 of_file (Drill rows) checks makes = absurd makes
+of_file (Retile o) checks makes = absurd makes
+
+-- and one that has stages does
+pub on_file : (job : Job) → HasStages job → IsOfFile job
+on_file (Pack o) own = tt
+on_file Unpack own = tt
+on_file (Cut wanted sieve) own = tt
+on_file Verify own = tt
+on_file ListHdus own = tt
+on_file (Drill rows) own = absurd own
+on_file (Retile o) own = absurd own
 
 -- ---- takings
 
-pub takings_of_file : (job : Job) (file : List ℕ) (workers : ℕ) → IsOfFile job → job_takings job file workers ≡ file_takings job file (workers_of job workers)
+pub takings_of_file : (job : Job) (file : List ℕ) (workers : ℕ) → HasStages job → job_takings job file workers ≡ file_takings job file (workers_of job workers)
 takings_of_file (Pack o) file workers own = refl
 takings_of_file Unpack file workers own = refl
 takings_of_file (Cut wanted sieve) file workers own = refl
 takings_of_file Verify file workers own = refl
 takings_of_file ListHdus file workers own = refl
 takings_of_file (Drill rows) file workers own = absurd own
+takings_of_file (Retile o) file workers own = absurd own
 
 -- both name the same checks
 pack_checks : (o : PackOptions) (file : List ℕ) → judge_of (PackChecks o) file ≡ pack_judge o file
@@ -67,16 +79,18 @@ takings_of_headers (Cut wanted sieve) checks file live makes one =
 takings_of_headers Verify checks file live makes one = as_unpack checks file live makes one
 takings_of_headers ListHdus checks file live makes one = as_unpack checks file live makes one
 takings_of_headers (Drill rows) checks file live makes one = absurd makes
+takings_of_headers (Retile o) checks file live makes one = absurd makes
 
 -- ---- what the work wants
 
-pub wanted_are : (job : Job) (H n W : ℕ) → IsOfFile job → job_buffers job H n W ≡ wanted_buffers (wants_of job H n) W
+pub wanted_are : (job : Job) (H n W : ℕ) → HasStages job → job_buffers job H n W ≡ wanted_buffers (wants_of job H n) W
 wanted_are (Pack o) H n W own = refl
 wanted_are Unpack H n W own = refl
 wanted_are (Cut wanted sieve) H n W own = refl
 wanted_are Verify H n W own = refl
 wanted_are ListHdus H n W own = refl
 wanted_are (Drill rows) H n W own = absurd own
+wanted_are (Retile o) H n W own = absurd own
 
 pub wants_header : (job : Job) (H n : ℕ) → (wants_of job H n).header_len ≡ H
 wants_header (Pack o) H n = refl
@@ -85,6 +99,7 @@ wants_header (Cut wanted sieve) H n = refl
 wants_header Verify H n = refl
 wants_header ListHdus H n = refl
 wants_header (Drill rows) H n = refl
+wants_header (Retile o) H n = refl
 
 pub wants_pixels : (job : Job) (H n : ℕ) → pixels_of (wants_of job H n).tile ≤ n
 wants_pixels (Pack o) H n = omega arith
@@ -93,6 +108,7 @@ wants_pixels (Cut wanted sieve) H n = omega arith
 wants_pixels Verify H n = omega arith
 wants_pixels ListHdus H n = omega arith
 wants_pixels (Drill rows) H n = omega arith
+wants_pixels (Retile o) H n = omega arith
 
 -- they are of no larger tile than the job works on
 pub wants_fit : (job : Job) (H n : ℕ) → n ≤ 2 ^ 26 → pixels_of (wants_of job H n).tile ≤ greatest_tile job
@@ -102,6 +118,7 @@ wants_fit (Cut wanted sieve) H n few = few
 wants_fit Verify H n few = few
 wants_fit ListHdus H n few = omega arith
 wants_fit (Drill rows) H n few = omega arith
+wants_fit (Retile o) H n few = omega arith
 
 -- and the longest header is the first of them
 pub header_first : (job : Job) (H n W : ℕ) → wanted_buffers (wants_of job H n) W ≡ H ∷ drop 1 (wanted_buffers (wants_of job H n) W)
@@ -111,8 +128,9 @@ header_first (Cut wanted sieve) H n W = refl
 header_first Verify H n W = refl
 header_first ListHdus H n W = refl
 header_first (Drill rows) H n W = refl
+header_first (Retile o) H n W = refl
 
-module _ (job : Job) (own : IsOfFile job) (file : List ℕ) (H n : ℕ) (learnt : HasLargest job H n file) where
+module _ (job : Job) (own : HasStages job) (file : List ℕ) (H n : ℕ) (learnt : HasLargest job H n file) where
   pub takings_of_work : (W : ℕ) → work_takings (header_fault job file) job file W ≡ piled 2880 (wanted_buffers (wants_of job H n) W)
   takings_of_work W =
       ap (λ (f : Option Fault). work_takings f job file W) learnt.no_fault

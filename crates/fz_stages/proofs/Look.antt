@@ -18,7 +18,7 @@ use Rattle.fz_survey.specs.declared.checks.JobChecks.{JobChecks}
 use Rattle.fz_survey.specs.declared.survey.Survey.{Survey}
 use Rattle.fz_survey.specs.declared.workspace.Wants.{Wants}
 use Rattle.fz_stages.specs.Stages.{MakesChecks, StoppedWorking, TellsHeaderFault, Works, later_takings}
-use Rattle.fz_stages.proofs.Jobs.{of_file, takings_of_file, takings_of_headers}
+use Rattle.fz_stages.proofs.Jobs.{of_file, on_file, takings_of_file, takings_of_headers}
 use Rattle.fz_stages.proofs.Takings.{highest_first, highest_within}
 
 pub kept_same : (t : Tally) → CountsKept t t
@@ -98,7 +98,7 @@ headers_within bounded job checks file workers live makes one =
     let own = of_file job checks makes in
     let W : ℕ = workers_of job workers in
     let none : first_past (job_bound job file workers) (file_takings job file W) ≡ None =
-    ap (first_past (job_bound job file workers)) (sym (takings_of_file job file workers own)) ∙ bounded job file workers own in
+    ap (first_past (job_bound job file workers)) (sym (takings_of_file job file workers own)) ∙ bounded job file workers (on_file job own) in
     let all : highest (file_takings job file W) ≤ job_bound job file workers = highest_within (job_bound job file workers) (file_takings job file W) none in
     let front : highest (header_takings job file) ≤ highest (later_takings job file W) = highest_first (header_takings job file) (work_takings (header_fault job file) job file W) in
     let same : highest (survey_takings checks live file) ≡ highest (header_takings job file) = ap highest (takings_of_headers job checks file live makes one) in

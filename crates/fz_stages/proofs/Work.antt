@@ -8,7 +8,7 @@ use Rattle.fz_base.specs.declared.failure.Short.{Short}
 use Rattle.fz_base.specs.declared.failure.Short.TheVariants.{NoMemory as NoRoom, OverLimit as PastLimit}
 use Rattle.fz_base.specs.declared.failure.Stop.{Stop}
 use Rattle.fz_base.specs.declared.failure.Stop.TheVariants.{Refused, ReadFault, WriteFault, OverLimit, NoMemory}
-use Rattle.fz_files.specs.Buffers.{AreBounded, IsOfFile, header_takings, job_bound, work_takings, workers_of}
+use Rattle.fz_files.specs.Buffers.{AreBounded, header_takings, job_bound, work_takings, workers_of}
 use Rattle.fz_files.specs.Walks.{header_fault}
 use Rattle.fz_files.specs.declared.job.Job.{Job}
 use Rattle.fz_job.specs.Clauses.{greatest_bound, greatest_tile}
@@ -19,7 +19,7 @@ use Rattle.fz_survey.specs.Workspace.{BoundGrows, PassesWithinAll, StaysInBound,
 use Rattle.fz_survey.specs.declared.checks.JobChecks.{JobChecks}
 use Rattle.fz_survey.specs.declared.workspace.Wants.{Wants}
 use Rattle.fz_survey.specs.declared.workspace.Workspace.{Workspace}
-use Rattle.fz_stages.specs.Stages.{HasLargest, MakesChecks, StoppedWorking, Works, later_takings, wants_of}
+use Rattle.fz_stages.specs.Stages.{HasStages, HasLargest, MakesChecks, StoppedWorking, Works, later_takings, wants_of}
 use Rattle.fz_stages.proofs.Jobs.{header_first, of_file, takings_of_headers, takings_of_work, wants_fit, wants_header, work_within}
 use Rattle.fz_stages.proofs.Look.{headers_within, kept_same}
 use Rattle.fz_stages.proofs.Takings.{highest_both, highest_piled, tells_same}
@@ -107,7 +107,7 @@ work_past past_second job checks None W live limit H n r makes one learnt none t
 work_past past_second job checks (Some g) W live limit H n r makes one learnt none tells = past_learnt past_second job checks g W live limit H n r makes one learnt none tells
 
 module _ (stays : StaysInBound) (grows : BoundGrows) where
-  pub work_most : (job : Job) (workers H n : ℕ) → IsOfFile job → H ≤ 737280 → n ≤ 2 ^ 26 → 2880 + sum (wanted_buffers (wants_of job H n) (workers_of job workers)) ≤ greatest_bound job workers
+  pub work_most : (job : Job) (workers H n : ℕ) → HasStages job → H ≤ 737280 → n ≤ 2 ^ 26 → 2880 + sum (wanted_buffers (wants_of job H n) (workers_of job workers)) ≤ greatest_bound job workers
   work_most job workers H n own header tile =
       let wants : Wants = wants_of job H n in
       let long : wants.header_len ≤ 737280 = omega (arith, wants_header job H n, header) in
@@ -137,7 +137,7 @@ tells_within past source source' sink sink' limit live most buffers (Err (OverLi
     (why.0, why.1, omega (arith, within.1, less))
 tells_within past source source' sink sink' limit live most buffers (Err NoMemory) less why tells = tt
 
-pub work_tells : {X : Type 0} → StaysInBound → BoundGrows → PassesWithinAll → (job : Job) (workers live limit H n : ℕ) (source source' sink sink' : Tally) (r : Result X Stop) → IsOfFile job → live ≡ 2880 → H ≤ 737280 → n ≤ 2 ^ 26 →
+pub work_tells : {X : Type 0} → StaysInBound → BoundGrows → PassesWithinAll → (job : Job) (workers live limit H n : ℕ) (source source' sink sink' : Tally) (r : Result X Stop) → HasStages job → live ≡ 2880 → H ≤ 737280 → n ≤ 2 ^ 26 →
     IfErr r (StoppedWorking source source' sink sink' limit) → TellsFirstPast limit (piled live (wanted_buffers (wants_of job H n) (workers_of job workers))) r → TellsLimit limit (greatest_bound job workers) r
 work_tells stays grows past job workers live limit H n source source' sink sink' r own one header tile why tells =
     let most = work_most stays grows job workers H n own header tile in

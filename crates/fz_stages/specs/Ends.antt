@@ -18,15 +18,15 @@ use Rattle.fz_survey.specs.declared.checks.JobChecks.{JobChecks}
 use Rattle.fz_survey.specs.declared.survey.Survey.{Survey}
 use Rattle.fz_survey.specs.declared.workspace.Wants.{Wants}
 use Rattle.fz_survey.specs.declared.workspace.Workspace.{Workspace}
-use Rattle.fz_stages.specs.Stages.{HasLargest, MakesChecks, StoppedWorking, TellsHeaderFault, Works, later_takings, wants_of}
+use Rattle.fz_stages.specs.Stages.{HasLargest, HasStages, MakesChecks, StoppedWorking, TellsHeaderFault, Works, later_takings, wants_of}
 
 -- The first block.
 pub record BlockEnds (X : Type 0) : Type 0 where
   -- it was not given: this is the cause of the job's end
-  pub short : (job : Job) (held : Option (List ℕ)) (source sink : Tally) (workers : ℕ) (meter : Gauge) (short : Short) → IsOfFile job → meter.live ≡ 0 → RefusedFor meter 2880 short →
+  pub short : (job : Job) (held : Option (List ℕ)) (source sink : Tally) (workers : ℕ) (meter : Gauge) (short : Short) → HasStages job → meter.live ≡ 0 → RefusedFor meter 2880 short →
       HasJobCause {X = X} job held source source sink sink meter.limit workers (Err (stop_of_short short))
   -- it was given: the cause of the answer of the later stages is that of the job's
-  pub behind : (job : Job) (held : Option (List ℕ)) (source source' sink sink' : Tally) (limit workers : ℕ) (r : Result X Stop) → IsOfFile job → 2880 ≤ limit → Works source source' sink sink' limit r →
+  pub behind : (job : Job) (held : Option (List ℕ)) (source source' sink sink' : Tally) (limit workers : ℕ) (r : Result X Stop) → HasStages job → 2880 ≤ limit → Works source source' sink sink' limit r →
       TellsLimit limit (greatest_bound job workers) r → IfSome held (λ file. TellsFirstPast limit (later_takings job file (workers_of job workers)) r) → HasJobCause job held source source' sink sink' limit workers r
 
 -- The look at the headers, where it ends the job.
@@ -53,7 +53,7 @@ pub record WorkEnds (X : Type 0) : Type 0 where
   pub first_past : (job : Job) (checks : JobChecks) (held : Option (List ℕ)) (W live limit H n : ℕ) (r : Result X Stop) → MakesChecks job checks → live ≡ 2880 → IfSome held (HasLargest job H n) →
       IfSome held (λ file. first_past limit (survey_takings checks live file) ≡ None) → TellsFirstPast limit (piled live (wanted_buffers (wants_of job H n) W)) r → IfSome held (λ file. TellsFirstPast limit (later_takings job file W) r)
   -- and no more than the greatest bound
-  pub over_limit : (job : Job) (workers live limit H n : ℕ) (source source' sink sink' : Tally) (r : Result X Stop) → IsOfFile job → live ≡ 2880 → H ≤ 737280 → n ≤ 2 ^ 26 → IfErr r (StoppedWorking source source' sink sink' limit) →
+  pub over_limit : (job : Job) (workers live limit H n : ℕ) (source source' sink sink' : Tally) (r : Result X Stop) → HasStages job → live ≡ 2880 → H ≤ 737280 → n ≤ 2 ^ 26 → IfErr r (StoppedWorking source source' sink sink' limit) →
       TellsFirstPast limit (piled live (wanted_buffers (wants_of job H n) (workers_of job workers))) r → TellsLimit limit (greatest_bound job workers) r
 
 -- Where the cause of a job's end is known, and no count of faults rose, and the limit is at least the bound, the answer is Ok or Refused, or
@@ -79,7 +79,7 @@ pub record PeaksStayWithin : Type 0 where
 -- takings.
 pub record PeaksAreReached : Type 0 where
   -- with the block, if it is so after the block
-  pub block : (job : Job) (held : Option (List ℕ)) (workers old mid new : ℕ) → IsOfFile job → mid ≡ max old 2880 → IfSome held (λ file. new ≡ max mid (highest (later_takings job file (workers_of job workers)))) →
+  pub block : (job : Job) (held : Option (List ℕ)) (workers old mid new : ℕ) → HasStages job → mid ≡ max old 2880 → IfSome held (λ file. new ≡ max mid (highest (later_takings job file (workers_of job workers)))) →
       IfSome held (λ file. new ≡ max old (highest (job_takings job file workers)))
   -- and after the work
   pub work : (job : Job) (checks : JobChecks) (held : Option (List ℕ)) (W live old mid new H n : ℕ) → MakesChecks job checks → live ≡ 2880 → IfSome held (HasLargest job H n) →
@@ -89,7 +89,7 @@ pub record PeaksAreReached : Type 0 where
 -- Which taking passes the limit first is decided by the later stages, if none of the stages so far did.
 pub record PassesLater : Type 0 where
   -- after the block
-  pub block : (job : Job) (held : Option (List ℕ)) (limit workers : ℕ) → IsOfFile job → 2880 ≤ limit →
+  pub block : (job : Job) (held : Option (List ℕ)) (limit workers : ℕ) → HasStages job → 2880 ≤ limit →
       IfSome held (λ file. first_past limit (job_takings job file workers) ≡ first_past limit (later_takings job file (workers_of job workers)))
   -- after the look
   pub look : (job : Job) (checks : JobChecks) (held : Option (List ℕ)) (W live limit H n : ℕ) → MakesChecks job checks → live ≡ 2880 → IfSome held (HasLargest job H n) →
@@ -100,8 +100,8 @@ pub record PassesLater : Type 0 where
 -- fit the greatest bound; and what is wanted is what the definition of the job's buffers says.
 pub record SizesFit : Type 0 where
   pub look : (job : Job) (workers : ℕ) → 2880 + 737280 ≤ greatest_bound job workers
-  pub work : (job : Job) (workers H n : ℕ) → IsOfFile job → H ≤ 737280 → n ≤ 2 ^ 26 → 2880 + sum (wanted_buffers (wants_of job H n) (workers_of job workers)) ≤ greatest_bound job workers
-  pub wanted : (job : Job) (H n W : ℕ) → IsOfFile job → job_buffers job H n W ≡ wanted_buffers (wants_of job H n) W
+  pub work : (job : Job) (workers H n : ℕ) → HasStages job → H ≤ 737280 → n ≤ 2 ^ 26 → 2880 + sum (wanted_buffers (wants_of job H n) (workers_of job workers)) ≤ greatest_bound job workers
+  pub wanted : (job : Job) (H n W : ℕ) → HasStages job → job_buffers job H n W ≡ wanted_buffers (wants_of job H n) W
 
 -- Buffers that were taken are as many bytes as were taken, as long as none of them changes its length; and a meter that was handed back as many bytes
 -- as it gave has as many live as before, the same limit, and as its peak the greater of that before and of what was live with them.

@@ -1,5 +1,5 @@
 -- What the stages of a job on a file say of themselves: it takes one block, looks at the headers, takes the buffers that its work wants,
--- and works. `drill` works on no file that it is given: no stage is said of it.
+-- and works. No stage is said of `drill` and of `retile`, which run other jobs.
 use Rattle.std.specs.Prelude.{ℕ, ◌≡◌, ◌+◌, ◌<◌, true, false, List, ◌++◌, Option, Some, None, IfSome, Result, OnOk, IfErr, ⊤}
 use Rattle.fz_base.specs.Counts.{Rose, Tally, CountsKept}
 use Rattle.fz_base.specs.declared.failure.Stop.{Stop}
@@ -7,7 +7,7 @@ use Rattle.fz_base.specs.declared.failure.Stop.TheVariants.{Refused, ReadFault, 
 use Rattle.fz_files.specs.Buffers.{header_takings, largest_tile, longest_header, work_takings}
 use Rattle.fz_files.specs.Walks.{box_of, header_fault}
 use Rattle.fz_files.specs.declared.job.Job.{Job}
-use Rattle.fz_files.specs.declared.job.Job.TheVariants.{Pack, Unpack, Cut, Verify, List as ListHdus, Drill}
+use Rattle.fz_files.specs.declared.job.Job.TheVariants.{Pack, Unpack, Cut, Verify, List as ListHdus, Drill, Retile}
 use Rattle.fz_survey.specs.declared.checks.JobChecks.{JobChecks}
 use Rattle.fz_survey.specs.declared.checks.JobChecks.TheVariants.{Pack as PackChecks, Unpack as UnpackChecks, Cut as CutChecks}
 use Rattle.fz_survey.specs.declared.survey.Survey.{Survey}
@@ -19,7 +19,7 @@ later_takings job file W = header_takings job file ++ work_takings (header_fault
 
 -- ---- the look at the headers
 
--- the checks that a job makes of each header that it comes to; `drill` makes none
+-- the checks that a job makes of each header that it comes to; `drill` and `retile` make none of their own
 abbrev pub MakesChecks : Job → JobChecks → Type 0
 MakesChecks (Pack o) checks = checks ≡ PackChecks o
 MakesChecks Unpack checks = checks ≡ UnpackChecks
@@ -27,6 +27,17 @@ MakesChecks (Cut wanted sieve) checks = checks ≡ CutChecks wanted (box_of siev
 MakesChecks Verify checks = checks ≡ UnpackChecks
 MakesChecks ListHdus checks = checks ≡ UnpackChecks
 MakesChecks (Drill rows) checks = ⊥
+MakesChecks (Retile o) checks = ⊥
+
+-- a job that is these stages: `drill` and `retile` run other jobs
+abbrev pub HasStages : Job → Type 0
+HasStages (Pack o) = ⊤
+HasStages Unpack = ⊤
+HasStages (Cut wanted sieve) = ⊤
+HasStages Verify = ⊤
+HasStages ListHdus = ⊤
+HasStages (Drill rows) = ⊥
+HasStages (Retile o) = ⊥
 
 -- where the look refuses the file, and its bytes are told, it tells the first fault of its headers for the job
 abbrev pub TellsHeaderFault : Job → Option (List ℕ) → Stop → Type 0
@@ -45,7 +56,7 @@ pub record HasLargest (job : Job) (H n : ℕ) (file : List ℕ) : Type 0 where
 -- ---- the work
 
 -- What the work of a job wants for headers of at most H bytes and tiles of at most n pixels. Where nothing is written no header is
--- translated, and `list` works on no tiles.
+-- translated, and `list` works on no tiles. `drill` and `retile` want nothing of their own.
 abbrev pub wants_of : Job → ℕ → ℕ → Wants
 wants_of (Pack o) H n = record { header_len = H; translates = true; tile = Some n }
 wants_of Unpack H n = record { header_len = H; translates = true; tile = Some n }
@@ -53,6 +64,7 @@ wants_of (Cut wanted sieve) H n = record { header_len = H; translates = true; ti
 wants_of Verify H n = record { header_len = H; translates = false; tile = Some n }
 wants_of ListHdus H n = record { header_len = H; translates = false; tile = None }
 wants_of (Drill rows) H n = record { header_len = H; translates = false; tile = None }
+wants_of (Retile o) H n = record { header_len = H; translates = false; tile = None }
 
 -- what it wants where the look learnt this; `list` leaves out the tile
 abbrev pub wants_for : Job → Survey → Wants

@@ -10,8 +10,7 @@ use Rattle.fz_base.specs.declared.failure.Stop.TheVariants.{Refused, ReadFault, 
 use Rattle.fz_block.specs.Checks.{unless_refused}
 use Rattle.fz_block.specs.Walk.{hdu_of}
 use Rattle.fz_block.specs.declared.header.Header.{Header}
-use Rattle.fz_block.proofs.Refusals.{passed, stopped}
-use Rattle.fz_head.specs.JobChecks.{cut_checks, data_fill, fill_in, image_in, image_to_cut, image_to_unpack, is_after_empty, pack_header_checks, plan_to_pack, unpack_checks}
+use Rattle.fz_head.specs.JobChecks.{amend_checks, cut_checks, data_fill, fill_in, image_in, image_to_amend, image_to_cut, image_to_unpack, is_after_empty, pack_header_checks, plan_to_pack, unpack_checks}
 use Rattle.fz_head.specs.declared.job_checks.PackedImage.{PackedImage}
 use Rattle.fz_head.specs.declared.plan.Plan.{Plan}
 use Rattle.fz_head.specs.Judges.{is_wanted}
@@ -22,10 +21,21 @@ use Rattle.fz_survey.specs.Judges.{judge_of}
 use Rattle.fz_survey.specs.Looks.{tiled, tiled_plan, tiled_image, cut_image, look_of, hdu_look}
 use Rattle.fz_survey.specs.Surveys.{tile_pixels, looks_at_fill}
 use Rattle.fz_survey.specs.declared.checks.JobChecks.{JobChecks}
-use Rattle.fz_survey.specs.declared.checks.JobChecks.TheVariants.{Pack, Unpack, Cut}
+use Rattle.fz_survey.specs.declared.checks.JobChecks.TheVariants.{Pack, Unpack, Cut, Amend, Every}
 use Rattle.fz_survey.specs.declared.look.Look.{Look}
 
--- what is learnt where not_so check refuses
+-- no check of the first list refuses, or one does
+passed : (xs ys : List (Bool × Fault)) → first_refusal xs ≡ None → first_refusal (xs ++ ys) ≡ first_refusal ys
+passed [] ys none = refl
+passed ((true, fault) ∷ xs) ys none = absurd cc
+passed ((false, fault) ∷ xs) ys none = passed xs ys none
+
+stopped : (xs ys : List (Bool × Fault)) (x : Fault) → first_refusal xs ≡ Some x → first_refusal (xs ++ ys) ≡ Some x
+stopped [] ys x some = absurd cc
+stopped ((true, fault) ∷ xs) ys x some = some
+stopped ((false, fault) ∷ xs) ys x some = stopped xs ys x some
+
+-- what is learnt if no check refuses
 abbrev learnt : {A : Type 0} → (A → Look) → A → Option Fault → Result Look Fault
 learnt f a r = result_map_both f (λ x. x) (unless_refused a r)
 
@@ -95,30 +105,38 @@ cut_learnt true image (Some x) a e = e
 
 -- an answer of one HDU, by its header in the file
 its_refusal : (checks : JobChecks) (g : List ℕ) (h : Header) (x : Fault) → look_of checks h (hdu_of g h).header (is_after_empty g h) ≡ Err x → hdu_look checks g h ≡ Err x
-unfolding judge_of look_of tile_pixels plan_to_pack image_to_unpack image_to_cut
+unfolding judge_of look_of tile_pixels plan_to_pack image_to_unpack image_to_cut image_to_amend
 its_refusal (Pack o) g h x e =
     pack_refused (is_packable h) (pack_header_checks o h (hdu_of g h).header) (data_fill h (fill_in g h)) (pack_plan_of o h) (tile_where (is_packable h) (pixels_of_tile (pack_plan_of o h))) x e
 its_refusal Unpack g h x e =
     unpack_learnt (is_packed (hdu_of g h).header h) (image_in h (hdu_of g h).header) (first_refusal (unpack_checks h (hdu_of g h).header (is_after_empty g h))) (Err x) e
 its_refusal (Cut wanted region) g h x e =
     cut_learnt (is_wanted wanted (hdu_of g h).header h) (image_in h (hdu_of g h).header) (first_refusal (cut_checks h (hdu_of g h).header (is_after_empty g h) region)) (Err x) e
+its_refusal (Amend wanted) g h x e =
+    cut_learnt (is_wanted wanted (hdu_of g h).header h) (image_in h (hdu_of g h).header) (first_refusal (amend_checks h (hdu_of g h).header (is_after_empty g h))) (Err x) e
+its_refusal Every g h x e = absurd cc
 
 its_look : (checks : JobChecks) (g : List ℕ) (h : Header) (l : Look) → look_of checks h (hdu_of g h).header (is_after_empty g h) ≡ Ok l → looks_at_fill checks h ≡ false → hdu_look checks g h ≡ Ok l
-unfolding judge_of look_of tile_pixels plan_to_pack image_to_unpack image_to_cut
+unfolding judge_of look_of tile_pixels plan_to_pack image_to_unpack image_to_cut image_to_amend
 its_look (Pack o) g h l e not_so =
     pack_copied (is_packable h) (pack_header_checks o h (hdu_of g h).header) (data_fill h (fill_in g h)) (pack_plan_of o h) l e not_so
 its_look Unpack g h l e not_so =
     unpack_learnt (is_packed (hdu_of g h).header h) (image_in h (hdu_of g h).header) (first_refusal (unpack_checks h (hdu_of g h).header (is_after_empty g h))) (Ok l) e
 its_look (Cut wanted region) g h l e not_so =
     cut_learnt (is_wanted wanted (hdu_of g h).header h) (image_in h (hdu_of g h).header) (first_refusal (cut_checks h (hdu_of g h).header (is_after_empty g h) region)) (Ok l) e
+its_look (Amend wanted) g h l e not_so =
+    cut_learnt (is_wanted wanted (hdu_of g h).header h) (image_in h (hdu_of g h).header) (first_refusal (amend_checks h (hdu_of g h).header (is_after_empty g h))) (Ok l) e
+its_look Every g h l e not_so = e
 
 its_fill : (checks : JobChecks) (g : List ℕ) (h : Header) (l : Look) → look_of checks h (hdu_of g h).header (is_after_empty g h) ≡ Ok l → looks_at_fill checks h ≡ true →
     hdu_look checks g h ≡ result_map_both (λ (u : Unit {0}). l) (λ x. x) (unless_refused tt (first_refusal (data_fill h (fill_in g h) ∷ [])))
-unfolding judge_of look_of tile_pixels plan_to_pack image_to_unpack image_to_cut
+unfolding judge_of look_of tile_pixels plan_to_pack image_to_unpack image_to_cut image_to_amend
 its_fill (Pack o) g h l e so =
     pack_filled (is_packable h) (pack_header_checks o h (hdu_of g h).header) (data_fill h (fill_in g h)) (pack_plan_of o h) l e so
 its_fill Unpack g h l e so = absurd cc
 its_fill (Cut wanted region) g h l e so = absurd cc
+its_fill (Amend wanted) g h l e so = absurd cc
+its_fill Every g h l e so = absurd cc
 
 -- what the bytes of a header in a buffer say, where the source tells its bytes
 pub record IsHere (h : Header) (buf : List ℕ) (after_empty : Bool) (g : List ℕ) : Type 0 where

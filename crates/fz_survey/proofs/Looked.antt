@@ -9,7 +9,6 @@ use Rattle.fz_base.specs.Takings.{first_past, highest, TellsFirstPast}
 use Rattle.fz_base.specs.declared.fault.Fault.{Fault}
 use Rattle.fz_base.specs.declared.failure.Stop.{Stop}
 use Rattle.fz_base.specs.declared.failure.Stop.TheVariants.{Refused, ReadFault, WriteFault, OverLimit, NoMemory}
-use Rattle.fz_base.proofs.Logs.{logs_both}
 use Rattle.fz_block.specs.Checks.{hdu_at, header_blocks_of, header_touched}
 use Rattle.fz_block.specs.Facts.{IsHeaderOf}
 use Rattle.fz_block.specs.Takings.{header_taking}
@@ -22,7 +21,7 @@ use Rattle.fz_survey.specs.Surveys.{fill_places, fill_places_in, hdu_places}
 use Rattle.fz_survey.specs.declared.checks.JobChecks.{JobChecks}
 use Rattle.fz_survey.specs.declared.look.Look.{Look}
 use Rattle.fz_survey.specs.declared.look.Looked.{Looked}
-use Rattle.fz_survey.proofs.Places.{logs_in, logs_right}
+use Rattle.fz_survey.proofs.Places.{logs_both, logs_in, logs_right}
 
 -- the header was read, and then the job answered
 abbrev pub answered_look : Header → Result Look Stop → Result Looked Stop

@@ -12,7 +12,7 @@ use Rattle.fz_base.specs.declared.fault.Place.TheVariants.{Byte}
 use Rattle.fz_base.specs.declared.kind.Kind.TheVariants.{Limit}
 use Rattle.fz_base.specs.declared.failure.Stop.{Stop}
 use Rattle.fz_base.specs.declared.failure.Stop.TheVariants.{Refused, ReadFault, WriteFault, OverLimit, NoMemory}
-use Rattle.fz_base.proofs.Logs.{logs_none, logs_both, logs_wider}
+use Rattle.fz_survey.proofs.Places.{logs_none, logs_both, logs_wider}
 use Rattle.std.proofs.lemmas.List.Elements.{Contains-append_left, Contains-append_right}
 use Rattle.fz_block.specs.Checks.{hdu_at, header_blocks_of, walk_from}
 use Rattle.std.proofs.lemmas.Bool.Decides.{nat_tests}

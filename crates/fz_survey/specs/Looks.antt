@@ -6,7 +6,7 @@ use Rattle.fz_block.specs.Checks.{hdu_at}
 use Rattle.fz_block.specs.Header.{next_start_of}
 use Rattle.fz_grid.specs.declared.region.Region.{Region}
 use Rattle.fz_block.specs.declared.header.Header.{Header}
-use Rattle.fz_head.specs.JobChecks.{plan_to_pack, image_to_unpack, image_to_cut}
+use Rattle.fz_head.specs.JobChecks.{plan_to_pack, image_to_unpack, image_to_cut, image_to_amend}
 use Rattle.fz_head.specs.Judges.{is_wanted}
 use Rattle.fz_head.specs.WorkBuffers.{pixels_of_tile}
 use Rattle.fz_head.specs.declared.job_checks.PackedImage.{PackedImage}
@@ -15,7 +15,7 @@ use Rattle.fz_head.specs.declared.plan.Plan.{Plan}
 use Rattle.fz_survey.specs.Judges.{judge_of}
 use Rattle.fz_survey.specs.Surveys.{header_len, tile_pixels}
 use Rattle.fz_survey.specs.declared.checks.JobChecks.{JobChecks}
-use Rattle.fz_survey.specs.declared.checks.JobChecks.TheVariants.{Pack, Unpack, Cut}
+use Rattle.fz_survey.specs.declared.checks.JobChecks.TheVariants.{Pack, Unpack, Cut, Amend, Every}
 use Rattle.fz_survey.specs.declared.look.Look.{Look}
 use Rattle.fz_survey.specs.declared.look.Looked.{Looked}
 use Rattle.fz_survey.specs.declared.survey.Survey.{Survey}
@@ -47,10 +47,17 @@ cut_look wanted region h header after_empty =
     if is_wanted wanted header h then result_map_both cut_image (λ x. x) (image_to_cut h header after_empty region)
     else Ok (tiled 0 false)
 
+abbrev pub amend_look : Option ℕ → Header → List ℕ → Bool → Result Look Fault
+amend_look wanted h header after_empty =
+    if is_wanted wanted header h then result_map_both cut_image (λ x. x) (image_to_amend h header after_empty)
+    else Ok (tiled 0 false)
+
 unfoldable pub look_of : JobChecks → Header → List ℕ → Bool → Result Look Fault
 look_of (Pack o) h header after_empty = pack_look o h header
 look_of Unpack h header after_empty = unpack_look h header after_empty
 look_of (Cut wanted region) h header after_empty = cut_look wanted region h header after_empty
+look_of (Amend wanted) h header after_empty = amend_look wanted h header after_empty
+look_of Every h header after_empty = Ok (tiled 0 false)
 
 -- what all checks of a job for one HDU learn
 abbrev pub hdu_look : JobChecks → List ℕ → Header → Result Look Fault

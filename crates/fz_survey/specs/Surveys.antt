@@ -19,10 +19,10 @@ use Rattle.fz_head.specs.Planned.{pack_plan_of}
 use Rattle.fz_head.specs.WorkBuffers.{pixels_of_tile}
 use Rattle.fz_survey.specs.Judges.{judge_of, most_hdus}
 use Rattle.fz_survey.specs.declared.checks.JobChecks.{JobChecks}
-use Rattle.fz_survey.specs.declared.checks.JobChecks.TheVariants.{Pack, Unpack, Cut}
+use Rattle.fz_survey.specs.declared.checks.JobChecks.TheVariants.{Pack, Unpack, Cut, Amend, Every}
 use Rattle.fz_survey.specs.declared.survey.Survey.{Survey}
 
--- the pixels of a tile of the image that stands in a table with this header
+-- the pixels of a tile of the image that is in a table with this header
 abbrev pub packed_tile : List ℕ → ℕ
 packed_tile header = pixels_of_tile (plan_of_cards (cards_of header))
 
@@ -31,6 +31,8 @@ abbrev pub tile_in : JobChecks → List ℕ → Header → ℕ
 tile_in (Pack o) header h = if is_packable h then pixels_of_tile (pack_plan_of o h) else 0
 tile_in Unpack header h = if is_packed header h then packed_tile header else 0
 tile_in (Cut wanted region) header h = if is_wanted wanted header h then packed_tile header else 0
+tile_in (Amend wanted) header h = if is_wanted wanted header h then packed_tile header else 0
+tile_in Every header h = 0
 
 unfoldable pub tile_pixels : JobChecks → List ℕ → Header → ℕ
 tile_pixels checks file h = tile_in checks (hdu_of file h).header h
@@ -75,7 +77,19 @@ unless_missing wanted file (Ok s) = by_stop wanted file s s.stopped
 abbrev pub cut_surveyed : Option ℕ → Region → List ℕ → Result Survey Fault
 cut_surveyed wanted region file = unless_missing wanted file (surveyed (Cut wanted region) file)
 
--- what a survey is, whatever the source tells
+-- the header of the HDU whose image is changed in place, or the first fault of the headers up to it
+abbrev pub stop_or : Option ℕ → List ℕ → Survey → Option Header → Result Header Fault
+stop_or wanted file s None = Err (missing_hdu wanted s.hdus (length file))
+stop_or wanted file s (Some h) = Ok h
+
+abbrev pub stop_in : Option ℕ → List ℕ → Result Survey Fault → Result Header Fault
+stop_in wanted file (Err x) = Err x
+stop_in wanted file (Ok s) = stop_or wanted file s s.stopped
+
+abbrev pub amend_surveyed : Option ℕ → List ℕ → Result Header Fault
+amend_surveyed wanted file = stop_in wanted file (surveyed (Amend wanted) file)
+
+-- what a survey is, whatever the source shows
 pub record IsSurvey (checks : JobChecks) (len : ℕ) (s : Survey) : Type 0 where
   pub some : 0 < s.hdus
   pub few : s.hdus ≤ most_hdus checks
@@ -94,6 +108,8 @@ abbrev pub looks_at_fill : JobChecks → Header → Bool
 looks_at_fill (Pack o) h = is_packable h
 looks_at_fill Unpack h = false
 looks_at_fill (Cut wanted region) h = false
+looks_at_fill (Amend wanted) h = false
+looks_at_fill Every h = false
 
 -- the first and the last place of the bytes of a file that are looked at after the header of an HDU
 abbrev pub fill_places : JobChecks → Header → List (ℕ × ℕ)

@@ -5,13 +5,13 @@ use Rattle.fz_base.specs.Takings.{TellsShort, piled}
 use Rattle.fz_base.specs.declared.failure.Short.{Short}
 use Rattle.fz_base.specs.declared.failure.Short.TheVariants.{NoMemory, OverLimit}
 
--- a taking that passes the limit tells the limit
+-- a taking that passes the limit reports the limit
 abbrev pub TellsTheLimit : ℕ → Short → Type 0
 TellsTheLimit limit NoMemory = ⊤
 TellsTheLimit limit (OverLimit live asked told) = (told ≡ limit) × (limit < live + asked)
 
 -- What a call does to its meter that takes these buffers, one after another: it takes them all; or the first of them that passes
--- the limit is told, or there was no memory, and those that were taken go back.
+-- the limit is reported, or there was no memory, and those that were taken go back.
 pub record Takes {X : Type 0} (buffers : List ℕ) (old new : Gauge) (result : Result X Short) : Type 0 where
   pub all : OnOk result ((old.live + sum buffers ≤ old.limit) × (new ≡ taken old (sum buffers)))
   pub given_back : OnErr result (new.live ≡ old.live)

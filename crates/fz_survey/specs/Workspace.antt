@@ -13,7 +13,7 @@ use Rattle.fz_survey.specs.declared.workspace.Workspace.{Workspace}
 abbrev pub wanted_buffers : Wants → ℕ → List ℕ
 wanted_buffers wants W = work_buffers wants.header_len wants.translates wants.tile W
 
--- the length of the copy buffer, where there is one
+-- the length of the copy buffer, if there is one
 abbrev pub copy_len : Option ℕ → ℕ
 copy_len None = 0
 copy_len (Some n) = 65536

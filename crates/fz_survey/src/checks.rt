@@ -11,4 +11,8 @@ pub enum JobChecks {
     Unpack,
     /// Those of `cut`, which cuts this box out of the HDU of this number, or out of the first packed one.
     Cut { wanted: Option<u32>, region: Region },
+    /// Those of the packed image that is changed in place: of the HDU of this number, or of the first packed one.
+    Amend { wanted: Option<u32> },
+    /// None: only those that every job makes.
+    Every,
 }

@@ -7,7 +7,7 @@ ghost use Rattle.fz_block.specs.Checks.{unless_refused};
 ghost use Rattle.fz_block.specs.Header.{next_start_of};
 ghost use Rattle.fz_head.specs.JobChecks.{data_end_of, data_fill, fill_in};
 
-use fz_base::{Source, Stop};
+use fz_base::{Source, Stop, log_law};
 use fz_block::{Header, data_start, next_start};
 use fz_head::fill_check;
 
@@ -33,6 +33,7 @@ pub(crate) fn check_fill<S: Source>(
     if fill_len == 0 {
         return Ok(());
     }
+    log_law();
     let fill = &mut block[..fill_len];
     source.read_at(data_end, fill).map_err(Stop::reading)?;
     fill_check(header, fill).map_err(Stop::Refused)

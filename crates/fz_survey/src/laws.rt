@@ -1,5 +1,5 @@
 //! What the definitions of a job's first look and of its buffers promise together: no code runs.
-ghost use Rattle.fz_survey.specs.Laws.{CutLooksOver, PackLooksOver, UnpackLooksOver};
+ghost use Rattle.fz_survey.specs.Laws.{AmendLooksOver, CutLooksOver, EveryLooksOver, PackLooksOver, UnpackLooksOver};
 ghost use Rattle.fz_survey.specs.Workspace.{BoundGrows, HoldsWhatItTook, PassesNoLimit, PassesWithinAll, StaysInBound};
 
 use fz_pool::sizes_law;
@@ -23,4 +23,6 @@ pub fn survey_law()
     ensures pack { PackLooksOver }
     ensures unpack { UnpackLooksOver }
     ensures cut { CutLooksOver }
+    ensures amend { AmendLooksOver }
+    ensures every { EveryLooksOver }
 {}

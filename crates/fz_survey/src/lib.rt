@@ -14,5 +14,5 @@ mod workspace;
 pub use checks::JobChecks;
 pub use laws::{survey_law, workspace_law};
 pub use survey::{Survey, survey_headers};
-pub use surveys::{survey_to_cut, survey_to_pack, survey_to_unpack};
+pub use surveys::{survey_every, survey_to_amend, survey_to_cut, survey_to_pack, survey_to_unpack};
 pub use workspace::{Wants, Workspace};

@@ -10,7 +10,7 @@ ghost use Rattle.fz_head.specs.Judges.{is_wanted as is_wanted_of};
 ghost use Rattle.fz_head.specs.Planned.{AreOptions};
 ghost use Rattle.fz_head.specs.WorkBuffers.{pixels_of_tile};
 ghost use Rattle.fz_survey.specs.Judges.{AreChecks};
-ghost use Rattle.fz_survey.specs.Looks.{cut_look, hdu_look, look_of, pack_look, unpack_look};
+ghost use Rattle.fz_survey.specs.Looks.{amend_look, cut_look, hdu_look, look_of, pack_look, unpack_look};
 ghost use Rattle.fz_survey.specs.Reads.{IsWithinOne};
 ghost use Rattle.fz_survey.specs.Surveys.{looks_at_fill as looks_at_fill_of, fill_places};
 
@@ -20,10 +20,11 @@ use fz_base::{Fault, Source, Stop};
 use fz_block::{Header, hdu_law};
 use fz_grid::{Region, volume};
 use fz_head::{
-    PackOptions, Plan, image_to_cut, image_to_unpack, is_packable, is_packed, plan_to_pack,
+    PackOptions, Plan, image_to_amend, image_to_cut, image_to_unpack, is_packable, is_packed,
+    plan_to_pack,
 };
 
-/// What the checks of an HDU learn: the pixels of a tile, where the job works on its tiles, and whether
+/// What the checks of an HDU learn: the pixels of a tile, if the job works on its tiles, and whether
 /// the job looks at no HDU after it.
 #[derive(Clone, Copy, Debug, PartialEq, Eq)]
 pub(crate) struct Look {
@@ -85,7 +86,7 @@ fn looks_at_fill(checks: &JobChecks, header: &Header, buf: &[u8]) -> bool
     match checks {
         JobChecks::Pack(_) => is_packable(buf, header),
         JobChecks::Unpack => false,
-        JobChecks::Cut { .. } => false,
+        JobChecks::Cut { .. } | JobChecks::Amend { .. } | JobChecks::Every => false,
     }
 }
 
@@ -109,6 +110,8 @@ fn check_header(
         JobChecks::Cut { wanted, region } => {
             look_to_cut(*wanted, region, header, buf, after_empty)
         }
+        JobChecks::Amend { wanted } => look_to_amend(*wanted, header, buf, after_empty),
+        JobChecks::Every => Ok(going_on(0)),
     }
 }
 
@@ -161,7 +164,27 @@ fn look_to_cut(
     }
 }
 
-// Whether a part is cut from this HDU.
+fn look_to_amend(
+    wanted: Option<u32>,
+    header: &Header,
+    buf: &[u8],
+    after_empty: bool,
+) -> Result<Look, Fault>
+    requires header { IsHeaderOf buf.now header.now }
+    requires end { next_start_of header.now ≤ 2 ^ 62 }
+    ensures exact { result ≡ amend_look wanted header.now buf.now after_empty }
+    ensures small { IfOk result (λ l. l.tile ≤ 2 ^ 26) }
+{
+    if !is_wanted(wanted, header, buf) {
+        return Ok(going_on(0));
+    }
+    match image_to_amend(buf, header, after_empty) {
+        Ok(image) => Ok(stopping(tile_pixels(&image.plan))),
+        Err(fault) => Err(fault),
+    }
+}
+
+// Whether this HDU is the one that the job wants.
 fn is_wanted(wanted: Option<u32>, header: &Header, buf: &[u8]) -> bool
     requires header { IsHeaderOf buf.now header.now }
     ensures { result ≡ is_wanted_of wanted buf.now header.now }

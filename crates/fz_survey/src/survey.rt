@@ -194,5 +194,7 @@ fn most_hdus(checks: &JobChecks) -> u32
         JobChecks::Pack(_) => 65_535,
         JobChecks::Unpack => 65_536,
         JobChecks::Cut { .. } => 65_536,
+        JobChecks::Amend { .. } => 65_536,
+        JobChecks::Every => 65_536,
     }
 }

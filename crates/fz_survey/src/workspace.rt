@@ -21,7 +21,7 @@ pub struct Wants {
     pub header_len: u32,
     /// Whether the job translates headers: a translated header is at most a block longer.
     pub translates: bool,
-    /// The pixels of the largest tile; none where the job works on no tiles, and copies no bytes.
+    /// The pixels of the largest tile; none if the job works on no tiles, and copies no bytes.
     pub tile: Option<u32>,
 }
 
@@ -37,9 +37,9 @@ pub struct Workspace {
 }
 
 impl Workspace {
-    /// Takes what is wanted, and nothing else, in this order: the longest header, the translated header, the
-    /// slots of the window, and the copy buffer of 65,536 bytes. `OverLimit` comes only where one of these
-    /// takings passes the limit, and tells the first of them; where one does, Ok does not come. A refusal
+    /// Takes only what is wanted, in this order: the longest header, the translated header, the
+    /// slots of the window, and the copy buffer of 65,536 bytes. `OverLimit` comes only if one of these
+    /// takings passes the limit, and reports the first of them; if one does, Ok does not come. A refusal
     /// hands all back, and leaves the window empty.
     pub fn take(meter: &mut Meter, window: &mut Window, wants: &Wants) -> Result<Workspace, Short>
         requires empty { IsEmpty window.old }
@@ -99,7 +99,7 @@ fn take_behind_header(
     }
 }
 
-// Takes the translated header, where one is wanted.
+// Takes the translated header, if one is wanted.
 fn take_translated(meter: &mut Meter, wants: &Wants) -> Result<Bytes, Short>
     ensures takings { Takes (translated_buffers wants.now.translates wants.now.header_len) meter.old meter.new result }
     ensures length { IfOk result (λ b. len b ≡ sum (translated_buffers wants.now.translates wants.now.header_len)) }
@@ -110,7 +110,7 @@ fn take_translated(meter: &mut Meter, wants: &Wants) -> Result<Bytes, Short>
     no_buffer(meter)
 }
 
-// Takes the slots and then the copy buffer, where the job works on tiles.
+// Takes the slots and then the copy buffer, if the job works on tiles.
 fn take_for_tiles(meter: &mut Meter, window: &mut Window, tile: Option<u32>) -> Result<Bytes, Short>
     requires empty { IsEmpty window.old }
     ensures takings { Takes (tile_buffers window.old.workers tile) meter.old meter.new result }
@@ -168,7 +168,7 @@ fn no_buffer(meter: &mut Meter) -> Result<Bytes, Short>
     ensures takings { Takes [] meter.old meter.new result }
     ensures length { IfOk result (λ b. len b ≡ 0) }
 {
-    // These calls tell that what is live is at most the peak, and that at most the limit.
+    // These calls say that what is live is at most the peak, and that at most the limit.
     let (_live, _peak) = (meter.live(), meter.peak());
     meter.bytes(0)
 }

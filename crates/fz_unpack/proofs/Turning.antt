@@ -1,7 +1,7 @@
 -- The halves of the window between two turns.
-use Rattle.std.proofs.Common.{◌≡◌, ℕ, ◌+◌, ◌*◌, ◌≤◌, List, [], ◌++◌, map, Option, Some, None, IfSome, refl, sym, ap, ◌∙◌, subst, arith}
+use Rattle.std.proofs.Common.{◌≡◌, ℕ, ◌+◌, ◌*◌, ◌≤◌, List, [], ◌++◌, length, map, Option, Some, None, IfSome, refl, sym, ap, ◌∙◌, subst, arith}
 use Rattle.std.specs.List.{range_with_len}
-use Rattle.std.proofs.lemmas.List.{map-append}
+use Rattle.std.proofs.lemmas.List.{length-map, length-replicate, map-append}
 use Rattle.fz_base.specs.declared.fault.Fault.{Fault}
 use Rattle.fz_block.specs.declared.header.Header.{Header}
 use Rattle.fz_head.specs.declared.job_checks.PackedImage.{PackedImage}
@@ -9,7 +9,7 @@ use Rattle.fz_head.specs.declared.plan.Plan.{Plan}
 use Rattle.fz_files.specs.FirstFault.{IsFirstRowFault, image_row, rows_of}
 use Rattle.fz_files.specs.Packed.{tiles_in}
 use Rattle.fz_pool.specs.Laws.{HalvesAlike}
-use Rattle.fz_pool.specs.Window.{AreHalves, Pool}
+use Rattle.fz_pool.specs.Window.{AreHalves, IsFilled, Pool, slot_size}
 use Rattle.fz_fetch.specs.Fetched.{RowsGive}
 use Rattle.fz_fetch.specs.Images.{HaveRoom, IsSaid}
 use Rattle.fz_unpack.specs.Images.{AreWrittenTiles}
@@ -39,6 +39,23 @@ still_rooms image first second first' second' rooms alike =
     let n : ℕ = rooms.0 in
     let both = alike (2 * n, 8 * n + 64) rooms.1 rooms.2 in
     (n, both.0, both.1, rooms.3)
+
+-- windows with slots that are alike are filled
+still_filled : (size : ℕ × ℕ) (w : Pool) → AreAlike size w → IsFilled w
+still_filled size w alike = sym (length-map w.slots slot_size) ∙ (ap length alike ∙ length-replicate (2 * w.workers) size)
+
+-- what is left of the halves has room in the window again
+pub rooms_again : (image : PackedImage) (whole first second first' second' : Pool) → HaveRoom image whole → HalvesAlike → AreHalves whole first second →
+    ((size : ℕ × ℕ) → AreAlike size first → AreAlike size second → AreAlike size first' × AreAlike size second') → first'.workers + second'.workers ≡ first.workers + second.workers →
+    length first'.slots + length second'.slots ≤ 2 * whole.workers
+rooms_again image whole first second first' second' room law halves alike workers =
+    let n : ℕ = room.0 in
+    let before = law whole first second (2 * n, 8 * n + 64) halves room.1 in
+    let after = alike (2 * n, 8 * n + 64) before.0 before.1 in
+    let one : length first'.slots ≡ 2 * first'.workers = still_filled (2 * n, 8 * n + 64) first' after.0 in
+    let other : length second'.slots ≡ 2 * second'.workers = still_filled (2 * n, 8 * n + 64) second' after.1 in
+    let sum : first.workers + second.workers ≡ whole.workers = halves.workers in
+    omega (arith, one, other, sum, workers)
 
 -- the first fault of some rows after those that are written is that of the image
 pub refused_in_turn : (held : Option (List ℕ)) (h : Header) (image : PackedImage) (at first tiles : ℕ) (before mid : Option (List ℕ)) (x : Fault) → IfSome held (λ file. IsSaid file h image) → tiles ≡ tiles_in image.plan →

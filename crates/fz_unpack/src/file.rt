@@ -21,19 +21,18 @@ use crate::seen::{changed, is_last_as_seen, is_primary_as_found};
 use fz_again::{hdus_law, read_again};
 use fz_base::{Gate, Sink, Source, Stop, output_law, ranges_law, seal};
 use fz_block::next_start;
-use fz_pool::Window;
+use fz_pool::{Crew, Window};
 use fz_survey::{Survey, Workspace};
 use std::thread::Threads;
 
 /// Makes the sink, writes the restored file, its byte 0 last, and finishes.
 pub(crate) fn write_file<R: Threads + Sync, S: Source, K: Sink, G: Gate>(
-    rt: &R,
+    crew: &Crew<'_, R, G>,
     source: &mut S,
     length: u64,
     name: &str,
     sink: &mut K,
     window: &mut Window,
-    gate: &G,
     survey: &Survey,
     space: &mut Workspace,
     block: &mut [u8],
@@ -64,7 +63,7 @@ pub(crate) fn write_file<R: Threads + Sync, S: Source, K: Sink, G: Gate>(
     output_law();
     primary_law();
     sink.create(name).map_err(Stop::writing)?;
-    write_hdus(rt, source, length, sink, window, gate, survey, space, block)?;
+    write_hdus(crew, source, length, sink, window, survey, space, block)?;
     seal(sink)
 }
 
@@ -72,12 +71,11 @@ pub(crate) fn write_file<R: Threads + Sync, S: Source, K: Sink, G: Gate>(
 //
 // Refused: for a row that stands for no pixels, and if the source gives other bytes than at the first look.
 fn write_hdus<R: Threads + Sync, S: Source, K: Sink, G: Gate>(
-    rt: &R,
+    crew: &Crew<'_, R, G>,
     source: &mut S,
     length: u64,
     sink: &mut K,
     window: &mut Window,
-    gate: &G,
     survey: &Survey,
     space: &mut Workspace,
     block: &mut [u8],
@@ -129,7 +127,7 @@ fn write_hdus<R: Threads + Sync, S: Source, K: Sink, G: Gate>(
         if !is_primary_as_found(&first, after_empty, &again) {
             return Err(changed(hdu));
         }
-        at = write_hdu(rt, source, sink, window, gate, &again, at, space)?;
+        at = write_hdu(crew, source, sink, window, &again, at, space)?;
         start = next_start(&again.header);
         if !is_last_as_seen(hdu, survey.hdus, start, length) {
             return Err(changed(hdu));

@@ -19,18 +19,17 @@ use fz_again::{ReadHdu, hdus_law};
 use fz_base::{Gate, Sink, Source, Stop};
 use fz_block::BLOCK_LEN;
 use fz_job::copy_hdu;
-use fz_pool::Window;
+use fz_pool::{Crew, Window};
 use fz_survey::Workspace;
 use std::thread::Threads;
 
 /// Writes what an HDU stands for, whose header is in the workspace, from this byte of the sink on, but not byte 0 of
 /// the file, and answers the byte after it.
 pub(crate) fn write_hdu<R: Threads + Sync, S: Source, K: Sink, G: Gate>(
-    rt: &R,
+    crew: &Crew<'_, R, G>,
     source: &mut S,
     sink: &mut K,
     window: &mut Window,
-    gate: &G,
     again: &ReadHdu,
     at: u64,
     space: &mut Workspace,
@@ -57,17 +56,7 @@ pub(crate) fn write_hdu<R: Threads + Sync, S: Source, K: Sink, G: Gate>(
 {
     hdus_law();
     match &again.image {
-        Some(image) => write_image(
-            rt,
-            source,
-            sink,
-            window,
-            gate,
-            &again.header,
-            image,
-            at,
-            space,
-        ),
+        Some(image) => write_image(crew, source, sink, window, &again.header, image, at, space),
         None => {
             let buf = &space.header.as_slice()[..BLOCK_LEN * again.header.blocks as usize];
             copy_hdu(

@@ -36,7 +36,7 @@ use fz_fetch::{MOST_TILES, fetch_tiles, number_tiles, scatter_tiles, scattered_l
 use fz_grid::{Grid, shape_law, tiles_law, volume};
 use fz_head::{PackedImage, Plan, to_plain};
 use fz_job::{left_for_last, write_fill};
-use fz_pool::{BY_TURNS, Window};
+use fz_pool::{BY_TURNS, Crew, Window};
 use fz_survey::Workspace;
 use fz_tile::{plain_law, plain_len};
 use std::thread::Threads;
@@ -44,11 +44,10 @@ use std::thread::Threads;
 /// Writes the image of a packed HDU, whose header is in the workspace, from this byte of the sink on, but not byte 0 of
 /// the file, and answers the byte after it.
 pub(crate) fn write_image<R: Threads + Sync, S: Source, K: Sink, G: Gate>(
-    rt: &R,
+    crew: &Crew<'_, R, G>,
     source: &mut S,
     sink: &mut K,
     window: &mut Window,
-    gate: &G,
     header: &Header,
     image: &PackedImage,
     at: u64,
@@ -81,7 +80,7 @@ pub(crate) fn write_image<R: Threads + Sync, S: Source, K: Sink, G: Gate>(
     let made = space.translated.as_mut_slice();
     let data_at = write_plain_header(sink, at, buf, header, &image.plan, made)?;
     let copy = space.copy.as_mut_slice();
-    write_tiles(rt, source, sink, window, gate, header, image, data_at, copy)?;
+    write_tiles(crew, source, sink, window, header, image, data_at, copy)?;
     write_fill(sink, data_at, data_len(image), copy)
 }
 
@@ -139,11 +138,10 @@ fn data_len(image: &PackedImage) -> u64
 
 // Writes the pixels of all tiles, round by round.
 fn write_tiles<R: Threads + Sync, S: Source, K: Sink, G: Gate>(
-    rt: &R,
+    crew: &Crew<'_, R, G>,
     source: &mut S,
     sink: &mut K,
     window: &mut Window,
-    gate: &G,
     header: &Header,
     image: &PackedImage,
     data_at: u64,
@@ -175,14 +173,14 @@ fn write_tiles<R: Threads + Sync, S: Source, K: Sink, G: Gate>(
     let tiles = Grid::new(image.plan.shape, image.plan.tile).tile_count();
     if window.workers() >= BY_TURNS && tiles > 2 * window.workers() {
         return write_by_turns(
-            rt, source, sink, window, gate, header, image, data_at, tiles, rows,
+            crew, source, sink, window, header, image, data_at, tiles, rows,
         );
     }
     let mut first = 0;
     while first < tiles {
         let count = (2 * window.workers()).min(tiles - first);
         write_round(
-            rt, source, sink, window, gate, header, image, data_at, first, count, rows,
+            crew, source, sink, window, header, image, data_at, first, count, rows,
         )?;
         first += count;
     }
@@ -191,11 +189,10 @@ fn write_tiles<R: Threads + Sync, S: Source, K: Sink, G: Gate>(
 
 // Writes the pixels of so many tiles, from the first on.
 fn write_round<R: Threads + Sync, S: Source, K: Sink, G: Gate>(
-    rt: &R,
+    crew: &Crew<'_, R, G>,
     source: &mut S,
     sink: &mut K,
     window: &mut Window,
-    gate: &G,
     header: &Header,
     image: &PackedImage,
     data_at: u64,
@@ -232,6 +229,6 @@ fn write_round<R: Threads + Sync, S: Source, K: Sink, G: Gate>(
     let mut numbers = [0; MOST_TILES];
     let tiles = &mut numbers[..count as usize];
     number_tiles(first, tiles);
-    fetch_tiles(rt, source, header, image, tiles, rows, window, gate)?;
+    fetch_tiles(crew, source, header, image, tiles, rows, window)?;
     scatter_tiles(sink, data_at, &image.plan, tiles, window)
 }

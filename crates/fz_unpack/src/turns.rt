@@ -21,7 +21,7 @@ use fz_base::{Gate, Sink, Source, Stop, ranges_law};
 use fz_block::Header;
 use fz_fetch::{MOST_TILES, fetch_beside, number_tiles, scatter_tiles, scattered_law};
 use fz_head::{PackedImage, Plan};
-use fz_pool::{Window, halves_law, sizes_law};
+use fz_pool::{Crew, Window, halves_law, sizes_law};
 use std::mem;
 use std::thread::Threads;
 
@@ -36,11 +36,10 @@ pub(crate) struct Turn {
 
 /// Writes the pixels of all tiles by turns.
 pub(crate) fn write_by_turns<R: Threads + Sync, S: Source, K: Sink, G: Gate>(
-    rt: &R,
+    crew: &Crew<'_, R, G>,
     source: &mut S,
     sink: &mut K,
     window: &mut Window,
-    gate: &G,
     header: &Header,
     image: &PackedImage,
     data_at: u64,
@@ -72,18 +71,15 @@ pub(crate) fn write_by_turns<R: Threads + Sync, S: Source, K: Sink, G: Gate>(
 {
     halves_law();
     sizes_law();
-    let workers = window.workers();
     let Ok((mut first, mut second)) = window.halve() else {
         return Err(Stop::NoMemory);
     };
     let answer = write_turns(
-        rt,
+        crew,
         source,
         sink,
         &mut first,
         &mut second,
-        workers,
-        gate,
         header,
         image,
         data_at,
@@ -96,13 +92,11 @@ pub(crate) fn write_by_turns<R: Threads + Sync, S: Source, K: Sink, G: Gate>(
 
 // The same, in the halves of the window.
 fn write_turns<R: Threads + Sync, S: Source, K: Sink, G: Gate>(
-    rt: &R,
+    crew: &Crew<'_, R, G>,
     source: &mut S,
     sink: &mut K,
     first: &mut Window,
     second: &mut Window,
-    workers: u32,
-    gate: &G,
     header: &Header,
     image: &PackedImage,
     data_at: u64,
@@ -117,7 +111,6 @@ fn write_turns<R: Threads + Sync, S: Source, K: Sink, G: Gate>(
     requires created { IsTrue (K.created sink.old) }
     requires rows { 4096 ≤ len rows.old }
     requires rooms { HaveRooms image.now first.old second.old }
-    requires workers { (1 ≤ workers) × (workers ≤ 64) }
     ensures pixels { OnOk result (IfSome (S.held source.old)
         (λ g. AreWrittenTiles g header.now image.now.plan data_at (range_with_len 0 tiles) (K.contents sink.old)
         (K.contents sink.new))) }
@@ -141,8 +134,7 @@ fn write_turns<R: Threads + Sync, S: Source, K: Sink, G: Gate>(
     };
     while turn.written < tiles {
         take_turn(
-            rt, source, sink, first, second, workers, gate, header, image, data_at, tiles,
-            &mut turn, rows,
+            crew, source, sink, first, second, header, image, data_at, tiles, &mut turn, rows,
         )?;
     }
     Ok(())
@@ -150,13 +142,11 @@ fn write_turns<R: Threads + Sync, S: Source, K: Sink, G: Gate>(
 
 // One turn, after which the halves change their parts.
 fn take_turn<R: Threads + Sync, S: Source, K: Sink, G: Gate>(
-    rt: &R,
+    crew: &Crew<'_, R, G>,
     source: &mut S,
     sink: &mut K,
     first: &mut Window,
     second: &mut Window,
-    workers: u32,
-    gate: &G,
     header: &Header,
     image: &PackedImage,
     data_at: u64,
@@ -172,7 +162,6 @@ fn take_turn<R: Threads + Sync, S: Source, K: Sink, G: Gate>(
     requires created { IsTrue (K.created sink.old) }
     requires rows { 4096 ≤ len rows.old }
     requires rooms { HaveRooms image.now first.old second.old }
-    requires workers { (1 ≤ workers) × (workers ≤ 64) }
     requires stand { StandFetched (S.held source.old) header.now image.now.plan turn.old.written turn.old.decoded tiles second.old }
     ensures pixels { OnOk result (IfSome (S.held source.old)
         (λ g. AreWrittenTiles g header.now image.now.plan data_at (range_with_len turn.old.written turn.old.decoded)
@@ -202,8 +191,7 @@ fn take_turn<R: Threads + Sync, S: Source, K: Sink, G: Gate>(
     let fetching = &mut numbers[..count as usize];
     number_tiles(next, fetching);
     fetch_and_scatter(
-        rt, source, sink, first, second, workers, gate, header, image, data_at, fetching,
-        scattering, rows,
+        crew, source, sink, first, second, header, image, data_at, fetching, scattering, rows,
     )?;
     *turn = Turn {
         written: next,
@@ -215,13 +203,11 @@ fn take_turn<R: Threads + Sync, S: Source, K: Sink, G: Gate>(
 
 // Fetches tiles into the first half, and scatters those of the second beside that.
 fn fetch_and_scatter<R: Threads + Sync, S: Source, K: Sink, G: Gate>(
-    rt: &R,
+    crew: &Crew<'_, R, G>,
     source: &mut S,
     sink: &mut K,
     first: &mut Window,
     second: &mut Window,
-    workers: u32,
-    gate: &G,
     header: &Header,
     image: &PackedImage,
     data_at: u64,
@@ -236,7 +222,6 @@ fn fetch_and_scatter<R: Threads + Sync, S: Source, K: Sink, G: Gate>(
     requires few { len fetching.now ≤ 2 * first.old.workers }
     requires rows { 4096 ≤ len rows.old }
     requires window { HaveRoom image.now first.old }
-    requires workers { (1 ≤ workers) × (workers ≤ 64) }
     requires can_scatter { CanScatter image.now.plan data_at (K.created sink.old) scattering.now second.old }
     ensures fetched { OnOk result (AreFetched (S.held source.old) header.now image.now.plan fetching.now first.new.slots) }
     ensures fault { TellsRowFault (S.held source.old) header.now fetching.now result }
@@ -260,7 +245,7 @@ fn fetch_and_scatter<R: Threads + Sync, S: Source, K: Sink, G: Gate>(
             × Writes (K.tally sink.entry.now) (K.tally sink.exit.now) result }
     { scatter_round(sink, data_at, plan, scattering, second) };
     let (fetched, scattered) = fetch_beside(
-        rt, source, header, image, fetching, rows, first, workers, gate, &mut job,
+        crew, source, header, image, fetching, rows, first, &mut job,
     );
     scattered?;
     fetched

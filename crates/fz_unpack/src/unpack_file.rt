@@ -23,7 +23,7 @@ use crate::file::write_file;
 use fz_again::{hdus_law, headers_law, known_law};
 use fz_base::{Gate, Meter, Sink, Source, Stop, ranges_law};
 use fz_block::BLOCK_LEN;
-use fz_pool::{Window, sizes_law};
+use fz_pool::{Crew, Window, sizes_law};
 use fz_stages::stages_law;
 use fz_survey::{Survey, Wants, Workspace, survey_to_unpack};
 use std::thread::Threads;
@@ -79,16 +79,20 @@ pub fn unpack<R: Threads + Sync, S: Source, K: Sink, G: Gate>(
 {
     // How the promises of the job follow from its stages.
     stages_law::<()>();
+    let crew = Crew {
+        rt,
+        gate,
+        workers: window.workers(),
+    };
     let mut block = meter.bytes(BLOCK_LEN as u64)?;
     let answer = with_block(
-        rt,
+        &crew,
         source,
         length,
         name,
         sink,
         meter,
         window,
-        gate,
         block.as_mut_slice(),
     );
     meter.give_bytes(block);
@@ -97,14 +101,13 @@ pub fn unpack<R: Threads + Sync, S: Source, K: Sink, G: Gate>(
 
 // Looks at the headers, and then works.
 fn with_block<R: Threads + Sync, S: Source, K: Sink, G: Gate>(
-    rt: &R,
+    crew: &Crew<'_, R, G>,
     source: &mut S,
     length: u64,
     name: &str,
     sink: &mut K,
     meter: &mut Meter,
     window: &mut Window,
-    gate: &G,
     block: &mut [u8],
 ) -> Result<(), Stop>
     requires attached { S.attached source.old ≡ Some length }
@@ -143,20 +146,19 @@ fn with_block<R: Threads + Sync, S: Source, K: Sink, G: Gate>(
     stages_law::<()>();
     let survey = survey_to_unpack(source, length, meter, block)?;
     work(
-        rt, source, length, name, sink, meter, window, gate, &survey, block,
+        crew, source, length, name, sink, meter, window, &survey, block,
     )
 }
 
 // Takes all buffers, writes the restored file, and hands the buffers back.
 fn work<R: Threads + Sync, S: Source, K: Sink, G: Gate>(
-    rt: &R,
+    crew: &Crew<'_, R, G>,
     source: &mut S,
     length: u64,
     name: &str,
     sink: &mut K,
     meter: &mut Meter,
     window: &mut Window,
-    gate: &G,
     survey: &Survey,
     block: &mut [u8],
 ) -> Result<(), Stop>
@@ -199,7 +201,7 @@ fn work<R: Threads + Sync, S: Source, K: Sink, G: Gate>(
     };
     let mut space = Workspace::take(meter, window, &wants)?;
     let answer = write_file(
-        rt, source, length, name, sink, window, gate, survey, &mut space, block,
+        crew, source, length, name, sink, window, survey, &mut space, block,
     );
     space.give_back(meter, window);
     answer

@@ -20,11 +20,11 @@ use Rattle.fz_files.specs.Lines.{before_fault, has_wrong_sum, verify_line}
 use Rattle.fz_survey.specs.declared.survey.Survey.{Survey}
 use Rattle.fz_again.specs.Again.{ReadsAsSeen, WereSeen, is_empty_primary}
 use Rattle.fz_again.specs.Known.{IsList}
-use Rattle.fz_verify.specs.Printed.{AreChecked, AreVerified, ChecksHdu, GotBefore, GotLineFront, GotSome, GotVerified, IsChecking, IsPart, VerifiesSeen, verify_lines}
+use Rattle.fz_verify.specs.Printed.{AreChecked, AreRowsSound, AreVerified, ChecksHdu, GotBefore, GotLineFront, GotSome, GotVerified, IsChecking, IsPart, VerifiesSeen, verify_lines}
 use Rattle.fz_verify.specs.Rows.{IsHduFault, IsHduSound, SoundRowsAreNotRefused}
 use Rattle.fz_again.specs.declared.again.ReadHdu.{ReadHdu}
 use Rattle.fz_verify.proofs.Parts.{all_by_count, never_changed, never_refused, none_done, one_done}
-use Rattle.fz_verify.proofs.Rows.{Numbered, fault_among, fault_later, front_kept, hdu_number, none_kept, numbered, numbers_behind, sound_joined}
+use Rattle.fz_verify.proofs.Rows.{Numbered, fault_among, fault_later, front_kept, hdu_number, none_kept, numbered, numbers_behind, sound_among, sound_joined}
 use Rattle.fz_verify.proofs.Texts.{appended_none, front_all, front_behind, front_wider, got_both}
 
 -- ---- lines
@@ -142,6 +142,16 @@ module _ (law : SoundRowsAreNotRefused) (s : Survey) (old : Option (List ℕ)) w
   stops_changed (Some g) len k start flag right now result told differ was = λ hs list.
       let w = was hs list in
       absurd (never_changed g s hs list w.done len k start flag w.part told differ)
+
+  -- if no row of all HDUs has a fault, none of the next one has
+  pub next_sound : (held : Option (List ℕ)) (k start : ℕ) (flag right : Bool) (mid : Option (List ℕ)) (a : ReadHdu) → k < s.hdus → IfSome held (IsChecking s k start flag right old mid) →
+      IfSome held (λ g. ReadsAsSeen g k start flag s.header_len s.tile (Ok a)) → IfSome held (AreRowsSound s) → IfSome held (λ g. IsHduSound g a.header)
+  next_sound None k start flag right mid a few was again all = tt
+  next_sound (Some g) k start flag right mid a few was again all =
+      let w = was all.headers all.seen in
+      let p = one_done g s all.headers w.done k start flag w.part (omega (arith, few, all.seen.count)) a (is_empty_primary a.header) again refl in
+      let parts : all.headers ≡ w.done ++ a.header ∷ p.rest = p.parts ∙ append_assoc w.done (a.header ∷ []) p.rest in
+      sound_among g w.done p.rest a.header (subst (λ l. IsFirstRowFault g (all_rows g l) None) parts all.sound)
 
   -- the header of the next was not read
   pub stops_reading : (held : Option (List ℕ)) (stop : Stop) (k start : ℕ) (flag right : Bool) (now : Option (List ℕ)) → k < s.hdus → IfSome held (IsChecking s k start flag right old now) →

@@ -22,7 +22,7 @@ use Rattle.fz_survey.specs.declared.checks.JobChecks.TheVariants.{Unpack as Unpa
 use Rattle.fz_survey.specs.declared.survey.Survey.{Survey}
 use Rattle.fz_job.specs.Clauses.{ComesLate, IfOverLimit, StaysUnmade, TellsFirstFault}
 use Rattle.fz_verify.specs.Clauses.{GotFront, IsRightAsSaid, PrintsLines}
-use Rattle.fz_verify.specs.Printed.{GotSome, GotVerified, ListsSeen, VerifiesSeen, list_lines, verify_lines}
+use Rattle.fz_verify.specs.Printed.{AreRowsSound, GotSome, GotVerified, ListsSeen, VerifiesSeen, list_lines, verify_lines}
 use Rattle.fz_again.specs.Known.{IsKnown, SurveysKnow}
 use Rattle.fz_stages.specs.Stages.{HasLargest}
 use Rattle.fz_verify.proofs.Outcomes.{refused_weaker}
@@ -173,6 +173,11 @@ module _ (know : SurveysKnow Verify) (s : Survey) where
   pub verify_faulty : (held old new : Option (List ℕ)) (r : Result Bool Stop) → IfSome held (Knows s) → IfSome held (λ g. VerifiesSeen g s old new r) → TellsFirstFault Verify held r
   verify_faulty None old new r exact seen = verify_fault_untold r
   verify_faulty (Some g) old new r exact seen = let known = know g s exact in verify_faulty_by g known old new r (seen known.headers known.seen)
+
+  -- no row of a file without a fault has one
+  pub rows_sound : (held : Option (List ℕ)) → IfSome held (Knows s) → IfSome held (λ g. IsFirstFault Verify g None) → IfSome held (AreRowsSound s)
+  rows_sound None exact none = tt
+  rows_sound (Some g) exact none = let known = know g s exact in record { headers = known.headers; seen = known.seen; sound = rows_are g known None none }
 
   -- what the work wants
   pub verify_learnt : (held : Option (List ℕ)) → IfSome held (Knows s) → IfSome held (HasLargest Verify s.header_len s.tile)

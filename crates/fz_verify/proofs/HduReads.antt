@@ -32,11 +32,6 @@ join_told join (Some g) ranges old mid new first later = join (ranges g) old mid
 
 -- ---- one HDU
 
-pub round_read : TilesAreOfImage → (held : Option (List ℕ)) (h : Header) (image : PackedImage) (tiles : List ℕ) (old new : Option (List (ℕ × ℕ))) → IfSome held (λ g. IsSaid g h image) → AreTilesOf image tiles →
-    IfSome held (λ g. LogsIn (fetched_ranges g h tiles) old new) → IfSome held (λ g. LogsIn (image_ranges g h) old new)
-round_read law None h image tiles old new said are reads = tt
-round_read law (Some g) h image tiles old new said are reads = law g h image tiles old new said are reads
-
 pub rows_read : VerifiesWithin → (held : Option (List ℕ)) (n : ℕ) (buf : List ℕ) (a : ReadHdu) → IsAgain held n buf a → (i : PackedImage) → a.image ≡ Some i → (old new : Option (List (ℕ × ℕ))) →
     IfSome held (λ g. LogsIn (image_ranges g a.header) old new) → IfSome held (λ g. LogsIn (data_touched Verify g a.header) old new)
 rows_read law None n buf a w i is old new reads = tt

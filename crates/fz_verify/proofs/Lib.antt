@@ -14,7 +14,6 @@ pub mod One
 pub mod Outcomes
 pub mod Parts
 pub mod Reports
-pub mod Rounds
 pub mod Rows
 pub mod Said
 pub mod Summed

@@ -32,6 +32,14 @@ module _ (file : List ℕ) where
   sound_both [] ys front back = back
   sound_both (r ∷ rs) ys front back = (front.0, sound_both rs ys front.1 back)
 
+  sound_first : (xs ys : List ImageRow) → IsFirstRowFault file (xs ++ ys) None → IsFirstRowFault file xs None
+  sound_first [] ys sound = tt
+  sound_first (r ∷ rs) ys sound = (sound.0, sound_first rs ys sound.1)
+
+  sound_last : (xs ys : List ImageRow) → IsFirstRowFault file (xs ++ ys) None → IsFirstRowFault file ys None
+  sound_last [] ys sound = sound
+  sound_last (r ∷ rs) ys sound = sound_last rs ys sound.1
+
   pub fault_behind : (xs ys : List ImageRow) (x : Fault) → IsFirstRowFault file xs None → IsFirstRowFault file ys (Some x) → IsFirstRowFault file (xs ++ ys) (Some x)
   fault_behind [] ys x front back = back
   fault_behind (r ∷ rs) ys x front back = inr (front.0, fault_behind rs ys x front.1 back)
@@ -77,6 +85,13 @@ module _ (file : List ℕ) where
       let behind : IsFirstRowFault file (all_rows file (h ∷ rest)) (Some x) =
       subst (λ l. IsFirstRowFault file l (Some x)) (sym (rows_more h rest)) (fault_before (all_rows file (h ∷ [])) (all_rows file rest) x fault) in
       subst (λ l. IsFirstRowFault file l (Some x)) (sym (rows_joined done (h ∷ rest))) (fault_behind (all_rows file done) (all_rows file (h ∷ rest)) x sound behind)
+
+  -- if none of all has a fault, no HDU has one
+  pub sound_among : (done rest : List Header) (h : Header) → IsFirstRowFault file (all_rows file (done ++ h ∷ rest)) None → IsHduSound file h
+  sound_among done rest h sound =
+      let behind : IsFirstRowFault file (all_rows file (h ∷ rest)) None =
+      sound_last (all_rows file done) (all_rows file (h ∷ rest)) (subst (λ l. IsFirstRowFault file l None) (rows_joined done (h ∷ rest)) sound) in
+      sound_first (all_rows file (h ∷ [])) (all_rows file rest) (subst (λ l. IsFirstRowFault file l None) (rows_more h rest) behind)
 
   -- ---- the HDU of a fault
 
@@ -170,14 +185,6 @@ module _ (law : SoundRowsAreNotRefused) (file : List ℕ) (header_len tile : ℕ
   pub hdu_unmixed : (h : Header) (k start : ℕ) (x : Fault) → WasSeen file k start header_len tile h → IsHduSound file h → IsHduFault file h x → ⊥
   hdu_unmixed h k start x seen sound fault = unmixed_by (is_image file h) h k start x seen refl sound fault
 
-  sound_first : (xs ys : List ImageRow) → IsFirstRowFault file (xs ++ ys) None → IsFirstRowFault file xs None
-  sound_first [] ys sound = tt
-  sound_first (r ∷ rs) ys sound = (sound.0, sound_first rs ys sound.1)
-
-  sound_last : (xs ys : List ImageRow) → IsFirstRowFault file (xs ++ ys) None → IsFirstRowFault file ys None
-  sound_last [] ys sound = sound
-  sound_last (r ∷ rs) ys sound = sound_last rs ys sound.1
-
   -- HDUs whose rows are sound have no fault, as the front of those that were seen
   either : (done rest : List Header) (h : Header) (k start : ℕ) (x : Fault) → WasSeen file k start header_len tile h → IsHduSound file h → (IsFirstRowFault file (all_rows file done) (Some x) → ⊥) →
       IsHduFault file h x ⊎ IsFirstRowFault file (all_rows file done) (Some x) → ⊥
@@ -188,8 +195,8 @@ module _ (law : SoundRowsAreNotRefused) (file : List ℕ) (header_len tile : ℕ
   hdus_unmixed [] rest k start x seen sound fault = fault
   hdus_unmixed (h ∷ done) rest k start x seen sound fault =
       let all : IsFirstRowFault file (all_rows file (h ∷ []) ++ all_rows file done) None = subst (λ l. IsFirstRowFault file l None) (rows_more file h done) sound in
-      either done rest h k start x seen.0 (sound_first (all_rows file (h ∷ [])) (all_rows file done) all)
-      (λ there. hdus_unmixed done rest (suc k) _ x seen.1 (sound_last (all_rows file (h ∷ [])) (all_rows file done) all) there)
+      either done rest h k start x seen.0 (sound_first file (all_rows file (h ∷ [])) (all_rows file done) all)
+      (λ there. hdus_unmixed done rest (suc k) _ x seen.1 (sound_last file (all_rows file (h ∷ [])) (all_rows file done) all) there)
       (fault_split file (all_rows file (h ∷ [])) (all_rows file done) x (subst (λ l. IsFirstRowFault file l (Some x)) (rows_more file h done) fault))
 
   -- the first fault of HDUs, the first of which are sound, is one of the others

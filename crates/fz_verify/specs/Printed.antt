@@ -61,6 +61,12 @@ GotVerified file hs old new (Err NoMemory) = GotSome file hs old new
 abbrev pub VerifiesSeen : List ℕ → Survey → Option (List ℕ) → Option (List ℕ) → Result Bool Stop → Type 0
 VerifiesSeen file s old new result = (hs : List Header) → IsList file s hs → GotVerified file hs old new result
 
+-- the HDUs of the file were seen, and none of their rows is refused
+pub record AreRowsSound (s : Survey) (file : List ℕ) : Type 0 where
+  pub headers : List Header
+  pub seen : IsList file s headers
+  pub sound : IsFirstRowFault file (all_rows file headers) None
+
 -- ---- so far
 
 -- the flag says of the first of some HDUs whether it is HDU 1 after a primary with NAXIS 0

@@ -1,5 +1,5 @@
 //! The HDUs of a file, verified one after another.
-ghost use Rattle.std.specs.Prelude.{ℕ, ◌≡◌, ◌+◌, ◌*◌, ◌≤◌, ◌<◌, ◌^◌, Some, length as len, replicate, IfOk, IfSome};
+ghost use Rattle.std.specs.Prelude.{ℕ, ◌≡◌, ◌+◌, ◌*◌, ◌≤◌, ◌<◌, ◌^◌, true, Some, length as len, replicate, IfOk, IfSome};
 ghost use Rattle.fz_base.specs.Ranges.{LogsIn};
 ghost use Rattle.fz_base.specs.Stop.{IfRefused};
 ghost use Rattle.fz_base.specs.Told.{StaysTold};
@@ -13,7 +13,8 @@ ghost use Rattle.fz_again.specs.Again.{IsAgain};
 ghost use Rattle.fz_again.specs.Hdus.{ReadsHdus};
 ghost use Rattle.fz_files.specs.Touched.{data_touched};
 ghost use Rattle.fz_verify.specs.Reported.{Grew, Reports};
-ghost use Rattle.fz_verify.specs.Printed.{ChecksHdu, VerifiesSeen};
+ghost use Rattle.fz_verify.specs.Printed.{AreRowsSound, ChecksHdu, VerifiesSeen};
+ghost use Rattle.fz_verify.specs.Rows.{IsHduSound};
 
 use crate::changed::changed;
 use crate::hdu::verify_hdu;
@@ -22,21 +23,22 @@ use crate::lines::{print, verify_line};
 use fz_again::{ReadHdu, hdus_law, read_again};
 use fz_base::{Gate, Source, Stop, Text, ranges_law};
 use fz_block::next_start;
-use fz_pool::Window;
+use fz_pool::{Crew, Window};
 use fz_survey::{Survey, Workspace};
 use std::thread::Threads;
 
-/// Verifies each HDU and prints its line. Answers whether no sum is wrong.
+/// Verifies each HDU and prints its line; tiles that were decoded before are not decoded again. Answers whether no sum
+/// is wrong.
 pub(crate) fn verify_hdus<R: Threads + Sync, S: Source, T: Text, G: Gate>(
-    rt: &R,
+    crew: &Crew<'_, R, G>,
     source: &mut S,
     length: u64,
     text: &mut T,
     window: &mut Window,
-    gate: &G,
     survey: &Survey,
     space: &mut Workspace,
     block: &mut [u8],
+    decoded: bool,
 ) -> Result<bool, Stop>
     requires attached { S.attached source.old ≡ Some length }
     requires some { 0 < survey.now.hdus }
@@ -45,6 +47,7 @@ pub(crate) fn verify_hdus<R: Threads + Sync, S: Source, T: Text, G: Gate>(
     requires header { len space.old.header ≡ survey.now.header_len }
     requires copy { 4096 ≤ len space.old.copy }
     requires block { len block.old ≡ 2880 }
+    requires sound { decoded ≡ true → IfSome (S.held source.old) (AreRowsSound survey.now) }
     ensures verified { IfSome (S.held source.old) (λ g. VerifiesSeen g survey.now (T.contents text.old) (T.contents text.new) result) }
     ensures reported { IfOk result (Reports (T.contents text.old) (T.contents text.new)) }
     ensures grown { Grew (T.contents text.old) (T.contents text.new) }
@@ -76,7 +79,7 @@ pub(crate) fn verify_hdus<R: Threads + Sync, S: Source, T: Text, G: Gate>(
             block,
             buf,
         )?;
-        let sound = print_verified(rt, source, text, window, gate, &again, space)?;
+        let sound = print_verified(crew, source, text, window, &again, space, decoded)?;
         right = right & sound;
         start = next_start(&again.header);
         // An HDU ends the file exactly if it is the last.
@@ -90,17 +93,18 @@ pub(crate) fn verify_hdus<R: Threads + Sync, S: Source, T: Text, G: Gate>(
 
 // Verifies an HDU, whose header is in the workspace, and prints its line. Answers whether no sum is wrong.
 fn print_verified<R: Threads + Sync, S: Source, T: Text, G: Gate>(
-    rt: &R,
+    crew: &Crew<'_, R, G>,
     source: &mut S,
     text: &mut T,
     window: &mut Window,
-    gate: &G,
     again: &ReadHdu,
     space: &mut Workspace,
+    decoded: bool,
 ) -> Result<bool, Stop>
     requires again { (n : ℕ) × (n < 2 ^ 64) × (S.attached source.old ≡ Some n) × IsAgain (S.held source.old) n space.old.header again.now }
     requires window { IfSome again.now.image (λ i. HasSlotsFor (pixels_of i.plan 0) window.old) }
     requires copy { 4096 ≤ len space.old.copy }
+    requires sound { decoded ≡ true → IfSome (S.held source.old) (λ g. IsHduSound g again.now.header) }
     ensures checked { IfSome (S.held source.old) (λ g. ChecksHdu g again.now.header (T.contents text.old) (T.contents text.new) result) }
     ensures reported { IfOk result (Reports (T.contents text.old) (T.contents text.new)) }
     ensures grown { Grew (T.contents text.old) (T.contents text.new) }
@@ -113,7 +117,7 @@ fn print_verified<R: Threads + Sync, S: Source, T: Text, G: Gate>(
     ensures told_contents { StaysTold (T.contents text.old) (T.contents text.new) }
     ensures cause { Rewrites (S.tally source.old) (S.tally source.new) (T.tally text.old) (T.tally text.new) result }
 {
-    let verdicts = verify_hdu(rt, source, window, gate, again, space)?;
+    let verdicts = verify_hdu(crew, source, window, again, space, decoded)?;
     print(
         text,
         &verify_line(again.header.hdu, &again.image, &verdicts),

@@ -1,5 +1,5 @@
 //! One HDU, verified.
-ghost use Rattle.std.specs.Prelude.{ℕ, ◌≡◌, ◌<◌, ◌≤◌, ◌^◌, Some, length as len, List, IfOk, IfSome, OnOk};
+ghost use Rattle.std.specs.Prelude.{ℕ, ◌≡◌, ◌<◌, ◌≤◌, ◌^◌, true, Some, length as len, List, IfOk, IfSome, OnOk};
 ghost use Rattle.fz_base.specs.Ranges.{LogsIn};
 ghost use Rattle.fz_base.specs.Stop.{IfRefused};
 ghost use Rattle.fz_base.specs.Told.{StaysTold};
@@ -16,26 +16,27 @@ ghost use Rattle.fz_verify.specs.Rows.{IsHduFault, IsHduSound};
 ghost use Rattle.fz_verify.specs.Sums.{AreVerdictsOn};
 
 use crate::sums::{Verdicts, judge_sums};
-use crate::tiles::decode_tiles;
-use fz_again::{ReadHdu, hdus_law};
+use fz_again::{ReadHdu, decode_tiles, hdus_law};
 use fz_base::{Gate, Source, Stop, ranges_law};
 use fz_block::BLOCK_LEN;
-use fz_pool::Window;
+use fz_pool::{Crew, Window};
 use fz_survey::Workspace;
 use std::thread::Threads;
 
-/// Decodes the tiles of an HDU, whose header is in the workspace, if it is packed, and judges its sums.
+/// Decodes the tiles of an HDU, whose header is in the workspace, if it is packed and they were not decoded before, and
+/// judges its sums.
 pub(crate) fn verify_hdu<R: Threads + Sync, S: Source, G: Gate>(
-    rt: &R,
+    crew: &Crew<'_, R, G>,
     source: &mut S,
     window: &mut Window,
-    gate: &G,
     again: &ReadHdu,
     space: &mut Workspace,
+    decoded: bool,
 ) -> Result<Verdicts, Stop>
     requires again { (n : ℕ) × (n < 2 ^ 64) × (S.attached source.old ≡ Some n) × IsAgain (S.held source.old) n space.old.header again.now }
     requires window { IfSome again.now.image (λ i. HasSlotsFor (pixels_of i.plan 0) window.old) }
     requires copy { 4096 ≤ len space.old.copy }
+    requires sound { decoded ≡ true → IfSome (S.held source.old) (λ g. IsHduSound g again.now.header) }
     ensures verdicts { IfOk result (λ v. IfSome (S.held source.old) (λ g. AreVerdictsOn g again.now.header v × IsHduSound g again.now.header)) }
     ensures fault { IfRefused result (λ x. IfSome (S.held source.old) (λ g. IsHduFault g again.now.header x)) }
     ensures row { IfRefused result IsOfSomeRow }
@@ -48,23 +49,25 @@ pub(crate) fn verify_hdu<R: Threads + Sync, S: Source, G: Gate>(
 {
     hdus_law();
     ranges_law();
-    decode_hdu(rt, source, window, gate, again, space.copy.as_mut_slice())?;
+    let rows = space.copy.as_mut_slice();
+    decode_hdu(crew, source, window, again, rows, decoded)?;
     let buf = &space.header.as_slice()[..BLOCK_LEN * again.header.blocks as usize];
     judge_sums(source, &again.header, buf, space.copy.as_mut_slice())
 }
 
-// Decodes the tiles of an HDU, if it is packed.
+// Decodes the tiles of an HDU, if it is packed and they were not decoded before.
 fn decode_hdu<R: Threads + Sync, S: Source, G: Gate>(
-    rt: &R,
+    crew: &Crew<'_, R, G>,
     source: &mut S,
     window: &mut Window,
-    gate: &G,
     again: &ReadHdu,
     rows: &mut [u8],
+    decoded: bool,
 ) -> Result<(), Stop>
     requires again { (n : ℕ) × (n < 2 ^ 64) × (S.attached source.old ≡ Some n) × ((buf : List ℕ) × IsAgain (S.held source.old) n buf again.now) }
     requires window { IfSome again.now.image (λ i. HasSlotsFor (pixels_of i.plan 0) window.old) }
     requires rows { 4096 ≤ len rows.old }
+    requires sound { decoded ≡ true → IfSome (S.held source.old) (λ g. IsHduSound g again.now.header) }
     ensures sound { OnOk result (IfSome (S.held source.old) (λ g. IsHduSound g again.now.header)) }
     ensures fault { IfRefused result (λ x. IfSome (S.held source.old) (λ g. IsHduFault g again.now.header x)) }
     ensures row { IfRefused result IsOfSomeRow }
@@ -76,8 +79,11 @@ fn decode_hdu<R: Threads + Sync, S: Source, G: Gate>(
     ensures cause { Fetches (S.tally source.old) (S.tally source.new) result }
 {
     hdus_law();
+    if decoded {
+        return Ok(());
+    }
     match &again.image {
-        Some(image) => decode_tiles(rt, source, window, gate, &again.header, image, rows),
+        Some(image) => decode_tiles(crew, source, window, &again.header, image, rows),
         None => Ok(()),
     }
 }

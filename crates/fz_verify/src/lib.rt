@@ -1,6 +1,6 @@
 //! Verifies a file, decoding every tile and judging the checksums of every HDU, and lists its HDUs: one line for each.
 //!
-//! Reading order: `verify_file`, `list_file`, `law`, `checking`, `listing`, `changed`, `hdu`, `tiles`, `sums`, `lines`.
+//! Reading order: `verify_file`, `list_file`, `law`, `checking`, `listing`, `changed`, `hdu`, `sums`, `lines`.
 #![tactic(auto)]
 
 mod changed;
@@ -11,7 +11,6 @@ mod lines;
 mod list_file;
 mod listing;
 mod sums;
-mod tiles;
 mod verify_file;
 
 pub use list_file::list;

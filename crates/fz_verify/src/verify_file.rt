@@ -1,10 +1,11 @@
 //! The job `verify`: look at all headers, take all buffers, and then decode, judge and print.
-ghost use Rattle.std.specs.Prelude.{◌≡◌, ◌+◌, ◌<◌, ◌≤◌, max, [], Some, length as len, sum, IfOk, IfSome, IsSome, OnOk};
+ghost use Rattle.std.specs.Prelude.{◌≡◌, ◌+◌, ◌<◌, ◌≤◌, max, true, [], None, Some, length as len, sum, IfOk, IfSome, IsSome, OnOk};
 ghost use Rattle.fz_base.specs.Ranges.{LogsIn};
 ghost use Rattle.fz_base.specs.Stop.{IfRefused, TellsLimit};
 ghost use Rattle.fz_base.specs.Takings.{TellsFirstPast, first_past, highest, piled};
 ghost use Rattle.fz_base.specs.Told.{StaysTold};
 ghost use Rattle.fz_files.specs.Buffers.{job_bound, job_takings};
+ghost use Rattle.fz_files.specs.FirstFault.{IsFirstFault};
 ghost use Rattle.fz_files.specs.declared.job.Job.TheVariants.{Verify};
 ghost use Rattle.fz_pool.specs.Window.{IsEmpty};
 ghost use Rattle.fz_survey.specs.Workspace.{wanted_buffers};
@@ -15,14 +16,14 @@ ghost use Rattle.fz_job.specs.Clauses.{StaysUnmade, TellsFirstFault, greatest_bo
 ghost use Rattle.fz_job.specs.Keeps.{SourceStays};
 ghost use Rattle.fz_verify.specs.Clauses.{IsRightAsSaid, PrintsLines};
 ghost use Rattle.fz_verify.specs.Reported.{Grew, Reports};
-ghost use Rattle.fz_verify.specs.Printed.{VerifiesSeen};
+ghost use Rattle.fz_verify.specs.Printed.{AreRowsSound, VerifiesSeen};
 ghost use Rattle.fz_stages.specs.Stages.{Works, later_takings, wants_for};
 
 use crate::checking::verify_hdus;
 use fz_again::{hdus_law, headers_law, known_law};
 use fz_base::{Gate, Meter, Source, Stop, Text, ranges_law};
 use fz_block::BLOCK_LEN;
-use fz_pool::{Window, sizes_law};
+use fz_pool::{Crew, Window, sizes_law};
 use fz_stages::stages_law;
 use fz_survey::{Survey, Wants, Workspace, survey_to_unpack};
 use std::thread::Threads;
@@ -34,6 +35,8 @@ use std::thread::Threads;
 /// then nothing is printed; the lowest faulty row of the first packed image that has one, as `fetch_tiles` refuses it,
 /// after the lines of the HDUs before. Of a source that gives other bytes at the second reading also an HDU that is no
 /// longer the one that was looked at.
+///
+/// If all tiles were decoded before, without a fault, they are not decoded again.
 pub fn verify<R: Threads + Sync, S: Source, T: Text, G: Gate>(
     rt: &R,
     source: &mut S,
@@ -42,11 +45,13 @@ pub fn verify<R: Threads + Sync, S: Source, T: Text, G: Gate>(
     meter: &mut Meter,
     window: &mut Window,
     gate: &G,
+    decoded: bool,
 ) -> Result<bool, Stop>
     requires attached { S.attached source.old ≡ Some length }
     requires nothing_live { meter.old.live ≡ 0 }
     requires window { IsEmpty window.old }
     requires one_worker { window.old.workers ≡ 1 }
+    requires sound { decoded ≡ true → IfSome (S.held source.old) (λ g. IsFirstFault Verify g None) }
 
     ensures lines { PrintsLines Verify (S.held source.old) (T.contents text.old) (T.contents text.new) result }
     ensures right { IfOk result (λ right. IfSome (S.held source.old) (IsRightAsSaid right)) }
@@ -77,16 +82,21 @@ pub fn verify<R: Threads + Sync, S: Source, T: Text, G: Gate>(
 {
     // How the promises of the job follow from its stages.
     stages_law::<bool>();
+    let crew = Crew {
+        rt,
+        gate,
+        workers: window.workers(),
+    };
     let mut block = meter.bytes(BLOCK_LEN as u64)?;
     let answer = verify_with_block(
-        rt,
+        &crew,
         source,
         length,
         text,
         meter,
         window,
-        gate,
         block.as_mut_slice(),
+        decoded,
     );
     meter.give_bytes(block);
     answer
@@ -94,20 +104,21 @@ pub fn verify<R: Threads + Sync, S: Source, T: Text, G: Gate>(
 
 // Looks at the headers, and then works.
 fn verify_with_block<R: Threads + Sync, S: Source, T: Text, G: Gate>(
-    rt: &R,
+    crew: &Crew<'_, R, G>,
     source: &mut S,
     length: u64,
     text: &mut T,
     meter: &mut Meter,
     window: &mut Window,
-    gate: &G,
     block: &mut [u8],
+    decoded: bool,
 ) -> Result<bool, Stop>
     requires attached { S.attached source.old ≡ Some length }
     requires one_block { meter.old.live ≡ 2880 }
     requires window { IsEmpty window.old }
     requires one_worker { window.old.workers ≡ 1 }
     requires block { len block.old ≡ 2880 }
+    requires sound { decoded ≡ true → IfSome (S.held source.old) (λ g. IsFirstFault Verify g None) }
     ensures lines { PrintsLines Verify (S.held source.old) (T.contents text.old) (T.contents text.new) result }
     ensures right { IfOk result (λ right. IfSome (S.held source.old) (IsRightAsSaid right)) }
     ensures reported { IfOk result (Reports (T.contents text.old) (T.contents text.new)) }
@@ -137,27 +148,28 @@ fn verify_with_block<R: Threads + Sync, S: Source, T: Text, G: Gate>(
     stages_law::<bool>();
     let survey = survey_to_unpack(source, length, meter, block)?;
     verify_seen(
-        rt, source, length, text, meter, window, gate, &survey, block,
+        crew, source, length, text, meter, window, &survey, block, decoded,
     )
 }
 
 // Takes all buffers, verifies the HDUs, and hands the buffers back.
 fn verify_seen<R: Threads + Sync, S: Source, T: Text, G: Gate>(
-    rt: &R,
+    crew: &Crew<'_, R, G>,
     source: &mut S,
     length: u64,
     text: &mut T,
     meter: &mut Meter,
     window: &mut Window,
-    gate: &G,
     survey: &Survey,
     block: &mut [u8],
+    decoded: bool,
 ) -> Result<bool, Stop>
     requires attached { S.attached source.old ≡ Some length }
     requires window { IsEmpty window.old }
     requires some { 0 < survey.now.hdus }
     requires few { survey.now.hdus ≤ 65536 }
     requires block { len block.old ≡ 2880 }
+    requires sound { decoded ≡ true → IfSome (S.held source.old) (AreRowsSound survey.now) }
     ensures verified { IfSome (S.held source.old) (λ g. VerifiesSeen g survey.now (T.contents text.old) (T.contents text.new) result) }
     ensures reported { IfOk result (Reports (T.contents text.old) (T.contents text.new)) }
     ensures grown { Grew (T.contents text.old) (T.contents text.new) }
@@ -189,7 +201,7 @@ fn verify_seen<R: Threads + Sync, S: Source, T: Text, G: Gate>(
     };
     let mut space = Workspace::take(meter, window, &wants)?;
     let answer = verify_hdus(
-        rt, source, length, text, window, gate, survey, &mut space, block,
+        crew, source, length, text, window, survey, &mut space, block, decoded,
     );
     space.give_back(meter, window);
     answer

@@ -1,8 +1,5 @@
 -- One pick more.
-use Rattle.std.proofs.Common.{◌≡◌, ℕ, ◌+◌, ◌*◌, ◌<◌, ℤ, pos, List, [], ◌∷◌, ◌++◌, length, take, get_or, w16, w32, of_z, to_z, sym, ap, ◌∙◌, arith}
-use Rattle.std.specs.Int.{to_be_bytes}
-use Rattle.std.proofs.lemmas.Int.{to_z-of_z}
-use Rattle.fz_tile.specs.Plain.{pixel_bytes}
+use Rattle.std.proofs.Common.{◌≡◌, ℕ, ◌+◌, ◌*◌, ◌<◌, ℤ, pos, List, length, get_or, arith}
 use Rattle.fz_fetch.proofs.Gathering.{byte_same, gathered_more, pick_low, put_one}
 use Rattle.fz_fetch.proofs.gather.gather_bytes.Goals as goal
 

@@ -1,9 +1,8 @@
 -- One pick more.
-use Rattle.std.proofs.Common.{◌≡◌, ℕ, ◌+◌, ◌*◌, ◌<◌, ℤ, pos, List, [], ◌∷◌, ◌++◌, length, take, get_or, w16, w32, of_z, to_z, sym, ap, ◌∙◌, arith}
+use Rattle.std.proofs.Common.{◌≡◌, ℕ, ◌+◌, ◌*◌, ◌<◌, ℤ, pos, List, length, take, get_or, w16, w32, of_z, to_z, ap, ◌∙◌, arith}
 use Rattle.std.specs.Int.{to_be_bytes}
 use Rattle.std.proofs.lemmas.Int.{to_z-of_z}
 use Rattle.std.proofs.Math.ListN.{set}
-use Rattle.fz_tile.specs.Plain.{pixel_bytes}
 use Rattle.fz_fetch.proofs.Gathering.{fits_16, gathered_more, pick_low, put_two, two_same, wide_16}
 use Rattle.fz_fetch.proofs.gather.gather_pairs.Goals as goal
 

@@ -1,9 +1,8 @@
 -- One pick more.
-use Rattle.std.proofs.Common.{◌≡◌, ℕ, ◌+◌, ◌*◌, ◌<◌, ℤ, pos, List, [], ◌∷◌, ◌++◌, length, take, get_or, w16, w32, of_z, to_z, sym, ap, ◌∙◌, arith}
+use Rattle.std.proofs.Common.{◌≡◌, ℕ, ◌+◌, ◌*◌, ◌<◌, ℤ, pos, List, length, take, get_or, w32, of_z, ap, ◌∙◌, arith}
 use Rattle.std.specs.Int.{to_be_bytes}
 use Rattle.std.proofs.lemmas.Int.{to_z-of_z}
 use Rattle.std.proofs.Math.ListN.{set}
-use Rattle.fz_tile.specs.Plain.{pixel_bytes}
 use Rattle.fz_fetch.proofs.Gathering.{fits_32, four_same, gathered_more, pick_low, put_four}
 use Rattle.fz_fetch.proofs.gather.gather_words.Goals as goal
 

@@ -1,5 +1,5 @@
 -- The slots that are left, and those that moved, last first, are all.
-use Rattle.std.proofs.Common.{◌≡◌, ◌+◌, ◌≤◌, ◌++◌, reverse, vec_len, vec_capacity}
+use Rattle.std.proofs.Common.{◌≡◌, ◌+◌, ◌++◌, reverse, vec_len, vec_capacity}
 use Rattle.fz_pool.proofs.halves.move_last.Given as goal
 
 abbrev pub invariant-loop-i : goal.invariant-loop-i

@@ -8,4 +8,4 @@ use Rattle.fz_pool.proofs.workers.join_hands.Goals as goal
 pub join_seat-requires : goal.join_seat-requires
 join_seat-requires c = let key = c.args.board.now.shared.key in let i = c.loop-hand.invariant in let l = i.1 in let one = c.requires.table in
     let b : IsBack c.args.board.now.shared.table_id c.in-Some.hand = popped (IsBack c.args.board.now.shared.table_id) c.loop-hand.hands.items _ _ c.in-Some.hand i.3 c.pop.ensures.items c.in-Some.is in
-    (l.at, b.at, b.ended.held, omega arith, joins (starts_of key) key.workers key.encode _ _ _ _ _ _ _ l.turn b.ended.turn)
+    (l.at, b.at, b.ended.held, omega arith, joins (starts_of key) key.workers key.task _ _ _ _ _ _ _ l.turn b.ended.turn)

@@ -3,7 +3,7 @@ use Rattle.fz_pool.specs.Hands.{IsBack, Leads}
 use Rattle.fz_pool.proofs.workers.join_hands.Given as goal
 
 abbrev pub invariant-loop-hand : goal.invariant-loop-hand
-invariant-loop-hand l = (late : Bool) × Leads l.board.shared.table_id l.board.shared.key l.fn.encode 0 (vec_len l.hands) late l.first × ((vec_len l.hands ≡ vec_len l.fn.hands) ⊎ (late ≡ true))
+invariant-loop-hand l = (late : Bool) × Leads l.board.shared.table_id l.board.shared.key l.fn.task 0 (vec_len l.hands) late l.first × ((vec_len l.hands ≡ vec_len l.fn.hands) ⊎ (late ≡ true))
     × All (IsBack l.board.shared.table_id) l.hands.items
 
 abbrev pub decreases-loop-hand : goal.decreases-loop-hand

@@ -8,4 +8,6 @@ returns c = record {
   pack = λ o. record { seen = λ file. refl; learnt = λ file. refl; takings = λ live file. refl };
   unpack = record { seen = λ file. refl; learnt = λ file. refl; takings = λ live file. refl };
   cut = λ wanted region. record { seen = λ file. refl; learnt = λ file. refl; takings = λ live file. refl };
+  amend = λ wanted. record { seen = λ file. refl; learnt = λ file. refl; takings = λ live file. refl };
+  every = record { seen = λ file. refl; learnt = λ file. refl; takings = λ live file. refl };
 }

@@ -13,7 +13,8 @@ use Rattle.fz_again.specs.Again.{ReadsAsSeen, is_empty_primary}
 use Rattle.fz_again.specs.Hdus.{ReadsHdus}
 use Rattle.fz_files.specs.Touched.{data_touched}
 use Rattle.fz_verify.specs.Printed.{ChecksHdu, IsChecking, VerifiesSeen}
-use Rattle.fz_verify.proofs.CheckedHdus.{more_checked, none_checked, stops_changed, stops_checking, stops_reading}
+use Rattle.fz_verify.specs.Rows.{IsHduSound}
+use Rattle.fz_verify.proofs.CheckedHdus.{more_checked, next_sound, none_checked, stops_changed, stops_checking, stops_reading}
 use Rattle.fz_verify.proofs.Ends.{not_at_end}
 use Rattle.fz_verify.proofs.HduReads.{no_hdu, one_hdu, one_header}
 use Rattle.fz_verify.proofs.Reports.{both_reported, grew_both, grew_by, none_reported}
@@ -258,3 +259,23 @@ returns-then-start-length-clause-read g c =
     let body : IfSome held (λ f. LogsIn (data_touched Verify f a.header) two three) =
     subst (λ (h : Option (List ℕ)). IfSome h (λ f. LogsIn (data_touched Verify f a.header) two three)) (c.in_ok-again.ensures.source.held_is ∙ old.held) c.in_ok-sound.ensures.read in
     one_hdu s first c.ranges_law.ensures.join k start flag right before now few two three (c.hdus_law.ensures.payload Verify) held a old.checked seen body header
+
+pub print_verified-requires-clause-sound : goal.print_verified-requires-clause-sound
+print_verified-requires-clause-sound g c κs within = λ done.
+    let s = c.args.survey.now in
+    let k : ℕ = c.loop-hdu.hdu in
+    let start : ℕ = c.loop-hdu.start in
+    let flag : Bool = c.loop-hdu.after_empty in
+    let right : Bool = c.loop-hdu.right in
+    let held : Option (List ℕ) = g.S.Source.held c.args.source.now in
+    let before : Option (List ℕ) = g.T.Text.contents c.args.text.now in
+    let mid : Option (List ℕ) = g.T.Text.contents c.loop-hdu.text in
+    let old = c.loop-hdu.invariant in
+    let few : k < s.hdus = omega arith in
+    let a = c.in_ok-again.again in
+    let long : length c.as_mut_slice-buf.result.now ≡ s.header_len = ap length c.as_mut_slice-buf.ensures.value ∙ old.space.header ∙ c.requires.header in
+    let seen : IfSome held (λ f. ReadsAsSeen f k start flag s.header_len s.tile (Ok a)) =
+    subst (λ n. IfSome held (λ f. ReadsAsSeen f k start flag n s.tile (Ok a))) long
+    (subst (λ (h : Option (List ℕ)). IfSome h (λ f. ReadsAsSeen f k start flag (length c.as_mut_slice-buf.result.now) s.tile (Ok a))) old.held c.in_ok-again.ensures.as_seen) in
+    let there : g.S.Source.held c.read_again.new.source ≡ held = c.in_ok-again.ensures.source.held_is ∙ old.held in
+    subst (λ (h : Option (List ℕ)). IfSome h (λ f. IsHduSound f a.header)) (sym there) (next_sound c.none_refused_law.ensures s before held k start flag right mid a few old.checked seen (c.requires.sound done))

@@ -35,3 +35,9 @@ returns-in-Some-clause-read g c =
 
 pub returns-in-None-clause-read : goal.returns-in-None-clause-read
 returns-in-None-clause-read g c = unread (g.S.Source.held c.args.source.now) (λ file. data_touched Verify file c.args.again.now.header) (g.S.Source.ranges c.args.source.now)
+
+pub returns-then-decoded-clause-sound : goal.returns-then-decoded-clause-sound
+returns-then-decoded-clause-sound g c = c.requires.sound c.if-decoded.true
+
+pub returns-then-decoded-clause-read : goal.returns-then-decoded-clause-read
+returns-then-decoded-clause-read g c = unread (g.S.Source.held c.args.source.now) (λ file. data_touched Verify file c.args.again.now.header) (g.S.Source.ranges c.args.source.now)

@@ -10,9 +10,9 @@ use Rattle.fz_survey.specs.Workspace.{wanted_buffers}
 use Rattle.fz_survey.specs.declared.checks.JobChecks.TheVariants.{Unpack as UnpackChecks}
 use Rattle.fz_job.specs.Clauses.{TellsFirstFault, greatest_bound}
 use Rattle.fz_verify.specs.Clauses.{PrintsLines}
-use Rattle.fz_verify.specs.Printed.{VerifiesSeen}
+use Rattle.fz_verify.specs.Printed.{AreRowsSound, VerifiesSeen}
 use Rattle.fz_stages.specs.Stages.{Works, later_takings, wants_for}
-use Rattle.fz_verify.proofs.Finished.{Knows, verify_faulty, verify_learnt, verify_prints, verify_right, work_silent}
+use Rattle.fz_verify.proofs.Finished.{Knows, rows_sound, verify_faulty, verify_learnt, verify_prints, verify_right, work_silent}
 use Rattle.fz_verify.proofs.Outcomes.{look_refused, look_unprinted, untouched_silent, ok_weaker, past_by, past_at}
 use Rattle.fz_again.specs.Hdus.{ReadsHdus}
 use Rattle.fz_verify.proofs.HduReads.{all_read, headers_read}
@@ -195,3 +195,10 @@ returns-clause-touched g c =
     let reads : IfSome held (λ file. ReadsHdus Verify file c.in_ok-survey.survey mid new) = rw same at c.verify_seen.ensures.read in
     all_read held old mid new c.ranges_law.ensures.join (c.known_law.ensures.know Verify tt) (c.hdus_law.ensures.known Verify tt) c.in_ok-survey.survey exact
     (headers_read held old mid new (look_reads Verify held old mid new (c.headers_law.ensures.look Verify tt) c.in_ok-survey.ensures.touched)) reads
+
+pub verify_seen-requires-clause-sound : goal.verify_seen-requires-clause-sound
+verify_seen-requires-clause-sound g c κs within = λ done.
+    let held : Option (List ℕ) = g.S.Source.held c.args.source.now in
+    let same : g.S.Source.held c.survey_to_unpack.new.source ≡ held = search rules in
+    let exact : IfSome held (Knows c.in_ok-survey.survey) = c.in_ok-survey.ensures.exact in
+    subst (λ (h : Option (List ℕ)). IfSome h (AreRowsSound c.in_ok-survey.survey)) (sym same) (rows_sound (c.known_law.ensures.know Verify tt) c.in_ok-survey.survey held exact (c.requires.sound done))

@@ -9,10 +9,10 @@ use Rattle.fz_files.specs.Packed.{tiles_in}
 use Rattle.fz_grid.specs.Grid.{tile_count}
 use Rattle.fz_grid.specs.Region.{lengths_of}
 use Rattle.fz_files.specs.Touched.{image_ranges}
-use Rattle.fz_verify.proofs.HduReads.{join_told}
-use Rattle.fz_verify.proofs.HeaderReads.{unread}
-use Rattle.fz_verify.proofs.Rounds.{all_sound, more_sound, none_sound, rounds_fault}
-use Rattle.fz_verify.proofs.tiles.decode_tiles.Goals as goal
+use Rattle.fz_again.proofs.RoundReads.{join_told}
+use Rattle.fz_again.proofs.RoundReads.{unread}
+use Rattle.fz_again.proofs.Rounds.{all_sound, more_sound, none_sound, rounds_fault}
+use Rattle.fz_again.proofs.tiles.decode_tiles.Goals as goal
 
 pub loop-first-init : goal.loop-first-init
 loop-first-init g c = record {

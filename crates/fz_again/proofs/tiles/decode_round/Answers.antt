@@ -3,10 +3,10 @@ use Rattle.std.proofs.Common.{◌≡◌, ℕ, arith}
 use Rattle.std.specs.List.{range_with_len}
 use Rattle.std.proofs.lemmas.List.{length-replicate, length-take}
 use Rattle.std.proofs.lemmas.Result.{on_ok_weaker}
-use Rattle.fz_verify.proofs.HduReads.{round_read}
-use Rattle.fz_verify.proofs.Outcomes.{refused_weaker}
-use Rattle.fz_verify.proofs.Rounds.{numbered, round_fault, round_sound, tiles_of_image}
-use Rattle.fz_verify.proofs.tiles.decode_round.Goals as goal
+use Rattle.fz_again.proofs.RoundReads.{round_read}
+use Rattle.fz_again.proofs.RoundReads.{refused_weaker}
+use Rattle.fz_again.proofs.Rounds.{numbered, round_fault, round_sound, tiles_of_image}
+use Rattle.fz_again.proofs.tiles.decode_round.Goals as goal
 
 pub fetch_tiles-requires-clause-tiles : goal.fetch_tiles-requires-clause-tiles
 fetch_tiles-requires-clause-tiles g c κs within =

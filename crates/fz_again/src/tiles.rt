@@ -13,23 +13,22 @@ ghost use Rattle.fz_job.specs.Clauses.{IsOfSomeRow};
 ghost use Rattle.fz_files.specs.Touched.{image_ranges};
 ghost use Rattle.fz_job.specs.Keeps.{SourceStays, WindowStays};
 
-use fz_again::hdus_law;
+use crate::law::hdus_law;
 use fz_base::{Gate, Source, Stop, ranges_law};
 use fz_block::Header;
 use fz_fetch::{MOST_TILES, fetch_tiles, number_tiles};
 use fz_grid::Grid;
 use fz_head::PackedImage;
-use fz_pool::Window;
+use fz_pool::{Crew, Window};
 use std::thread::Threads;
 
 /// Decodes all tiles of a packed image, round by round. `rows` has room for the rows of a round.
 ///
 /// Refused: the lowest faulty row, as `fetch_tiles` refuses it.
-pub(crate) fn decode_tiles<R: Threads + Sync, S: Source, G: Gate>(
-    rt: &R,
+pub fn decode_tiles<R: Threads + Sync, S: Source, G: Gate>(
+    crew: &Crew<'_, R, G>,
     source: &mut S,
     window: &mut Window,
-    gate: &G,
     header: &Header,
     image: &PackedImage,
     rows: &mut [u8],
@@ -54,7 +53,7 @@ pub(crate) fn decode_tiles<R: Threads + Sync, S: Source, G: Gate>(
     let mut first = 0;
     while first < tiles {
         let count = (2 * window.workers()).min(tiles - first);
-        decode_round(rt, source, window, gate, header, image, first, count, rows)?;
+        decode_round(crew, source, window, header, image, first, count, rows)?;
         first += count;
     }
     Ok(())
@@ -62,10 +61,9 @@ pub(crate) fn decode_tiles<R: Threads + Sync, S: Source, G: Gate>(
 
 // Decodes so many tiles, from the first on.
 fn decode_round<R: Threads + Sync, S: Source, G: Gate>(
-    rt: &R,
+    crew: &Crew<'_, R, G>,
     source: &mut S,
     window: &mut Window,
-    gate: &G,
     header: &Header,
     image: &PackedImage,
     first: u32,
@@ -95,5 +93,5 @@ fn decode_round<R: Threads + Sync, S: Source, G: Gate>(
     let mut numbers = [0; MOST_TILES];
     let tiles = &mut numbers[..count as usize];
     number_tiles(first, tiles);
-    fetch_tiles(rt, source, header, image, tiles, rows, window, gate)
+    fetch_tiles(crew, source, header, image, tiles, rows, window)
 }

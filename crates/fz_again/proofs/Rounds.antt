@@ -1,5 +1,5 @@
 -- Rounds of tiles that were fetched, one after another (FITS 4.0, section 10.1).
-use Rattle.std.proofs.Common.{◌≡◌, ℕ, zero, suc, ◌+◌, ◌-◌, ◌<◌, ◌≤◌, ℤ, List, [], ◌∷◌, ◌++◌, length, map, slice_index, Option, Some, None, IfSome, Result, Err, sym, ap, ◌∙◌, subst, arith}
+use Rattle.std.proofs.Common.{◌≡◌, ℕ, zero, suc, ◌+◌, ◌-◌, ◌<◌, ◌≤◌, ℤ, List, [], ◌∷◌, ◌++◌, length, map, slice_index, Option, Some, None, IfSome, Result, Err, inl, inr, sym, ap, ◌∙◌, subst, arith}
 use Rattle.std.specs.List.{range_with_len}
 use Rattle.std.proofs.lemmas.List.{map-append}
 use Rattle.std.proofs.lemmas.List.FromFn.{get_or-range_with_len, length-range_with_len}
@@ -15,7 +15,6 @@ use Rattle.fz_files.specs.Packed.{tiles_in}
 use Rattle.fz_pool.specs.declared.slot.Slot.{Slot}
 use Rattle.fz_fetch.specs.Fetched.{AreFetched, RowsGive, TellsRowFault}
 use Rattle.fz_fetch.specs.Images.{AreTilesOf, IsSaid}
-use Rattle.fz_verify.proofs.Rows.{fault_before, fault_behind, sound_both}
 
 -- ---- numbers of tiles
 
@@ -45,6 +44,21 @@ tiles_of_image image first count tiles are few =
     (λ i low. let near : i < count = omega (arith, low, length-range_with_len first count) in let is = number_at first count i near in omega (arith, is, near, few))
 
 -- ---- rows
+
+-- the rows of two lists
+module _ (file : List ℕ) where
+  pub sound_both : (xs ys : List ImageRow) → IsFirstRowFault file xs None → IsFirstRowFault file ys None → IsFirstRowFault file (xs ++ ys) None
+  sound_both [] ys front back = back
+  sound_both (r ∷ rs) ys front back = (front.0, sound_both rs ys front.1 back)
+
+  pub fault_behind : (xs ys : List ImageRow) (x : Fault) → IsFirstRowFault file xs None → IsFirstRowFault file ys (Some x) → IsFirstRowFault file (xs ++ ys) (Some x)
+  fault_behind [] ys x front back = back
+  fault_behind (r ∷ rs) ys x front back = inr (front.0, fault_behind rs ys x front.1 back)
+
+  pub fault_before : (xs ys : List ImageRow) (x : Fault) → IsFirstRowFault file xs (Some x) → IsFirstRowFault file (xs ++ ys) (Some x)
+  fault_before [] ys x front = absurd front
+  fault_before (r ∷ rs) ys x (inl is) = inl is
+  fault_before (r ∷ rs) ys x (inr later) = inr (later.0, fault_before rs ys x later.1)
 
 module _ (file : List ℕ) (h : Header) where
   -- rows that stand for pixels are sound

@@ -1,10 +1,11 @@
-use Rattle.std.proofs.Common.{◌≡◌, ℕ, List, [], ◌∷◌, Option, Some, Bool, ap, sym, ◌∙◌, subst}
+use Rattle.std.proofs.Common.{◌≡◌, ℕ, List, [], ◌∷◌, Option, Some, ap, sym, ◌∙◌, subst}
 use lib.ListN.{get_elem?}
 use Rattle.atomic_table.specs.Table.{rest}
 use Rattle.fz_pool.specs.declared.slot.Slot.{Slot}
 use Rattle.fz_pool.specs.declared.board.View.{View}
+use Rattle.fz_pool.specs.declared.task.Task.{Task}
 use Rattle.fz_pool.specs.Slots.{IsResult}
-use Rattle.fz_pool.proofs.steps.work.Goals as goal
+use Rattle.fz_pool.proofs.steps.work_on.Goals as goal
 
 abbrev head_or : (ℕ × Option Slot) → List (ℕ × Option Slot) → ℕ × Option Slot
 head_or d [] = d
@@ -31,7 +32,7 @@ returns-clause-done c = let s = c.requires.start in let a = c.exchange-slot.ensu
       slot = s.slot;
       at = ap (λ (v : View). get_elem? v.starts c.args.i) view ∙ s.at;
       after = c.code_slot.new.slot;
-      result = subst (λ (b : Bool). IsResult b s.slot c.code_slot.new.slot) (c.requires.encode ∙ ap (λ (v : View). v.encode) (sym view))
-          (subst (λ (z : Slot). IsResult c.args.encode z c.code_slot.new.slot) same c.code_slot.ensures);
+      result = subst (λ (b : Task). IsResult b s.slot c.code_slot.new.slot) (c.requires.task ∙ ap (λ (v : View). v.task) (sym view))
+          (subst (λ (z : Slot). IsResult c.args.task z c.code_slot.new.slot) same c.code_slot.ensures);
       held = ap (λ m. m.1) b.3 ∙ ap (λ (r : List (ℕ × Option Slot)). let y : Option Slot = Some c.code_slot.new.slot in (c.args.i, y) ∷ r) (ap rest (ap (λ m. m.1) a.3) ∙ ap rest s.held);
     }

@@ -6,7 +6,7 @@ use Rattle.fz_base.specs.Told.{StaysTold}
 use Rattle.fz_files.specs.FirstFault.{IsFirstRowFault, image_row}
 use Rattle.fz_files.specs.Touched.{image_ranges}
 use Rattle.fz_job.specs.Keeps.{WindowStays}
-use Rattle.fz_verify.proofs.tiles.decode_tiles.Given as goal
+use Rattle.fz_again.proofs.tiles.decode_tiles.Given as goal
 
 abbrev pub invariant-loop-first : goal.invariant-loop-first
 invariant-loop-first g l = record {
