@@ -21,11 +21,11 @@ use Rattle.fz_patched.proofs.Passes.{PassesAll, all_pass, and_left, both_pass, i
 
 -- ---- the HDU is no primary
 
-not_first : (k : ℕ) (header : List ℕ) → is_table (sort_of k header) ≡ true → 0 < k
+pub not_first : (k : ℕ) (header : List ℕ) → is_table (sort_of k header) ≡ true → 0 < k
 not_first zero header e = absurd cc
 not_first (suc k) header e = omega arith
 
-packed_is_table : (header : List ℕ) (h : Header) → is_packed header h ≡ true → is_table h.sort ≡ true
+pub packed_is_table : (header : List ℕ) (h : Header) → is_packed header h ≡ true → is_table h.sort ≡ true
 unfolding is_packed
 packed_is_table header h e = and_left (is_table h.sort) (list_any (is_set (codes "ZIMAGE")) (cards_of header)) e
 

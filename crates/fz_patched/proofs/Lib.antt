@@ -18,10 +18,12 @@ pub mod EarlierRows
 pub mod FaultTarget
 pub mod FormColumns
 pub mod FormSteps
+pub mod FormTables
 pub mod FormTexts
 pub mod FoundWalks
 pub mod GridSteps
 pub mod GridTarget
+pub mod GrownHeaders
 pub mod HeaderNow
 pub mod KeptRows
 pub mod LastSteps

@@ -5,6 +5,7 @@ pub mod FirstPatchFault
 pub mod Form
 pub mod Given
 pub mod GridPatch
+pub mod Grown
 pub mod Headers
 pub mod Laws
 pub mod NewNumbers
@@ -13,5 +14,6 @@ pub mod Patched
 pub mod RicePatch
 pub mod Safe
 pub mod SumPatch
+pub mod Tables
 pub mod WidePatch
 pub mod Writes

@@ -1,8 +1,10 @@
 //! The laws of patches: no code runs.
+ghost use Rattle.fz_patched.specs.Grown.{CountsGrow, FormsChange, GrownHeadersSayMore, OneMoreIsAmended, SumsChange};
 ghost use Rattle.fz_patched.specs.Laws.{AllWritesPatch, AllWritesTile, AmendedHeadersSayTheSame, CardsStandInPlace, EachPrefixIsSafe};
 ghost use Rattle.fz_patched.specs.Laws.{HasOnePatch, HasOnePatchFault, HasWritesOrFault};
 ghost use Rattle.fz_patched.specs.Laws.{KeptRowsStand, NewNumbersAreGiven, NewNumbersStay, NewRowsStand, OthersKeepNumbers};
 ghost use Rattle.fz_patched.specs.Laws.{PatchIsBounded, PatchesAgain, PatchesAgainCutBack, TargetsAreGiven, TilesAreReplaced, WritesAreInOrder};
+ghost use Rattle.fz_patched.specs.Tables.{FormsHaveTables};
 
 use fz_base::places_law;
 use fz_block::{cards_law, found_hdus_law, found_law, hdu_at_law, start_law};
@@ -23,9 +25,28 @@ pub fn amended_header_law()
     cards_law();
 }
 
+/// The cards that a patch may put in the place of others in a packed header: PCOUNT, forms and checksums. A header in which
+/// they were put says the same image, whose heap is longer by what PCOUNT says more.
+pub fn grown_header_law()
+    ensures count { CountsGrow }
+    ensures forms { FormsChange }
+    ensures sums { SumsChange }
+    ensures more { OneMoreIsAmended }
+    ensures says { GrownHeadersSayMore }
+{
+    amended_header_law();
+    card_laws();
+    with_card_law();
+}
+
 /// A card that is written in place is in the header of the file, and all others stay.
 pub fn card_in_file_law()
     ensures { CardsStandInPlace }
+{}
+
+/// The table of a header that has the form of one that can be patched: its columns, its rows, its heap and its data.
+pub fn form_law()
+    ensures { FormsHaveTables }
 {}
 
 /// The given image of a patch has its pixels, and lies within the packed one. The new numbers of tiles: those of the array

@@ -1,0 +1,58 @@
+-- The card is written, if the header has it.
+use Rattle.std.proofs.Common.{◌≡◌, ℕ, List, [], ◌∷◌, Option, IfSome, refl, sym, ap, ◌∙◌, subst}
+use Rattle.std.proofs.lemmas.Result.{on_ok_weaker}
+use Rattle.fz_base.specs.Counts.{Amend}
+use Rattle.fz_sum.specs.Cards.{with_card}
+use Rattle.fz_patched.specs.Writes.{card_write}
+use Rattle.fz_patch.specs.Cards.{IsCardIn, datasum_write, with_datasum}
+use Rattle.fz_patch.specs.Steps.{Wrote, WroteSome}
+use Rattle.fz_patch.proofs.Amended.{amends-nothing}
+use Rattle.fz_patch.proofs.Wrotes.{wrote-none, wrote-nothing}
+use Rattle.fz_patch.proofs.sums.write_datasum.Goals as goal
+
+pub write_card-requires-clause-card : goal.write_card-requires-clause-card
+write_card-requires-clause-card g c = subst (λ (o : Option ℕ). IfSome o (IsCardIn c.args.buf.now)) c.in-Some.is c.requires.card
+
+pub returns-in-Some-clause-wrote : goal.returns-in-Some-clause-wrote
+returns-in-Some-clause-wrote g c =
+    let h = c.args.header.now in
+    let i : ℕ = c.in-Some.i in
+    let held = g.D.Source.held c.args.store.now in
+    let now = g.D.Source.held c.write_card.new.store in
+    let log : Option (List Amend) = (g.D.Source.tally c.args.store.now).amended.writes in
+    let log' : Option (List Amend) = (g.D.Source.tally c.write_card.new.store).amended.writes in
+    on_ok_weaker c.write_card.result
+    (λ wrote. subst (λ o. Wrote (datasum_write h o c.args.sum) held now log log') (sym c.in-Some.is) (subst (λ l. Wrote (card_write h i l ∷ []) held now log log') c.datasum_card.ensures wrote)) c.write_card.ensures.wrote
+
+pub returns-in-Some-clause-some : goal.returns-in-Some-clause-some
+returns-in-Some-clause-some g c =
+    let h = c.args.header.now in
+    let i : ℕ = c.in-Some.i in
+    let held = g.D.Source.held c.args.store.now in
+    let now = g.D.Source.held c.write_card.new.store in
+    let log : Option (List Amend) = (g.D.Source.tally c.args.store.now).amended.writes in
+    let log' : Option (List Amend) = (g.D.Source.tally c.write_card.new.store).amended.writes in
+    subst (λ o. WroteSome (datasum_write h o c.args.sum) held now log log') (sym c.in-Some.is) (subst (λ l. WroteSome (card_write h i l ∷ []) held now log log') c.datasum_card.ensures c.write_card.ensures.some)
+
+pub returns-in-Some-clause-header : goal.returns-in-Some-clause-header
+returns-in-Some-clause-header g c =
+    on_ok_weaker c.write_card.result
+    (λ new. subst (λ o. c.write_card.new.buf ≡ with_datasum o c.args.sum c.args.buf.now) (sym c.in-Some.is) (new ∙ ap (λ l. with_card c.in-Some.i l c.args.buf.now) c.datasum_card.ensures)) c.write_card.ensures.header
+
+pub returns-in-None-clause-wrote : goal.returns-in-None-clause-wrote
+returns-in-None-clause-wrote g c =
+    let held = g.D.Source.held c.args.store.now in
+    let log : Option (List Amend) = (g.D.Source.tally c.args.store.now).amended.writes in
+    subst (λ o. Wrote (datasum_write c.args.header.now o c.args.sum) held held log log) (sym c.in-None.is) (wrote-none held log)
+
+pub returns-in-None-clause-some : goal.returns-in-None-clause-some
+returns-in-None-clause-some g c =
+    let held = g.D.Source.held c.args.store.now in
+    let log : Option (List Amend) = (g.D.Source.tally c.args.store.now).amended.writes in
+    wrote-nothing (datasum_write c.args.header.now c.args.found c.args.sum) held log
+
+pub returns-in-None-clause-header : goal.returns-in-None-clause-header
+returns-in-None-clause-header g c = subst (λ o. c.args.buf.now ≡ with_datasum o c.args.sum c.args.buf.now) (sym c.in-None.is) refl
+
+pub returns-in-None-clause-cause : goal.returns-in-None-clause-cause
+returns-in-None-clause-cause g c = amends-nothing (g.D.Source.tally c.args.store.now) tt

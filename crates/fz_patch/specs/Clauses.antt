@@ -1,0 +1,95 @@
+-- What a patch promises.
+use Rattle.std.specs.Prelude.{ℕ, ◌≡◌, ◌⊎◌, ◌<◌, ◌≤◌, ◌^◌, ◌++◌, max, List, Option, Some, None, Result, Ok, Err, OnOk, IsErrOf, ⊤}
+use Rattle.fz_base.specs.Counts.{Amend, Rose, Tally}
+use Rattle.fz_base.specs.JobBuffers.{buffer_bound}
+use Rattle.fz_base.specs.Meter.{Gauge}
+use Rattle.fz_base.specs.Stop.{IfRefused, IsRefused, TellsLimit}
+use Rattle.fz_base.specs.Takings.{TellsFirstPast}
+use Rattle.fz_base.specs.declared.failure.Stop.{Stop}
+use Rattle.fz_base.specs.declared.failure.Stop.TheVariants.{Refused, ReadFault, WriteFault, OverLimit, NoMemory}
+use Rattle.fz_block.specs.Checks.{headers_of, unjudged}
+use Rattle.fz_block.specs.Takings.{walk_takings}
+use Rattle.fz_block.specs.declared.header.Header.{Header}
+use Rattle.fz_job.specs.Clauses.{IfOverLimit, IsAnswer, IsChanged, IsOfSomeRow}
+use Rattle.fz_patched.specs.Amends.{applied}
+use Rattle.fz_patched.specs.Buffers.{patch_bound, patch_takings, second_takings}
+use Rattle.fz_patched.specs.FirstPatchFault.{ArePatchSteps, IsFirstPatchFault}
+use Rattle.fz_patched.specs.Given.{PatchJob, given_by}
+use Rattle.fz_patched.specs.Patched.{IsPatched}
+use Rattle.fz_patched.specs.Safe.{IsSafeAfter}
+use Rattle.fz_patched.specs.Writes.{Steps, all_writes}
+use Rattle.fz_patch.specs.Ends.{SameCounts}
+use Rattle.fz_patch.specs.Steps.{Wrote, WroteSome}
+use Rattle.fz_patch.specs.Told.{IfBoth}
+
+-- after Ok the patch has no fault, and after Refused x its first fault is x
+abbrev pub TellsPatchFault : {X : Type 0} → PatchJob → Option (List ℕ) → Option (List ℕ) → Result X Stop → Type 0
+TellsPatchFault job held given (Ok x) = IfBoth held given (λ file patch. IsFirstPatchFault file patch job None)
+TellsPatchFault job held given (Err (Refused x)) = IfBoth held given (λ file patch. IsFirstPatchFault file patch job (Some x))
+TellsPatchFault job held given (Err ReadFault) = ⊤
+TellsPatchFault job held given (Err WriteFault) = ⊤
+TellsPatchFault job held given (Err (OverLimit live asked limit)) = ⊤
+TellsPatchFault job held given (Err NoMemory) = ⊤
+
+-- The file is patched: all writes of the patch were made, one after another, and with them its tiles, the file that it stands for and its
+-- checksums are as they should be.
+pub record IsPatchedBy (job : PatchJob) (held' : Option (List ℕ)) (writes writes' : Option (List Amend)) (file patch : List ℕ) : Type 0 where
+  pub header : Header
+  pub steps : Steps
+  pub are : ArePatchSteps file patch job header steps
+  pub wrote : Wrote (all_writes steps) (Some file) held' writes writes'
+  pub is : IsPatched file (applied (all_writes steps) file) header (given_by patch job)
+
+-- Some writes of the patch were made, from the first on, and of the next one perhaps a part; after every prefix of all writes the file is safe.
+pub record StopsAmong (job : PatchJob) (held' : Option (List ℕ)) (writes writes' : Option (List Amend)) (file patch : List ℕ) : Type 0 where
+  pub header : Header
+  pub steps : Steps
+  pub are : ArePatchSteps file patch job header steps
+  pub some : WroteSome (all_writes steps) (Some file) held' writes writes'
+  pub safe : (n : ℕ) → IsSafeAfter file header (given_by patch job) steps n
+
+-- whatever the answer is, nothing was written, or some writes of the patch
+abbrev pub LeavesSafe : PatchJob → Option (List ℕ) → Option (List Amend) → Option (List Amend) → List ℕ → List ℕ → Type 0
+LeavesSafe job held' writes writes' file patch = ((held' ≡ Some file) × (writes' ≡ writes)) ⊎ StopsAmong job held' writes writes' file patch
+
+-- Nothing was written after Refused, if both files show their bytes, nor after OverLimit. If they do not, a refusal after some writes is that of
+-- a row, or of an HDU of which FILE gave other bytes than before.
+pub record IsUnwritten {X : Type 0} (held given : Option (List ℕ)) (Same : Type 0) (result : Result X Stop) : Type 0 where
+  pub refused : IsRefused result → IfBoth held given (λ file patch. Same)
+  pub late : IfRefused result (λ x. Same ⊎ (IsChanged x ⊎ IsOfSomeRow x))
+  pub over_limit : IfOverLimit result Same
+
+-- the greatest bound of a patch, whatever the files are
+abbrev pub greatest_patch_bound : ℕ
+greatest_patch_bound = buffer_bound 737280 (2 ^ 26) 1
+
+-- Why a patch ended as it did: after Ok and after Refused no count rose; ReadFault comes only if a count of read faults rose, of either file,
+-- and WriteFault only if that of write faults rose. OverLimit is the first of the takings that passes the limit, and comes if one does. The
+-- first taking, of one block, comes before anything is read: if the limit is below that, the answer is OverLimit.
+pub record HasPatchCause {X : Type 0} (job : PatchJob) (held given : Option (List ℕ)) (store store' patch patch' : Tally) (limit : ℕ) (result : Result X Stop) : Type 0 where
+  pub done : OnOk result (SameCounts store store' × (patch' ≡ patch))
+  pub refused : IsRefused result → SameCounts store store' × (patch' ≡ patch)
+  pub read_fault : IsErrOf result ReadFault → Rose store.faults store'.faults ⊎ Rose patch.faults patch'.faults
+  pub write_fault : IsErrOf result WriteFault → Rose store.amended.faults store'.amended.faults
+  pub over_limit : TellsLimit limit greatest_patch_bound result
+  pub first_past : IfBoth held given (λ file by. TellsFirstPast limit (patch_takings file by job) result)
+  pub block : limit < 2880 → IsErrOf result (OverLimit 0 2880 limit) × (store' ≡ store) × (patch' ≡ patch)
+
+-- if no count of faults rose, and the limit is at least the bound, the answer is Ok or Refused, or there was no memory
+abbrev pub AnswersPatch : {X : Type 0} → PatchJob → Option (List ℕ) → Option (List ℕ) → Tally → Tally → Tally → Tally → ℕ → Result X Stop → Type 0
+AnswersPatch job held given store store' patch patch' limit result =
+    ¬ Rose store.faults store'.faults → ¬ Rose store.amended.faults store'.amended.faults → ¬ Rose patch.faults patch'.faults →
+    IfBoth held given (λ file by. patch_bound file by job ≤ limit → IsAnswer result)
+
+-- Nothing is live, the limit stays, and the peak is at most that before or the bound. Of files that do not show their bytes the greatest
+-- bound is said.
+pub record KeepsPatchBuffers (job : PatchJob) (held given : Option (List ℕ)) (old new : Gauge) : Type 0 where
+  pub live : new.live ≡ 0
+  pub limit : new.limit ≡ old.limit
+  pub risen : old.peak ≤ new.peak
+  pub peak : IfBoth held given (λ file patch. new.peak ≤ max old.peak (patch_bound file patch job))
+  pub most : new.peak ≤ max old.peak greatest_patch_bound
+
+-- what is taken after the first block
+abbrev pub later_takings : List ℕ → List ℕ → PatchJob → List (ℕ × ℕ)
+later_takings file patch job = walk_takings unjudged 2880 65536 0 0 file ++ second_takings file patch job (headers_of 65536 file)

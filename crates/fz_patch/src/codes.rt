@@ -1,0 +1,121 @@
+//! The new codes, from the heap's end on: the second pass over the tiles with a pixel in the box.
+ghost use Rattle.std.specs.Prelude.{ℕ, ◌≡◌, ◌+◌, ◌≤◌, ◌^◌, ℤ, List, length as len, IfSome, OnOk};
+ghost use Rattle.fz_base.specs.Stop.{IfRefused, IsRefused};
+ghost use Rattle.fz_base.specs.Store.{HasAtLeast};
+ghost use Rattle.fz_base.specs.Told.{StaysTold};
+ghost use Rattle.fz_fetch.specs.Images.{HaveRoom};
+ghost use Rattle.fz_fetch.specs.Rows.{StandsWithin};
+ghost use Rattle.fz_files.specs.Packed.{heap_of};
+ghost use Rattle.fz_job.specs.Keeps.{SourceStays, WindowStays};
+ghost use Rattle.fz_patched.specs.FirstPatchFault.{BoxHasNumbers};
+ghost use Rattle.fz_patched.specs.NewNumbers.{box_tiles};
+ghost use Rattle.fz_patched.specs.Writes.{grown_end, heap_writes, new_codes, zero_writes};
+ghost use Rattle.fz_pool.specs.Round.{coded_tile};
+ghost use Rattle.fz_patch.specs.Ends.{AmendsStore, Patches};
+ghost use Rattle.fz_patch.specs.Measures.{HasRoom};
+ghost use Rattle.fz_patch.specs.Steps.{ComesInWork, KeepsHeader, KeepsReach, Wrote, WroteSome};
+ghost use Rattle.fz_patch.specs.Targets.{GivesWithin, IsGivenTo, IsTarget, IsTargetIn, given_at};
+ghost use Rattle.fz_patch.specs.Told.{IfBoth};
+
+use crate::find::changed;
+use crate::measure::Measure;
+use crate::settled::settle;
+use crate::target::Target;
+use crate::tile::prepare_tile;
+use crate::walk::{code_slot, tiles_in_box};
+use fz_base::{Source, Stop, Store, amend_at};
+use fz_block::BLOCK_LEN;
+use fz_pool::{Slot, Window};
+use std::thread::Threads;
+
+/// Writes the new codes of all tiles with a pixel in the box, one after another, and zeros to a whole block.
+///
+/// Refused only if a file gave other bytes than before: a row, or, if the codes are not as long as was measured, with
+/// BadCard at card 0.
+pub(crate) fn write_codes<R: Threads + Sync, D: Store, S: Source>(
+    rt: &R,
+    store: &mut D,
+    patch: &mut S,
+    target: &Target,
+    found: &Measure,
+    window: &mut Window,
+    copy: &mut [u8],
+) -> Result<(), Stop>
+    requires target { IsTarget target.now }
+    requires within { StandsWithin (D.attached store.old) target.now.image.table }
+    requires said { IfSome (D.held store.old) (λ f. IsTargetIn f target.now) }
+    requires given { GivesWithin (S.attached patch.old) target.now }
+    requires room { HasRoom target.now found.now }
+    requires window { HaveRoom target.now.image window.old }
+    requires copy { 4096 ≤ len copy.old }
+    ensures wrote { OnOk result (IfBoth (D.held store.old) (S.held patch.old) (λ f p. (corner : List ℕ) (olds : List (List ℤ))
+        → IsGivenTo corner p target.now → BoxHasNumbers f target.now.header (given_at corner p) olds
+        → Wrote (heap_writes f target.now.header
+        (new_codes target.now.image.plan (given_at corner p) (box_tiles target.now.image.plan (given_at corner p)) olds))
+        (D.held store.old) (D.held store.new) (D.tally store.old).amended.writes (D.tally store.new).amended.writes)) }
+    ensures some { IfBoth (D.held store.old) (S.held patch.old) (λ f p. (corner : List ℕ) (olds : List (List ℤ))
+        → IsGivenTo corner p target.now → BoxHasNumbers f target.now.header (given_at corner p) olds
+        → WroteSome (heap_writes f target.now.header
+        (new_codes target.now.image.plan (given_at corner p) (box_tiles target.now.image.plan (given_at corner p)) olds))
+        (D.held store.old) (D.held store.new) (D.tally store.old).amended.writes (D.tally store.new).amended.writes) }
+    ensures unrefused { IfBoth (D.held store.old) (S.held patch.old) (λ f p. (corner : List ℕ) (olds : List (List ℤ))
+        → IsGivenTo corner p target.now → BoxHasNumbers f target.now.header (given_at corner p) olds
+        → len (heap_of (new_codes target.now.image.plan (given_at corner p) (box_tiles target.now.image.plan (given_at corner p)) olds)) ≡ found.now.bytes
+        → ¬ IsRefused result) }
+    ensures grown { OnOk result (HasAtLeast (D.attached store.new) (grown_end target.now.header found.now.bytes)) }
+    ensures late { IfRefused result (ComesInWork target.now.header.hdu) }
+    ensures header { OnOk result (KeepsHeader target.now.header (D.held store.old) (D.held store.new)) }
+    ensures window { WindowStays window.old window.new }
+    ensures copy { len copy.new ≡ len copy.old }
+    ensures reach { KeepsReach (D.attached store.old) (D.attached store.new) }
+    ensures told { StaysTold (D.held store.old) (D.held store.new) }
+    ensures patch { SourceStays (S.held patch.old) (S.held patch.new) (S.attached patch.old) (S.attached patch.new) }
+    ensures cause { Patches (D.tally store.old) (D.tally store.new) (S.tally patch.old) (S.tally patch.new) result }
+{
+    let mut at = target.heap_end();
+    let end = at + found.bytes;
+    for tile in tiles_in_box(target) {
+        prepare_tile(rt, store, patch, target, tile, window, copy)?;
+        let slot = code_slot(target, window);
+        let count = u64::from(slot.job.len);
+        let room = end - at;
+        if count > room {
+            return Err(changed(target.header.hdu));
+        }
+        amend_at(store, at, code_in(slot))?;
+        at += count;
+    }
+    if at < end {
+        return Err(changed(target.header.hdu));
+    }
+    write_zeros(store, at, target.grown_end(found.bytes))?;
+    settle(store)
+}
+
+/// The code in the slot.
+pub(crate) fn code_in(slot: &Slot) -> &[u8]
+    requires { slot.now.job.len ≤ len slot.now.code }
+    ensures bytes { result.now ≡ (coded_tile slot.now).bytes }
+    ensures count { len result.now ≡ slot.now.job.len }
+{
+    &slot.code.as_slice()[..slot.job.len as usize]
+}
+
+// Writes zeros up to this byte, which is less than a block away; none if it is there.
+fn write_zeros<D: Store>(store: &mut D, at: u64, end: u64) -> Result<(), Stop>
+    requires within { HasAtLeast (D.attached store.old) at }
+    requires near { (at ≤ end) × (end ≤ at + 2879) × (end ≤ 2 ^ 62) }
+    ensures wrote { OnOk result (Wrote (zero_writes at end) (D.held store.old) (D.held store.new)
+        (D.tally store.old).amended.writes (D.tally store.new).amended.writes) }
+    ensures some { WroteSome (zero_writes at end) (D.held store.old) (D.held store.new)
+        (D.tally store.old).amended.writes (D.tally store.new).amended.writes }
+    ensures grown { OnOk result (HasAtLeast (D.attached store.new) end) }
+    ensures reach { KeepsReach (D.attached store.old) (D.attached store.new) }
+    ensures cause { AmendsStore (D.tally store.old) (D.tally store.new) result }
+{
+    if at == end {
+        return Ok(());
+    }
+    let zeros = [0; BLOCK_LEN];
+    amend_at(store, at, &zeros[..(end - at) as usize])
+}
