@@ -1,0 +1,11 @@
+pub mod Again
+pub mod Bounds
+pub mod Faults
+pub mod Limits
+pub mod Looking
+pub mod Moving
+pub mod OneLimit
+pub mod SameAsUnpack
+pub mod Settling
+pub mod Unread
+pub mod Watching

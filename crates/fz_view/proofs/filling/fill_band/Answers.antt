@@ -1,0 +1,100 @@
+-- One tile after another.
+use Rattle.std.proofs.Common.{◌≡◌, ℕ, ◌*◌, ◌/◌, ◌≤◌, List, ◌∷◌, length, Option, IfSome, refl, sym, ap, ◌∙◌, subst}
+use Rattle.std.specs.List.{AllByRecursion}
+use Rattle.fz_base.specs.Ranges.{LogsIn}
+use Rattle.fz_block.specs.declared.axes.Axes.{Axes}
+use Rattle.fz_grid.specs.Arrays.{product}
+use Rattle.fz_grid.specs.Sieve.{IsSieveOf, sieve_lengths}
+use Rattle.fz_grid.specs.SieveWalks.{sieve_tiles_left}
+use Rattle.fz_grid.specs.declared.sieving.SieveTiles.{SieveTiles}
+use Rattle.fz_files.specs.Packed.{pixel_bits}
+use Rattle.fz_files.specs.Touched.{touched_by}
+use Rattle.fz_files.specs.declared.job.Job.TheVariants.{Unpack}
+use Rattle.fz_fetch.specs.Fetched.{IsFetched}
+use Rattle.fz_view.specs.Boxes.{HasBox}
+use Rattle.fz_view.proofs.Filled.{IsTileWithPick, all_filled, both_read, first_left, never_ok, none_filled, none_read, one_filled, tiles_of_grid, tiles_with_pick}
+use Rattle.fz_view.proofs.filling.fill_band.Goals as goal
+
+pub loop-tile-init : goal.loop-tile-init
+loop-tile-init g c =
+    let held : Option (List ℕ) = g.S.Source.held c.args.source.now in
+    let p = c.args.image.now.plan in
+    let sieve = c.sieve_of-sieve.result in
+    let left : List ℕ = sieve_tiles_left c.into_iter-tile-iterator.result in
+    let given : left ≡ sieve_tiles_left c.sieve_tiles-tile-items.result = ap (λ (s : SieveTiles). sieve_tiles_left s) c.into_iter-tile-iterator.ensures.into_iter_gives in
+    let shape = c.new-grid.ensures.shape in
+    let tile = c.new-grid.ensures.tile in
+    let all = tiles_with_pick p sieve c.new-grid.result.shape c.new-grid.result.tile (sieve_tiles_left c.sieve_tiles-tile-items.result) shape tile c.sieve_tiles-tile-items.ensures.picked c.sieve_tiles-tile-items.ensures.inside in
+    record {
+      held = refl;
+      attached = refl;
+      reads = refl;
+      told_ranges = λ told. told;
+      read = none_read held (touched_by Unpack) (g.S.Source.ranges c.args.source.now);
+      space = record { block = refl; header = refl; translated = refl; numbers = refl; code = refl; band = refl };
+      picked = subst (AllByRecursion (IsTileWithPick p sieve)) (sym given) all;
+      done = none_filled held c.args.header.now p sieve left c.args.space.now.band
+          (given ∙ tiles_of_grid p sieve c.new-grid.result.shape c.new-grid.result.tile (sieve_tiles_left c.sieve_tiles-tile-items.result) shape tile c.sieve_tiles-tile-items.ensures.tiles);
+    }
+
+pub loop-tile-preserved : goal.loop-tile-preserved
+loop-tile-preserved g c =
+    let held : Option (List ℕ) = g.S.Source.held c.args.source.now in
+    let h = c.args.header.now in
+    let i = c.args.image.now in
+    let sieve = c.sieve_of-sieve.result in
+    let old = c.loop-tile.invariant in
+    let one = c.in_ok-put_tile.ensures in
+    let new = c.put_tile.new in
+    let left : List ℕ = sieve_tiles_left c.loop-tile.tile-iterator in
+    let behind : List ℕ = sieve_tiles_left c.next.new.self in
+    let next : left ≡ c.in-Some.tile ∷ behind = c.in-Some.ensures.steps in
+    let here = first_left (IsTileWithPick i.plan sieve) c.in-Some.tile left behind next old.picked in
+    let fetched : IsFetched held h i.plan c.in-Some.tile new.space.numbers = subst (λ (l : Option (List ℕ)). IsFetched l h i.plan c.in-Some.tile new.space.numbers) old.held one.fetched in
+    record {
+      held = one.source.held_is ∙ old.held;
+      attached = one.source.attached_is ∙ old.attached;
+      reads = one.cause.ok ∙ old.reads;
+      told_ranges = λ told. one.told (old.told_ranges told);
+      read = both_read c.ranges_law.ensures.join held (touched_by Unpack) (g.S.Source.ranges c.args.source.now) (g.S.Source.ranges c.loop-tile.source) (g.S.Source.ranges new.source) old.read
+          (subst (λ (l : Option (List ℕ)). IfSome l (λ f. LogsIn (touched_by Unpack f) (g.S.Source.ranges c.loop-tile.source) (g.S.Source.ranges new.source))) old.held one.read);
+      space = record {
+        block = one.space.block ∙ old.space.block;
+        header = one.space.header ∙ old.space.header;
+        translated = one.space.translated ∙ old.space.translated;
+        numbers = one.space.numbers ∙ old.space.numbers;
+        code = one.space.code ∙ old.space.code;
+        band = one.space.band ∙ old.space.band;
+      };
+      picked = here.1;
+      done = one_filled c.scattered_law.ensures.parts held h i sieve c.in-Some.tile left behind new.space.numbers c.args.space.now.band c.loop-tile.space.band new.space.band here.0.0 next c.requires.known fetched one.placed old.done;
+    }
+
+pub sieve_tiles-tile-items-requires : goal.sieve_tiles-tile-items-requires
+sieve_tiles-tile-items-requires g c = subst (λ (s : Axes). IsSieveOf s c.sieve_of-sieve.result) (sym c.new-grid.ensures.shape) c.sieve_of-sieve.ensures.sieve
+
+pub put_tile-requires-clause-sieve : goal.put_tile-requires-clause-sieve
+put_tile-requires-clause-sieve g c = c.sieve_of-sieve.ensures.sieve
+
+pub put_tile-requires-clause-room : goal.put_tile-requires-clause-room
+put_tile-requires-clause-room g c =
+    let bytes : ℕ = pixel_bits c.args.image.now.plan / 8 in
+    subst (λ n. bytes * product (sieve_lengths c.sieve_of-sieve.result) ≤ n) (sym c.loop-tile.invariant.space.band)
+    (subst (λ (l : List ℕ). bytes * product l ≤ length c.args.space.now.band) (sym c.sieve_of-sieve.ensures.lengths) c.requires.region.fits)
+
+pub returns-in_err-put_tile-clause-read : goal.returns-in_err-put_tile-clause-read
+returns-in_err-put_tile-clause-read g c =
+    let held : Option (List ℕ) = g.S.Source.held c.args.source.now in
+    let old = c.loop-tile.invariant in
+    both_read c.ranges_law.ensures.join held (touched_by Unpack) (g.S.Source.ranges c.args.source.now) (g.S.Source.ranges c.loop-tile.source) (g.S.Source.ranges c.put_tile.new.source) old.read
+    (subst (λ (l : Option (List ℕ)). IfSome l (λ f. LogsIn (touched_by Unpack f) (g.S.Source.ranges c.loop-tile.source) (g.S.Source.ranges c.put_tile.new.source))) old.held c.in_err-put_tile.ensures.read)
+
+pub returns-clause-filled : goal.returns-clause-filled
+returns-clause-filled g c =
+    let sieve = c.sieve_of-sieve.result in
+    subst (λ s. IfSome (g.S.Source.held c.args.source.now) (λ f. HasBox f c.args.header.now s c.loop-tile.space.band)) c.sieve_of-sieve.ensures.all
+    (all_filled c.tiles_law.ensures.whole c.scattered_law.ensures.cutout (g.S.Source.held c.args.source.now) c.args.header.now c.args.image.now sieve (sieve_tiles_left c.loop-tile.tile-iterator) c.args.space.now.band c.loop-tile.space.band
+    c.in-None.ensures.steps.0 c.requires.image.divided c.requires.image.codec.size c.sieve_of-sieve.ensures.sifts c.requires.known c.loop-tile.invariant.done)
+
+pub returns-clause-never : goal.returns-clause-never
+returns-clause-never g c = never_ok (Unit {0}) _ (g.S.Source.held c.args.source.now)

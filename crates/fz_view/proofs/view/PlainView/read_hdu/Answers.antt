@@ -1,0 +1,65 @@
+-- The HDU is at hand, or why its header was not read is kept.
+use Rattle.std.proofs.Common.{◌≡◌, ℕ, List, Option, ◌∙◌}
+use Rattle.fz_base.specs.declared.failure.Stop.{Stop}
+use Rattle.fz_view.specs.declared.here.Here.{Here}
+use Rattle.fz_view.proofs.Keeping.{begun_of, failures_kept, failures_stop, known_none, known_read, late_changed, none_at_hand, read_at_hand, reads_kept, refusals_kept, refusals_stop, room_read}
+use Rattle.fz_view.proofs.Same.{failures_same, fits_same, octets_same, refusals_same}
+use Rattle.fz_view.proofs.Tallies.{cause_kept}
+use Rattle.fz_view.proofs.view.PlainView.read_hdu.Goals as goal
+
+pub read_begun-answer-requires-clause-told : goal.read_begun-answer-requires-clause-told
+read_begun-answer-requires-clause-told g c =
+    let v = c.args.self.now in
+    begun_of (g.S.Source.held v.inner.now) v.survey v.plain_len c.args.begin.now v.first v.space v.here v.boxed v.known c.requires.told
+
+pub invariant_of-self : goal.invariant_of-self
+invariant_of-self g c =
+    let v = c.args.self.now in
+    let new = c.read_begun-answer.new in
+    let held : Option (List ℕ) = g.S.Source.held v.inner.now in
+    let held' : Option (List ℕ) = g.S.Source.held new.source in
+    let same : held' ≡ held = c.in-Ok.ensures.source.held_is in
+    record {
+      is_attached = c.in-Ok.ensures.source.attached_is ∙ v.is_attached;
+      fixed = v.fixed;
+      room = room_read v.survey.header_len v.survey.tile v.space new.space v.room c.in-Ok.ensures.space;
+      at_hand = read_at_hand v.length v.plain_len v.survey v.space new.space c.in-Ok.here c.in-Ok.ensures.space c.in-Ok.ensures.read;
+      known = known_read v.plain_len v.survey v.first held held' v.space new.space v.here v.boxed c.in-Ok.here same v.known c.in-Ok.ensures.told;
+      fits = fits_same held held' same v.plain_len v.fits;
+      octets = octets_same held held' same v.octets;
+      reads = reads_kept c.ranges_law.ensures.join held held' (g.S.Source.ranges v.start.value) (g.S.Source.ranges v.inner.now) (g.S.Source.ranges new.source) same c.in-Ok.ensures.touched c.in-Ok.ensures.told_ranges v.reads;
+      refusals = refusals_same held held' same v.later v.more v.refusals;
+      failures = failures_same (g.S.Source.tally v.start.value) (g.S.Source.tally v.inner.now) (g.S.Source.tally new.source) v.failed c.in-Ok.ensures.cause.ok v.failures;
+    }
+
+pub invariant_of-self-in-Err : goal.invariant_of-self-in-Err
+invariant_of-self-in-Err g c =
+    let v = c.args.self.now in
+    let new = c.read_begun-answer.new in
+    let stop : Stop = c.in-Err.stop in
+    let held : Option (List ℕ) = g.S.Source.held v.inner.now in
+    let held' : Option (List ℕ) = g.S.Source.held new.source in
+    let same : held' ≡ held = c.in-Err.ensures.source.held_is in
+    let start = g.S.Source.tally v.start.value in
+    let t1 = g.S.Source.tally new.source in
+    record {
+      is_attached = c.in-Err.ensures.source.attached_is ∙ v.is_attached;
+      fixed = v.fixed;
+      room = room_read v.survey.header_len v.survey.tile v.space new.space v.room c.in-Err.ensures.space;
+      at_hand = none_at_hand v.length v.plain_len v.survey new.space;
+      known = known_none v.plain_len v.survey v.first held held' v.space new.space v.here v.boxed same v.known;
+      fits = fits_same held held' same v.plain_len v.fits;
+      octets = octets_same held held' same v.octets;
+      reads = reads_kept c.ranges_law.ensures.join held held' (g.S.Source.ranges v.start.value) (g.S.Source.ranges v.inner.now) (g.S.Source.ranges new.source) same c.in-Err.ensures.touched c.in-Err.ensures.told_ranges v.reads;
+      refusals = refusals_kept held' stop v.later c.keep_stop.new.later v.more c.keep_stop.new.more c.keep_stop.ensures.later c.keep_stop.ensures.more
+          (refusals_stop Here held held' stop v.later v.more same (late_changed Here Here stop c.in-Err.ensures.changed) c.in-Err.ensures.never v.refusals);
+      failures = failures_kept start t1 stop v.failed c.keep_stop.new.failed c.keep_stop.ensures.failed
+          (failures_stop start (g.S.Source.tally v.inner.now) t1 stop v.failed c.in-Err.ensures.cause.kept c.in-Err.ensures.cause.stop v.failures);
+    }
+
+pub returns-in-Err-clause-cause : goal.returns-in-Err-clause-cause
+returns-in-Err-clause-cause g c =
+    let v = c.args.self.now in
+    let new = c.read_begun-answer.new in
+    cause_kept Here (g.S.Source.tally v.inner.now) (g.S.Source.tally new.source) v.more c.keep_stop.new.more c.in-Err.stop c.keep_stop.result c.keep_stop.ensures.more c.keep_stop.ensures.answer
+    c.in-Err.ensures.cause.kept c.in-Err.ensures.cause.stop

@@ -1,0 +1,10 @@
+pub mod Begins
+pub mod Boxes
+pub mod Found
+pub mod Here
+pub mod Holds
+pub mod Laws
+pub mod Looked
+pub mod Looks
+pub mod Scratch
+pub mod Views

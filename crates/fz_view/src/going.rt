@@ -1,0 +1,125 @@
+//! From one HDU to the next.
+ghost use Rattle.std.specs.Prelude.{◌≡◌, ◌⊎◌, ◌+◌, ◌<◌, ◌≤◌, Some, IfOk, IfSome};
+ghost use Rattle.fz_base.specs.Counts.{HasCause};
+ghost use Rattle.fz_view.specs.Here.{IsPlaced};
+ghost use Rattle.fz_view.specs.Looked.{buffers_of};
+ghost use Rattle.fz_view.specs.Views.{with_more};
+
+use crate::hdus::changed;
+use crate::here::Here;
+use crate::law::places_law;
+use crate::reading::{Begin, read_begun};
+use crate::view::{PlainView, keep_stop};
+use fz_base::{Failed, Source, ranges_law};
+use fz_block::next_start;
+
+impl<'a, S: Source> PlainView<'a, S> {
+    /// Goes to the HDU whose plain bytes have this one, and answers it.
+    pub(crate) fn go_to(&mut self, at: u64) -> Result<Here, Failed>
+        requires within { at < self.old.plain_len }
+        ensures has { IfOk result (λ h. (h.at ≤ at) × (at < h.end)) }
+        ensures here { IfOk result (λ h. self.new.here ≡ Some h) }
+        ensures name { self.new.inner.ghost_name ≡ self.old.inner.ghost_name }
+        ensures start { self.new.start.value ≡ self.old.start.value }
+        ensures held { S.held self.new.inner.now ≡ S.held self.old.inner.now }
+        ensures plain_len { self.new.plain_len ≡ self.old.plain_len }
+        ensures file { self.new.length ≡ self.old.length }
+        ensures space { buffers_of self.new.space ≡ buffers_of self.old.space }
+        ensures cause { HasCause (with_more (S.tally self.old.inner.now) self.old.more) (with_more (S.tally self.new.inner.now) self.new.more) result }
+    {
+        let mut here = match self.here {
+            Some(here) if here.at <= at => here,
+            _ => self.go_first()?,
+        };
+        while here.end <= at {
+            here = self.go_on(&here)?;
+        }
+        Ok(here)
+    }
+
+    // Goes to the first HDU that stands for something.
+    fn go_first(&mut self) -> Result<Here, Failed>
+        ensures first { IfOk result (λ h. h.at ≡ 0) }
+        ensures here { IfOk result (λ h. self.new.here ≡ Some h) }
+        ensures name { self.new.inner.ghost_name ≡ self.old.inner.ghost_name }
+        ensures start { self.new.start.value ≡ self.old.start.value }
+        ensures held { S.held self.new.inner.now ≡ S.held self.old.inner.now }
+        ensures plain_len { self.new.plain_len ≡ self.old.plain_len }
+        ensures file { self.new.length ≡ self.old.length }
+        ensures space { buffers_of self.new.space ≡ buffers_of self.old.space }
+        ensures cause { HasCause (with_more (S.tally self.old.inner.now) self.old.more) (with_more (S.tally self.new.inner.now) self.new.more) result }
+    {
+        places_law();
+        let begin = Begin {
+            hdu: self.first.hdu,
+            start: self.first.start,
+            after_empty: self.first.after_empty,
+            at: 0,
+        };
+        self.read_hdu(&begin)
+    }
+
+    // Goes to the HDU after this one.
+    fn go_on(&mut self, here: &Here) -> Result<Here, Failed>
+        requires here { self.old.here ≡ Some here.now }
+        requires more { here.now.end < self.old.plain_len }
+        ensures next { IfOk result (λ h. (h.at ≡ here.now.end) × (h.at < h.end)) }
+        ensures here { IfOk result (λ h. self.new.here ≡ Some h) }
+        ensures name { self.new.inner.ghost_name ≡ self.old.inner.ghost_name }
+        ensures start { self.new.start.value ≡ self.old.start.value }
+        ensures held { S.held self.new.inner.now ≡ S.held self.old.inner.now }
+        ensures plain_len { self.new.plain_len ≡ self.old.plain_len }
+        ensures file { self.new.length ≡ self.old.length }
+        ensures space { buffers_of self.new.space ≡ buffers_of self.old.space }
+        ensures cause { HasCause (with_more (S.tally self.old.inner.now) self.old.more) (with_more (S.tally self.new.inner.now) self.new.more) result }
+    {
+        places_law();
+        let begin = Begin {
+            hdu: here.read.header.hdu + 1,
+            start: next_start(&here.read.header),
+            after_empty: here.read.is_empty_primary(),
+            at: here.end,
+        };
+        if !begin.is_there(self.survey.hdus, self.length) {
+            let stop = changed(begin.hdu);
+            return Err(keep_stop(stop, &mut self.failed, &mut self.later, &mut self.more));
+        }
+        self.read_hdu(&begin)
+    }
+
+    // Reads the header of the HDU that begins there.
+    fn read_hdu(&mut self, begin: &Begin) -> Result<Here, Failed>
+        requires number { begin.now.hdu ≤ 65536 }
+        requires within { (begin.now.start < self.old.length) ⊎ ((begin.now.hdu ≡ 0) × (begin.now.start ≡ 0)) }
+        requires place { begin.now.at ≤ self.old.plain_len }
+        requires told { IfSome (S.held self.old.inner.now) (λ g. IsPlaced g begin.now.hdu begin.now.start begin.now.after_empty begin.now.at) }
+        ensures place { IfOk result (λ h. (h.at ≡ begin.now.at) × (h.at < h.end)) }
+        ensures here { IfOk result (λ h. self.new.here ≡ Some h) }
+        ensures name { self.new.inner.ghost_name ≡ self.old.inner.ghost_name }
+        ensures start { self.new.start.value ≡ self.old.start.value }
+        ensures held { S.held self.new.inner.now ≡ S.held self.old.inner.now }
+        ensures plain_len { self.new.plain_len ≡ self.old.plain_len }
+        ensures file { self.new.length ≡ self.old.length }
+        ensures space { buffers_of self.new.space ≡ buffers_of self.old.space }
+        ensures cause { HasCause (with_more (S.tally self.old.inner.now) self.old.more) (with_more (S.tally self.new.inner.now) self.new.more) result }
+    {
+        ranges_law();
+        self.here = None;
+        self.boxed = None;
+        let answer = read_begun(
+            self.inner,
+            self.length,
+            self.plain_len,
+            &self.survey,
+            begin,
+            &mut self.space,
+        );
+        match answer {
+            Ok(here) => {
+                self.here = Some(here);
+                Ok(here)
+            }
+            Err(stop) => Err(keep_stop(stop, &mut self.failed, &mut self.later, &mut self.more)),
+        }
+    }
+}
