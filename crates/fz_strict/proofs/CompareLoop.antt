@@ -19,7 +19,8 @@ use Rattle.fz_survey.specs.declared.survey.Survey.{Survey}
 use Rattle.fz_again.specs.Again.{ReadsAsSeen, WereSeen, is_empty_primary}
 use Rattle.fz_again.specs.Known.{IsKnown}
 use Rattle.fz_again.specs.declared.again.ReadHdu.{ReadHdu}
-use Rattle.fz_strict.specs.Laws.{HdusAreDecided, HdusStandForOne, RestoredAreBytes}
+use Rattle.fz_strict.specs.Laws.{HdusAreDecided, HdusStandForOne}
+use Rattle.fz_round_trip.specs.RoundTrip.{RestoredAreBytes}
 use Rattle.fz_strict.specs.Origins.{IsOrigin, no_origin}
 use Rattle.fz_strict.specs.Rows.{ComparesSeen, IsCompared, IsHduFault, IsHduSound}
 use Rattle.fz_strict.specs.SameHdus.{IsDecided, StandsForOne}

@@ -32,9 +32,10 @@ pub mod Parts
 pub mod Pieces
 pub mod PlainTiles
 pub mod PlansMade
+pub mod ReadHdus
+pub mod ReadRanges
 pub mod Promises
 pub mod Restored
-pub mod RestoredBytes
 pub mod Rounds
 pub mod RoundsCompared
 pub mod RowsAndHeap

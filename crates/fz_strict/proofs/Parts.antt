@@ -92,7 +92,7 @@ module _ (file : List ℕ) (s : Survey) (hs : List Header) where
     abbrev pub next : (h : Header) × ((more : List Header) × (p.rest ≡ h ∷ more))
     next = next_in done p.rest k p.count (subst (λ l. k < length l) p.parts few)
 
-    next_seen : WereSeen file s.header_len s.tile k start (next.0 ∷ next.1.0)
+    pub next_seen : WereSeen file s.header_len s.tile k start (next.0 ∷ next.1.0)
     next_seen = subst (λ l. WereSeen file s.header_len s.tile k start l) next.1.1 p.seen
 
     behind : SaysBehind file flag (next.0 ∷ next.1.0)

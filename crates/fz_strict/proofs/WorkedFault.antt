@@ -34,7 +34,8 @@ use Rattle.fz_files.specs.Restored.{is_image, tile_of}
 use Rattle.fz_files.specs.StandsFor.{StandsFor}
 use Rattle.fz_files.specs.Walks.{fault_of_walk, found_headers, header_fault, headers_for, job_walk}
 use Rattle.fz_files.specs.declared.job.Job.TheVariants.{Unpack}
-use Rattle.fz_round_trip.specs.Decided.{fault_after, fault_or, first_fault, first_row_fault, row_pixels}
+use Rattle.fz_files.specs.Decided.{fault_after, first_fault}
+use Rattle.fz_files.specs.RowPixels.{fault_or, first_row_fault, row_pixels}
 use Rattle.fz_round_trip.specs.RoundTrip.{HasFirstFault, StandsForRestored}
 use Rattle.fz_strict.specs.Worked.{filled_file}
 use Rattle.fz_strict.proofs.Images.{first_plain}

@@ -36,9 +36,9 @@ use Rattle.fz_files.specs.PlainFile.{grid_file, plain_cards, plain_file, plain_h
 use Rattle.fz_files.specs.Restored.{image_bytes, image_table, is_image, is_packed_primary, pixels_of, place_in, plan_in, standing, tile_of}
 use Rattle.fz_files.specs.Walks.{headers_for}
 use Rattle.fz_files.specs.declared.job.Job.TheVariants.{Unpack}
-use Rattle.fz_round_trip.specs.Decided.{for_row}
-use Rattle.fz_round_trip.specs.Pixels.{record_pixels}
-use Rattle.fz_round_trip.specs.RestoredFile.{image_array, pixels_or_none, restored, restored_hdu, tile_pixels}
+use Rattle.fz_files.specs.RowPixels.{for_row}
+use Rattle.fz_files.specs.RecordPixels.{record_pixels}
+use Rattle.fz_files.specs.RestoredFile.{image_array, pixels_or_none, restored, restored_hdu, tile_pixels}
 use Rattle.fz_round_trip.specs.RoundTrip.{HasOnePackedFile, StandsForNoOther}
 use Rattle.fz_strict.specs.FoundOptions.{block_of as block_found, codec_found, found_options, has_sums, images_in, options_of, sums_in, tile_found, word_of}
 use Rattle.fz_strict.specs.Laws.{FoundOptionsDo}

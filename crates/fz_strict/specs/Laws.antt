@@ -1,11 +1,9 @@
 -- What is promised of strict files.
 use Rattle.std.specs.Prelude.{ℕ, ◌≡◌, ◌↔◌, ◌++◌, true, All, List, None}
 use Rattle.fz_block.specs.Hdus.{IsHeader}
-use Rattle.fz_tile.specs.Plain.{AreBytes}
 use Rattle.fz_head.specs.Planned.{AreOptions}
 use Rattle.fz_head.specs.declared.options.PackOptions.{PackOptions}
 use Rattle.fz_files.specs.FirstFault.{IsFirstFault}
-use Rattle.fz_files.specs.StandsFor.{StandsFor}
 use Rattle.fz_files.specs.Walks.{headers_for}
 use Rattle.fz_files.specs.declared.job.Job.TheVariants.{Unpack}
 use Rattle.fz_strict.specs.FoundOptions.{found_options, images_agree}
@@ -44,7 +42,3 @@ HdusAreDecided = (o : PackOptions) (file : List ℕ) → IsFirstFault Unpack fil
 abbrev pub BytesHaveOneHeader : Type 0
 BytesHaveOneHeader = (header other behind more : List ℕ) → IsHeader header → IsHeader other → header ++ behind ≡ other ++ more →
     (header ≡ other) × (behind ≡ more)
-
--- what a file of bytes stands for are bytes
-abbrev pub RestoredAreBytes : Type 0
-RestoredAreBytes = (file restored : List ℕ) → AreBytes file → StandsFor file restored → AreBytes restored

@@ -5,6 +5,7 @@ pub mod FoundOptions
 pub mod Gathered
 pub mod Laws
 pub mod Origins
+pub mod Reads
 pub mod Rows
 pub mod SameHdus
 pub mod SameImages

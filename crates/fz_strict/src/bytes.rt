@@ -1,5 +1,6 @@
 //! Bytes of the file, compared with those that `pack` writes.
 ghost use Rattle.std.specs.Prelude.{ℕ, ◌≡◌, ◌+◌, ◌<◌, ◌≤◌, ◌^◌, Some, bytes_eq, length as len, IfOk, IfSome};
+ghost use Rattle.fz_base.specs.Source.{LogsWithin};
 ghost use Rattle.fz_base.specs.Stop.{OnlyReads};
 ghost use Rattle.fz_base.specs.Told.{StaysTold};
 ghost use Rattle.fz_job.specs.Keeps.{SourceStays};
@@ -21,6 +22,7 @@ pub(crate) fn has_bytes<S: Source>(
     ensures same { IfOk result (λ yes. IfSome (S.held source.old) (λ g. yes ≡ has_bytes_of g at end bytes.now)) }
     ensures piece { len piece.new ≡ len piece.old }
     ensures source { SourceStays (S.held source.old) (S.held source.new) (S.attached source.old) (S.attached source.new) }
+    ensures read { LogsWithin at end (S.ranges source.old) (S.ranges source.new) }
     ensures told { StaysTold (S.ranges source.old) (S.ranges source.new) }
     ensures cause { OnlyReads (S.tally source.old) (S.tally source.new) result }
 {

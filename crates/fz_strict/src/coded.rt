@@ -1,6 +1,7 @@
 //! The tiles of a round, encoded and compared with the rows and the heap of the file.
 ghost use Rattle.std.specs.Prelude.{ℕ, ◌≡◌, ◌+◌, ◌*◌, ◌^◌, ◌<◌, ◌≤◌, ℤ, List, Option, Some, length as len, slice_get, IfOk, IfSome};
 ghost use Rattle.std.specs.List.{range_with_len};
+ghost use Rattle.fz_base.specs.Source.{LogsWithin};
 ghost use Rattle.fz_base.specs.Stop.{Codes, OnlyReads};
 ghost use Rattle.fz_base.specs.Told.{StaysTold};
 ghost use Rattle.fz_fetch.specs.Fetched.{HaveTiles};
@@ -14,11 +15,11 @@ ghost use Rattle.fz_pool.specs.declared.slot.Slot.{Slot as SlotOf};
 ghost use Rattle.fz_strict.specs.Compared.{AreReady, ComparesCodes, ComparesHeap, ComparesRound, HasFewPixels, with_job};
 
 use crate::bytes::has_bytes;
-use fz_base::{Gate, Source, Stop};
+use fz_base::{Gate, Source, Stop, log_law};
 use fz_image::{
     Layout, Progress, code_of, encode_loaded, job_of, put_rows, table_law, tile_pixels,
 };
-use fz_pool::{Slot, Window, put_law, sizes_law};
+use fz_pool::{Crew, Slot, Window, put_law, sizes_law};
 use fz_sum::sum_law;
 use std::thread::Threads;
 
@@ -28,10 +29,9 @@ const ROWS_LEN: usize = 4096;
 /// Encodes the tiles in the first slots, which are the next ones, and compares their rows and codes with those of the
 /// file, whose table ends before the byte `end`. Answers what is then written of the table; none if they differ.
 pub(crate) fn compare_round<R: Threads + Sync, S: Source, G: Gate>(
-    rt: &R,
+    crew: &Crew<'_, R, G>,
     source: &mut S,
     window: &mut Window,
-    gate: &G,
     end: u64,
     layout: &Layout,
     progress: Progress,
@@ -48,12 +48,14 @@ pub(crate) fn compare_round<R: Threads + Sync, S: Source, G: Gate>(
     ensures copy { len copy.new ≡ len copy.old }
     ensures window { WindowStays window.old window.new }
     ensures source { SourceStays (S.held source.old) (S.held source.new) (S.attached source.old) (S.attached source.new) }
+    ensures read { LogsWithin 0 end (S.ranges source.old) (S.ranges source.new) }
     ensures told { StaysTold (S.ranges source.old) (S.ranges source.new) }
     ensures cause { Codes (S.tally source.old) (S.tally source.new) result }
 {
+    log_law();
     table_law();
     set_jobs(layout, progress.tiles, window, count);
-    encode_loaded(rt, layout, progress.tiles, window, count, gate)?;
+    encode_loaded(crew, layout, progress.tiles, window, count)?;
     let (rows, piece) = copy.split_at_mut(ROWS_LEN);
     compare_coded(source, window, end, layout, progress, count, rows, piece)
 }
@@ -122,9 +124,11 @@ fn compare_coded<S: Source>(
     ensures rows { len rows.new ≡ len rows.old }
     ensures piece { len piece.new ≡ len piece.old }
     ensures source { SourceStays (S.held source.old) (S.held source.new) (S.attached source.old) (S.attached source.new) }
+    ensures read { LogsWithin 0 end (S.ranges source.old) (S.ranges source.new) }
     ensures told { StaysTold (S.ranges source.old) (S.ranges source.new) }
     ensures cause { OnlyReads (S.tally source.old) (S.tally source.new) result }
 {
+    log_law();
     sum_law();
     let mut written = progress;
     let rows = &mut rows[..layout.row_len as usize * count as usize];
@@ -159,9 +163,11 @@ fn compare_codes<S: Source>(
     ensures progress { IfOk result (λ c. IfSome c (λ w. w ≡ with_heap layout.now progress (coded_tiles count window.now.slots))) }
     ensures piece { len piece.new ≡ len piece.old }
     ensures source { SourceStays (S.held source.old) (S.held source.new) (S.attached source.old) (S.attached source.new) }
+    ensures read { LogsWithin 0 end (S.ranges source.old) (S.ranges source.new) }
     ensures told { StaysTold (S.ranges source.old) (S.ranges source.new) }
     ensures cause { OnlyReads (S.tally source.old) (S.tally source.new) result }
 {
+    log_law();
     sum_law();
     let mut written = progress;
     for i in 0..count {

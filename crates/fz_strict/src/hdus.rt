@@ -1,5 +1,6 @@
 //! The HDUs of a file, compared one after another with what `pack` writes.
 ghost use Rattle.std.specs.Prelude.{ℕ, ◌≡◌, ◌+◌, ◌*◌, ◌<◌, ◌≤◌, ◌^◌, List, Option, None, Some, length as len, replicate, IfOk, IfSome, OnOk};
+ghost use Rattle.fz_base.specs.Ranges.{LogsIn};
 ghost use Rattle.fz_base.specs.Source.{HoldsLength};
 ghost use Rattle.fz_base.specs.Stop.{IfRefused};
 ghost use Rattle.fz_base.specs.Told.{StaysTold};
@@ -13,6 +14,7 @@ ghost use Rattle.fz_job.specs.Keeps.{SourceStays, WindowStays};
 ghost use Rattle.fz_pool.specs.Window.{HasSlotsFor, slot_sizes};
 ghost use Rattle.fz_survey.specs.Workspace.{SpaceStays};
 ghost use Rattle.fz_strict.specs.Origins.{IsOrigin};
+ghost use Rattle.fz_strict.specs.Reads.{ReadsKnown, hdu_ranges};
 ghost use Rattle.fz_strict.specs.Rows.{ComparesSeen, IsHduFault, IsHduSound};
 ghost use Rattle.fz_strict.specs.SameImages.{ComparesCopy, ComparesHdu};
 
@@ -20,11 +22,11 @@ use crate::image::compare_image;
 use crate::laws::one_hdu_law;
 use crate::origin::Origin;
 use crate::reread::read_front;
-use fz_again::ReadHdu;
-use fz_base::{Gate, Source, Stop};
-use fz_block::{BLOCK_LEN, next_start};
+use fz_again::{ReadHdu, hdus_law};
+use fz_base::{Gate, Source, Stop, ranges_law};
+use fz_block::{BLOCK_LEN, hdu_at_law, next_start};
 use fz_head::{PackOptions, packed_primary_law};
-use fz_pool::Window;
+use fz_pool::{Crew, Window};
 use fz_round_trip::restored_file_law;
 use fz_survey::{Survey, Workspace};
 use std::thread::Threads;
@@ -32,11 +34,10 @@ use std::thread::Threads;
 /// Whether the file is what `pack` writes by these options for the file that it stands for. All tiles are decoded,
 /// whatever was found before.
 pub(crate) fn compare_hdus<R: Threads + Sync, S: Source, G: Gate>(
-    rt: &R,
+    crew: &Crew<'_, R, G>,
     source: &mut S,
     length: u64,
     window: &mut Window,
-    gate: &G,
     survey: &Survey,
     options: &PackOptions,
     plain: &mut [u8],
@@ -56,11 +57,15 @@ pub(crate) fn compare_hdus<R: Threads + Sync, S: Source, G: Gate>(
     ensures space { SpaceStays space.old space.new }
     ensures window { WindowStays window.old window.new }
     ensures source { SourceStays (S.held source.old) (S.held source.new) (S.attached source.old) (S.attached source.new) }
+    ensures read { IfSome (S.held source.old) (λ g. ReadsKnown g survey.now (S.ranges source.old) (S.ranges source.new)) }
     ensures told { StaysTold (S.ranges source.old) (S.ranges source.new) }
     ensures cause { Fetches (S.tally source.old) (S.tally source.new) result }
 {
+    hdu_at_law();
+    hdus_law();
     one_hdu_law();
     packed_primary_law();
+    ranges_law();
     restored_file_law();
     let mut start = 0;
     let mut after_empty = false;
@@ -76,9 +81,7 @@ pub(crate) fn compare_hdus<R: Threads + Sync, S: Source, G: Gate>(
             space.copy.as_mut_slice(),
             space.header.as_mut_slice(),
         )?;
-        let now = compare_hdu(
-            rt, source, window, gate, options, &again, &origin, plain, space,
-        )?;
+        let now = compare_hdu(crew, source, window, options, &again, &origin, plain, space)?;
         origin = now;
         start = next_start(&again.header);
         if start == length {
@@ -91,10 +94,9 @@ pub(crate) fn compare_hdus<R: Threads + Sync, S: Source, G: Gate>(
 
 // Compares an HDU, whose header is in the workspace.
 fn compare_hdu<R: Threads + Sync, S: Source, G: Gate>(
-    rt: &R,
+    crew: &Crew<'_, R, G>,
     source: &mut S,
     window: &mut Window,
-    gate: &G,
     options: &PackOptions,
     again: &ReadHdu,
     origin: &Option<Origin>,
@@ -117,6 +119,7 @@ fn compare_hdu<R: Threads + Sync, S: Source, G: Gate>(
     ensures space { SpaceStays space.old space.new }
     ensures window { WindowStays window.old window.new }
     ensures source { SourceStays (S.held source.old) (S.held source.new) (S.attached source.old) (S.attached source.new) }
+    ensures read { IfSome (S.held source.old) (λ g. LogsIn (hdu_ranges g again.now.header) (S.ranges source.old) (S.ranges source.new)) }
     ensures told { StaysTold (S.ranges source.old) (S.ranges source.new) }
     ensures cause { Fetches (S.tally source.old) (S.tally source.new) result }
 {
@@ -124,7 +127,7 @@ fn compare_hdu<R: Threads + Sync, S: Source, G: Gate>(
         Some(image) => {
             let header = &again.header;
             compare_image(
-                rt, source, window, gate, options, header, image, origin, plain, space,
+                crew, source, window, options, header, image, origin, plain, space,
             )
         }
         None => Ok(compare_copied(options, again, origin, space)),

@@ -3,6 +3,8 @@ ghost use Rattle.std.specs.Prelude.{ℕ, ◌≡◌, ◌+◌, ◌-◌, ◌*◌, �
 ghost use Rattle.std.specs.Option.{option_map};
 ghost use Rattle.fz_block.specs.Cards.{card_at};
 ghost use Rattle.fz_block.specs.Checks.{is_set};
+ghost use Rattle.fz_base.specs.Ranges.{LogsIn};
+ghost use Rattle.fz_base.specs.Source.{LogsWithin};
 ghost use Rattle.fz_base.specs.Stop.{IfRefused, OnlyReads};
 ghost use Rattle.fz_base.specs.Told.{StaysTold};
 ghost use Rattle.fz_block.specs.Facts.{IsHeaderOf};
@@ -25,6 +27,7 @@ ghost use Rattle.fz_survey.specs.Workspace.{SpaceStays};
 ghost use Rattle.fz_strict.specs.Backs.{ComparesRest, IsBack, Restores};
 ghost use Rattle.fz_strict.specs.Compared.{IsSoFar, begins_right as begins_right_of, has_empty_primary as has_empty_primary_of, has_fill as has_fill_of, has_frame as has_frame_of, has_header as has_header_of};
 ghost use Rattle.fz_strict.specs.Origins.{IsOrigin, with_hdu};
+ghost use Rattle.fz_strict.specs.Reads.{table_ranges};
 ghost use Rattle.fz_strict.specs.Rows.{IsHduFault, IsHduSound};
 ghost use Rattle.fz_strict.specs.SameImages.{ComparesImage, origin_before};
 ghost use Rattle.fz_strict.specs.declared.image.Restored.{Restored as RestoredOf};
@@ -34,11 +37,11 @@ use crate::headers::restore;
 use crate::image_law::image_law;
 use crate::origin::Origin;
 use crate::tiles::compare_tiles;
-use fz_base::{Gate, Source, Stop};
+use fz_base::{Gate, Source, Stop, log_law, ranges_law};
 use fz_block::{BLOCK_LEN, Header, data_start, next_start};
 use fz_head::{PackOptions, PackedImage, Plan, pack_plan_law, to_empty_primary};
 use fz_image::{Layout, Progress, make_header, table_law};
-use fz_pool::Window;
+use fz_pool::{Crew, Window};
 use fz_survey::Workspace;
 use std::thread::Threads;
 
@@ -56,10 +59,9 @@ pub(crate) struct Restored {
 /// Decodes a packed image, whose header is in the workspace. Answers the HDUs so far with this image, if the table, and
 /// what stands before that of a primary, is what `pack` writes for the image.
 pub(crate) fn compare_image<R: Threads + Sync, S: Source, G: Gate>(
-    rt: &R,
+    crew: &Crew<'_, R, G>,
     source: &mut S,
     window: &mut Window,
-    gate: &G,
     options: &PackOptions,
     header: &Header,
     image: &PackedImage,
@@ -83,15 +85,17 @@ pub(crate) fn compare_image<R: Threads + Sync, S: Source, G: Gate>(
     ensures space { SpaceStays space.old space.new }
     ensures window { WindowStays window.old window.new }
     ensures source { SourceStays (S.held source.old) (S.held source.new) (S.attached source.old) (S.attached source.new) }
+    ensures read { IfSome (S.held source.old) (λ g. LogsIn (table_ranges g header.now) (S.ranges source.old) (S.ranges source.new)) }
     ensures told { StaysTold (S.ranges source.old) (S.ranges source.new) }
     ensures cause { Fetches (S.tally source.old) (S.tally source.new) result }
 {
+    ranges_law();
     image_law();
     let buf = &space.header.as_slice()[..BLOCK_LEN * header.blocks as usize];
     let restored = restored_image(origin, options, header, &image.plan, buf, plain);
     let layout = layout_of(&restored);
     let copy = space.copy.as_mut_slice();
-    let written = compare_tiles(rt, source, window, gate, header, image, &layout, copy)?;
+    let written = compare_tiles(crew, source, window, header, image, &layout, copy)?;
     let made = space.header.as_mut_slice();
     let piece = space.copy.as_mut_slice();
     compare_rest(
@@ -185,9 +189,11 @@ fn compare_rest<S: Source>(
     ensures made { len made.new ≡ len made.old }
     ensures piece { len piece.new ≡ len piece.old }
     ensures source { SourceStays (S.held source.old) (S.held source.new) (S.attached source.old) (S.attached source.new) }
+    ensures read { LogsWithin 0 (next_start_of header.now) (S.ranges source.old) (S.ranges source.new) }
     ensures told { StaysTold (S.ranges source.old) (S.ranges source.new) }
     ensures cause { OnlyReads (S.tally source.old) (S.tally source.new) result }
 {
+    log_law();
     match restored {
         Some(restored) => compare_written(
             source, sums, header, restored, written, plain, made, piece,
@@ -218,9 +224,11 @@ fn compare_written<S: Source>(
     ensures made { len made.new ≡ len made.old }
     ensures piece { len piece.new ≡ len piece.old }
     ensures source { SourceStays (S.held source.old) (S.held source.new) (S.attached source.old) (S.attached source.new) }
+    ensures read { LogsWithin 0 (next_start_of header.now) (S.ranges source.old) (S.ranges source.new) }
     ensures told { StaysTold (S.ranges source.old) (S.ranges source.new) }
     ensures cause { OnlyReads (S.tally source.old) (S.tally source.new) result }
 {
+    log_law();
     match written {
         Some(progress) => compare_frame(
             source, sums, header, restored, progress, plain, made, piece,
@@ -251,6 +259,7 @@ fn compare_frame<S: Source>(
     ensures made { len made.new ≡ len made.old }
     ensures piece { len piece.new ≡ len piece.old }
     ensures source { SourceStays (S.held source.old) (S.held source.new) (S.attached source.old) (S.attached source.new) }
+    ensures read { LogsWithin 0 (next_start_of header.now) (S.ranges source.old) (S.ranges source.new) }
     ensures told { StaysTold (S.ranges source.old) (S.ranges source.new) }
     ensures cause { OnlyReads (S.tally source.old) (S.tally source.new) result }
 {
@@ -303,9 +312,11 @@ fn has_frame<S: Source>(
     ensures made { len made.new ≡ len made.old }
     ensures piece { len piece.new ≡ len piece.old }
     ensures source { SourceStays (S.held source.old) (S.held source.new) (S.attached source.old) (S.attached source.new) }
+    ensures read { LogsWithin 0 (next_start_of header.now) (S.ranges source.old) (S.ranges source.new) }
     ensures told { StaysTold (S.ranges source.old) (S.ranges source.new) }
     ensures cause { OnlyReads (S.tally source.old) (S.tally source.new) result }
 {
+    log_law();
     table_law();
     let fills = has_fill(source, layout, progress.heap, next_start(header), piece)?;
     if !fills {
@@ -334,9 +345,11 @@ fn has_fill<S: Source>(
     ensures same { IfOk result (λ yes. IfSome (S.held source.old) (λ g. yes ≡ has_fill_of g end layout.now heap)) }
     ensures piece { len piece.new ≡ len piece.old }
     ensures source { SourceStays (S.held source.old) (S.held source.new) (S.attached source.old) (S.attached source.new) }
+    ensures read { LogsWithin 0 end (S.ranges source.old) (S.ranges source.new) }
     ensures told { StaysTold (S.ranges source.old) (S.ranges source.new) }
     ensures cause { OnlyReads (S.tally source.old) (S.tally source.new) result }
 {
+    log_law();
     let len = layout.rows_len() + heap;
     let whole = whole_blocks(len);
     let wanted = layout.rows_at + whole;
@@ -371,9 +384,11 @@ fn has_header<S: Source>(
     ensures same { IfOk result (λ yes. IfSome (S.held source.old) (λ g. yes ≡ has_header_of g header.now bytes.now)) }
     ensures piece { len piece.new ≡ len piece.old }
     ensures source { SourceStays (S.held source.old) (S.held source.new) (S.attached source.old) (S.attached source.new) }
+    ensures read { LogsWithin 0 (next_start_of header.now) (S.ranges source.old) (S.ranges source.new) }
     ensures told { StaysTold (S.ranges source.old) (S.ranges source.new) }
     ensures cause { OnlyReads (S.tally source.old) (S.tally source.new) result }
 {
+    log_law();
     let end = data_start(header);
     if header.start + bytes.len() as u64 != end {
         return Ok(false);
@@ -397,9 +412,11 @@ fn begins_right<S: Source>(
     ensures made { len made.new ≡ len made.old }
     ensures piece { len piece.new ≡ len piece.old }
     ensures source { SourceStays (S.held source.old) (S.held source.new) (S.attached source.old) (S.attached source.new) }
+    ensures read { LogsWithin 0 (next_start_of header.now) (S.ranges source.old) (S.ranges source.new) }
     ensures told { StaysTold (S.ranges source.old) (S.ranges source.new) }
     ensures cause { OnlyReads (S.tally source.old) (S.tally source.new) result }
 {
+    log_law();
     if !primary {
         return Ok(true);
     }
@@ -421,9 +438,11 @@ fn has_empty_primary<S: Source>(
     ensures made { len made.new ≡ len made.old }
     ensures piece { len piece.new ≡ len piece.old }
     ensures source { SourceStays (S.held source.old) (S.held source.new) (S.attached source.old) (S.attached source.new) }
+    ensures read { LogsWithin 0 (next_start_of header.now) (S.ranges source.old) (S.ranges source.new) }
     ensures told { StaysTold (S.ranges source.old) (S.ranges source.new) }
     ensures cause { OnlyReads (S.tally source.old) (S.tally source.new) result }
 {
+    log_law();
     let len = to_empty_primary(made);
     if header.start != len as u64 {
         return Ok(false);

@@ -1,12 +1,12 @@
 //! The laws of strict files: no code runs.
-ghost use Rattle.fz_strict.specs.Laws.{BytesHaveOneHeader, FoundOptionsAreAllowed, FoundOptionsDo, FoundOptionsDoForEach, HdusAreDecided, HdusStandForOne, RestoredAreBytes, StrictImagesAgree, StrictIsHduByHdu};
+ghost use Rattle.fz_strict.specs.Laws.{BytesHaveOneHeader, FoundOptionsAreAllowed, FoundOptionsDo, FoundOptionsDoForEach, HdusAreDecided, HdusStandForOne, StrictImagesAgree, StrictIsHduByHdu};
+ghost use Rattle.fz_round_trip.specs.RoundTrip.{RestoredAreBytes};
 
 use fz_block::{cards_law, found_hdus_law, hdu_list_law, passing_law, walk_law};
-use fz_card::card_laws;
 use fz_files::{packed_hdu_law, table_law};
 use fz_grid::{one_tile_law, shape_law, tiles_law};
 use fz_head::{packed_image_law, whole_cards_law};
-use fz_round_trip::packed_hdus_law;
+use fz_round_trip::{packed_hdus_law, restored_bytes_law};
 use fz_tile::{one_record_law, plain_law, slice_law};
 
 /// The options by which a strict file was packed, or others with which `pack` writes the same, are those that its
@@ -56,7 +56,6 @@ pub fn one_hdu_law()
     ensures split { BytesHaveOneHeader }
     ensures bytes { RestoredAreBytes }
 {
-    card_laws();
     cards_law();
     found_hdus_law();
     hdu_list_law();
@@ -66,6 +65,7 @@ pub fn one_hdu_law()
     packed_image_law();
     passing_law();
     plain_law();
+    restored_bytes_law();
     shape_law();
     slice_law();
     tiles_law();

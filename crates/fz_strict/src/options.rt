@@ -5,15 +5,17 @@ ghost use Rattle.fz_base.specs.Told.{StaysTold};
 ghost use Rattle.fz_block.specs.Facts.{IsHeaderOf};
 ghost use Rattle.fz_block.specs.Hdus.{cards_of};
 ghost use Rattle.fz_head.specs.Planned.{AreOptions, IsTile};
+ghost use Rattle.fz_files.specs.declared.job.Job.TheVariants.{Verify};
 ghost use Rattle.fz_tile.specs.Codecs.{ReadsCodes};
+ghost use Rattle.fz_again.specs.Hdus.{ReadsHdus};
 ghost use Rattle.fz_job.specs.Clauses.{IsChanged};
 ghost use Rattle.fz_job.specs.Keeps.{SourceStays};
 ghost use Rattle.fz_strict.specs.FoundOptions.{has_sums as has_sums_of};
 ghost use Rattle.fz_strict.specs.Gathered.{FindsOptions, greater_tile as greater_tile_of, greatest_tile as greatest_tile_of, length_along as length_along_of, longer as longer_of, said_codec as said_codec_of};
 
 use crate::reread::read_front;
-use fz_again::ReadHdu;
-use fz_base::{Source, Stop};
+use fz_again::{ReadHdu, hdus_law};
+use fz_base::{Source, Stop, ranges_law};
 use fz_block::{Axes, BLOCK_LEN, Header, cards_law, next_start};
 use fz_card::Name;
 use fz_head::{CodecWord, PackOptions, Plan};
@@ -52,9 +54,12 @@ pub(crate) fn find_options<S: Source>(
     ensures copy { len copy.new ≡ len copy.old }
     ensures header { len header.new ≡ len header.old }
     ensures source { SourceStays (S.held source.old) (S.held source.new) (S.attached source.old) (S.attached source.new) }
+    ensures read { IfSome (S.held source.old) (λ g. ReadsHdus Verify g survey.now (S.ranges source.old) (S.ranges source.new)) }
     ensures told { StaysTold (S.ranges source.old) (S.ranges source.new) }
     ensures cause { ReadsOnly (S.tally source.old) (S.tally source.new) result }
 {
+    hdus_law();
+    ranges_law();
     let mut found = Found::nothing();
     let mut start = 0;
     let mut after_empty = false;

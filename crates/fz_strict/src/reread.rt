@@ -1,7 +1,9 @@
 //! The header of an HDU, read once more into the front of a buffer.
 ghost use Rattle.std.specs.Prelude.{◌≡◌, ◌⊎◌, ◌*◌, ◌<◌, ◌≤◌, Some, length as len, IfOk, IfSome};
+ghost use Rattle.fz_base.specs.Source.{LogsWithin};
 ghost use Rattle.fz_base.specs.Stop.{IfRefused, ReadsOnly};
 ghost use Rattle.fz_base.specs.Told.{StaysTold};
+ghost use Rattle.fz_block.specs.Checks.{header_touched};
 ghost use Rattle.fz_files.specs.Restored.{pixels_of};
 ghost use Rattle.fz_again.specs.Again.{IsAgain, ReadsAsSeen};
 ghost use Rattle.fz_job.specs.Clauses.{IsChanged};
@@ -36,6 +38,7 @@ pub(crate) fn read_front<S: Source>(
     ensures copy { len copy.new ≡ len copy.old }
     ensures header { len header.new ≡ len header.old }
     ensures source { SourceStays (S.held source.old) (S.held source.new) (S.attached source.old) (S.attached source.new) }
+    ensures read { IfSome (S.held source.old) (λ g. LogsWithin start (header_touched hdu start g) (S.ranges source.old) (S.ranges source.new)) }
     ensures told { StaysTold (S.ranges source.old) (S.ranges source.new) }
     ensures cause { ReadsOnly (S.tally source.old) (S.tally source.new) result }
 {

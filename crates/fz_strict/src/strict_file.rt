@@ -1,10 +1,13 @@
 //! The call: look at all headers, take all buffers, and then compare.
 ghost use Rattle.std.specs.Prelude.{◌≡◌, ◌+◌, ◌*◌, ◌<◌, ◌≤◌, max, [], Some, length as len, replicate, sum, IfOk, IfSome, IsErrOf, OnOk};
+ghost use Rattle.fz_base.specs.Ranges.{LogsIn};
 ghost use Rattle.fz_base.specs.Stop.{IfRefused, IsDefined, ReadsAndTakes, TellsLimit};
 ghost use Rattle.fz_base.specs.Takings.{TellsFirstPast, highest, piled};
 ghost use Rattle.fz_base.specs.Told.{StaysTold};
 ghost use Rattle.fz_base.specs.declared.failure.Stop.TheVariants.{OverLimit};
 ghost use Rattle.fz_fetch.specs.Stops.{Fetches};
+ghost use Rattle.fz_files.specs.Reads.{header_ranges};
+ghost use Rattle.fz_files.specs.Touched.{touched_by};
 ghost use Rattle.fz_files.specs.declared.job.Job.TheVariants.{Verify};
 ghost use Rattle.fz_pool.specs.Window.{IsEmpty, slot_sizes};
 ghost use Rattle.fz_survey.specs.Surveys.{IsSurvey, surveyed};
@@ -13,16 +16,17 @@ ghost use Rattle.fz_survey.specs.declared.checks.JobChecks.TheVariants.{Unpack};
 ghost use Rattle.fz_job.specs.Clauses.{ComesLate, KeepsBuffers, KeepsSource, TellsFirstFault};
 ghost use Rattle.fz_job.specs.Keeps.{SourceStays, WindowStays};
 ghost use Rattle.fz_strict.specs.Clauses.{AnswersStrict, HasStrictCause, IsStrictAsSaid, look_takings, strict_buffers, strict_takings, strict_wants};
+ghost use Rattle.fz_strict.specs.Reads.{ReadsKnown};
 ghost use Rattle.fz_strict.specs.Rows.{ComparesFound};
 
 use crate::hdus::compare_hdus;
 use crate::laws::same_hdus_law;
 use crate::options::find_options;
-use fz_again::known_law;
-use fz_base::{Gate, Meter, Source, Stop};
+use fz_again::{hdus_law, headers_law, known_law};
+use fz_base::{Gate, Meter, Source, Stop, ranges_law};
 use fz_block::BLOCK_LEN;
 use fz_files::same_faults_law;
-use fz_pool::{Window, sizes_law};
+use fz_pool::{Crew, Window, sizes_law};
 use fz_stages::stages_law;
 use fz_survey::{Survey, Wants, Workspace, survey_law, survey_to_unpack, workspace_law};
 use std::thread::Threads;
@@ -55,17 +59,25 @@ pub fn strict<R: Threads + Sync, S: Source, G: Gate>(
     // The first block is taken before anything is read.
     ensures unread { meter.old.limit < 2880 → S.ranges source.new ≡ S.ranges source.old }
     ensures kept { KeepsSource (S.held source.old) (S.held source.new) (S.attached source.old) (S.attached source.new) (S.tally source.old) (S.tally source.new) (S.tally source.old) (S.tally source.new) }
+    ensures touched { IfSome (S.held source.old) (λ g. LogsIn (touched_by Verify g) (S.ranges source.old) (S.ranges source.new)) }
     ensures told { StaysTold (S.ranges source.old) (S.ranges source.new) }
 {
-    // What the look says of the file, and how the promises follow from the look and the work.
+    // What the look reads and says of the file, and how the promises follow from the look and the work.
+    hdus_law();
     known_law();
+    ranges_law();
     same_faults_law();
     same_hdus_law();
     stages_law::<bool>();
     survey_law();
     workspace_law();
+    let crew = Crew {
+        rt,
+        gate,
+        workers: window.workers(),
+    };
     let survey = look(source, length, meter)?;
-    compare(rt, source, length, meter, window, gate, &survey)
+    compare(&crew, source, length, meter, window, &survey)
 }
 
 // Looks at all headers. The block for it is handed back.
@@ -84,9 +96,11 @@ fn look<S: Source>(source: &mut S, length: u64, meter: &mut Meter) -> Result<Sur
     ensures live { meter.new.live ≡ 0 }
     ensures limit { meter.new.limit ≡ meter.old.limit }
     ensures source { SourceStays (S.held source.old) (S.held source.new) (S.attached source.old) (S.attached source.new) }
+    ensures read { IfSome (S.held source.old) (λ g. LogsIn (header_ranges Verify g) (S.ranges source.old) (S.ranges source.new)) }
     ensures told { StaysTold (S.ranges source.old) (S.ranges source.new) }
     ensures cause { ReadsAndTakes (S.tally source.old) (S.tally source.new) meter.old.limit result }
 {
+    headers_law();
     let mut block = meter.bytes(BLOCK_LEN as u64)?;
     let answer = survey_to_unpack(source, length, meter, block.as_mut_slice());
     meter.give_bytes(block);
@@ -95,12 +109,11 @@ fn look<S: Source>(source: &mut S, length: u64, meter: &mut Meter) -> Result<Sur
 
 // Takes the buffer of restored headers, and compares.
 fn compare<R: Threads + Sync, S: Source, G: Gate>(
-    rt: &R,
+    crew: &Crew<'_, R, G>,
     source: &mut S,
     length: u64,
     meter: &mut Meter,
     window: &mut Window,
-    gate: &G,
     survey: &Survey,
 ) -> Result<bool, Stop>
     requires attached { S.attached source.old ≡ Some length }
@@ -118,17 +131,17 @@ fn compare<R: Threads + Sync, S: Source, G: Gate>(
     ensures emptied { window.new ≡ record { slots = []; workers = window.old.workers } }
     ensures late { IfRefused result (ComesLate Verify) }
     ensures source { SourceStays (S.held source.old) (S.held source.new) (S.attached source.old) (S.attached source.new) }
+    ensures read { IfSome (S.held source.old) (λ g. ReadsKnown g survey.now (S.ranges source.old) (S.ranges source.new)) }
     ensures told { StaysTold (S.ranges source.old) (S.ranges source.new) }
     ensures cause { ReadsAndTakes (S.tally source.old) (S.tally source.new) meter.old.limit result }
 {
     let mut plain = meter.bytes(u64::from(survey.header_len) + BLOCK_LEN as u64)?;
     let answer = with_plain(
-        rt,
+        crew,
         source,
         length,
         meter,
         window,
-        gate,
         survey,
         plain.as_mut_slice(),
     );
@@ -138,12 +151,11 @@ fn compare<R: Threads + Sync, S: Source, G: Gate>(
 
 // Takes the other buffers, compares, and hands them back.
 fn with_plain<R: Threads + Sync, S: Source, G: Gate>(
-    rt: &R,
+    crew: &Crew<'_, R, G>,
     source: &mut S,
     length: u64,
     meter: &mut Meter,
     window: &mut Window,
-    gate: &G,
     survey: &Survey,
     plain: &mut [u8],
 ) -> Result<bool, Stop>
@@ -163,6 +175,7 @@ fn with_plain<R: Threads + Sync, S: Source, G: Gate>(
     ensures emptied { window.new ≡ record { slots = []; workers = window.old.workers } }
     ensures late { IfRefused result (ComesLate Verify) }
     ensures source { SourceStays (S.held source.old) (S.held source.new) (S.attached source.old) (S.attached source.new) }
+    ensures read { IfSome (S.held source.old) (λ g. ReadsKnown g survey.now (S.ranges source.old) (S.ranges source.new)) }
     ensures told { StaysTold (S.ranges source.old) (S.ranges source.new) }
     ensures cause { ReadsAndTakes (S.tally source.old) (S.tally source.new) meter.old.limit result }
 {
@@ -175,18 +188,17 @@ fn with_plain<R: Threads + Sync, S: Source, G: Gate>(
         tile: Some(survey.tile),
     };
     let mut space = Workspace::take(meter, window, &wants)?;
-    let answer = compare_file(rt, source, length, window, gate, survey, plain, &mut space);
+    let answer = compare_file(crew, source, length, window, survey, plain, &mut space);
     space.give_back(meter, window);
     answer
 }
 
 // Finds the options, and compares the file with what `pack` writes by them.
 fn compare_file<R: Threads + Sync, S: Source, G: Gate>(
-    rt: &R,
+    crew: &Crew<'_, R, G>,
     source: &mut S,
     length: u64,
     window: &mut Window,
-    gate: &G,
     survey: &Survey,
     plain: &mut [u8],
     space: &mut Workspace,
@@ -204,9 +216,11 @@ fn compare_file<R: Threads + Sync, S: Source, G: Gate>(
     ensures space { SpaceStays space.old space.new }
     ensures window { WindowStays window.old window.new }
     ensures source { SourceStays (S.held source.old) (S.held source.new) (S.attached source.old) (S.attached source.new) }
+    ensures read { IfSome (S.held source.old) (λ g. ReadsKnown g survey.now (S.ranges source.old) (S.ranges source.new)) }
     ensures told { StaysTold (S.ranges source.old) (S.ranges source.new) }
     ensures cause { Fetches (S.tally source.old) (S.tally source.new) result }
 {
+    ranges_law();
     let options = find_options(
         source,
         length,
@@ -214,7 +228,5 @@ fn compare_file<R: Threads + Sync, S: Source, G: Gate>(
         space.copy.as_mut_slice(),
         space.header.as_mut_slice(),
     )?;
-    compare_hdus(
-        rt, source, length, window, gate, survey, &options, plain, space,
-    )
+    compare_hdus(crew, source, length, window, survey, &options, plain, space)
 }

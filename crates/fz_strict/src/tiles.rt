@@ -1,6 +1,8 @@
 //! The tiles of a packed image: each is decoded, and then compared with what `pack` writes for its pixels.
 ghost use Rattle.std.specs.Prelude.{ℕ, ◌≡◌, ◌+◌, ◌*◌, ◌^◌, ◌<◌, ◌≤◌, None, Some, map, length as len, IfOk, IfSome, OnOk};
 ghost use Rattle.std.specs.List.{range_with_len};
+ghost use Rattle.fz_base.specs.Ranges.{LogsIn};
+ghost use Rattle.fz_base.specs.Source.{LogsWithin};
 ghost use Rattle.fz_base.specs.Stop.{Codes, IfRefused};
 ghost use Rattle.fz_base.specs.Told.{StaysTold};
 ghost use Rattle.fz_block.specs.Header.{next_start_of};
@@ -10,19 +12,22 @@ ghost use Rattle.fz_fetch.specs.Rows.{StandsWithin};
 ghost use Rattle.fz_fetch.specs.Stops.{Fetches};
 ghost use Rattle.fz_files.specs.FirstFault.{IsFirstRowFault, image_row, rows_of};
 ghost use Rattle.fz_files.specs.Packed.{tiles_in};
+ghost use Rattle.fz_files.specs.Touched.{image_ranges};
 ghost use Rattle.fz_image.specs.Layout.{IsLayout};
 ghost use Rattle.fz_job.specs.Clauses.{IsOfSomeRow};
 ghost use Rattle.fz_job.specs.Keeps.{SourceStays, WindowStays};
 ghost use Rattle.fz_strict.specs.Compared.{AreReady, ComparesNext, ComparesTable, IsSoFar, begun};
+ghost use Rattle.fz_strict.specs.Reads.{table_ranges};
 
 use crate::coded::compare_round;
-use fz_base::{Gate, Source, Stop};
+use fz_again::hdus_law;
+use fz_base::{Gate, Source, Stop, log_law, ranges_law};
 use fz_block::{Header, next_start};
 use fz_fetch::{MOST_TILES, fetch_tiles, number_tiles};
 use fz_grid::Grid;
 use fz_head::PackedImage;
 use fz_image::{Layout, Progress};
-use fz_pool::Window;
+use fz_pool::{Crew, Window};
 use fz_sum::sum_law;
 use fz_tile::one_record_law;
 use std::thread::Threads;
@@ -32,10 +37,9 @@ use std::thread::Threads;
 ///
 /// Refused: the lowest faulty row, as `fetch_tiles` refuses it.
 pub(crate) fn compare_tiles<R: Threads + Sync, S: Source, G: Gate>(
-    rt: &R,
+    crew: &Crew<'_, R, G>,
     source: &mut S,
     window: &mut Window,
-    gate: &G,
     header: &Header,
     image: &PackedImage,
     layout: &Option<Layout>,
@@ -58,9 +62,11 @@ pub(crate) fn compare_tiles<R: Threads + Sync, S: Source, G: Gate>(
     ensures copy { len copy.new ≡ len copy.old }
     ensures window { WindowStays window.old window.new }
     ensures source { SourceStays (S.held source.old) (S.held source.new) (S.attached source.old) (S.attached source.new) }
+    ensures read { IfSome (S.held source.old) (λ g. LogsIn (table_ranges g header.now) (S.ranges source.old) (S.ranges source.new)) }
     ensures told { StaysTold (S.ranges source.old) (S.ranges source.new) }
     ensures cause { Fetches (S.tally source.old) (S.tally source.new) result }
 {
+    ranges_law();
     one_record_law();
     sum_law();
     let tiles = Grid::new(image.plan.shape, image.plan.tile).tile_count();
@@ -69,8 +75,8 @@ pub(crate) fn compare_tiles<R: Threads + Sync, S: Source, G: Gate>(
     let mut first = 0;
     while first < tiles {
         let count = (2 * window.workers()).min(tiles - first);
-        fetch_round(rt, source, window, gate, header, image, first, count, copy)?;
-        progress = compare_next(rt, source, window, gate, end, layout, progress, count, copy)?;
+        fetch_round(crew, source, window, header, image, first, count, copy)?;
+        progress = compare_next(crew, source, window, end, layout, progress, count, copy)?;
         first += count;
     }
     Ok(progress)
@@ -88,10 +94,9 @@ fn begin(layout: &Option<Layout>) -> Option<Progress>
 
 // Compares the next tiles, whose pixels are in the first slots, unless there was a difference before.
 fn compare_next<R: Threads + Sync, S: Source, G: Gate>(
-    rt: &R,
+    crew: &Crew<'_, R, G>,
     source: &mut S,
     window: &mut Window,
-    gate: &G,
     end: u64,
     layout: &Option<Layout>,
     progress: Option<Progress>,
@@ -108,13 +113,15 @@ fn compare_next<R: Threads + Sync, S: Source, G: Gate>(
     ensures copy { len copy.new ≡ len copy.old }
     ensures window { WindowStays window.old window.new }
     ensures source { SourceStays (S.held source.old) (S.held source.new) (S.attached source.old) (S.attached source.new) }
+    ensures read { LogsWithin 0 end (S.ranges source.old) (S.ranges source.new) }
     ensures told { StaysTold (S.ranges source.old) (S.ranges source.new) }
     ensures cause { Codes (S.tally source.old) (S.tally source.new) result }
 {
+    log_law();
     match layout {
         Some(layout) => match progress {
             Some(progress) => compare_round(
-                rt, source, window, gate, end, layout, progress, count, copy,
+                crew, source, window, end, layout, progress, count, copy,
             ),
             None => Ok(None),
         },
@@ -124,10 +131,9 @@ fn compare_next<R: Threads + Sync, S: Source, G: Gate>(
 
 // Decodes so many tiles from this one on.
 fn fetch_round<R: Threads + Sync, S: Source, G: Gate>(
-    rt: &R,
+    crew: &Crew<'_, R, G>,
     source: &mut S,
     window: &mut Window,
-    gate: &G,
     header: &Header,
     image: &PackedImage,
     first: u32,
@@ -149,11 +155,13 @@ fn fetch_round<R: Threads + Sync, S: Source, G: Gate>(
     ensures rows { len rows.new ≡ len rows.old }
     ensures window { WindowStays window.old window.new }
     ensures source { SourceStays (S.held source.old) (S.held source.new) (S.attached source.old) (S.attached source.new) }
+    ensures read { IfSome (S.held source.old) (λ g. LogsIn (image_ranges g header.now) (S.ranges source.old) (S.ranges source.new)) }
     ensures told { StaysTold (S.ranges source.old) (S.ranges source.new) }
     ensures cause { Fetches (S.tally source.old) (S.tally source.new) result }
 {
+    hdus_law();
     let mut numbers = [0; MOST_TILES];
     let tiles = &mut numbers[..count as usize];
     number_tiles(first, tiles);
-    fetch_tiles(rt, source, header, image, tiles, rows, window, gate)
+    fetch_tiles(crew, source, header, image, tiles, rows, window)
 }

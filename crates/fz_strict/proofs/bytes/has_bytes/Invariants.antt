@@ -1,5 +1,6 @@
 -- The pieces so far are the same; the source and its counts are as at the start.
 use Rattle.std.proofs.Common.{◌≡◌, ◌-◌, ◌≤◌, length}
+use Rattle.fz_base.specs.Source.{LogsWithin}
 use Rattle.fz_base.specs.Told.{StaysTold}
 use Rattle.fz_strict.proofs.Pieces.{IsSame}
 use Rattle.fz_strict.proofs.bytes.has_bytes.Given as goal
@@ -10,6 +11,7 @@ invariant-loop-done g l = record {
   attached : g.S.Source.attached l.source ≡ g.S.Source.attached l.fn.source;
   reads : g.S.Source.tally l.source ≡ g.S.Source.tally l.fn.source;
   told : StaysTold (g.S.Source.ranges l.fn.source) (g.S.Source.ranges l.source);
+  read : LogsWithin l.at l.end (g.S.Source.ranges l.fn.source) (g.S.Source.ranges l.source);
   piece : length l.piece ≡ length l.fn.piece;
   within : l.done ≤ length l.bytes;
   same : IsSame (g.S.Source.held l.fn.source) l.at l.bytes l.done;

@@ -48,3 +48,16 @@ returns-clause-compared g c =
     (λ now compared. codes_same c.args.end l w es c.put_rows.new.into at c.put_rows.ensures place held c.add_rows.new.self count now c.add_rows.ensures many same
     (subst (λ (k : Option (List ℕ)). IfSome k (λ file. ComparesHeap file c.args.end l c.add_rows.new.self es now)) stays compared))
     c.compare_codes.ensures.compared
+
+pub returns-in_err-same-clause-read : goal.returns-in_err-same-clause-read
+returns-in_err-same-clause-read g c =
+    c.log_law.ensures.wider _ c.args.end 0 c.args.end (g.S.Source.ranges c.args.source.now) (g.S.Source.ranges c.has_bytes.new.source) (omega arith) (omega arith) c.in_err-same.ensures.read
+
+pub returns-then-not-same-clause-read : goal.returns-then-not-same-clause-read
+returns-then-not-same-clause-read g c =
+    c.log_law.ensures.wider _ c.args.end 0 c.args.end (g.S.Source.ranges c.args.source.now) (g.S.Source.ranges c.has_bytes.new.source) (omega arith) (omega arith) c.in_ok-same.ensures.read
+
+pub returns-clause-read : goal.returns-clause-read
+returns-clause-read g c =
+    c.log_law.ensures.both 0 c.args.end (g.S.Source.ranges c.args.source.now) (g.S.Source.ranges c.has_bytes.new.source) (g.S.Source.ranges c.compare_codes.new.source)
+    (c.log_law.ensures.wider _ c.args.end 0 c.args.end (g.S.Source.ranges c.args.source.now) (g.S.Source.ranges c.has_bytes.new.source) (omega arith) (omega arith) c.in_ok-same.ensures.read) c.compare_codes.ensures.read

@@ -7,6 +7,7 @@ use Rattle.fz_image.specs.Progress.{with_heap}
 use Rattle.fz_image.specs.declared.progress.Progress.{Progress}
 use Rattle.fz_strict.specs.Compared.{has_bytes}
 use Rattle.fz_strict.proofs.HeapsCompared.{heap_all, heap_differs, heap_none, heap_same}
+use Rattle.fz_strict.proofs.ReadRanges.{then_read}
 use Rattle.fz_strict.proofs.RowsAndHeap.{heap_step, next_within, no_more_heap, slot_within, tiles_more}
 use Rattle.fz_strict.proofs.Sizes.{heap_at_small, pixel_bytes_small}
 use Rattle.fz_strict.proofs.coded.compare_codes.Goals as goal
@@ -17,6 +18,7 @@ loop-i-init g c = record {
   attached = refl;
   reads = refl;
   told = λ told. told;
+  read = c.log_law.ensures.none 0 c.args.end (g.S.Source.ranges c.args.source.now);
   piece = refl;
   written = no_more_heap c.args.layout.now c.args.progress;
   heap = heap_none (g.S.Source.held c.args.source.now) c.args.end c.args.layout.now c.args.progress c.args.window.now.slots;
@@ -87,6 +89,7 @@ loop-i-preserved g c =
       attached = search rules;
       reads = search rules;
       told = search rules;
+      read = then_read c.log_law.ensures.both c.log_law.ensures.wider _ c.args.end c.args.end (g.S.Source.ranges c.args.source.now) (g.S.Source.ranges c.loop-i.source) (g.S.Source.ranges c.has_bytes.new.source) (omega arith) c.loop-i.invariant.read c.in_ok-same.ensures.read;
       piece = search rules;
       written = heap_step l c.args.progress c.loop-i.written c.add_tile.new.self (coded_tiles c.loop-i.i slots) (coded_tiles (c.loop-i.i + 1) slots) (coded_tile x) c.sum_law.ensures.joined c.loop-i.invariant.written (tiles_more c.loop-i.i slots x c.slot-slot.ensures) c.add_tile.ensures;
       heap = heap_same c.args.end l c.args.progress c.loop-i.written c.loop-i.i slots x c.slot-slot.ensures code c.code_of.ensures.bytes at c.loop-i.invariant.written
@@ -102,3 +105,11 @@ pub returns-clause-progress : goal.returns-clause-progress
 returns-clause-progress g c =
     let all : c.loop-i.i ≡ c.args.count = search rules in
     subst (λ n. c.loop-i.written ≡ with_heap c.args.layout.now c.args.progress (coded_tiles n c.args.window.now.slots)) all c.loop-i.invariant.written
+
+pub returns-in_err-same-clause-read : goal.returns-in_err-same-clause-read
+returns-in_err-same-clause-read g c =
+    then_read c.log_law.ensures.both c.log_law.ensures.wider _ c.args.end c.args.end (g.S.Source.ranges c.args.source.now) (g.S.Source.ranges c.loop-i.source) (g.S.Source.ranges c.has_bytes.new.source) (omega arith) c.loop-i.invariant.read c.in_err-same.ensures.read
+
+pub returns-then-not-same-clause-read : goal.returns-then-not-same-clause-read
+returns-then-not-same-clause-read g c =
+    then_read c.log_law.ensures.both c.log_law.ensures.wider _ c.args.end c.args.end (g.S.Source.ranges c.args.source.now) (g.S.Source.ranges c.loop-i.source) (g.S.Source.ranges c.has_bytes.new.source) (omega arith) c.loop-i.invariant.read c.in_ok-same.ensures.read

@@ -34,3 +34,6 @@ returns-clause-compared g c =
     (λ now compared written. round_compared c.args.layout.now c.args.progress c.args.count c.args.window.now c.encode_loaded.new.window ready (c.in_ok-encode_loaded.ensures.encoded None loaded)
     c.table_law.ensures.joined held c.args.end c.set_jobs.new.window now c.set_jobs.ensures.loaded c.in_ok-encode_loaded.ensures.encoded compared written)
     c.compare_coded.ensures.compared c.compare_coded.ensures.progress
+
+pub returns-in_err-encode_loaded-clause-read : goal.returns-in_err-encode_loaded-clause-read
+returns-in_err-encode_loaded-clause-read g c = c.log_law.ensures.none 0 c.args.end (g.S.Source.ranges c.args.source.now)

@@ -4,7 +4,9 @@ use Rattle.std.proofs.lemmas.Result.{IfOk-weaker}
 use Rattle.fz_base.specs.Source.{HoldsLength}
 use Rattle.fz_head.specs.declared.job_checks.PackedImage.{PackedImage}
 use Rattle.fz_again.specs.Again.{IsAgain}
+use Rattle.fz_strict.specs.Reads.{hdu_ranges}
 use Rattle.fz_strict.proofs.CopiesCompared.{copy_compared, image_compares}
+use Rattle.fz_strict.proofs.ReadRanges.{image_read, unread}
 use Rattle.fz_strict.proofs.Said.{rows_none}
 use Rattle.fz_strict.proofs.hdus.compare_hdu.Goals as goal
 
@@ -32,3 +34,11 @@ returns-in-None-clause-compared g c =
 pub returns-in-None-clause-sound : goal.returns-in-None-clause-sound
 returns-in-None-clause-sound g c =
     rows_none (g.S.Source.held c.args.source.now) c.requires.again.0 c.args.space.now.header c.args.again.now c.requires.again.3 c.in-None.is
+
+pub returns-in-Some-clause-read : goal.returns-in-Some-clause-read
+returns-in-Some-clause-read g c =
+    image_read (g.S.Source.held c.args.source.now) c.requires.again.0 c.args.space.now.header c.args.again.now c.requires.again.3 c.in-Some.image c.in-Some.is
+    (g.S.Source.ranges c.args.source.now) (g.S.Source.ranges c.compare_image.new.source) c.compare_image.ensures.read
+
+pub returns-in-None-clause-read : goal.returns-in-None-clause-read
+returns-in-None-clause-read g c = unread (g.S.Source.held c.args.source.now) (λ file. hdu_ranges file c.args.again.now.header) (g.S.Source.ranges c.args.source.now)

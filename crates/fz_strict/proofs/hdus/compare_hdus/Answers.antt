@@ -3,16 +3,21 @@ use Rattle.std.specs.Prelude.{is_some}
 use Rattle.std.proofs.Common.{◌≡◌, ℕ, ◌+◌, ◌<◌, ◌≤◌, inl, inr, Bool, false, List, length, Option, Some, IfSome, Result, Ok, Err, refl, sym, ◌∙◌, subst, arith, rules}
 use Rattle.std.proofs.lemmas.Bool.Decides.{nat_tests}
 use Rattle.std.proofs.lemmas.List.{length-append, length-drop, length-take}
-use Rattle.fz_base.specs.Source.{HoldsLength, HoldsOctets}
+use Rattle.fz_base.specs.Ranges.{LogsIn}
+use Rattle.fz_base.specs.Source.{HoldsLength, HoldsOctets, LogsWithin}
 use Rattle.fz_base.specs.Stop.{IfRefused}
 use Rattle.fz_base.specs.declared.failure.Stop.{Stop}
+use Rattle.fz_block.specs.Checks.{header_touched}
 use Rattle.fz_block.specs.Header.{next_start_of}
+use Rattle.fz_files.specs.declared.job.Job.TheVariants.{Verify}
 use Rattle.fz_again.specs.Again.{ReadsAsSeen, is_empty_primary}
 use Rattle.fz_strict.specs.Origins.{IsOrigin}
+use Rattle.fz_strict.specs.Reads.{ReadsKnown, hdu_ranges}
 use Rattle.fz_strict.specs.Rows.{ComparesSeen, IsHduFault, IsHduSound}
 use Rattle.fz_strict.specs.SameImages.{ComparesHdu}
 use Rattle.fz_strict.specs.declared.origin.Origin.{Origin}
 use Rattle.fz_strict.proofs.CompareLoop.{CompareLaws, IsComparing, ends_with_file, ends_with_last, more_compared, none_compared, stops_comparing, stops_reading}
+use Rattle.fz_strict.proofs.ReadHdus.{hdu_compared, header_compared, no_hdu}
 use Rattle.fz_strict.proofs.hdus.compare_hdus.Goals as goal
 
 pub loop-hdu-init : goal.loop-hdu-init
@@ -24,6 +29,7 @@ loop-hdu-init g c =
       attached = refl;
       reads = refl;
       told = λ told. told;
+      read = no_hdu c.args.survey.now (g.S.Source.ranges c.args.source.now) held;
       plain = refl;
       space = record { header = refl; translated = refl; copy = refl };
       window = record { sizes = refl; workers = refl };
@@ -115,11 +121,24 @@ loop-hdu-preserved g c =
     let says : c.is_empty_primary-after_empty.result ≡ is_empty_primary a.header = c.is_empty_primary-after_empty.ensures in
     let inside : next_start_of a.header ≤ c.args.length = c.in_ok-again.ensures.again.inside in
     let before : c.next_start-start.result < c.args.length = first_of (omega (arith, next, inside, c.if-start-length.false), grind (arith, nat_tests, next, inside, c.if-start-length.false)) in
+    let first : Option (List (ℕ × ℕ)) = g.S.Source.ranges c.args.source.now in
+    let one : Option (List (ℕ × ℕ)) = g.S.Source.ranges c.loop-hdu.source in
+    let two : Option (List (ℕ × ℕ)) = g.S.Source.ranges c.read_front.new.source in
+    let front : IfSome held (λ file. LogsWithin start (header_touched k start file) one two) =
+    subst (λ (h : Option (List ℕ)). IfSome h (λ file. LogsWithin start (header_touched k start file) one two)) old.held c.in_ok-again.ensures.read in
+    let header : IfSome held (λ file. ReadsKnown file s first two) =
+    header_compared s first o c.ranges_law.ensures.join held k start flag c.loop-hdu.origin one two few old.comparing (c.hdus_law.ensures.header Verify) front old.read in
+    let three : Option (List (ℕ × ℕ)) = g.S.Source.ranges c.compare_hdu.new.source in
+    let body : IfSome held (λ file. LogsIn (hdu_ranges file a.header) two three) =
+    subst (λ (h : Option (List ℕ)). IfSome h (λ file. LogsIn (hdu_ranges file a.header) two three)) there c.in_ok-now.ensures.read in
+    let reads : IfSome held (λ file. ReadsKnown file s first three) =
+    hdu_compared s first o c.ranges_law.ensures.join held k start flag c.loop-hdu.origin two three few old.comparing c.hdu_at_law.ensures.blocks a seen body header in
     record {
       held = c.in_ok-now.ensures.source.held_is ∙ there;
       attached = c.in_ok-now.ensures.source.attached_is ∙ c.in_ok-again.ensures.source.attached_is ∙ old.attached;
       reads = c.in_ok-now.ensures.cause.ok ∙ c.in_ok-again.ensures.cause.ok ∙ old.reads;
       told = λ told. c.in_ok-now.ensures.told (c.in_ok-again.ensures.told (old.told told));
+      read = reads;
       plain = c.in_ok-now.ensures.plain ∙ old.plain;
       space = record {
         header = omega (arith, c.in_ok-now.ensures.space.header, old.space.header, c.in_ok-again.ensures.header, length-take {A = ℕ}, length-append {A = ℕ}, length-drop {A = ℕ});
@@ -144,3 +163,78 @@ returns-clause-compared g c =
     let last : s.hdus ≤ c.loop-hdu.hdu = omega arith in
     subst (λ b. IfSome held (λ f. ComparesSeen o f s (Ok b))) (sym c.is_some-2.ensures)
     (ends_with_last laws o s held c.loop-hdu.hdu c.loop-hdu.start c.loop-hdu.after_empty c.loop-hdu.origin last c.requires.options octets old.origin old.comparing)
+
+pub returns-in_err-again-clause-read : goal.returns-in_err-again-clause-read
+returns-in_err-again-clause-read g c =
+    let s = c.args.survey.now in
+    let o = c.args.options.now in
+    let k : ℕ = c.loop-hdu.hdu in
+    let start : ℕ = c.loop-hdu.start in
+    let flag : Bool = c.loop-hdu.after_empty in
+    let held : Option (List ℕ) = g.S.Source.held c.args.source.now in
+    let old = c.loop-hdu.invariant in
+    let few : k < s.hdus = omega arith in
+    let first : Option (List (ℕ × ℕ)) = g.S.Source.ranges c.args.source.now in
+    let one : Option (List (ℕ × ℕ)) = g.S.Source.ranges c.loop-hdu.source in
+    let two : Option (List (ℕ × ℕ)) = g.S.Source.ranges c.read_front.new.source in
+    let front : IfSome held (λ file. LogsWithin start (header_touched k start file) one two) =
+    subst (λ (h : Option (List ℕ)). IfSome h (λ file. LogsWithin start (header_touched k start file) one two)) old.held c.in_err-again.ensures.read in
+    let header : IfSome held (λ file. ReadsKnown file s first two) =
+    header_compared s first o c.ranges_law.ensures.join held k start flag c.loop-hdu.origin one two few old.comparing (c.hdus_law.ensures.header Verify) front old.read in
+    header
+
+pub returns-in_err-now-clause-read : goal.returns-in_err-now-clause-read
+returns-in_err-now-clause-read g c =
+    let s = c.args.survey.now in
+    let o = c.args.options.now in
+    let k : ℕ = c.loop-hdu.hdu in
+    let start : ℕ = c.loop-hdu.start in
+    let flag : Bool = c.loop-hdu.after_empty in
+    let held : Option (List ℕ) = g.S.Source.held c.args.source.now in
+    let old = c.loop-hdu.invariant in
+    let few : k < s.hdus = omega arith in
+    let first : Option (List (ℕ × ℕ)) = g.S.Source.ranges c.args.source.now in
+    let one : Option (List (ℕ × ℕ)) = g.S.Source.ranges c.loop-hdu.source in
+    let two : Option (List (ℕ × ℕ)) = g.S.Source.ranges c.read_front.new.source in
+    let front : IfSome held (λ file. LogsWithin start (header_touched k start file) one two) =
+    subst (λ (h : Option (List ℕ)). IfSome h (λ file. LogsWithin start (header_touched k start file) one two)) old.held c.in_ok-again.ensures.read in
+    let header : IfSome held (λ file. ReadsKnown file s first two) =
+    header_compared s first o c.ranges_law.ensures.join held k start flag c.loop-hdu.origin one two few old.comparing (c.hdus_law.ensures.header Verify) front old.read in
+    let a = c.in_ok-again.again in
+    let seen : IfSome held (λ f. ReadsAsSeen f k start flag s.header_len s.tile (Ok a)) =
+    subst (λ (h : Option (List ℕ)). IfSome h (λ f. ReadsAsSeen f k start flag s.header_len s.tile (Ok a))) old.held c.in_ok-again.ensures.as_seen in
+    let there : g.S.Source.held c.read_front.new.source ≡ held = c.in_ok-again.ensures.source.held_is ∙ old.held in
+    let three : Option (List (ℕ × ℕ)) = g.S.Source.ranges c.compare_hdu.new.source in
+    let body : IfSome held (λ file. LogsIn (hdu_ranges file a.header) two three) =
+    subst (λ (h : Option (List ℕ)). IfSome h (λ file. LogsIn (hdu_ranges file a.header) two three)) there c.in_err-now.ensures.read in
+    let reads : IfSome held (λ file. ReadsKnown file s first three) =
+    hdu_compared s first o c.ranges_law.ensures.join held k start flag c.loop-hdu.origin two three few old.comparing c.hdu_at_law.ensures.blocks a seen body header in
+    reads
+
+pub returns-then-start-length-clause-read : goal.returns-then-start-length-clause-read
+returns-then-start-length-clause-read g c =
+    let s = c.args.survey.now in
+    let o = c.args.options.now in
+    let k : ℕ = c.loop-hdu.hdu in
+    let start : ℕ = c.loop-hdu.start in
+    let flag : Bool = c.loop-hdu.after_empty in
+    let held : Option (List ℕ) = g.S.Source.held c.args.source.now in
+    let old = c.loop-hdu.invariant in
+    let few : k < s.hdus = omega arith in
+    let first : Option (List (ℕ × ℕ)) = g.S.Source.ranges c.args.source.now in
+    let one : Option (List (ℕ × ℕ)) = g.S.Source.ranges c.loop-hdu.source in
+    let two : Option (List (ℕ × ℕ)) = g.S.Source.ranges c.read_front.new.source in
+    let front : IfSome held (λ file. LogsWithin start (header_touched k start file) one two) =
+    subst (λ (h : Option (List ℕ)). IfSome h (λ file. LogsWithin start (header_touched k start file) one two)) old.held c.in_ok-again.ensures.read in
+    let header : IfSome held (λ file. ReadsKnown file s first two) =
+    header_compared s first o c.ranges_law.ensures.join held k start flag c.loop-hdu.origin one two few old.comparing (c.hdus_law.ensures.header Verify) front old.read in
+    let a = c.in_ok-again.again in
+    let seen : IfSome held (λ f. ReadsAsSeen f k start flag s.header_len s.tile (Ok a)) =
+    subst (λ (h : Option (List ℕ)). IfSome h (λ f. ReadsAsSeen f k start flag s.header_len s.tile (Ok a))) old.held c.in_ok-again.ensures.as_seen in
+    let there : g.S.Source.held c.read_front.new.source ≡ held = c.in_ok-again.ensures.source.held_is ∙ old.held in
+    let three : Option (List (ℕ × ℕ)) = g.S.Source.ranges c.compare_hdu.new.source in
+    let body : IfSome held (λ file. LogsIn (hdu_ranges file a.header) two three) =
+    subst (λ (h : Option (List ℕ)). IfSome h (λ file. LogsIn (hdu_ranges file a.header) two three)) there c.in_ok-now.ensures.read in
+    let reads : IfSome held (λ file. ReadsKnown file s first three) =
+    hdu_compared s first o c.ranges_law.ensures.join held k start flag c.loop-hdu.origin two three few old.comparing c.hdu_at_law.ensures.blocks a seen body header in
+    reads

@@ -4,6 +4,7 @@ use Rattle.fz_base.specs.Told.{StaysTold}
 use Rattle.fz_survey.specs.Workspace.{SpaceStays}
 use Rattle.fz_job.specs.Keeps.{WindowStays}
 use Rattle.fz_strict.specs.Origins.{IsOrigin}
+use Rattle.fz_strict.specs.Reads.{ReadsKnown}
 use Rattle.fz_strict.proofs.CompareLoop.{IsComparing}
 use Rattle.fz_strict.proofs.hdus.compare_hdus.Given as goal
 
@@ -13,6 +14,7 @@ invariant-loop-hdu g l = record {
   attached : g.S.Source.attached l.source ≡ g.S.Source.attached l.fn.source;
   reads : g.S.Source.tally l.source ≡ g.S.Source.tally l.fn.source;
   told : StaysTold (g.S.Source.ranges l.fn.source) (g.S.Source.ranges l.source);
+  read : IfSome (g.S.Source.held l.fn.source) (λ f. ReadsKnown f l.survey (g.S.Source.ranges l.fn.source) (g.S.Source.ranges l.source));
   plain : length l.plain ≡ length l.fn.plain;
   space : SpaceStays l.fn.space l.space;
   window : WindowStays l.fn.window l.window;

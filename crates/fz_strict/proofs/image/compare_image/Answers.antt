@@ -5,6 +5,7 @@ use Rattle.std.proofs.lemmas.Result.{IfOk-weaker}
 use Rattle.fz_base.specs.Stop.{IfRefused}
 use Rattle.fz_base.specs.declared.failure.Stop.{Stop}
 use Rattle.fz_block.specs.Facts.{IsHeaderOf}
+use Rattle.fz_block.specs.Header.{next_start_of}
 use Rattle.fz_block.specs.Hdus.{cards_of}
 use Rattle.fz_head.specs.Conditions.{IsPackedPlan}
 use Rattle.fz_files.specs.FirstFault.{IsFirstRowFault, rows_of}
@@ -12,10 +13,12 @@ use Rattle.fz_again.specs.declared.again.ReadHdu.{ReadHdu}
 use Rattle.fz_image.specs.declared.progress.Progress.{Progress}
 use Rattle.fz_strict.specs.Backs.{ComparesRest, IsBack, Restores}
 use Rattle.fz_strict.specs.Compared.{ComparesTable, IsSoFar}
+use Rattle.fz_strict.specs.Reads.{table_ranges}
 use Rattle.fz_strict.specs.Rows.{IsHduFault}
 use Rattle.fz_strict.specs.SameImages.{origin_before}
 use Rattle.fz_strict.specs.declared.origin.Origin.{Origin}
 use Rattle.fz_strict.proofs.BackImages.{image_told, layout_back, on_ok_any, refused_as, said_back, some_weaker, written_back}
+use Rattle.fz_strict.proofs.ReadRanges.{bytes_read, join_told}
 use Rattle.fz_strict.proofs.Said.{rows_faulty, rows_sound, said_there}
 use Rattle.fz_strict.proofs.image.compare_image.Goals as goal
 
@@ -116,3 +119,12 @@ pub returns-clause-sound : goal.returns-clause-sound
 returns-clause-sound g c =
     let a : ReadHdu = record { header = c.args.header.now; image = Some c.args.image.now } in
     on_ok_any c.compare_rest.result (rows_sound (g.S.Source.held c.args.source.now) c.requires.again.0 c.args.space.now.header a c.requires.again.3 c.args.image.now refl c.in_ok-written.ensures.sound)
+
+pub returns-clause-read : goal.returns-clause-read
+returns-clause-read g c =
+    let held : Option (List ℕ) = g.S.Source.held c.args.source.now in
+    let h = c.args.header.now in
+    let old : Option (List (ℕ × ℕ)) = g.S.Source.ranges c.args.source.now in
+    let mid : Option (List (ℕ × ℕ)) = g.S.Source.ranges c.compare_tiles.new.source in
+    let new : Option (List (ℕ × ℕ)) = g.S.Source.ranges c.compare_rest.new.source in
+    join_told c.ranges_law.ensures.join held (λ file. table_ranges file h) old mid new c.in_ok-written.ensures.read (bytes_read c.ranges_law.ensures.within held h (next_start_of h) mid new refl c.compare_rest.ensures.read)

@@ -1,6 +1,7 @@
 -- The tiles are those that `pack` writes, or not.
 use Rattle.std.specs.Prelude.{IfOk}
 use Rattle.std.proofs.Common.{◌≡◌, ℕ, List, Option, Some, IfSome, sym, subst}
+use Rattle.fz_block.specs.Header.{next_start_of}
 use Rattle.fz_strict.specs.Backs.{ComparesRest}
 use Rattle.fz_strict.specs.Compared.{IsSoFar}
 use Rattle.fz_image.specs.declared.progress.Progress.{Progress}
@@ -20,3 +21,6 @@ returns-in-Some-clause-compared g c =
 pub returns-in-None-clause-compared : goal.returns-in-None-clause-compared
 returns-in-None-clause-compared g c =
     none_written_rest (g.S.Source.held c.args.source.now) c.args.header.now c.args.sums c.args.plain.now c.args.restored.now c.args.written c.in-None.is
+
+pub returns-in-None-clause-read : goal.returns-in-None-clause-read
+returns-in-None-clause-read g c = c.log_law.ensures.none 0 (next_start_of c.args.header.now) (g.S.Source.ranges c.args.source.now)

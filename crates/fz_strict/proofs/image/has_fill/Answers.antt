@@ -43,3 +43,10 @@ returns-clause-same g c =
     IfOk-weaker c.has_bytes.result _ _
     (λ answer same. fill_compared c.args.end l heap (take {A = ℕ} m (replicate 2880 0)) (c.heap_at.result + heap) answer ends zeros (ap (λ k. k + heap) c.heap_at.ensures) held same)
     c.has_bytes.ensures.same
+
+pub returns-then-end-wanted-clause-read : goal.returns-then-end-wanted-clause-read
+returns-then-end-wanted-clause-read g c = c.log_law.ensures.none 0 c.args.end (g.S.Source.ranges c.args.source.now)
+
+pub returns-clause-read : goal.returns-clause-read
+returns-clause-read g c =
+    c.log_law.ensures.wider _ c.args.end 0 c.args.end (g.S.Source.ranges c.args.source.now) (g.S.Source.ranges c.has_bytes.new.source) (omega arith) (omega arith) c.has_bytes.ensures.read

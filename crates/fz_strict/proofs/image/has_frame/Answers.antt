@@ -1,6 +1,7 @@
 -- Zeros fill the data behind the heap, what stands before is right, and the header is compared last.
-use Rattle.std.proofs.Common.{◌≡◌, ℕ, ◌≤◌, ◌^◌, List, Option, IfSome, take, true, false, refl, sym, ◌∙◌, subst, rules}
+use Rattle.std.proofs.Common.{◌≡◌, ℕ, ◌≤◌, ◌^◌, List, Option, IfSome, take, true, false, refl, sym, ◌∙◌, subst, arith, rules}
 use Rattle.std.proofs.lemmas.Result.{IfOk-weaker}
+use Rattle.fz_base.specs.Source.{LogsWithin}
 use Rattle.fz_block.specs.Header.{next_start_of}
 use Rattle.fz_block.specs.Hdus.{cards_of}
 use Rattle.fz_image.specs.declared.progress.Progress.{Progress}
@@ -41,3 +42,49 @@ returns-clause-same g c =
     let begins : IfSome held (λ file. true ≡ begins_right l.plan.primary file h) = subst (λ (k : Option (List ℕ)). IfSome k (λ file. true ≡ begins_right l.plan.primary file h)) first there in
     IfOk-weaker c.has_header.result _ _ (λ yes same. frame h l c.args.sums (cards_of c.args.buf.now) w made yes (λ codes each all is. c.make_header-len.ensures.header l codes c.requires.layout refl each all is) held fill begins
     (subst (λ (k : Option (List ℕ)). IfSome k (λ file. yes ≡ has_header file h made)) second same)) c.has_header.ensures.same
+
+pub returns-in_err-fills-clause-read : goal.returns-in_err-fills-clause-read
+returns-in_err-fills-clause-read g c =
+    let h = c.args.header.now in
+    let old : Option (List (ℕ × ℕ)) = g.S.Source.ranges c.args.source.now in
+    let one : Option (List (ℕ × ℕ)) = g.S.Source.ranges c.has_fill.new.source in
+    let fill : LogsWithin 0 (next_start_of h) old one = c.log_law.ensures.wider 0 c.next_start.result 0 (next_start_of h) old one (omega arith) (omega (arith, c.next_start.ensures)) c.in_err-fills.ensures.read in
+    fill
+
+pub returns-then-not-fills-clause-read : goal.returns-then-not-fills-clause-read
+returns-then-not-fills-clause-read g c =
+    let h = c.args.header.now in
+    let old : Option (List (ℕ × ℕ)) = g.S.Source.ranges c.args.source.now in
+    let one : Option (List (ℕ × ℕ)) = g.S.Source.ranges c.has_fill.new.source in
+    let fill : LogsWithin 0 (next_start_of h) old one = c.log_law.ensures.wider 0 c.next_start.result 0 (next_start_of h) old one (omega arith) (omega (arith, c.next_start.ensures)) c.in_ok-fills.ensures.read in
+    fill
+
+pub returns-in_err-begins-clause-read : goal.returns-in_err-begins-clause-read
+returns-in_err-begins-clause-read g c =
+    let h = c.args.header.now in
+    let old : Option (List (ℕ × ℕ)) = g.S.Source.ranges c.args.source.now in
+    let one : Option (List (ℕ × ℕ)) = g.S.Source.ranges c.has_fill.new.source in
+    let fill : LogsWithin 0 (next_start_of h) old one = c.log_law.ensures.wider 0 c.next_start.result 0 (next_start_of h) old one (omega arith) (omega (arith, c.next_start.ensures)) c.in_ok-fills.ensures.read in
+    let two : Option (List (ℕ × ℕ)) = g.S.Source.ranges c.begins_right.new.source in
+    let begin : LogsWithin 0 (next_start_of h) old two = c.log_law.ensures.both 0 (next_start_of h) old one two fill c.in_err-begins.ensures.read in
+    begin
+
+pub returns-then-not-begins-clause-read : goal.returns-then-not-begins-clause-read
+returns-then-not-begins-clause-read g c =
+    let h = c.args.header.now in
+    let old : Option (List (ℕ × ℕ)) = g.S.Source.ranges c.args.source.now in
+    let one : Option (List (ℕ × ℕ)) = g.S.Source.ranges c.has_fill.new.source in
+    let fill : LogsWithin 0 (next_start_of h) old one = c.log_law.ensures.wider 0 c.next_start.result 0 (next_start_of h) old one (omega arith) (omega (arith, c.next_start.ensures)) c.in_ok-fills.ensures.read in
+    let two : Option (List (ℕ × ℕ)) = g.S.Source.ranges c.begins_right.new.source in
+    let begin : LogsWithin 0 (next_start_of h) old two = c.log_law.ensures.both 0 (next_start_of h) old one two fill c.in_ok-begins.ensures.read in
+    begin
+
+pub returns-clause-read : goal.returns-clause-read
+returns-clause-read g c =
+    let h = c.args.header.now in
+    let old : Option (List (ℕ × ℕ)) = g.S.Source.ranges c.args.source.now in
+    let one : Option (List (ℕ × ℕ)) = g.S.Source.ranges c.has_fill.new.source in
+    let fill : LogsWithin 0 (next_start_of h) old one = c.log_law.ensures.wider 0 c.next_start.result 0 (next_start_of h) old one (omega arith) (omega (arith, c.next_start.ensures)) c.in_ok-fills.ensures.read in
+    let two : Option (List (ℕ × ℕ)) = g.S.Source.ranges c.begins_right.new.source in
+    let begin : LogsWithin 0 (next_start_of h) old two = c.log_law.ensures.both 0 (next_start_of h) old one two fill c.in_ok-begins.ensures.read in
+    c.log_law.ensures.both 0 (next_start_of h) old two (g.S.Source.ranges c.has_header.new.source) begin c.has_header.ensures.read

@@ -1,5 +1,4 @@
 -- Tile by tile, and by the first END.
-use Rattle.fz_strict.proofs.RestoredBytes.{restored_are_bytes}
 use Rattle.fz_strict.proofs.Fill.{FillLaws}
 use Rattle.fz_strict.proofs.OneHdu.{HeaderLaws, ImageLaws, hdus_stand_for_one}
 use Rattle.fz_strict.proofs.Packs.{PackLaws, hdus_are_decided}
@@ -45,4 +44,4 @@ returns c =
       moved = c.passing_law.ensures.moved;
       numbered = c.passing_law.ensures.numbered;
     } in
-    record { decided = hdus_are_decided packs; one = hdus_stand_for_one walks images; split = one_split; bytes = restored_are_bytes c.card_laws.ensures }
+    record { decided = hdus_are_decided packs; one = hdus_stand_for_one walks images; split = one_split; bytes = c.restored_bytes_law.ensures }

@@ -1,15 +1,19 @@
 -- One header after another.
 use Rattle.std.proofs.Common.{◌≡◌, ℕ, ◌+◌, ◌<◌, ◌≤◌, inl, inr, Bool, false, List, length, Option, IfSome, Result, Ok, Err, refl, sym, ◌∙◌, subst, arith, rules}
 use Rattle.std.proofs.lemmas.Bool.Decides.{nat_tests}
-use Rattle.fz_base.specs.Source.{HoldsLength}
+use Rattle.fz_base.specs.Source.{HoldsLength, LogsWithin}
 use Rattle.fz_base.specs.declared.failure.Stop.{Stop}
+use Rattle.fz_block.specs.Checks.{header_touched}
 use Rattle.fz_block.specs.Header.{next_start_of}
+use Rattle.fz_files.specs.declared.job.Job.TheVariants.{Verify}
 use Rattle.fz_head.specs.declared.options.PackOptions.{PackOptions}
 use Rattle.fz_again.specs.Again.{IsAgain, ReadsAsSeen, is_empty_primary}
+use Rattle.fz_again.specs.Hdus.{ReadsHdus}
 use Rattle.fz_strict.specs.Gathered.{FindsOptions}
 use Rattle.fz_strict.specs.declared.options.Found.{Found}
 use Rattle.fz_strict.proofs.FindLoop.{IsGathering, ends_with_file, ends_with_last, more_gathered, none_gathered, stops_finding}
 use Rattle.fz_strict.proofs.Fronts.{image_only_tile, image_tile}
+use Rattle.fz_strict.proofs.ReadHdus.{header_gathered, no_header}
 use Rattle.fz_strict.proofs.options.find_options.Goals as goal
 
 pub loop-hdu-init : goal.loop-hdu-init
@@ -20,6 +24,7 @@ loop-hdu-init g c =
       attached = refl;
       reads = refl;
       told = λ told. told;
+      read = no_header c.args.survey.now (g.S.Source.ranges c.args.source.now) held;
       copy = refl;
       header = refl;
       within = λ more. inr (refl, refl);
@@ -85,11 +90,19 @@ loop-hdu-preserved g c =
     let says : c.is_empty_primary-after_empty.result ≡ is_empty_primary a.header = c.is_empty_primary-after_empty.ensures in
     let inside : next_start_of a.header ≤ c.args.length = again.inside in
     let before : c.next_start-start.result < c.args.length = first_of (omega (arith, next, inside, c.if-start-length.false), grind (arith, nat_tests, next, inside, c.if-start-length.false)) in
+    let first : Option (List (ℕ × ℕ)) = g.S.Source.ranges c.args.source.now in
+    let mid : Option (List (ℕ × ℕ)) = g.S.Source.ranges c.loop-hdu.source in
+    let last : Option (List (ℕ × ℕ)) = g.S.Source.ranges c.read_front.new.source in
+    let one : IfSome held (λ file. LogsWithin c.loop-hdu.start (header_touched c.loop-hdu.hdu c.loop-hdu.start file) mid last) =
+    subst (λ (h : Option (List ℕ)). IfSome h (λ file. LogsWithin c.loop-hdu.start (header_touched c.loop-hdu.hdu c.loop-hdu.start file) mid last)) old.held c.in_ok-again.ensures.read in
+    let reads : IfSome held (λ file. ReadsHdus Verify file s first last) =
+    header_gathered s first (c.hdus_law.ensures.header Verify) c.ranges_law.ensures.join held c.loop-hdu.hdu c.loop-hdu.start c.loop-hdu.after_empty c.loop-hdu.found mid last few old.gathered one old.read in
     record {
       held = c.in_ok-again.ensures.source.held_is ∙ old.held;
       attached = c.in_ok-again.ensures.source.attached_is ∙ old.attached;
       reads = c.in_ok-again.ensures.cause.ok ∙ old.reads;
       told = λ told. c.in_ok-again.ensures.told (old.told told);
+      read = reads;
       copy = c.in_ok-again.ensures.copy ∙ old.copy;
       header = c.in_ok-again.ensures.header ∙ old.header;
       within = λ left. inl before;
@@ -105,3 +118,33 @@ returns-clause-options g c =
     let old = c.loop-hdu.invariant in
     let last : s.hdus ≤ c.loop-hdu.hdu = omega arith in
     ends_with_last s held c.loop-hdu.hdu c.loop-hdu.start c.loop-hdu.after_empty c.loop-hdu.found c.options-2.result last old.gathered c.options-2.ensures.value
+
+pub returns-in_err-again-clause-read : goal.returns-in_err-again-clause-read
+returns-in_err-again-clause-read g c =
+    let s = c.args.survey.now in
+    let held : Option (List ℕ) = g.S.Source.held c.args.source.now in
+    let old = c.loop-hdu.invariant in
+    let few : c.loop-hdu.hdu < s.hdus = omega arith in
+    let first : Option (List (ℕ × ℕ)) = g.S.Source.ranges c.args.source.now in
+    let mid : Option (List (ℕ × ℕ)) = g.S.Source.ranges c.loop-hdu.source in
+    let last : Option (List (ℕ × ℕ)) = g.S.Source.ranges c.read_front.new.source in
+    let one : IfSome held (λ file. LogsWithin c.loop-hdu.start (header_touched c.loop-hdu.hdu c.loop-hdu.start file) mid last) =
+    subst (λ (h : Option (List ℕ)). IfSome h (λ file. LogsWithin c.loop-hdu.start (header_touched c.loop-hdu.hdu c.loop-hdu.start file) mid last)) old.held c.in_err-again.ensures.read in
+    let reads : IfSome held (λ file. ReadsHdus Verify file s first last) =
+    header_gathered s first (c.hdus_law.ensures.header Verify) c.ranges_law.ensures.join held c.loop-hdu.hdu c.loop-hdu.start c.loop-hdu.after_empty c.loop-hdu.found mid last few old.gathered one old.read in
+    reads
+
+pub returns-then-start-length-clause-read : goal.returns-then-start-length-clause-read
+returns-then-start-length-clause-read g c =
+    let s = c.args.survey.now in
+    let held : Option (List ℕ) = g.S.Source.held c.args.source.now in
+    let old = c.loop-hdu.invariant in
+    let few : c.loop-hdu.hdu < s.hdus = omega arith in
+    let first : Option (List (ℕ × ℕ)) = g.S.Source.ranges c.args.source.now in
+    let mid : Option (List (ℕ × ℕ)) = g.S.Source.ranges c.loop-hdu.source in
+    let last : Option (List (ℕ × ℕ)) = g.S.Source.ranges c.read_front.new.source in
+    let one : IfSome held (λ file. LogsWithin c.loop-hdu.start (header_touched c.loop-hdu.hdu c.loop-hdu.start file) mid last) =
+    subst (λ (h : Option (List ℕ)). IfSome h (λ file. LogsWithin c.loop-hdu.start (header_touched c.loop-hdu.hdu c.loop-hdu.start file) mid last)) old.held c.in_ok-again.ensures.read in
+    let reads : IfSome held (λ file. ReadsHdus Verify file s first last) =
+    header_gathered s first (c.hdus_law.ensures.header Verify) c.ranges_law.ensures.join held c.loop-hdu.hdu c.loop-hdu.start c.loop-hdu.after_empty c.loop-hdu.found mid last few old.gathered one old.read in
+    reads

@@ -14,6 +14,7 @@ use Rattle.fz_survey.specs.Workspace.{wanted_buffers}
 use Rattle.fz_strict.specs.Clauses.{strict_buffers, strict_wants}
 use Rattle.fz_strict.specs.Rows.{ComparesFound}
 use Rattle.fz_strict.proofs.Outcomes.{always, given_past, ok_weaker, refilled_len, refused_tells, short_compared, short_past, short_refuses, short_takes, sum_more}
+use Rattle.fz_strict.proofs.ReadHdus.{no_hdu}
 use Rattle.fz_strict.proofs.strict_file.compare.Goals as goal
 
 pub returns-in_err-plain-clause-compared : goal.returns-in_err-plain-clause-compared
@@ -113,3 +114,6 @@ pub returns-clause-cause : goal.returns-clause-cause
 returns-clause-cause g c =
     let same : c.bytes.new.self.limit ≡ c.args.meter.now.limit = ap (λ (x : Gauge). x.limit) c.in_ok-plain.ensures.taken.1 in
     rw same at c.with_plain-answer.ensures.cause
+
+pub returns-in_err-plain-clause-read : goal.returns-in_err-plain-clause-read
+returns-in_err-plain-clause-read g c = no_hdu c.args.survey.now (g.S.Source.ranges c.args.source.now) (g.S.Source.held c.args.source.now)

@@ -6,8 +6,10 @@ use Rattle.fz_base.specs.declared.failure.Stop.{Stop}
 use Rattle.fz_files.specs.declared.job.Job.TheVariants.{Verify}
 use Rattle.fz_job.specs.Clauses.{ComesLate}
 use Rattle.fz_fetch.specs.Stops.{Fetches}
+use Rattle.fz_strict.specs.Reads.{ReadsKnown}
 use Rattle.fz_strict.specs.Rows.{ComparesFound, ComparesSeen}
 use Rattle.fz_strict.proofs.FoundThere.{changed_late, finds_fetch, found_compared, stopped_compared}
+use Rattle.fz_strict.proofs.ReadHdus.{options_read, then_compared}
 use Rattle.fz_strict.proofs.strict_file.compare_file.Goals as goal
 
 pub returns-in_err-options-clause-compared : goal.returns-in_err-options-clause-compared
@@ -34,3 +36,17 @@ returns-clause-compared g c =
     let same : g.S.Source.held c.find_options.new.source ≡ held = c.in_ok-options.ensures.source.held_is in
     let compared : IfSome held (λ file. ComparesSeen c.in_ok-options.options file c.args.survey.now c.compare_hdus.result) = rw same at c.compare_hdus.ensures.compared in
     found_compared held c.args.survey.now c.in_ok-options.options c.compare_hdus.result c.in_ok-options.ensures.options compared
+
+pub returns-in_err-options-clause-read : goal.returns-in_err-options-clause-read
+returns-in_err-options-clause-read g c =
+    options_read c.args.survey.now (g.S.Source.ranges c.args.source.now) (g.S.Source.held c.args.source.now) (g.S.Source.ranges c.find_options.new.source) c.in_err-options.ensures.read
+
+pub returns-clause-read : goal.returns-clause-read
+returns-clause-read g c =
+    let held : Option (List ℕ) = g.S.Source.held c.args.source.now in
+    let old : Option (List (ℕ × ℕ)) = g.S.Source.ranges c.args.source.now in
+    let mid : Option (List (ℕ × ℕ)) = g.S.Source.ranges c.find_options.new.source in
+    let new : Option (List (ℕ × ℕ)) = g.S.Source.ranges c.compare_hdus.new.source in
+    let same : g.S.Source.held c.find_options.new.source ≡ held = c.in_ok-options.ensures.source.held_is in
+    let next : IfSome held (λ file. ReadsKnown file c.args.survey.now mid new) = rw same at c.compare_hdus.ensures.read in
+    then_compared c.args.survey.now old c.ranges_law.ensures.join held mid new c.in_ok-options.ensures.read next

@@ -8,11 +8,15 @@ use Rattle.fz_base.specs.Stop.{IsDefined, ReadsAndTakes, TellsLimit, stop_of_sho
 use Rattle.fz_base.specs.Takings.{TellsFirstPast, highest}
 use Rattle.fz_base.specs.declared.failure.Stop.{Stop}
 use Rattle.fz_base.specs.declared.failure.Stop.TheVariants.{OverLimit}
+use Rattle.fz_files.specs.Reads.{header_ranges}
+use Rattle.fz_files.specs.declared.job.Job.TheVariants.{Verify}
 use Rattle.fz_survey.specs.Surveys.{survey_takings, surveyed}
 use Rattle.fz_survey.specs.declared.checks.JobChecks.TheVariants.{Unpack as UnpackChecks}
 use Rattle.fz_survey.specs.declared.survey.Survey.{Survey}
 use Rattle.fz_strict.specs.Clauses.{look_takings}
 use Rattle.fz_strict.proofs.Outcomes.{always, given_past, kept_same, ok_weaker, refilled_len, refused_tells, short_block, short_defined, short_limit, short_past, short_takes, told_weaker}
+use Rattle.fz_strict.proofs.ReadHdus.{look_reads}
+use Rattle.fz_strict.proofs.ReadRanges.{unread}
 use Rattle.fz_strict.proofs.strict_file.look.Goals as goal
 
 pub returns-in_err-block-clause-exact : goal.returns-in_err-block-clause-exact
@@ -125,3 +129,10 @@ pub returns-clause-cause : goal.returns-clause-cause
 returns-clause-cause g c =
     let same : c.bytes.new.self.limit ≡ c.args.meter.now.limit = ap (λ (m : Gauge). m.limit) c.in_ok-block.ensures.taken.1 in
     rw same at c.survey_to_unpack-answer.ensures.cause
+
+pub returns-in_err-block-clause-read : goal.returns-in_err-block-clause-read
+returns-in_err-block-clause-read g c = unread (g.S.Source.held c.args.source.now) (header_ranges Verify) (g.S.Source.ranges c.args.source.now)
+
+pub returns-clause-read : goal.returns-clause-read
+returns-clause-read g c =
+    look_reads (g.S.Source.held c.args.source.now) (g.S.Source.ranges c.args.source.now) (g.S.Source.ranges c.survey_to_unpack-answer.new.source) (c.headers_law.ensures.look Verify tt) c.survey_to_unpack-answer.ensures.touched

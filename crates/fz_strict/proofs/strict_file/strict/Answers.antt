@@ -13,9 +13,11 @@ use Rattle.fz_survey.specs.Surveys.{survey_takings}
 use Rattle.fz_survey.specs.declared.checks.JobChecks.TheVariants.{Unpack as UnpackChecks}
 use Rattle.fz_survey.specs.declared.survey.Survey.{Survey}
 use Rattle.fz_strict.specs.Clauses.{AnswersStrict, HasStrictCause, IsStrictAsSaid, look_takings, strict_buffers, strict_takings}
+use Rattle.fz_strict.specs.Reads.{ReadsKnown}
 use Rattle.fz_strict.specs.Rows.{ComparesFound}
 use Rattle.fz_strict.proofs.Outcomes.{kept_same, ok_weaker}
 use Rattle.fz_strict.proofs.Promises.{Knows, answers, block_other, buffers_most, cause_of, headers_within, never_ok, compare_limit, compare_reached, compare_tells, compare_within, learnt, look_faulty, look_tells, look_within, takes_other, takings_within, tells_more, work_faulty, work_right}
+use Rattle.fz_strict.proofs.ReadHdus.{all_read, headers_read}
 use Rattle.fz_strict.proofs.strict_file.strict.Goals as goal
 
 -- ---- a header was refused, or the look stopped otherwise
@@ -66,6 +68,10 @@ returns-in_err-survey-clause-kept g c = record {
   source_counts = c.in_err-survey.ensures.cause.kept;
   sink_counts = c.in_err-survey.ensures.cause.kept;
 }
+
+pub returns-in_err-survey-clause-touched : goal.returns-in_err-survey-clause-touched
+returns-in_err-survey-clause-touched g c =
+    headers_read (g.S.Source.held c.args.source.now) (g.S.Source.ranges c.args.source.now) (g.S.Source.ranges c.look.new.source) c.in_err-survey.ensures.read
 
 -- ---- the file was compared
 
@@ -151,3 +157,15 @@ returns-clause-kept g c =
 
 pub returns-clause-told : goal.returns-clause-told
 returns-clause-told g c = λ told. c.compare.ensures.told (c.in_ok-survey.ensures.told told)
+
+pub returns-clause-touched : goal.returns-clause-touched
+returns-clause-touched g c =
+    let held : Option (List ℕ) = g.S.Source.held c.args.source.now in
+    let old : Option (List (ℕ × ℕ)) = g.S.Source.ranges c.args.source.now in
+    let mid : Option (List (ℕ × ℕ)) = g.S.Source.ranges c.look.new.source in
+    let new : Option (List (ℕ × ℕ)) = g.S.Source.ranges c.compare.new.source in
+    let same : g.S.Source.held c.look.new.source ≡ held = c.in_ok-survey.ensures.source.held_is in
+    let exact : IfSome held (Knows c.in_ok-survey.survey) = c.in_ok-survey.ensures.exact in
+    let next : IfSome held (λ file. ReadsKnown file c.in_ok-survey.survey mid new) = rw same at c.compare.ensures.read in
+    all_read c.ranges_law.ensures.join (c.known_law.ensures.know Verify tt) (c.known_law.ensures.know Unpack tt) (c.hdus_law.ensures.known Verify tt) c.in_ok-survey.survey held old mid new exact
+    (headers_read held old mid c.in_ok-survey.ensures.read) next

@@ -11,6 +11,7 @@ use Rattle.fz_survey.specs.declared.workspace.Wants.{Wants}
 use Rattle.fz_strict.specs.Clauses.{strict_wants}
 use Rattle.fz_strict.specs.Rows.{ComparesFound}
 use Rattle.fz_strict.proofs.Outcomes.{always, fetched_past, fetched_takes, ok_always, short_compared, short_refuses, short_takes, short_tells}
+use Rattle.fz_strict.proofs.ReadHdus.{no_hdu}
 use Rattle.fz_strict.proofs.strict_file.with_plain.Goals as goal
 
 pub returns-in_err-space-clause-compared : goal.returns-in_err-space-clause-compared
@@ -96,3 +97,6 @@ returns-clause-emptied g c =
 
 pub returns-clause-cause : goal.returns-clause-cause
 returns-clause-cause g c = fetched_takes _ _ c.args.meter.now.limit c.compare_file-answer.result c.compare_file-answer.ensures.cause
+
+pub returns-in_err-space-clause-read : goal.returns-in_err-space-clause-read
+returns-in_err-space-clause-read g c = no_hdu c.args.survey.now (g.S.Source.ranges c.args.source.now) (g.S.Source.held c.args.source.now)

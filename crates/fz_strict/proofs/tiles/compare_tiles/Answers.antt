@@ -1,6 +1,7 @@
 -- One round after another is decoded, and compared.
 use Rattle.std.proofs.Common.{◌≡◌, ℕ, ◌+◌, ◌≤◌, List, map, Option, Some, None, IfSome, Result, Err, refl, sym, ◌∙◌, subst, arith, rules}
 use Rattle.std.specs.List.{range_with_len}
+use Rattle.fz_base.specs.Ranges.{LogsIn}
 use Rattle.fz_base.specs.Stop.{IfRefused}
 use Rattle.fz_block.specs.Header.{next_start_of}
 use Rattle.fz_base.specs.declared.failure.Stop.{Stop}
@@ -8,10 +9,13 @@ use Rattle.fz_fetch.specs.Fetched.{AreFetched}
 use Rattle.fz_files.specs.FirstFault.{IsFirstRowFault, image_row, rows_of}
 use Rattle.fz_files.specs.Packed.{tiles_in}
 use Rattle.fz_files.specs.Restored.{pixels_of}
+use Rattle.fz_files.specs.Touched.{image_ranges}
 use Rattle.fz_grid.specs.Grid.{tile_count}
 use Rattle.fz_grid.specs.Region.{lengths_of}
 use Rattle.fz_image.specs.declared.progress.Progress.{Progress}
 use Rattle.fz_strict.specs.Compared.{ComparesNext}
+use Rattle.fz_strict.specs.Reads.{table_ranges}
+use Rattle.fz_strict.proofs.ReadRanges.{bytes_read, join_told, rows_read, unread}
 use Rattle.fz_strict.proofs.Rounds.{all_sound, more_sound, none_sound, room_stays, rounds_fault}
 use Rattle.fz_strict.proofs.TablesCompared.{SoFar, all_compared, all_of_image, all_written, next_compared, none_compared, none_written, ready_now}
 use Rattle.fz_strict.proofs.tiles.compare_tiles.Goals as goal
@@ -22,6 +26,7 @@ loop-first-init g c = record {
   attached = refl;
   reads = refl;
   told = λ told. told;
+  read = unread (g.S.Source.held c.args.source.now) (λ file. table_ranges file c.args.header.now) (g.S.Source.ranges c.args.source.now);
   window = record { sizes = refl; workers = refl };
   copy = refl;
   within = omega arith;
@@ -65,11 +70,19 @@ loop-first-preserved g c =
     let next : ComparesNext held (next_start_of h) c.args.layout.now c.loop-first.progress count window.slots c.in_ok-progress.progress =
     subst (λ end. ComparesNext held end c.args.layout.now c.loop-first.progress count window.slots c.in_ok-progress.progress) c.next_start-end.ensures
     (subst (λ (k : Option (List ℕ)). ComparesNext k c.next_start-end.result c.args.layout.now c.loop-first.progress count window.slots c.in_ok-progress.progress) told c.in_ok-progress.ensures.compared) in
+    let before : Option (List (ℕ × ℕ)) = g.S.Source.ranges c.args.source.now in
+    let one : Option (List (ℕ × ℕ)) = g.S.Source.ranges c.loop-first.source in
+    let two : Option (List (ℕ × ℕ)) = g.S.Source.ranges c.fetch_round.new.source in
+    let rows : IfSome held (λ file. LogsIn (image_ranges file h) one two) = subst (λ (k : Option (List ℕ)). IfSome k (λ file. LogsIn (image_ranges file h) one two)) old.held c.in_ok-fetch_round.ensures.read in
+    let decoded : IfSome held (λ file. LogsIn (table_ranges file h) before two) = join_told c.ranges_law.ensures.join held (λ file. table_ranges file h) before one two old.read (rows_read held h one two rows) in
+    let three : Option (List (ℕ × ℕ)) = g.S.Source.ranges c.compare_next.new.source in
+    let table : IfSome held (λ file. LogsIn (table_ranges file h) two three) = bytes_read c.ranges_law.ensures.within held h c.next_start-end.result two three c.next_start-end.ensures c.in_ok-progress.ensures.read in
     record {
       held = search rules;
       attached = search rules;
       reads = search rules;
       told = λ told. c.in_ok-progress.ensures.told (c.in_ok-fetch_round.ensures.told (old.told told));
+      read = join_told c.ranges_law.ensures.join held (λ file. table_ranges file h) before two three decoded table;
       window = record {
         sizes = c.in_ok-progress.ensures.window.sizes ∙ c.in_ok-fetch_round.ensures.window.sizes ∙ old.window.sizes;
         workers = c.in_ok-progress.ensures.window.workers ∙ c.in_ok-fetch_round.ensures.window.workers ∙ old.window.workers;
@@ -127,3 +140,29 @@ returns-clause-progress g c =
 
 pub returns-clause-none : goal.returns-clause-none
 returns-clause-none g c = none_written (g.S.Source.held c.args.source.now) c.args.header.now c.args.layout.now c.loop-first.first c.loop-first.progress c.loop-first.invariant.so_far
+
+pub returns-in_err-fetch_round-clause-read : goal.returns-in_err-fetch_round-clause-read
+returns-in_err-fetch_round-clause-read g c =
+    let held : Option (List ℕ) = g.S.Source.held c.args.source.now in
+    let h = c.args.header.now in
+    let old = c.loop-first.invariant in
+    let before : Option (List (ℕ × ℕ)) = g.S.Source.ranges c.args.source.now in
+    let one : Option (List (ℕ × ℕ)) = g.S.Source.ranges c.loop-first.source in
+    let two : Option (List (ℕ × ℕ)) = g.S.Source.ranges c.fetch_round.new.source in
+    let rows : IfSome held (λ file. LogsIn (image_ranges file h) one two) = subst (λ (k : Option (List ℕ)). IfSome k (λ file. LogsIn (image_ranges file h) one two)) old.held c.in_err-fetch_round.ensures.read in
+    let decoded : IfSome held (λ file. LogsIn (table_ranges file h) before two) = join_told c.ranges_law.ensures.join held (λ file. table_ranges file h) before one two old.read (rows_read held h one two rows) in
+    decoded
+
+pub returns-in_err-progress-clause-read : goal.returns-in_err-progress-clause-read
+returns-in_err-progress-clause-read g c =
+    let held : Option (List ℕ) = g.S.Source.held c.args.source.now in
+    let h = c.args.header.now in
+    let old = c.loop-first.invariant in
+    let before : Option (List (ℕ × ℕ)) = g.S.Source.ranges c.args.source.now in
+    let one : Option (List (ℕ × ℕ)) = g.S.Source.ranges c.loop-first.source in
+    let two : Option (List (ℕ × ℕ)) = g.S.Source.ranges c.fetch_round.new.source in
+    let rows : IfSome held (λ file. LogsIn (image_ranges file h) one two) = subst (λ (k : Option (List ℕ)). IfSome k (λ file. LogsIn (image_ranges file h) one two)) old.held c.in_ok-fetch_round.ensures.read in
+    let decoded : IfSome held (λ file. LogsIn (table_ranges file h) before two) = join_told c.ranges_law.ensures.join held (λ file. table_ranges file h) before one two old.read (rows_read held h one two rows) in
+    let three : Option (List (ℕ × ℕ)) = g.S.Source.ranges c.compare_next.new.source in
+    let table : IfSome held (λ file. LogsIn (table_ranges file h) two three) = bytes_read c.ranges_law.ensures.within held h c.next_start-end.result two three c.next_start-end.ensures c.in_err-progress.ensures.read in
+    join_told c.ranges_law.ensures.join held (λ file. table_ranges file h) before two three decoded table

@@ -4,6 +4,7 @@ use Rattle.fz_fetch.specs.Fetched.{AreFetched}
 use Rattle.std.specs.List.{range_with_len}
 use Rattle.std.proofs.lemmas.List.{length-replicate, length-take}
 use Rattle.std.proofs.lemmas.Result.{on_ok_weaker}
+use Rattle.fz_strict.proofs.ReadRanges.{round_read}
 use Rattle.fz_strict.proofs.Rounds.{refused_weaker}
 use Rattle.fz_strict.proofs.Rounds.{numbered, round_fault, round_sound, tiles_of_image}
 use Rattle.fz_strict.proofs.tiles.fetch_round.Goals as goal
@@ -36,3 +37,10 @@ returns-clause-fetched g c =
     let are : c.number_tiles.new.tiles ≡ range_with_len c.args.first c.args.count =
     numbered c.args.first c.args.count _ c.number_tiles.new.tiles c.number_tiles.ensures (omega (arith, c.requires.few, length-take {A = ℕ}, length-replicate {A = ℕ})) in
     subst (λ (ts : List ℕ). OnOk c.fetch_tiles.result (AreFetched (g.S.Source.held c.args.source.now) c.args.header.now c.args.image.now.plan ts c.fetch_tiles.new.window.slots)) are c.fetch_tiles.ensures.fetched
+
+pub returns-clause-read : goal.returns-clause-read
+returns-clause-read g c =
+    let are : c.number_tiles.new.tiles ≡ range_with_len c.args.first c.args.count =
+    numbered c.args.first c.args.count _ c.number_tiles.new.tiles c.number_tiles.ensures (omega (arith, c.requires.few, length-take {A = ℕ}, length-replicate {A = ℕ})) in
+    round_read c.hdus_law.ensures.tiles (g.S.Source.held c.args.source.now) c.args.header.now c.args.image.now c.number_tiles.new.tiles (g.S.Source.ranges c.args.source.now) (g.S.Source.ranges c.fetch_tiles.new.source) c.requires.said
+    (tiles_of_image c.args.image.now c.args.first c.args.count c.number_tiles.new.tiles are c.requires.tiles) c.fetch_tiles.ensures.read
