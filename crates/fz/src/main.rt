@@ -7,8 +7,8 @@ ghost use Rattle.fz_app.specs.declared.status.Status.TheVariants.{NoMemory, Writ
 
 mod settled_sink;
 
-use fz_app::{Status, run};
-use fz_base::{FileSource, FreeGate, Meter, StdText};
+use fz_app::{Status, begins_patch, run, run_patch};
+use fz_base::{FileSource, FileStore, FreeGate, Meter, StdText};
 use settled_sink::SettledSink;
 use std::alloc::AllocError;
 use std::fs::File;
@@ -22,6 +22,7 @@ use std::{env, io};
 fn main(rt: HostRuntime) -> ExitCode {
     let answer = match keep_standard(&rt) {
         Ok(_kept) => match words_of(&rt) {
+            Ok(words) if begins_patch(&words) => patch_with(&rt, &words),
             Ok(words) => run_with(&rt, &words),
             Err(error) => Err(error),
         },
@@ -87,6 +88,26 @@ where
         &mut sink,
         &mut text,
         &FreeGate,
+        &mut meter,
+    ))
+}
+
+// Patches a real file, which it also locks.
+fn patch_with<R>(rt: &R, words: &[String]) -> Result<Status, AllocError>
+where
+    R: Files<File = File> + Print + AllocGlobal + Threads + Sync + Clone + Drop,
+{
+    let mut patch = FileSource::new(rt.clone()?);
+    let mut store = FileStore::new(rt.clone()?);
+    let mut text = StdText::new(rt.clone()?);
+    let mut meter = Meter::new(rt.alloc(), limit());
+    Ok(run_patch(
+        rt,
+        rt.alloc(),
+        words,
+        &mut patch,
+        &mut store,
+        &mut text,
         &mut meter,
     ))
 }

@@ -2,7 +2,6 @@
 use Rattle.std.specs.Prelude.{Option, Some, None, IfSome, Result, Ok, Err}
 use Rattle.fz_base.specs.declared.failure.Stop.{Stop}
 use Rattle.fz_base.specs.declared.failure.Stop.TheVariants.{Refused as StopRefused, ReadFault as StopRead, WriteFault as StopWrite, OverLimit as StopLimit, NoMemory as StopMemory}
-use Rattle.fz_words.specs.Jobs.{Asked}
 use Rattle.fz_app.specs.Answer.{IfAnswer, IsPromisedTo, status_of}
 use Rattle.fz_app.specs.declared.status.Status.{Status}
 use Rattle.fz_app.specs.declared.status.Status.TheVariants.{Done, Different, Usage, Refused, ReadFault, WriteFault, OverLimit, NoMemory}
@@ -28,7 +27,7 @@ of_status (Err (StopLimit live asked limit)) P p = p
 of_status (Err StopMemory) P p = p
 
 -- what was promised to whatever the words ask for
-pub of_promise : (asked : Option Asked) (status : Status) (P Q : Asked → Result (Unit {0}) Stop → Type 0) → ((a : Asked) (r : Result (Unit {0}) Stop) → P a r → Q a r) →
+pub of_promise : {A : Type 0} (asked : Option A) (status : Status) (P Q : A → Result (Unit {0}) Stop → Type 0) → ((a : A) (r : Result (Unit {0}) Stop) → P a r → Q a r) →
     IsPromisedTo asked status P → IfSome asked (λ a. IfAnswer status (Q a))
 of_promise None status P Q f p = tt
 of_promise (Some a) status P Q f p = of_answer status (P a) (Q a) (f a) p.0

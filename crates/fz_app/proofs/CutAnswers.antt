@@ -3,7 +3,7 @@
 use Rattle.std.proofs.Common.{◌≡◌, ℕ, List, [], ◌++◌, refl, sym, ap, subst, inl, inr, arith}
 use Rattle.std.proofs.lemmas.List.{append-nil}
 use Rattle.std.specs.Option.{option_map}
-use Rattle.std.specs.Prelude.{◌⊎◌, Bool, true, false, Option, Some, None, IfSome, Result}
+use Rattle.std.specs.Prelude.{◌⊎◌, Bool, Option, Some, None, IfSome, Result}
 use Rattle.fz_base.specs.FirstByte.{IsShut}
 use Rattle.fz_base.specs.Ranges.{LogsIn}
 use Rattle.fz_base.specs.declared.failure.Stop.{Stop}
@@ -13,10 +13,9 @@ use Rattle.fz_files.specs.declared.job.Job.{Job}
 use Rattle.fz_files.specs.declared.job.Job.TheVariants.{Cut}
 use Rattle.fz_grid.specs.declared.sieve.Sieve.{Sieve}
 use Rattle.fz_cut.specs.Slices.{SinksHoldSlices}
-use Rattle.fz_round_trip.specs.Decided.{first_fault}
 use Rattle.fz_words.specs.Jobs.{Asked}
 use Rattle.fz_app.specs.Ends.{Ends}
-use Rattle.fz_app.specs.Outputs.{HoldsJobOutput, HoldsJobSlice, ReadsBy, ReadsTouched}
+use Rattle.fz_app.specs.Outputs.{HoldsJobOutput, HoldsJobSlice, ReadsTouched}
 use Rattle.fz_app.specs.Promised.{IsPromised}
 use Rattle.fz_app.proofs.JobAnswers.{JobSays, always_ok, on_ok, promised}
 use Rattle.fz_app.proofs.TextAnswers.{nothing_restored}
@@ -36,15 +35,6 @@ unread (Some file) old new ranges same = subst (λ (r : Option (List (ℕ × ℕ
 
 pub nothing_read : (job : Job) (held : Option (List ℕ)) (old new : Option (List (ℕ × ℕ))) → new ≡ old → ReadsTouched job held old new
 nothing_read job held old new same = unread held old new (touched_by job) same
-
--- and in those of which something is said, whether the file is compared or not
-unread_faulty : (job : Job) (held : Option (List ℕ)) (old new : Option (List (ℕ × ℕ))) → new ≡ old → IfSome held (λ file. ¬ (first_fault job file ≡ None) → LogsIn (touched_by job file) old new)
-unread_faulty job None old new same = tt
-unread_faulty job (Some file) old new same = λ faulty. subst (λ (r : Option (List (ℕ × ℕ))). LogsIn (touched_by job file) old r) (sym same) (none_logged (touched_by job file) old)
-
-pub unread_by : (compared : Bool) (job : Job) (held : Option (List ℕ)) (old new : Option (List (ℕ × ℕ))) → new ≡ old → ReadsBy compared job held old new
-unread_by false job held old new same = nothing_read job held old new same
-unread_by true job held old new same = unread_faulty job held old new same
 
 module _ (wanted : Option ℕ) (sieve : Sieve) (W : ℕ) (strict : Bool) (memory : ℕ) (input output : List ℕ) (old new : Ends) where
   abbrev pub asked : Asked

@@ -149,6 +149,7 @@ drilled rows W strict memory input output held ranges source sink text text' met
   block = λ less. block_of rows (min meter.limit memory) text text' answer (s.cause.block less);
   unread = λ low. refl;
   unmade = same_sink (Drill rows) held (min meter.limit memory) W (IsSameSink sink sink) answer (refl, refl);
+  faulty = tt;
   held_is = refl;
   touched = nothing_read (Drill rows) held ranges ranges refl;
   told_ranges = λ told. told;

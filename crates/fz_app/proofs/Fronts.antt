@@ -11,8 +11,8 @@ use Rattle.fz_base.specs.declared.failure.Stop.TheVariants.{Refused as StopRefus
 use Rattle.fz_files.specs.FirstFault.{IsFirstFault}
 use Rattle.fz_files.specs.Lines.{report_lines}
 use Rattle.fz_files.specs.declared.job.Job.{Job}
-use Rattle.fz_files.specs.declared.job.Job.TheVariants.{Pack, Unpack, Cut, Verify, List as ListHdus, Drill}
-use Rattle.fz_round_trip.specs.Decided.{first_fault}
+use Rattle.fz_files.specs.declared.job.Job.TheVariants.{Pack, Unpack, Cut, Verify, List as ListHdus, Drill, Retile}
+use Rattle.fz_files.specs.Decided.{first_fault}
 use Rattle.fz_round_trip.specs.RoundTrip.{HasFirstFault, HasNoOtherFault}
 use Rattle.fz_job.specs.Clauses.{TellsFirstFault}
 use Rattle.fz_verify.specs.Clauses.{PrintsLines}
@@ -46,6 +46,7 @@ given_bytes (Cut wanted sieve) held bytes = bytes
 given_bytes Verify held bytes = bytes
 given_bytes ListHdus held bytes = bytes
 given_bytes (Drill rows) held bytes = λ k d few. absurd (omega (arith, few))
+given_bytes (Retile options) held bytes = bytes
 
 module _ (some : HasFirstFault) (only : HasNoOtherFault) where
   abbrev Fronts : Bool → Job → Option (List ℕ) → Option (List ℕ) → Option (List ℕ) → Type 0
@@ -100,6 +101,7 @@ module _ (some : HasFirstFault) (only : HasNoOtherFault) where
   of_job Verify strict held limit W old new r bytes printed tells = of_verify strict held limit W old new r bytes printed tells
   of_job ListHdus strict held limit W old new r bytes printed tells = of_lines ListHdus held old.contents new.contents r bytes printed.lines tells
   of_job (Drill rows) strict held limit W old new r bytes printed tells = of_lines (Drill rows) held old.contents new.contents r bytes printed.lines tells
+  of_job (Retile options) strict held limit W old new r bytes printed tells = of_same (Retile options) held old new printed
 
   pub front : (asked : Option Asked) (old new : Ends) (status : Status) → HoldsOctets old.held → IsPromisedTo asked status (λ (a : Asked). IsPromised a old new) →
       IfSome asked (λ a. Fronts (is_compared a) a.job (given a.job old.held) old.text.contents new.text.contents)

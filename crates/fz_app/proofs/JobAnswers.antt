@@ -8,15 +8,15 @@ use Rattle.fz_base.specs.Takings.{TellsFirstPast, highest}
 use Rattle.fz_base.specs.Told.{StaysTold}
 use Rattle.fz_base.specs.declared.failure.Stop.{Stop}
 use Rattle.fz_base.specs.declared.failure.Stop.TheVariants.{ReadFault as StopRead, WriteFault as StopWrite, OverLimit as StopLimit, NoMemory as StopMemory}
-use Rattle.fz_files.specs.Buffers.{IsOfFile, job_bound, job_takings}
+use Rattle.fz_files.specs.Buffers.{IsOfFile, job_takings, own_bound, own_takings}
 use Rattle.fz_files.specs.FirstFault.{IsFirstFault}
 use Rattle.fz_files.specs.declared.job.Job.{Job}
-use Rattle.fz_files.specs.declared.job.Job.TheVariants.{Pack, Unpack, Cut, Verify, List as ListHdus, Drill}
+use Rattle.fz_files.specs.declared.job.Job.TheVariants.{Pack, Unpack, Cut, Verify, List as ListHdus, Drill, Retile}
 use Rattle.fz_job.specs.Clauses.{Answers, HasJobCause, IsShutOrWhole, IsUnmade, TellsFirstFault, greatest_bound}
 use Rattle.fz_words.specs.Jobs.{Asked}
 use Rattle.fz_app.specs.Asked.{given, is_compared, is_write_fault, limit_of, most_bound, takings_with}
 use Rattle.fz_app.specs.Ends.{Ends, IsSameSink, counts_written}
-use Rattle.fz_app.specs.Outputs.{HoldsJobOutput, HoldsJobSlice, IsFinished, IsWhole, JobRestores, ReadsBy, ReadsTouched}
+use Rattle.fz_app.specs.Outputs.{HoldsJobOutput, HoldsJobSlice, IsFinished, IsWhole, JobRestores, LeavesFaulty, ReadsTouched}
 use Rattle.fz_app.specs.Printed.{JobPrinted}
 use Rattle.fz_app.specs.Promised.{IsPromised}
 
@@ -50,9 +50,10 @@ pub record JobSays (asked : Asked) (old new : Ends) (answer : Result (Unit {0}) 
   pub unmade : IsUnmade asked.job old.held (limit_of asked old.meter.limit) asked.workers (IsSameSink old.sink new.sink) answer
   pub live : new.meter.live ≡ 0
   pub limit : new.meter.limit ≡ limit_of asked old.meter.limit
-  pub peak : IfSome (given asked.job old.held) (λ file. new.meter.peak ≤ max 0 (job_bound asked.job file asked.workers))
-  pub exact : OnOk answer (IfSome (given asked.job old.held) (λ file. new.meter.peak ≡ max 0 (highest (job_takings asked.job file asked.workers))))
+  pub peak : IfSome (given asked.job old.held) (λ file. new.meter.peak ≤ max 0 (own_bound asked.job file asked.workers))
+  pub exact : OnOk answer (IfSome (given asked.job old.held) (λ file. new.meter.peak ≡ max 0 (highest (own_takings asked.job file asked.workers))))
   pub most : new.meter.peak ≤ max 0 (greatest_bound asked.job asked.workers)
+  pub faulty : LeavesFaulty asked.job old.held (IsSameSink old.sink new.sink)
   pub held_is : new.held ≡ old.held
   pub touched : ReadsTouched asked.job old.held old.ranges new.ranges
   pub told_ranges : StaysTold old.ranges new.ranges
@@ -63,6 +64,17 @@ pub record JobSays (asked : Asked) (old new : Ends) (answer : Result (Unit {0}) 
   pub printed : JobPrinted asked.job false (given asked.job old.held) (limit_of asked old.meter.limit) asked.workers old.text new.text answer
   pub one_written : counts_written asked.job new ≡ counts_written asked.job old → (new.sink.tally ≡ old.sink.tally) × (new.text.tally ≡ old.text.tally)
 
+-- a sink that is as before, whatever the file has
+pub left_faulty : (job : Job) (held : Option (List ℕ)) (Same : Type 0) → Same → LeavesFaulty job held Same
+left_faulty (Pack options) held Same is = tt
+left_faulty Unpack held Same is = tt
+left_faulty (Cut wanted sieve) held Same is = tt
+left_faulty Verify held Same is = tt
+left_faulty ListHdus held Same is = tt
+left_faulty (Drill rows) held Same is = tt
+left_faulty (Retile options) None Same is = tt
+left_faulty (Retile options) (Some file) Same is = λ fault. is
+
 -- the bound of a job on a file, whatever the file
 most_is : (job : Job) (W : ℕ) → IsOfFile job → greatest_bound job W ≡ most_bound job W
 most_is (Pack options) W of_file = refl
@@ -71,6 +83,7 @@ most_is (Cut wanted sieve) W of_file = refl
 most_is Verify W of_file = refl
 most_is ListHdus W of_file = refl
 most_is (Drill rows) W of_file = absurd of_file
+most_is (Retile options) W of_file = refl
 
 -- contents that hold the output are shut, or the file has no fault
 abbrev pub WholeIsSound : Job → Ends → Ends → Type 0
@@ -88,11 +101,11 @@ module _ (asked : Asked) (old new : Ends) where
   first_byte_of E sound (inl shut) = inl shut
   first_byte_of E sound (inr sealed) = with_sound E sealed.0 (sound sealed.0) sealed.1
 
-  peak_of : (held : Option (List ℕ)) → IfSome held (λ file. new.meter.peak ≤ max 0 (job_bound asked.job file asked.workers)) → IfSome held (λ file. new.meter.peak ≤ job_bound asked.job file asked.workers)
+  peak_of : (held : Option (List ℕ)) → IfSome held (λ file. new.meter.peak ≤ max 0 (own_bound asked.job file asked.workers)) → IfSome held (λ file. new.meter.peak ≤ own_bound asked.job file asked.workers)
   peak_of None p = tt
   peak_of (Some file) p = omega (arith, p)
 
-  exact_of : (held : Option (List ℕ)) → IfSome held (λ file. new.meter.peak ≡ max 0 (highest (job_takings asked.job file asked.workers))) → IfSome held (λ file. new.meter.peak ≡ highest (job_takings asked.job file asked.workers))
+  exact_of : (held : Option (List ℕ)) → IfSome held (λ file. new.meter.peak ≡ max 0 (highest (own_takings asked.job file asked.workers))) → IfSome held (λ file. new.meter.peak ≡ highest (own_takings asked.job file asked.workers))
   exact_of None p = tt
   exact_of (Some file) p = omega (arith, p)
 
@@ -118,7 +131,7 @@ module _ (asked : Asked) (old new : Ends) where
     live = s.live;
     limit = s.limit;
     peak = peak_of (given asked.job old.held) s.peak;
-    exact = subst (λ (b : Bool). OnOk answer (IfSome (given asked.job old.held) (λ file. new.meter.peak ≡ highest (takings_with b file (job_takings asked.job file asked.workers))))) (sym plain)
+    exact = subst (λ (b : Bool). OnOk answer (IfSome (given asked.job old.held) (λ file. new.meter.peak ≡ highest (takings_with b file (own_takings asked.job file asked.workers))))) (sym plain)
         (on_ok answer _ _ (exact_of (given asked.job old.held)) s.exact);
     done = on_ok answer ((new.source ≡ old.source) × (counts_written asked.job new ≡ counts_written asked.job old)) ((new.source ≡ old.source) × (new.sink.tally ≡ old.sink.tally) × (new.text.tally ≡ old.text.tally)) (all_counts s.one_written) s.cause.done;
     refused = λ is. (s.of_file, all_counts s.one_written (s.cause.refused is));
@@ -131,8 +144,9 @@ module _ (asked : Asked) (old new : Ends) where
     block = block_of answer s.cause.block;
     unread = s.unread;
     unmade = s.unmade;
+    faulty = s.faulty;
     held_is = s.held_is;
-    touched = subst (λ (b : Bool). ReadsBy b asked.job old.held old.ranges new.ranges) (sym plain) s.touched;
+    touched = s.touched;
     told_ranges = s.told_ranges;
     told_contents = s.told_contents;
     source_counts = s.source_counts;

@@ -1,5 +1,7 @@
 mod Answered
+mod Before
 mod Complete
+mod Corners
 mod CutAnswers
 mod DrillAnswers
 mod FirstBytes
@@ -7,10 +9,15 @@ mod Fronts
 mod JobAnswers
 mod Limits
 mod NamesAnswers
+mod Opening
 mod PackAnswers
+mod PatchAnswers
+mod PatchRuns
 mod RequestAnswers
+mod RetileAnswers
 mod RunPromises
 mod StrictAnswers
+mod StrictFirst
 mod StrictLines
 mod StrictTakings
 mod Tallies

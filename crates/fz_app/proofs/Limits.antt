@@ -7,7 +7,7 @@ use Rattle.fz_base.specs.declared.failure.Stop.{Stop}
 use Rattle.fz_base.specs.declared.failure.Stop.TheVariants.{Refused as StopRefused, ReadFault as StopRead, WriteFault as StopWrite, OverLimit as StopLimit, NoMemory as StopMemory}
 use Rattle.fz_files.specs.Buffers.{AreBounded, IsOfFile, job_bound, job_takings}
 use Rattle.fz_files.specs.declared.job.Job.{Job}
-use Rattle.fz_files.specs.declared.job.Job.TheVariants.{Pack, Unpack, Cut, Verify, List as ListHdus, Drill}
+use Rattle.fz_files.specs.declared.job.Job.TheVariants.{Pack, Unpack, Cut, Verify, List as ListHdus, Drill, Retile}
 use Rattle.fz_words.specs.Jobs.{Asked, job_of}
 use Rattle.fz_app.specs.Answer.{IsPromisedTo}
 use Rattle.fz_app.specs.Asked.{given, is_compared_by, is_write_fault, limit_of, most_bound, takings_told, takings_with}
@@ -19,7 +19,7 @@ use Rattle.fz_app.proofs.Answered.{of_promise}
 use Rattle.fz_app.proofs.RunPromises.{asked_fact}
 use Rattle.fz_app.proofs.StrictTakings.{all_within}
 
-within_answer : PastWithinLaw → (limit most bound : ℕ) (ts : List (ℕ × ℕ)) (r : Result (Unit {0}) Stop) → first_past bound ts ≡ None → TellsLimit limit most r → TellsFirstPast limit ts r → TellsLimit limit bound r
+pub within_answer : PastWithinLaw → (limit most bound : ℕ) (ts : List (ℕ × ℕ)) (r : Result (Unit {0}) Stop) → first_past bound ts ≡ None → TellsLimit limit most r → TellsFirstPast limit ts r → TellsLimit limit bound r
 within_answer past_within limit most bound ts (Ok x) none tells past = tt
 within_answer past_within limit most bound ts (Err (StopRefused x)) none tells past = tt
 within_answer past_within limit most bound ts (Err StopRead) none tells past = tt
@@ -47,6 +47,7 @@ within_held past_within bounded (Cut wanted sieve) strict W held limit r tells p
 within_held past_within bounded Verify strict W held limit r tells past = on_verify past_within bounded (strict && not (is_write_fault r)) W held limit _ r tells past
 within_held past_within bounded ListHdus strict W held limit r tells past = on_file past_within bounded ListHdus W held limit _ r tt tells past
 within_held past_within bounded (Drill rows) strict W held limit r tells past = tells
+within_held past_within bounded (Retile o) strict W held limit r tells past = on_file past_within bounded (Retile o) W held limit _ r tt tells past
 
 -- which taking passed the limit
 pub over_limit : PastWithinLaw → AreBounded → (words : List (List ℕ)) (old new : Ends) (status : Status) → IsPromisedTo (job_of words) status (λ (a : Asked). IsPromised a old new) → OverLimitHasCause words old.held old.meter.limit old.ranges new.ranges status

@@ -4,7 +4,7 @@ use Rattle.std.specs.Prelude.{◌≢◌, Bool, true, false, Option, Some, None, 
 use Rattle.fz_base.specs.declared.failure.Stop.{Stop}
 use Rattle.fz_base.specs.declared.failure.Stop.TheVariants.{Refused as StopRefused, ReadFault as StopRead, WriteFault as StopWrite, OverLimit as StopLimit, NoMemory as StopMemory}
 use Rattle.fz_files.specs.declared.job.Job.{Job}
-use Rattle.fz_files.specs.declared.job.Job.TheVariants.{Pack, Unpack, Cut, Verify, List as ListHdus, Drill}
+use Rattle.fz_files.specs.declared.job.Job.TheVariants.{Pack, Unpack, Cut, Verify, List as ListHdus, Drill, Retile}
 use Rattle.fz_files.specs.Lines.{has_wrong_sums}
 use Rattle.fz_words.specs.Jobs.{Asked}
 use Rattle.fz_app.specs.Answer.{EndsAs, EndsBy, IfAnswer, IsEnd, IsPromisedTo, IsRightBy, done_of, end_compared, end_of, status_of, status_of_verify}
@@ -24,6 +24,21 @@ not_usage (Err StopRead) = λ e. absurd cc
 not_usage (Err StopWrite) = λ e. absurd cc
 not_usage (Err (StopLimit live asked limit)) = λ e. absurd cc
 not_usage (Err StopMemory) = λ e. absurd cc
+
+-- nor by Different, which only `verify` has
+pub not_different : (r : Result (Unit {0}) Stop) → status_of r ≢ Different
+not_different (Ok tt) = λ e. absurd cc
+not_different (Err (StopRefused x)) = λ e. absurd cc
+not_different (Err StopRead) = λ e. absurd cc
+not_different (Err StopWrite) = λ e. absurd cc
+not_different (Err (StopLimit live asked limit)) = λ e. absurd cc
+not_different (Err StopMemory) = λ e. absurd cc
+
+-- what is promised of an answer to what words ask for
+pub promised_to : {A : Type 0} (words : Option A) (asked : A) (status : Status) (P : A → Result (Unit {0}) Stop → Type 0) (r : Result (Unit {0}) Stop) → words ≡ Some asked → status ≡ status_of r → P asked r →
+    IsPromisedTo words status P
+promised_to {A} words asked status P r is e p =
+    subst (λ (o : Option A). IsPromisedTo o status P) (sym is) (subst (λ (s : Status). IfAnswer s (P asked) × (s ≢ Usage)) (sym e) (of_status r (P asked) p, not_usage r))
 
 -- the status of the answer of `verify` tells it, and is not Usage
 of_verify : (r : Result Bool Stop) (P : Result (Unit {0}) Stop → Type 0) → P (done_of r) → IfAnswer (status_of_verify r) P × (status_of_verify r ≢ Usage)
@@ -60,6 +75,7 @@ of_job (Cut wanted sieve) strict status old new p = tt
 of_job Verify strict status old new p = p
 of_job ListHdus strict status old new p = tt
 of_job (Drill rows) strict status old new p = tt
+of_job (Retile options) strict status old new p = tt
 
 pub reports : (job : Job) (strict : Bool) (status : Status) (r : Result Bool Stop) (old new : Option (List ℕ)) → status ≡ status_of_verify r → IfOk r (ReportsBy strict old new) → JobReports job (is_compared_by job strict) old new status
 reports job strict status r old new e p = of_job job strict status old new (subst (λ (s : Status). ReportsAs strict s old new) (sym e) (by_answer strict r old new p))
@@ -124,6 +140,7 @@ is_other (Cut wanted sieve) = true
 is_other Verify = false
 is_other ListHdus = true
 is_other (Drill rows) = true
+is_other (Retile options) = true
 
 other_end : (job : Job) (strict : Bool) → is_other job ≡ true → (file : List ℕ) → EndsBy (is_compared_by job strict) job file Done
 other_end (Pack options) strict is = λ file. refl
@@ -132,6 +149,7 @@ other_end (Cut wanted sieve) strict is = λ file. refl
 other_end Verify strict is = λ file. absurd cc
 other_end ListHdus strict is = λ file. refl
 other_end (Drill rows) strict is = λ file. refl
+other_end (Retile options) strict is = λ file. refl
 
 module _ (asked : Asked) (held : Option (List ℕ)) (status : Status) where
   pub other_ends : (r : Result (Unit {0}) Stop) → is_other asked.job ≡ true → status ≡ status_of r → IsEnd asked (given asked.job held) status

@@ -8,17 +8,17 @@ use Rattle.fz_base.specs.declared.failure.Stop.{Stop}
 use Rattle.fz_base.specs.declared.failure.Stop.TheVariants.{Refused as StopRefused, ReadFault as StopRead, WriteFault as StopWrite, OverLimit as StopLimit, NoMemory as StopMemory}
 use Rattle.fz_files.specs.Buffers.{IsOfFile, job_bound}
 use Rattle.fz_files.specs.declared.job.Job.{Job}
-use Rattle.fz_files.specs.declared.job.Job.TheVariants.{Pack, Unpack, Cut, Verify, List as ListHdus, Drill}
-use Rattle.fz_round_trip.specs.Decided.{first_fault}
+use Rattle.fz_files.specs.declared.job.Job.TheVariants.{Pack, Unpack, Cut, Verify, List as ListHdus, Drill, Retile}
+use Rattle.fz_files.specs.Decided.{first_fault}
 use Rattle.fz_round_trip.specs.RoundTrip.{ComesBack, HasNoOtherFault}
-use Rattle.fz_job.specs.Clauses.{IsAnswer, TellsFirstFault}
+use Rattle.fz_job.specs.Clauses.{IsAnswer, IsUnmade, TellsFirstFault}
 use Rattle.fz_words.specs.Jobs.{Asked, job_of}
 use Rattle.fz_app.specs.Answer.{IfAnswer, IsEnd, IsPromisedTo}
 use Rattle.fz_app.specs.Asked.{given, is_compared, limit_of}
-use Rattle.fz_app.specs.Causes.{AreCountsKept}
-use Rattle.fz_app.specs.Ends.{Ends, TextIs, counts_written, written_counts}
+use Rattle.fz_app.specs.Causes.{AreCountsKept, IsUnmadeFor}
+use Rattle.fz_app.specs.Ends.{Ends, IsSameSink, TextIs, counts_written, written_counts}
 use Rattle.fz_app.specs.Lines.{status_line, GotLine}
-use Rattle.fz_app.specs.Outputs.{JobRestores, PackedIsSound}
+use Rattle.fz_app.specs.Outputs.{JobRestores, LeavesFaulty, PackedIsSound}
 use Rattle.fz_app.specs.Printed.{IsPrinted, JobPrinted}
 use Rattle.fz_app.specs.Promised.{IsPromised}
 use Rattle.fz_app.specs.Promises.{IsAnswerTo, IsComplete, IsRestored}
@@ -40,12 +40,12 @@ any_answer stat.WriteFault P Q f u p = f (Err StopWrite) p
 any_answer (stat.OverLimit live asked limit) P Q f u p = f (Err (StopLimit live asked limit)) p
 any_answer stat.NoMemory P Q f u p = f (Err StopMemory) p
 
-pub asked_fact : (asked : Option Asked) (status : Status) (P : Asked → Result (Unit {0}) Stop → Type 0) (Q : Asked → Type 0) → ((a : Asked) (r : Result (Unit {0}) Stop) → P a r → Q a) → IsPromisedTo asked status P → IfSome asked Q
+pub asked_fact : {A : Type 0} (asked : Option A) (status : Status) (P : A → Result (Unit {0}) Stop → Type 0) (Q : A → Type 0) → ((a : A) (r : Result (Unit {0}) Stop) → P a r → Q a) → IsPromisedTo asked status P → IfSome asked Q
 asked_fact None status P Q f p = tt
 asked_fact (Some a) status P Q f p = any_answer status (P a) (Q a) (f a) p.1 p.0
 
 -- one that holds also where nothing is asked
-always : (asked : Option Asked) (status : Status) (P : Asked → Result (Unit {0}) Stop → Type 0) (Q : Type 0) → (status ≡ Usage → Q) → ((a : Asked) (r : Result (Unit {0}) Stop) → P a r → Q) → IsPromisedTo asked status P → Q
+pub always : {A : Type 0} (asked : Option A) (status : Status) (P : A → Result (Unit {0}) Stop → Type 0) (Q : Type 0) → (status ≡ Usage → Q) → ((a : A) (r : Result (Unit {0}) Stop) → P a r → Q) → IsPromisedTo asked status P → Q
 always None status P Q f g p = f p
 always (Some a) status P Q f g p = any_answer status (P a) Q (g a) p.1 p.0
 
@@ -68,6 +68,7 @@ risen (Cut wanted sieve) sink sink' text text' now kept rose = rose
 risen Verify sink sink' text text' now kept rose = rose_on text.faults text'.faults now.faults rose kept.faults_kept
 risen ListHdus sink sink' text text' now kept rose = rose_on text.faults text'.faults now.faults rose kept.faults_kept
 risen (Drill rows) sink sink' text text' now kept rose = rose_on text.faults text'.faults now.faults rose kept.faults_kept
+risen (Retile options) sink sink' text text' now kept rose = rose
 
 with_file : (held : Option (List ℕ)) (status : Status) (B : List ℕ → Type 0) (F : List ℕ → Result (Unit {0}) Stop → Type 0) → IfAnswer status (λ r. IfSome held (λ file. B file → F file r)) →
     IfSome held (λ file. B file → IfAnswer status (F file))
@@ -145,6 +146,7 @@ sound_packed law (Cut wanted sieve) file = tt
 sound_packed law Verify file = tt
 sound_packed law ListHdus file = tt
 sound_packed law (Drill rows) file = tt
+sound_packed law (Retile options) file = tt
 
 sound_held : ComesBack → (job : Job) (held : Option (List ℕ)) → IfSome held (PackedIsSound job)
 sound_held law job None = tt
@@ -158,6 +160,13 @@ pub restored : ComesBack → (words : List (List ℕ)) (old new : Ends) (status 
 restored law words old new status promise = record {
   contents_are = of_promise (job_of words) status (λ (a : Asked). IsPromised a old new) (λ a r. OnOk r (JobRestores a.job old.held new.sink.contents)) (λ a r p. p.restored) promise;
   sound = sound_asked law (job_of words) old.held;
+}
+
+-- the sink is as before
+pub unmade : (words : List (List ℕ)) (old new : Ends) (status : Status) → IsPromisedTo (job_of words) status (λ (a : Asked). IsPromised a old new) → IsUnmadeFor words old.held old.meter.limit (IsSameSink old.sink new.sink) status
+unmade words old new status promise = record {
+  by_job = of_promise (job_of words) status (λ (a : Asked). IsPromised a old new) (λ a r. IsUnmade a.job old.held (limit_of a old.meter.limit) a.workers (IsSameSink old.sink new.sink) r) (λ a r p. p.unmade) promise;
+  faulty = asked_fact (job_of words) status (λ (a : Asked). IsPromised a old new) (λ a. LeavesFaulty a.job old.held (IsSameSink old.sink new.sink)) (λ a r p. p.faulty) promise;
 }
 
 -- words that ask for nothing: what stands in the text is the line of that

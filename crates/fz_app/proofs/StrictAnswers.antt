@@ -2,7 +2,7 @@
 use Rattle.std.proofs.Common.{◌≡◌, ℕ, ◌≤◌, max, min, Bool, true, false, List, [], refl, sym, ap, ◌∙◌, subst, arith, inl, inr}
 use Rattle.std.specs.Prelude.{◌⊎◌, ◌&&◌, not, Option, Some, None, IfOk, IfSome, IsSome, Result, Ok, Err, IsErrOf, OnOk}
 use Rattle.fz_base.specs.Counts.{CountsKept, Rose, Tally, nameless}
-use Rattle.fz_base.specs.Ranges.{LogsIn}
+use Rattle.fz_base.specs.Ranges.{LogsJoinLaw}
 use Rattle.fz_base.specs.Sink.{MayAppend, appended}
 use Rattle.fz_base.specs.Stop.{IfRefused}
 use Rattle.fz_base.specs.Takings.{TellsFirstPast, first_past, highest}
@@ -13,7 +13,6 @@ use Rattle.fz_files.specs.Buffers.{job_bound, job_takings}
 use Rattle.fz_files.specs.FirstFault.{IsFirstFault}
 use Rattle.fz_files.specs.Touched.{touched_by}
 use Rattle.fz_files.specs.declared.job.Job.TheVariants.{Verify}
-use Rattle.fz_round_trip.specs.Decided.{first_fault}
 use Rattle.fz_round_trip.specs.RoundTrip.{HasNoOtherFault}
 use Rattle.fz_job.specs.Clauses.{Answers, IfOverLimit, IsAnswer, TellsFirstFault, greatest_bound}
 use Rattle.fz_strict.specs.Clauses.{IsStrictAsSaid, strict_takings}
@@ -25,7 +24,7 @@ use Rattle.fz_app.specs.Asked.{is_write_fault, takings_with}
 use Rattle.fz_app.specs.Causes.{ComparesFor}
 use Rattle.fz_app.specs.Ends.{Ends, IsSameSink, SinkIs}
 use Rattle.fz_app.specs.Lines.{strict_text}
-use Rattle.fz_app.specs.Outputs.{ReadsBy}
+use Rattle.fz_app.specs.Outputs.{ReadsTouched}
 use Rattle.fz_app.specs.Printed.{GotAll, HasPrinted, ReportsBy}
 use Rattle.fz_app.specs.Promised.{IsPromised}
 use Rattle.fz_app.specs.Names.{JobNames}
@@ -43,9 +42,10 @@ with_told : (held : Option (List ℕ)) (P Q R : List ℕ → Type 0) → ((file 
 with_told None P Q R f p q = tt
 with_told (Some file) P Q R f p q = f file p q
 
-told_weaker : (held : Option (List ℕ)) (P Q : List ℕ → Type 0) → ((file : List ℕ) → P file → Q file) → IfSome held P → IfSome held Q
-told_weaker None P Q f p = tt
-told_weaker (Some file) P Q f p = f file p
+-- what is read one after another
+pub both_read : LogsJoinLaw → (held : Option (List ℕ)) (old mid new : Option (List (ℕ × ℕ))) → ReadsTouched Verify held old mid → ReadsTouched Verify held mid new → ReadsTouched Verify held old new
+both_read join None old mid new first second = tt
+both_read join (Some file) old mid new first second = join (touched_by Verify file) old mid new first second
 
 answers_by : (r : Result Bool Stop) (held : Option (List ℕ)) (limit : ℕ) → IfSome held (λ file. job_bound Verify file 1 ≤ limit → IsAnswer r) → IfSome held (λ file. job_bound Verify file 1 ≤ limit → IsAnswer (done_of r))
 answers_by r None limit p = tt
@@ -83,7 +83,7 @@ module _ (only : HasNoOtherFault) (W memory : ℕ) (input output : List ℕ) (ol
     counts = p.counts;
   }
 
-  stopped : (stop : Stop) → IsPromised (asked false) old new (Err stop) → IsPromised (asked true) old new (Err stop)
+  pub stopped : (stop : Stop) → IsPromised (asked false) old new (Err stop) → IsPromised (asked true) old new (Err stop)
   stopped stop p = record {
     restored = p.restored;
     output = p.output;
@@ -105,8 +105,9 @@ module _ (only : HasNoOtherFault) (W memory : ℕ) (input output : List ℕ) (ol
     block = p.block;
     unread = p.unread;
     unmade = p.unmade;
+    faulty = tt;
     held_is = p.held_is;
-    touched = told_weaker old.held (λ file. LogsIn (touched_by Verify file) old.ranges new.ranges) (λ file. ¬ (first_fault Verify file ≡ None) → LogsIn (touched_by Verify file) old.ranges new.ranges) (λ file logs faulty. logs) p.touched;
+    touched = p.touched;
     told_ranges = p.told_ranges;
     told_contents = p.told_contents;
     source_counts = p.source_counts;
@@ -139,6 +140,7 @@ pub record ComparedSays (held : Option (List ℕ)) (limit : ℕ) (mid new : Ends
   pub most : new.meter.peak ≤ max mid.meter.peak (greatest_bound Verify 1)
   pub exact : OnOk answer (IfSome held (λ file. new.meter.peak ≡ max mid.meter.peak (highest (strict_takings file))))
   pub held_is : new.held ≡ mid.held
+  pub touched : ReadsTouched Verify held mid.ranges new.ranges
   pub told_ranges : StaysTold mid.ranges new.ranges
   pub told : StaysTold mid.text.contents new.text.contents
   pub source_counts : CountsKept mid.source new.source
@@ -195,10 +197,6 @@ module _ (only : HasNoOtherFault) (W : ℕ) where
   exact_both (Ok same) held before now sound first second = exact_held held before now sound first second
   exact_both (Err stop) held before now sound first second = tt
 
-  not_faulty : (held : Option (List ℕ)) (old new : Option (List (ℕ × ℕ))) → IfSome held (λ file. IsFirstFault Verify file None) → ReadsBy true Verify held old new
-  not_faulty None old new sound = tt
-  not_faulty (Some file) old new sound = λ faulty. absurd (faulty (sym (only Verify file None sound)))
-
   module _ (memory : ℕ) (input output : List ℕ) (old mid new : Ends) (same : new.sink ≡ old.sink) (empty : IfSome new.sink.contents (λ c. c ≡ [])) where
     abbrev pub verified : Bool → Asked
     verified strict = record { job = Verify; workers = W; strict = strict; memory = memory; input = input; output = output }
@@ -219,8 +217,8 @@ module _ (only : HasNoOtherFault) (W : ℕ) where
     }
 
     -- the promises of `verify --strict`, of which `verify` was done
-    pub compared : (answer : Result Bool Stop) (right : Bool) → Reports old.text.contents mid.text.contents right → IsPromised (verified false) old mid (Ok tt) → ComparedSays old.held mid.meter.limit mid new answer → IsPromised (verified true) old new (done_of answer)
-    compared answer right reports p s =
+    pub compared : LogsJoinLaw → (answer : Result Bool Stop) (right : Bool) → Reports old.text.contents mid.text.contents right → IsPromised (verified false) old mid (Ok tt) → ComparedSays old.held mid.meter.limit mid new answer → IsPromised (verified true) old new (done_of answer)
+    compared join answer right reports p s =
         let limit : mid.meter.limit ≡ min old.meter.limit memory = p.limit in
         let says : ComparedSays old.held (min old.meter.limit memory) mid new answer = subst (λ (n : ℕ). ComparedSays old.held n mid new answer) limit s in
         let source : mid.source ≡ old.source = p.done.0 in
@@ -248,8 +246,9 @@ module _ (only : HasNoOtherFault) (W : ℕ) where
           block = λ low. no_block _ _ _ _ (p.block low);
           unread = λ low. no_block _ _ _ _ (p.block low);
           unmade = same_sink Verify old.held (min old.meter.limit memory) W (IsSameSink old.sink new.sink) (done_of answer) (ap (λ (k : SinkIs). k.created) same, ap (λ (k : SinkIs). k.contents) same);
+          faulty = tt;
           held_is = says.held_is ∙ p.held_is;
-          touched = not_faulty old.held old.ranges new.ranges p.first_fault;
+          touched = both_read join old.held old.ranges mid.ranges new.ranges p.touched says.touched;
           told_ranges = λ told. says.told_ranges (p.told_ranges told);
           told_contents = λ told. subst (λ (k : SinkIs). IsSome k.contents) (sym same) told;
           source_counts = kept_twice old.source mid.source new.source p.source_counts says.source_counts;

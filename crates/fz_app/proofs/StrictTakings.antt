@@ -10,7 +10,7 @@ use Rattle.fz_base.specs.declared.fault.Fault.{Fault}
 use Rattle.fz_files.specs.Buffers.{AreBounded, header_takings, job_bound, job_takings, largest_tile, longest_header, work_takings}
 use Rattle.fz_files.specs.Walks.{header_fault}
 use Rattle.fz_files.specs.declared.job.Job.TheVariants.{Verify}
-use Rattle.fz_round_trip.specs.Decided.{first_fault}
+use Rattle.fz_files.specs.Decided.{first_fault}
 use Rattle.fz_strict.specs.Clauses.{later_takings, strict_buffers, strict_takings}
 use Rattle.fz_app.specs.Asked.{compared_takings, takings_with}
 

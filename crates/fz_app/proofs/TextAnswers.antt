@@ -8,7 +8,7 @@ use Rattle.fz_base.specs.Told.{StaysTold}
 use Rattle.fz_base.specs.declared.fault.Fault.{Fault}
 use Rattle.fz_base.specs.declared.failure.Stop.{Stop}
 use Rattle.fz_base.specs.declared.failure.Stop.TheVariants.{Refused as StopRefused, ReadFault as StopRead, WriteFault as StopWrite, OverLimit as StopLimit, NoMemory as StopMemory}
-use Rattle.fz_files.specs.Buffers.{IsOfFile, job_bound, job_takings}
+use Rattle.fz_files.specs.Buffers.{IsOfFile, job_bound, job_takings, own_bound, own_takings}
 use Rattle.fz_files.specs.Walks.{header_fault}
 use Rattle.fz_grid.specs.declared.sieve.Sieve.{Sieve}
 use Rattle.fz_files.specs.declared.job.Job.{Job}
@@ -22,7 +22,7 @@ use Rattle.fz_app.specs.Ends.{Ends, IsSameSink, SinkIs, TextIs, counts_written, 
 use Rattle.fz_app.specs.Outputs.{HoldsJobOutput, IfCut, IsFinished, IsOutput, JobRestores, ReadsTouched, Restores}
 use Rattle.fz_app.specs.Printed.{HasPrinted, JobPrinted}
 use Rattle.fz_app.specs.Promised.{IsPromised}
-use Rattle.fz_app.proofs.JobAnswers.{always_ok, promised}
+use Rattle.fz_app.proofs.JobAnswers.{always_ok, left_faulty, promised}
 use Rattle.fz_app.proofs.PackAnswers.{empty_is_shut}
 use Rattle.fz_app.proofs.Tallies.{kept_by}
 
@@ -124,6 +124,11 @@ exact_workers (Ok x) None peak takings others equal p = tt
 exact_workers (Ok x) (Some file) peak takings others equal p = subst (λ (ts : List (ℕ × ℕ)). peak ≡ max 0 (highest ts)) (sym (equal file)) p
 exact_workers (Err stop) held peak takings others equal p = tt
 
+-- a peak within a bound is within an equal one
+own_peak : (held : Option (List ℕ)) (peak : ℕ) (bounds others : List ℕ → ℕ) → ((file : List ℕ) → others file ≡ bounds file) → IfSome held (λ file. peak ≤ max 0 (bounds file)) → IfSome held (λ file. peak ≤ max 0 (others file))
+own_peak None peak bounds others equal p = tt
+own_peak (Some file) peak bounds others equal p = subst (λ (b : ℕ). peak ≤ max 0 b) (sym (equal file)) p
+
 -- the second of two facts of an answer Ok
 on_second : {X : Type 0} → (r : Result X Stop) (P Q : Type 0) → OnOk r (P × Q) → OnOk r Q
 on_second (Ok x) P Q p = p.1
@@ -211,16 +216,17 @@ pub record IsPrinter (job : Job) : Type 1 where
   pub counts : (sink text : Tally) → written_counts job sink text ≡ text
   pub most : (W : ℕ) → greatest_bound job W ≡ greatest_bound job 1
   pub takings : (W : ℕ) (file : List ℕ) → job_takings job file W ≡ job_takings job file 1
+  pub own : (W : ℕ) (file : List ℕ) → (own_takings job file W ≡ job_takings job file W) × (own_bound job file W ≡ job_bound job file W)
   pub printed : (held : Option (List ℕ)) (limit W : ℕ) (old new : TextIs) (answer : Result (Unit {0}) Stop) → HasPrinted false job held limit W old new answer → JobPrinted job false held limit W old new answer
 
 pub verifies : IsPrinter Verify
-verifies = record { output = λ file. refl; finished = λ is. tt; restores = λ file bytes. tt; no_cut = λ P. tt; counts = λ sink text. refl; most = λ W. refl; takings = λ W file. refl; printed = λ held limit W old new answer p. p }
+verifies = record { output = λ file. refl; finished = λ is. tt; restores = λ file bytes. tt; no_cut = λ P. tt; counts = λ sink text. refl; most = λ W. refl; takings = λ W file. refl; own = λ W file. (refl, refl); printed = λ held limit W old new answer p. p }
 
 pub lists : IsPrinter ListHdus
-lists = record { output = λ file. refl; finished = λ is. tt; restores = λ file bytes. tt; no_cut = λ P. tt; counts = λ sink text. refl; most = λ W. refl; takings = λ W file. refl; printed = λ held limit W old new answer p. p }
+lists = record { output = λ file. refl; finished = λ is. tt; restores = λ file bytes. tt; no_cut = λ P. tt; counts = λ sink text. refl; most = λ W. refl; takings = λ W file. refl; own = λ W file. (refl, refl); printed = λ held limit W old new answer p. p }
 
 pub drills : (rows : ℕ) → IsPrinter (Drill rows)
-drills rows = record { output = λ file. refl; finished = λ is. tt; restores = λ file bytes. tt; no_cut = λ P. tt; counts = λ sink text. refl; most = λ W. refl; takings = λ W file. refl; printed = λ held limit W old new answer p. p }
+drills rows = record { output = λ file. refl; finished = λ is. tt; restores = λ file bytes. tt; no_cut = λ P. tt; counts = λ sink text. refl; most = λ W. refl; takings = λ W file. refl; own = λ W file. (refl, refl); printed = λ held limit W old new answer p. p }
 
 module _ (job : Job) (is : IsPrinter job) where
   pub empty_output : (held contents : Option (List ℕ)) → IfSome contents (λ c. c ≡ []) → HoldsJobOutput job held contents
@@ -268,10 +274,11 @@ module _ (job : Job) (is : IsPrinter job) (W : ℕ) (strict : Bool) (plain : is_
         first_byte = always_err (done_of answer) _ (inl (empty_is_shut new.sink.contents empty));
         unread = s.unread;
         unmade = same_sink job old.held limit W (IsSameSink old.sink new.sink) (done_of answer) (ap (λ (k : SinkIs). k.created) same, ap (λ (k : SinkIs). k.contents) same);
+        faulty = left_faulty job old.held (IsSameSink old.sink new.sink) (ap (λ (k : SinkIs). k.created) same, ap (λ (k : SinkIs). k.contents) same);
         live = s.live;
         limit = s.limit_is;
-        peak = s.peak;
-        exact = exact_workers answer (given job old.held) new.meter.peak (λ file. job_takings job file 1) (λ file. job_takings job file W) (is.takings W) s.exact;
+        peak = own_peak (given job old.held) new.meter.peak (λ file. job_bound job file W) (λ file. own_bound job file W) (λ file. (is.own W file).1) s.peak;
+        exact = exact_workers answer (given job old.held) new.meter.peak (λ file. job_takings job file 1) (λ file. own_takings job file W) (λ file. (is.own W file).0 ∙ is.takings W file) s.exact;
         most = s.most;
         held_is = s.held_is;
         touched = s.touched;

@@ -4,7 +4,7 @@ use Rattle.fz_base.specs.declared.failure.Stop.{Stop}
 use Rattle.fz_base.specs.declared.failure.Stop.TheVariants.{Refused as StopRefused, ReadFault as StopRead, WriteFault as StopWrite, OverLimit as StopLimit, NoMemory as StopMemory}
 use Rattle.fz_files.specs.Lines.{has_wrong_sums}
 use Rattle.fz_files.specs.declared.job.Job.{Job}
-use Rattle.fz_files.specs.declared.job.Job.TheVariants.{Pack, Unpack, Cut, Verify, List as ListHdus, Drill}
+use Rattle.fz_files.specs.declared.job.Job.TheVariants.{Pack, Unpack, Cut, Verify, List as ListHdus, Drill, Retile}
 use Rattle.fz_strict.specs.Clauses.{IsStrictAsSaid}
 use Rattle.fz_verify.specs.Clauses.{IsRightAsSaid}
 use Rattle.fz_words.specs.Jobs.{Asked}
@@ -52,7 +52,7 @@ done_of (Ok x) = Ok tt
 done_of (Err stop) = Err stop
 
 -- A promise of the answer to what the words ask for. Where they ask for nothing the status is Usage, and else it is not.
-abbrev pub IsPromisedTo : Option Asked → Status → (Asked → Result ⊤ Stop → Type 0) → Type 0
+abbrev pub IsPromisedTo : {A : Type 0} → Option A → Status → (A → Result ⊤ Stop → Type 0) → Type 0
 IsPromisedTo None status P = status ≡ Usage
 IsPromisedTo (Some asked) status P = IfAnswer status (P asked) × (status ≢ Usage)
 
@@ -64,6 +64,7 @@ end_of (Cut wanted sieve) file = Done
 end_of Verify file = if has_wrong_sums file then Different else Done
 end_of ListHdus file = Done
 end_of (Drill rows) file = Done
+end_of (Retile options) file = Done
 
 -- how `verify` ends that compared the file too: Done if no sum is wrong and the file is strict
 abbrev pub end_compared : Bool → List ℕ → Status

@@ -4,11 +4,11 @@ use Rattle.std.specs.Prelude.{ℕ, min, not, ◌&&◌, Bool, true, false, List, 
 use Rattle.fz_base.specs.declared.failure.Stop.{Stop}
 use Rattle.fz_base.specs.declared.failure.Stop.TheVariants.{Refused as StopRefused, ReadFault as StopRead, WriteFault as StopWrite, OverLimit as StopLimit, NoMemory as StopMemory}
 use Rattle.fz_base.specs.declared.fault.Fault.{Fault}
-use Rattle.fz_files.specs.Buffers.{job_bound, job_takings}
+use Rattle.fz_files.specs.Buffers.{job_bound, job_takings, own_takings}
 use Rattle.fz_files.specs.declared.job.Job.{Job}
-use Rattle.fz_files.specs.declared.job.Job.TheVariants.{Pack, Unpack, Cut, Verify, List as ListHdus, Drill}
+use Rattle.fz_files.specs.declared.job.Job.TheVariants.{Pack, Unpack, Cut, Verify, List as ListHdus, Drill, Retile}
 use Rattle.fz_job.specs.Clauses.{greatest_bound}
-use Rattle.fz_round_trip.specs.Decided.{first_fault}
+use Rattle.fz_files.specs.Decided.{first_fault}
 use Rattle.fz_strict.specs.Clauses.{strict_takings}
 use Rattle.fz_words.specs.Jobs.{Asked, job_of}
 
@@ -25,6 +25,7 @@ given (Cut wanted sieve) held = held
 given Verify held = held
 given ListHdus held = held
 given (Drill rows) held = Some []
+given (Retile options) held = held
 
 -- the limit on buffers: that of the meter, or that of the words where it is smaller
 abbrev pub limit_of : Asked → ℕ → ℕ
@@ -39,8 +40,9 @@ most_bound (Cut wanted sieve) asked = greatest_bound (Cut wanted sieve) asked
 most_bound Verify asked = greatest_bound Verify asked
 most_bound ListHdus asked = greatest_bound ListHdus asked
 most_bound (Drill rows) asked = job_bound (Drill rows) [] asked
+most_bound (Retile options) asked = greatest_bound (Retile options) asked
 
--- ---- the comparison with what `pack` writes, which `verify --strict` makes after it has verified the file
+-- ---- the comparison with what `pack` writes, which `verify --strict` makes: under an ample limit before the file is verified, else after that
 
 -- whether a job makes it that is asked to: only `verify` does
 abbrev pub is_compared_by : Job → Bool → Bool
@@ -50,6 +52,7 @@ is_compared_by (Cut wanted sieve) strict = false
 is_compared_by Verify strict = strict
 is_compared_by ListHdus strict = false
 is_compared_by (Drill rows) strict = false
+is_compared_by (Retile options) strict = false
 
 -- whether it is made
 abbrev pub is_compared : Asked → Bool
@@ -59,7 +62,8 @@ is_compared asked = is_compared_by asked.job asked.strict
 abbrev pub uncompared : Asked → Asked
 uncompared asked = record asked { strict = false }
 
--- what it takes of the meter: nothing if the file has a fault, since then `verify` refuses it
+-- What is said of its takings: nothing if the file has a fault. Then `verify` refuses it, and it is not compared; or it was compared before, under
+-- a limit that no taking passes.
 abbrev pub compared_takings : Option Fault → List ℕ → List (ℕ × ℕ)
 compared_takings None file = strict_takings file
 compared_takings (Some x) file = []
@@ -72,6 +76,10 @@ takings_with true file takings = takings ++ compared_takings (first_fault Verify
 -- all that is taken of the meter for what is asked
 abbrev pub asked_takings : Asked → List ℕ → List (ℕ × ℕ)
 asked_takings asked file = takings_with (is_compared asked) file (job_takings asked.job file asked.workers)
+
+-- those of the meter that the job is given
+abbrev pub own_asked : Asked → List ℕ → List (ℕ × ℕ)
+own_asked asked file = takings_with (is_compared asked) file (own_takings asked.job file asked.workers)
 
 -- a write fault
 abbrev pub is_write_fault : Result ⊤ Stop → Bool

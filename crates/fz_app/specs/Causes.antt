@@ -13,7 +13,7 @@ use Rattle.fz_app.specs.Answer.{IfRan, IsEnd}
 use Rattle.fz_app.specs.Asked.{IfAsked, given, limit_of, most_bound, takings_told}
 use Rattle.fz_app.specs.Ends.{TextIs, written_counts}
 use Rattle.fz_app.specs.Lines.{status_line, GotLine}
-use Rattle.fz_app.specs.Outputs.{LeavesSink, LeavesSource}
+use Rattle.fz_app.specs.Outputs.{LeavesFaulty, LeavesSink, LeavesSource}
 use Rattle.fz_app.specs.declared.status.Status.{Status}
 use Rattle.fz_app.specs.declared.status.Status.TheVariants.{Usage}
 
@@ -63,9 +63,11 @@ pub record OverLimitHasCause (words : List (List ℕ)) (held : Option (List ℕ)
   pub unread : IfAsked words (λ asked. limit_of asked limit < 2880 → ranges' ≡ ranges)
 
 -- Unmade: the sink is as before if a header of the file is refused or a taking of the job passes the limit, whatever the answer, and after
--- every refusal but that of an HDU which changed between two readings and, of a job that reads rows, that of a row.
-abbrev pub IsUnmadeFor : List (List ℕ) → Option (List ℕ) → ℕ → Type 0 → Status → Type 0
-IsUnmadeFor words held limit Same status = IfRan words status (λ asked answer. IsUnmade asked.job held (limit_of asked limit) asked.workers Same answer)
+-- every refusal but that of an HDU which changed between two readings and, of a job that reads rows, that of a row. `retile` leaves it as
+-- before if the file has any fault, also of a row.
+pub record IsUnmadeFor (words : List (List ℕ)) (held : Option (List ℕ)) (limit : ℕ) (Same : Type 0) (status : Status) : Type 0 where
+  pub by_job : IfRan words status (λ asked answer. IsUnmade asked.job held (limit_of asked limit) asked.workers Same answer)
+  pub faulty : IfAsked words (λ asked. LeavesFaulty asked.job held Same)
 
 -- no count falls
 pub record AreCountsKept (source source' sink sink' text text' : Tally) : Type 0 where

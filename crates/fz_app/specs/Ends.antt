@@ -3,7 +3,7 @@ use Rattle.std.specs.Prelude.{ℕ, ◌≡◌, Bool, List, Option}
 use Rattle.fz_base.specs.Counts.{Tally}
 use Rattle.fz_base.specs.Meter.{Gauge}
 use Rattle.fz_files.specs.declared.job.Job.{Job}
-use Rattle.fz_files.specs.declared.job.Job.TheVariants.{Pack, Unpack, Cut, Verify, List as ListHdus, Drill}
+use Rattle.fz_files.specs.declared.job.Job.TheVariants.{Pack, Unpack, Cut, Verify, List as ListHdus, Drill, Retile}
 
 -- what a sink tells
 pub record SinkIs : Type 0 where
@@ -48,6 +48,7 @@ written_counts (Cut wanted sieve) sink text = sink
 written_counts Verify sink text = text
 written_counts ListHdus sink text = text
 written_counts (Drill rows) sink text = text
+written_counts (Retile options) sink text = sink
 
 -- these counts at an end
 abbrev pub counts_written : Job → Ends → Tally

@@ -2,9 +2,11 @@ pub mod Answer
 pub mod Asked
 pub mod Causes
 pub mod Ends
+pub mod Found
 pub mod Lines
 pub mod Names
 pub mod Outputs
+pub mod PatchPromises
 pub mod Printed
 pub mod Promised
 pub mod Promises

@@ -60,7 +60,7 @@ refusal_text x =
 abbrev pub status_line : Status → List ℕ
 status_line Done = []
 status_line Different = []
-status_line Usage = codes "usage: fz pack, unpack, cut, verify, list or drill\n"
+status_line Usage = codes "usage: fz pack, unpack, cut, verify, list, drill, retile or patch\n"
 status_line (Refused x) = refusal_text x ++ codes "\n"
 status_line ReadFault = codes "read fault\n"
 status_line WriteFault = codes "write fault\n"

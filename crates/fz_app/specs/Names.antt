@@ -3,7 +3,7 @@ use Rattle.std.specs.Prelude.{ℕ, ◌≡◌, List, Option, Result}
 use Rattle.fz_base.specs.Names.{NamesOnce, with_name}
 use Rattle.fz_base.specs.declared.failure.Stop.{Stop}
 use Rattle.fz_files.specs.declared.job.Job.{Job}
-use Rattle.fz_files.specs.declared.job.Job.TheVariants.{Pack, Unpack, Cut, Verify, List as ListHdus, Drill}
+use Rattle.fz_files.specs.declared.job.Job.TheVariants.{Pack, Unpack, Cut, Verify, List as ListHdus, Drill, Retile}
 use Rattle.fz_job.specs.Clauses.{IfOverLimit}
 use Rattle.fz_words.specs.Jobs.{Asked}
 use Rattle.fz_app.specs.Answer.{IfRan}
@@ -24,6 +24,7 @@ JobOpens (Cut wanted sieve) name old new answer = OpensOnce name old new answer
 JobOpens Verify name old new answer = OpensOnce name old new answer
 JobOpens ListHdus name old new answer = OpensOnce name old new answer
 JobOpens (Drill rows) name old new answer = new ≡ old
+JobOpens (Retile options) name old new answer = OpensOnce name old new answer
 
 -- A job that writes a file makes the sink by this name and by no other: at most once, and exactly once if the job is done. Other jobs make
 -- nothing.
@@ -34,6 +35,7 @@ JobMakes (Cut wanted sieve) name old new answer = NamesOnce name old new answer
 JobMakes Verify name old new answer = new ≡ old
 JobMakes ListHdus name old new answer = new ≡ old
 JobMakes (Drill rows) name old new answer = new ≡ old
+JobMakes (Retile options) name old new answer = NamesOnce name old new answer
 
 -- what a job opens and makes is what the words name
 pub record JobNames {X : Type 0} (asked : Asked) (opened opened' made made' : Option (List (List ℕ))) (answer : Result X Stop) : Type 0 where

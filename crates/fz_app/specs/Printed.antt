@@ -13,7 +13,7 @@ use Rattle.fz_files.specs.FirstFault.{IsFirstFault}
 use Rattle.fz_files.specs.Lines.{report_lines}
 use Rattle.fz_files.specs.Walks.{header_fault}
 use Rattle.fz_files.specs.declared.job.Job.{Job}
-use Rattle.fz_files.specs.declared.job.Job.TheVariants.{Pack, Unpack, Cut, Verify, List as ListHdus, Drill}
+use Rattle.fz_files.specs.declared.job.Job.TheVariants.{Pack, Unpack, Cut, Verify, List as ListHdus, Drill, Retile}
 use Rattle.fz_job.specs.Clauses.{ComesLate, IfOverLimit, IsUnmade}
 use Rattle.fz_strict.specs.Clauses.{IsStrictAsSaid}
 use Rattle.fz_verify.specs.Clauses.{GotLines, PrintsLines}
@@ -99,6 +99,7 @@ JobPrinted (Cut wanted sieve) compared held limit workers old new answer = new �
 JobPrinted Verify compared held limit workers old new answer = HasPrinted compared Verify held limit workers old new answer
 JobPrinted ListHdus compared held limit workers old new answer = HasPrinted compared ListHdus held limit workers old new answer
 JobPrinted (Drill rows) compared held limit workers old new answer = HasPrinted compared (Drill rows) held limit workers old new answer
+JobPrinted (Retile options) compared held limit workers old new answer = new ≡ old
 
 -- the same of what the words ask for; the text is as it was where they ask for nothing
 abbrev pub IsPrinted : Option Asked → Option (List ℕ) → ℕ → TextIs → TextIs → Status → Type 0
@@ -139,6 +140,7 @@ JobReports (Cut wanted sieve) compared old new status = ⊤
 JobReports Verify compared old new status = ReportsAs compared status old new
 JobReports ListHdus compared old new status = ⊤
 JobReports (Drill rows) compared old new status = ⊤
+JobReports (Retile options) compared old new status = ⊤
 
 -- the same of what the words ask for
 abbrev pub IsReported : Option Asked → Option (List ℕ) → Option (List ℕ) → Status → Type 0

@@ -7,12 +7,12 @@ use Rattle.fz_base.specs.Told.{StaysTold}
 use Rattle.fz_base.specs.Takings.{TellsFirstPast, highest}
 use Rattle.fz_base.specs.declared.failure.Stop.{Stop}
 use Rattle.fz_base.specs.declared.failure.Stop.TheVariants.{ReadFault as StopRead, WriteFault as StopWrite, OverLimit as StopLimit, NoMemory as StopMemory}
-use Rattle.fz_files.specs.Buffers.{IsOfFile, job_bound}
+use Rattle.fz_files.specs.Buffers.{IsOfFile, job_bound, own_bound}
 use Rattle.fz_job.specs.Clauses.{IsAnswer, IsUnmade, TellsFirstFault}
 use Rattle.fz_words.specs.Jobs.{Asked}
-use Rattle.fz_app.specs.Asked.{asked_takings, given, is_compared, limit_of, most_bound, takings_told}
+use Rattle.fz_app.specs.Asked.{given, is_compared, limit_of, most_bound, own_asked, takings_told}
 use Rattle.fz_app.specs.Ends.{Ends, IsSameSink, counts_written}
-use Rattle.fz_app.specs.Outputs.{HoldsJobOutput, HoldsJobSlice, JobRestores, IsFinished, IsWhole, ReadsAsked}
+use Rattle.fz_app.specs.Outputs.{HoldsJobOutput, HoldsJobSlice, JobRestores, IsFinished, IsWhole, LeavesFaulty, ReadsTouched}
 use Rattle.fz_app.specs.Printed.{JobPrinted}
 
 -- what a job promises of its answer to what the words ask for
@@ -26,8 +26,8 @@ pub record IsPromised (asked : Asked) (old new : Ends) (answer : Result ⊤ Stop
   pub first_byte : OnErr answer (IsShut new.sink.contents ⊎ (IsWhole asked.job old.held new.sink.contents × (IsErrOf answer StopWrite ⊎ IsErrOf answer StopMemory)))
   pub live : new.meter.live ≡ 0
   pub limit : new.meter.limit ≡ limit_of asked old.meter.limit
-  pub peak : IfSome (given asked.job old.held) (λ file. new.meter.peak ≤ job_bound asked.job file asked.workers)
-  pub exact : OnOk answer (IfSome (given asked.job old.held) (λ file. new.meter.peak ≡ highest (asked_takings asked file)))
+  pub peak : IfSome (given asked.job old.held) (λ file. new.meter.peak ≤ own_bound asked.job file asked.workers)
+  pub exact : OnOk answer (IfSome (given asked.job old.held) (λ file. new.meter.peak ≡ highest (own_asked asked file)))
   pub done : OnOk answer ((new.source ≡ old.source) × (new.sink.tally ≡ old.sink.tally) × (new.text.tally ≡ old.text.tally))
   pub refused : IsRefused answer → IsOfFile asked.job × ((new.source ≡ old.source) × (new.sink.tally ≡ old.sink.tally) × (new.text.tally ≡ old.text.tally))
   pub read_fault : IsErrOf answer StopRead → IsOfFile asked.job × Rose old.source.faults new.source.faults
@@ -38,8 +38,9 @@ pub record IsPromised (asked : Asked) (old new : Ends) (answer : Result ⊤ Stop
   pub block : limit_of asked old.meter.limit < 2880 → IsErrOf answer (StopLimit 0 2880 (limit_of asked old.meter.limit)) ⊎ (IsErrOf answer StopRead ⊎ IsErrOf answer StopMemory)
   pub unread : limit_of asked old.meter.limit < 2880 → new.ranges ≡ old.ranges
   pub unmade : IsUnmade asked.job old.held (limit_of asked old.meter.limit) asked.workers (IsSameSink old.sink new.sink) answer
+  pub faulty : LeavesFaulty asked.job old.held (IsSameSink old.sink new.sink)
   pub held_is : new.held ≡ old.held
-  pub touched : ReadsAsked asked old.held old.ranges new.ranges
+  pub touched : ReadsTouched asked.job old.held old.ranges new.ranges
   pub told_ranges : StaysTold old.ranges new.ranges
   pub told_contents : StaysTold old.sink.contents new.sink.contents
   pub source_counts : CountsKept old.source new.source

@@ -6,19 +6,19 @@ use Rattle.fz_base.specs.Meter.{Gauge}
 use Rattle.fz_base.specs.Sink.{MayAppend}
 use Rattle.fz_base.specs.Takings.{highest}
 use Rattle.fz_base.specs.declared.fault.Fault.{Fault}
-use Rattle.fz_files.specs.Buffers.{IsOfFile, job_bound}
+use Rattle.fz_files.specs.Buffers.{IsOfFile, job_bound, own_bound}
 use Rattle.fz_files.specs.Lines.{report_lines}
 use Rattle.fz_files.specs.declared.job.Job.{Job}
 use Rattle.fz_files.specs.declared.job.Job.TheVariants.{Verify}
-use Rattle.fz_round_trip.specs.Decided.{first_fault}
+use Rattle.fz_files.specs.Decided.{first_fault}
 use Rattle.fz_job.specs.Clauses.{TellsFirstFault}
 use Rattle.fz_strict.specs.Clauses.{IsStrictAsSaid}
 use Rattle.fz_words.specs.Jobs.{Asked, job_of}
 use Rattle.fz_app.specs.Answer.{EndsAs, IfRan}
-use Rattle.fz_app.specs.Asked.{IfAsked, asked_takings, given, is_compared, limit_of, most_bound}
+use Rattle.fz_app.specs.Asked.{IfAsked, given, is_compared, limit_of, most_bound, own_asked}
 use Rattle.fz_app.specs.Ends.{TextIs, written_counts}
 use Rattle.fz_app.specs.Lines.{status_line, GotLine}
-use Rattle.fz_app.specs.Outputs.{HoldsJobOutput, HoldsJobSlice, JobRestores, IsFinished, IsWhole, PackedIsSound, ReadsAsked}
+use Rattle.fz_app.specs.Outputs.{HoldsJobOutput, HoldsJobSlice, JobRestores, IsFinished, IsWhole, PackedIsSound, ReadsTouched}
 use Rattle.fz_app.specs.Printed.{IsPrinted, IsReported, compared_lines}
 use Rattle.fz_app.specs.declared.status.Status.{Status}
 use Rattle.fz_app.specs.declared.status.Status.TheVariants.{Done, Refused, WriteFault, NoMemory}
@@ -43,21 +43,21 @@ HasFirstFault words held status = IfRan words status (λ asked answer. TellsFirs
 abbrev pub HasSlice : List (List ℕ) → Option (List ℕ) → Option (List ℕ) → Status → Type 0
 HasSlice words held contents status = IfRan words status (λ asked answer. OnOk answer (HoldsJobSlice asked.job held contents))
 
--- Touched: whatever the answer, every byte that was read lies in the ranges that the job may read. Of a file that is compared this is said if
--- it has a fault.
+-- Touched: whatever the answer, every byte that was read lies in the ranges that the job may read, also of a file that is compared.
 abbrev pub ReadsWithin : List (List ℕ) → Option (List ℕ) → Option (List (ℕ × ℕ)) → Option (List (ℕ × ℕ)) → Type 0
-ReadsWithin words held old new = IfAsked words (λ asked. ReadsAsked asked held old new)
+ReadsWithin words held old new = IfAsked words (λ asked. ReadsTouched asked.job held old new)
 
 -- Buffers: nothing is live, the limit is that of the meter or of the words, and the peak is at most that and at most the
--- bound of the job. After a job that was done the peak is exactly the greatest sum of its takings, for as many workers as were asked for: so
+-- bound of the job, of `retile` that of the meter that it is given. After a job that was done the peak is exactly the greatest sum of its
+-- takings from this meter, for as many workers as were asked for: so
 -- another meter or fewer workers are noticed if they change this sum.
 pub record BuffersAreBounded (words : List (List ℕ)) (held : Option (List ℕ)) (old new : Gauge) (status : Status) : Type 0 where
   pub live : new.live ≡ 0
   pub within : new.peak ≤ new.limit
   pub limit : IfAsked words (λ asked. new.limit ≡ limit_of asked old.limit)
-  pub peak : IfAsked words (λ asked. IfSome (given asked.job held) (λ file. new.peak ≤ job_bound asked.job file asked.workers))
+  pub peak : IfAsked words (λ asked. IfSome (given asked.job held) (λ file. new.peak ≤ own_bound asked.job file asked.workers))
   pub most : IfAsked words (λ asked. new.peak ≤ most_bound asked.job asked.workers)
-  pub exact : IfRan words status (λ asked answer. OnOk answer (IfSome (given asked.job held) (λ file. new.peak ≡ highest (asked_takings asked file))))
+  pub exact : IfRan words status (λ asked answer. OnOk answer (IfSome (given asked.job held) (λ file. new.peak ≡ highest (own_asked asked file))))
 
 -- First byte: after another status than Done the contents are empty or begin with another byte than S, or they are the whole
 -- output of the job on a file without a fault, and then the status is WriteFault or NoMemory.

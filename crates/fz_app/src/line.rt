@@ -19,7 +19,9 @@ pub(crate) fn line_of(status: &Status) -> Line
     let mut line = Line::new();
     match status {
         Status::Done | Status::Different => {}
-        Status::Usage => line.push_str("usage: fz pack, unpack, cut, verify, list or drill\n"),
+        Status::Usage => line.push_str(
+            "usage: fz pack, unpack, cut, verify, list, drill, retile or patch\n",
+        ),
         Status::Refused(fault) => {
             push_refusal(&mut line, fault);
             line.push_str("\n");

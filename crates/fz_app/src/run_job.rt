@@ -1,6 +1,6 @@
 //! The top call: it does all that the program does.
 ghost use Rattle.std.specs.Prelude.{◌≡◌, ◌≤◌, ◌^◌, ℕ, max, Bool, List, [], Option, Some, IfOk, IfSome, OnOk};
-ghost use Rattle.fz_files.specs.declared.job.Job.TheVariants.{Cut, Drill, List as ListHdus, Pack, Unpack, Verify};
+ghost use Rattle.fz_files.specs.declared.job.Job.TheVariants.{Cut, Drill, Retile, List as ListHdus, Pack, Unpack, Verify};
 ghost use Rattle.fz_head.specs.Planned.{AreOptions};
 ghost use Rattle.fz_words.specs.Jobs.{job_of};
 ghost use Rattle.fz_files.specs.Picks.{HasPicks};
@@ -28,16 +28,17 @@ ghost use Rattle.fz_app.specs.Causes.{OverLimitHasCause, ReadFaultHasCause, Refu
 ghost use Rattle.fz_app.specs.Ends.{SinkIs, TextIs, ends, sink_is, text_is};
 ghost use Rattle.fz_app.specs.Lines.{status_line, strict_text, GotLine};
 ghost use Rattle.fz_app.specs.Names.{AreNamed, JobNames};
-ghost use Rattle.fz_app.specs.Outputs.{LeavesSink, LeavesSource};
+ghost use Rattle.fz_app.specs.Outputs.{LeavesSink, LeavesSource, ReadsTouched};
 ghost use Rattle.fz_app.specs.Printed.{IsReported, ReportsBy};
 ghost use Rattle.fz_app.specs.Promised.{IsPromised};
 ghost use Rattle.fz_app.specs.Promises.{BuffersAreBounded, GotText, HasFirstByteLast, HasFirstFault, HasOutput, HasSlice};
 ghost use Rattle.fz_app.specs.Promises.{IsComplete, IsRestored, ReadsWithin};
 ghost use Rattle.fz_app.specs.declared.status.Status.TheVariants.{Usage as IsUsageStatus};
 
+use crate::comparing::{is_ample, run_compared};
 use crate::line::{line_of, strict_line};
 use crate::status::{Status, ended, verified};
-use fz_base::{Gate, Meter, Sink, Source, Stop, Text, takings_law};
+use fz_base::{Gate, Meter, Sink, Source, Stop, Text, ranges_law, takings_law};
 use fz_cut::{cut, slice_law};
 use fz_drill::drill;
 use fz_files::{Job, buffers_law, one_file_law};
@@ -45,6 +46,7 @@ use fz_grid::Sieve;
 use fz_head::PackOptions;
 use fz_pack::pack;
 use fz_pool::Window;
+use fz_retile::{retile, retile_law};
 use fz_round_trip::{first_fault_law, round_trip_law};
 use fz_strict::strict;
 use fz_unpack::unpack;
@@ -56,10 +58,11 @@ use std::thread::Threads;
 /// Does what the words ask for, reads the source, writes the sink and prints to the text, and answers
 /// how that ended. The words are those after the program's name.
 ///
-/// `pack`, `unpack` and `cut` write the sink, the last from the headers and the tiles with a pick alone; `verify` and
-/// `list` print their lines and leave the sink as it is; `drill` works on a file of its own, in memory, prints its lines,
-/// and leaves the source as it is too. For each status but Done and Different one line is put to the text at the
-/// end; if that fails, the status stays.
+/// `pack`, `unpack`, `cut` and `retile` write the sink, `cut` from the headers and the tiles with a pick only, and `retile`
+/// if nothing is wrong with the whole file; `verify` and `list` print their lines and leave the sink as it is; `drill`
+/// works on a file of its own, in memory, prints its lines, and leaves the source as it is too. The words of `patch` ask
+/// for nothing here. For each status but Done and Different one line is put to the text at the end; if that fails, the
+/// status stays.
 pub fn run<R: Threads + Sync, S: Source, K: Sink, T: Text, G: Gate>(
     rt: &R,
     alloc: Global,
@@ -200,11 +203,14 @@ fn run_request<R: Threads + Sync, S: Source, K: Sink, T: Text, G: Gate>(
             rt, alloc, request, *hdu, sieve, source, sink, gate, meter,
         )),
         Job::Drill { rows } => ended(run_drill(rt, alloc, request, *rows, text, gate, meter)),
+        Job::Retile(options) => ended(run_retile(
+            rt, alloc, request, options, source, sink, gate, meter,
+        )),
     }
 }
 
 // Packs the file IN into OUT.
-#[tactic(auto, using(crate::proofs::CutAnswers::nothing_read, crate::proofs::CutAnswers::unread_by, crate::proofs::NamesAnswers::stopped_before))]
+#[tactic(auto, using(crate::proofs::Before::before_the_job))]
 fn run_pack<R: Threads + Sync, S: Source, K: Sink, G: Gate>(
     rt: &R,
     alloc: Global,
@@ -247,7 +253,7 @@ fn run_pack<R: Threads + Sync, S: Source, K: Sink, G: Gate>(
 }
 
 // Unpacks the file IN into OUT.
-#[tactic(auto, using(crate::proofs::CutAnswers::nothing_read, crate::proofs::CutAnswers::unread_by, crate::proofs::NamesAnswers::stopped_before))]
+#[tactic(auto, using(crate::proofs::Before::before_the_job))]
 fn run_unpack<R: Threads + Sync, S: Source, K: Sink, G: Gate>(
     rt: &R,
     alloc: Global,
@@ -279,7 +285,7 @@ fn run_unpack<R: Threads + Sync, S: Source, K: Sink, G: Gate>(
 }
 
 // Cuts the picks of a sieve out of the file IN into OUT.
-#[tactic(auto, using(crate::proofs::CutAnswers::nothing_read, crate::proofs::CutAnswers::unread_by, crate::proofs::NamesAnswers::stopped_before))]
+#[tactic(auto, using(crate::proofs::Before::before_the_job))]
 fn run_cut<R: Threads + Sync, S: Source, K: Sink, G: Gate>(
     rt: &R,
     alloc: Global,
@@ -323,6 +329,53 @@ fn run_cut<R: Threads + Sync, S: Source, K: Sink, G: Gate>(
     )
 }
 
+// Packs anew what the file IN stands for, into OUT.
+#[tactic(auto, using(crate::proofs::Before::before_the_job))]
+fn run_retile<R: Threads + Sync, S: Source, K: Sink, G: Gate>(
+    rt: &R,
+    alloc: Global,
+    request: &Request<'_>,
+    options: &PackOptions,
+    source: &mut S,
+    sink: &mut K,
+    gate: &G,
+    meter: &mut Meter,
+) -> Result<(), Stop>
+    requires job { request.now.job ≡ Retile options.now }
+    requires options { AreOptions options.now }
+    requires workers { (1 ≤ request.now.workers) × (request.now.workers ≤ 64) }
+    requires empty { IfSome (K.contents sink.old) (λ c. c ≡ []) }
+    requires unused { (meter.old.live ≡ 0) × (meter.old.peak ≡ 0) }
+    ensures promised { (text : TextIs) → IsPromised (asked_of request.now)
+        (ends (S.held source.old) (S.ranges source.old) (nameless (S.tally source.old))
+        (sink_is (K.contents sink.old) (K.created sink.old) (K.finished sink.old) (nameless (K.tally sink.old))) text meter.old)
+        (ends (S.held source.new) (S.ranges source.new) (nameless (S.tally source.new))
+        (sink_is (K.contents sink.new) (K.created sink.new) (K.finished sink.new) (nameless (K.tally sink.new))) text meter.new)
+        result }
+    ensures names { JobNames (asked_of request.now) (S.tally source.old).names (S.tally source.new).names (K.tally sink.old).names
+        (K.tally sink.new).names result }
+{
+    // With one limit both meters are as one, and what is packed anew stands for the same file.
+    first_fault_law();
+    retile_law();
+    let (length, mut window) = begin(alloc, request, request.workers, source, meter)?;
+    let output = request.output;
+    // The buffers in which the packed file is decoded, under the same limit.
+    let mut view = Meter::new(alloc, meter.limit());
+    retile(
+        rt,
+        source,
+        length,
+        output,
+        sink,
+        meter,
+        &mut view,
+        &mut window,
+        gate,
+        options,
+    )
+}
+
 // Verifies the file IN, with one worker, and if that is asked, compares it with what `pack` writes. Answers whether no
 // sum is wrong and, if it was compared, the file is strict.
 fn run_verify<R: Threads + Sync, S: Source, T: Text, G: Gate>(
@@ -348,6 +401,11 @@ fn run_verify<R: Threads + Sync, S: Source, T: Text, G: Gate>(
 {
     // A file in which `verify` finds no fault has none.
     first_fault_law();
+    ranges_law();
+    // A lower limit may be too low to compare a file, and not to verify it: then the lines of `verify` come first.
+    if request.strict && is_ample(meter.limit().min(request.memory)) {
+        return run_compared(rt, alloc, request, source, text, gate, meter);
+    }
     let (length, mut window, right) = verify_sums(rt, alloc, request, source, text, gate, meter)?;
     if !request.strict {
         return Ok(right);
@@ -357,7 +415,7 @@ fn run_verify<R: Threads + Sync, S: Source, T: Text, G: Gate>(
 }
 
 // Verifies the file IN. Answers its length, the window, which is empty again, and whether no sum is wrong.
-#[tactic(auto, using(crate::proofs::CutAnswers::nothing_read, crate::proofs::NamesAnswers::stopped_before))]
+#[tactic(auto, using(crate::proofs::Before::before_the_job))]
 fn verify_sums<R: Threads + Sync, S: Source, T: Text, G: Gate>(
     rt: &R,
     alloc: Global,
@@ -384,7 +442,7 @@ fn verify_sums<R: Threads + Sync, S: Source, T: Text, G: Gate>(
     ensures held { S.held source.new ≡ S.held source.old }
 {
     let (length, mut window) = begin(alloc, request, 1, source, meter)?;
-    let right = verify(rt, source, length, text, meter, &mut window, gate)?;
+    let right = verify(rt, source, length, text, meter, &mut window, gate, false)?;
     Ok((length, window, right))
 }
 
@@ -421,6 +479,7 @@ fn compare<R: Threads + Sync, S: Source, T: Text, G: Gate>(
     ensures exact_peak { OnOk result (IfSome (S.held source.old) (λ g. meter.new.peak ≡ max meter.old.peak (highest (strict_takings g)))) }
     ensures kept { KeepsSource (S.held source.old) (S.held source.new) (S.attached source.old) (S.attached source.new)
         (S.tally source.old) (S.tally source.new) (T.tally text.old) (T.tally text.new) }
+    ensures touched { ReadsTouched Verify (S.held source.old) (S.ranges source.old) (S.ranges source.new) }
     ensures told_ranges { StaysTold (S.ranges source.old) (S.ranges source.new) }
     ensures told_contents { StaysTold (T.contents text.old) (T.contents text.new) }
 {
@@ -430,7 +489,7 @@ fn compare<R: Threads + Sync, S: Source, T: Text, G: Gate>(
 }
 
 // Lists the HDUs of the file IN.
-#[tactic(auto, using(crate::proofs::CutAnswers::nothing_read, crate::proofs::CutAnswers::unread_by, crate::proofs::NamesAnswers::stopped_before))]
+#[tactic(auto, using(crate::proofs::Before::before_the_job))]
 fn run_list<S: Source, T: Text>(
     request: &Request<'_>,
     source: &mut S,
@@ -475,9 +534,9 @@ fn run_drill<R: Threads + Sync, T: Text, G: Gate>(
     drill(rt, alloc, rows, text, meter, gate)
 }
 
-// What comes before each job that works on tiles: IN is attached, and there is an empty window for so many workers. Answers the
-// length of IN and the window.
-fn begin<S: Source>(
+/// What comes before each job that works on tiles: IN is attached, and there is an empty window for so many workers. Answers the
+/// length of IN and the window.
+pub(crate) fn begin<S: Source>(
     alloc: Global,
     request: &Request<'_>,
     workers: u32,
@@ -510,11 +569,22 @@ fn attach<S: Source>(request: &Request<'_>, source: &mut S, meter: &mut Meter) -
     ensures cause { Codes (nameless (S.tally source.old)) (nameless (S.tally source.new)) result }
 {
     meter.narrow(request.memory);
-    source.attach(request.input).map_err(Stop::reading)
+    attach_by_name(source, request.input)
 }
 
-// Puts the line of the status, if it has one. If that fails, nothing else can be told.
-fn report<T: Text>(text: &mut T, status: &Status)
+/// Attaches a source by this name, and answers its length.
+pub(crate) fn attach_by_name<S: Source>(source: &mut S, name: &str) -> Result<u64, Stop>
+    ensures attached { IfOk result (λ length. (S.attached source.new ≡ Some length) × (length ≤ 2 ^ 62) × HoldsLength (S.held source.old) length) }
+    ensures held { S.held source.new ≡ S.held source.old }
+    ensures ranges { S.ranges source.new ≡ S.ranges source.old }
+    ensures names { NamesOnce name.now (S.tally source.old).names (S.tally source.new).names result }
+    ensures cause { Codes (nameless (S.tally source.old)) (nameless (S.tally source.new)) result }
+{
+    source.attach(name).map_err(Stop::reading)
+}
+
+/// Puts the line of the status, if it has one. If that fails, nothing else can be told.
+pub(crate) fn report<T: Text>(text: &mut T, status: &Status)
     ensures line { GotLine (status_line status.now) (T.contents text.old) (T.contents text.new) (T.tally text.old) (T.tally text.new) }
     ensures counts { CountsKept (T.tally text.old) (T.tally text.new) }
 {

@@ -10,7 +10,7 @@ use Rattle.fz_files.specs.FirstFault.{IsFirstFault}
 use Rattle.fz_files.specs.Packed.{IsPackedFile}
 use Rattle.fz_files.specs.StandsFor.{IsProfileFile, StandsFor}
 use Rattle.fz_files.specs.declared.job.Job.{Job}
-use Rattle.fz_files.specs.declared.job.Job.TheVariants.{Pack, Unpack, Cut, Verify, List as ListHdus, Drill}
+use Rattle.fz_files.specs.declared.job.Job.TheVariants.{Pack, Unpack, Cut, Verify, List as ListHdus, Drill, Retile}
 use Rattle.fz_tile.specs.Plain.{AreBytes}
 use Rattle.fz_words.specs.Jobs.{Asked, job_of}
 use Rattle.fz_app.specs.Answer.{IfAnswer, IsEnd}
@@ -43,6 +43,7 @@ given_whole (Cut wanted sieve) file whole = absurd whole
 given_whole Verify file whole = absurd whole
 given_whole ListHdus file whole = absurd whole
 given_whole (Drill rows) file whole = absurd whole
+given_whole (Retile o) file whole = absurd whole
 
 -- and compares nothing, since that is not asked
 not_compared : (job : Job) → is_compared_by job false ≡ false
@@ -52,6 +53,7 @@ not_compared (Cut wanted sieve) = refl
 not_compared Verify = refl
 not_compared ListHdus = refl
 not_compared (Drill rows) = refl
+not_compared (Retile o) = refl
 
 -- nothing rises from none to none
 none_rose : Rose 0 0 → ⊥
@@ -65,6 +67,7 @@ none_written (Cut wanted sieve) s s' t t' whole rose = whole
 none_written Verify s s' t t' whole rose = whole
 none_written ListHdus s s' t t' whole rose = whole
 none_written (Drill rows) s s' t t' whole rose = whole
+none_written (Retile o) s s' t t' whole rose = whole
 
 -- what the words ask for, by the job
 abbrev asked_for : Job → Asked

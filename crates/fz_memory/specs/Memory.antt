@@ -7,7 +7,7 @@ use Rattle.fz_files.specs.Buffers.{job_takings}
 use Rattle.fz_files.specs.FirstFault.{IsFirstFault}
 use Rattle.fz_files.specs.Packed.{IsPackedFile}
 use Rattle.fz_files.specs.declared.job.Job.{Job}
-use Rattle.fz_files.specs.declared.job.Job.TheVariants.{Pack, Unpack, Cut, Verify, List as ListHdus, Drill}
+use Rattle.fz_files.specs.declared.job.Job.TheVariants.{Pack, Unpack, Cut, Verify, List as ListHdus, Drill, Retile}
 use Rattle.fz_head.specs.declared.options.CodecWord.TheVariants as word
 use Rattle.fz_head.specs.declared.options.PackOptions.{PackOptions}
 use Rattle.fz_words.specs.Jobs.{job_of}
@@ -31,6 +31,7 @@ IsWhole (Cut wanted sieve) = ⊥
 IsWhole Verify = ⊥
 IsWhole ListHdus = ⊥
 IsWhole (Drill rows) = ⊥
+IsWhole (Retile o) = ⊥
 
 -- the words ask for such a job, with one worker and within 4 GiB
 pub record AsksFor (words : List (List ℕ)) (job : Job) : Type 0 where

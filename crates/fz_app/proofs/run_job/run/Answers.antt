@@ -6,7 +6,7 @@ use Rattle.fz_words.specs.Parts.{texts_of}
 use Rattle.fz_app.proofs.FirstBytes.{first_byte}
 use Rattle.fz_app.proofs.Fronts.{front}
 use Rattle.fz_app.proofs.Limits.{over_limit}
-use Rattle.fz_app.proofs.RunPromises.{complete, counts, done, lines, refused, restored, usage_line, write_fault}
+use Rattle.fz_app.proofs.RunPromises.{complete, counts, done, lines, refused, restored, unmade, usage_line, write_fault}
 use Rattle.fz_app.proofs.Tallies.{kept_by}
 use Rattle.fz_app.proofs.run_job.run.Goals as goal
 
@@ -44,6 +44,9 @@ returns-clause-counts g c =
 
 pub returns-clause-over_limit : goal.returns-clause-over_limit
 returns-clause-over_limit g c = over_limit c.takings_law.ensures.within c.buffers_law.ensures.bounded (texts_of c.args.words.now) _ _ c.answer_to-status.result c.answer_to-status.ensures.promised
+
+pub returns-clause-unmade : goal.returns-clause-unmade
+returns-clause-unmade g c = unmade (texts_of c.args.words.now) _ _ c.answer_to-status.result c.answer_to-status.ensures.promised
 
 pub returns-clause-first_byte : goal.returns-clause-first_byte
 returns-clause-first_byte g c =

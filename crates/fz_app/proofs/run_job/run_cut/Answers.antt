@@ -36,6 +36,7 @@ returns g c =
             first_byte = rw held at c.cut.ensures.first_byte;
             unread = rw (ranges, limit) at c.cut.ensures.unread;
             unmade = rw (held, limit, workers) at c.cut.ensures.unmade;
+            faulty = tt;
             live = c.cut.ensures.buffers.live;
             limit = rw limit at c.cut.ensures.buffers.limit;
             peak = rw (held, none, workers) at c.cut.ensures.buffers.peak;

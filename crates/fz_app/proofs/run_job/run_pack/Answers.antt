@@ -36,6 +36,7 @@ returns g c =
             first_byte = rw held at c.pack.ensures.first_byte;
             unread = rw (ranges, limit) at c.pack.ensures.unread;
             unmade = rw (held, limit, workers) at c.pack.ensures.unmade;
+            faulty = tt;
             live = c.pack.ensures.buffers.live;
             limit = rw limit at c.pack.ensures.buffers.limit;
             peak = rw (held, none, workers) at c.pack.ensures.buffers.peak;

@@ -62,3 +62,12 @@ returns-in-Cut-clause-ended g c = other_ends (asked_of c.args.request.now) (g.S.
 
 pub returns-in-Drill-clause-ended : goal.returns-in-Drill-clause-ended
 returns-in-Drill-clause-ended g c = other_ends (asked_of c.args.request.now) (g.S.Source.held c.args.source.now) c.ended-in-Drill.result c.run_drill.result (ap is_other c.in-Drill.is) c.ended-in-Drill.ensures
+
+pub returns-in-Retile-clause-promised : goal.returns-in-Retile-clause-promised
+returns-in-Retile-clause-promised g c = ran (asked_of c.args.request.now) _ _ c.ended-in-Retile.result c.run_retile.result c.ended-in-Retile.ensures (c.run_retile.ensures.promised (record { contents = g.T.Text.contents c.args.text.now; tally = g.T.Text.tally c.args.text.now }))
+
+pub returns-in-Retile-clause-names : goal.returns-in-Retile-clause-names
+returns-in-Retile-clause-names g c = names.ran (asked_of c.args.request.now) _ _ _ _ c.ended-in-Retile.result c.run_retile.result c.ended-in-Retile.ensures c.run_retile.ensures.names
+
+pub returns-in-Retile-clause-ended : goal.returns-in-Retile-clause-ended
+returns-in-Retile-clause-ended g c = other_ends (asked_of c.args.request.now) (g.S.Source.held c.args.source.now) c.ended-in-Retile.result c.run_retile.result (ap is_other c.in-Retile.is) c.ended-in-Retile.ensures

@@ -36,6 +36,7 @@ returns g c =
             first_byte = rw held at c.unpack.ensures.first_byte;
             unread = rw (ranges, limit) at c.unpack.ensures.unread;
             unmade = rw (held, limit, workers) at c.unpack.ensures.unmade;
+            faulty = tt;
             live = c.unpack.ensures.buffers.live;
             limit = rw limit at c.unpack.ensures.buffers.limit;
             peak = rw (held, none, workers) at c.unpack.ensures.buffers.peak;

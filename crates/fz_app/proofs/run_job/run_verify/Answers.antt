@@ -68,13 +68,14 @@ returns-in_err-same-clause-promised g c = λ sink empty.
       most = c.in_err-same.ensures.most;
       exact = tt;
       held_is = c.in_err-same.ensures.kept.held_is;
+      touched = rw held at c.in_err-same.ensures.touched;
       told_ranges = c.in_err-same.ensures.told_ranges;
       told = c.in_err-same.ensures.told_contents;
       source_counts = kept_nameless (g.S.Source.tally c.verify_sums.new.source) (g.S.Source.tally c.compare.new.source) c.in_err-same.ensures.kept.source_counts;
       text_counts = c.in_err-same.ensures.kept.sink_counts;
     } in
     let both : IsPromised (record { job = Verify; workers = c.args.request.now.workers; strict = true; memory = c.args.request.now.memory; input = c.args.request.now.input.now; output = c.args.request.now.output.now }) old new (done_of {X = Bool} (Err c.in_err-same.field-0.0)) =
-    compared c.first_fault_law.ensures.only c.args.request.now.workers c.args.request.now.memory c.args.request.now.input.now c.args.request.now.output.now old mid new refl empty (Err c.in_err-same.field-0.0) c.in_ok-length.right c.in_ok-length.ensures.reported first says in
+    compared c.first_fault_law.ensures.only c.args.request.now.workers c.args.request.now.memory c.args.request.now.input.now c.args.request.now.output.now old mid new refl empty c.ranges_law.ensures.join (Err c.in_err-same.field-0.0) c.in_ok-length.right c.in_ok-length.ensures.reported first says in
     let stopped : c.from_residual-in_err-same.result ≡ Err c.in_err-same.field-0.0 = search rules in
     subst (λ (r : Result Bool Stop). IsPromised (record { job = c.args.request.now.job; workers = c.args.request.now.workers; strict = c.args.request.now.strict; memory = c.args.request.now.memory; input = c.args.request.now.input.now; output = c.args.request.now.output.now }) old new (done_of r)) (sym stopped)
     (subst (λ (j : Job). IsPromised (record { job = j; workers = c.args.request.now.workers; strict = c.args.request.now.strict; memory = c.args.request.now.memory; input = c.args.request.now.input.now; output = c.args.request.now.output.now }) old new (done_of {X = Bool} (Err c.in_err-same.field-0.0))) (sym c.requires.job)
@@ -116,13 +117,14 @@ returns-clause-promised g c = λ sink empty.
       most = c.in_ok-same.ensures.most;
       exact = rw held at c.in_ok-same.ensures.exact_peak;
       held_is = c.in_ok-same.ensures.kept.held_is;
+      touched = rw held at c.in_ok-same.ensures.touched;
       told_ranges = c.in_ok-same.ensures.told_ranges;
       told = c.in_ok-same.ensures.told_contents;
       source_counts = kept_nameless (g.S.Source.tally c.verify_sums.new.source) (g.S.Source.tally c.compare.new.source) c.in_ok-same.ensures.kept.source_counts;
       text_counts = c.in_ok-same.ensures.kept.sink_counts;
     } in
     let both : IsPromised (record { job = Verify; workers = c.args.request.now.workers; strict = true; memory = c.args.request.now.memory; input = c.args.request.now.input.now; output = c.args.request.now.output.now }) old new (done_of {X = Bool} (Ok c.in_ok-same.same)) =
-    compared c.first_fault_law.ensures.only c.args.request.now.workers c.args.request.now.memory c.args.request.now.input.now c.args.request.now.output.now old mid new refl empty (Ok c.in_ok-same.same) c.in_ok-length.right c.in_ok-length.ensures.reported first says in
+    compared c.first_fault_law.ensures.only c.args.request.now.workers c.args.request.now.memory c.args.request.now.input.now c.args.request.now.output.now old mid new refl empty c.ranges_law.ensures.join (Ok c.in_ok-same.same) c.in_ok-length.right c.in_ok-length.ensures.reported first says in
     subst (λ (j : Job). IsPromised (record { job = j; workers = c.args.request.now.workers; strict = c.args.request.now.strict; memory = c.args.request.now.memory; input = c.args.request.now.input.now; output = c.args.request.now.output.now }) old new (done_of {X = Bool} (Ok c.in_ok-same.same))) (sym c.requires.job)
     (subst (λ (b : Bool). IsPromised (record { job = Verify; workers = c.args.request.now.workers; strict = b; memory = c.args.request.now.memory; input = c.args.request.now.input.now; output = c.args.request.now.output.now }) old new (done_of {X = Bool} (Ok c.in_ok-same.same))) (sym strict) both)
 

@@ -1,0 +1,43 @@
+-- What opening both files of a patch changed, from what each opening says.
+use Rattle.std.proofs.Common.{◌≡◌, ℕ, refl, sym, subst, inl, inr}
+use Rattle.std.specs.Prelude.{Result, Ok, Err}
+use Rattle.fz_base.specs.Counts.{Tally}
+use Rattle.fz_base.specs.Stop.{Codes, StoppedByCoding}
+use Rattle.fz_base.specs.declared.failure.Stop.{Stop}
+use Rattle.fz_base.specs.declared.failure.Stop.TheVariants.{Refused as StopRefused, ReadFault as StopRead, WriteFault as StopWrite, OverLimit as StopLimit, NoMemory as StopMemory}
+use Rattle.fz_app.specs.PatchPromises.{OpensBoth, StoppedOpening}
+use Rattle.fz_app.proofs.Tallies.{kept_by}
+
+module _ (store store' patch patch' : Tally) where
+  first_stop : (stop : Stop) → StoppedByCoding store store' stop → StoppedOpening store store' patch patch' stop
+  first_stop (StopRefused x) is = is
+  first_stop StopRead is = inl is
+  first_stop StopWrite is = is
+  first_stop (StopLimit live asked limit) is = is
+  first_stop StopMemory is = tt
+
+  second_stop : (stop : Stop) → StoppedByCoding patch patch' stop → StoppedOpening store store' patch patch' stop
+  second_stop (StopRefused x) is = is
+  second_stop StopRead is = inr is
+  second_stop StopWrite is = is
+  second_stop (StopLimit live asked limit) is = is
+  second_stop StopMemory is = tt
+
+-- the first was not opened
+pub first_stopped : (store store' patch : Tally) (r : Result (ℕ × ℕ) Stop) (stop : Stop) → r ≡ Err stop → Codes {X = ℕ} store store' (Err stop) → OpensBoth store store' patch patch r
+first_stopped store store' patch r stop is codes = subst (λ (s : Result (ℕ × ℕ) Stop). OpensBoth store store' patch patch s) (sym is)
+    (record { store_kept = codes.kept; patch_kept = kept_by patch patch refl; ok = tt; stop = first_stop store store' patch patch stop codes.stop })
+
+-- the second was not
+pub second_stopped : (store store' patch patch' : Tally) (r : Result (ℕ × ℕ) Stop) (stop : Stop) → r ≡ Err stop → store' ≡ store → Codes {X = ℕ} patch patch' (Err stop) → OpensBoth store store' patch patch' r
+second_stopped store store' patch patch' r stop is same codes = subst (λ (s : Result (ℕ × ℕ) Stop). OpensBoth store store' patch patch' s) (sym is)
+    (record { store_kept = kept_by store store' same; patch_kept = codes.kept; ok = tt; stop = second_stop store store' patch patch' stop codes.stop })
+
+-- both were
+pub both_opened : (store store' patch patch' : Tally) (lengths : ℕ × ℕ) → store' ≡ store → patch' ≡ patch → OpensBoth {X = ℕ × ℕ} store store' patch patch' (Ok lengths)
+both_opened store store' patch patch' lengths same same_patch = record {
+  store_kept = kept_by store store' same;
+  patch_kept = kept_by patch patch' same_patch;
+  ok = (same, same_patch);
+  stop = tt;
+}

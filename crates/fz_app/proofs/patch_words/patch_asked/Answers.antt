@@ -1,0 +1,37 @@
+-- What `patch` says of both files since they were attached, and of the meter that was narrowed, it says of them as they were before.
+use Rattle.std.proofs.Common.{◌≡◌, rules, take}
+use Rattle.fz_patch.specs.Targets.{job_at}
+use Rattle.fz_base.specs.Meter.{narrowed}
+use Rattle.fz_words.specs.PatchJobs.{PatchAsked}
+use Rattle.fz_words.specs.Seen.{patch_asked_of}
+use Rattle.fz_app.specs.PatchPromises.{job_asked}
+use Rattle.fz_app.proofs.PatchAnswers.{attached, unopened}
+use Rattle.fz_app.proofs.patch_words.patch_asked.Goals as goal
+
+pub returns-in_err-length-clause-ends : goal.returns-in_err-length-clause-ends
+returns-in_err-length-clause-ends g c =
+    unopened (patch_asked_of c.args.request.now) _ _ _ _ _ _ _ c.args.meter.now _ c.from_residual.result c.in_err-length.field-0.0 (search rules)
+    c.attach_both.ensures.held.0 c.narrow.ensures c.in_err-length.ensures.cause c.in_err-length.ensures.file c.in_err-length.ensures.patch c.requires.unused.0
+
+pub returns-clause-ends : goal.returns-clause-ends
+returns-clause-ends g c =
+    let asked : PatchAsked = patch_asked_of c.args.request.now in
+    let held : g.D.Source.held c.attach_both.new.store ≡ g.D.Source.held c.args.store.now = c.attach_both.ensures.held.0 in
+    let given : g.S.Source.held c.attach_both.new.patch ≡ g.S.Source.held c.args.patch.now = c.attach_both.ensures.held.1 in
+    let meter : c.narrow.new.self ≡ narrowed c.args.meter.now c.args.request.now.memory = c.narrow.ensures in
+    let job : job_at c.args.request.now.hdu (take c.args.request.now.at.n c.corner_of-corner.result) ≡ job_asked asked = λ i. record { wanted = c.args.request.now.hdu; corner = c.corner_of-corner.ensures i } in
+    attached asked (g.D.Source.held c.args.store.now) (g.D.Source.held c.patch.new.store) (g.S.Source.held c.args.patch.now)
+    (g.D.Source.tally c.args.store.now) (g.D.Source.tally c.attach_both.new.store) (g.D.Source.tally c.patch.new.store)
+    (g.S.Source.tally c.args.patch.now) (g.S.Source.tally c.attach_both.new.patch) (g.S.Source.tally c.patch.new.patch)
+    c.args.meter.now c.patch.new.meter c.patch.result
+    c.in_ok-length.ensures.cause.ok.0 c.in_ok-length.ensures.cause.ok.1 c.in_ok-length.ensures.file.done c.in_ok-length.ensures.patch.done
+    (record {
+      patched = rw (held, given, job) at c.patch.ensures.patched;
+      safe = rw (held, given, job) at c.patch.ensures.safe;
+      unwritten = rw (held, given) at c.patch.ensures.unwritten;
+      first_fault = rw (held, given, job) at c.patch.ensures.first_fault;
+      answered = rw (held, given, job, meter) at c.patch.ensures.answered;
+      cause = rw (held, given, job, meter) at c.patch.ensures.cause;
+      buffers = rw (held, given, job, meter) at c.patch.ensures.buffers;
+      counts = c.patch.ensures.counts;
+    })
