@@ -3,7 +3,7 @@ use crate::files::{Case, Hdu};
 use crate::small::{EMPTY_PRIMARY, EMPTY_PRIMARY_HDU};
 
 /// Images in tiles of several shapes.
-pub const CASES: [Case<'static>; 6] = [
+pub static CASES: [Case<'static>; 6] = [
     // tiles of 2 by 2, cut short at the upper ends
     Case {
         options: &["--codec", "none", "--tile", "2,2"],

@@ -6,7 +6,7 @@ use crate::small::{
 };
 
 /// Files whose headers have cards of other names, and files of many HDUs.
-pub const CASES: [Case<'static>; 4] = [
+pub static CASES: [Case<'static>; 4] = [
     // the names of cards of the image
     Case {
         options: &[],
@@ -397,7 +397,7 @@ pub const FLOAT_PRIMARY: [&str; 4] = [
 ];
 
 /// A primary image alone, and an image between HDUs that are copied.
-pub const ONE_AND_MANY: [Case<'static>; 2] = [
+pub static ONE_AND_MANY: [Case<'static>; 2] = [
     Case {
         options: &[],
         plain: &[SMALL_FILE],

@@ -2,7 +2,7 @@
 //! know their names.
 //!
 //! Reading order: `named`, `holding`, `runs`, `files`, `changes`, and then the files: `small`, `grids`, `records`, `headers`,
-//! `others`, `rows`, `ordinary`.
+//! `others`, `rows`, `ordinary`, and `standing`.
 #![tactic(auto)]
 
 pub mod changes;
@@ -17,3 +17,4 @@ pub mod records;
 pub mod rows;
 pub mod runs;
 pub mod small;
+pub mod standing;

@@ -24,6 +24,11 @@ impl<S: Source + Drop> NamedSource<S> {
         }
     }
 
+    /// The source that has the name.
+    pub fn source(&self) -> &S {
+        &self.source
+    }
+
     /// How often it was opened.
     pub fn opened(&self) -> u64 {
         self.opened

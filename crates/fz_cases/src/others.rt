@@ -3,7 +3,7 @@ use crate::files::{Case, Hdu};
 use crate::small::{EMPTY_PRIMARY_HDU, SMALL_FILE, SMALL_PIXELS};
 
 /// Packed files of other packers, and what they stand for.
-pub const CASES: [Case<'static>; 3] = [
+pub static CASES: [Case<'static>; 3] = [
     // one column, no lengths of tiles and no parameters
     Case {
         options: &[],

@@ -3,7 +3,7 @@ use crate::files::{Case, Hdu};
 use crate::small::{EMPTY_PRIMARY, EMPTY_PRIMARY_HDU};
 
 /// Images of one tile: with every codec, of every size of a pixel, as codes and stored.
-pub const CASES: [Case<'static>; 12] = [
+pub static CASES: [Case<'static>; 12] = [
     // Rice at 16 bits: 1000, 1000, 1003
     Case {
         options: &[],

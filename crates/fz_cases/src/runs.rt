@@ -42,6 +42,90 @@ pub struct Outcome {
     pub peak: u64,
 }
 
+impl Outcome {
+    /// What is otherwise than after a job that is done and has made this file, if anything is. A test asks for it once, since
+    /// an assertion costs the prover seconds, and one with a message more.
+    pub fn unlike_done(&self, made: &[u8]) -> Option<&'static str> {
+        if self.status != Status::Done {
+            Some("status")
+        } else if !self.text.contents().is_empty() {
+            Some("text")
+        } else if self.sink.contents() != made {
+            Some("contents")
+        } else if self.live != 0 {
+            Some("live")
+        } else {
+            None
+        }
+    }
+
+    /// What is otherwise than after a run that ended with this status and line and left no file that begins with `S`, if
+    /// anything is.
+    pub fn unlike_stopped(&self, number: u32, line: &str) -> Option<&'static str> {
+        if self.status.number() != number {
+            Some("status")
+        } else if self.text.contents() != line.as_bytes() {
+            Some("text")
+        } else if self.sink.contents().starts_with(b"S") {
+            Some("contents")
+        } else if self.live != 0 {
+            Some("live")
+        } else {
+            None
+        }
+    }
+
+    /// What is otherwise than after a run that ended with this status and line, if anything is. What is left does not begin with
+    /// `S`, or it is this file, if that may be.
+    pub fn unlike_left(
+        &self,
+        status: Status,
+        line: &str,
+        may_be_whole: bool,
+        made: &[u8],
+    ) -> Option<&'static str> {
+        let left = self.sink.contents();
+        if self.status != status {
+            Some("status")
+        } else if self.text.contents() != line.as_bytes() {
+            Some("text")
+        } else if left.starts_with(b"S") && !(may_be_whole && left == made) {
+            Some("contents")
+        } else if self.live != 0 {
+            Some("live")
+        } else {
+            None
+        }
+    }
+
+    /// What is otherwise than after another run, if anything of it is that a user sees.
+    pub fn unlike_run(&self, other: &Outcome) -> Option<&'static str> {
+        if self.status != other.status {
+            Some("status")
+        } else if self.text.contents() != other.text.contents() {
+            Some("text")
+        } else if self.sink.contents() != other.sink.contents() {
+            Some("contents")
+        } else if self.sink.made() != other.sink.made() {
+            Some("made")
+        } else if self.live != 0 {
+            Some("live")
+        } else {
+            None
+        }
+    }
+
+    /// Whether a job was done with no more than this live at once, and gave all back.
+    pub fn is_done_within(&self, bound: u64) -> bool {
+        self.status == Status::Done && self.peak <= bound && self.live == 0
+    }
+
+    /// How many calls failed: of the source, and of the sink.
+    pub fn faults(&self) -> (u64, u64) {
+        (self.source.faults(), self.sink.faults())
+    }
+}
+
 /// Runs the words over a file of at most 2^32 bytes.
 pub fn outcome_of<R: Threads + Sync + AllocGlobal, G: Gate>(
     rt: &R,

@@ -2,7 +2,7 @@
 use crate::files::{Case, Hdu};
 
 /// The small file, packed with several options.
-pub const CASES: [Case<'static>; 5] = [
+pub static CASES: [Case<'static>; 5] = [
     // rows as tiles, in Rice codes
     Case {
         options: &[],

@@ -24,14 +24,13 @@ fn expect_words(rt: &impl Abort, alloc: Global, numbers: &[i32], words: &[u16]) 
     let len = encode(numbers, &mut out)?;
     let list = bytes_of(alloc, words)?;
     assert!(rt; len < out.len());
-    assert_eq!(rt; &out[..len], list.as_slice());
-    assert_eq!(rt; out[len], 0xa5);
+    assert_eq!(rt; (&out[..len], out[len]), (list.as_slice(), 0xa5));
     Ok(())
 }
 
 #[test]
 fn encodes_rows(rt: HostRuntime) -> Result<(), Fail> {
-    let rows: [(&[i32], &[u16]); 10] = [
+    static ROWS: [(&[i32], &[u16]); 10] = [
         (
             &[0, 0, 5, 5, 0],
             &[0, 7, 0xff9c, 11, 0, 0, 0, 0x2004, 0x0002, 0x4002, 0x0001],
@@ -65,7 +64,7 @@ fn encodes_rows(rt: HostRuntime) -> Result<(), Fail> {
             &[0, 7, 0xff9c, 10, 0, 0, 0, 0x1388, 0x0001, 0x5002],
         ),
     ];
-    for (numbers, words) in rows {
+    for &(numbers, words) in &ROWS {
         assert!(rt; numbers.len() <= 64);
         expect_words(&rt, rt.alloc(), numbers, words)?;
     }
@@ -74,14 +73,14 @@ fn encodes_rows(rt: HostRuntime) -> Result<(), Fail> {
 
 #[test]
 fn encodes_long_runs(rt: HostRuntime) -> Result<(), Fail> {
-    let rows: [(usize, &[u16]); 5] = [
+    static ROWS: [(usize, &[u16]); 5] = [
         (4094, &[0, 7, 0xff9c, 8, 0, 0, 0, 0x5fff]),
         (4095, &[0, 7, 0xff9c, 9, 0, 0, 0, 0x0fff, 0x4001]),
         (4096, &[0, 7, 0xff9c, 9, 0, 0, 0, 0x0fff, 0x5002]),
         (8190, &[0, 7, 0xff9c, 10, 0, 0, 0, 0x0fff, 0x0fff, 0x4001]),
         (8191, &[0, 7, 0xff9c, 10, 0, 0, 0, 0x0fff, 0x0fff, 0x5002]),
     ];
-    for (zeros, words) in rows {
+    for &(zeros, words) in &ROWS {
         let mut numbers = vec![in rt.alloc(); 0; zeros]?;
         numbers.push(1)?;
         assert!(rt; numbers.len() <= 9000);
@@ -110,31 +109,33 @@ fn encodes_a_long_list(rt: HostRuntime) -> Result<(), Fail> {
     assert!(rt; numbers.len() <= 12_000);
     let mut out = vec![in rt.alloc(); 0; 80_000]?;
     let len = encode(numbers.as_slice(), out.as_mut_slice())?;
-    assert_eq!(rt; len, 72_010);
     let header = bytes_of(rt.alloc(), &[0, 7, 0xff9c, 0x0ca5, 1, 0, 0])?;
-    assert!(rt; out.as_slice().starts_with(header.as_slice()));
+    let begins = out.as_slice().starts_with(header.as_slice());
+    assert_eq!(rt; (len, begins), (72_010, true));
     Ok(())
 }
 
 #[test]
 fn stops(rt: HostRuntime) {
     let mut out = [7; 22];
+    let negative = encode(&[3, -1], &mut out);
+    let large = encode(&[1 << 24], &mut out);
     assert_eq!(rt;
-        encode(&[3, -1], &mut out),
-        Err(PlioStop::Range { index: 1 })
+        (negative, large, out),
+        (
+            Err(PlioStop::Range { index: 1 }),
+            Err(PlioStop::Range { index: 0 }),
+            [7; 22]
+        )
     );
-    assert_eq!(rt;
-        encode(&[1 << 24], &mut out),
-        Err(PlioStop::Range { index: 0 })
-    );
-    assert_eq!(rt; out, [7; 22]);
-    assert_eq!(rt; encode(&[0, 0, 5, 5, 0], &mut out), Ok(22));
-    assert_eq!(rt; encode(&[0, 0, 5, 5, 0], &mut [7; 21]), Err(PlioStop::Full));
+    let whole = encode(&[0, 0, 5, 5, 0], &mut out);
+    let full = encode(&[0, 0, 5, 5, 0], &mut [7; 21]);
+    assert_eq!(rt; (whole, full), (Ok(22), Err(PlioStop::Full)));
 }
 
 #[test]
 fn decodes_rows(rt: HostRuntime) -> Result<(), Fail> {
-    let rows: [(&[u16], Result<[i32; 3], LineFault>); 18] = [
+    static ROWS: [(&[u16], Result<[i32; 3], LineFault>); 18] = [
         (&[0, 7, 0xff9c, 8, 0, 0, 0, 0x4002], Ok([1, 1, 0])),
         (&[0, 7, 0xff9c, 7, 0, 0, 0], Ok([0, 0, 0])),
         (&[9, 7, 0, 8, 0, 9, 9, 0x4002, 0xffff], Ok([1, 1, 0])),
@@ -163,7 +164,7 @@ fn decodes_rows(rt: HostRuntime) -> Result<(), Fail> {
             Err(LineFault),
         ),
     ];
-    for (words, want) in rows {
+    for &(words, want) in &ROWS {
         let bytes = bytes_of(rt.alloc(), words)?;
         let mut numbers = [-1; 3];
         let answer = decode(bytes.as_slice(), &mut numbers);
@@ -171,14 +172,9 @@ fn decodes_rows(rt: HostRuntime) -> Result<(), Fail> {
     }
     let bytes = bytes_of(rt.alloc(), &[0, 7, 0xff9c, 7, 0, 0, 0, 0])?;
     assert!(rt; bytes.len() == 16);
-    assert_eq!(rt;
-        decode(&bytes.as_slice()[..15], &mut [0; 3]),
-        Err(LineFault)
-    );
-    assert_eq!(rt;
-        decode(&bytes.as_slice()[..13], &mut [0; 3]),
-        Err(LineFault)
-    );
+    let odd = decode(&bytes.as_slice()[..15], &mut [0; 3]);
+    let short = decode(&bytes.as_slice()[..13], &mut [0; 3]);
+    assert_eq!(rt; (odd, short), (Err(LineFault), Err(LineFault)));
     Ok(())
 }
 
@@ -216,8 +212,8 @@ fn masks_there_and_back(rt: HostRuntime) -> Result<(), Fail> {
         fill_mask(&mut mask, seed);
         let len = encode(&mask, &mut out)?;
         assert!(rt; len <= out.len());
-        assert_eq!(rt; decode(&out[..len], &mut back), Ok(()));
-        assert_eq!(rt; mask, back, "at seed {seed}");
+        let read = decode(&out[..len], &mut back);
+        assert!(rt; read.is_ok() && mask == back, "at seed {seed}");
     }
     Ok(())
 }

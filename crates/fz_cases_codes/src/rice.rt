@@ -12,14 +12,14 @@ use std::test::Fail;
 #[test]
 fn codes_of_8_bits(rt: HostRuntime) {
     let mut out = [0u8; 3];
-    assert_eq!(rt; Coder::<8>::encode(&[0, 255, 0, 255], 32, &mut out), Ok(3));
-    assert_eq!(rt; out, [0x00, 0x34, 0xa0]);
-    let mut out = [0u8; 2];
+    let len = Coder::<8>::encode(&[0, 255, 0, 255], 32, &mut out);
+    let mut short = [0u8; 2];
+    let full = Coder::<8>::encode(&[0, 255, 0, 255], 32, &mut short);
+    let one = Coder::<8>::encode(&[7], 32, &mut short);
     assert_eq!(rt;
-        Coder::<8>::encode(&[0, 255, 0, 255], 32, &mut out),
-        Err(Full)
+        (len, out, full, one),
+        (Ok(3), [0x00, 0x34, 0xa0], Err(Full), Ok(2))
     );
-    assert_eq!(rt; Coder::<8>::encode(&[7], 32, &mut out), Ok(2));
 }
 
 /// Encodes the numbers in blocks of 32 and compares the code.
@@ -29,9 +29,9 @@ fn expect_code<const W: u32>(rt: &impl Abort, numbers: &[i32], code: &[u8])
     requires numbers { All (IsNumber W) numbers.now }
 {
     let mut out = [0u8; 16];
-    assert_eq!(rt; Coder::<W>::encode(numbers, 32, &mut out), Ok(code.len()));
-    assert!(rt; code.len() <= 16);
-    assert_eq!(rt; &out[..code.len()], code);
+    let len = Coder::<W>::encode(numbers, 32, &mut out);
+    let front = out.get(0..code.len());
+    assert_eq!(rt; (len, front), (Ok(code.len()), Some(code)));
 }
 
 #[test]
@@ -92,45 +92,40 @@ fn laws() {
 fn answers_of_decode(rt: HostRuntime) {
     let mut one = [0i32; 1];
     let unlawful = [0x00, 0x00, 0x00, 0x05, 0xd8];
-    assert_eq!(rt;
-        Coder::<32>::decode(&unlawful, 32, &mut one),
-        Err(CodeFault::Unlawful)
-    );
+    let unlawful = Coder::<32>::decode(&unlawful, 32, &mut one);
     let ended = [0x00, 0x00, 0x00, 0x05];
-    assert_eq!(rt;
-        Coder::<32>::decode(&ended, 32, &mut one),
-        Err(CodeFault::Ended)
-    );
+    let ended = Coder::<32>::decode(&ended, 32, &mut one);
     let longer = [0x00, 0x00, 0x00, 0x05, 0x00, 0xff];
-    assert_eq!(rt; Coder::<32>::decode(&longer, 32, &mut one), Ok(5));
-    assert_eq!(rt; one, [5]);
+    let longer = Coder::<32>::decode(&longer, 32, &mut one);
+    assert_eq!(rt;
+        (unlawful, ended, longer, one),
+        (Err(CodeFault::Unlawful), Err(CodeFault::Ended), Ok(5), [5])
+    );
+    let none: &mut [i32] = &mut [];
+    assert_eq!(rt; Coder::<16>::decode(&[0x12, 0x34, 0x56], 32, none), Ok(2));
+}
+
+/// Codes that are cut: unlawful if what is left of them begins no lawful one, and else ended.
+#[test]
+fn codes_that_are_cut(rt: HostRuntime) {
     // A block of one number with id 1, and then the bits 11 of the next id: 26 begins so. The bits
     // 111 begin no id.
     let mut two = [0i32; 2];
     let cut = [0x00, 0x00, 0x00, 0x05, 0x07];
-    assert_eq!(rt;
-        Coder::<32>::decode(&cut, 1, &mut two),
-        Err(CodeFault::Unlawful)
-    );
+    let no_id = Coder::<32>::decode(&cut, 1, &mut two);
     let cut = [0x00, 0x00, 0x00, 0x05, 0x0b];
-    assert_eq!(rt;
-        Coder::<32>::decode(&cut, 1, &mut two),
-        Err(CodeFault::Ended)
-    );
+    let some_id = Coder::<32>::decode(&cut, 1, &mut two);
     // Zeros that pass what 8 bits hold are unlawful although the bits end in them.
     let mut zeros = [0u8; 40];
     zeros[1] = 0x20;
     let mut one = [0i32; 1];
+    let too_many = Coder::<8>::decode(&zeros, 32, &mut one);
+    let fewer = Coder::<8>::decode(&zeros[..30], 32, &mut one);
+    let (unlawful, ended) = (Err(CodeFault::Unlawful), Err(CodeFault::Ended));
     assert_eq!(rt;
-        Coder::<8>::decode(&zeros, 32, &mut one),
-        Err(CodeFault::Unlawful)
+        [no_id, some_id, too_many, fewer],
+        [unlawful, ended, unlawful, ended]
     );
-    assert_eq!(rt;
-        Coder::<8>::decode(&zeros[..30], 32, &mut one),
-        Err(CodeFault::Ended)
-    );
-    let none: &mut [i32] = &mut [];
-    assert_eq!(rt; Coder::<16>::decode(&[0x12, 0x34, 0x56], 32, none), Ok(2));
 }
 
 /// The number of `W` bits in which a word ends: unsigned at 8, else in two's complement.
@@ -188,10 +183,12 @@ fn there_and_back<const W: u32>(
     assert!(rt; 0 < len);
     assert!(rt; len <= code.len());
     let decoded = Coder::<W>::decode(&code[..len], block, back.as_mut_slice());
-    assert_eq!(rt; decoded, Ok(len));
-    assert!(rt; numbers.as_slice() == back.as_slice());
+    let are_back = numbers.as_slice() == back.as_slice();
     let cut = Coder::<W>::decode(&code[..len - 1], block, back.as_mut_slice());
-    assert_eq!(rt; cut, Err(CodeFault::Ended));
+    assert_eq!(rt;
+        (decoded, are_back, cut),
+        (Ok(len), true, Err(CodeFault::Ended))
+    );
     Ok(())
 }
 

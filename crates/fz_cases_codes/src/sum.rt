@@ -32,7 +32,7 @@ fn sum_from_behind(at: u32, bytes: &[u8], len: usize) -> u32
 
 #[test]
 fn sums(rt: HostRuntime) {
-    let cases: [(u64, &[u8], u32); 13] = [
+    static CASES: [(u64, &[u8], u32); 13] = [
         (0, &[], 0),
         (0, &[0, 0, 0, 0, 0], 0),
         (0, &[0xff, 0xff, 0xff, 0xff], 4_294_967_295),
@@ -47,14 +47,14 @@ fn sums(rt: HostRuntime) {
         (7, &[1, 2, 3, 4, 5], 0x0203_0406),
         (u64::MAX, &[1, 2], 0x0200_0001),
     ];
-    for (at, bytes, sum) in cases {
+    for &(at, bytes, sum) in &CASES {
         assert_eq!(rt; sum_of(at, bytes), sum);
     }
 }
 
 #[test]
 fn sums_from_behind(rt: HostRuntime) {
-    let cases: [(u32, &[u8], usize, u32); 7] = [
+    static CASES: [(u32, &[u8], usize, u32); 7] = [
         (0, &[1, 2, 3, 4, 5, 6, 7], 3, 0x0608_0a04),
         (0, &[1, 2, 3, 4, 5, 6, 7], 4, 0x0608_0a04),
         (0, &[1, 2, 3, 4, 5, 6, 7], 5, 0x0608_0a04),
@@ -63,19 +63,19 @@ fn sums_from_behind(rt: HostRuntime) {
         (1, &[0xff, 0xff, 0xff, 0xff, 0xff], 2, 0x00ff_0000),
         (0, &[0xff, 0xff, 0xff, 0xff, 0, 0, 0, 1], 7, 1),
     ];
-    for (at, bytes, len, sum) in cases {
+    for &(at, bytes, len, sum) in &CASES {
         assert_eq!(rt; sum_from_behind(at, bytes, len), sum);
     }
 }
 
 #[test]
 fn characters_of_sums(rt: HostRuntime) {
-    let cases: [(u32, [u8; 16]); 3] = [
+    static CASES: [(u32, [u8; 16]); 3] = [
         (868_229_149, *b"hcHjjc9ghcEghc9g"),
         (4_294_967_295, *b"0000000000000000"),
         (0, *b"orrrrooooooooooo"),
     ];
-    for (sum, text) in cases {
+    for &(sum, text) in &CASES {
         assert_eq!(rt; characters(sum), text);
     }
 }
@@ -115,7 +115,7 @@ fn cards(rt: HostRuntime) {
 
 #[test]
 fn texts(rt: HostRuntime) {
-    let cases: [(&[u8], Option<u32>); 15] = [
+    static CASES: [(&[u8], Option<u32>); 15] = [
         (b"0", Some(0)),
         (b"         0", Some(0)),
         (b"0000000546730044", Some(546_730_044)),
@@ -135,7 +135,7 @@ fn texts(rt: HostRuntime) {
         (b" ", None),
         (b"", None),
     ];
-    for (text, sum) in cases {
+    for &(text, sum) in &CASES {
         assert_eq!(rt; sum_of_text(text), sum);
     }
 }
@@ -160,10 +160,13 @@ fn verdicts(rt: HostRuntime) {
     for (card, right, answer) in cases {
         assert_eq!(rt; verdict(card, right), answer);
     }
-    assert_eq!(rt; sum_of_card(&padded), Some(0));
-    assert_eq!(rt; sum_of_card(&empty), None);
-    assert_eq!(rt; sum_of_card(&number), None);
-    assert_eq!(rt; sum_of_card(&odd), None);
+    let sums = [
+        sum_of_card(&padded),
+        sum_of_card(&empty),
+        sum_of_card(&number),
+        sum_of_card(&odd),
+    ];
+    assert_eq!(rt; sums, [Some(0), None, None, None]);
 }
 
 #[test]
@@ -173,16 +176,19 @@ fn verdicts_by_headers(rt: HostRuntime) {
     for (i, card) in cards.into_iter().enumerate() {
         buf[80 * i..80 * (i + 1)].copy_from_slice(&card.bytes);
     }
-    let cases: [(u32, u32, Verdict, Verdict); 5] = [
+    static CASES: [(u32, u32, Verdict, Verdict); 5] = [
         (0, u32::MAX, Verdict::Absent, Verdict::Absent),
         (1, 7, Verdict::Absent, Verdict::Wrong),
         (2, 7, Verdict::Right, Verdict::Wrong),
         (4, 7, Verdict::Right, Verdict::Wrong),
         (4, u32::MAX, Verdict::Wrong, Verdict::Right),
     ];
-    for (cards, sum, datasum, checksum) in cases {
-        assert_eq!(rt; datasum_verdict(&buf, cards, sum), datasum);
-        assert_eq!(rt; checksum_verdict(&buf, cards, sum), checksum);
+    for &(cards, sum, datasum, checksum) in &CASES {
+        let found = (
+            datasum_verdict(&buf, cards, sum),
+            checksum_verdict(&buf, cards, sum),
+        );
+        assert_eq!(rt; found, (datasum, checksum));
     }
     assert_eq!(rt; datasum_verdict(&buf, 4, 8), Verdict::Wrong);
 }

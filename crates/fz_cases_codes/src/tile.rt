@@ -12,7 +12,7 @@ use std::process::Abort;
 
 #[test]
 fn pixels(rt: HostRuntime) {
-    let cases: [([u8; 2], i32); 8] = [
+    static CASES: [([u8; 2], i32); 8] = [
         ([0x00, 0x00], 0),
         ([0x00, 0x01], 1),
         ([0x00, 0xFF], 255),
@@ -24,7 +24,7 @@ fn pixels(rt: HostRuntime) {
     ];
     let mut bytes = [0; 16];
     let mut values = [0; 8];
-    for (i, (stored, value)) in cases.iter().enumerate() {
+    for (i, (stored, value)) in CASES.iter().enumerate() {
         bytes[2 * i..2 * i + 2].copy_from_slice(stored);
         values[i] = *value;
     }
@@ -52,8 +52,7 @@ fn expect_bytes(rt: &impl Abort, codec: Codec, numbers: &[i32], place: Place2, b
 {
     let mut out = [0xa5; 400];
     let coded = encode_tile(codec, 16, numbers, &mut out);
-    assert_eq!(rt; coded.place, place);
-    assert_eq!(rt; &out[..coded.len as usize], bytes);
+    assert_eq!(rt; (coded.place, &out[..coded.len as usize]), (place, bytes));
 }
 
 #[test]
@@ -112,29 +111,33 @@ fn tiles_of_16_bits(rt: HostRuntime) {
 /// A run of pixels of each size, its plain bytes, and its places again.
 #[test]
 fn runs_of_plain_bytes(rt: HostRuntime) {
-    assert_eq!(rt; plain_len(8, 3), 3);
-    assert_eq!(rt; plain_len(16, 3), 6);
-    assert_eq!(rt; plain_len(32, 3), 12);
-    assert_eq!(rt; plain_len(64, 1 << 40), 1 << 43);
+    let lens = [
+        plain_len(8, 3),
+        plain_len(16, 3),
+        plain_len(32, 3),
+        plain_len(64, 1 << 40),
+    ];
+    assert_eq!(rt; lens, [3, 6, 12, 1 << 43]);
     let bytes = [0xff, 0xff, 0xff, 0x38, 0x00, 0x00, 0x00, 0x05];
     let mut numbers = [7; 8];
     read_plain(8, &bytes, &mut numbers);
     assert_eq!(rt; numbers, [255, 255, 255, 56, 0, 0, 0, 5]);
-    let mut out = [0xa5; 8];
-    write_plain(8, &[255, 0], &mut out[..2]);
-    assert_eq!(rt; &out[..2], [0xff, 0x00].as_slice());
     read_plain(16, &bytes, &mut numbers[..4]);
     assert_eq!(rt; &numbers[..4], [-1, -200, 0, 5].as_slice());
-    write_plain(16, &[-200, 5], &mut out[..4]);
-    assert_eq!(rt; &out[..4], [0xff, 0x38, 0x00, 0x05].as_slice());
-    read_plain(32, &bytes, &mut numbers[..2]);
-    assert_eq!(rt; &numbers[..2], [-200, 5].as_slice());
-    let mut words = [0xa5; 8];
-    write_plain(32, &[-200, 5], &mut words);
-    assert_eq!(rt; words, bytes);
+    let (mut words, mut longs) = ([7; 2], [7; 2]);
+    read_plain(32, &bytes, &mut words);
     // -858993459195 is -200 times 2^32 and 5.
-    read_plain(64, &bytes, &mut numbers[..2]);
-    assert_eq!(rt; &numbers[..2], [-200, 5].as_slice());
+    read_plain(64, &bytes, &mut longs);
+    assert_eq!(rt; (words, longs), ([-200, 5], [-200, 5]));
+    let (mut octets, mut pairs) = ([0xa5; 2], [0xa5; 4]);
+    write_plain(8, &[255, 0], &mut octets);
+    write_plain(16, &[-200, 5], &mut pairs);
+    let mut out = [0xa5; 8];
+    write_plain(32, &[-200, 5], &mut out);
+    assert_eq!(rt;
+        (octets, pairs, out),
+        ([0xff, 0x00], [0xff, 0x38, 0x00, 0x05], bytes)
+    );
     let none: &mut [i32] = &mut [];
     read_plain(64, &[], none);
 }
@@ -142,24 +145,23 @@ fn runs_of_plain_bytes(rt: HostRuntime) {
 #[test]
 fn tiles_of_8_bits(rt: HostRuntime) {
     let mut out = [0xa5; 88];
-    let coded = encode_tile(rice(1), 8, &[7], &mut out);
-    assert_eq!(rt;
-        coded,
+    let stored = encode_tile(rice(1), 8, &[7], &mut out);
+    let first = out[0];
+    let coded = encode_tile(rice(1), 8, &[7, 7, 7], &mut out);
+    let (one, two) = (
         Coded {
             place: Place2::Stored,
-            len: 1
-        }
-    );
-    assert_eq!(rt; out[0], 0x07);
-    let coded = encode_tile(rice(1), 8, &[7, 7, 7], &mut out);
-    assert_eq!(rt;
-        coded,
+            len: 1,
+        },
         Coded {
             place: Place2::Coded,
-            len: 2
-        }
+            len: 2,
+        },
     );
-    assert_eq!(rt; &out[..2], [0x07, 0x00].as_slice());
+    assert_eq!(rt;
+        (stored, first, coded, &out[..2]),
+        (one, 0x07, two, [0x07, 0x00].as_slice())
+    );
 }
 
 #[test]
@@ -167,13 +169,9 @@ fn tile_of_32_bits(rt: HostRuntime) {
     let mut out = [0xa5; 96];
     let coded = encode_tile(rice(4), 32, &[5, 5, 5, 5], &mut out);
     assert_eq!(rt;
-        coded,
-        Coded {
-            place: Place2::Coded,
-            len: 5
-        }
+        (coded.place, coded.len, &out[..5]),
+        (Place2::Coded, 5, [0x00, 0x00, 0x00, 0x05, 0x00].as_slice())
     );
-    assert_eq!(rt; &out[..5], [0x00, 0x00, 0x00, 0x05, 0x00].as_slice());
 }
 
 #[test]
@@ -187,17 +185,12 @@ fn tile_of_64_bits(rt: HostRuntime) {
     let mut out = [0xa5; 80];
     let coded = encode_tile(Codec::Plain, 64, &pixels, &mut out);
     assert_eq!(rt;
-        coded,
-        Coded {
-            place: Place2::Stored,
-            len: 16
-        }
+        (coded.place, coded.len, &out[..16]),
+        (Place2::Stored, 16, bytes.as_slice())
     );
-    assert_eq!(rt; &out[..16], bytes.as_slice());
     let mut numbers = [7; 4];
     let read = decode_tile(Codec::Plain, 64, Place2::Stored, &bytes, 16, &mut numbers);
-    assert_eq!(rt; read, Ok(()));
-    assert_eq!(rt; numbers, pixels);
+    let back = numbers;
     let cut = decode_tile(
         Codec::Plain,
         64,
@@ -206,7 +199,10 @@ fn tile_of_64_bits(rt: HostRuntime) {
         8,
         &mut numbers,
     );
-    assert_eq!(rt; cut, Err(TileFault::TileSize));
+    assert_eq!(rt;
+        (read, back, cut),
+        (Ok(()), pixels, Err(TileFault::TileSize))
+    );
 }
 
 #[test]
@@ -214,25 +210,35 @@ fn codes_of_rice(rt: HostRuntime) {
     let mut numbers = [7; 3];
     let code = [0x03, 0xe8, 0x1c, 0x08];
     let read = decode_tile(rice(2), 16, Place2::Coded, &code, 4, &mut numbers);
-    assert_eq!(rt; read, Ok(()));
-    assert_eq!(rt; numbers, [1000, 1000, 1003]);
+    let back = numbers;
     let narrow = decode_tile(rice(2), 8, Place2::Coded, &code, 4, &mut numbers);
-    assert_eq!(rt; narrow, Err(TileFault::PixelRange));
+    assert_eq!(rt;
+        (read, back, narrow),
+        (Ok(()), [1000, 1000, 1003], Err(TileFault::PixelRange))
+    );
 
     let mut numbers = [7; 4];
     let code = [0x00, 0x00, 0x00, 0x05, 0x00];
     let read = decode_tile(rice(4), 32, Place2::Coded, &code, 5, &mut numbers);
-    assert_eq!(rt; read, Ok(()));
-    assert_eq!(rt; numbers, [5; 4]);
+    let fives = numbers;
     let code = [0x00, 0x00, 0x00, 0x05, 0xd8];
     let unlawful = decode_tile(rice(4), 32, Place2::Coded, &code, 5, &mut numbers);
-    assert_eq!(rt; unlawful, Err(TileFault::CodeValue));
+    assert_eq!(rt;
+        (read, fives, unlawful),
+        (Ok(()), [5; 4], Err(TileFault::CodeValue))
+    );
     let code = [0x7f, 0x00, 0x19, 0x48];
     let read = decode_tile(rice(2), 16, Place2::Coded, &code, 4, &mut numbers);
-    assert_eq!(rt; read, Ok(()));
-    assert_eq!(rt; numbers, [32512, 32513, 32512, 32513]);
+    let back = numbers;
     let short = decode_tile(rice(2), 16, Place2::Coded, &code[..2], 2, &mut numbers);
-    assert_eq!(rt; short, Err(TileFault::CodeShort));
+    assert_eq!(rt;
+        (read, back, short),
+        (
+            Ok(()),
+            [32512, 32513, 32512, 32513],
+            Err(TileFault::CodeShort)
+        )
+    );
 }
 
 #[test]
@@ -242,23 +248,23 @@ fn records_longer_than_what_is_read(rt: HostRuntime) {
     record[..6].copy_from_slice(&[0x00, 0x00, 0x03, 0xe8, 0x0e, 0x04]);
     let mut numbers = [7; 3];
     let read = decode_tile(rice(4), 16, Place2::Coded, &record, 1_000_006, &mut numbers);
-    assert_eq!(rt; read, Ok(()));
-    assert_eq!(rt; numbers, [1000, 1000, 1003]);
+    assert_eq!(rt; (read, numbers), (Ok(()), [1000, 1000, 1003]));
     // id 1, and zeros without an end
     record[4] = 0x08;
     record[5] = 0x00;
     let cut = decode_tile(rice(4), 16, Place2::Coded, &record, 88, &mut numbers);
-    assert_eq!(rt; cut, Err(TileFault::CodeShort));
     let longer = decode_tile(rice(4), 16, Place2::Coded, &record, 89, &mut numbers);
-    assert_eq!(rt; longer, Err(TileFault::CodeValue));
+    assert_eq!(rt;
+        (cut, longer),
+        (Err(TileFault::CodeShort), Err(TileFault::CodeValue))
+    );
 }
 
 #[test]
 fn plain_bytes(rt: HostRuntime) {
     let mut numbers = [7; 1];
     let read = decode_tile(rice(1), 8, Place2::Stored, &[0xc8], 1, &mut numbers);
-    assert_eq!(rt; read, Ok(()));
-    assert_eq!(rt; numbers, [200]);
+    assert_eq!(rt; (read, numbers), (Ok(()), [200]));
     let read = decode_tile(
         Codec::Plain,
         16,
@@ -267,16 +273,18 @@ fn plain_bytes(rt: HostRuntime) {
         2,
         &mut numbers,
     );
-    assert_eq!(rt; read, Ok(()));
-    assert_eq!(rt; numbers, [-200]);
+    assert_eq!(rt; (read, numbers), (Ok(()), [-200]));
     let bytes = [0xff, 0xff, 0xff, 0x38];
     let read = decode_tile(Codec::Plio, 32, Place2::Stored, &bytes, 4, &mut numbers);
-    assert_eq!(rt; read, Ok(()));
-    assert_eq!(rt; numbers, [-200]);
-    let longer = decode_tile(Codec::Plain, 8, Place2::Stored, &bytes, 4, &mut numbers);
-    assert_eq!(rt; longer, Err(TileFault::TileSize));
-    let longer = decode_tile(rice(2), 16, Place2::Stored, &bytes, 4, &mut numbers);
-    assert_eq!(rt; longer, Err(TileFault::TileSize));
+    assert_eq!(rt; (read, numbers), (Ok(()), [-200]));
+}
+
+#[test]
+fn plain_bytes_of_other_sizes(rt: HostRuntime) {
+    let mut numbers = [7; 1];
+    let bytes = [0xff, 0xff, 0xff, 0x38];
+    let of_octets = decode_tile(Codec::Plain, 8, Place2::Stored, &bytes, 4, &mut numbers);
+    let of_pairs = decode_tile(rice(2), 16, Place2::Stored, &bytes, 4, &mut numbers);
     let shorter = decode_tile(
         Codec::Plain,
         32,
@@ -285,7 +293,10 @@ fn plain_bytes(rt: HostRuntime) {
         3,
         &mut numbers,
     );
-    assert_eq!(rt; shorter, Err(TileFault::TileSize));
+    assert_eq!(rt;
+        [of_octets, of_pairs, shorter],
+        [Err(TileFault::TileSize); 3]
+    );
 }
 
 #[test]
@@ -293,11 +304,13 @@ fn lists_of_plio(rt: HostRuntime) {
     let mut numbers = [7; 3];
     let mut list = [0, 0, 0, 7, 0xff, 0x9c, 0, 8, 0, 0, 0, 0, 0, 0, 0x40, 0x02];
     let read = decode_tile(Codec::Plio, 16, Place2::Coded, &list, 16, &mut numbers);
-    assert_eq!(rt; read, Ok(()));
-    assert_eq!(rt; numbers, [1, 1, 0]);
+    let back = numbers;
     list[15] = 0x04;
     let past = decode_tile(Codec::Plio, 16, Place2::Coded, &list, 16, &mut numbers);
-    assert_eq!(rt; past, Err(TileFault::LineList));
+    assert_eq!(rt;
+        (read, back, past),
+        (Ok(()), [1, 1, 0], Err(TileFault::LineList))
+    );
 }
 
 #[test]
@@ -310,10 +323,12 @@ fn long_records_of_plio(rt: HostRuntime) {
     let mut numbers = [7; 3];
     // 1001 is odd, but of the record an even number of bytes is read.
     let read = decode_tile(Codec::Plio, 16, Place2::Coded, &record, 1001, &mut numbers);
-    assert_eq!(rt; read, Ok(()));
-    assert_eq!(rt; numbers, [300, 300, 0]);
+    let back = numbers;
     let narrow = decode_tile(Codec::Plio, 8, Place2::Coded, &record, 1001, &mut numbers);
-    assert_eq!(rt; narrow, Err(TileFault::PixelRange));
+    assert_eq!(rt;
+        (read, back, narrow),
+        (Ok(()), [300, 300, 0], Err(TileFault::PixelRange))
+    );
 }
 
 #[test]

@@ -1,10 +1,10 @@
 //! Files whose HDUs after the one that is cut from are none.
 use crate::cutting::assert_cuts;
-use crate::files::MIDDLE;
+use crate::files::MIDDLE_FILE;
 use fz_base::FreeGate;
 use fz_cases::files::{file_of, put_header};
-use fz_cases::grids::GRID_PACKED;
 use fz_cases::runs::{FREE, outcome_of};
+use fz_cases::standing;
 use std::process::Abort;
 use std::test::Fail;
 use std::thread::Threads;
@@ -15,11 +15,11 @@ fn assert_cut_alone<R: Threads + Sync + AllocGlobal + Abort>(
     file: &[u8],
     line: &str,
 ) -> Result<(), Fail> {
-    let cutout = file_of(rt.alloc(), &[MIDDLE])?;
+    let cutout = file_of(rt.alloc(), &MIDDLE_FILE)?;
     assert_cuts(rt, file, &["--box", "2:4,2:3"], &cutout)?;
     assert_cuts(rt, file, &["--box=2:4,2:3", "--hdu=1"], &cutout)?;
     let outcome = outcome_of(rt, &["unpack", "IN", "OUT"], file, FREE, &FreeGate)?;
-    assert_eq!(rt; outcome.text.contents(), line.as_bytes(), "{line}");
+    assert_eq!(rt; outcome.unlike_stopped(3, line), None, "{line}");
     Ok(())
 }
 
@@ -33,7 +33,7 @@ fn bytes_behind_are_not_looked_at(rt: HostRuntime) -> Result<(), Fail> {
             "refused: 2 Truncated hdu 2 byte 8660\n",
         ),
     ] {
-        let mut file = file_of(rt.alloc(), &GRID_PACKED)?;
+        let mut file = file_of(rt.alloc(), &standing::GRID_PACKED)?;
         file.extend_from_slice(bytes.as_bytes())?;
         assert_cut_alone(&rt, &file, line)?;
     }
@@ -42,7 +42,7 @@ fn bytes_behind_are_not_looked_at(rt: HostRuntime) -> Result<(), Fail> {
 
 #[test]
 fn headers_behind_are_not_looked_at(rt: HostRuntime) -> Result<(), Fail> {
-    let rows: [(&[&str], &str); 4] = [
+    static ROWS: [(&[&str], &str); 4] = [
         (
             &["XTENSION= 'IMAGE   '"],
             "refused: 4 BadCard hdu 2 card 1\n",
@@ -76,8 +76,8 @@ fn headers_behind_are_not_looked_at(rt: HostRuntime) -> Result<(), Fail> {
             "refused: 15 CompressedTable hdu 2 card 5\n",
         ),
     ];
-    for (cards, line) in rows {
-        let mut file = file_of(rt.alloc(), &GRID_PACKED)?;
+    for &(cards, line) in &ROWS {
+        let mut file = file_of(rt.alloc(), &standing::GRID_PACKED)?;
         put_header(&mut file, cards)?;
         assert_cut_alone(&rt, &file, line)?;
     }

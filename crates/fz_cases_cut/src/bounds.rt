@@ -1,19 +1,18 @@
 //! Limits on memory. What a job may take is twice the longest header that it reads and 5,760 bytes more, two slots for each
 //! worker, of 16 bytes for each pixel of the largest tile and 64 more, and a copy buffer of 65,536.
 use crate::cutting::assert_cuts;
-use crate::files::MIDDLE;
-use fz_app::Status;
+use crate::files::MIDDLE_FILE;
 use fz_base::FreeGate;
 use fz_cases::files::{commented, file_of};
-use fz_cases::grids::GRID_PACKED;
 use fz_cases::ordinary::packed_file;
 use fz_cases::runs::{Conditions, FREE, outcome_of, words_for};
+use fz_cases::standing;
 use std::process::Abort;
 use std::test::Fail;
 use std::thread::Threads;
 
 /// What one worker, two and four may take for tiles of 4 pixels below headers of one block, as options and as a number.
-const BOUNDS: [(&str, &str, u64); 3] = [
+static BOUNDS: [(&str, &str, u64); 3] = [
     ("--workers=1", "--memory=77312", 77_312),
     ("--workers=2", "--memory=77568", 77_568),
     ("--workers=4", "--memory=78080", 78_080),
@@ -32,20 +31,16 @@ fn assert_within<R: Threads + Sync + AllocGlobal + Abort>(
         ..FREE
     };
     let outcome = outcome_of(rt, &words, file, on, &FreeGate)?;
-    assert_eq!(rt; outcome.status, Status::Done, "{options:?}");
-    assert!(rt; outcome.peak <= bound, "{options:?}");
-    assert_eq!(rt; outcome.live, 0, "{options:?}");
+    assert!(rt; outcome.is_done_within(bound), "{options:?}");
     let outcome = outcome_of(rt, &words, file, FREE, &FreeGate)?;
-    assert_eq!(rt; outcome.status, Status::Done, "{options:?}");
-    assert!(rt; outcome.peak <= bound, "{options:?}");
-    assert_eq!(rt; outcome.live, 0, "{options:?}");
+    assert!(rt; outcome.is_done_within(bound), "{options:?}");
     Ok(())
 }
 
 #[test]
 fn grid_file_is_cut_within_its_bound(rt: HostRuntime) -> Result<(), Fail> {
-    let file = file_of(rt.alloc(), &GRID_PACKED)?;
-    for (workers, memory, bound) in BOUNDS {
+    let file = file_of(rt.alloc(), &standing::GRID_PACKED)?;
+    for &(workers, memory, bound) in &BOUNDS {
         assert_within(&rt, &file, &["--box=1:5,1:3", workers], bound)?;
         assert_within(&rt, &file, &["--box=1:5,1:3", workers, memory], bound)?;
     }
@@ -55,18 +50,18 @@ fn grid_file_is_cut_within_its_bound(rt: HostRuntime) -> Result<(), Fail> {
 // A longer header after the HDU that is cut from is not read.
 #[test]
 fn header_behind_takes_nothing(rt: HostRuntime) -> Result<(), Fail> {
-    let packed = file_of(rt.alloc(), &GRID_PACKED)?;
-    let cards = [
+    let packed = file_of(rt.alloc(), &standing::GRID_PACKED)?;
+    static CARDS: [&str; 5] = [
         "XTENSION= 'IMAGE   '",
         "BITPIX  =                    8",
         "NAXIS   =                    0",
         "PCOUNT  =                    0",
         "GCOUNT  =                    1",
     ];
-    let file = commented(rt.alloc(), &packed, &cards, 100, &[])?;
+    let file = commented(rt.alloc(), &packed, &CARDS, 100, &[])?;
     assert_eq!(rt; file.len(), 8640 + 3 * 2880);
     assert_within(&rt, &file, &["--box=2:4,2:3", "--memory=77312"], 77_312)?;
-    let cutout = file_of(rt.alloc(), &[MIDDLE])?;
+    let cutout = file_of(rt.alloc(), &MIDDLE_FILE)?;
     assert_cuts(&rt, &file, &["--box=2:4,2:3"], &cutout)
 }
 
@@ -83,7 +78,7 @@ fn ordinary_file_is_cut_within_its_bound(rt: HostRuntime) -> Result<(), Fail> {
 // A file whose header is refused has no tiles, so its bound is that of none: 77,184 bytes.
 #[test]
 fn no_tile_is_taken_for_a_faulty_header(rt: HostRuntime) -> Result<(), Fail> {
-    let file = file_of(rt.alloc(), &GRID_PACKED)?;
+    let file = file_of(rt.alloc(), &standing::GRID_PACKED)?;
     for (part, line) in [
         ("--box=1:6,1:3", "refused: 28 OutOfBox hdu 1 card 19\n"),
         ("--box=1:5,1:4", "refused: 28 OutOfBox hdu 1 card 20\n"),
@@ -91,8 +86,11 @@ fn no_tile_is_taken_for_a_faulty_header(rt: HostRuntime) -> Result<(), Fail> {
     ] {
         let words = ["cut", "--memory=77184", part, "IN", "OUT"];
         let outcome = outcome_of(&rt, &words, &file, FREE, &FreeGate)?;
-        assert_eq!(rt; outcome.text.contents(), line.as_bytes(), "{line}");
-        assert!(rt; outcome.peak <= 77_184, "{line}");
+        assert_eq!(rt;
+            (outcome.unlike_stopped(3, line), outcome.peak <= 77_184),
+            (None, true),
+            "{line}"
+        );
     }
     Ok(())
 }
@@ -100,19 +98,15 @@ fn no_tile_is_taken_for_a_faulty_header(rt: HostRuntime) -> Result<(), Fail> {
 // The first taking is of one block, before anything is read.
 #[test]
 fn block_is_taken_before_anything_is_read(rt: HostRuntime) -> Result<(), Fail> {
-    let words = ["cut", "--memory", "1", "--box", "1:1,1:1", "IN", "OUT"];
+    static WORDS: [&str; 7] = ["cut", "--memory", "1", "--box", "1:1,1:1", "IN", "OUT"];
     let on = Conditions {
         source: 1,
         sink: 0,
         ..FREE
     };
-    let outcome = outcome_of(&rt, &words, &[], on, &FreeGate)?;
-    assert_eq!(rt;
-        outcome.text.contents(),
-        b"over limit: live 0 asked 2880 limit 1\n".as_slice()
-    );
-    assert_eq!(rt; outcome.status.number(), 6);
+    let outcome = outcome_of(&rt, &WORDS, &[], on, &FreeGate)?;
+    let line = "over limit: live 0 asked 2880 limit 1\n";
+    assert_eq!(rt; outcome.unlike_stopped(6, line), None);
     assert_eq!(rt; outcome.sink.faults(), 0);
-    assert_eq!(rt; outcome.live, 0);
     Ok(())
 }

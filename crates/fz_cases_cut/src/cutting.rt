@@ -1,5 +1,4 @@
 //! What is cut from a file, and what comes of it.
-use fz_app::Status;
 use fz_base::FreeGate;
 use fz_cases::changes::{Change, changed};
 use fz_cases::files::{Hdu, file_of};
@@ -18,7 +17,7 @@ pub(crate) struct Cutting {
 }
 
 /// The numbers of workers that a file is cut with.
-const WORKERS: [&[&str]; 5] = [
+static WORKERS: [&[&str]; 5] = [
     &[],
     &["--workers", "1"],
     &["--workers=2"],
@@ -33,15 +32,14 @@ pub(crate) fn assert_cuts<R: Threads + Sync + AllocGlobal + Abort>(
     options: &[&str],
     cutout: &[u8],
 ) -> Result<(), Fail> {
-    for workers in WORKERS {
+    for &workers in &WORKERS {
         let words = words_for(rt.alloc(), "cut", options, workers)?;
         let outcome = outcome_of(rt, &words, file, FREE, &FreeGate)?;
-        assert_eq!(rt; outcome.text.contents(), b"".as_slice(), "{options:?}");
-        assert_eq!(rt; outcome.status, Status::Done, "{options:?} {workers:?}");
-        assert_eq!(rt; outcome.sink.contents(), cutout, "{options:?} {workers:?}");
-        assert_eq!(rt; outcome.live, 0);
-        assert_eq!(rt; outcome.source.faults(), 0);
-        assert_eq!(rt; outcome.sink.faults(), 0);
+        assert_eq!(rt;
+            (outcome.unlike_done(cutout), outcome.faults()),
+            (None, (0, 0)),
+            "{options:?} {workers:?}"
+        );
     }
     Ok(())
 }

@@ -22,6 +22,9 @@ pub(crate) const MIDDLE: Hdu<'static> = Hdu {
     bytes: &MIDDLE_PIXELS,
 };
 
+/// The same as a file, for functions that name it.
+pub(crate) static MIDDLE_FILE: [Hdu<'static>; 1] = [MIDDLE];
+
 /// A primary without data.
 const NO_IMAGE_HDU: Hdu<'static> = Hdu {
     cards: &NO_IMAGE,

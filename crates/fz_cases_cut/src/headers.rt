@@ -30,7 +30,7 @@ const FULL_PACKED: [Hdu<'static>; 2] = [
 ];
 
 /// Cards of several HDUs, and of other packers.
-const KEPT: [Cutting; 7] = [
+static KEPT: [Cutting; 7] = [
     // cards that speak of the whole file or of other data are left out
     Cutting {
         hdus: &FULL_PACKED,
@@ -168,7 +168,7 @@ const REFERRED: [Hdu<'static>; 2] = [
 
 /// Boxes of that file. Where the box begins after the first pixel of an axis and has no step there, the reference pixel is
 /// moved by as many pixels.
-const MOVED: [Cutting; 5] = [
+static MOVED: [Cutting; 5] = [
     Cutting {
         hdus: &REFERRED,
         change: Change::Nothing,

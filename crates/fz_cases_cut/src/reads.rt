@@ -1,12 +1,11 @@
 //! Which bytes are read.
-use crate::files::MIDDLE;
-use fz_app::run;
-use fz_base::{FreeGate, MemSink, MemSource, MemText, Meter};
+use crate::files::MIDDLE_FILE;
+use fz_base::{FreeGate, MemSource};
 use fz_cases::changes::{Change, changed};
 use fz_cases::files::{Hdu, file_of};
-use fz_cases::grids::GRID_PACKED;
 use fz_cases::ordinary::packed_file;
-use fz_cases::runs::{owned, words_for};
+use fz_cases::runs::{FREE, Outcome, outcome_of, words_for};
+use fz_cases::standing;
 use std::alloc::AllocError;
 use std::process::Abort;
 use std::test::Fail;
@@ -21,42 +20,15 @@ struct Reading {
     ranges: &'static [(u64, u64)],
 }
 
-/// The source after a run of the words, and what the run printed and wrote.
-#[derive(Drop)]
-struct Left {
-    source: MemSource,
-    text: MemText,
-    sink: MemSink,
-}
-
 /// Cuts from a file of at most 2^32 bytes.
 fn left_by<R: Threads + Sync + AllocGlobal>(
     rt: &R,
     options: &[&str],
     workers: &[&str],
     file: &[u8],
-) -> Result<Left, AllocError> {
-    let alloc = rt.alloc();
-    let words = owned(alloc, &words_for(alloc, "cut", options, workers)?)?;
-    let bytes = file.to_vec(alloc)?;
-    if bytes.len() > 1 << 32 {
-        return Err(AllocError);
-    }
-    let mut source = MemSource::new(alloc, bytes, Vec::new(alloc));
-    let mut sink = MemSink::new(alloc, Vec::new(alloc), 0);
-    let mut text = MemText::new(alloc, Vec::new(alloc));
-    let mut meter = Meter::new(alloc, 1 << 40);
-    let _status = run(
-        rt,
-        alloc,
-        &words,
-        &mut source,
-        &mut sink,
-        &mut text,
-        &FreeGate,
-        &mut meter,
-    );
-    Ok(Left { source, text, sink })
+) -> Result<Outcome, AllocError> {
+    let words = words_for(rt.alloc(), "cut", options, workers)?;
+    outcome_of(rt, &words, file, FREE, &FreeGate)
 }
 
 /// Whether the bytes from a place on lie in one of the ranges.
@@ -112,7 +84,7 @@ fn assert_read_all<R: AllocGlobal + Abort>(
 const TWO_FAULTY: Change = Change::Table(&[], &[(56, &[0, 0, 0, 16]), (88, &[0, 0, 0, 0])]);
 
 /// Boxes of the grid file: its headers end at 5760, its rows of 16 bytes are after them, and its heap from 5856 on.
-const READINGS: [Reading; 12] = [
+static READINGS: [Reading; 12] = [
     // rows 0, 1, 3 and 4 and their records
     Reading {
         change: Change::Nothing,
@@ -208,11 +180,11 @@ fn assert_reading<R: Threads + Sync + AllocGlobal + Abort>(
     reading: &Reading,
     workers: &'static str,
 ) -> Result<(), Fail> {
-    let file = changed(rt.alloc(), &GRID_PACKED, &reading.change)?;
+    let file = changed(rt.alloc(), &standing::GRID_PACKED, &reading.change)?;
     let left = left_by(rt, reading.options, &[workers], &file)?;
     let line = reading.line;
     assert_eq!(rt; left.text.contents(), line.as_bytes(), "{workers} {line}");
-    assert_read_within(rt, &left.source, reading.ranges, line)
+    assert_read_within(rt, left.source.source(), reading.ranges, line)
 }
 
 #[test]
@@ -228,26 +200,26 @@ fn reads_rows_and_records_of_picks_alone(rt: HostRuntime) -> Result<(), Fail> {
 // The box is the whole image: all six tiles are read.
 #[test]
 fn reads_each_tile_of_the_whole(rt: HostRuntime) -> Result<(), Fail> {
-    let file = file_of(rt.alloc(), &GRID_PACKED)?;
+    let file = file_of(rt.alloc(), &standing::GRID_PACKED)?;
     let left = left_by(&rt, &["--box", "1:5,1:3"], &[], &file)?;
-    assert_read_all(&rt, &left.source, 0, 80)?;
-    assert_read_all(&rt, &left.source, 5856, 5871)
+    assert_read_all(&rt, left.source.source(), 0, 80)?;
+    assert_read_all(&rt, left.source.source(), 5856, 5871)
 }
 
 // What is after the HDU is not read.
 #[test]
 fn reads_nothing_behind(rt: HostRuntime) -> Result<(), Fail> {
-    let mut file = file_of(rt.alloc(), &GRID_PACKED)?;
+    let mut file = file_of(rt.alloc(), &standing::GRID_PACKED)?;
     file.extend_from_slice(b"XTENSION= 'IMAGE   '")?;
     let left = left_by(&rt, &["--box", "2:4,2:3"], &[], &file)?;
-    let cutout = file_of(rt.alloc(), &[MIDDLE])?;
+    let cutout = file_of(rt.alloc(), &MIDDLE_FILE)?;
     assert_eq!(rt; left.sink.contents(), cutout.as_slice());
     let ranges = [(0, 5792), (5808, 5840), (5856, 5864), (5866, 5870)];
-    assert_read_within(&rt, &left.source, &ranges, "behind")
+    assert_read_within(&rt, left.source.source(), &ranges, "behind")
 }
 
 /// The cards of a cutout of the file of ordinary size.
-const SIX_PIXELS: [&str; 10] = [
+static SIX_PIXELS: [&str; 10] = [
     "SIMPLE  =                    T",
     "BITPIX  =                   16",
     "NAXIS   =                    2",
@@ -275,5 +247,5 @@ fn reads_two_rows_of_many(rt: HostRuntime) -> Result<(), Fail> {
     )?;
     assert_eq!(rt; left.sink.contents(), cutout.as_slice());
     let ranges = [(0, 5760), (5824, 5856), (38664, 38732)];
-    assert_read_within(&rt, &left.source, &ranges, "ordinary")
+    assert_read_within(&rt, left.source.source(), &ranges, "ordinary")
 }

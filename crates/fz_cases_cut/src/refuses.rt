@@ -7,6 +7,7 @@ use fz_cases::grids::{GRID_FILE, GRID_PACKED};
 use fz_cases::records::HUNDRED_PACKED;
 use fz_cases::runs::{Conditions, FREE, outcome_of, words_for};
 use fz_cases::small::{EMPTY_PRIMARY_HDU, SMALL_FILE, SMALL_PACKED_FILE, SMALL_STORED_HDU};
+use fz_cases::standing;
 use std::process::Abort;
 use std::test::Fail;
 use std::thread::Threads;
@@ -31,11 +32,15 @@ fn assert_refused<R: Threads + Sync + AllocGlobal + Abort>(
         let words = words_for(rt.alloc(), "cut", options, &[workers])?;
         let on = Conditions { sink: 0, ..FREE };
         let outcome = outcome_of(rt, &words, file, on, &FreeGate)?;
-        assert_eq!(rt; outcome.text.contents(), line.as_bytes(), "{line}");
-        assert_eq!(rt; outcome.status.number(), 3, "{line}");
-        assert_eq!(rt; outcome.sink.contents(), b"".as_slice(), "{line}");
-        assert_eq!(rt; outcome.sink.faults(), 0, "{line}");
-        assert_eq!(rt; outcome.live, 0, "{line}");
+        assert_eq!(rt;
+            (
+                outcome.unlike_stopped(3, line),
+                outcome.sink.contents().len(),
+                outcome.faults()
+            ),
+            (None, 0, (0, 0)),
+            "{line}"
+        );
     }
     Ok(())
 }
@@ -53,7 +58,7 @@ fn assert_all_refused<R: Threads + Sync + AllocGlobal + Abort>(
 }
 
 /// Boxes that do not fit. Card 18 of the table of the grid file is ZNAXIS, and cards 19 and 20 are ZNAXIS1 and ZNAXIS2.
-const OUT_OF_BOX: [Refusal; 11] = [
+static OUT_OF_BOX: [Refusal; 11] = [
     Refusal {
         hdus: &GRID_PACKED,
         change: Change::Nothing,
@@ -133,7 +138,7 @@ fn refuses_a_box_that_does_not_fit(rt: HostRuntime) -> Result<(), Fail> {
 }
 
 /// HDUs that are not packed, or not there.
-const NOT_PACKED: [Refusal; 11] = [
+static NOT_PACKED: [Refusal; 11] = [
     Refusal {
         hdus: &GRID_PACKED,
         change: Change::Nothing,
@@ -211,7 +216,7 @@ fn refuses_what_is_not_packed(rt: HostRuntime) -> Result<(), Fail> {
 }
 
 /// Faults of headers up to the one that is cut from.
-const OF_HEADERS: [Refusal; 14] = [
+static OF_HEADERS: [Refusal; 14] = [
     Refusal {
         hdus: &GRID_PACKED,
         change: Change::Length(0),
@@ -309,7 +314,7 @@ fn refuses_for_a_header(rt: HostRuntime) -> Result<(), Fail> {
 // Neither the source nor the sink is called: their first calls would fail.
 #[test]
 fn other_boxes_are_usage(rt: HostRuntime) -> Result<(), Fail> {
-    let file = file_of(rt.alloc(), &GRID_PACKED)?;
+    let file = file_of(rt.alloc(), &standing::GRID_PACKED)?;
     for option in [
         "--box=3:2,1:1",
         "--box=0:1,1:1",
@@ -329,10 +334,11 @@ fn other_boxes_are_usage(rt: HostRuntime) -> Result<(), Fail> {
         };
         let words = ["cut", option, "IN", "OUT"];
         let outcome = outcome_of(&rt, &words, &file, on, &FreeGate)?;
-        assert_eq!(rt; outcome.status.number(), 2, "{option}");
-        assert_eq!(rt; outcome.source.faults(), 0, "{option}");
-        assert_eq!(rt; outcome.sink.faults(), 0, "{option}");
-        assert_eq!(rt; outcome.peak, 0, "{option}");
+        assert_eq!(rt;
+            (outcome.status.number(), outcome.faults(), outcome.peak),
+            (2, (0, 0), 0),
+            "{option}"
+        );
     }
     Ok(())
 }

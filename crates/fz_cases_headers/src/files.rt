@@ -17,7 +17,7 @@ use std::alloc::Global;
 /// The bytes of a file: two blocks for its header, and one for its data.
 pub(crate) const FILE_LEN: usize = 8640;
 
-pub(crate) const SMALL: [&[u8]; 5] = [
+pub(crate) static SMALL: [&[u8]; 5] = [
     b"SIMPLE  =                    T",
     b"BITPIX  =                   16",
     b"NAXIS   =                    2",
@@ -25,7 +25,7 @@ pub(crate) const SMALL: [&[u8]; 5] = [
     b"NAXIS2  =                    2",
 ];
 
-pub(crate) const PACKED: [&[u8]; 25] = [
+pub(crate) static PACKED: [&[u8]; 25] = [
     b"XTENSION= 'BINTABLE'",
     b"BITPIX  =                    8",
     b"NAXIS   =                    2",

@@ -71,17 +71,18 @@ fn long_headers_come_back(rt: HostRuntime) -> Result<(), Fail> {
         let file = long_header(cards);
         let mut packed = [0; FILE_LEN];
         let packed_len = pack(alloc, &file, 0, blocks, &mut packed)?;
-        assert_eq!(rt; packed_len, 2 * BLOCK_LEN);
         let mut plain = [0; FILE_LEN];
         let len = restore(alloc, &packed, 2, &mut plain)?;
-        assert_eq!(rt; len, blocks * BLOCK_LEN);
-        assert!(rt; begin_alike(&plain, &file, len));
+        assert_eq!(rt;
+            (packed_len, len, begin_alike(&plain, &file, len)),
+            (2 * BLOCK_LEN, blocks * BLOCK_LEN, true)
+        );
     }
     Ok(())
 }
 
 /// Cards after those of an image, and how they stand in its packed header.
-const KEPT: [(&[u8], &[u8]); 14] = [
+static KEPT: [(&[u8], &[u8]); 14] = [
     (b"HISTORY = 'is not a value'", b"HISTORY = 'is not a value'"),
     (
         b"EXTEND  =                    T",
@@ -127,17 +128,19 @@ fn cards_come_back_in_their_places(rt: HostRuntime) -> Result<(), Fail> {
     }
     let mut packed = [0; FILE_LEN];
     let packed_len = pack(alloc, &file, 0, 1, &mut packed)?;
-    assert_eq!(rt; packed_len, 2 * BLOCK_LEN);
-    assert!(rt; begin_alike(&packed, &wanted, 2 * BLOCK_LEN));
+    let is_packed = begin_alike(&packed, &wanted, 2 * BLOCK_LEN);
     let mut plain = [0; FILE_LEN];
     let len = restore(alloc, &packed, 2, &mut plain)?;
-    assert_eq!(rt; len, BLOCK_LEN);
-    assert!(rt; begin_alike(&plain, &file, BLOCK_LEN));
+    let is_back = begin_alike(&plain, &file, BLOCK_LEN);
+    assert_eq!(rt;
+        (packed_len, is_packed, len, is_back),
+        (2 * BLOCK_LEN, true, BLOCK_LEN, true)
+    );
     Ok(())
 }
 
 /// An extension of 4 by 2 pixels.
-const EXTENSION: [&[u8]; 8] = [
+static EXTENSION: [&[u8]; 8] = [
     b"XTENSION= 'IMAGE   '           / an extension",
     b"BITPIX  =                   16",
     b"NAXIS   =                    2",
@@ -164,17 +167,19 @@ fn extensions_come_back(rt: HostRuntime) -> Result<(), Fail> {
     );
     let mut packed = [0; FILE_LEN];
     let packed_len = pack(alloc, &file, 1, 1, &mut packed)?;
-    assert_eq!(rt; packed_len, BLOCK_LEN);
-    assert!(rt; begin_alike(&packed, &wanted, BLOCK_LEN));
+    let is_packed = begin_alike(&packed, &wanted, BLOCK_LEN);
     let mut plain = [0; FILE_LEN];
     let len = restore(alloc, &packed, 1, &mut plain)?;
-    assert_eq!(rt; len, BLOCK_LEN);
-    assert!(rt; begin_alike(&plain, &file, BLOCK_LEN));
+    let is_back = begin_alike(&plain, &file, BLOCK_LEN);
+    assert_eq!(rt;
+        (packed_len, is_packed, len, is_back),
+        (BLOCK_LEN, true, BLOCK_LEN, true)
+    );
     Ok(())
 }
 
 /// A packed header of another packer: one column, no ZTILE1 and no BYTEPIX.
-const OTHER: [&[u8]; 20] = [
+static OTHER: [&[u8]; 20] = [
     b"XTENSION= 'BINTABLE'",
     b"BITPIX  =                    8",
     b"NAXIS   =                    2",
@@ -198,7 +203,7 @@ const OTHER: [&[u8]; 20] = [
 ];
 
 /// The image in it.
-const OTHER_PLAIN: [&[u8]; 5] = [
+static OTHER_PLAIN: [&[u8]; 5] = [
     b"SIMPLE  =                    T",
     b"BITPIX  =                   16",
     b"NAXIS   =                    1",
@@ -230,8 +235,8 @@ fn header_of_another_packer(rt: HostRuntime) -> Result<(), Fail> {
     assert_eq!(rt; packed_plan(&buf, &header, true), Ok(plan));
     let mut plain = [0; FILE_LEN];
     let len = restore(alloc, &file, 1, &mut plain)?;
-    assert_eq!(rt; len, BLOCK_LEN);
-    assert!(rt; begin_alike(&plain, &file_of(&OTHER_PLAIN, &[]), BLOCK_LEN));
+    let is_back = begin_alike(&plain, &file_of(&OTHER_PLAIN, &[]), BLOCK_LEN);
+    assert_eq!(rt; (len, is_back), (BLOCK_LEN, true));
     Ok(())
 }
 
@@ -274,7 +279,7 @@ fn cut_header(buf: &[u8], header: &Header, region: &Region, out: &mut [u8]) -> R
 }
 
 /// The packed header of 5 by 3 pixels of 8 bits, in stored tiles of 2 by 2.
-const GRID: [&[u8]; 21] = [
+static GRID: [&[u8]; 21] = [
     b"XTENSION= 'BINTABLE'",
     b"BITPIX  =                    8",
     b"NAXIS   =                    2",
@@ -299,7 +304,7 @@ const GRID: [&[u8]; 21] = [
 ];
 
 /// The small file as an extension, with cards that hold for the whole of it.
-const WHOLE: [(usize, &[u8]); 10] = [
+static WHOLE: [(usize, &[u8]); 10] = [
     (20, b"ZTENSION= 'IMAGE   '"),
     (25, b"ZPCOUNT =                    0"),
     (26, b"ZGCOUNT =                    1"),
@@ -324,8 +329,8 @@ fn expect_part(
     let header = one_block(alloc, packed, 1, &mut buf)?;
     let mut out = [0; 5760];
     let answer = cut_header(&buf, &header, region, &mut out);
-    assert_eq!(rt; answer, Ok(BLOCK_LEN));
-    assert!(rt; begin_alike(&out, wanted, BLOCK_LEN));
+    let are_alike = begin_alike(&out, wanted, BLOCK_LEN);
+    assert_eq!(rt; (answer, are_alike), (Ok(BLOCK_LEN), true));
     Ok(())
 }
 

@@ -44,7 +44,7 @@ fn plan_of_the_small_file(rt: HostRuntime) -> Result<(), Fail> {
 
 /// Cards of the small image that are other ones, or are after it, the codec that it is to be packed with, and where it is refused,
 /// and why.
-const REFUSED: [(&[(usize, &[u8])], CodecWord, Place, Kind); 6] = [
+static REFUSED: [(&[(usize, &[u8])], CodecWord, Place, Kind); 6] = [
     (
         &[(5, b"ZTILE1  =                    4"), (6, b"END")],
         CodecWord::Rice,
@@ -99,7 +99,7 @@ const REFUSED: [(&[(usize, &[u8])], CodecWord, Place, Kind); 6] = [
 #[test]
 fn refused_images(rt: HostRuntime) -> Result<(), Fail> {
     let alloc = rt.alloc();
-    for (changes, codec, at, kind) in REFUSED {
+    for &(changes, codec, at, kind) in &REFUSED {
         let mut buf = [0; 2880];
         let header = one_block(alloc, &file_of(&SMALL, changes), 0, &mut buf)?;
         assert!(rt; is_packable(&buf, &header));
@@ -135,19 +135,19 @@ fn packed_header_of_the_small_file(rt: HostRuntime) -> Result<(), Fail> {
     let mut wanted = file_of(&PACKED, &[]);
     let mut out = [0; 5760];
     let answer = pack_header(&buf, &header, CodecWord::Rice, &totals_for(false), &mut out);
-    assert_eq!(rt; answer, Ok(BLOCK_LEN));
-    assert!(rt; begin_alike(&out, &wanted, BLOCK_LEN));
+    let are_alike = begin_alike(&out, &wanted, BLOCK_LEN);
+    assert_eq!(rt; (answer, are_alike), (Ok(BLOCK_LEN), true));
     put(&mut wanted, 25, b"DATASUM = '0       '");
     put(&mut wanted, 26, b"CHECKSUM= '0000000000000000'");
     put(&mut wanted, 27, b"END");
     let answer = pack_header(&buf, &header, CodecWord::Rice, &totals_for(true), &mut out);
-    assert_eq!(rt; answer, Ok(BLOCK_LEN));
-    assert!(rt; begin_alike(&out, &wanted, BLOCK_LEN));
+    let are_alike = begin_alike(&out, &wanted, BLOCK_LEN);
+    assert_eq!(rt; (answer, are_alike), (Ok(BLOCK_LEN), true));
     Ok(())
 }
 
 /// The packed header of the small file where the codec has no parameters.
-const WITHOUT_PARAMETERS: [&[u8]; 21] = [
+static WITHOUT_PARAMETERS: [&[u8]; 21] = [
     b"XTENSION= 'BINTABLE'",
     b"BITPIX  =                    8",
     b"NAXIS   =                    2",
@@ -183,8 +183,8 @@ fn expect_packed(
     let header = one_block(alloc, &file_of(&SMALL, changes), 0, &mut buf)?;
     let mut out = [0; 5760];
     let answer = pack_header(&buf, &header, codec, &totals_for(false), &mut out);
-    assert_eq!(rt; answer, Ok(BLOCK_LEN));
-    assert!(rt; begin_alike(&out, wanted, BLOCK_LEN));
+    let are_alike = begin_alike(&out, wanted, BLOCK_LEN);
+    assert_eq!(rt; (answer, are_alike), (Ok(BLOCK_LEN), true));
     Ok(())
 }
 
@@ -199,7 +199,7 @@ fn packed_headers_of_other_codecs(rt: HostRuntime) -> Result<(), Fail> {
     );
     expect_packed(&rt, alloc, &[], CodecWord::Plio, &wanted)?;
     // Pixels of 64 bits are stored, and so an offset is no fault.
-    let changes: [(usize, &[u8]); 3] = [
+    static CHANGES: [(usize, &[u8]); 3] = [
         (1, b"BITPIX  =                   64"),
         (5, b"BZERO   =                    1"),
         (6, b"END"),
@@ -213,6 +213,6 @@ fn packed_headers_of_other_codecs(rt: HostRuntime) -> Result<(), Fail> {
             (22, b"END"),
         ],
     );
-    expect_packed(&rt, alloc, &changes, CodecWord::Plio, &wanted)?;
+    expect_packed(&rt, alloc, &CHANGES, CodecWord::Plio, &wanted)?;
     Ok(())
 }

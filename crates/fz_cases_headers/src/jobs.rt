@@ -21,14 +21,14 @@ fn checks_of_an_image(rt: HostRuntime) -> Result<(), Fail> {
     assert_eq!(rt; image_to_unpack(&buf, &header, false), Ok(None));
     // Its data are the 16 bytes from 2880 on.
     let mut fill = [0; 8];
-    assert_eq!(rt; fill_check(&header, &fill), Ok(()));
+    let filled = fill_check(&header, &fill);
     fill[5] = 1;
     let fault = Fault {
         hdu: 0,
         at: Place::Byte(2901),
         kind: Kind::DataFill,
     };
-    assert_eq!(rt; fill_check(&header, &fill), Err(fault));
+    assert_eq!(rt; (filled, fill_check(&header, &fill)), (Ok(()), Err(fault)));
     Ok(())
 }
 
@@ -53,11 +53,16 @@ fn checks_of_a_packed_image(rt: HostRuntime) -> Result<(), Fail> {
         len: [3, 2, 0, 0, 0, 0, 0, 0, 0],
         ..inside
     };
-    let answer = image_to_cut(&buf, &header, true, &past);
-    assert_eq!(rt; answer, Err(fault_at(24, Kind::OutOfBox)));
+    let past = image_to_cut(&buf, &header, true, &past);
     let other = Region { n: 1, ..inside };
-    let answer = image_to_cut(&buf, &header, true, &other);
-    assert_eq!(rt; answer, Err(fault_at(22, Kind::OutOfBox)));
+    let other = image_to_cut(&buf, &header, true, &other);
+    assert_eq!(rt;
+        (past, other),
+        (
+            Err(fault_at(24, Kind::OutOfBox)),
+            Err(fault_at(22, Kind::OutOfBox))
+        )
+    );
     Ok(())
 }
 
@@ -68,12 +73,12 @@ fn small_calls(rt: HostRuntime) -> Result<(), Fail> {
         at: Place::Byte(8640),
         kind: Kind::NotPacked,
     };
-    assert_eq!(rt; missing_hdu(Some(7), 3, 8640), fault);
-    assert_eq!(rt; missing_hdu(None, 3, 8640), Fault { hdu: 3, ..fault });
-    assert_eq!(rt; tile_kind(TileFault::LineList), Kind::LineList);
-    assert_eq!(rt; codec_name(Codec::Plain), "NOCOMPRESS");
+    let missing = (missing_hdu(Some(7), 3, 8640), missing_hdu(None, 3, 8640));
+    assert_eq!(rt; missing, (fault, Fault { hdu: 3, ..fault }));
+    let names = (tile_kind(TileFault::LineList), codec_name(Codec::Plain));
+    assert_eq!(rt; names, (Kind::LineList, "NOCOMPRESS"));
     let mut out = [0; 2880];
-    assert_eq!(rt; to_empty_primary(&mut out), BLOCK_LEN);
-    assert_eq!(rt; &out[320..323], b"END".as_slice());
+    let len = to_empty_primary(&mut out);
+    assert_eq!(rt; (len, &out[320..323]), (BLOCK_LEN, b"END".as_slice()));
     Ok(())
 }

@@ -1,9 +1,17 @@
-//! Headers of images and of packed images, on files that are made here: their plans, the checks that refuse them, and their bytes
-//! there and back.
+//! Rows of objects in memory and of real files, of cards, of the tables of names, of shifted decimals, of headers that are taken and
+//! refused, and of packed tables; and headers of images and of packed images, on files that are made here: their plans, the checks
+//! that refuse them, and their bytes there and back.
 //!
-//! Reading order: `files` (what the tests have in common), `images`, `tables`, `headers`, `jobs`.
+//! Reading order: `base`, `store`, `cards`, `names`, `wcs`, `block`, `table`; `files` (what the others have in common), `images`,
+//! `tables`, `headers`, `jobs`.
 #![tactic(auto)]
 
+#[cfg(test)]
+mod base;
+#[cfg(test)]
+mod block;
+#[cfg(test)]
+mod cards;
 #[cfg(test)]
 mod files;
 #[cfg(test)]
@@ -13,4 +21,12 @@ mod images;
 #[cfg(test)]
 mod jobs;
 #[cfg(test)]
+mod names;
+#[cfg(test)]
+mod store;
+#[cfg(test)]
+mod table;
+#[cfg(test)]
 mod tables;
+#[cfg(test)]
+mod wcs;

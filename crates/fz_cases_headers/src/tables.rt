@@ -36,7 +36,7 @@ const ZSIMPLE_TWICE: [(usize, &[u8]); 6] = [
 ];
 
 /// Cards of the packed header that are other ones, or are after it, and the card that is refused, and why.
-const CHECKED: [(&[(usize, &[u8])], Option<(u32, Kind)>); 6] = [
+static CHECKED: [(&[(usize, &[u8])], Option<(u32, Kind)>); 6] = [
     (&[], None),
     (&ZSIMPLE_TWICE, Some((21, Kind::Duplicate))),
     // ZSIMPLE and ZTENSION count as one name.
@@ -74,7 +74,7 @@ const CHECKED: [(&[(usize, &[u8])], Option<(u32, Kind)>); 6] = [
 #[test]
 fn checks_of_tables(rt: HostRuntime) -> Result<(), Fail> {
     let alloc = rt.alloc();
-    for (changes, wanted) in CHECKED {
+    for &(changes, wanted) in &CHECKED {
         let mut buf = [0; 2880];
         let header = one_block(alloc, &file_of(&PACKED, changes), 1, &mut buf)?;
         assert!(rt; header.sort == Sort::BinTable);
@@ -88,7 +88,7 @@ fn checks_of_tables(rt: HostRuntime) -> Result<(), Fail> {
 }
 
 /// Cards of the packed header that are other ones, and the plan that it stands for then.
-const PLANS: [(&[(usize, &[u8])], Plan); 5] = [
+static PLANS: [(&[(usize, &[u8])], Plan); 5] = [
     (&[], PLAN),
     // The plain bytes pass 31 bits.
     (
@@ -146,7 +146,7 @@ const PLANS: [(&[(usize, &[u8])], Plan); 5] = [
 #[test]
 fn plans(rt: HostRuntime) -> Result<(), Fail> {
     let alloc = rt.alloc();
-    for (changes, plan) in PLANS {
+    for &(changes, plan) in &PLANS {
         let mut buf = [0; 2880];
         let header = one_block(alloc, &file_of(&PACKED, changes), 1, &mut buf)?;
         assert!(rt; is_packed(&buf, &header));
@@ -164,7 +164,7 @@ const LINE_LISTS: [(usize, &[u8]); 3] = [
 
 /// Cards of the packed header that are other ones, or are after it, whether it is after an empty primary, and the card that
 /// is refused, and why.
-const REFUSED: [(&[(usize, &[u8])], bool, u32, Kind); 15] = [
+static REFUSED: [(&[(usize, &[u8])], bool, u32, Kind); 15] = [
     (&ZSIMPLE_TWICE, true, 21, Kind::Duplicate),
     (
         &[(25, b"ZSCALE  =                  1.5"), (26, b"END")],
@@ -253,7 +253,7 @@ const REFUSED: [(&[(usize, &[u8])], bool, u32, Kind); 15] = [
 #[test]
 fn refused_packed_headers(rt: HostRuntime) -> Result<(), Fail> {
     let alloc = rt.alloc();
-    for (changes, after_empty, card, kind) in REFUSED {
+    for &(changes, after_empty, card, kind) in &REFUSED {
         let mut buf = [0; 2880];
         let header = one_block(alloc, &file_of(&PACKED, changes), 1, &mut buf)?;
         let answer = packed_plan(&buf, &header, after_empty);
@@ -263,7 +263,7 @@ fn refused_packed_headers(rt: HostRuntime) -> Result<(), Fail> {
 }
 
 /// One tile of 67,108,865 pixels of 8 bits.
-const LARGE: [&[u8]; 19] = [
+static LARGE: [&[u8]; 19] = [
     b"XTENSION= 'BINTABLE'",
     b"BITPIX  =                    8",
     b"NAXIS   =                    2",

@@ -1,10 +1,9 @@
-//! Worked files for `pack`, as tests on `run` over objects in memory. Expected bytes are written out by hand, from the rules of
-//! the formats.
+//! Worked files for `pack`, and for `verify --strict`, which asks whether `pack` writes a file: tests on `run` over objects in memory.
 //!
-//! Reading order: `packs`, `refuses`.
+//! Reading order: `pack`, `strict`.
 #![tactic(auto)]
 
 #[cfg(test)]
-mod packs;
+mod pack;
 #[cfg(test)]
-mod refuses;
+mod strict;

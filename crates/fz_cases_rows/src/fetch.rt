@@ -17,7 +17,7 @@ use fz_fetch::{fetch_tiles, number_tiles, scatter_picks, scatter_tiles};
 use fz_grid::{Grid, Sieve, shape_law};
 use fz_head::{PackedImage, Plan};
 use fz_parts::cutout_axes;
-use fz_pool::{Window, sizes_law};
+use fz_pool::{Crew, Window, sizes_law};
 use fz_table::{Column, Table};
 use fz_tile::Codec;
 use std::alloc::{AllocError, Global};
@@ -82,7 +82,7 @@ fn plain_image() -> PackedImage
 
 /// Its rows, of the counts and offsets of the codes, of which there are none, and of the plain bytes; and its heap,
 /// which has the pixels 1 to 15 tile by tile.
-const PLAIN: [u8; 111] = [
+static PLAIN: [u8; 111] = [
     0, 0, 0, 0, 0, 0, 0, 0, 0, 0, 0, 4, 0, 0, 0, 0, //
     0, 0, 0, 0, 0, 0, 0, 0, 0, 0, 0, 4, 0, 0, 0, 4, //
     0, 0, 0, 0, 0, 0, 0, 0, 0, 0, 0, 2, 0, 0, 0, 8, //
@@ -137,7 +137,7 @@ fn rice_image() -> PackedImage
 }
 
 /// Its rows and its heap, which has the code of the pixels 0, 1, 0, 1 twice.
-const RICE: [u8; 40] = [
+static RICE: [u8; 40] = [
     0, 0, 0, 4, 0, 0, 0, 0, 0, 0, 0, 0, 0, 0, 0, 0, //
     0, 0, 0, 4, 0, 0, 0, 4, 0, 0, 0, 0, 0, 0, 0, 0, //
     0, 0, 0x19, 0x48, 0, 0, 0x19, 0x48,
@@ -247,9 +247,12 @@ fn fetch<R: Threads + Sync>(
         return Err(Stop::ReadFault);
     }
     let mut rows = [0; 4096];
-    fetch_tiles(
-        rt, source, &HEADER, image, tiles, &mut rows, window, &FreeGate,
-    )
+    let crew = Crew {
+        rt,
+        gate: &FreeGate,
+        workers: window.workers(),
+    };
+    fetch_tiles(&crew, source, &HEADER, image, tiles, &mut rows, window)
 }
 
 /// Row `row` of HDU 1 is refused.

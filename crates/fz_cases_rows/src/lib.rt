@@ -1,10 +1,17 @@
-//! Files that were written out by hand: what a job learns of their headers and takes for them, what is fetched of
-//! the rows of packed images, what is refused, and what is written.
+//! Arrays of tiles and the parts of tiles in a cutout, in rows that were worked out by hand, and against walks over all pixels. Then
+//! files that were written out by hand: what a job learns of their headers and takes for them, what is fetched of the rows of packed
+//! images, what is refused, and what is written.
 //!
-//! Reading order: `survey`, `fetch`.
+//! Reading order: `lawful`, `grid`, `parts`; `survey`, `fetch`.
 #![tactic(auto)]
 
 #[cfg(test)]
 mod fetch;
+#[cfg(test)]
+mod grid;
+#[cfg(test)]
+mod lawful;
+#[cfg(test)]
+mod parts;
 #[cfg(test)]
 mod survey;

@@ -11,7 +11,7 @@ use std::alloc::Global;
 use std::test::Fail;
 
 /// An image of 4 by 2 pixels.
-const SMALL: [&[u8]; 5] = [
+static SMALL: [&[u8]; 5] = [
     b"SIMPLE  =                    T",
     b"BITPIX  =                   16",
     b"NAXIS   =                    2",
@@ -20,7 +20,7 @@ const SMALL: [&[u8]; 5] = [
 ];
 
 /// The same with a name that no image to be packed may have.
-const RESERVED: [&[u8]; 6] = [
+static RESERVED: [&[u8]; 6] = [
     b"SIMPLE  =                    T",
     b"BITPIX  =                   16",
     b"NAXIS   =                    2",
@@ -29,14 +29,14 @@ const RESERVED: [&[u8]; 6] = [
     b"ZTILE1  =                    1",
 ];
 
-const EMPTY: [&[u8]; 3] = [
+static EMPTY: [&[u8]; 3] = [
     b"SIMPLE  =                    T",
     b"BITPIX  =                    8",
     b"NAXIS   =                    0",
 ];
 
 /// The table of an image of 4 by 2 pixels in rows.
-const PACKED: [&[u8]; 21] = [
+static PACKED: [&[u8]; 21] = [
     b"XTENSION= 'BINTABLE'",
     b"BITPIX  =                    8",
     b"NAXIS   =                    2",
@@ -209,7 +209,7 @@ const TO_LIST: Wants = Wants {
 };
 
 /// What is live and asked at each taking of the job that packs, with one worker.
-const TAKINGS: [(u64, u64); 7] = [
+static TAKINGS: [(u64, u64); 7] = [
     (0, 2880),
     (2880, 5760),
     (8640, 32),
@@ -260,7 +260,7 @@ fn buffers_of_a_job(rt: HostRuntime) -> Result<(), Fail> {
 #[test]
 fn each_taking_at_the_limit(rt: HostRuntime) -> Result<(), Fail> {
     let alloc = rt.alloc();
-    for (live, asked) in TAKINGS {
+    for &(live, asked) in &TAKINGS {
         let limit = live + asked - 1;
         let over = Short::OverLimit { live, asked, limit };
         assert_eq!(rt;

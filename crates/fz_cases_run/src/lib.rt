@@ -1,20 +1,12 @@
-//! Runs of the program as tests over objects in memory: words, calls that fail, limits on memory, names of files, a file of
-//! ordinary size and images that are too large to be held, workers side by side, and files in memory.
+//! Runs of the program that are of no single command, those with 16 workers and more, and those of `drill`: tests over objects in
+//! memory.
 //!
-//! Reading order: `words`, `stops`, `limits`, `ordinary`, `large`, `gates`, `memory`.
+//! Reading order: `run`, `turns`, `drill`.
 #![tactic(auto)]
 
 #[cfg(test)]
-mod gates;
+mod drill;
 #[cfg(test)]
-mod large;
+mod run;
 #[cfg(test)]
-mod limits;
-#[cfg(test)]
-mod memory;
-#[cfg(test)]
-mod ordinary;
-#[cfg(test)]
-mod stops;
-#[cfg(test)]
-mod words;
+mod turns;

@@ -1,12 +1,12 @@
-//! Worked files for `unpack`, as tests on `run` over objects in memory. Expected bytes are written out by hand, from the rules
-//! of the formats.
+//! Worked files for the commands that decode every tile, as tests on `run` over objects in memory: `unpack`, `verify`, `list` and
+//! `retile`.
 //!
-//! Reading order: `unpacks`, `refuses`, `hostile`.
+//! Reading order: `unpack`, `verify`, `retile`.
 #![tactic(auto)]
 
 #[cfg(test)]
-mod hostile;
+mod retile;
 #[cfg(test)]
-mod refuses;
+mod unpack;
 #[cfg(test)]
-mod unpacks;
+mod verify;

@@ -10,7 +10,7 @@ use std::test::Fail;
 /// The first word is the command.
 #[test]
 fn commands(rt: HostRuntime) -> Result<(), Fail> {
-    let lines = [
+    static LINES: [(&str, &str); 7] = [
         ("", "list a"),
         ("Pack a b", "pack a b"),
         ("pac a b", "pack a b"),
@@ -19,15 +19,16 @@ fn commands(rt: HostRuntime) -> Result<(), Fail> {
         ("-- pack a b", "pack -- a b"),
         ("--sums pack a b", "pack --sums a b"),
     ];
-    expect_lines(&rt, &lines)?;
+    expect_lines(&rt, &LINES)?;
     Ok(())
 }
 
 /// The first word is the command.
 #[test]
 fn more_commands(rt: HostRuntime) -> Result<(), Fail> {
-    let lines = [
-        ("retile a b", "unpack a b"),
+    static LINES: [(&str, &str); 9] = [
+        ("Retile a b", "retile a b"),
+        ("retiles a b", "retile a b"),
         ("patch --at 1 a b", "unpack a b"),
         ("help", "list help"),
         ("--help", "list -- --help"),
@@ -36,14 +37,14 @@ fn more_commands(rt: HostRuntime) -> Result<(), Fail> {
         ("unpack --help a b", "unpack -- --help b"),
         ("verify --version a", "verify version"),
     ];
-    expect_lines(&rt, &lines)?;
+    expect_lines(&rt, &LINES)?;
     Ok(())
 }
 
 /// Each option is one of the command.
 #[test]
 fn options(rt: HostRuntime) -> Result<(), Fail> {
-    let lines = [
+    static LINES: [(&str, &str); 11] = [
         ("unpack --sums a b", "pack --sums a b"),
         ("unpack --codec rice a b", "pack --codec rice a b"),
         ("verify --workers 2 a", "unpack --workers 2 a b"),
@@ -51,15 +52,19 @@ fn options(rt: HostRuntime) -> Result<(), Fail> {
         ("drill --workers 2 1", "drill 1"),
         ("pack --hdu 1 a b", "cut --hdu 1 --box 1:1 a b"),
         ("pack --box 1:1 a b", "cut --box 1:1 a b"),
+        ("retile --hdu 1 a b", "retile --tile 1 a b"),
+        ("retile --box 1:1 a b", "retile --workers 2 a b"),
+        ("retile --strict a b", "retile --sums a b"),
+        ("retile --at 1 a b", "retile --memory 1 a b"),
     ];
-    expect_lines(&rt, &lines)?;
+    expect_lines(&rt, &LINES)?;
     Ok(())
 }
 
 /// Each option is one of the command.
 #[test]
 fn more_options(rt: HostRuntime) -> Result<(), Fail> {
-    let lines = [
+    static LINES: [(&str, &str); 11] = [
         ("cut --tile 1 --box 1:1 a b", "pack --tile 1 a b"),
         ("list --strict a", "verify --strict a"),
         ("pack --strict a b", "pack --sums a b"),
@@ -72,14 +77,14 @@ fn more_options(rt: HostRuntime) -> Result<(), Fail> {
         ("pack --=rice a b", "pack --codec=rice a b"),
         ("pack -x b", "pack x b"),
     ];
-    expect_lines(&rt, &lines)?;
+    expect_lines(&rt, &LINES)?;
     Ok(())
 }
 
 /// An option has its value after it or after an equals sign.
 #[test]
 fn values(rt: HostRuntime) -> Result<(), Fail> {
-    let lines = [
+    static LINES: [(&str, &str); 12] = [
         ("pack a b --codec", "pack a b --codec rice"),
         ("pack --codec --sums a b", "pack --codec rice --sums a b"),
         ("pack --codec -- a b", "pack --codec rice -- a b"),
@@ -93,14 +98,14 @@ fn values(rt: HostRuntime) -> Result<(), Fail> {
         ("verify --memory --memory 1 a", "verify --memory 1 a"),
         ("verify --memory  a", "verify --memory 1 a"),
     ];
-    expect_lines(&rt, &lines)?;
+    expect_lines(&rt, &LINES)?;
     Ok(())
 }
 
 /// An option stands once, and a box has to be given.
 #[test]
 fn repeats(rt: HostRuntime) -> Result<(), Fail> {
-    let lines = [
+    static LINES: [(&str, &str); 10] = [
         ("pack --sums --sums a b", "pack --sums a b"),
         (
             "pack --codec rice --codec rice a b",
@@ -124,14 +129,14 @@ fn repeats(rt: HostRuntime) -> Result<(), Fail> {
         ("pack --tile 2 --tile=2 a b", "pack --tile 2 a b"),
         ("pack --block 8 a --block 8 b", "pack --block 8 a b"),
     ];
-    expect_lines(&rt, &lines)?;
+    expect_lines(&rt, &LINES)?;
     Ok(())
 }
 
 /// Operands are so many, and none is empty.
 #[test]
 fn operands(rt: HostRuntime) -> Result<(), Fail> {
-    let lines = [
+    static LINES: [(&str, &str); 9] = [
         ("pack a", "pack a b"),
         ("pack a b c", "pack a b"),
         ("unpack a", "unpack a b"),
@@ -142,14 +147,14 @@ fn operands(rt: HostRuntime) -> Result<(), Fail> {
         ("drill", "drill 7"),
         ("drill 7 7", "drill 7"),
     ];
-    expect_lines(&rt, &lines)?;
+    expect_lines(&rt, &LINES)?;
     Ok(())
 }
 
 /// Operands are so many, and none is empty.
 #[test]
 fn more_operands(rt: HostRuntime) -> Result<(), Fail> {
-    let lines = [
+    static LINES: [(&str, &str); 10] = [
         ("list ", "list -"),
         ("pack a  b", "pack a b"),
         ("pack  b", "pack - b"),
@@ -161,14 +166,14 @@ fn more_operands(rt: HostRuntime) -> Result<(), Fail> {
         ("pack -- a b --sums", "pack a b --sums"),
         ("pack -- --sums a b", "pack -- --sums a"),
     ];
-    expect_lines(&rt, &lines)?;
+    expect_lines(&rt, &LINES)?;
     Ok(())
 }
 
 /// A number is 1 to 18 digits in its range.
 #[test]
 fn numbers(rt: HostRuntime) -> Result<(), Fail> {
-    let lines = [
+    static LINES: [(&str, &str); 8] = [
         ("drill 0", "drill 1"),
         ("drill 16385", "drill 16384"),
         ("drill +1", "drill 1"),
@@ -178,14 +183,14 @@ fn numbers(rt: HostRuntime) -> Result<(), Fail> {
         ("drill 1a", "drill 1"),
         ("drill ١", "drill 1"),
     ];
-    expect_lines(&rt, &lines)?;
+    expect_lines(&rt, &LINES)?;
     Ok(())
 }
 
 /// A number is 1 to 18 digits in its range.
 #[test]
 fn more_numbers(rt: HostRuntime) -> Result<(), Fail> {
-    let lines = [
+    static LINES: [(&str, &str); 9] = [
         ("unpack --workers 0 a b", "unpack --workers 1 a b"),
         ("unpack --workers 65 a b", "unpack --workers 64 a b"),
         ("verify --memory 0 a", "verify --memory 1 a"),
@@ -205,14 +210,14 @@ fn more_numbers(rt: HostRuntime) -> Result<(), Fail> {
         ("pack --block 0 a b", "pack --block 1 a b"),
         ("pack --block 32768 a b", "pack --block 32767 a b"),
     ];
-    expect_lines(&rt, &lines)?;
+    expect_lines(&rt, &LINES)?;
     Ok(())
 }
 
 /// A list has 1 to 9 lengths, and a box 1 to 9 ranges.
 #[test]
 fn lists(rt: HostRuntime) -> Result<(), Fail> {
-    let lines = [
+    static LINES: [(&str, &str); 11] = [
         ("pack --tile 0 a b", "pack --tile 1 a b"),
         ("pack --tile 2147483648 a b", "pack --tile 2147483647 a b"),
         ("pack --tile 2, a b", "pack --tile 2,1 a b"),
@@ -228,14 +233,14 @@ fn lists(rt: HostRuntime) -> Result<(), Fail> {
         ("cut --box 2:1 a b", "cut --box 1:2 a b"),
         ("cut --box 0:1 a b", "cut --box 1:1 a b"),
     ];
-    expect_lines(&rt, &lines)?;
+    expect_lines(&rt, &LINES)?;
     Ok(())
 }
 
 /// A list has 1 to 9 lengths, and a box 1 to 9 ranges.
 #[test]
 fn more_lists(rt: HostRuntime) -> Result<(), Fail> {
-    let lines = [
+    static LINES: [(&str, &str); 11] = [
         ("cut --box 1:2147483648 a b", "cut --box 1:2147483647 a b"),
         ("cut --box 1:5:0 a b", "cut --box 1:5:1 a b"),
         (
@@ -254,25 +259,26 @@ fn more_lists(rt: HostRuntime) -> Result<(), Fail> {
             "cut --box 1:1,1:1,1:1,1:1,1:1,1:1,1:1,1:1,1:1 a b",
         ),
     ];
-    expect_lines(&rt, &lines)?;
+    expect_lines(&rt, &LINES)?;
     Ok(())
 }
 
 /// A block is for the codec rice alone.
 #[test]
 fn blocks(rt: HostRuntime) -> Result<(), Fail> {
-    let lines = [
+    static LINES: [(&str, &str); 7] = [
         (
             "pack --codec plio --block 8 a b",
             "pack --codec rice --block 8 a b",
         ),
         ("pack --block 8 --codec none a b", "pack --block 8 a b"),
+        ("retile --block 8 --codec none a b", "retile --block 8 a b"),
         ("pack --block=32 a b --codec=plio", "pack a b --codec=plio"),
         ("pack --codec Rice a b", "pack --codec rice a b"),
         ("pack --codec RICE_1 a b", "pack --codec none a b"),
         ("pack --codec gzip a b", "pack --codec plio a b"),
     ];
-    expect_lines(&rt, &lines)?;
+    expect_lines(&rt, &LINES)?;
     Ok(())
 }
 
@@ -333,6 +339,11 @@ fn packing(rt: HostRuntime) -> Result<(), Fail> {
             "pack --sums a --tile 2,3 --memory=9 b --workers 8 --codec plio",
             on_files(Job::Pack(two_by_three()), 8, 9),
         ),
+        ("retile a b", on_files(Job::Retile(PLAIN), 1, MEMORY)),
+        (
+            "retile --workers=8 a --codec plio b --sums --tile=2,3",
+            on_files(Job::Retile(two_by_three()), 8, MEMORY),
+        ),
         ("unpack a b", on_files(Job::Unpack, 1, MEMORY)),
         (
             "unpack --workers 64 --memory 1 -- a b",
@@ -359,7 +370,7 @@ fn on_file(job: Job, memory: u64) -> Request<'static> {
 }
 
 /// The box from 2 to 5 by 3, from 1 to 1.
-const BOX: Sieve = Sieve {
+static BOX: Sieve = Sieve {
     n: 2,
     lo: [1, 0, 0, 0, 0, 0, 0, 0, 0],
     hi: [4, 0, 0, 0, 0, 0, 0, 0, 0],

@@ -20,10 +20,10 @@ pub(crate) fn expect_lines(
     lines: &[(&str, &str)],
 ) -> Result<(), AllocError> {
     for (refused, taken) in lines {
-        let words = words_of(rt.alloc(), refused)?;
-        assert!(rt; read_words(&words).is_err(), "{refused}");
-        let words = words_of(rt.alloc(), taken)?;
-        assert!(rt; read_words(&words).is_ok(), "{taken}");
+        let wrong = words_of(rt.alloc(), refused)?;
+        let right = words_of(rt.alloc(), taken)?;
+        let are_told_apart = read_words(&wrong).is_err() && read_words(&right).is_ok();
+        assert!(rt; are_told_apart, "{refused} / {taken}");
     }
     Ok(())
 }
@@ -31,7 +31,7 @@ pub(crate) fn expect_lines(
 /// The first word is the command.
 #[test]
 fn first_word(rt: HostRuntime) -> Result<(), Fail> {
-    let lines = [
+    static LINES: [(&str, &str); 11] = [
         ("Unpack IN OUT", "unpack IN OUT"),
         ("CUT --box 1:1 IN OUT", "cut --box 1:1 IN OUT"),
         ("verif IN", "verify IN"),
@@ -44,27 +44,27 @@ fn first_word(rt: HostRuntime) -> Result<(), Fail> {
         ("--memory 1 verify IN", "verify --memory 1 IN"),
         ("-- verify IN", "verify -- IN"),
     ];
-    expect_lines(&rt, &lines)?;
+    expect_lines(&rt, &LINES)?;
     Ok(())
 }
 
 /// Options and operands stand in any order.
 #[test]
 fn order(rt: HostRuntime) -> Result<(), Fail> {
-    let lines = [
+    static LINES: [(&str, &str); 4] = [
         ("pack IN --workers OUT 2", "pack IN --workers 2 OUT"),
         ("unpack --memory IN 5 OUT", "unpack --memory 5 IN OUT"),
         ("cut IN --box OUT 1:1", "cut IN --box 1:1 OUT"),
         ("verify IN --memory", "verify IN --memory 5"),
     ];
-    expect_lines(&rt, &lines)?;
+    expect_lines(&rt, &LINES)?;
     Ok(())
 }
 
 /// An option has its value after it or after an equals sign.
 #[test]
 fn forms_of_values(rt: HostRuntime) -> Result<(), Fail> {
-    let lines = [
+    static LINES: [(&str, &str); 11] = [
         ("pack --codec:rice IN OUT", "pack --codec=rice IN OUT"),
         ("pack --tile IN OUT", "pack --tile 1 IN OUT"),
         ("pack --block 8= IN OUT", "pack --block 8 IN OUT"),
@@ -77,14 +77,14 @@ fn forms_of_values(rt: HostRuntime) -> Result<(), Fail> {
         ("cut --box= 1:1 IN OUT", "cut --box=1:1 IN OUT"),
         ("cut IN OUT --box", "cut IN OUT --box 1:1"),
     ];
-    expect_lines(&rt, &lines)?;
+    expect_lines(&rt, &LINES)?;
     Ok(())
 }
 
 /// Each option stands at most once, and a box has to be given.
 #[test]
 fn repeats(rt: HostRuntime) -> Result<(), Fail> {
-    let lines = [
+    static LINES: [(&str, &str); 10] = [
         ("pack --sums IN --sums OUT", "pack --sums IN OUT"),
         (
             "pack --workers 2 --workers=2 IN OUT",
@@ -111,14 +111,14 @@ fn repeats(rt: HostRuntime) -> Result<(), Fail> {
         ("cut --hdu 1 IN OUT", "cut --hdu 1 --box 1:1 IN OUT"),
         ("cut -- --box=1:1 OUT", "cut --box=1:1 -- --box=1:1 OUT"),
     ];
-    expect_lines(&rt, &lines)?;
+    expect_lines(&rt, &LINES)?;
     Ok(())
 }
 
 /// After the first -- each word is an operand.
 #[test]
 fn words_behind_the_mark(rt: HostRuntime) -> Result<(), Fail> {
-    let lines = [
+    static LINES: [(&str, &str); 6] = [
         (
             "unpack -- IN OUT --workers=2",
             "unpack --workers=2 -- IN OUT",
@@ -129,14 +129,14 @@ fn words_behind_the_mark(rt: HostRuntime) -> Result<(), Fail> {
         ("pack -- -- IN OUT", "pack -- -- IN"),
         ("list --", "list -- -IN"),
     ];
-    expect_lines(&rt, &lines)?;
+    expect_lines(&rt, &LINES)?;
     Ok(())
 }
 
 /// An option is one of the command: those that write a file.
 #[test]
 fn options_where_a_file_is_written(rt: HostRuntime) -> Result<(), Fail> {
-    let lines = [
+    static LINES: [(&str, &str); 12] = [
         ("pack --hdu=1 IN OUT", "pack IN OUT"),
         ("pack --box=1:1 IN OUT", "pack IN OUT"),
         ("unpack --codec=rice IN OUT", "unpack IN OUT"),
@@ -150,14 +150,14 @@ fn options_where_a_file_is_written(rt: HostRuntime) -> Result<(), Fail> {
         ("cut --block=8 --box 1:1 IN OUT", "cut --box 1:1 IN OUT"),
         ("cut --sums --box 1:1 IN OUT", "cut --box 1:1 IN OUT"),
     ];
-    expect_lines(&rt, &lines)?;
+    expect_lines(&rt, &LINES)?;
     Ok(())
 }
 
 /// An option is one of the command: verify has one.
 #[test]
 fn options_of_verify(rt: HostRuntime) -> Result<(), Fail> {
-    let lines = [
+    static LINES: [(&str, &str); 7] = [
         ("verify --codec=rice IN", "verify IN"),
         ("verify --tile=1 IN", "verify IN"),
         ("verify --block=8 IN", "verify IN"),
@@ -166,14 +166,14 @@ fn options_of_verify(rt: HostRuntime) -> Result<(), Fail> {
         ("verify --hdu=1 IN", "verify IN"),
         ("verify --box=1:1 IN", "verify IN"),
     ];
-    expect_lines(&rt, &lines)?;
+    expect_lines(&rt, &LINES)?;
     Ok(())
 }
 
 /// An option is one of the command: list has none.
 #[test]
 fn options_of_list(rt: HostRuntime) -> Result<(), Fail> {
-    let lines = [
+    static LINES: [(&str, &str); 8] = [
         ("list --codec=rice IN", "list IN"),
         ("list --tile=1 IN", "list IN"),
         ("list --block=8 IN", "list IN"),
@@ -183,14 +183,14 @@ fn options_of_list(rt: HostRuntime) -> Result<(), Fail> {
         ("list --hdu=1 IN", "list IN"),
         ("list --box=1:1 IN", "list IN"),
     ];
-    expect_lines(&rt, &lines)?;
+    expect_lines(&rt, &LINES)?;
     Ok(())
 }
 
 /// An option is one of the command: drill has none.
 #[test]
 fn options_of_drill(rt: HostRuntime) -> Result<(), Fail> {
-    let lines = [
+    static LINES: [(&str, &str); 8] = [
         ("drill --codec=rice 1", "drill 1"),
         ("drill --tile=1 1", "drill 1"),
         ("drill --block=8 1", "drill 1"),
@@ -200,14 +200,14 @@ fn options_of_drill(rt: HostRuntime) -> Result<(), Fail> {
         ("drill --hdu=1 1", "drill 1"),
         ("drill --box=1:1 1", "drill 1"),
     ];
-    expect_lines(&rt, &lines)?;
+    expect_lines(&rt, &LINES)?;
     Ok(())
 }
 
 /// A word that begins with - and is longer is an option or outside.
 #[test]
 fn hyphens(rt: HostRuntime) -> Result<(), Fail> {
-    let lines = [
+    static LINES: [(&str, &str); 9] = [
         ("pack -IN OUT", "pack - OUT"),
         ("unpack IN -o", "unpack IN -"),
         ("verify -v", "verify -"),
@@ -218,14 +218,14 @@ fn hyphens(rt: HostRuntime) -> Result<(), Fail> {
         ("unpack --worker 2 IN OUT", "unpack --workers 2 IN OUT"),
         ("cut --BOX 1:1 IN OUT", "cut --box 1:1 IN OUT"),
     ];
-    expect_lines(&rt, &lines)?;
+    expect_lines(&rt, &LINES)?;
     Ok(())
 }
 
 /// The value after an option does not begin with -.
 #[test]
 fn values_with_hyphens(rt: HostRuntime) -> Result<(), Fail> {
-    let lines = [
+    static LINES: [(&str, &str); 8] = [
         ("pack --codec -rice IN OUT", "pack --codec rice IN OUT"),
         ("pack --tile -4 IN OUT", "pack --tile 4 IN OUT"),
         ("pack --block - IN OUT", "pack --block 8 IN OUT"),
@@ -238,14 +238,14 @@ fn values_with_hyphens(rt: HostRuntime) -> Result<(), Fail> {
         ),
         ("verify --memory -- IN", "verify --memory 5 -- IN"),
     ];
-    expect_lines(&rt, &lines)?;
+    expect_lines(&rt, &LINES)?;
     Ok(())
 }
 
 /// The operands are as many as the command has, and none is empty.
 #[test]
 fn two_operands(rt: HostRuntime) -> Result<(), Fail> {
-    let lines = [
+    static LINES: [(&str, &str); 9] = [
         ("pack", "pack IN OUT"),
         ("pack IN OUT MORE", "pack IN OUT"),
         ("unpack", "unpack IN OUT"),
@@ -256,14 +256,14 @@ fn two_operands(rt: HostRuntime) -> Result<(), Fail> {
         ("cut --box 1:1 IN OUT MORE", "cut --box 1:1 IN OUT"),
         ("cut --box 1:1 IN ", "cut --box 1:1 IN OUT"),
     ];
-    expect_lines(&rt, &lines)?;
+    expect_lines(&rt, &LINES)?;
     Ok(())
 }
 
 /// The same where there is one operand.
 #[test]
 fn one_operand(rt: HostRuntime) -> Result<(), Fail> {
-    let lines = [
+    static LINES: [(&str, &str); 8] = [
         ("verify", "verify IN"),
         ("verify IN MORE", "verify IN"),
         ("verify ", "verify IN"),
@@ -273,14 +273,14 @@ fn one_operand(rt: HostRuntime) -> Result<(), Fail> {
         ("drill 1 1", "drill 1"),
         ("drill ", "drill 1"),
     ];
-    expect_lines(&rt, &lines)?;
+    expect_lines(&rt, &LINES)?;
     Ok(())
 }
 
 /// A number is 1 to 18 decimal digits in its range: rows of a drill, and a block.
 #[test]
 fn rows_and_blocks(rt: HostRuntime) -> Result<(), Fail> {
-    let lines = [
+    static LINES: [(&str, &str); 9] = [
         ("drill 00", "drill 01"),
         ("drill 016385", "drill 016384"),
         ("drill 1_000", "drill 1000"),
@@ -291,14 +291,14 @@ fn rows_and_blocks(rt: HostRuntime) -> Result<(), Fail> {
         ("pack --block 032768 IN OUT", "pack --block 032767 IN OUT"),
         ("pack --block 0x8 IN OUT", "pack --block 08 IN OUT"),
     ];
-    expect_lines(&rt, &lines)?;
+    expect_lines(&rt, &LINES)?;
     Ok(())
 }
 
 /// A number is 1 to 18 decimal digits in its range: workers, bytes of memory, and an HDU.
 #[test]
 fn workers_memory_and_hdus(rt: HostRuntime) -> Result<(), Fail> {
-    let lines = [
+    static LINES: [(&str, &str); 12] = [
         ("pack --workers 0 IN OUT", "pack --workers 1 IN OUT"),
         ("pack --workers 65 IN OUT", "pack --workers 64 IN OUT"),
         ("pack --memory 0 IN OUT", "pack --memory 1 IN OUT"),
@@ -336,14 +336,14 @@ fn workers_memory_and_hdus(rt: HostRuntime) -> Result<(), Fail> {
             "verify --memory 1099511627776 IN",
         ),
     ];
-    expect_lines(&rt, &lines)?;
+    expect_lines(&rt, &LINES)?;
     Ok(())
 }
 
 /// A tile is 1 to 9 lengths.
 #[test]
 fn tiles(rt: HostRuntime) -> Result<(), Fail> {
-    let lines = [
+    static LINES: [(&str, &str); 9] = [
         ("pack --tile 00 IN OUT", "pack --tile 01 IN OUT"),
         ("pack --tile 4,0 IN OUT", "pack --tile 4,1 IN OUT"),
         (
@@ -360,14 +360,14 @@ fn tiles(rt: HostRuntime) -> Result<(), Fail> {
             "pack --tile=1,1,1,1,1,1,1,1,1 IN OUT",
         ),
     ];
-    expect_lines(&rt, &lines)?;
+    expect_lines(&rt, &LINES)?;
     Ok(())
 }
 
 /// A range is from its lower end to its upper one.
 #[test]
 fn ranges(rt: HostRuntime) -> Result<(), Fail> {
-    let lines = [
+    static LINES: [(&str, &str); 5] = [
         ("cut --box 3:2 IN OUT", "cut --box 2:3 IN OUT"),
         ("cut --box 0:0 IN OUT", "cut --box 1:1 IN OUT"),
         ("cut --box 1:0 IN OUT", "cut --box 1:01 IN OUT"),
@@ -377,14 +377,14 @@ fn ranges(rt: HostRuntime) -> Result<(), Fail> {
         ),
         ("cut --box 1:5,4:3 IN OUT", "cut --box 1:5,3:4 IN OUT"),
     ];
-    expect_lines(&rt, &lines)?;
+    expect_lines(&rt, &LINES)?;
     Ok(())
 }
 
 /// A range may have a step.
 #[test]
 fn steps(rt: HostRuntime) -> Result<(), Fail> {
-    let lines = [
+    static LINES: [(&str, &str); 7] = [
         ("cut --box 1:5:00 IN OUT", "cut --box 1:5:01 IN OUT"),
         ("cut --box 1:5:-1 IN OUT", "cut --box 1:5:1 IN OUT"),
         ("cut --box 1:5,1:5:0 IN OUT", "cut --box 1:5,1:5:9 IN OUT"),
@@ -396,14 +396,14 @@ fn steps(rt: HostRuntime) -> Result<(), Fail> {
         ("cut --box 1::5 IN OUT", "cut --box 1:5 IN OUT"),
         ("cut --box ::: IN OUT", "cut --box 1:1:1 IN OUT"),
     ];
-    expect_lines(&rt, &lines)?;
+    expect_lines(&rt, &LINES)?;
     Ok(())
 }
 
 /// A box is 1 to 9 ranges.
 #[test]
 fn boxes(rt: HostRuntime) -> Result<(), Fail> {
-    let lines = [
+    static LINES: [(&str, &str); 6] = [
         ("cut --box : IN OUT", "cut --box 1:1 IN OUT"),
         ("cut --box 5 IN OUT", "cut --box 5:5 IN OUT"),
         ("cut --box ,1:1 IN OUT", "cut --box 1:1,1:1 IN OUT"),
@@ -414,14 +414,14 @@ fn boxes(rt: HostRuntime) -> Result<(), Fail> {
             "cut --box=1:1,1:1,1:1,1:1,1:1,1:1,1:1,1:1,1:1:1 IN OUT",
         ),
     ];
-    expect_lines(&rt, &lines)?;
+    expect_lines(&rt, &LINES)?;
     Ok(())
 }
 
 /// A block is for the codec rice alone.
 #[test]
 fn codecs_of_a_block(rt: HostRuntime) -> Result<(), Fail> {
-    let lines = [
+    static LINES: [(&str, &str); 5] = [
         (
             "pack --block 32 --codec none IN OUT",
             "pack --block 32 --codec rice IN OUT",
@@ -437,14 +437,14 @@ fn codecs_of_a_block(rt: HostRuntime) -> Result<(), Fail> {
         ("pack --codec RICE IN OUT", "pack --codec rice IN OUT"),
         ("pack --codec ric IN OUT", "pack --codec plio IN OUT"),
     ];
-    expect_lines(&rt, &lines)?;
+    expect_lines(&rt, &LINES)?;
     Ok(())
 }
 
 /// Words that ask for help are none.
 #[test]
 fn help(rt: HostRuntime) -> Result<(), Fail> {
-    let lines = [
+    static LINES: [(&str, &str); 12] = [
         ("help", "list help"),
         ("--help", "verify -- --help"),
         ("-h", "drill 1"),
@@ -458,6 +458,6 @@ fn help(rt: HostRuntime) -> Result<(), Fail> {
         ("drill --help", "drill 1"),
         ("list IN --version", "list version"),
     ];
-    expect_lines(&rt, &lines)?;
+    expect_lines(&rt, &LINES)?;
     Ok(())
 }

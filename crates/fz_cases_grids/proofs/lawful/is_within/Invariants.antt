@@ -1,5 +1,0 @@
-use Rattle.std.proofs.Common.{ℕ, ◌+◌, ◌<◌, ◌≤◌, get_or}
-use Rattle.fz_cases_grids.proofs.lawful.is_within.Given as goal
-
-abbrev pub invariant-loop-i : goal.invariant-loop-i
-invariant-loop-i l = (k : ℕ) → k < l.i → (1 ≤ get_or l.region.len k 0) × (get_or l.region.lo k 0 + get_or l.region.len k 0 ≤ get_or l.shape.len k 0)

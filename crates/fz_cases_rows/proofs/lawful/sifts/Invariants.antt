@@ -1,0 +1,8 @@
+use Rattle.std.proofs.Common.{ℕ, ◌<◌, ◌≤◌, get_or}
+use Rattle.fz_cases_rows.proofs.lawful.sifts.Given as goal
+
+abbrev pub invariant-loop-i : goal.invariant-loop-i
+invariant-loop-i l =
+    (k : ℕ)
+    → k < l.i
+    → (get_or l.sieve.lo k 0 ≤ get_or l.sieve.hi k 0) × (get_or l.sieve.hi k 0 < get_or l.shape.len k 0) × (1 ≤ get_or l.sieve.step k 0)

@@ -1,6 +1,0 @@
-use Rattle.std.proofs.Common.{true, ◌∙◌}
-use Rattle.fz_cases_window.proofs.pool.put_tiles.Goals as goal
-
-pub loop-i-preserved : goal.loop-i-preserved
-loop-i-preserved c = let before = c.loop-i.invariant in let now = c.put_tile.ensures in let put = now.1 in
-    (put.workers ∙ before.0, put.sizes ∙ before.1, c.put_law.ensures.ready true c.loop-i.i c.loop-i.window c.put_tile.new.window now.0 before.2 put now.2)
