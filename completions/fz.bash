@@ -7,17 +7,18 @@ _fz() {
         return
     fi
     case $command in
-        pack) options='--codec --tile --block --sums --workers --memory' ;;
+        pack | retile) options='--codec --tile --block --sums --workers --memory' ;;
         unpack) options='--workers --memory' ;;
         cut) options='--hdu --box --workers --memory' ;;
         verify) options='--strict --memory' ;;
+        patch) options='--hdu --at --memory' ;;
         *) options= ;;
     esac
     # readline takes = for a word of its own
     [ "$before" != = ] || before=${COMP_WORDS[COMP_CWORD-2]}
     case $before in
         --codec) mapfile -t COMPREPLY < <(compgen -W 'rice plio none' -- "${word#=}"); return ;;
-        --tile | --block | --workers | --memory | --hdu | --box) return ;;
+        --tile | --block | --workers | --memory | --hdu | --box | --at) return ;;
     esac
     case $word in
         -*) mapfile -t COMPREPLY < <(compgen -W "$options" -- "$word") ;;

@@ -88,6 +88,8 @@ FILES = {
     "27.NotPacked": SMALL,
     "28.OutOfBox": grid_stored(),
     "29.PlioOffset": behind_the_last(SMALL, 5, card("BZERO", 32768)),
+    "31.Unpatchable": packed(19, card("ZVAL2", 4)),
+    "32.BadPatch": SMALL,
 }
 
 

@@ -1,5 +1,5 @@
 #!/usr/bin/env python3
-"""run.py FZ FOLDER [pack|unpack|cut|verify|list]: times the jobs of the program FZ on the images of FOLDER, beside fpack, funpack,
+"""run.py FZ FOLDER [pack|unpack|cut|verify|list|retile|patch]: times the jobs of the program FZ on the images of FOLDER, beside fpack, funpack,
 imcopy and cp.
 
 Each time is the least of five runs, which take turns. The most resident memory is that of one run more, by the command time.
@@ -15,6 +15,11 @@ PASSES = 5
 BOXES = ("4951:5050,4951:5050", "1:10000:10,1:10000:10")
 CUT_TILES = ("10000,1", "100,100")
 WORKERS = (1, 2, 4, 16, 32, 64)
+# From which tiles to which an image is packed again, and with how many workers.
+RETILINGS = (("4096,1", "4096,1"), ("4096,1", "256,256"), ("256,256", "4096,1"))
+RETILE_WORKERS = (1, 4, 32)
+# What is put into the large image in squares: as much as is cut out above.
+PATCH_AT, PATCH_BOX = "4951,4951", BOXES[0]
 TIME = "/usr/bin/time"
 # An image, the codec, and what asks fpack for the same, which stores no tiles.
 IMAGES = (
@@ -118,34 +123,94 @@ def cut_all(fz, folder, out):
             time_all(cutting(fz, packed, box, out), size, out)
 
 
-def time_all(rows, size, out):
-    """Times each command and prints its row."""
+def retiling(fz, packed, plain, out, tile):
+    """A packed file packed again in other tiles, beside unpack and then pack, and funpack and then fpack, by way of a plain file."""
+    made = []
+    for it in RETILE_WORKERS:
+        workers = ["--workers", str(it)]
+        name = f"{it} worker{'s' * (it > 1)}"
+        both = [[fz, "unpack", *workers, packed, plain], [fz, "pack", "--tile", tile, *workers, plain, out]]
+        made.append((f"fz retile, {name}", [[fz, "retile", "--tile", tile, *workers, packed, out]]))
+        made.append((f"fz unpack, fz pack, {name}", both))
+    if shutil.which("fpack") and shutil.which("funpack"):
+        both = [["funpack", "-C", "-O", plain, packed], ["fpack", "-C", "-r", "-t", tile, "-O", out, plain]]
+        made.append(("funpack -C, fpack -C", both))
+    return made
+
+
+def retile_all(fz, folder, out):
+    """Counts from rows to rows, from rows to squares and back; MB/s are those of the plain file."""
+    source = f"{folder}/ccd.fits"
+    for old, new in RETILINGS:
+        packed = packed_by([fz, "pack", "--tile", old, source, f"{source}.{old}.fz"], f"{source}.{old}.fz")
+        size = os.path.getsize(source)
+        print(f"retile, ccd.fits, rice, tiles of {old} to {new}, {size / 1e6:.1f} MB")
+        plain = f"{folder}/between.fits"
+        time_all(retiling(fz, packed, plain, out, new), size, out, plain)
+
+
+def patch_all(fz, folder, out):
+    """A patch of a small box of the large image in squares, beside a cutout of that box. Each patch is of a copy, which is not timed."""
+    packed = packed_by([fz, "pack", "--tile", CUT_TILES[1], "--sums", f"{folder}/large.fits", f"{folder}/large.sums.fz"],
+                       f"{folder}/large.sums.fz")
+    given, copy = f"{folder}/given.fits", f"{folder}/patched.fz"
+    remove(given)
+    run([fz, "cut", "--box", PATCH_BOX, packed, given])
+    least = {}
+    for _ in range(PASSES):
+        remove(out)
+        shutil.copyfile(packed, copy)
+        os.sync()
+        for title, words in (("fz patch", [fz, "patch", "--at", PATCH_AT, given, copy]), ("fz cut", [fz, "cut", "--box", PATCH_BOX, packed, out])):
+            seconds = run(words)
+            least[title] = min(seconds, least.get(title, seconds))
+    print(f"patch {PATCH_BOX}, large.fits in tiles of {CUT_TILES[1]}, {os.path.getsize(packed) / 1e6:.1f} MB packed")
+    for title, seconds in least.items():
+        print(f"| {title} | {1000 * seconds:.1f} ms |")
+    remove(copy)
+    remove(out)
+
+
+def steps_of(words):
+    """The commands of a row, which has one or several."""
+    return words if isinstance(words[0], list) else [words]
+
+
+def time_all(rows, size, out, between=None):
+    """Times each row and prints it. If it has several commands, `between` is the file that one leaves for the next."""
     least = {}
     for _ in range(PASSES):
         for title, words in rows:
-            remove(out)
-            seconds = run(words)
+            for it in (out, between):
+                if it:
+                    remove(it)
+            seconds = sum(run(it) for it in steps_of(words))
             least[title] = min(seconds, least.get(title, seconds))
     for title, words in rows:
-        remove(out)
-        memory = peak(words)
+        for it in (out, between):
+            if it:
+                remove(it)
+        memory = ", ".join(peak(it) for it in steps_of(words))
         written = f"{os.path.getsize(out) / 1e6:.2f} MB written" if os.path.exists(out) else "no file"
         print(f"| {title} | {1000 * least[title]:.1f} ms | {size / 1e6 / least[title]:.0f} MB/s | {written} | {memory} resident |")
-    remove(out)
+    for it in (out, between):
+        if it:
+            remove(it)
 
 
 def main():
     fz, folder = os.path.abspath(sys.argv[1]), os.path.abspath(sys.argv[2])
     jobs = {"pack": packing, "unpack": unpacking, "verify": verifying}
-    for job in sys.argv[3:] or (*jobs, "cut", "list"):
+    large = {"cut": cut_all, "retile": retile_all, "patch": patch_all}
+    for job in sys.argv[3:] or (*jobs, *large, "list"):
         if job == "list":
             path = f"{folder}/holes.fits"
             size = os.path.getsize(path)
             print(f"list, holes.fits, {size / 1e6:.1f} MB")
             time_all([("fz list", [fz, "list", path])], size, f"{folder}/out.fits")
             continue
-        if job == "cut":
-            cut_all(fz, folder, f"{folder}/out.fits")
+        if job in large:
+            large[job](fz, folder, f"{folder}/out.fits")
             continue
         # What is unpacked beside verify goes to memory, where there is a folder for that: verify writes nothing.
         out = "/dev/shm/fz_jobs_out.fits" if job == "verify" and os.access("/dev/shm", os.W_OK) else f"{folder}/out.fits"

@@ -231,4 +231,4 @@ def patch(
     given = {"hdu": number, "at": listed(at), "memory": memory}
     with links() as second:
         words: List[programs.Word] = ["patch", *options_of(given), "--", second.to(bytes_of(patch)), second.to(bytes_of(path))]
-        called(diagnose.Call("patch", path, hdu=number), words, program, timeout)
+        called(diagnose.Call("patch", path, hdu=number, patch=patch), words, program, timeout)

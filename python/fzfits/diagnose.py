@@ -41,6 +41,7 @@ class Call:
     tile: Optional[Sequence[int]] = None
     workers: int = 1
     hdu: Optional[int] = None
+    patch: Optional[Name] = None
     codec: str = "rice"
     words: Sequence[str] = field(default=())
 
@@ -150,5 +151,5 @@ def over_limit(outcome: Outcome, call: Call, about: About) -> OverLimit:
     enough = None
     if call.path is not None:
         with contextlib.suppress(OSError):
-            enough = memory.enough(call.path, call.command, tile=call.tile, workers=call.workers, hdu=call.hdu)
+            enough = memory.enough(call.path, call.command, tile=call.tile, workers=call.workers, hdu=call.hdu, patch=call.patch)
     return OverLimit(int(found[1]), int(found[2]), int(found[3]), enough, **about)

@@ -36,11 +36,19 @@ def pixels_of(header: Header, command: str, tile: Optional[Sequence[int]]) -> in
     return packed
 
 
-def enough(path: Name, command: str = "unpack", *, tile: Optional[Sequence[int]] = None, workers: int = 1, hdu: Optional[int] = None) -> Optional[int]:
+def enough(
+    path: Name,
+    command: str = "unpack",
+    *,
+    tile: Optional[Sequence[int]] = None,
+    workers: int = 1,
+    hdu: Optional[int] = None,
+    patch: Optional[Name] = None,
+) -> Optional[int]:
     """A value of `--memory` with which the command does not end with `over limit`, or None if no header of the file can be read.
 
     It is the bound for this file and these options; the job may need less. `verify` and `patch` have one worker. `cut` looks at
-    the headers up to its image only.
+    the headers up to its image only, and `patch` also at the first header of the file `patch`.
     """
     longest = largest = 0
     for it in headers(path):
@@ -51,4 +59,6 @@ def enough(path: Name, command: str = "unpack", *, tile: Optional[Sequence[int]]
             break
     if longest == 0:
         return None
+    if patch is not None:
+        longest = max(longest, next((it.length for it in headers(patch)), 0))
     return bound(longest, largest, 1 if command in ("verify", "patch", "list") else workers)

@@ -3,6 +3,7 @@ import errno
 import os
 import pickle
 import re
+import shutil
 import unittest
 from pathlib import Path
 
@@ -227,6 +228,18 @@ class Limits(InAFolder):
                 call(path, *outs, memory=error.enough, **options)
                 if outs:
                     os.unlink("out")
+
+    def test_a_patch_counts_both_headers(self):
+        shutil.copy(PACKED / "grid.2x2.fits", "file.fz")
+        cards = ["SIMPLE  =                    T", "BITPIX  =                    8", "NAXIS   =                    2"]
+        cards += ["NAXIS1  =                    1", "NAXIS2  =                    1"] + ["COMMENT"] * 200 + ["END"]
+        header = "".join(it.ljust(80) for it in cards).encode()
+        Path("patch.fits").write_bytes(header.ljust(-(-len(header) // 2880) * 2880) + bytes(2880))
+        with self.assertRaises(fzfits.OverLimit) as caught:
+            fzfits.patch("file.fz", "patch.fits", (1, 1), memory=3000)
+        self.assertEqual(caught.exception.enough, memory.enough("file.fz", "patch", patch="patch.fits"))
+        self.assertGreater(caught.exception.enough, memory.enough("file.fz", "patch"))
+        fzfits.patch("file.fz", "patch.fits", (1, 1), memory=caught.exception.enough)
 
     def test_it_is_the_bound_of_the_manual(self):
         self.assertEqual(memory.bound(2880, 4096), 208256)  # in fz.1
