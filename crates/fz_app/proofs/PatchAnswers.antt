@@ -4,7 +4,7 @@ use Rattle.std.proofs.Common.{◌≡◌, ℕ, List, refl, sym, ap, ◌∙◌, su
 use Rattle.std.specs.Prelude.{◌⊎◌, Option, Some, None, Result, Ok, Err, OnOk}
 use Rattle.fz_base.specs.Counts.{Amend, Amended, CountsKept, Rose, Tally, nameless}
 use Rattle.fz_base.specs.Meter.{Gauge, narrowed}
-use Rattle.fz_base.specs.Names.{NamesOnce, with_name}
+use Rattle.fz_base.specs.Names.{with_name}
 use Rattle.fz_base.specs.Stop.{IfRefused}
 use Rattle.fz_base.specs.Store.{StoreKept}
 use Rattle.fz_base.specs.declared.fault.Fault.{Fault}
@@ -16,9 +16,8 @@ use Rattle.fz_patch.specs.Ends.{SameCounts}
 use Rattle.fz_patch.specs.Told.{IfBoth}
 use Rattle.fz_patched.specs.Given.{PatchJob}
 use Rattle.fz_words.specs.PatchJobs.{PatchAsked}
-use Rattle.fz_app.specs.PatchPromises.{OpensBoth, PatchEnds, job_asked, patch_limit}
+use Rattle.fz_app.specs.PatchPromises.{IfOpened, OpensBoth, PatchEnds, PatchNames, job_asked, patch_limit}
 use Rattle.fz_app.proofs.JobAnswers.{on_ok}
-use Rattle.fz_app.proofs.NamesAnswers.{once_more}
 use Rattle.fz_app.proofs.Tallies.{kept_from}
 
 both_always : (held given : Option (List ℕ)) (P : List ℕ → List ℕ → Type 0) → ((file by : List ℕ) → P file by) → IfBoth held given P
@@ -79,24 +78,28 @@ narrow_keeps job held given old memory none = record {
   most = omega arith;
 }
 
--- a name was given at most once
-stopped_name : {X Y : Type 0} (name : List ℕ) (old new : Option (List (List ℕ))) (stop : Stop) → NamesOnce {T = X} name old new (Err stop) → NamesOnce {T = Y} name old new (Err stop)
-stopped_name name old new stop once = record { done = tt; at_most = once.at_most }
+if_opened : (answer : Result (Unit {0}) Stop) (P : Type 0) → P → IfOpened answer P
+if_opened (Ok done) P p = p
+if_opened (Err (StopRefused x)) P p = p
+if_opened (Err StopRead) P p = tt
+if_opened (Err StopWrite) P p = p
+if_opened (Err (StopLimit live asked limit)) P p = p
+if_opened (Err StopMemory) P p = tt
 
 module _ (asked : PatchAsked) (held given : Option (List ℕ)) (store store' patch patch' : Tally) (old : Gauge) where
   -- no answer of the job, nor a refusal, nor a limit that was passed
   abbrev Unopened : Stop → Type 0
   Unopened stop =
       OpensBoth {X = ℕ × ℕ} (nameless store) (nameless store') (nameless patch) (nameless patch') (Err stop) →
-      NamesOnce {T = ℕ × ℕ} asked.file store.names store'.names (Err stop) → NamesOnce {T = ℕ × ℕ} asked.patch patch.names patch'.names (Err stop) → old.live ≡ 0 →
+      PatchNames {X = ℕ × ℕ} asked.file asked.patch store.names store'.names patch.names patch'.names (Err stop) → old.live ≡ 0 →
       PatchEnds asked held held given store store' patch patch' old (narrowed old asked.memory) (Err stop)
 
   same_amended : {r : Result (ℕ × ℕ) Stop} → OpensBoth (nameless store) (nameless store') (nameless patch) (nameless patch') r → store'.amended ≡ store.amended
   same_amended o = o.store_kept.not_amended
 
   pub not_attached : (stop : Stop) → Unopened stop
-  not_attached (StopRefused x) o file by none = absurd o.stop
-  not_attached StopRead o file by none = record {
+  not_attached (StopRefused x) o n none = absurd o.stop
+  not_attached StopRead o n none = record {
     patched = tt;
     safe = same_safe (job_asked asked) held given store.amended.writes store'.amended.writes (ap (λ (a : Amended). a.writes) o.store_kept.not_amended);
     unwritten = record { refused = λ is. absurd cc; late = tt; over_limit = tt };
@@ -113,16 +116,13 @@ module _ (asked : PatchAsked) (held given : Option (List ℕ)) (store store' pat
     first_past = both_always held given _ (λ g p. tt);
     block = λ low. inr (inl refl);
     buffers = narrow_keeps (job_asked asked) held given old asked.memory none;
-    names = record {
-      file_once = record { once = stopped_name asked.file store.names store'.names StopRead file; over_limit = tt };
-      patch_once = record { once = stopped_name asked.patch patch.names patch'.names StopRead by; over_limit = tt };
-    };
+    names = record { in_order = n.in_order; both = tt };
     store_kept = store_kept (nameless store) (nameless store') o.store_kept;
     patch_kept = o.patch_kept;
   }
-  not_attached StopWrite o file by none = absurd o.stop
-  not_attached (StopLimit live asked limit) o file by none = absurd o.stop
-  not_attached StopMemory o file by none = record {
+  not_attached StopWrite o n none = absurd o.stop
+  not_attached (StopLimit live asked limit) o n none = absurd o.stop
+  not_attached StopMemory o n none = record {
     patched = tt;
     safe = same_safe (job_asked asked) held given store.amended.writes store'.amended.writes (ap (λ (a : Amended). a.writes) o.store_kept.not_amended);
     unwritten = record { refused = λ is. absurd cc; late = tt; over_limit = tt };
@@ -136,10 +136,7 @@ module _ (asked : PatchAsked) (held given : Option (List ℕ)) (store store' pat
     first_past = both_always held given _ (λ g p. tt);
     block = λ low. inr (inr refl);
     buffers = narrow_keeps (job_asked asked) held given old asked.memory none;
-    names = record {
-      file_once = record { once = stopped_name asked.file store.names store'.names StopMemory file; over_limit = tt };
-      patch_once = record { once = stopped_name asked.patch patch.names patch'.names StopMemory by; over_limit = tt };
-    };
+    names = record { in_order = n.in_order; both = tt };
     store_kept = store_kept (nameless store) (nameless store') o.store_kept;
     patch_kept = o.patch_kept;
   }
@@ -148,13 +145,13 @@ module _ (asked : PatchAsked) (held given : Option (List ℕ)) (store store' pat
 pub unopened : (asked : PatchAsked) (held held' given : Option (List ℕ)) (store store' patch patch' : Tally) (old new : Gauge) (r : Result (Unit {0}) Stop) (stop : Stop) →
     r ≡ Err stop → held' ≡ held → new ≡ narrowed old asked.memory →
     OpensBoth {X = ℕ × ℕ} (nameless store) (nameless store') (nameless patch) (nameless patch') (Err stop) →
-    NamesOnce {T = ℕ × ℕ} asked.file store.names store'.names (Err stop) → NamesOnce {T = ℕ × ℕ} asked.patch patch.names patch'.names (Err stop) → old.live ≡ 0 →
+    PatchNames {X = ℕ × ℕ} asked.file asked.patch store.names store'.names patch.names patch'.names (Err stop) → old.live ≡ 0 →
     PatchEnds asked held held' given store store' patch patch' old new r
-unopened asked held held' given store store' patch patch' old new r stop is same meter opens file by none =
+unopened asked held held' given store store' patch patch' old new r stop is same meter opens names none =
     subst (λ (h : Option (List ℕ)). PatchEnds asked held h given store store' patch patch' old new r) (sym same)
     (subst (λ (m : Gauge). PatchEnds asked held held given store store' patch patch' old m r) (sym meter)
     (subst (λ (s : Result (Unit {0}) Stop). PatchEnds asked held held given store store' patch patch' old (narrowed old asked.memory) s) (sym is)
-    (not_attached asked held given store store' patch patch' old stop opens file by none)))
+    (not_attached asked held given store store' patch patch' old stop opens names none)))
 
 -- ---- both were attached
 
@@ -226,8 +223,8 @@ module _ (asked : PatchAsked) (held held' given : Option (List ℕ)) (store open
     block = λ low. inl (s.cause.block low).0;
     buffers = s.buffers;
     names = record {
-      file_once = once_more asked.file store.names opened.names store'.names answer file s.counts.0.names_kept;
-      patch_once = once_more asked.patch patch.names opened_patch.names patch'.names answer by s.counts.1.names_kept;
+      in_order = inr (s.counts.0.names_kept ∙ file, inr (s.counts.1.names_kept ∙ by));
+      both = if_opened answer _ (s.counts.0.names_kept ∙ file, s.counts.1.names_kept ∙ by);
     };
     store_kept = subst (λ (t : Tally). StoreKept t (nameless store')) es (store_nameless opened store' s.counts.0);
     patch_kept = kept_from patch opened_patch patch' ep s.counts.1;

@@ -1,7 +1,8 @@
 -- What a run of `patch` promises of FILE, of PATCH, of the text and of its status.
-use Rattle.std.specs.Prelude.{ℕ, ◌≡◌, ◌≢◌, ◌⊎◌, ◌-◌, ◌<◌, ◌≤◌, ◌↔◌, map, List, Option, Some, None, IfSome, Result, Ok, OnOk, IfErr, IsErrOf, ⊤}
+use Rattle.std.specs.Prelude.{ℕ, ◌≡◌, ◌≢◌, ◌⊎◌, ◌-◌, ◌<◌, ◌≤◌, ◌↔◌, map, List, Option, Some, None, IfSome, Result, Ok, Err, OnOk, IfErr, IsErrOf, ⊤}
 use Rattle.fz_base.specs.Counts.{Amend, CountsKept, Rose, Tally, nameless}
 use Rattle.fz_base.specs.Meter.{Gauge, narrowed}
+use Rattle.fz_base.specs.Names.{MayName, with_name}
 use Rattle.fz_base.specs.Stop.{IsRefused, TellsLimit}
 use Rattle.fz_base.specs.Store.{StoreKept}
 use Rattle.fz_base.specs.Takings.{TellsFirstPast}
@@ -18,7 +19,6 @@ use Rattle.fz_patched.specs.Given.{PatchJob, given_by}
 use Rattle.fz_patched.specs.Patched.{IsPatched}
 use Rattle.fz_words.specs.PatchJobs.{PatchAsked, patch_job_of}
 use Rattle.fz_app.specs.Answer.{IfAnswer}
-use Rattle.fz_app.specs.Names.{OpensOnce}
 use Rattle.fz_app.specs.declared.status.Status.{Status}
 use Rattle.fz_app.specs.declared.status.Status.TheVariants.{Different, Usage}
 
@@ -104,10 +104,25 @@ pub record PatchIsBounded (words : List (List ℕ)) (held given : Option (List �
   pub within : new.peak ≤ new.limit
   pub asked : IfPatch words (λ asked. KeepsPatchBuffers (job_asked asked) held given (narrowed old asked.memory) new)
 
--- Names: FILE was opened for writing, and PATCH for reading, each at most once and by no other name; both once after Done.
-pub record PatchNames (file patch : List ℕ) (opened opened' given given' : Option (List (List ℕ))) (answer : Result ⊤ Stop) : Type 0 where
-  pub file_once : OpensOnce file opened opened' answer
-  pub patch_once : OpensOnce patch given given' answer
+-- a fact of every answer that comes only after both files were opened: of any but a read fault and the want of memory
+abbrev pub IfOpened : {X : Type 0} → Result X Stop → Type 0 → Type 0
+IfOpened (Ok x) P = P
+IfOpened (Err (StopRefused x)) P = P
+IfOpened (Err StopRead) P = ⊤
+IfOpened (Err StopWrite) P = P
+IfOpened (Err (StopLimit live asked limit)) P = P
+IfOpened (Err StopMemory) P = ⊤
+
+-- FILE is opened first: if it was not, PATCH was not either
+abbrev pub OpensInOrder : List ℕ → List ℕ → Option (List (List ℕ)) → Option (List (List ℕ)) → Option (List (List ℕ)) → Option (List (List ℕ)) → Type 0
+OpensInOrder file patch opened opened' given given' =
+    ((opened' ≡ opened) × (given' ≡ given)) ⊎ ((opened' ≡ with_name file opened) × MayName patch given given')
+
+-- Names: FILE was opened for writing, and after it PATCH for reading, each at most once and by no other name. Both were opened, whatever the
+-- answer is, but for a read fault and the want of memory: also before FILE or PATCH was rejected.
+pub record PatchNames {X : Type 0} (file patch : List ℕ) (opened opened' given given' : Option (List (List ℕ))) (answer : Result X Stop) : Type 0 where
+  pub in_order : OpensInOrder file patch opened opened' given given'
+  pub both : IfOpened answer ((opened' ≡ with_name file opened) × (given' ≡ with_name patch given))
 
 abbrev pub ArePatchNames : List (List ℕ) → Option (List (List ℕ)) → Option (List (List ℕ)) → Option (List (List ℕ)) → Option (List (List ℕ)) → Status → Type 0
 ArePatchNames words opened opened' given given' status =

@@ -1,7 +1,6 @@
 //! The top call of `patch`.
 ghost use Rattle.std.specs.Prelude.{◌≡◌, ◌≢◌, ◌-◌, Some, IfOk, map, take};
 ghost use Rattle.fz_base.specs.Counts.{nameless};
-ghost use Rattle.fz_base.specs.Names.{NamesOnce};
 ghost use Rattle.fz_base.specs.Told.{StaysTold};
 ghost use Rattle.fz_grid.specs.Region.{lengths_of};
 ghost use Rattle.fz_head.specs.Planned.{IsTile};
@@ -12,7 +11,7 @@ ghost use Rattle.fz_words.specs.Seen.{patch_asked_of};
 ghost use Rattle.fz_app.specs.Answer.{IsPromisedTo};
 ghost use Rattle.fz_app.specs.Lines.{GotLine, status_line};
 ghost use Rattle.fz_app.specs.PatchPromises.{ArePatchCountsKept, ArePatchNames, HasPatchFault, IsLeftSafe, IsPatchComplete, IsPatchUsage};
-ghost use Rattle.fz_app.specs.PatchPromises.{IsPatchedFor, IsReplacedFor, IsUnwrittenFor, OpensBoth, PatchEnds, PatchHasCause, PatchIsBounded};
+ghost use Rattle.fz_app.specs.PatchPromises.{IsPatchedFor, IsReplacedFor, IsUnwrittenFor, OpensBoth, PatchEnds, PatchHasCause, PatchIsBounded, PatchNames};
 ghost use Rattle.fz_app.specs.declared.status.Status.TheVariants.{Different as IsDifferentStatus, Usage as IsUsageStatus};
 
 use crate::run_job::{attach_by_name, report};
@@ -29,8 +28,8 @@ use std::thread::Threads;
 /// file FILE, in place, and answers how that ended. The words are those after the program's name; those of any other
 /// command ask for nothing here.
 ///
-/// FILE is attached to the store, and then PATCH to the source. For each status but Done one line is put to the text at
-/// the end, and nothing else; if that fails, the status stays.
+/// FILE is attached to the store, and then PATCH to the source, before anything is read of either. For each status but
+/// Done one line is put to the text at the end, and nothing else; if that fails, the status stays.
 pub fn run_patch<R: Threads + Sync, S: Source, D: Store, T: Text>(
     rt: &R,
     alloc: Global,
@@ -135,8 +134,8 @@ fn attach_both<S: Source, D: Store>(
 ) -> Result<(u64, u64), Stop>
     ensures attached { IfOk result (λ lengths. (D.attached store.new ≡ Some lengths.0) × (S.attached patch.new ≡ Some lengths.1)) }
     ensures held { (D.held store.new ≡ D.held store.old) × (S.held patch.new ≡ S.held patch.old) }
-    ensures file { NamesOnce request.now.file.now (D.tally store.old).names (D.tally store.new).names result }
-    ensures patch { NamesOnce request.now.patch.now (S.tally patch.old).names (S.tally patch.new).names result }
+    ensures names { PatchNames request.now.file.now request.now.patch.now (D.tally store.old).names (D.tally store.new).names
+        (S.tally patch.old).names (S.tally patch.new).names result }
     ensures cause { OpensBoth (nameless (D.tally store.old)) (nameless (D.tally store.new)) (nameless (S.tally patch.old))
         (nameless (S.tally patch.new)) result }
 {

@@ -11,7 +11,7 @@ use Rattle.fz_app.proofs.patch_words.patch_asked.Goals as goal
 pub returns-in_err-length-clause-ends : goal.returns-in_err-length-clause-ends
 returns-in_err-length-clause-ends g c =
     unopened (patch_asked_of c.args.request.now) _ _ _ _ _ _ _ c.args.meter.now _ c.from_residual.result c.in_err-length.field-0.0 (search rules)
-    c.attach_both.ensures.held.0 c.narrow.ensures c.in_err-length.ensures.cause c.in_err-length.ensures.file c.in_err-length.ensures.patch c.requires.unused.0
+    c.attach_both.ensures.held.0 c.narrow.ensures c.in_err-length.ensures.cause c.in_err-length.ensures.names c.requires.unused.0
 
 pub returns-clause-ends : goal.returns-clause-ends
 returns-clause-ends g c =
@@ -24,7 +24,7 @@ returns-clause-ends g c =
     (g.D.Source.tally c.args.store.now) (g.D.Source.tally c.attach_both.new.store) (g.D.Source.tally c.patch.new.store)
     (g.S.Source.tally c.args.patch.now) (g.S.Source.tally c.attach_both.new.patch) (g.S.Source.tally c.patch.new.patch)
     c.args.meter.now c.patch.new.meter c.patch.result
-    c.in_ok-length.ensures.cause.ok.0 c.in_ok-length.ensures.cause.ok.1 c.in_ok-length.ensures.file.done c.in_ok-length.ensures.patch.done
+    c.in_ok-length.ensures.cause.ok.0 c.in_ok-length.ensures.cause.ok.1 c.in_ok-length.ensures.names.both.0 c.in_ok-length.ensures.names.both.1
     (record {
       patched = rw (held, given, job) at c.patch.ensures.patched;
       safe = rw (held, given, job) at c.patch.ensures.safe;
