@@ -1,19 +1,21 @@
 -- What is promised of the answer to the words of `patch`: what the job says of its files since they were attached, and what holds if one of
 -- them could not be.
 use Rattle.std.proofs.Common.{◌≡◌, ℕ, List, refl, sym, ap, ◌∙◌, subst, arith, inl, inr}
-use Rattle.std.specs.Prelude.{◌⊎◌, Option, Some, None, Result, Ok, Err, OnOk}
+use Rattle.std.specs.Prelude.{◌⊎◌, Option, Some, None, IfSome, IsSome, Result, Ok, Err, OnOk}
 use Rattle.fz_base.specs.Counts.{Amend, Amended, CountsKept, Rose, Tally, nameless}
 use Rattle.fz_base.specs.Meter.{Gauge, narrowed}
 use Rattle.fz_base.specs.Names.{with_name}
 use Rattle.fz_base.specs.Stop.{IfRefused}
 use Rattle.fz_base.specs.Store.{StoreKept}
+use Rattle.fz_base.specs.Takings.{first_past}
 use Rattle.fz_base.specs.declared.fault.Fault.{Fault}
 use Rattle.fz_base.specs.declared.failure.Stop.{Stop}
 use Rattle.fz_base.specs.declared.failure.Stop.TheVariants.{Refused as StopRefused, ReadFault as StopRead, WriteFault as StopWrite, OverLimit as StopLimit, NoMemory as StopMemory}
 use Rattle.fz_job.specs.Clauses.{IfOverLimit, IsChanged, IsOfSomeRow}
-use Rattle.fz_patch.specs.Clauses.{AnswersPatch, HasPatchCause, IsPatchedBy, IsUnwritten, KeepsPatchBuffers, LeavesSafe, TellsPatchFault}
+use Rattle.fz_patch.specs.Clauses.{AnswersPatch, HasPatchCause, IsPatchedBy, IsUnwritten, KeepsPatchBuffers, LeavesSafe, TakingsOfBoth, TellsPatchFault}
 use Rattle.fz_patch.specs.Ends.{SameCounts}
 use Rattle.fz_patch.specs.Told.{IfBoth}
+use Rattle.fz_patched.specs.Buffers.{patch_takings}
 use Rattle.fz_patched.specs.Given.{PatchJob}
 use Rattle.fz_words.specs.PatchJobs.{PatchAsked}
 use Rattle.fz_app.specs.PatchPromises.{IfOpened, OpensBoth, PatchEnds, PatchNames, job_asked, patch_limit}
@@ -102,7 +104,12 @@ module _ (asked : PatchAsked) (held given : Option (List ℕ)) (store store' pat
   not_attached StopRead o n none = record {
     patched = tt;
     safe = same_safe (job_asked asked) held given store.amended.writes store'.amended.writes (ap (λ (a : Amended). a.writes) o.store_kept.not_amended);
-    unwritten = record { refused = λ is. absurd cc; late = tt; over_limit = tt };
+    unwritten = record {
+      refused = λ is. absurd cc;
+      late = tt;
+      past = both_always held given _ (λ g p some. (refl, o.store_kept.not_amended));
+      over_limit = tt;
+    };
     fault = tt;
     answered = λ quiet unwritten still. both_always held given _ (λ g p enough. elim o.stop [
       | inl rose ↦ quiet rose
@@ -125,7 +132,12 @@ module _ (asked : PatchAsked) (held given : Option (List ℕ)) (store store' pat
   not_attached StopMemory o n none = record {
     patched = tt;
     safe = same_safe (job_asked asked) held given store.amended.writes store'.amended.writes (ap (λ (a : Amended). a.writes) o.store_kept.not_amended);
-    unwritten = record { refused = λ is. absurd cc; late = tt; over_limit = tt };
+    unwritten = record {
+      refused = λ is. absurd cc;
+      late = tt;
+      past = both_always held given _ (λ g p some. (refl, o.store_kept.not_amended));
+      over_limit = tt;
+    };
     fault = tt;
     answered = λ quiet unwritten still. both_always held given _ (λ g p enough. tt);
     done = tt;
@@ -159,7 +171,7 @@ unopened asked held held' given store store' patch patch' old new r stop is same
 pub record PatchSays (job : PatchJob) (held held' given : Option (List ℕ)) (store store' patch patch' : Tally) (old new : Gauge) (answer : Result (Unit {0}) Stop) : Type 0 where
   pub patched : OnOk answer (IfBoth held given (IsPatchedBy job held' store.amended.writes store'.amended.writes))
   pub safe : IfBoth held given (LeavesSafe job held' store.amended.writes store'.amended.writes)
-  pub unwritten : IsUnwritten held given ((held' ≡ held) × (store'.amended ≡ store.amended)) answer
+  pub unwritten : IsUnwritten held given old.limit (λ file by. patch_takings file by job) ((held' ≡ held) × (store'.amended ≡ store.amended)) answer
   pub first_fault : TellsPatchFault job held given answer
   pub answered : AnswersPatch job held given store store' patch patch' old.limit answer
   pub cause : HasPatchCause job held given store store' patch patch' old.limit answer
@@ -183,10 +195,13 @@ if_over (Err StopWrite) P Q f is = tt
 if_over (Err (StopLimit live asked limit)) P Q f is = f is
 if_over (Err StopMemory) P Q f is = tt
 
-weaker_unwritten : (held given : Option (List ℕ)) (P Q : Type 0) (answer : Result (Unit {0}) Stop) → (P → Q) → IsUnwritten held given P answer → IsUnwritten held given Q answer
-weaker_unwritten held given P Q answer f u = record {
+weaker_unwritten : (held given : Option (List ℕ)) (limit : ℕ) (takings : TakingsOfBoth) (P Q : Type 0) (answer : Result (Unit {0}) Stop) → (P → Q) →
+    IsUnwritten held given limit takings P answer → IsUnwritten held given limit takings Q answer
+weaker_unwritten held given limit takings P Q answer f u = record {
   refused = λ is. both_weaker held given (λ file by. P) (λ file by. Q) (λ file by. f) (u.refused is);
   late = if_late answer P Q (λ x. IsChanged x ⊎ IsOfSomeRow x) f u.late;
+  past = both_weaker held given (λ g p. IsSome (first_past limit (takings g p)) → P) (λ g p. IsSome (first_past limit (takings g p)) → Q)
+      (λ g p is some. f (is some)) u.past;
   over_limit = if_over answer P Q f u.over_limit;
 }
 
@@ -209,7 +224,8 @@ module _ (asked : PatchAsked) (held held' given : Option (List ℕ)) (store open
   attached file by s = record {
     patched = subst (λ (a : Amended). OnOk answer (IfBoth held given (IsPatchedBy (job_asked asked) held' a.writes store'.amended.writes))) amended_is s.patched;
     safe = subst (λ (a : Amended). IfBoth held given (LeavesSafe (job_asked asked) held' a.writes store'.amended.writes)) amended_is s.safe;
-    unwritten = weaker_unwritten held given ((held' ≡ held) × (store'.amended ≡ opened.amended)) ((held' ≡ held) × (store'.amended ≡ store.amended)) answer
+    unwritten = weaker_unwritten held given (patch_limit asked old) (λ g p. patch_takings g p (job_asked asked))
+        ((held' ≡ held) × (store'.amended ≡ opened.amended)) ((held' ≡ held) × (store'.amended ≡ store.amended)) answer
         (λ same. (same.0, same.1 ∙ amended_is)) s.unwritten;
     fault = s.first_fault;
     answered = subst (λ (t : Tally). AnswersPatch (job_asked asked) held given t (nameless store') (nameless patch) (nameless patch') (patch_limit asked old) answer) es
@@ -229,3 +245,9 @@ module _ (asked : PatchAsked) (held held' given : Option (List ℕ)) (store open
     store_kept = subst (λ (t : Tally). StoreKept t (nameless store')) es (store_nameless opened store' s.counts.0);
     patch_kept = kept_from patch opened_patch patch' ep s.counts.1;
   }
+
+-- ---- what was read
+
+-- a fact of what is asked for
+pub if_asked : (asked : Option PatchAsked) (a : PatchAsked) (P : PatchAsked → Type 0) → asked ≡ Some a → P a → IfSome asked P
+if_asked asked a P is p = subst (λ (o : Option PatchAsked). IfSome o P) (sym is) p

@@ -72,8 +72,10 @@ module _ (held held' given : Option (List ℕ)) (store store' patch patch' : Tal
     pub safe : IsLeftSafe words held given held' store.amended.writes store'.amended.writes
     safe = asked_fact (patch_job_of words) status Ended (λ a. IfBoth held given (LeavesSafe (job_asked a) held' store.amended.writes store'.amended.writes)) (λ a r p. p.safe) promise
 
-    pub unwritten : IsUnwrittenFor words held given ((held' ≡ held) × (store'.amended ≡ store.amended)) status
-    unwritten = of_promise (patch_job_of words) status Ended (λ a r. IsUnwritten held given ((held' ≡ held) × (store'.amended ≡ store.amended)) r) (λ a r p. p.unwritten) promise
+    pub unwritten : IsUnwrittenFor words held given old ((held' ≡ held) × (store'.amended ≡ store.amended)) status
+    unwritten = of_promise (patch_job_of words) status Ended
+        (λ a r. IsUnwritten held given (patch_limit a old) (λ g p. patch_takings g p (job_asked a)) ((held' ≡ held) × (store'.amended ≡ store.amended)) r)
+        (λ a r p. p.unwritten) promise
 
     pub first_fault : HasPatchFault words held given status
     first_fault = of_promise (patch_job_of words) status Ended (λ a r. TellsPatchFault (job_asked a) held given r) (λ a r p. p.fault) promise

@@ -62,10 +62,6 @@ IsReplacedFor words held given held' status =
 abbrev pub IsLeftSafe : List (List ℕ) → Option (List ℕ) → Option (List ℕ) → Option (List ℕ) → Option (List Amend) → Option (List Amend) → Type 0
 IsLeftSafe words held given held' writes writes' = IfPatch words (λ asked. IfBoth held given (LeavesSafe (job_asked asked) held' writes writes'))
 
--- Unwritten: nothing was written if the patch was refused or a buffer would have passed the limit.
-abbrev pub IsUnwrittenFor : List (List ℕ) → Option (List ℕ) → Option (List ℕ) → Type 0 → Status → Type 0
-IsUnwrittenFor words held given Same status = IfPatchRan words status (λ asked answer. IsUnwritten held given Same answer)
-
 -- First fault: after Done the patch has none, and Refused tells it.
 abbrev pub HasPatchFault : List (List ℕ) → Option (List ℕ) → Option (List ℕ) → Status → Type 0
 HasPatchFault words held given status = IfPatchRan words status (λ asked answer. TellsPatchFault (job_asked asked) held given answer)
@@ -73,6 +69,15 @@ HasPatchFault words held given status = IfPatchRan words status (λ asked answer
 -- the limit of the meter after it was narrowed
 abbrev pub patch_limit : PatchAsked → Gauge → ℕ
 patch_limit asked meter = (narrowed meter asked.memory).limit
+
+-- Unwritten: nothing was written if the patch was refused, or if a buffer passes the limit, whatever the status.
+abbrev pub IsUnwrittenFor : List (List ℕ) → Option (List ℕ) → Option (List ℕ) → Gauge → Type 0 → Status → Type 0
+IsUnwrittenFor words held given meter Same status =
+    IfPatchRan words status (λ asked answer. IsUnwritten held given (patch_limit asked meter) (λ file by. patch_takings file by (job_asked asked)) Same answer)
+
+-- Unread: below one block nothing is read of either file, whatever the status.
+abbrev pub IsPatchUnread : List (List ℕ) → Option (List (ℕ × ℕ)) → Option (List (ℕ × ℕ)) → Option (List (ℕ × ℕ)) → Option (List (ℕ × ℕ)) → Gauge → Type 0
+IsPatchUnread words ranges ranges' given given' meter = IfPatch words (λ asked. patch_limit asked meter < 2880 → (ranges' ≡ ranges) × (given' ≡ given))
 
 -- Complete: if no count of faults rose, and the limit is at least the bound of the patch, the status is Done, Refused or NoMemory.
 abbrev pub IsPatchComplete : List (List ℕ) → Option (List ℕ) → Option (List ℕ) → Tally → Tally → Tally → Tally → Gauge → Status → Type 0
@@ -153,7 +158,9 @@ pub record OpensBoth {X : Type 0} (store store' patch patch' : Tally) (result : 
 pub record PatchEnds (asked : PatchAsked) (held held' given : Option (List ℕ)) (store store' patch patch' : Tally) (old new : Gauge) (answer : Result ⊤ Stop) : Type 0 where
   pub patched : OnOk answer (IfBoth held given (IsPatchedBy (job_asked asked) held' store.amended.writes store'.amended.writes))
   pub safe : IfBoth held given (LeavesSafe (job_asked asked) held' store.amended.writes store'.amended.writes)
-  pub unwritten : IsUnwritten held given ((held' ≡ held) × (store'.amended ≡ store.amended)) answer
+  pub unwritten :
+      IsUnwritten held given (patch_limit asked old) (λ file by. patch_takings file by (job_asked asked))
+      ((held' ≡ held) × (store'.amended ≡ store.amended)) answer
   pub fault : TellsPatchFault (job_asked asked) held given answer
   pub answered : AnswersPatch (job_asked asked) held given (nameless store) (nameless store') (nameless patch) (nameless patch') (patch_limit asked old) answer
   pub done : OnOk answer (SameCounts (nameless store) (nameless store') × (nameless patch' ≡ nameless patch))

@@ -1,5 +1,5 @@
 //! The top call of `patch`.
-ghost use Rattle.std.specs.Prelude.{◌≡◌, ◌≢◌, ◌-◌, Some, IfOk, map, take};
+ghost use Rattle.std.specs.Prelude.{◌≡◌, ◌≢◌, ◌-◌, ◌<◌, Some, IfOk, map, take};
 ghost use Rattle.fz_base.specs.Counts.{nameless};
 ghost use Rattle.fz_base.specs.Told.{StaysTold};
 ghost use Rattle.fz_grid.specs.Region.{lengths_of};
@@ -11,7 +11,8 @@ ghost use Rattle.fz_words.specs.Seen.{patch_asked_of};
 ghost use Rattle.fz_app.specs.Answer.{IsPromisedTo};
 ghost use Rattle.fz_app.specs.Lines.{GotLine, status_line};
 ghost use Rattle.fz_app.specs.PatchPromises.{ArePatchCountsKept, ArePatchNames, HasPatchFault, IsLeftSafe, IsPatchComplete, IsPatchUsage};
-ghost use Rattle.fz_app.specs.PatchPromises.{IsPatchedFor, IsReplacedFor, IsUnwrittenFor, OpensBoth, PatchEnds, PatchHasCause, PatchIsBounded, PatchNames};
+ghost use Rattle.fz_app.specs.PatchPromises.{IsPatchUnread, IsPatchedFor, IsReplacedFor, IsUnwrittenFor, OpensBoth, PatchEnds};
+ghost use Rattle.fz_app.specs.PatchPromises.{PatchHasCause, PatchIsBounded, PatchNames, patch_limit};
 ghost use Rattle.fz_app.specs.declared.status.Status.TheVariants.{Different as IsDifferentStatus, Usage as IsUsageStatus};
 
 use crate::run_job::{attach_by_name, report};
@@ -47,8 +48,9 @@ pub fn run_patch<R: Threads + Sync, S: Source, D: Store, T: Text>(
     ensures replaced { IsReplacedFor (texts_of words.now) (D.held store.old) (S.held patch.old) (D.held store.new) result }
     ensures safe { IsLeftSafe (texts_of words.now) (D.held store.old) (S.held patch.old) (D.held store.new)
         (D.tally store.old).amended.writes (D.tally store.new).amended.writes }
-    ensures unwritten { IsUnwrittenFor (texts_of words.now) (D.held store.old) (S.held patch.old)
+    ensures unwritten { IsUnwrittenFor (texts_of words.now) (D.held store.old) (S.held patch.old) meter.old
         ((D.held store.new ≡ D.held store.old) × ((D.tally store.new).amended ≡ (D.tally store.old).amended)) result }
+    ensures unread { IsPatchUnread (texts_of words.now) (D.ranges store.old) (D.ranges store.new) (S.ranges patch.old) (S.ranges patch.new) meter.old }
     ensures first_fault { HasPatchFault (texts_of words.now) (D.held store.old) (S.held patch.old) result }
     ensures complete { IsPatchComplete (texts_of words.now) (D.held store.old) (S.held patch.old) (nameless (D.tally store.old))
         (nameless (D.tally store.new)) (nameless (S.tally patch.old)) (nameless (S.tally patch.new)) meter.old result }
@@ -85,6 +87,7 @@ fn answer_to<R: Threads + Sync, S: Source, D: Store>(
     requires unused { (meter.old.live ≡ 0) × (meter.old.peak ≡ 0) }
     ensures promised { IsPromisedTo (patch_job_of (texts_of words.now)) result (λ asked. PatchEnds asked (D.held store.old) (D.held store.new)
         (S.held patch.old) (D.tally store.old) (D.tally store.new) (S.tally patch.old) (S.tally patch.new) meter.old meter.new) }
+    ensures unread { IsPatchUnread (texts_of words.now) (D.ranges store.old) (D.ranges store.new) (S.ranges patch.old) (S.ranges patch.new) meter.old }
     ensures untouched { result ≡ IsUsageStatus → (store.new ≡ store.old) × (patch.new ≡ patch.old) × (meter.new ≡ meter.old) }
     ensures never_different { result ≢ IsDifferentStatus }
     ensures held { (S.held patch.new ≡ S.held patch.old) × StaysTold (D.held store.old) (D.held store.new) }
@@ -108,6 +111,8 @@ fn patch_asked<R: Threads + Sync, S: Source, D: Store>(
     requires lawful { IsLawfulPatch request.now }
     ensures ends { PatchEnds (patch_asked_of request.now) (D.held store.old) (D.held store.new) (S.held patch.old) (D.tally store.old)
         (D.tally store.new) (S.tally patch.old) (S.tally patch.new) meter.old meter.new result }
+    ensures unread { patch_limit (patch_asked_of request.now) meter.old < 2880
+        → (D.ranges store.new ≡ D.ranges store.old) × (S.ranges patch.new ≡ S.ranges patch.old) }
     ensures held { (S.held patch.new ≡ S.held patch.old) × StaysTold (D.held store.old) (D.held store.new) }
 {
     meter.narrow(request.memory);
@@ -134,6 +139,7 @@ fn attach_both<S: Source, D: Store>(
 ) -> Result<(u64, u64), Stop>
     ensures attached { IfOk result (λ lengths. (D.attached store.new ≡ Some lengths.0) × (S.attached patch.new ≡ Some lengths.1)) }
     ensures held { (D.held store.new ≡ D.held store.old) × (S.held patch.new ≡ S.held patch.old) }
+    ensures ranges { (D.ranges store.new ≡ D.ranges store.old) × (S.ranges patch.new ≡ S.ranges patch.old) }
     ensures names { PatchNames request.now.file.now request.now.patch.now (D.tally store.old).names (D.tally store.new).names
         (S.tally patch.old).names (S.tally patch.new).names result }
     ensures cause { OpensBoth (nameless (D.tally store.old)) (nameless (D.tally store.new)) (nameless (S.tally patch.old))

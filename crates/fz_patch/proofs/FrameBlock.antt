@@ -1,6 +1,6 @@
 -- The call after its first block: the looks at all headers, the header that is read once more, and then the rest.
 use Rattle.std.proofs.Common.{◌≡◌, ◌⊎◌, inl, inr, ℕ, ◌*◌, ◌≤◌, max, List, [], ◌++◌, length, take, drop, Option, Some, None, Result, Ok, Err, refl, sym, ap, ◌∙◌, subst, arith}
-use Rattle.std.specs.Prelude.{IfOk, IfSome, OnOk}
+use Rattle.std.specs.Prelude.{IfOk, IfSome, IsSome, OnOk}
 use Rattle.std.specs.Result.{result_map_both}
 use Rattle.fz_base.specs.Counts.{Amend, CountsKept, Tally}
 use Rattle.fz_base.specs.Refusal.{first_refusal, refusal}
@@ -25,7 +25,7 @@ use Rattle.fz_survey.specs.declared.survey.Survey.{Survey}
 use Rattle.fz_patched.specs.Buffers.{given_takings, second_takings, target_takings}
 use Rattle.fz_patched.specs.Checks.{find_judge, if_all_pass, if_patchable, own_checks, patch_target, wanted_image}
 use Rattle.fz_patched.specs.Given.{PatchJob}
-use Rattle.fz_patch.specs.Clauses.{IsUnwritten, LeavesSafe, TellsPatchFault, later_takings}
+use Rattle.fz_patch.specs.Clauses.{IsUnpassed, IsUnwritten, LeavesSafe, TakingsOfBoth, TellsPatchFault, later_takings}
 use Rattle.fz_patch.specs.Ends.{StoppedWorking, WorksInPlace}
 use Rattle.fz_patch.specs.Jobs.{IsReadAgain, IsWanted}
 use Rattle.fz_patch.specs.Steps.{ComesInWork, KeepsReach}
@@ -42,10 +42,12 @@ use Rattle.fz_patch.proofs.SumCards.{header_long}
 
 -- ---- nothing was written
 
-pub untouched : {X : Type 0} {Same : Type 0} (held given : Option (List ℕ)) (r : Result X Stop) → Same → IsUnwritten held given Same r
-untouched held given r same = record {
+pub untouched : {X : Type 0} {Same : Type 0} (held given : Option (List ℕ)) (limit : ℕ) (takings : TakingsOfBoth) (r : Result X Stop) → Same →
+    IsUnwritten held given limit takings Same r
+untouched held given limit takings r same = record {
   refused = λ refused. if_both held given _ (λ f p is by. same);
   late = if_refused r (λ x. inl same);
+  past = if_both held given _ (λ f p is by some. same);
   over_limit = over_short r same;
 }
 
@@ -261,6 +263,12 @@ read_is (Some f) len h q again =
     let long : 2880 * q.facts.blocks ≡ length q.bytes = sym (header_long q.bytes q.facts again.is_header) in
     (λ j. take (long j) (drop (again.start j) f)) ∙ sym again.bytes
 
+-- nothing was written, or no taking passes the limit: so nothing was written if one does
+unless_passed : (P Q : Type 0) (limit : ℕ) (ts us : List (ℕ × ℕ)) → (P → Q) → (first_past limit ts ≡ None → first_past limit us ≡ None) →
+    IsUnpassed P limit ts → IsSome (first_past limit us) → Q
+unless_passed P Q limit ts us weak none (inl is) some = weak is
+unless_passed P Q limit ts us weak none (inr passed) some = let never : IsSome {T = ℕ × ℕ} None = subst IsSome (none passed) some in absurd cc
+
 module _ (blocks : BlocksFound) (second : PastSecondLaw) (live limit : ℕ) (one : live ≡ 2880) (job : PatchJob) (h : Header) where
   kept_takings : (file patch : List ℕ) → HasFound live limit job.wanted h file →
       target_takings file patch job (wanted_image job.wanted file) ≡ header_taking live (header_blocks_of h.hdu h.start file) ++ given_takings file patch job h (first_refusal (own_checks file h job))
@@ -311,6 +319,16 @@ module _ (blocks : BlocksFound) (second : PastSecondLaw) (live limit : ℕ) (one
       let front : List (ℕ × ℕ) = header_taking live (header_blocks_of h.hdu h.start f) in
       let back : List (ℕ × ℕ) = given_takings f p job h (first_refusal (own_checks f h job)) in
       behind_both {X = X} f p r k (tells_same limit back (front ++ back) r (second limit front back none) here)
+
+  pub past_later : (P Q : Type 0) (held given : Option (List ℕ)) (q : ReadHeader) → (P → Q) → IfSome held (HasFound live limit job.wanted h) →
+      IfSome held (SaysSame h (Ok q)) → IfSome held (λ f. first_past limit (header_taking live (header_blocks_of h.hdu h.start f)) ≡ None) →
+      IfBoth held given (λ f p. IsUnpassed P limit (given_takings f p job q.facts (first_refusal (own_checks f q.facts job)))) →
+      IfBoth held given (λ f p. IsSome (first_past limit (later_takings f p job)) → Q)
+  past_later P Q None given q weak k same none unpassed = tt
+  past_later P Q (Some f) None q weak k same none unpassed = tt
+  past_later P Q (Some f) (Some p) q weak k same none unpassed = λ some.
+      unless_passed P Q limit (given_takings f p job q.facts (first_refusal (own_checks f q.facts job))) (later_takings f p job) weak
+      (λ passed. all_past {X = Unit {0}} (Some f) (Some p) q (Ok tt) k same none passed) unpassed some
 
   high_of : (f p : List ℕ) → HasFound live limit job.wanted h f →
       (highest (first_look f) ≤ highest (later_takings f p job)) × (highest (second_look job.wanted f) ≤ highest (later_takings f p job))
@@ -367,6 +385,22 @@ pub both_weaker : (held given : Option (List ℕ)) (P Q : List ℕ → List ℕ 
 both_weaker None given P Q f all = tt
 both_weaker (Some g) None P Q f all = tt
 both_weaker (Some g) (Some p) P Q f all = f g p all
+
+-- what the rest says of each job: nothing was written, or no taking of its passes the limit
+abbrev pub LeavesUnpassed : Type 0 → ℕ → ℕ → ℕ → List ℕ → Header → List ℕ → List ℕ → Type 0
+LeavesUnpassed P limit live long corner h f p =
+    (any : Option ℕ) → IsWanted any h f → live ≡ long →
+    IsUnpassed P limit (given_takings f p (job_at any corner) h (first_refusal (own_checks f h (job_at any corner))))
+
+-- the same of the job that is wanted
+pub unpassed_here : (P : Type 0) (held held' given : Option (List ℕ)) (limit limit' live long : ℕ) (h : Header) (wanted : Option ℕ) (corner : List ℕ) →
+    held' ≡ held → limit' ≡ limit → live ≡ long → IfSome held (IsWanted wanted h) → IfBoth held' given (LeavesUnpassed P limit' live long corner h) →
+    IfBoth held given (λ f p. IsUnpassed P limit (given_takings f p (job_at wanted corner) h (first_refusal (own_checks f h (job_at wanted corner)))))
+unpassed_here P held held' given limit limit' live long h wanted corner same told room is all =
+    both_weaker held given _ _ (λ f p unpassed. unpassed room)
+    (of_wanted held given h wanted corner (λ job f p. live ≡ long → IsUnpassed P limit (given_takings f p job h (first_refusal (own_checks f h job)))) is
+    (subst (λ (g : Option (List ℕ)). IfBoth g given (LeavesUnpassed P limit live long corner h)) same
+    (subst (λ (n : ℕ). IfBoth held' given (LeavesUnpassed P n live long corner h)) told all)))
 
 pub ok_weaker : {X P Q : Type 0} (r : Result X Stop) → (P → Q) → OnOk r P → OnOk r Q
 ok_weaker (Ok x) f p = f p

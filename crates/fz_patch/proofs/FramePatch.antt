@@ -1,6 +1,6 @@
 -- The whole call, by its first block and by what comes after it: its causes, its buffers, and when it answers.
 use Rattle.std.proofs.Common.{◌≡◌, ◌⊎◌, inl, inr, ℕ, ◌+◌, ◌<◌, ◌≤◌, max, nat_lt, Bool, true, false, List, [], ◌∷◌, length, Option, Some, None, Result, Ok, Err, if◌then◌else◌, refl, sym, ap, ◌∙◌, subst, arith, ltb-false, lt-ltb, le-ltb}
-use Rattle.std.specs.Prelude.{IfErr, IsErrOf, ◌++◌, drop}
+use Rattle.std.specs.Prelude.{IfErr, IsErrOf, IsSome, ◌++◌, drop}
 use Rattle.std.proofs.lemmas.List.{length-append, length-drop, length-take}
 use Rattle.fz_base.specs.Buffer.{refilled}
 use Rattle.fz_base.specs.Counts.{Rose, Tally}
@@ -17,7 +17,7 @@ use Rattle.fz_job.specs.Clauses.{IfOverLimit}
 use Rattle.fz_patched.specs.Buffers.{patch_bound, patch_takings}
 use Rattle.fz_patched.specs.Given.{PatchJob}
 use Rattle.fz_patched.specs.Laws.{PatchIsBounded}
-use Rattle.fz_patch.specs.Clauses.{AnswersPatch, HasPatchCause, IsUnwritten, TellsPatchFault, greatest_patch_bound, later_takings}
+use Rattle.fz_patch.specs.Clauses.{AnswersPatch, HasPatchCause, IsUnwritten, TakingsOfBoth, TellsPatchFault, greatest_patch_bound, later_takings}
 use Rattle.fz_patch.specs.Ends.{SameCounts, StoppedWorking, WorksInPlace}
 use Rattle.fz_patch.specs.Told.{IfBoth}
 use Rattle.fz_patch.proofs.EndsTold.{if_both}
@@ -44,10 +44,12 @@ if_short : (X : Type 0) (P : Fault → Type 0) (short : Short) → IfRefused {X 
 if_short X P NoRoom = tt
 if_short X P (PastLimit live asked limit) = tt
 
-pub short_unwritten : (X : Type 0) {Same : Type 0} (held given : Option (List ℕ)) (short : Short) → Same → IsUnwritten {X = X} held given Same (Err (stop_of_short short))
-short_unwritten X held given short same = record {
+pub short_unwritten : (X : Type 0) {Same : Type 0} (held given : Option (List ℕ)) (limit : ℕ) (takings : TakingsOfBoth) (short : Short) → Same →
+    IsUnwritten {X = X} held given limit takings Same (Err (stop_of_short short))
+short_unwritten X held given limit takings short same = record {
   refused = λ refused. absurd (short_refused {X = X} short refused);
   late = if_short X _ short;
+  past = if_both held given _ (λ f p is by some. same);
   over_limit = over_short {X = X} (Err (stop_of_short short)) same;
 }
 
@@ -130,6 +132,26 @@ cause_after job held given s s' p p' limit r room a most tells = record {
     by_both None given tells = tt
     by_both (Some f) None tells = tt
     by_both (Some f) (Some q) tells = subst (λ ts. TellsFirstPast limit ts r) (sym (all_takings f q job)) (past_front limit (later_takings f q job) r room tells)
+
+-- ---- what was not written
+
+past_after : (Same : Type 0) (job : PatchJob) (held given : Option (List ℕ)) (limit : ℕ) → 2880 ≤ limit →
+    IfBoth held given (λ f q. IsSome (first_past limit (later_takings f q job)) → Same) →
+    IfBoth held given (λ f q. IsSome (first_past limit (patch_takings f q job)) → Same)
+past_after Same job None given limit room past = tt
+past_after Same job (Some f) None limit room past = tt
+past_after Same job (Some f) (Some q) limit room past = λ some.
+    past (subst (λ (o : Option (ℕ × ℕ)). IsSome o) (ap (first_past limit) (all_takings f q job) ∙ front_none limit (later_takings f q job) room) some)
+
+-- the first block is within the limit
+pub unwritten_after : {X : Type 0} (Same : Type 0) (job : PatchJob) (held given : Option (List ℕ)) (limit : ℕ) (r : Result X Stop) → 2880 ≤ limit →
+    IsUnwritten held given limit (λ f q. later_takings f q job) Same r → IsUnwritten held given limit (λ f q. patch_takings f q job) Same r
+unwritten_after Same job held given limit r room u = record {
+  refused = u.refused;
+  late = u.late;
+  past = past_after Same job held given limit room u.past;
+  over_limit = u.over_limit;
+}
 
 -- ---- the answer
 

@@ -1,10 +1,10 @@
 -- What a patch promises.
-use Rattle.std.specs.Prelude.{ℕ, ◌≡◌, ◌⊎◌, ◌<◌, ◌≤◌, ◌^◌, ◌++◌, max, List, Option, Some, None, Result, Ok, Err, OnOk, IsErrOf, ⊤}
+use Rattle.std.specs.Prelude.{ℕ, ◌≡◌, ◌⊎◌, ◌<◌, ◌≤◌, ◌^◌, ◌++◌, max, List, Option, Some, None, IsSome, Result, Ok, Err, OnOk, IsErrOf, ⊤}
 use Rattle.fz_base.specs.Counts.{Amend, Rose, Tally}
 use Rattle.fz_base.specs.JobBuffers.{buffer_bound}
 use Rattle.fz_base.specs.Meter.{Gauge}
 use Rattle.fz_base.specs.Stop.{IfRefused, IsRefused, TellsLimit}
-use Rattle.fz_base.specs.Takings.{TellsFirstPast}
+use Rattle.fz_base.specs.Takings.{TellsFirstPast, first_past}
 use Rattle.fz_base.specs.declared.failure.Stop.{Stop}
 use Rattle.fz_base.specs.declared.failure.Stop.TheVariants.{Refused, ReadFault, WriteFault, OverLimit, NoMemory}
 use Rattle.fz_block.specs.Checks.{headers_of, unjudged}
@@ -52,12 +52,22 @@ pub record StopsAmong (job : PatchJob) (held' : Option (List ℕ)) (writes write
 abbrev pub LeavesSafe : PatchJob → Option (List ℕ) → Option (List Amend) → Option (List Amend) → List ℕ → List ℕ → Type 0
 LeavesSafe job held' writes writes' file patch = ((held' ≡ Some file) × (writes' ≡ writes)) ⊎ StopsAmong job held' writes writes' file patch
 
--- Nothing was written after Refused, if both files show their bytes, nor after OverLimit. If they do not, a refusal after some writes is that of
--- a row, or of an HDU of which FILE gave other bytes than before.
-pub record IsUnwritten {X : Type 0} (held given : Option (List ℕ)) (Same : Type 0) (result : Result X Stop) : Type 0 where
+-- what is taken of a meter, by the bytes of both files
+abbrev pub TakingsOfBoth : Type 0
+TakingsOfBoth = List ℕ → List ℕ → List (ℕ × ℕ)
+
+-- Nothing was written after Refused, if both files show their bytes, nor if one of these takings passes the limit, whatever the answer, nor after
+-- OverLimit. If the files do not show their bytes, a refusal after some writes is that of a row, or of an HDU of which FILE gave other bytes than
+-- before.
+pub record IsUnwritten {X : Type 0} (held given : Option (List ℕ)) (limit : ℕ) (takings : TakingsOfBoth) (Same : Type 0) (result : Result X Stop) : Type 0 where
   pub refused : IsRefused result → IfBoth held given (λ file patch. Same)
   pub late : IfRefused result (λ x. Same ⊎ (IsChanged x ⊎ IsOfSomeRow x))
+  pub past : IfBoth held given (λ file patch. IsSome (first_past limit (takings file patch)) → Same)
   pub over_limit : IfOverLimit result Same
+
+-- nothing was written, or none of these takings passes the limit
+abbrev pub IsUnpassed : Type 0 → ℕ → List (ℕ × ℕ) → Type 0
+IsUnpassed Same limit takings = Same ⊎ (first_past limit takings ≡ None)
 
 -- the greatest bound of a patch, whatever the files are
 abbrev pub greatest_patch_bound : ℕ

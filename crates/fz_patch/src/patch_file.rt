@@ -15,10 +15,10 @@ ghost use Rattle.fz_files.specs.Restored.{header_in, pixels_of};
 ghost use Rattle.fz_head.specs.WorkBuffers.{work_buffers};
 ghost use Rattle.fz_job.specs.Clauses.{IfOverLimit};
 ghost use Rattle.fz_job.specs.Keeps.{SourceStays};
-ghost use Rattle.fz_patched.specs.Buffers.{given_takings};
+ghost use Rattle.fz_patched.specs.Buffers.{given_takings, patch_takings};
 ghost use Rattle.fz_patched.specs.Checks.{own_checks};
 ghost use Rattle.fz_patch.specs.Clauses.{AnswersPatch, HasPatchCause, IsPatchedBy, IsUnwritten, KeepsPatchBuffers, LeavesSafe, TellsPatchFault};
-ghost use Rattle.fz_patch.specs.Clauses.{greatest_patch_bound, later_takings};
+ghost use Rattle.fz_patch.specs.Clauses.{IsUnpassed, greatest_patch_bound, later_takings};
 ghost use Rattle.fz_patch.specs.Ends.{WorksInPlace};
 ghost use Rattle.fz_patch.specs.Jobs.{ForJobs, IsWanted, IsReadAgain};
 ghost use Rattle.fz_patch.specs.Steps.{ComesInWork, KeepsReach};
@@ -70,8 +70,10 @@ pub fn patch<R: Threads + Sync, D: Store, S: Source>(
     // Whatever the answer is, only writes of the patch were made, in their order; and after each of them the file is safe.
     ensures safe { IfBoth (D.held store.old) (S.held patch.old)
         (LeavesSafe (job_at hdu corner.now) (D.held store.new) (D.tally store.old).amended.writes (D.tally store.new).amended.writes) }
-    ensures unwritten { IsUnwritten (D.held store.old) (S.held patch.old)
+    // Nothing was written if a buffer passes the limit, whatever the answer, and nothing was read below one block.
+    ensures unwritten { IsUnwritten (D.held store.old) (S.held patch.old) meter.old.limit (λ g p. patch_takings g p (job_at hdu corner.now))
         ((D.held store.new ≡ D.held store.old) × ((D.tally store.new).amended ≡ (D.tally store.old).amended)) result }
+    ensures unread { meter.old.limit < 2880 → (D.ranges store.new ≡ D.ranges store.old) × (S.ranges patch.new ≡ S.ranges patch.old) }
     ensures first_fault { TellsPatchFault (job_at hdu corner.now) (D.held store.old) (S.held patch.old) result }
     // If no count of faults rose and the limit is at least the bound, only the first fault decides.
     ensures answered { AnswersPatch (job_at hdu corner.now) (D.held store.old) (S.held patch.old) (D.tally store.old) (D.tally store.new)
@@ -126,7 +128,7 @@ fn with_block<R: Threads + Sync, D: Store, S: Source>(
         (IsPatchedBy (job_at hdu corner.now) (D.held store.new) (D.tally store.old).amended.writes (D.tally store.new).amended.writes)) }
     ensures safe { IfBoth (D.held store.old) (S.held patch.old)
         (LeavesSafe (job_at hdu corner.now) (D.held store.new) (D.tally store.old).amended.writes (D.tally store.new).amended.writes) }
-    ensures unwritten { IsUnwritten (D.held store.old) (S.held patch.old)
+    ensures unwritten { IsUnwritten (D.held store.old) (S.held patch.old) meter.old.limit (λ g p. later_takings g p (job_at hdu corner.now))
         ((D.held store.new ≡ D.held store.old) × ((D.tally store.new).amended ≡ (D.tally store.old).amended)) result }
     ensures first_fault { TellsPatchFault (job_at hdu corner.now) (D.held store.old) (S.held patch.old) result }
     ensures first_past { IfBoth (D.held store.old) (S.held patch.old)
@@ -230,6 +232,11 @@ fn with_header<R: Threads + Sync, D: Store, S: Source>(
         → LeavesSafe (job_at wanted corner.now) (D.held store.new) (D.tally store.old).amended.writes (D.tally store.new).amended.writes g p) }
     ensures unwritten { IsRefused result → IfBoth (D.held store.old) (S.held patch.old) (λ g p. (wanted : Option ℕ) → IsWanted wanted header.now g
         → (D.held store.new ≡ D.held store.old) × (D.tally store.new ≡ D.tally store.old)) }
+    ensures unpassed { IfBoth (D.held store.old) (S.held patch.old) (λ g p. (wanted : Option ℕ) → IsWanted wanted header.now g
+        → meter.old.live ≡ 2880 + len buf.old
+        → IsUnpassed ((D.held store.new ≡ D.held store.old) × (D.tally store.new ≡ D.tally store.old)) meter.old.limit
+        (given_takings g p (job_at wanted corner.now) header.now
+        (first_refusal (own_checks g header.now (job_at wanted corner.now))))) }
     ensures over_limit { IfOverLimit result ((D.held store.new ≡ D.held store.old) × (D.tally store.new ≡ D.tally store.old)) }
     ensures first_fault { IfBoth (D.held store.old) (S.held patch.old) (λ g p. (wanted : Option ℕ) → IsWanted wanted header.now g
         → TellsPatchFault (job_at wanted corner.now) (Some g) (Some p) result) }
@@ -295,6 +302,8 @@ fn work<R: Threads + Sync, D: Store, S: Source>(
         (λ job file by. TellsPatchFault job (Some file) (Some by) result) }
     ensures unwritten { IsRefused result → ForJobs (D.held store.old) (S.held patch.old) target.now
         (λ job file by. (D.held store.new ≡ D.held store.old) × (D.tally store.new ≡ D.tally store.old)) }
+    ensures unpassed { IsUnpassed ((D.held store.new ≡ D.held store.old) × (D.tally store.new ≡ D.tally store.old)) meter.old.limit
+        (piled meter.old.live (work_buffers 0 false (Some (pixels_of target.now.image.plan 0)) 1)) }
     ensures over_limit { IfOverLimit result ((D.held store.new ≡ D.held store.old) × (D.tally store.new ≡ D.tally store.old)) }
     ensures first_past { TellsFirstPast meter.old.limit
         (piled meter.old.live (work_buffers 0 false (Some (pixels_of target.now.image.plan 0)) 1)) result }

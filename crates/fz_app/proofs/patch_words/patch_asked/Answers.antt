@@ -1,7 +1,7 @@
 -- What `patch` says of both files since they were attached, and of the meter that was narrowed, it says of them as they were before.
-use Rattle.std.proofs.Common.{◌≡◌, rules, take}
+use Rattle.std.proofs.Common.{◌≡◌, ◌<◌, rules, subst, sym, ◌∙◌, take}
 use Rattle.fz_patch.specs.Targets.{job_at}
-use Rattle.fz_base.specs.Meter.{narrowed}
+use Rattle.fz_base.specs.Meter.{Gauge, narrowed}
 use Rattle.fz_words.specs.PatchJobs.{PatchAsked}
 use Rattle.fz_words.specs.Seen.{patch_asked_of}
 use Rattle.fz_app.specs.PatchPromises.{job_asked}
@@ -28,10 +28,18 @@ returns-clause-ends g c =
     (record {
       patched = rw (held, given, job) at c.patch.ensures.patched;
       safe = rw (held, given, job) at c.patch.ensures.safe;
-      unwritten = rw (held, given) at c.patch.ensures.unwritten;
+      unwritten = rw (held, given, job, meter) at c.patch.ensures.unwritten;
       first_fault = rw (held, given, job) at c.patch.ensures.first_fault;
       answered = rw (held, given, job, meter) at c.patch.ensures.answered;
       cause = rw (held, given, job, meter) at c.patch.ensures.cause;
       buffers = rw (held, given, job, meter) at c.patch.ensures.buffers;
       counts = c.patch.ensures.counts;
     })
+
+pub returns-in_err-length-clause-unread : goal.returns-in_err-length-clause-unread
+returns-in_err-length-clause-unread g c = λ low. c.attach_both.ensures.ranges
+
+pub returns-clause-unread : goal.returns-clause-unread
+returns-clause-unread g c = λ low.
+    let unread = c.patch.ensures.unread (subst (λ (m : Gauge). m.limit < 2880) (sym c.narrow.ensures) low) in
+    (unread.0 ∙ c.attach_both.ensures.ranges.0, unread.1 ∙ c.attach_both.ensures.ranges.1)

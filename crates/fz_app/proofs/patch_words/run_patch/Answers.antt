@@ -19,6 +19,9 @@ returns-clause-safe g c = runs.safe _ _ _ _ _ _ _ _ _ (texts_of c.args.words.now
 pub returns-clause-unwritten : goal.returns-clause-unwritten
 returns-clause-unwritten g c = runs.unwritten _ _ _ _ _ _ _ _ _ (texts_of c.args.words.now) c.answer_to-status.result c.answer_to-status.ensures.promised
 
+pub returns-clause-unread : goal.returns-clause-unread
+returns-clause-unread g c = c.answer_to-status.ensures.unread
+
 pub returns-clause-first_fault : goal.returns-clause-first_fault
 returns-clause-first_fault g c = runs.first_fault _ _ _ _ _ _ _ _ _ (texts_of c.args.words.now) c.answer_to-status.result c.answer_to-status.ensures.promised
 

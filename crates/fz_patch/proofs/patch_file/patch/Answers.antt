@@ -9,12 +9,14 @@ use Rattle.fz_base.specs.Takings.{TellsFirstPast, highest}
 use Rattle.fz_base.specs.declared.failure.Stop.{Stop}
 use Rattle.fz_patch.specs.Clauses.{HasPatchCause, IsUnwritten, TellsPatchFault, greatest_patch_bound, later_takings}
 use Rattle.fz_patch.specs.Ends.{WorksInPlace}
+use Rattle.fz_patched.specs.Buffers.{patch_takings}
 use Rattle.fz_patch.specs.Targets.{job_at}
 use Rattle.fz_patch.specs.Told.{IfBoth}
 use Rattle.fz_patch.proofs.Amended.{kept-same}
 use Rattle.fz_patch.proofs.EndsJoined.{counts_same}
 use Rattle.fz_patch.proofs.EndsTold.{if_both}
-use Rattle.fz_patch.proofs.FramePatch.{answers, bound_block, cause_after, first_short, peak_after, peak_stays, refilled_len, short_untold, short_unwritten}
+use Rattle.fz_patch.proofs.FramePatch.{answers, bound_block, cause_after, first_short, peak_after, peak_stays, refilled_len}
+use Rattle.fz_patch.proofs.FramePatch.{short_untold, short_unwritten, unwritten_after}
 use Rattle.fz_patch.proofs.patch_file.patch.Goals as goal
 
 pub returns-in_err-block-clause-safe : goal.returns-in_err-block-clause-safe
@@ -22,10 +24,17 @@ returns-in_err-block-clause-safe g c = if_both (g.D.Source.held c.args.store.now
 
 pub returns-in_err-block-clause-unwritten : goal.returns-in_err-block-clause-unwritten
 returns-in_err-block-clause-unwritten g c =
+    let job = job_at c.args.hdu c.args.corner.now in
     let held : Option (List ℕ) = g.D.Source.held c.args.store.now in
     let given : Option (List ℕ) = g.S.Source.held c.args.patch.now in
+    let s : Tally = g.D.Source.tally c.args.store.now in
+    let limit : ℕ = c.args.meter.now.limit in
     let stopped : c.from_residual.result ≡ Err (stop_of_short c.in_err-block.field-0.0) = search rules in
-    subst (λ (r : Result (Unit {0}) Stop). IsUnwritten held given ((held ≡ held) × ((g.D.Source.tally c.args.store.now).amended ≡ (g.D.Source.tally c.args.store.now).amended)) r) (sym stopped) (short_unwritten (Unit {0}) held given c.in_err-block.field-0.0 (refl, refl))
+    subst (λ (r : Result (Unit {0}) Stop). IsUnwritten held given limit (λ f q. patch_takings f q job) ((held ≡ held) × (s.amended ≡ s.amended)) r)
+    (sym stopped) (short_unwritten (Unit {0}) held given limit (λ f q. patch_takings f q job) c.in_err-block.field-0.0 (refl, refl))
+
+pub returns-in_err-block-clause-unread : goal.returns-in_err-block-clause-unread
+returns-in_err-block-clause-unread g c = λ low. (refl, refl)
 
 pub returns-in_err-block-clause-first_fault : goal.returns-in_err-block-clause-first_fault
 returns-in_err-block-clause-first_fault g c =
@@ -64,6 +73,24 @@ returns-in_err-block-clause-buffers g c =
 
 pub returns-in_err-block-clause-counts : goal.returns-in_err-block-clause-counts
 returns-in_err-block-clause-counts g c = (kept-same _, counts_same _ _ refl)
+
+pub returns-clause-unwritten : goal.returns-clause-unwritten
+returns-clause-unwritten g c =
+    let job = job_at c.args.hdu c.args.corner.now in
+    let held : Option (List ℕ) = g.D.Source.held c.args.store.now in
+    let given : Option (List ℕ) = g.S.Source.held c.args.patch.now in
+    let s : Tally = g.D.Source.tally c.args.store.now in
+    let s' : Tally = g.D.Source.tally c.with_block-answer.new.store in
+    let limit : ℕ = c.args.meter.now.limit in
+    let same : c.bytes.new.self.limit ≡ limit = ap (λ (m : Gauge). m.limit) c.in_ok-block.ensures.taken.1 in
+    let room : 2880 ≤ limit = omega (arith, c.in_ok-block.ensures.taken.0, c.requires.nothing_live) in
+    let later : IsUnwritten held given limit (λ f q. later_takings f q job)
+        ((g.D.Source.held c.with_block-answer.new.store ≡ held) × (s'.amended ≡ s.amended)) c.with_block-answer.result =
+    rw same at c.with_block-answer.ensures.unwritten in
+    unwritten_after _ job held given limit c.with_block-answer.result room later
+
+pub returns-clause-unread : goal.returns-clause-unread
+returns-clause-unread g c = λ low. absurd (omega (arith, low, c.in_ok-block.ensures.taken.0, c.requires.nothing_live))
 
 pub returns-clause-cause : goal.returns-clause-cause
 returns-clause-cause g c =

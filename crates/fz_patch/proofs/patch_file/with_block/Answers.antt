@@ -26,6 +26,7 @@ use Rattle.fz_patch.specs.Targets.{job_at}
 use Rattle.fz_patch.specs.Told.{IfBoth}
 use Rattle.fz_patch.proofs.EndsJoined.{refused_weaker}
 use Rattle.fz_patch.proofs.FrameBlock.{HasFound, HasLooked, SaysSame, again_high, again_past, again_told, all_high, all_past, amend_high, amend_past, amend_told, both_weaker, either_way, every_high, every_past, every_told, found, in_work, looked, of_wanted, ok_weaker, over_weaker, reach_same, read_is, still_amended, store_works, told_both, untouched, untouched_safe, wanted_of}
+use Rattle.fz_patch.proofs.FrameBlock.{past_later, unpassed_here}
 use Rattle.fz_patch.proofs.FrameHeader.{bound_headers, stop_limit}
 use Rattle.fz_patch.proofs.FramePatch.{refilled_len}
 use Rattle.fz_patch.proofs.patch_file.with_block.Goals as goal
@@ -42,7 +43,7 @@ pub returns-in_err-survey_every-clause-unwritten : goal.returns-in_err-survey_ev
 returns-in_err-survey_every-clause-unwritten g c =
     let held : g.D.Source.held c.survey_every.new.source ≡ g.D.Source.held c.args.store.now = search rules in
     let amended : (g.D.Source.tally c.survey_every.new.source).amended ≡ (g.D.Source.tally c.args.store.now).amended = still_amended (g.D.Source.tally c.args.store.now) (g.D.Source.tally c.args.store.now) (g.D.Source.tally c.survey_every.new.source) refl c.in_err-survey_every.ensures.cause.kept in
-    untouched (g.D.Source.held c.args.store.now) (g.S.Source.held c.args.patch.now) c.from_residual.result (held, amended)
+    untouched (g.D.Source.held c.args.store.now) (g.S.Source.held c.args.patch.now) _ _ c.from_residual.result (held, amended)
 
 pub returns-in_err-survey_every-clause-reach : goal.returns-in_err-survey_every-clause-reach
 returns-in_err-survey_every-clause-reach g c =
@@ -98,7 +99,7 @@ pub returns-in_err-found-clause-unwritten : goal.returns-in_err-found-clause-unw
 returns-in_err-found-clause-unwritten g c =
     let held : g.D.Source.held c.survey_to_amend.new.source ≡ g.D.Source.held c.args.store.now = search rules in
     let amended : (g.D.Source.tally c.survey_to_amend.new.source).amended ≡ (g.D.Source.tally c.args.store.now).amended = still_amended (g.D.Source.tally c.args.store.now) (g.D.Source.tally c.survey_every.new.source) (g.D.Source.tally c.survey_to_amend.new.source) c.in_ok-survey_every.ensures.cause.ok c.in_err-found.ensures.cause.kept in
-    untouched (g.D.Source.held c.args.store.now) (g.S.Source.held c.args.patch.now) c.from_residual-in_err-found.result (held, amended)
+    untouched (g.D.Source.held c.args.store.now) (g.S.Source.held c.args.patch.now) _ _ c.from_residual-in_err-found.result (held, amended)
 
 pub returns-in_err-found-clause-reach : goal.returns-in_err-found-clause-reach
 returns-in_err-found-clause-reach g c =
@@ -179,7 +180,7 @@ pub returns-in_err-kept-clause-unwritten : goal.returns-in_err-kept-clause-unwri
 returns-in_err-kept-clause-unwritten g c =
     let held : g.D.Source.held c.read_again.new.store ≡ g.D.Source.held c.args.store.now = search rules in
     let amended : (g.D.Source.tally c.read_again.new.store).amended ≡ (g.D.Source.tally c.args.store.now).amended = still_amended (g.D.Source.tally c.args.store.now) (g.D.Source.tally c.survey_to_amend.new.source) (g.D.Source.tally c.read_again.new.store) (c.in_ok-found.ensures.cause.ok ∙ c.in_ok-survey_every.ensures.cause.ok) c.in_err-kept.ensures.cause.kept in
-    untouched (g.D.Source.held c.args.store.now) (g.S.Source.held c.args.patch.now) c.from_residual-in_err-kept.result (held, amended)
+    untouched (g.D.Source.held c.args.store.now) (g.S.Source.held c.args.patch.now) _ _ c.from_residual-in_err-kept.result (held, amended)
 
 pub returns-in_err-kept-clause-reach : goal.returns-in_err-kept-clause-reach
 returns-in_err-kept-clause-reach g c =
@@ -336,12 +337,27 @@ returns-clause-unwritten g c =
     let held3 : g.D.Source.held c.read_again.new.store ≡ g.D.Source.held c.args.store.now = search rules in
     let tally : g.D.Source.tally c.read_again.new.store ≡ g.D.Source.tally c.args.store.now = c.in_ok-kept.ensures.cause.ok ∙ c.in_ok-found.ensures.cause.ok ∙ c.in_ok-survey_every.ensures.cause.ok in
     let writes : (g.D.Source.tally c.read_again.new.store).amended.writes ≡ (g.D.Source.tally c.args.store.now).amended.writes = ap (λ (t : Tally). t.amended.writes) tally in
+    let took : c.read_again.new.meter ≡ taken c.survey_to_amend.new.meter (length c.in_ok-kept.kept.bytes) = c.in_ok-kept.ensures.taken.1 in
+    let live3 : c.read_again.new.meter.live ≡ 2880 + length c.in_ok-kept.kept.bytes =
+    ap (λ (m : Gauge). m.live) took ∙ ap (λ n. n + length c.in_ok-kept.kept.bytes) (live2 ∙ c.requires.one_block) in
+    let live4 : c.read_again.new.meter.live ≡ 2880 + length c.as_mut_slice.result.now = live3 ∙ ap (λ l. 2880 + length l) (sym c.as_mut_slice.ensures.value) in
+    let limit3 : c.read_again.new.meter.limit ≡ c.args.meter.now.limit = ap (λ (m : Gauge). m.limit) took ∙ limit2 in
+    let none3 : IfSome (g.D.Source.held c.args.store.now)
+        (λ f. first_past c.args.meter.now.limit
+        (header_taking c.args.meter.now.live (header_blocks_of c.in_ok-found.found.hdu c.in_ok-found.found.start f)) ≡ None) =
+    rw (held2, live2, limit2) at c.in_ok-kept.ensures.first_past in
     let weak : (g.D.Source.held c.with_header-answer.new.store ≡ g.D.Source.held c.read_again.new.store) × (g.D.Source.tally c.with_header-answer.new.store ≡ g.D.Source.tally c.read_again.new.store) → (g.D.Source.held c.with_header-answer.new.store ≡ g.D.Source.held c.args.store.now) × ((g.D.Source.tally c.with_header-answer.new.store).amended ≡ (g.D.Source.tally c.args.store.now).amended) = λ same. (same.0 ∙ held3, ap (λ (t : Tally). t.amended) (same.1 ∙ tally)) in
     record {
       refused = λ refused.
           let all : IfBoth (g.D.Source.held c.args.store.now) (g.S.Source.held c.args.patch.now) (λ f p. (any : Option ℕ) → IsWanted any c.in_ok-kept.kept.facts f → (g.D.Source.held c.with_header-answer.new.store ≡ g.D.Source.held c.read_again.new.store) × (g.D.Source.tally c.with_header-answer.new.store ≡ g.D.Source.tally c.read_again.new.store)) = subst (λ (h : Option (List ℕ)). IfBoth h (g.S.Source.held c.args.patch.now) (λ f p. (any : Option ℕ) → IsWanted any c.in_ok-kept.kept.facts f → (g.D.Source.held c.with_header-answer.new.store ≡ g.D.Source.held c.read_again.new.store) × (g.D.Source.tally c.with_header-answer.new.store ≡ g.D.Source.tally c.read_again.new.store))) held3 (c.with_header-answer.ensures.unwritten refused) in
           both_weaker (g.D.Source.held c.args.store.now) (g.S.Source.held c.args.patch.now) _ _ (λ f p. weak) (of_wanted (g.D.Source.held c.args.store.now) (g.S.Source.held c.args.patch.now) c.in_ok-kept.kept.facts c.args.hdu c.args.corner.now (λ job f p. (g.D.Source.held c.with_header-answer.new.store ≡ g.D.Source.held c.read_again.new.store) × (g.D.Source.tally c.with_header-answer.new.store ≡ g.D.Source.tally c.read_again.new.store)) wanted all);
       late = refused_weaker c.with_header-answer.result (λ x came. either_way weak (in_work c.in_ok-kept.kept.facts.hdu x) came) c.with_header-answer.ensures.late;
+      past = past_later c.hdu_at_law.ensures.blocks c.takings_law.ensures.second c.args.meter.now.live c.args.meter.now.limit c.requires.one_block
+          (job_at c.args.hdu c.args.corner.now) c.in_ok-found.found _ _ (g.D.Source.held c.args.store.now) (g.S.Source.held c.args.patch.now) c.in_ok-kept.kept
+          weak known same3 none3
+          (unpassed_here _ (g.D.Source.held c.args.store.now) (g.D.Source.held c.read_again.new.store) (g.S.Source.held c.args.patch.now)
+          c.args.meter.now.limit c.read_again.new.meter.limit c.read_again.new.meter.live (2880 + length c.as_mut_slice.result.now) c.in_ok-kept.kept.facts
+          c.args.hdu c.args.corner.now held3 limit3 live4 wanted c.with_header-answer.ensures.unpassed);
       over_limit = over_weaker c.with_header-answer.result weak c.with_header-answer.ensures.over_limit;
     }
 

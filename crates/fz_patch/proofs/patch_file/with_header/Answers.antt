@@ -13,12 +13,13 @@ use Rattle.fz_files.specs.Restored.{header_in, pixels_of}
 use Rattle.fz_head.specs.WorkBuffers.{work_buffers}
 use Rattle.fz_patched.specs.Buffers.{given_takings}
 use Rattle.fz_patched.specs.Checks.{if_patchable, own_checks, patch_target}
-use Rattle.fz_patch.specs.Clauses.{IsPatchedBy, LeavesSafe, TellsPatchFault, greatest_patch_bound}
+use Rattle.fz_patch.specs.Clauses.{IsPatchedBy, IsUnpassed, LeavesSafe, TellsPatchFault, greatest_patch_bound}
 use Rattle.fz_patch.specs.Ends.{WorksInPlace}
 use Rattle.fz_patch.specs.Steps.{ComesInWork}
 use Rattle.fz_patch.specs.Targets.{GivesWithin, IsTargetIn, given_taking, job_at}
 use Rattle.fz_patch.specs.declared.target.Target.{Target}
 use Rattle.fz_patch.proofs.EndsTold.{if_both, if_some, some_of}
+use Rattle.fz_patch.proofs.FrameBlock.{either_way}
 use Rattle.fz_patch.proofs.FrameHeader.{bound_headers, bound_work, few_pixels, find_high, find_past, found_by, given_works, has_of, kept_is, of_jobs, stop_limit, target_is, tile_of, told_stop, work_high, work_limit, work_past}
 use Rattle.fz_patch.proofs.FramePatch.{over_short}
 use Rattle.fz_patch.proofs.FrameWork.{if_refused}
@@ -33,6 +34,10 @@ returns-in_err-target-clause-safe g c = if_both (g.D.Source.held c.args.store.no
 
 pub returns-in_err-target-clause-unwritten : goal.returns-in_err-target-clause-unwritten
 returns-in_err-target-clause-unwritten g c = λ refused. if_both (g.D.Source.held c.args.store.now) (g.S.Source.held c.args.patch.now) _ (λ f p is by wanted w. (refl, refl))
+
+pub returns-in_err-target-clause-unpassed : goal.returns-in_err-target-clause-unpassed
+returns-in_err-target-clause-unpassed g c =
+    if_both (g.D.Source.held c.args.store.now) (g.S.Source.held c.args.patch.now) _ (λ f p is by wanted w live. inl (refl, refl))
 
 pub returns-in_err-target-clause-over_limit : goal.returns-in_err-target-clause-over_limit
 returns-in_err-target-clause-over_limit g c = over_short c.from_residual.result (refl, refl)
@@ -182,6 +187,34 @@ returns-clause-first_past g c =
     let none : TellsFirstPast {X = Target} meter.limit (given_taking meter.live p own) (Ok c.in_ok-target.target) =
     some_of (g.S.Source.held c.args.patch.now) (λ q. TellsFirstPast {X = Target} meter.limit (given_taking meter.live q own) (Ok c.in_ok-target.target)) p by (c.in_ok-target.ensures.first_past f wanted (has_of c.hdu_at_law.ensures.walk c.found_hdus_law.ensures.last (g.D.Source.held c.args.store.now) c.args.length c.args.header.now c.args.buf.now (g.met.D.Source.agrees c.args.store.now c.args.length c.requires.attached) c.requires.read f wanted is w)) in
     work_past {X = Unit {0}} {Y = Target} c.takings_law.ensures.second meter.limit meter.live n f p job header c.in_ok-target.target.header c.in_ok-target.target c.work.result (kept_is c.args.meter.now.live c.args.buf.now c.args.header.now c.requires.header live) (tile_of c.in_ok-target.target c.args.header.now f c.in_ok-target.ensures.target.0 c.in_ok-target.ensures.target.1 (c.in_ok-target.ensures.said f (has_of c.hdu_at_law.ensures.walk c.found_hdus_law.ensures.last (g.D.Source.held c.args.store.now) c.args.length c.args.header.now c.args.buf.now (g.met.D.Source.agrees c.args.store.now c.args.length c.requires.attached) c.requires.read f wanted is w))) (some_of (g.S.Source.held c.args.patch.now) (λ q. if_patchable f q (job_at wanted c.args.corner.now) (Ok c.args.header.now) ≡ Ok c.in_ok-target.target.header) p by (c.in_ok-target.ensures.exact f wanted (has_of c.hdu_at_law.ensures.walk c.found_hdus_law.ensures.last (g.D.Source.held c.args.store.now) c.args.length c.args.header.now c.args.buf.now (g.met.D.Source.agrees c.args.store.now c.args.length c.requires.attached) c.requires.read f wanted is w))) none tells)
+
+pub returns-clause-unpassed : goal.returns-clause-unpassed
+returns-clause-unpassed g c =
+    let corner : List ℕ = c.args.corner.now in
+    let header : Header = c.args.header.now in
+    let meter = c.args.meter.now in
+    let store = c.args.store.now in
+    let n : ℕ = pixels_of c.in_ok-target.target.image.plan 0 in
+    let passed : IsUnpassed ((g.D.Source.held c.work.new.store ≡ g.D.Source.held store) × (g.D.Source.tally c.work.new.store ≡ g.D.Source.tally store))
+        meter.limit (piled meter.live (work_buffers 0 false (Some n) 1)) =
+    rw (c.in_ok-target.ensures.live, c.in_ok-target.ensures.limit) at c.work.ensures.unpassed in
+    if_both (g.D.Source.held store) (g.S.Source.held c.args.patch.now) _
+    (λ f p is by wanted w live.
+    let job = job_at wanted corner in
+    let own = first_refusal (own_checks f header job) in
+    let has = has_of c.hdu_at_law.ensures.walk c.found_hdus_law.ensures.last (g.D.Source.held store) c.args.length header c.args.buf.now
+        (g.met.D.Source.agrees store c.args.length c.requires.attached) c.requires.read f wanted is w in
+    let none : TellsFirstPast {X = Target} meter.limit (given_taking meter.live p own) (Ok c.in_ok-target.target) =
+    some_of (g.S.Source.held c.args.patch.now) (λ q. TellsFirstPast {X = Target} meter.limit (given_taking meter.live q own) (Ok c.in_ok-target.target)) p by
+        (c.in_ok-target.ensures.first_past f wanted has) in
+    let found_is : if_patchable f p job (Ok header) ≡ Ok c.in_ok-target.target.header =
+    some_of (g.S.Source.held c.args.patch.now) (λ q. if_patchable f q job (Ok header) ≡ Ok c.in_ok-target.target.header) p by
+        (c.in_ok-target.ensures.exact f wanted has) in
+    either_way (λ same. same)
+    (λ tells. work_past {X = Unit {0}} {Y = Target} c.takings_law.ensures.second meter.limit meter.live n f p job header
+        c.in_ok-target.target.header c.in_ok-target.target (Ok tt) (kept_is meter.live c.args.buf.now header c.requires.header live)
+        (tile_of c.in_ok-target.target header f c.in_ok-target.ensures.target.0 c.in_ok-target.ensures.target.1 (c.in_ok-target.ensures.said f has))
+        found_is none tells) passed)
 
 pub returns-clause-peak : goal.returns-clause-peak
 returns-clause-peak g c =

@@ -1,5 +1,5 @@
 -- The buffers were not given, or the work took no others; and what was taken comes back.
-use Rattle.std.proofs.Common.{◌≡◌, inl, ℕ, ◌+◌, ◌≤◌, max, List, length, Option, Some, None, Result, Err, sum, refl, sym, ap, ◌∙◌, subst, arith, rules}
+use Rattle.std.proofs.Common.{◌≡◌, inl, inr, ℕ, ◌+◌, ◌≤◌, max, List, length, Option, Some, None, Result, Err, sum, refl, sym, ap, ◌∙◌, subst, arith, rules}
 use Rattle.std.specs.Prelude.{false}
 use Rattle.fz_base.specs.Buffer.{refilled}
 use Rattle.fz_base.specs.Counts.{Tally}
@@ -33,6 +33,9 @@ returns-in-Err-clause-first_fault g c = for_jobs (g.D.Source.held c.args.store.n
 pub returns-in-Err-clause-unwritten : goal.returns-in-Err-clause-unwritten
 returns-in-Err-clause-unwritten g c = λ refused. for_jobs (g.D.Source.held c.args.store.now) (g.S.Source.held c.args.patch.now) c.args.target.now (λ job f p. (g.D.Source.held c.args.store.now ≡ g.D.Source.held c.args.store.now) × (g.D.Source.tally c.args.store.now ≡ g.D.Source.tally c.args.store.now)) (λ job f p is. (refl, refl))
 
+pub returns-in-Err-clause-unpassed : goal.returns-in-Err-clause-unpassed
+returns-in-Err-clause-unpassed g c = inl (refl, refl)
+
 pub returns-in-Err-clause-cause : goal.returns-in-Err-clause-cause
 returns-in-Err-clause-cause g c = works_short {X = Unit {0}} (g.D.Source.tally c.args.store.now) (g.S.Source.tally c.args.patch.now) c.args.meter.now.limit NoRoom tt
 
@@ -50,6 +53,9 @@ returns-in_err-space-clause-first_fault g c =
 
 pub returns-in_err-space-clause-unwritten : goal.returns-in_err-space-clause-unwritten
 returns-in_err-space-clause-unwritten g c = λ refused. for_jobs (g.D.Source.held c.args.store.now) (g.S.Source.held c.args.patch.now) c.args.target.now (λ job f p. (g.D.Source.held c.args.store.now ≡ g.D.Source.held c.args.store.now) × (g.D.Source.tally c.args.store.now ≡ g.D.Source.tally c.args.store.now)) (λ job f p is. (refl, refl))
+
+pub returns-in_err-space-clause-unpassed : goal.returns-in_err-space-clause-unpassed
+returns-in_err-space-clause-unpassed g c = inl (refl, refl)
 
 pub returns-in_err-space-clause-over_limit : goal.returns-in_err-space-clause-over_limit
 returns-in_err-space-clause-over_limit g c = over_short c.from_residual.result (refl, refl)
@@ -110,6 +116,18 @@ give_back-requires g c =
     (record { header = refl; translated = refl; copy = refilled_len space.copy c.write_patch-answer.new.copy }) c.in_ok-space.ensures.filled c.write_patch-answer.ensures.window in
     let live = ap (λ m. m.live) c.in_ok-space.ensures.takings.all.1 in
     omega (arith, held, live)
+
+pub returns-clause-unpassed : goal.returns-clause-unpassed
+returns-clause-unpassed g c =
+    let meter = c.args.meter.now in
+    let target = c.args.target.now in
+    let big : c.largest.result ≡ pixels_of target.image.plan 0 =
+    c.largest.ensures.pixels ∙ (λ j. product (tile_lengths (lengths_of (c.grid.ensures.0 j)) (lengths_of (c.grid.ensures.1 j)) 0)) in
+    let one : c.in-Ok.window.workers ≡ 1 = ap (λ (p : Pool). p.workers) c.in-Ok.ensures in
+    let wants : Wants = record { header_len = 0; translates = false; tile = Some c.largest.result } in
+    let buffers : wanted_buffers wants c.in-Ok.window.workers ≡ work_buffers 0 false (Some (pixels_of target.image.plan 0)) 1 =
+    λ j. work_buffers 0 false (Some (big j)) (one j) in
+    inr (subst (λ (ns : List ℕ). first_past meter.limit (piled meter.live ns) ≡ None) buffers c.in_ok-space.ensures.takings.first_past)
 
 pub returns-clause-over_limit : goal.returns-clause-over_limit
 returns-clause-over_limit g c = over_patches _ _ _ _ _ c.write_patch-answer.result c.write_patch-answer.ensures.cause.stop
