@@ -12,7 +12,7 @@ ghost use Rattle.fz_job.specs.Keeps.{Rewrites, SourceStays, WindowStays};
 ghost use Rattle.fz_again.specs.Again.{IsAgain};
 ghost use Rattle.fz_again.specs.Hdus.{ReadsHdus};
 ghost use Rattle.fz_files.specs.Touched.{data_touched};
-ghost use Rattle.fz_verify.specs.Reported.{Grew, Reports};
+ghost use Rattle.fz_verify.specs.Reported.{Grew, Reports, ReportsFrom};
 ghost use Rattle.fz_verify.specs.Printed.{AreRowsSound, ChecksHdu, VerifiesSeen};
 ghost use Rattle.fz_verify.specs.Rows.{IsHduSound};
 
@@ -106,7 +106,7 @@ fn print_verified<R: Threads + Sync, S: Source, T: Text, G: Gate>(
     requires copy { 4096 ≤ len space.old.copy }
     requires sound { decoded ≡ true → IfSome (S.held source.old) (λ g. IsHduSound g again.now.header) }
     ensures checked { IfSome (S.held source.old) (λ g. ChecksHdu g again.now.header (T.contents text.old) (T.contents text.new) result) }
-    ensures reported { IfOk result (Reports (T.contents text.old) (T.contents text.new)) }
+    ensures reported { IfOk result (ReportsFrom again.now.header.hdu 1 (T.contents text.old) (T.contents text.new)) }
     ensures grown { Grew (T.contents text.old) (T.contents text.new) }
     ensures row { IfRefused result IsOfSomeRow }
     ensures space { SpaceStays space.old space.new }

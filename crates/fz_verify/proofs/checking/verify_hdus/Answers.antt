@@ -17,7 +17,8 @@ use Rattle.fz_verify.specs.Rows.{IsHduSound}
 use Rattle.fz_verify.proofs.CheckedHdus.{more_checked, next_sound, none_checked, stops_changed, stops_checking, stops_reading}
 use Rattle.fz_verify.proofs.Ends.{not_at_end}
 use Rattle.fz_verify.proofs.HduReads.{no_hdu, one_hdu, one_header}
-use Rattle.fz_verify.proofs.Reports.{both_reported, grew_both, grew_by, none_reported}
+use Rattle.fz_verify.specs.Reported.{ReportsFrom}
+use Rattle.fz_verify.proofs.Reports.{all_reported, both_reported, grew_both, grew_by, none_reported}
 use Rattle.fz_verify.proofs.checking.verify_hdus.Goals as goal
 
 pub loop-hdu-init : goal.loop-hdu-init
@@ -164,17 +165,20 @@ loop-hdu-preserved g c =
       checked = subst (λ b. IfSome held (IsChecking s (k + 1) c.next_start-start.result b (right && sound) before now)) (sym says)
           (subst (λ n. IfSome held (IsChecking s (k + 1) n (is_empty_primary a.header) (right && sound) before now)) (sym next) more);
       read = one_hdu s first c.ranges_law.ensures.join k start flag right before mid few two three (c.hdus_law.ensures.payload Verify) held a old.checked seen body header;
-      reported = both_reported before mid now right sound old.reported c.in_ok-sound.ensures.reported;
+      reported = both_reported k before mid now right sound old.reported
+          (subst (λ n. ReportsFrom n 1 mid now sound) c.in_ok-again.ensures.place.0 c.in_ok-sound.ensures.reported);
     }
 
 pub returns-in_err-again-clause-grown : goal.returns-in_err-again-clause-grown
-returns-in_err-again-clause-grown g c = grew_by (g.T.Text.contents c.args.text.now) (g.T.Text.contents c.loop-hdu.text) c.loop-hdu.right c.loop-hdu.invariant.reported
+returns-in_err-again-clause-grown g c =
+    grew_by 0 c.loop-hdu.hdu (g.T.Text.contents c.args.text.now) (g.T.Text.contents c.loop-hdu.text) c.loop-hdu.right c.loop-hdu.invariant.reported
 
 pub returns-in_err-sound-clause-grown : goal.returns-in_err-sound-clause-grown
 returns-in_err-sound-clause-grown g c =
     let before : Option (List ℕ) = g.T.Text.contents c.args.text.now in
     let mid : Option (List ℕ) = g.T.Text.contents c.loop-hdu.text in
-    grew_both before mid (g.T.Text.contents c.print_verified.new.text) (grew_by before mid c.loop-hdu.right c.loop-hdu.invariant.reported) c.in_err-sound.ensures.grown
+    grew_both before mid (g.T.Text.contents c.print_verified.new.text) (grew_by 0 c.loop-hdu.hdu before mid c.loop-hdu.right c.loop-hdu.invariant.reported)
+    c.in_err-sound.ensures.grown
 
 pub returns-then-start-length-clause-grown : goal.returns-then-start-length-clause-grown
 returns-then-start-length-clause-grown g c =
@@ -183,10 +187,16 @@ returns-then-start-length-clause-grown g c =
     let now : Option (List ℕ) = g.T.Text.contents c.print_verified.new.text in
     let right : Bool = c.loop-hdu.right in
     let sound : Bool = c.in_ok-sound.sound in
-    grew_by before now (right && sound) (both_reported before mid now right sound c.loop-hdu.invariant.reported c.in_ok-sound.ensures.reported)
+    grew_both before mid now (grew_by 0 c.loop-hdu.hdu before mid right c.loop-hdu.invariant.reported)
+    (grew_by c.in_ok-again.again.header.hdu 1 mid now sound c.in_ok-sound.ensures.reported)
 
 pub returns-clause-grown : goal.returns-clause-grown
-returns-clause-grown g c = grew_by (g.T.Text.contents c.args.text.now) (g.T.Text.contents c.loop-hdu.text) c.loop-hdu.right c.loop-hdu.invariant.reported
+returns-clause-grown g c =
+    grew_by 0 c.loop-hdu.hdu (g.T.Text.contents c.args.text.now) (g.T.Text.contents c.loop-hdu.text) c.loop-hdu.right c.loop-hdu.invariant.reported
+
+pub returns-clause-reported : goal.returns-clause-reported
+returns-clause-reported g c =
+    all_reported c.loop-hdu.hdu (g.T.Text.contents c.args.text.now) (g.T.Text.contents c.loop-hdu.text) c.loop-hdu.right c.loop-hdu.invariant.reported
 
 pub returns-in_err-again-clause-read : goal.returns-in_err-again-clause-read
 returns-in_err-again-clause-read g c =

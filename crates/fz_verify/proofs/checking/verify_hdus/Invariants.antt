@@ -6,7 +6,7 @@ use Rattle.fz_job.specs.Keeps.{WindowStays}
 use Rattle.fz_again.specs.Hdus.{ReadsHdus}
 use Rattle.fz_files.specs.declared.job.Job.TheVariants.{Verify}
 use Rattle.fz_verify.specs.Printed.{IsChecking}
-use Rattle.fz_verify.specs.Reported.{Reports}
+use Rattle.fz_verify.specs.Reported.{ReportsFrom}
 use Rattle.fz_verify.proofs.checking.verify_hdus.Given as goal
 
 abbrev pub invariant-loop-hdu : goal.invariant-loop-hdu
@@ -24,5 +24,5 @@ invariant-loop-hdu g l = record {
   early : l.start ≤ 2 ^ 62;
   checked : IfSome (g.S.Source.held l.fn.source) (IsChecking l.survey l.hdu l.start l.after_empty l.right (g.T.Text.contents l.fn.text) (g.T.Text.contents l.text));
   read : IfSome (g.S.Source.held l.fn.source) (λ f. ReadsHdus Verify f l.survey (g.S.Source.ranges l.fn.source) (g.S.Source.ranges l.source));
-  reported : Reports (g.T.Text.contents l.fn.text) (g.T.Text.contents l.text) l.right;
+  reported : ReportsFrom 0 l.hdu (g.T.Text.contents l.fn.text) (g.T.Text.contents l.text) l.right;
 }
