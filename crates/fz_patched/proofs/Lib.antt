@@ -51,6 +51,7 @@ pub mod SafeCuts
 pub mod SafeRows
 pub mod SaidChecks
 pub mod SaidPlan
+pub mod Scattered
 pub mod Slices
 pub mod StepWrites
 pub mod SumSteps

@@ -107,7 +107,7 @@ front_stays start s m (w ∷ ws) file order all before =
     front_stays start s m ws (amended w file) (subst (λ n. AreInOrder n ws) (sym long) order.3) all.1 before
     ∙ slice_before w.at w.bytes file s m order.1 order.0 (omega arith)
 
-slice_cut : (n a m : ℕ) (x : List ℕ) → a + m ≤ n → take m (drop a (take n x)) ≡ take m (drop a x)
+pub slice_cut : (n a m : ℕ) (x : List ℕ) → a + m ≤ n → take m (drop a (take n x)) ≡ take m (drop a x)
 slice_cut n a m x low =
     let parts : a + (n - a) ≡ n = omega arith in
     ap (λ k. take m (drop a (take k x))) (sym parts)
@@ -207,7 +207,7 @@ module _ (places : CardPlaceLaws) (cards : CardLaws) (file : List ℕ) (h : Head
   -- ---- before PCOUNT is written
 
   -- a file that is the same up to the end of the heap
-  front_prefix : (x : List ℕ) → length file ≤ length x → ((s m : ℕ) → s + m ≤ end → take m (drop s x) ≡ take m (drop s file)) → IsPrefix file h g es x
+  pub front_prefix : (x : List ℕ) → length file ≤ length x → ((s m : ℕ) → s + m ≤ end → take m (drop s x) ≡ take m (drop s file)) → IsPrefix file h g es x
   front_prefix x long stays =
       let place = lies file h has in
       let rows = place.rows in

@@ -1,6 +1,6 @@
 -- What is promised of patches, by the definitions alone.
 use Rattle.std.specs.Prelude.{ℕ, ◌≡◌, ◌↔◌, ◌+◌, ◌*◌, ◌^◌, ◌<◌, ◌≤◌, max, ℤ, pos, List, [], ◌∷◌, length, take, drop, All, Contains, slice_index}
-use Rattle.std.specs.Prelude.{slice_index_or, Option, None, Ok, ⊤, if◌then◌else◌}
+use Rattle.std.specs.Prelude.{slice_index_or, Bool, Option, None, Ok, ⊤, if◌then◌else◌}
 use Rattle.fz_base.specs.Counts.{Amend}
 use Rattle.fz_base.specs.Takings.{first_past}
 use Rattle.fz_base.specs.declared.fault.Fault.{Fault}
@@ -32,7 +32,7 @@ use Rattle.fz_patched.specs.Given.{Given, PatchJob, box_sieve, given_by}
 use Rattle.fz_patched.specs.Headers.{IsAmended, SaysTheSame}
 use Rattle.fz_patched.specs.NewNumbers.{box_tiles, new_numbers, replaced}
 use Rattle.fz_patched.specs.Patched.{HasNewTiles, IsPatched}
-use Rattle.fz_patched.specs.Safe.{IsSafeAfter}
+use Rattle.fz_patched.specs.Safe.{IsSafeAfter, IsSafeAmid, IsStep}
 use Rattle.fz_patched.specs.Writes.{Steps, all_writes, card_write, header_now, table_plan}
 
 -- ---- headers
@@ -168,6 +168,13 @@ abbrev pub EachPrefixIsSafe : Type 0
 EachPrefixIsSafe =
     (file patch : List ℕ) (job : PatchJob) (h : Header) (steps : Steps) (n : ℕ) → ArePatching file patch job h steps →
     IsSafeAfter file h (given_by patch job) steps n
+
+-- after all earlier steps and any of the writes of one step the file is safe
+abbrev pub AnyOfAStepIsSafe : Type 0
+AnyOfAStepIsSafe =
+    (file patch : List ℕ) (job : PatchJob) (h : Header) (steps : Steps) (before within : List Amend) (flags : List Bool) →
+    ArePatching file patch job h steps → IsStep steps before within →
+    IsSafeAmid file h (given_by patch job) steps before within flags
 
 -- after all of them each tile with a pixel in the box has its new numbers, and every other its old ones
 abbrev pub AllWritesTile : Type 0

@@ -1,6 +1,7 @@
--- What a patch leaves that stopped between two writes (FITS 4.0, sections 7.3.5 and 10.1.3): an image of which every tile that had numbers
--- has its old ones or its new ones.
-use Rattle.std.specs.Prelude.{ℕ, ◌≡◌, ◌⊎◌, ◌<◌, ◌≤◌, ℤ, List, [], ◌∷◌, ◌++◌, length, take, All, Contains, slice_index, Option, Some, None, Ok}
+-- What a patch leaves that stopped between two writes, or lost some of the writes of one step (FITS 4.0, sections 7.3.5 and 10.1.3): an image of
+-- which every tile that had numbers has its old ones or its new ones.
+use Rattle.std.specs.Prelude.{ℕ, ◌≡◌, ◌⊎◌, ◌<◌, ◌≤◌, ℤ, Bool, List, [], ◌∷◌, ◌++◌, length, take, All, Contains, slice_index, Option, Some, None, Ok}
+use Rattle.std.specs.Prelude.{if◌then◌else◌}
 use Rattle.std.specs.Option.{option_map}
 use Rattle.fz_base.specs.Counts.{Amend}
 use Rattle.fz_block.specs.declared.header.Header.{Header}
@@ -16,7 +17,7 @@ use Rattle.fz_patched.specs.Checks.{wanted_image}
 use Rattle.fz_patched.specs.FirstPatchFault.{ArePatchSteps}
 use Rattle.fz_patched.specs.Given.{Given, PatchJob}
 use Rattle.fz_patched.specs.NewNumbers.{box_tiles, new_numbers}
-use Rattle.fz_patched.specs.Writes.{Steps, all_writes, before_rows, header_now}
+use Rattle.fz_patched.specs.Writes.{Steps, all_writes, before_rows, before_sums, header_now}
 
 -- no header check of a cut that passed refuses now, of this HDU or of one before it, whatever the box
 abbrev pub CutsStillPass : List ℕ → List ℕ → Type 0
@@ -53,6 +54,32 @@ pub record IsSafeAfter (file : List ℕ) (h : Header) (g : Given) (steps : Steps
   pub safe : IsSafeNow file (applied (take n (all_writes steps)) file) h g
   pub old : n ≤ length (before_rows steps) → AreAllOld file (applied (take n (all_writes steps)) file) h
   pub others : KeepsOthers (all_writes steps) file (applied (take n (all_writes steps)) file)
+
+-- ---- what a loss of power leaves
+
+-- The writes of one step, and those of all steps before it: each step is on the disk before the next one begins. In the first two, of the codes
+-- and of the cards, no row is written; then come the rows, and then the checksums.
+abbrev pub IsStepBeforeRows : Steps → List Amend → List Amend → Type 0
+IsStepBeforeRows s before within = ((before ≡ []) × (within ≡ s.heap)) ⊎ ((before ≡ s.heap) × (within ≡ s.pcount ++ s.forms))
+
+abbrev pub IsStepFromRows : Steps → List Amend → List Amend → Type 0
+IsStepFromRows s before within = ((before ≡ before_rows s) × (within ≡ s.rows)) ⊎ ((before ≡ before_sums s) × (within ≡ s.sums))
+
+abbrev pub IsStep : Steps → List Amend → List Amend → Type 0
+IsStep s before within = IsStepBeforeRows s before within ⊎ IsStepFromRows s before within
+
+-- those of some writes that are kept, by a flag for each; of writes without a flag none is
+abbrev pub picked : List Bool → List Amend → List Amend
+picked [] ws = []
+picked (keeps ∷ flags) [] = []
+picked (keeps ∷ flags) (w ∷ ws) = if keeps then w ∷ picked flags ws else picked flags ws
+
+-- After all steps before one, and any of the writes of that, the file is safe; while no row is written all tiles have their old numbers; and
+-- bytes outside the writes stay.
+pub record IsSafeAmid (file : List ℕ) (h : Header) (g : Given) (steps : Steps) (before within : List Amend) (flags : List Bool) : Type 0 where
+  pub safe : IsSafeNow file (applied (before ++ picked flags within) file) h g
+  pub old : IsStepBeforeRows steps before within → AreAllOld file (applied (before ++ picked flags within) file) h
+  pub others : KeepsOthers (all_writes steps) file (applied (before ++ picked flags within) file)
 
 -- What a call logged: some of the writes of a patch, from the first on.
 pub record LoggedSome (file patch : List ℕ) (job : PatchJob) (before now : Option (List Amend)) : Type 0 where

@@ -1,6 +1,6 @@
 //! The laws of patches: no code runs.
 ghost use Rattle.fz_patched.specs.Grown.{CountsGrow, FormsChange, GrownHeadersSayMore, OneMoreIsAmended, SumsChange};
-ghost use Rattle.fz_patched.specs.Laws.{AllWritesPatch, AllWritesTile, AmendedHeadersSayTheSame, CardsStandInPlace, EachPrefixIsSafe};
+ghost use Rattle.fz_patched.specs.Laws.{AllWritesPatch, AllWritesTile, AmendedHeadersSayTheSame, AnyOfAStepIsSafe, CardsStandInPlace, EachPrefixIsSafe};
 ghost use Rattle.fz_patched.specs.Laws.{HasOnePatch, HasOnePatchFault, HasWritesOrFault};
 ghost use Rattle.fz_patched.specs.Laws.{KeptRowsStand, NewNumbersAreGiven, NewNumbersStay, NewRowsStand, OthersKeepNumbers};
 ghost use Rattle.fz_patched.specs.Laws.{PatchIsBounded, PatchesAgain, PatchesAgainCutBack, TargetsAreGiven, TilesAreReplaced, WritesAreInOrder};
@@ -144,6 +144,37 @@ pub fn writes_in_order_law()
 /// numbers has them, or its new ones.
 pub fn safe_patch_law()
     ensures { EachPrefixIsSafe }
+{
+    amended_header_law();
+    card_laws();
+    cards_law();
+    column_law();
+    found_hdus_law();
+    found_law();
+    hdu_at_law();
+    kept_rows_law();
+    new_numbers_law();
+    new_row_law();
+    one_fault_law();
+    one_record_law();
+    packed_image_law();
+    place_law();
+    places_law();
+    plain_law();
+    shape_law();
+    start_law();
+    sum_cards_law();
+    sum_law();
+    tile_code_law();
+    tile_pixels_law();
+    with_card_law();
+}
+
+/// After all steps of a patch before one, and any of the writes of that, the file is safe to read, as after a prefix: that is
+/// what a loss of power can leave, where each step is on the disk before the next one begins, and each write is made whole
+/// or not at all.
+pub fn safe_step_law()
+    ensures { AnyOfAStepIsSafe }
 {
     amended_header_law();
     card_laws();
