@@ -3,26 +3,22 @@
 
 ccd.fits has 16-bit counts of a CCD: noise with a standard deviation of 12 over a slope; sky.fits the same in 32 bits over
 a wider slope; mask.fits 8-bit flags in runs. Each has 4096 x 4096 pixels. large.fits has 10,000 x 10,000 pixels of noise in 16
-bits. holes.fits is a file of 10 GB whose data are holes: a primary without data and a hundred images of 10,000 x 5,000 pixels of
-16 bits. It takes no room on most disks.
+bits; rows16.fits, rows100.fits and rows512.fits have the same noise in rows of 16, 100 and 512 pixels. holes.fits is a file of 10
+GB whose data are holes: a primary without data and a hundred images of 10,000 x 5,000 pixels of 16 bits. It takes no room on most
+disks.
 """
 import random
 import sys
 from array import array
 from pathlib import Path
 
+sys.path.insert(0, str(Path(__file__).resolve().parent.parent))
+from images import BLOCK, image_header, noise, write_file
+
 SIDE = 4096
 LARGE = 10_000
-
-
-def card(name, value):
-    return f"{name:<8}= {value:>20}".ljust(80).encode("ascii")
-
-
-def header(bitpix, side):
-    cards = [card("SIMPLE", "T"), card("BITPIX", str(bitpix)), card("NAXIS", "2")]
-    cards += [card("NAXIS1", str(side)), card("NAXIS2", str(side)), b"END".ljust(80)]
-    return b"".join(cards).ljust(2880, b" ")
+# How many rows the images with short rows have: 4.2, 10 and 16.8 million pixels.
+SHORT = {16: 262_144, 100: 100_000, 512: 32_768}
 
 
 def noisy(kind, slope, seed):
@@ -44,32 +40,8 @@ def flags(seed):
         yield bytes(row[:SIDE])
 
 
-def shifted_noise(seed):
-    """Rows of noise, each a piece of the same million numbers."""
-    rng = random.Random(seed)
-    pool = array("h", [round(1000 + rng.gauss(0, 12)) for _ in range(1_000_000)])
-    pool.byteswap()
-    for _ in range(LARGE):
-        at = rng.randrange(len(pool) - LARGE)
-        yield pool[at : at + LARGE].tobytes()
-
-
-def write(path, bitpix, rows, side=SIDE):
-    if path.exists():
-        return
-    unfinished = path.with_suffix(".part")
-    with open(unfinished, "wb") as out:
-        out.write(header(bitpix, side))
-        for row in rows:
-            out.write(row)
-        out.write(bytes(-(side * side * bitpix // 8) % 2880))
-    unfinished.rename(path)
-
-
-def extension(columns, rows):
-    cards = [b"XTENSION= 'IMAGE   '".ljust(80), card("BITPIX", "16"), card("NAXIS", "2"), card("NAXIS1", str(columns))]
-    cards += [card("NAXIS2", str(rows)), card("PCOUNT", "0"), card("GCOUNT", "1"), b"END".ljust(80)]
-    return b"".join(cards).ljust(2880, b" ")
+def write(path, bitpix, rows, axes=(SIDE, SIDE)):
+    write_file(path, [(image_header(bitpix, axes), rows)])
 
 
 def write_holes(path, hdus, columns, rows):
@@ -79,10 +51,10 @@ def write_holes(path, hdus, columns, rows):
     size = 2 * columns * rows
     unfinished = path.with_suffix(".part")
     with open(unfinished, "wb") as out:
-        out.write((card("SIMPLE", "T") + card("BITPIX", "16") + card("NAXIS", "0") + b"END".ljust(80)).ljust(2880, b" "))
+        out.write(image_header(16, ()))
         for _ in range(hdus):
-            out.write(extension(columns, rows))
-            out.truncate(out.tell() + size + -size % 2880)
+            out.write(image_header(16, (columns, rows), first=False))
+            out.truncate(out.tell() + size + -size % BLOCK)
             out.seek(0, 2)
     unfinished.rename(path)
 
@@ -93,7 +65,9 @@ def main():
     write(folder / "ccd.fits", 16, noisy("h", 0.5, 1))
     write(folder / "sky.fits", 32, noisy("i", 20.0, 2))
     write(folder / "mask.fits", 8, flags(3))
-    write(folder / "large.fits", 16, shifted_noise(4), LARGE)
+    write(folder / "large.fits", 16, noise(4, LARGE, LARGE), (LARGE, LARGE))
+    for columns, rows in SHORT.items():
+        write(folder / f"rows{columns}.fits", 16, noise(5, columns, rows), (columns, rows))
     write_holes(folder / "holes.fits", 100, 10_000, 5_000)
 
 

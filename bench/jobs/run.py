@@ -1,14 +1,21 @@
 #!/usr/bin/env python3
-"""run.py FZ FOLDER [pack|unpack|cut|verify|list|retile|patch]: times the jobs of the program FZ on the images of FOLDER, beside fpack, funpack,
-imcopy and cp.
+"""run.py FZ FOLDER [JOB..]: times the jobs of the program FZ on the images of FOLDER, beside fpack, funpack, imcopy and cp.
+
+JOB is pack, unpack, verify, cut, retile, patch or list; tiles, which is pack, unpack and verify in tiles of other lengths; or disk,
+which is pack and unpack where each tool waits for the disk. Without one all are timed.
 
 Each time is the least of five runs, which take turns. The most resident memory is that of one run more, by the command time.
 """
+import math
 import os
 import shutil
 import subprocess
 import sys
-import time
+from functools import partial
+from pathlib import Path
+
+sys.path.insert(0, str(Path(__file__).resolve().parent.parent))
+from timing import peak, remove, run
 
 PASSES = 5
 # What is cut from an image of 10,000 x 10,000 pixels: a corner in its middle, and every tenth pixel of the whole.
@@ -20,7 +27,6 @@ RETILINGS = (("4096,1", "4096,1"), ("4096,1", "256,256"), ("256,256", "4096,1"))
 RETILE_WORKERS = (1, 4, 32)
 # What is put into the large image in squares: as much as is cut out above.
 PATCH_AT, PATCH_BOX = "4951,4951", BOXES[0]
-TIME = "/usr/bin/time"
 # An image, the codec, and what asks fpack for the same, which stores no tiles.
 IMAGES = (
     ("ccd.fits", "rice", ["-r"]),
@@ -29,38 +35,27 @@ IMAGES = (
     ("mask.fits", "rice", ["-r"]),
     ("ccd.fits", "none", None),
 )
+# Images in tiles other than rows of 4,096 pixels: short rows, squares, and one tile.
+TILINGS = (
+    ("rows16.fits", "16,1"),
+    ("rows100.fits", "100,1"),
+    ("rows512.fits", "512,1"),
+    ("ccd.fits", "64,64"),
+    ("ccd.fits", "4096,4096"),
+)
+TILES_WORKERS = (1, 4, 16)
+DISK_WORKERS = (1, 32, 64)
+IN_MEMORY = ("tmpfs", "ramfs")
 
 
-def run(words):
-    """Runs a command and returns its seconds."""
-    begin = time.perf_counter()
-    status = subprocess.call(words, stdout=subprocess.DEVNULL)
-    if status:
-        sys.exit(f"{' '.join(words)} ended with {status}")
-    return time.perf_counter() - begin
-
-
-def peak(words):
-    """Runs a command and returns its most resident memory."""
-    if not os.path.exists(TIME):
-        return "unknown"
-    told = subprocess.run([TIME, "-f", "%M", *words], stdout=subprocess.DEVNULL, stderr=subprocess.PIPE, text=True, check=True)
-    return f"{int(told.stderr.split()[-1]) / 1024:.1f} MB"
-
-
-def remove(path):
-    if os.path.exists(path):
-        os.remove(path)
-
-
-def with_workers(fz, job, options, files):
+def with_workers(fz, job, options, files, workers):
     """The job with each number of workers."""
-    return [(f"fz {job}, {it} worker{'s' * (it > 1)}", [fz, job, *options, "--workers", str(it), *files]) for it in WORKERS]
+    return [(f"fz {job}, {it} worker{'s' * (it > 1)}", [fz, job, *options, "--workers", str(it), *files]) for it in workers]
 
 
-def packing(fz, plain, out, ours, theirs):
+def packing(fz, plain, out, ours, theirs, workers=WORKERS):
     """Names of what is timed, with its words; each command writes the file `out`."""
-    made = with_workers(fz, "pack", ours, [plain, out])
+    made = with_workers(fz, "pack", ours, [plain, out], workers)
     if theirs and shutil.which("fpack"):
         made.append(("fpack -C", ["fpack", "-C", *theirs, "-O", out, plain]))
     return made + [("cp", ["cp", plain, out])]
@@ -73,22 +68,23 @@ def packed_by(words, packed):
     return packed
 
 
-def unpacking(fz, plain, out, ours, theirs):
+def unpacking(fz, plain, out, ours, theirs, workers=WORKERS):
     """The same for unpack: of what fz packed and, where it is installed, of what fpack packed, beside funpack on both."""
     files = [("fz", packed_by([fz, "pack", *ours, plain, f"{plain}.fz"], f"{plain}.fz"))]
     if theirs and shutil.which("fpack"):
         files.append(("fpack", packed_by(["fpack", "-C", *theirs, "-O", f"{plain}.fpack", plain], f"{plain}.fpack")))
     made = []
     for packer, packed in files:
-        made += [(f"{title}, packed by {packer}", words) for title, words in with_workers(fz, "unpack", [], [packed, out])]
+        made += [(f"{title}, packed by {packer}", words) for title, words in with_workers(fz, "unpack", [], [packed, out], workers)]
         if shutil.which("funpack"):
             made.append((f"funpack -C, packed by {packer}", ["funpack", "-C", "-O", out, packed]))
     return made + [("cp", ["cp", plain, out])]
 
 
-def verifying(fz, plain, out, ours, theirs):
+def verifying(fz, plain, out, ours, theirs, _workers=None):
     """verify of what fz packed with sums, with --strict and without it, and, where it is installed, of what fpack packed, which has
-    sums too and is not strict; beside it the unpacking of the same files by fz with one worker and by funpack, without sums."""
+    sums too and is not strict; beside it the unpacking of the same files by fz with one worker and by funpack, without sums. verify
+    has one worker."""
     files = [("fz", packed_by([fz, "pack", "--sums", *ours, plain, f"{plain}.fz"], f"{plain}.fz"))]
     if theirs and shutil.which("fpack"):
         files.append(("fpack", packed_by(["fpack", *theirs, "-O", f"{plain}.fpack", plain], f"{plain}.fpack")))
@@ -103,15 +99,64 @@ def verifying(fz, plain, out, ours, theirs):
     return made
 
 
+# The jobs that are timed on images with a codec or tiles.
+ROWS = {"pack": packing, "unpack": unpacking, "verify": verifying}
+
+
+def out_of(job, out):
+    """What is unpacked beside verify goes to memory, where there is a folder for that: verify writes nothing."""
+    return "/dev/shm/fz_jobs_out.fits" if job == "verify" and os.access("/dev/shm", os.W_OK) else out
+
+
+def each_image(job, fz, folder, out):
+    """A job on each image with its codec."""
+    for name, codec, theirs in IMAGES:
+        plain = f"{folder}/{name}"
+        size = os.path.getsize(plain)
+        print(f"{job}, {name}, {codec}, {size / 1e6:.1f} MB")
+        time_all(ROWS[job](fz, plain, out_of(job, out), ["--codec", codec], theirs), size, out_of(job, out))
+
+
+def each_tiling(fz, folder, out):
+    """pack, unpack and verify, as RICE_1, in tiles other than rows of 4,096 pixels; fpack makes the same tiles."""
+    for name, tile in TILINGS:
+        plain = f"{folder}/{name}"
+        size = os.path.getsize(plain)
+        for job, rows in ROWS.items():
+            print(f"{job}, {name}, rice, tiles of {tile}, {size / 1e6:.1f} MB")
+            time_all(rows(fz, plain, out_of(job, out), ["--tile", tile], ["-r", "-t", tile], TILES_WORKERS), size, out_of(job, out))
+
+
+def then_sync(rows, fz, out):
+    """The rows, each but those of fz, which waits for the disk itself, with a sync of what it wrote."""
+    return [(title, words) if words[0] == fz else (f"{title}, sync", [words, ["sync", out]]) for title, words in rows]
+
+
+def on_disk(fz, folder, out):
+    """pack and unpack, the other tools with a sync behind them, so that the disk has what each wrote. The last row is what the command
+    sync takes if the disk has the file already."""
+    kind = subprocess.run(["stat", "-f", "-c", "%T", folder], stdout=subprocess.PIPE, text=True, check=True).stdout.strip()
+    if kind in IN_MEMORY:
+        return print(f"disk: {folder} is in memory ({kind}), left out")
+    for name, codec, theirs in (it for it in IMAGES if it[2]):
+        plain = f"{folder}/{name}"
+        size = os.path.getsize(plain)
+        for job in ("pack", "unpack"):
+            rows = then_sync(ROWS[job](fz, plain, out, ["--codec", codec], theirs, DISK_WORKERS), fz, out)
+            print(f"disk ({kind}), {job}, {name}, {codec}, {size / 1e6:.1f} MB")
+            time_all([*rows, ("sync", ["sync", plain])], size, out, ready=os.sync)
+    return None
+
+
 def cutting(fz, packed, box, out):
     """A cutout of what fz packed, with 1 and 4 workers, beside imcopy."""
-    made = [(f"fz cut, {it} worker{'s' * (it > 1)}", [fz, "cut", "--box", box, "--workers", str(it), packed, out]) for it in (1, 4)]
+    made = with_workers(fz, "cut", ["--box", box], [packed, out], (1, 4))
     if shutil.which("imcopy"):
         made.append(("imcopy", ["imcopy", f"{packed}[{box}]", out]))
     return made
 
 
-def cut_all(fz, folder, out):
+def each_cut(fz, folder, out):
     """The cutouts of the large image, in row tiles and in square ones; MB/s are those of what is cut out."""
     for tile in CUT_TILES:
         packed = packed_by([fz, "pack", "--tile", tile, f"{folder}/large.fits", f"{folder}/large.{tile}.fz"], f"{folder}/large.{tile}.fz")
@@ -130,7 +175,7 @@ def retiling(fz, packed, plain, out, tile):
         workers = ["--workers", str(it)]
         name = f"{it} worker{'s' * (it > 1)}"
         both = [[fz, "unpack", *workers, packed, plain], [fz, "pack", "--tile", tile, *workers, plain, out]]
-        made.append((f"fz retile, {name}", [[fz, "retile", "--tile", tile, *workers, packed, out]]))
+        made.append((f"fz retile, {name}", [fz, "retile", "--tile", tile, *workers, packed, out]))
         made.append((f"fz unpack, fz pack, {name}", both))
     if shutil.which("fpack") and shutil.which("funpack"):
         both = [["funpack", "-C", "-O", plain, packed], ["fpack", "-C", "-r", "-t", tile, "-O", out, plain]]
@@ -138,7 +183,7 @@ def retiling(fz, packed, plain, out, tile):
     return made
 
 
-def retile_all(fz, folder, out):
+def each_retiling(fz, folder, out):
     """Counts from rows to rows, from rows to squares and back; MB/s are those of the plain file."""
     source = f"{folder}/ccd.fits"
     for old, new in RETILINGS:
@@ -149,26 +194,32 @@ def retile_all(fz, folder, out):
         time_all(retiling(fz, packed, plain, out, new), size, out, plain)
 
 
-def patch_all(fz, folder, out):
-    """A patch of a small box of the large image in squares, beside a cutout of that box. Each patch is of a copy, which is not timed."""
+def patching(fz, folder, out):
+    """A patch of a small box of the large image in squares, beside a cutout of that box; MB/s are those of the packed file. Each patch
+    is of a copy that the disk has, and whose making is not timed."""
     packed = packed_by([fz, "pack", "--tile", CUT_TILES[1], "--sums", f"{folder}/large.fits", f"{folder}/large.sums.fz"],
                        f"{folder}/large.sums.fz")
     given, copy = f"{folder}/given.fits", f"{folder}/patched.fz"
     remove(given)
     run([fz, "cut", "--box", PATCH_BOX, packed, given])
-    least = {}
-    for _ in range(PASSES):
-        remove(out)
+
+    def ready():
         shutil.copyfile(packed, copy)
         os.sync()
-        for title, words in (("fz patch", [fz, "patch", "--at", PATCH_AT, given, copy]), ("fz cut", [fz, "cut", "--box", PATCH_BOX, packed, out])):
-            seconds = run(words)
-            least[title] = min(seconds, least.get(title, seconds))
-    print(f"patch {PATCH_BOX}, large.fits in tiles of {CUT_TILES[1]}, {os.path.getsize(packed) / 1e6:.1f} MB packed")
-    for title, seconds in least.items():
-        print(f"| {title} | {1000 * seconds:.1f} ms |")
+
+    size = os.path.getsize(packed)
+    print(f"patch {PATCH_BOX}, large.fits in tiles of {CUT_TILES[1]}, {size / 1e6:.1f} MB packed")
+    rows = [("fz patch", [fz, "patch", "--at", PATCH_AT, given, copy]), ("fz cut", [fz, "cut", "--box", PATCH_BOX, packed, out])]
+    time_all(rows, size, out, ready=ready)
     remove(copy)
-    remove(out)
+
+
+def listing(fz, folder, out):
+    """The headers of the file whose data are holes."""
+    path = f"{folder}/holes.fits"
+    size = os.path.getsize(path)
+    print(f"list, holes.fits, {size / 1e6:.1f} MB")
+    time_all([("fz list", [fz, "list", path])], size, out)
 
 
 def steps_of(words):
@@ -176,49 +227,54 @@ def steps_of(words):
     return words if isinstance(words[0], list) else [words]
 
 
-def time_all(rows, size, out, between=None):
-    """Times each row and prints it. If it has several commands, `between` is the file that one leaves for the next."""
+def told(title, seconds, words, size, out):
+    """A row of the table that is printed, with the memory of one run more."""
+    if math.isinf(seconds):
+        return f"| {title} | over limit |"
+    peaks = [peak(it) for it in steps_of(words)]
+    memory = ", ".join("unknown" if it is None else f"{it:.1f} MB" for it in peaks)
+    written = f"{os.path.getsize(out) / 1e6:.2f} MB written" if os.path.exists(out) else "no file"
+    return f"| {title} | {1000 * seconds:.1f} ms | {size / 1e6 / seconds:.0f} MB/s | {written} | {memory} resident |"
+
+
+def time_all(rows, size, out, between=None, ready=lambda: None):
+    """Times each row and prints it. If it has several commands, `between` is the file that one leaves for the next. Before each row
+    the files that it writes are removed, and `ready` is called."""
+    made = [it for it in (out, between) if it]
+
+    def begin():
+        remove(*made)
+        ready()
+
     least = {}
     for _ in range(PASSES):
         for title, words in rows:
-            for it in (out, between):
-                if it:
-                    remove(it)
-            seconds = sum(run(it) for it in steps_of(words))
+            begin()
+            seconds = sum(run(it).wall for it in steps_of(words))
             least[title] = min(seconds, least.get(title, seconds))
     for title, words in rows:
-        for it in (out, between):
-            if it:
-                remove(it)
-        memory = ", ".join(peak(it) for it in steps_of(words))
-        written = f"{os.path.getsize(out) / 1e6:.2f} MB written" if os.path.exists(out) else "no file"
-        print(f"| {title} | {1000 * least[title]:.1f} ms | {size / 1e6 / least[title]:.0f} MB/s | {written} | {memory} resident |")
-    for it in (out, between):
-        if it:
-            remove(it)
+        begin()
+        print(told(title, least[title], words, size, out), flush=True)
+    remove(*made)
+
+
+JOBS = {
+    "pack": partial(each_image, "pack"),
+    "unpack": partial(each_image, "unpack"),
+    "cut": each_cut,
+    "retile": each_retiling,
+    "patch": patching,
+    "verify": partial(each_image, "verify"),
+    "list": listing,
+    "tiles": each_tiling,
+    "disk": on_disk,
+}
 
 
 def main():
     fz, folder = os.path.abspath(sys.argv[1]), os.path.abspath(sys.argv[2])
-    jobs = {"pack": packing, "unpack": unpacking, "verify": verifying}
-    large = {"cut": cut_all, "retile": retile_all, "patch": patch_all}
-    for job in sys.argv[3:] or (*jobs, *large, "list"):
-        if job == "list":
-            path = f"{folder}/holes.fits"
-            size = os.path.getsize(path)
-            print(f"list, holes.fits, {size / 1e6:.1f} MB")
-            time_all([("fz list", [fz, "list", path])], size, f"{folder}/out.fits")
-            continue
-        if job in large:
-            large[job](fz, folder, f"{folder}/out.fits")
-            continue
-        # What is unpacked beside verify goes to memory, where there is a folder for that: verify writes nothing.
-        out = "/dev/shm/fz_jobs_out.fits" if job == "verify" and os.access("/dev/shm", os.W_OK) else f"{folder}/out.fits"
-        for name, codec, theirs in IMAGES:
-            plain = f"{folder}/{name}"
-            size = os.path.getsize(plain)
-            print(f"{job}, {name}, {codec}, {size / 1e6:.1f} MB")
-            time_all(jobs[job](fz, plain, out, ["--codec", codec], theirs), size, out)
+    for job in sys.argv[3:] or JOBS:
+        JOBS[job](fz, folder, f"{folder}/out.fits")
 
 
 if __name__ == "__main__":

@@ -1,6 +1,6 @@
 #!/usr/bin/env bash
-# Times the jobs of the built program beside the C tools: run.sh [FOLDER [pack|unpack|cut|verify|list|retile|patch]]; bench/jobs/README.md says how.
-# With a folder it keeps its images there.
+# Times the jobs of the built program beside the C tools: run.sh [FOLDER [pack|unpack|cut|retile|patch|verify|list|tiles|disk ..]];
+# bench/jobs/README.md says how. With a folder it keeps its images there.
 set -eu
 here=$(cd "$(dirname "$0")" && pwd)
 fz=${FZ:-$here/../../crates/fz/out/fz}
