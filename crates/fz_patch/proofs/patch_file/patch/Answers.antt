@@ -85,7 +85,7 @@ returns-clause-unwritten g c =
     let same : c.bytes.new.self.limit ≡ limit = ap (λ (m : Gauge). m.limit) c.in_ok-block.ensures.taken.1 in
     let room : 2880 ≤ limit = omega (arith, c.in_ok-block.ensures.taken.0, c.requires.nothing_live) in
     let later : IsUnwritten held given limit (λ f q. later_takings f q job)
-        ((g.D.Source.held c.with_block-answer.new.store ≡ held) × (s'.amended ≡ s.amended)) c.with_block-answer.result =
+    ((g.D.Source.held c.with_block-answer.new.store ≡ held) × (s'.amended ≡ s.amended)) c.with_block-answer.result =
     rw same at c.with_block-answer.ensures.unwritten in
     unwritten_after _ job held given limit c.with_block-answer.result room later
 

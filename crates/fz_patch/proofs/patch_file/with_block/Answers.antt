@@ -343,8 +343,8 @@ returns-clause-unwritten g c =
     let live4 : c.read_again.new.meter.live ≡ 2880 + length c.as_mut_slice.result.now = live3 ∙ ap (λ l. 2880 + length l) (sym c.as_mut_slice.ensures.value) in
     let limit3 : c.read_again.new.meter.limit ≡ c.args.meter.now.limit = ap (λ (m : Gauge). m.limit) took ∙ limit2 in
     let none3 : IfSome (g.D.Source.held c.args.store.now)
-        (λ f. first_past c.args.meter.now.limit
-        (header_taking c.args.meter.now.live (header_blocks_of c.in_ok-found.found.hdu c.in_ok-found.found.start f)) ≡ None) =
+    (λ f. first_past c.args.meter.now.limit
+    (header_taking c.args.meter.now.live (header_blocks_of c.in_ok-found.found.hdu c.in_ok-found.found.start f)) ≡ None) =
     rw (held2, live2, limit2) at c.in_ok-kept.ensures.first_past in
     let weak : (g.D.Source.held c.with_header-answer.new.store ≡ g.D.Source.held c.read_again.new.store) × (g.D.Source.tally c.with_header-answer.new.store ≡ g.D.Source.tally c.read_again.new.store) → (g.D.Source.held c.with_header-answer.new.store ≡ g.D.Source.held c.args.store.now) × ((g.D.Source.tally c.with_header-answer.new.store).amended ≡ (g.D.Source.tally c.args.store.now).amended) = λ same. (same.0 ∙ held3, ap (λ (t : Tally). t.amended) (same.1 ∙ tally)) in
     record {

@@ -196,25 +196,25 @@ returns-clause-unpassed g c =
     let store = c.args.store.now in
     let n : ℕ = pixels_of c.in_ok-target.target.image.plan 0 in
     let passed : IsUnpassed ((g.D.Source.held c.work.new.store ≡ g.D.Source.held store) × (g.D.Source.tally c.work.new.store ≡ g.D.Source.tally store))
-        meter.limit (piled meter.live (work_buffers 0 false (Some n) 1)) =
+    meter.limit (piled meter.live (work_buffers 0 false (Some n) 1)) =
     rw (c.in_ok-target.ensures.live, c.in_ok-target.ensures.limit) at c.work.ensures.unpassed in
     if_both (g.D.Source.held store) (g.S.Source.held c.args.patch.now) _
     (λ f p is by wanted w live.
     let job = job_at wanted corner in
     let own = first_refusal (own_checks f header job) in
     let has = has_of c.hdu_at_law.ensures.walk c.found_hdus_law.ensures.last (g.D.Source.held store) c.args.length header c.args.buf.now
-        (g.met.D.Source.agrees store c.args.length c.requires.attached) c.requires.read f wanted is w in
+    (g.met.D.Source.agrees store c.args.length c.requires.attached) c.requires.read f wanted is w in
     let none : TellsFirstPast {X = Target} meter.limit (given_taking meter.live p own) (Ok c.in_ok-target.target) =
     some_of (g.S.Source.held c.args.patch.now) (λ q. TellsFirstPast {X = Target} meter.limit (given_taking meter.live q own) (Ok c.in_ok-target.target)) p by
-        (c.in_ok-target.ensures.first_past f wanted has) in
+    (c.in_ok-target.ensures.first_past f wanted has) in
     let found_is : if_patchable f p job (Ok header) ≡ Ok c.in_ok-target.target.header =
     some_of (g.S.Source.held c.args.patch.now) (λ q. if_patchable f q job (Ok header) ≡ Ok c.in_ok-target.target.header) p by
-        (c.in_ok-target.ensures.exact f wanted has) in
+    (c.in_ok-target.ensures.exact f wanted has) in
     either_way (λ same. same)
     (λ tells. work_past {X = Unit {0}} {Y = Target} c.takings_law.ensures.second meter.limit meter.live n f p job header
-        c.in_ok-target.target.header c.in_ok-target.target (Ok tt) (kept_is meter.live c.args.buf.now header c.requires.header live)
-        (tile_of c.in_ok-target.target header f c.in_ok-target.ensures.target.0 c.in_ok-target.ensures.target.1 (c.in_ok-target.ensures.said f has))
-        found_is none tells) passed)
+    c.in_ok-target.target.header c.in_ok-target.target (Ok tt) (kept_is meter.live c.args.buf.now header c.requires.header live)
+    (tile_of c.in_ok-target.target header f c.in_ok-target.ensures.target.0 c.in_ok-target.ensures.target.1 (c.in_ok-target.ensures.said f has))
+    found_is none tells) passed)
 
 pub returns-clause-peak : goal.returns-clause-peak
 returns-clause-peak g c =
