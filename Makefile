@@ -41,7 +41,7 @@ fz:
 
 test:
 	@echo 'The whole gate: an hour and a half or more on 4 processors if nothing was proved yet, minutes if all was.'
-	@bash .ci/run
+	@tools/gate_times --progress bash .ci/run
 
 samples:
 	@python3 tools/make_samples.py
