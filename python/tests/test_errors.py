@@ -21,6 +21,8 @@ CARDS = {
     13: ("ZCMPTYPE", "HCOMPRESS_1"), 14: ("ZBITPIX", -32), 15: ("ZTABLE", True), 16: ("TFORM1", "2PB(4)"), 17: ("NAXIS2", 1),
     26: ("ZSIMPLE", True), 28: ("ZNAXIS1", 5), 29: ("BZERO", 32768),
 }
+# Those that only a patch gives.
+BY_PATCH = (31, 32)
 MENDS = {2: "pad", 6: "header_fill", 7: "data_fill", 8: "trailing"}
 
 
@@ -38,8 +40,10 @@ def asked(number, path):
 class Kinds(InAFolder):
     def test_each_kind(self):
         files = refused_files(self.folder / "files")
-        self.assertEqual(set(files), set(range(1, 30)))
+        self.assertEqual(set(files), {*range(1, 30), *BY_PATCH})
         for number, path in files.items():
+            if number in BY_PATCH:
+                continue
             with self.subTest(path=path.name):
                 with self.assertRaises(fzfits.Refused) as caught:
                     asked(number, path)
@@ -52,6 +56,16 @@ class Kinds(InAFolder):
                 again = pickle.loads(pickle.dumps(error))
                 self.assertEqual((str(again), vars(again)), (str(error), vars(error)))
                 self.assertEqual(self.left(), [b"files"])
+
+    def test_the_kinds_of_patch(self):
+        files = refused_files(self.folder / "files")
+        for number, target, at in ((31, 31, (1,)), (32, 28, (1, 1))):
+            with self.subTest(number=number):
+                with self.assertRaises(fzfits.Refused) as caught:
+                    fzfits.patch(files[target], files[32], at)
+                error = caught.exception
+                self.assertEqual((error.number, f"{number}.{error.kind}.fits"), (number, files[number].name))
+                self.assertTrue(error.meaning)
 
     def test_what_more_is_said(self):
         files = refused_files(self.folder / "files")
