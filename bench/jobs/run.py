@@ -195,23 +195,24 @@ def each_retiling(fz, folder, out):
 
 
 def patching(fz, folder, out):
-    """A patch of a small box of the large image in squares, beside a cutout of that box; MB/s are those of the packed file. Each patch
-    is of a copy that the disk has, and whose making is not timed."""
-    packed = packed_by([fz, "pack", "--tile", CUT_TILES[1], "--sums", f"{folder}/large.fits", f"{folder}/large.sums.fz"],
-                       f"{folder}/large.sums.fz")
-    given, copy = f"{folder}/given.fits", f"{folder}/patched.fz"
-    remove(given)
-    run([fz, "cut", "--box", PATCH_BOX, packed, given])
+    """A patch of a small box of the large image in squares, without checksums and with them, beside a cutout of that box; MB/s are those
+    of the packed file. Each patch is of a copy that the disk has, and whose making is not timed."""
+    plain, given, copy = (f"{folder}/{it}" for it in ("large.fits", "given.fits", "patched.fz"))
+    for name, sums in (("no checksums", []), ("checksums", ["--sums"])):
+        packed = packed_by([fz, "pack", "--tile", CUT_TILES[1], *sums, plain, f"{folder}/large.patch.fz"], f"{folder}/large.patch.fz")
+        remove(given)
+        run([fz, "cut", "--box", PATCH_BOX, packed, given])
+        size = os.path.getsize(packed)
+        print(f"patch {PATCH_BOX}, large.fits in tiles of {CUT_TILES[1]}, {name}, {size / 1e6:.1f} MB packed")
+        rows = [("fz patch", [fz, "patch", "--at", PATCH_AT, given, copy]), ("fz cut", [fz, "cut", "--box", PATCH_BOX, packed, out])]
+        time_all(rows, size, out, ready=partial(copy_synced, packed, copy))
+        remove(copy)
 
-    def ready():
-        shutil.copyfile(packed, copy)
-        os.sync()
 
-    size = os.path.getsize(packed)
-    print(f"patch {PATCH_BOX}, large.fits in tiles of {CUT_TILES[1]}, {size / 1e6:.1f} MB packed")
-    rows = [("fz patch", [fz, "patch", "--at", PATCH_AT, given, copy]), ("fz cut", [fz, "cut", "--box", PATCH_BOX, packed, out])]
-    time_all(rows, size, out, ready=ready)
-    remove(copy)
+def copy_synced(path, copy):
+    """Copies a file, and waits until the disk has the copy."""
+    shutil.copyfile(path, copy)
+    os.sync()
 
 
 def listing(fz, folder, out):
