@@ -69,7 +69,7 @@ def packed_by(words, packed):
 
 
 def unpacking(fz, plain, out, ours, theirs, workers=WORKERS):
-    """The same for unpack: of what fz packed and, where it is installed, of what fpack packed, beside funpack on both."""
+    """The same for unpack: of what fz packed and, if it is installed, of what fpack packed, beside funpack on both."""
     files = [("fz", packed_by([fz, "pack", *ours, plain, f"{plain}.fz"], f"{plain}.fz"))]
     if theirs and shutil.which("fpack"):
         files.append(("fpack", packed_by(["fpack", "-C", *theirs, "-O", f"{plain}.fpack", plain], f"{plain}.fpack")))
@@ -82,7 +82,7 @@ def unpacking(fz, plain, out, ours, theirs, workers=WORKERS):
 
 
 def verifying(fz, plain, out, ours, theirs, _workers=None):
-    """verify of what fz packed with sums, with --strict and without it, and, where it is installed, of what fpack packed, which has
+    """verify of what fz packed with sums, with --strict and without it, and, if it is installed, of what fpack packed, which has
     sums too and is not strict; beside it the unpacking of the same files by fz with one worker and by funpack, without sums. verify
     has one worker."""
     files = [("fz", packed_by([fz, "pack", "--sums", *ours, plain, f"{plain}.fz"], f"{plain}.fz"))]
@@ -133,7 +133,7 @@ def then_sync(rows, fz, out):
 
 
 def on_disk(fz, folder, out):
-    """pack and unpack, the other tools with a sync behind them, so that the disk has what each wrote. The last row is what the command
+    """pack and unpack, the other tools with a sync after them, so that the disk has what each wrote. The last row is what the command
     sync takes if the disk has the file already."""
     kind = subprocess.run(["stat", "-f", "-c", "%T", folder], stdout=subprocess.PIPE, text=True, check=True).stdout.strip()
     if kind in IN_MEMORY:
