@@ -1,7 +1,11 @@
 -- The refusal kinds by their fixed numbers.
 use Rattle.std.specs.Prelude.{ℕ}
 use Rattle.fz_base.specs.declared.kind.Kind.{Kind}
-use Rattle.fz_base.specs.declared.kind.Kind.TheVariants.{NotFits, Truncated, LongHeader, BadCard, Duplicate, HeaderFill, DataFill, TrailingBytes, Reserved, AlreadyPacked, Limit, Groups, UnknownCodec, Quantised, CompressedTable, BadTable, RowCount, DescriptorRange, TileMissing, GzipTile, CodeShort, CodeValue, LineList, PixelRange, TileSize, MisplacedPrimary, NotPacked, OutOfBox, PlioOffset, Unpatchable, BadPatch}
+use Rattle.fz_base.specs.declared.kind.Kind.TheVariants.{NotFits, Truncated, LongHeader, BadCard, Duplicate, HeaderFill, DataFill}
+use Rattle.fz_base.specs.declared.kind.Kind.TheVariants.{TrailingBytes, Reserved, AlreadyPacked, Limit, Groups, UnknownCodec}
+use Rattle.fz_base.specs.declared.kind.Kind.TheVariants.{Quantised, CompressedTable, BadTable, RowCount, DescriptorRange}
+use Rattle.fz_base.specs.declared.kind.Kind.TheVariants.{TileMissing, GzipTile, CodeShort, CodeValue, LineList, PixelRange, TileSize}
+use Rattle.fz_base.specs.declared.kind.Kind.TheVariants.{MisplacedPrimary, NotPacked, OutOfBox, PlioOffset, Unpatchable, BadPatch}
 
 -- the number of a kind; 30 stays unused, since it was the number of a kind that is gone
 abbrev pub kind_number : Kind → ℕ

@@ -34,14 +34,20 @@ LogsIn ranges old new = LogsOnly (λ read. (byte : ℕ) → read.0 ≤ byte → 
 
 -- if the bytes of some reads lie in these ranges, so do those of the reads that were logged
 abbrev pub LogsSomeLaw : Type 0
-LogsSomeLaw = (reads ranges : List (ℕ × ℕ)) (old new : Option (List (ℕ × ℕ))) → ((byte : ℕ) → LiesIn reads byte → LiesIn ranges byte) → LogsSome reads old new → LogsIn ranges old new
+LogsSomeLaw =
+    (reads ranges : List (ℕ × ℕ)) (old new : Option (List (ℕ × ℕ))) → ((byte : ℕ) → LiesIn reads byte → LiesIn ranges byte)
+    → LogsSome reads old new → LogsIn ranges old new
 
 abbrev pub LogsAllLaw : Type 0
-LogsAllLaw = (reads ranges : List (ℕ × ℕ)) (old new : Option (List (ℕ × ℕ))) → ((byte : ℕ) → LiesIn reads byte → LiesIn ranges byte) → new ≡ logged_all reads old → LogsIn ranges old new
+LogsAllLaw =
+    (reads ranges : List (ℕ × ℕ)) (old new : Option (List (ℕ × ℕ))) → ((byte : ℕ) → LiesIn reads byte → LiesIn ranges byte)
+    → new ≡ logged_all reads old → LogsIn ranges old new
 
 -- the same of reads between two places, if the bytes between these lie in the ranges
 abbrev pub LogsWithinLaw : Type 0
-LogsWithinLaw = (from to : ℕ) (ranges : List (ℕ × ℕ)) (old new : Option (List (ℕ × ℕ))) → ((byte : ℕ) → from ≤ byte → byte < to → LiesIn ranges byte) → LogsWithin from to old new → LogsIn ranges old new
+LogsWithinLaw =
+    (from to : ℕ) (ranges : List (ℕ × ℕ)) (old new : Option (List (ℕ × ℕ))) → ((byte : ℕ) → from ≤ byte → byte < to → LiesIn ranges byte)
+    → LogsWithin from to old new → LogsIn ranges old new
 
 -- what is read one after another in some ranges is read in them
 abbrev pub LogsJoinLaw : Type 0

@@ -29,6 +29,6 @@ appended bytes contents = option_map (λ text. text ++ bytes) contents
 abbrev pub MayAppend : List ℕ → Option (List ℕ) → Option (List ℕ) → Type 0
 MayAppend bytes old new = (n : ℕ) × (new ≡ appended (take n bytes) old)
 
--- a write that is told to fail wrote its front, or nothing if it found no memory for that
+-- a write that is set to fail wrote its front, or nothing if it found no memory for that
 abbrev pub KeepsFront : ℕ → List ℕ → Option (List ℕ) → Option (List ℕ) → ℕ → ℕ → Type 0
 KeepsFront at front old new wants wants' = (new ≡ written at front old) ⊎ ((new ≡ old) × Rose wants wants')

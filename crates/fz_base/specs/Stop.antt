@@ -64,15 +64,6 @@ IsDefined spec (Err WriteFault) = ⊤
 IsDefined spec (Err (OverLimit live asked limit)) = ⊤
 IsDefined spec (Err NoMemory) = ⊤
 
--- Why a job that reads a source and writes a sink stopped, by their tallies and its meter's limit. It answers Refused only if
--- no count of faults rose, and no taking is larger than the last number together with what is live.
-abbrev pub StoppedJob : Tally → Tally → Tally → Tally → ℕ → ℕ → Stop → Type 0
-StoppedJob source source' sink sink' limit most (Refused x) = (source'.faults ≡ source.faults) × (sink'.faults ≡ sink.faults)
-StoppedJob source source' sink sink' limit most ReadFault = Rose source.faults source'.faults
-StoppedJob source source' sink sink' limit most WriteFault = Rose sink.faults sink'.faults
-StoppedJob source source' sink sink' limit most (OverLimit live asked told) = (told ≡ limit) × (limit < live + asked) × (live + asked ≤ most)
-StoppedJob source source' sink sink' limit most NoMemory = ⊤
-
 -- why a call that reads and writes, but takes no buffer and refuses nothing, stopped
 abbrev pub StoppedWriting : Tally → Tally → Tally → Tally → Stop → Type 0
 StoppedWriting source source' sink sink' (Refused x) = ⊥

@@ -46,4 +46,6 @@ PastFirstLaw = (limit : ℕ) (found : ℕ × ℕ) (first second : List (ℕ × �
 
 -- a taking that passes some limit is within every bound that no taking passes
 abbrev pub PastWithinLaw : Type 0
-PastWithinLaw = (limit bound : ℕ) (takings : List (ℕ × ℕ)) (found : ℕ × ℕ) → first_past bound takings ≡ None → first_past limit takings ≡ Some found → found.0 + found.1 ≤ bound
+PastWithinLaw =
+    (limit bound : ℕ) (takings : List (ℕ × ℕ)) (found : ℕ × ℕ) → first_past bound takings ≡ None → first_past limit takings ≡ Some found
+    → found.0 + found.1 ≤ bound

@@ -13,7 +13,7 @@ pub enum Kind {
     LongHeader,
     /// A card that must be there is missing, in another place, or has no allowed value.
     BadCard,
-    /// A name that stands once stands twice, or ZSIMPLE and ZTENSION both stand.
+    /// A name that may occur once occurs twice, or ZSIMPLE and ZTENSION both occur.
     Duplicate,
     /// In an image to be packed, a byte of the header after the letters END is not blank.
     HeaderFill,
@@ -32,7 +32,7 @@ pub enum Kind {
     /// ZCMPTYPE is not the name of a supported codec, or BYTEPIX is 8, or ZBITPIX is 64 and ZCMPTYPE is
     /// not NOCOMPRESS.
     UnknownCodec,
-    /// ZBITPIX is -32 or -64, or a scaling or mask column or card stands.
+    /// ZBITPIX is -32 or -64, or there is a scaling or mask column or card.
     Quantised,
     /// A binary table has ZTABLE T.
     CompressedTable,
@@ -56,7 +56,7 @@ pub enum Kind {
     PixelRange,
     /// Plain bytes have another length than the tile.
     TileSize,
-    /// ZSIMPLE stands elsewhere than in HDU 1 after a primary with NAXIS 0.
+    /// ZSIMPLE is elsewhere than in HDU 1 after a primary with NAXIS 0.
     MisplacedPrimary,
     /// `cut` names, or finds, no packed HDU.
     NotPacked,

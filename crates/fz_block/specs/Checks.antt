@@ -1,6 +1,8 @@
 -- The checks that every job makes of every HDU, each a condition on the bytes of the file, in their order (FITS 4.0, sections
 -- 3.1, 3.3, 3.4.1 and 4.4.1).
-use Rattle.std.specs.Prelude.{ℕ, zero, suc, ◌≡◌, ◌⊎◌, ◌==◌, ◌+◌, ◌*◌, ◌-◌, ◌/◌, ◌^◌, ◌&&◌, not, nat_lt, nat_le, min, Bool, true, false, List, [], ◌∷◌, ◌++◌, length, take, drop, codes, bytes_eq, Option, Some, None, is_none, is_some, unwrap_or, Result, Ok, Err, if◌then◌else◌}
+use Rattle.std.specs.Prelude.{ℕ, zero, suc, ◌≡◌, ◌⊎◌, ◌==◌, ◌+◌, ◌*◌, ◌-◌, ◌/◌, ◌^◌, ◌&&◌, not, nat_lt, nat_le}
+use Rattle.std.specs.Prelude.{min, Bool, true, false, List, [], ◌∷◌, ◌++◌, length, take, drop, codes, bytes_eq}
+use Rattle.std.specs.Prelude.{Option, Some, None, is_none, is_some, unwrap_or, Result, Ok, Err, if◌then◌else◌}
 use Rattle.fz_base.specs.Refusal.{refusal, first_refusal}
 use Rattle.fz_base.specs.declared.fault.Fault.{Fault}
 use Rattle.fz_base.specs.declared.fault.Place.TheVariants.{Byte, Card}
@@ -97,7 +99,7 @@ end_checks k len end =
     ∷ (nat_lt len end, refusal k (Byte len) Truncated)
     ∷ []
 
--- The checks of the header of HDU k, whose blocks are known, in a file of so many bytes. Where END is not in its last block, the
+-- The checks of the header of HDU k, whose blocks are known, in a file of so many bytes. If END is not in its last block, the
 -- source gave other bytes than before.
 abbrev pub header_checks : ℕ → ℕ → ℕ → List ℕ → List (Bool × Fault)
 header_checks k start len header =
@@ -152,11 +154,5 @@ abbrev pub walk_of : Judge → ℕ → List ℕ → Result (List Header) Fault
 walk_of judge most file = walk_from judge most 0 0 file
 
 -- the same of all HDUs, by only the checks of every job
-abbrev pub and_those_after : List ℕ → (Header → Result (List Header) Fault) → Result Header Fault → Result (List Header) Fault
-and_those_after file rest here = judged file unjudged rest here
-
-abbrev pub headers_from : ℕ → ℕ → ℕ → List ℕ → Result (List Header) Fault
-headers_from most k start file = walk_from unjudged most k start file
-
 abbrev pub headers_of : ℕ → List ℕ → Result (List Header) Fault
 headers_of most file = walk_of unjudged most file

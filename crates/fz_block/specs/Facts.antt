@@ -1,5 +1,6 @@
 -- The facts that a header says: what the HDU is, its pixels, its axes, and the length of its data (FITS 4.0, sections 4.4.1 and 7).
-use Rattle.std.specs.Prelude.{ℕ, zero, suc, pos, ◌≡◌, ◌/◌, ◌-◌, ◌≤◌, List, ◌++◌, length, replicate, codes, bytes_eq, Option, Some, None, unwrap_or, if◌then◌else◌}
+use Rattle.std.specs.Prelude.{ℕ, zero, suc, pos, ◌≡◌, ◌/◌, ◌-◌, ◌≤◌, List, ◌++◌, length, replicate}
+use Rattle.std.specs.Prelude.{codes, bytes_eq, Option, Some, None, unwrap_or, if◌then◌else◌}
 use Rattle.fz_base.specs.Refusal.{first_refusal}
 use Rattle.fz_card.specs.Reading.{integer_of, text_of}
 use Rattle.fz_block.specs.Cards.{card_at, end_of}

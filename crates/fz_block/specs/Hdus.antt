@@ -1,5 +1,6 @@
 -- The HDUs of a file, each a header and its data with fill (FITS 4.0, sections 3.1, 3.3 and 4.4.1).
-use Rattle.std.specs.Prelude.{ℕ, zero, suc, ◌≡◌, ◌==◌, ◌+◌, ◌-◌, ◌*◌, ◌/◌, false, ℤ, pos, negsuc, List, [], ◌∷◌, ◌++◌, length, take, drop, map, Option, Some, None, IsSome, unwrap_or, codes, ⊤, if◌then◌else◌}
+use Rattle.std.specs.Prelude.{ℕ, zero, suc, ◌≡◌, ◌==◌, ◌+◌, ◌-◌, ◌*◌, ◌/◌, false, ℤ, pos, negsuc, List, [], ◌∷◌, ◌++◌}
+use Rattle.std.specs.Prelude.{length, take, drop, map, Option, Some, None, IsSome, unwrap_or, codes, ⊤, if◌then◌else◌}
 use Rattle.std.specs.List.{flat_map, range_with_len}
 use Rattle.fz_card.specs.Layout.{blanks, filled}
 use Rattle.fz_card.specs.Reading.{integer_of}

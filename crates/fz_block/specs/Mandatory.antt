@@ -1,6 +1,7 @@
 -- The cards that a header must have, each in its place: first XTENSION of an extension, then BITPIX, NAXIS and the lengths of
 -- the axes, and PCOUNT and GCOUNT of an extension (FITS 4.0, sections 4.4.1.1, 4.4.1.2 and 7).
-use Rattle.std.specs.Prelude.{ℕ, zero, suc, ℤ, pos, negsuc, ◌+◌, ◌&&◌, ◌||◌, not, nat_lt, Bool, true, false, List, [], ◌∷◌, ◌++◌, codes, Option, Some, None, is_some}
+use Rattle.std.specs.Prelude.{ℕ, zero, suc, ℤ, pos, negsuc, ◌+◌, ◌&&◌, ◌||◌, not, nat_lt, Bool}
+use Rattle.std.specs.Prelude.{true, false, List, [], ◌∷◌, ◌++◌, codes, Option, Some, None, is_some}
 use Rattle.std.specs.List.{flat_map, range_with_len}
 use Rattle.std.specs.Ordering.{int_eq}
 use Rattle.fz_base.specs.Refusal.{refusal}
@@ -42,8 +43,10 @@ axis_checks k header i =
 abbrev pub count_checks : ℕ → List ℕ → List (Bool × Fault)
 count_checks zero header = []
 count_checks (suc k) header =
-    must (suc k) (pcount_index header) (is_named (codes "PCOUNT") (card_at header (pcount_index header)) && is_size (integer_of (card_at header (pcount_index header))))
-    ∷ must (suc k) (gcount_index header) (is_named (codes "GCOUNT") (card_at header (gcount_index header)) && is_size (integer_of (card_at header (gcount_index header))))
+    must (suc k) (pcount_index header)
+    (is_named (codes "PCOUNT") (card_at header (pcount_index header)) && is_size (integer_of (card_at header (pcount_index header))))
+    ∷ must (suc k) (gcount_index header)
+    (is_named (codes "GCOUNT") (card_at header (gcount_index header)) && is_size (integer_of (card_at header (gcount_index header))))
     ∷ []
 
 -- card 1 is BITPIX

@@ -1,5 +1,6 @@
 -- The search for END, block by block.
-use Rattle.std.specs.Prelude.{ℕ, ◌≡◌, ◌==◌, ◌+◌, ◌*◌, ◌≤◌, ◌<◌, ◌&&◌, not, nat_lt, nat_le, Bool, false, List, length, take, drop, codes, bytes_eq, None, is_some, Result, Ok, Err, if◌then◌else◌}
+use Rattle.std.specs.Prelude.{ℕ, ◌≡◌, ◌==◌, ◌+◌, ◌*◌, ◌≤◌, ◌<◌, ◌&&◌, not, nat_lt, nat_le, Bool, false, List}
+use Rattle.std.specs.Prelude.{length, take, drop, codes, bytes_eq, None, is_some, Result, Ok, Err, if◌then◌else◌}
 use Rattle.fz_base.specs.Refusal.{refusal}
 use Rattle.fz_base.specs.declared.fault.Fault.{Fault}
 use Rattle.fz_base.specs.declared.fault.Place.TheVariants.{Byte, Card}

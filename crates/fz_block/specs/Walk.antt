@@ -1,5 +1,6 @@
 -- The HDUs of a file by the facts of their headers, one after another (FITS 4.0, sections 3.1 and 3.3).
-use Rattle.std.specs.Prelude.{ℕ, zero, suc, ◌≡◌, ◌==◌, ◌+◌, ◌*◌, ◌<◌, ◌≤◌, ◌||◌, Bool, true, false, List, [], ◌∷◌, length, take, drop, codes, bytes_eq, Result, Ok, Err, IsOk, ⊤}
+use Rattle.std.specs.Prelude.{ℕ, zero, suc, ◌≡◌, ◌==◌, ◌+◌, ◌*◌, ◌<◌, ◌≤◌, ◌||◌, Bool, true, false, List}
+use Rattle.std.specs.Prelude.{[], ◌∷◌, length, take, drop, codes, bytes_eq, Result, Ok, Err, IsOk, ⊤}
 use Rattle.fz_base.specs.declared.fault.Fault.{Fault}
 use Rattle.fz_block.specs.Cards.{card_at}
 use Rattle.fz_block.specs.Checks.{Judge, is_set, header_of}
@@ -46,11 +47,12 @@ abbrev pub facts_from : ℕ → ℕ → List Hdu → List Header
 facts_from k start [] = []
 facts_from k start (h ∷ hs) = facts_of k start h.header ∷ facts_from (suc k) (start + length (hdu_bytes h)) hs
 
--- Headers from HDU k on, which begins at the first of two bytes: they are numbered one after another, each stands where the HDU
+-- Headers from HDU k on, which begins at the first of two bytes: they are numbered one after another, each is where the HDU
 -- before it ends, and the last HDU ends at the second.
 abbrev pub AreHeadersBetween : ℕ → ℕ → ℕ → List ℕ → List Header → Type 0
 AreHeadersBetween k start end file [] = start ≡ end
-AreHeadersBetween k start end file (h ∷ hs) = (h.hdu ≡ k) × (h.start ≡ start) × IsHeaderOf (hdu_of file h).header h × AreHeadersBetween (suc k) (next_start_of h) end file hs
+AreHeadersBetween k start end file (h ∷ hs) =
+    (h.hdu ≡ k) × (h.start ≡ start) × IsHeaderOf (hdu_of file h).header h × AreHeadersBetween (suc k) (next_start_of h) end file hs
 
 -- the headers of a file from HDU k on: the last HDU ends with the file
 abbrev pub AreHeadersFrom : ℕ → ℕ → List ℕ → List Header → Type 0

@@ -7,7 +7,7 @@ use Rattle.fz_card.specs.Layout.{card_name}
 abbrev pub cards_in : ℕ → List ℕ → List (List ℕ)
 cards_in count bytes = map (λ i. take 80 (drop (80 * i) bytes)) (range_with_len 0 count)
 
--- the card stands in the list and has this name, and no card before it has
+-- the card is in the list and has this name, and no card before it has
 pub record IsFirstOfName (name : List ℕ) (cards : List (List ℕ)) (card : List ℕ) : Type 0 where
   pub index : ℕ
   pub within : index < length cards

@@ -21,10 +21,10 @@ pub record MadeCardLaws : Type 0 where
   pub integer_value : (name : List ℕ) (v : ℤ) → length name ≡ 8 → IsShort v → IntegerValue (int_card_bytes name v) v
   pub logical_value : (name : List ℕ) (b : Bool) → length name ≡ 8 → LogicalValue (logical_card_bytes name b) b
   pub text_value : (name text : List ℕ) → length name ≡ 8 → IsCardText text → TextValue (text_card_bytes name text) text
-  -- the digits of a number can stand between quotes
+  -- the digits of a number can be between quotes
   pub number_unquoted : (n : ℕ) → n < 2 ^ 64 → IsTrue (is_unquoted (decimal n))
 
--- a card has a value by the split of its field exactly where the function finds it
+-- a card has a value by the split of its field exactly if the function finds it
 abbrev pub IntegerOfLaw : Type 0
 IntegerOfLaw = (card : List ℕ) (v : ℤ) → IntegerValue card v ↔ (integer_of card ≡ Some v)
 
@@ -49,7 +49,7 @@ pub record HasNumber (stem name : List ℕ) (i : ℕ) : Type 0 where
   pub some : 0 < i
   pub made : name ≡ numbered_name stem i
 
--- a name has a number after a stem exactly where it is made of both; a stem and a number that fit make a name of 8 bytes
+-- a name has a number after a stem exactly if it is made of both; a stem and a number that fit make a name of 8 bytes
 pub record NumberedNameLaws : Type 0 where
   pub eight_bytes : (stem : List ℕ) (i : ℕ) → FitsName stem i → length (numbered_name stem i) ≡ 8
   pub made_number : (stem name : List ℕ) (i : ℕ) → 0 < i → i < 2 ^ 64 → name ≡ numbered_name stem i → number_behind stem name ≡ Some i
@@ -62,7 +62,7 @@ pub record AreBothNames (a b : List ℕ) : Type 0 where
   pub to_plain : plain_name b ≡ Some a
   pub kept : is_dropped b ≡ false
 
--- the functions of the tables of names give the names that stand in the tables; the two ways through the table of both names undo each other
+-- the functions of the tables of names give the names that are in the tables; the two ways through the table of both names undo each other
 pub record NameTableLaws : Type 0 where
   -- a line of a list, and a list
   pub line_named : (line : Names) (name : List ℕ) → is_in line name ≡ true → IsIn line name
@@ -84,7 +84,7 @@ pub record NameTableLaws : Type 0 where
   pub renamed_kept : (a b : List ℕ) → packed_name a ≡ Some b → is_dropped b ≡ false
   pub other_kept : (a : List ℕ) → is_reserved a ≡ false → ¬ (IsHighAxis a) → packed_name a ≡ None → (plain_name a ≡ None) × (is_dropped a ≡ false)
 
--- blanks stand before this rest, and nothing else does
+-- blanks are before this rest, and nothing else is
 pub record IsBehindBlanks (text rest : List ℕ) : Type 0 where
   pub count : ℕ
   pub parts : text ≡ blanks count ++ rest
@@ -102,7 +102,7 @@ pub record CardLaws : Type 0 where
   pub names : NameTableLaws
   pub blanks : BlankLaws
 
--- a text without blanks and `/` is that of the card's value exactly where it is found from the left
+-- a text without blanks and `/` is that of the card's value exactly if it is found from the left
 abbrev pub ValueTextLaw : Type 0
 ValueTextLaw = (card text : List ℕ) → IsPlain text → HasValueText card text ↔ (HasValueIndicator card × (plain_text (value_field card) ≡ text))
 

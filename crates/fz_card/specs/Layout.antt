@@ -2,7 +2,7 @@
 use Rattle.std.specs.Prelude.{◌≡◌, ℕ, ◌-◌, List, ◌++◌, length, take, drop, replicate, codes}
 use Rattle.std.specs.Str.{byte}
 
--- so many blanks: a blank is the space alone
+-- so many blanks: a blank is only the space
 abbrev pub blanks : ℕ → List ℕ
 blanks count = replicate count (byte " ")
 
@@ -10,7 +10,7 @@ blanks count = replicate count (byte " ")
 abbrev pub filled : ℕ → List ℕ → List ℕ
 filled len text = text ++ blanks (len - length text)
 
--- a name as it stands in columns 1 to 8
+-- a name as it is in columns 1 to 8
 abbrev pub padded : List ℕ → List ℕ
 padded name = filled 8 name
 
@@ -22,6 +22,6 @@ card_name card = take 8 card
 abbrev pub HasValueIndicator : List ℕ → Type 0
 HasValueIndicator card = take 2 (drop 8 card) ≡ codes "= "
 
--- columns 11 to 80, where the value and the comment stand
+-- columns 11 to 80, where the value and the comment are
 abbrev pub value_field : List ℕ → List ℕ
 value_field card = drop 10 card

@@ -28,11 +28,11 @@ value_card name field = filled 80 (name ++ (codes "= " ++ field))
 unfoldable pub int_card_bytes : List ℕ → ℤ → List ℕ
 int_card_bytes name v = value_card name (right_aligned 20 (signed_decimal v))
 
--- `T` or `F` stands in column 30
+-- `T` or `F` is in column 30
 unfoldable pub logical_card_bytes : List ℕ → Bool → List ℕ
 logical_card_bytes name b = value_card name (right_aligned 20 (logical_text b))
 
--- quotes stand round a text of at least 8 characters, the first of them in column 11
+-- quotes are round a text of at least 8 characters, the first of them in column 11
 unfoldable pub text_card_bytes : List ℕ → List ℕ → List ℕ
 text_card_bytes name text = value_card name (codes "'" ++ (filled 8 text ++ codes "'"))
 

@@ -1,5 +1,6 @@
 -- The tables of names as functions, for definitions that compute with names. Laws say that they give the names of the tables.
-use Rattle.std.specs.Prelude.{ℕ, ◌&&◌, ◌||◌, nat_lt, nat_le, if◌then◌else◌, Bool, false, Option, Some, None, List, [], ◌∷◌, length, drop, map, bytes_eq, is_some}
+use Rattle.std.specs.Prelude.{ℕ, ◌&&◌, ◌||◌, nat_lt, nat_le, if◌then◌else◌, Bool, false, Option}
+use Rattle.std.specs.Prelude.{Some, None, List, [], ◌∷◌, length, drop, map, bytes_eq, is_some}
 use Rattle.std.specs.Option.{option_or, option_and_then}
 use Rattle.std.specs.Str.{all_ascii_digits}
 use Rattle.std.specs.Str.Parse.{digits_value}
@@ -27,7 +28,7 @@ abbrev pub is_in : Names → List ℕ → Bool
 is_in (Word word) name = bytes_eq name (padded word)
 is_in (Numbered stem last) name = is_some (up_to last (number_behind stem name))
 
--- whether the name stands in some line of the list
+-- whether the name is in some line of the list
 abbrev pub is_in_some : List Names → List ℕ → Bool
 is_in_some [] name = false
 is_in_some (line ∷ lines) name = is_in line name || is_in_some lines name
@@ -55,7 +56,7 @@ packed_name name = some_renamed renamings name
 unfoldable pub plain_name : List ℕ → Option (List ℕ)
 plain_name name = some_renamed (map reversed renamings) name
 
--- whether the name stands in a packed header for the table alone
+-- whether the name is in a packed header only for the table
 unfoldable pub is_dropped : List ℕ → Bool
 is_dropped name = is_in_some own_names name || is_in_some packed_names name
 

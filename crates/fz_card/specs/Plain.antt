@@ -6,7 +6,7 @@ use Rattle.std.specs.Str.Parse.{IsNumeral, digits_value, signed_digits_value, wi
 use Rattle.std.specs.Borrow.{Bor}
 use Rattle.fz_card.specs.Layout.{HasValueIndicator, value_field}
 
--- what stands before the first `/`
+-- what is before the first `/`
 abbrev pub before_comment : List ℕ → List ℕ
 before_comment [] = []
 before_comment (b ∷ bs) = if b == byte "/" then [] else b ∷ before_comment bs
@@ -21,16 +21,16 @@ abbrev pub cut_blanks : List ℕ → List ℕ
 cut_blanks [] = []
 cut_blanks (b ∷ bs) = if b == byte " " && (length (cut_blanks bs) == 0) then [] else b ∷ cut_blanks bs
 
--- what stands in the field before a comment, without the blanks around it
+-- what is in the field before a comment, without the blanks around it
 abbrev pub plain_text : List ℕ → List ℕ
 plain_text field = cut_blanks (skip_blanks (before_comment field))
 
--- the value field of the card, or nothing where the card has no value
+-- the value field of the card, or nothing if the card has no value
 abbrev pub ReadsField : List ℕ → Option (Bor (List ℕ)) → Type 0
 ReadsField card read = MatchOption read (¬ (HasValueIndicator card))
     (λ field. HasValueIndicator card × (field.now ≡ value_field card))
 
--- the text of the card's value, or nothing where the card has no value
+-- the text of the card's value, or nothing if the card has no value
 abbrev pub ReadsPlainText : List ℕ → Option (Bor (List ℕ)) → Type 0
 ReadsPlainText card read = MatchOption read (¬ (HasValueIndicator card))
     (λ text. HasValueIndicator card × (text.now ≡ plain_text (value_field card)))

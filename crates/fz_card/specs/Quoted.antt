@@ -12,7 +12,8 @@ Closed = List ℕ × List ℕ
 abbrev pub with_first : ℕ → Option Closed → Option Closed
 with_first b found = option_map (λ c. (b ∷ c.0, c.1)) found
 
--- characters up to the quote that closes them, of which each quote is written twice; the test says that a quote stands before these bytes, which closes unless a second one follows
+-- characters up to the quote that closes them, of which each quote is written twice; the test says that a quote is before these
+-- bytes, which closes unless a second one follows
 abbrev pub read_quoted : Bool → List ℕ → Option Closed
 read_quoted false [] = None
 read_quoted true [] = Some ([], [])
@@ -28,7 +29,7 @@ abbrev pub at_quote : List ℕ → Option Closed
 at_quote [] = None
 at_quote (b ∷ bs) = Some ([], bs)
 
--- whether nothing but blanks stands there up to the end or a comment
+-- whether nothing but blanks is there up to the end or a comment
 abbrev pub is_blank : List ℕ → Bool
 is_blank bytes = length (plain_text bytes) == 0
 

@@ -1,4 +1,5 @@
--- The tables of names: how the names of an image are called in a packed header, which names a packed header has of itself, and which an image to be packed may not have (FITS 4.0, sections 4.4, 7.3 and 10.1).
+-- The tables of names: how the names of an image are called in a packed header, which names a packed header has of itself, and
+-- which an image to be packed may not have (FITS 4.0, sections 4.4, 7.3 and 10.1).
 use Rattle.std.specs.Prelude.{◌≡◌, ℕ, ◌<◌, ◌≤◌, ◌^◌, ◌⊎◌, ⊤, List, [], ◌∷◌, codes}
 use Rattle.fz_card.specs.Layout.{padded}
 use Rattle.fz_card.specs.Made.{numbered_name}
@@ -30,7 +31,7 @@ abbrev pub AreShortLines : List Names → Type 0
 AreShortLines [] = ⊤
 AreShortLines (line ∷ lines) = IsShortLine line × AreShortLines lines
 
--- the name stands in some line of the list
+-- the name is in some line of the list
 abbrev pub IsInSome : List Names → List ℕ → Type 0
 IsInSome [] name = ⊥
 IsInSome (line ∷ lines) name = IsIn line name ⊎ IsInSome lines name
@@ -78,7 +79,7 @@ renamings =
 unfoldable pub IsRenamed : List ℕ → List ℕ → Type 0
 IsRenamed a b = SomeRenames renamings a b
 
--- the names that stand in a packed header alone: those of its columns, and those of the compression
+-- the names that are only in a packed header: those of its columns, and those of the compression
 unfoldable pub packed_names : List Names
 packed_names =
     Word (codes "TFIELDS") ∷
@@ -109,7 +110,7 @@ own_names =
     Word (codes "DATASUM") ∷
     []
 
--- the names that tell of a table that is packed in another way, and those of the axes of a packed image
+-- the names that say something of a table that is packed in another way, and those of the axes of a packed image
 unfoldable pub foreign_names : List Names
 foreign_names =
     Word (codes "ZTABLE") ∷
@@ -118,11 +119,12 @@ foreign_names =
     Numbered (codes "ZNAXIS") 99 ∷
     []
 
--- the name stands in a packed header for the table alone: it is not restored with the image
+-- the name is in a packed header only for the table: it is not restored with the image
 unfoldable pub IsDropped : List ℕ → Type 0
 IsDropped name = IsInSome own_names name ⊎ IsInSome packed_names name
 
--- the name would be taken for one of a packed header: it is one that a renamed name has there, one that stands in a packed header alone, or one of a table that is packed in another way
+-- the name would be taken for one of a packed header: it is one that a renamed name has there, one that is only in a packed header,
+-- or one of a table that is packed in another way
 unfoldable pub IsReserved : List ℕ → Type 0
 IsReserved name = ((a : List ℕ) × IsRenamed a name) ⊎ (IsInSome packed_names name ⊎ IsInSome foreign_names name)
 

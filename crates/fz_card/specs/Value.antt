@@ -1,5 +1,6 @@
 -- The values of a card, by a split of its value field (FITS 4.0, sections 4.1.2.3 and 4.2).
-use Rattle.std.specs.Prelude.{◌≡◌, ℕ, suc, ◌^◌, ◌<◌, ◌≤◌, ◌⊎◌, ℤ, pos, negsuc, neg_ℤ, Bool, List, [], ◌∷◌, ◌++◌, length, codes, ⊤, if◌then◌else◌, ◌==◌, ◌≢◌, ◌+◌, ◌-◌, replicate, slice_index, true, false}
+use Rattle.std.specs.Prelude.{◌≡◌, ℕ, suc, ◌^◌, ◌<◌, ◌≤◌, ◌⊎◌, ℤ, pos, negsuc, neg_ℤ, Bool, List, [], ◌∷◌, ◌++◌}
+use Rattle.std.specs.Prelude.{length, codes, ⊤, if◌then◌else◌, ◌==◌, ◌≢◌, ◌+◌, ◌-◌, replicate, slice_index, true, false}
 use Rattle.std.specs.Str.{byte}
 use Rattle.std.specs.Str.Parse.{IsNumeral, digits_value}
 use Rattle.fz_card.specs.Layout.{blanks, HasValueIndicator, value_field}
@@ -59,7 +60,7 @@ logical_text b = if b then codes "T" else codes "F"
 abbrev pub LogicalValue : List ℕ → Bool → Type 0
 LogicalValue card b = HasValueText card (logical_text b)
 
--- characters as they stand between quotes: each quote is written twice
+-- characters as they are between quotes: each quote is written twice
 abbrev pub doubled : List ℕ → List ℕ
 doubled [] = []
 doubled (b ∷ bs) = if b == byte "'" then b ∷ b ∷ doubled bs else b ∷ doubled bs
@@ -68,7 +69,7 @@ doubled (b ∷ bs) = if b == byte "'" then b ∷ b ∷ doubled bs else b ∷ dou
 abbrev pub IsTrimmed : List ℕ → Type 0
 IsTrimmed text = slice_index text (length text - 1) ≢ byte " "
 
--- characters between quotes, where blanks at the end do not count
+-- characters between quotes, of which blanks at the end do not count
 pub record IsQuoted (text characters : List ℕ) : Type 0 where
   pub trailing : ℕ
   pub parts : text ≡ codes "'" ++ (doubled (characters ++ blanks trailing) ++ codes "'")
@@ -113,7 +114,7 @@ pub record HasZero (card : List ℕ) : Type 0 where
   pub has : HasValueText card text
   pub is : IsZeroText text
 
--- the card has a value, and something stands in the field before a comment
+-- the card has a value, and something is in the field before a comment
 pub record HasValue (card : List ℕ) : Type 0 where
   pub indicator : HasValueIndicator card
   pub not_blank : ¬ (SplitsRound [] (value_field card))

@@ -37,7 +37,7 @@ fn card_from(buf: &[u8], start: usize) -> Card
     Card { bytes }
 }
 
-/// `first_of_name` gives the first card of the name, and none exactly where no card has it.
+/// `first_of_name` gives the first card of the name, and none exactly if no card has it.
 pub fn first_of_name_law()
     ensures found { (name card : List ℕ) (cards : List (List ℕ)) → (first_of_name name cards ≡ Some card) ↔ IsFirstOfName name cards card }
     ensures none { (name : List ℕ) (cards : List (List ℕ)) → (first_of_name name cards ≡ None)

@@ -8,7 +8,7 @@ use crate::card::{CARD_LEN, Card, FIELD_LEN, Name};
 use crate::line::Line;
 use itoa::Buffer;
 
-/// The length of columns 11 to 30, at the end of which a number stands.
+/// The length of columns 11 to 30, at the end of which a number is.
 const NUMBER_LEN: usize = 20;
 
 /// The fewest characters between the quotes of a text.
@@ -55,7 +55,7 @@ fn value_line(name: Name) -> Line<CARD_LEN>
     line
 }
 
-/// A card whose value is this text, as the digits of a number: it ends in column 30, or begins in column 11 where it
+/// A card whose value is this text, as the digits of a number: it ends in column 30, or begins in column 11 if it
 /// has more than 20 characters (FITS 4.0, sections 4.2.3 and 4.2.4).
 pub fn number_card(name: Name, text: &[u8]) -> Card
     requires { length text.now ≤ FIELD_LEN }
@@ -69,7 +69,7 @@ pub fn number_card(name: Name, text: &[u8]) -> Card
     }
 }
 
-/// Each card that is made has 80 bytes, and the name and the value that it was made of; so it is no END card where that
+/// Each card that is made has 80 bytes, and the name and the value that it was made of; so it is no END card if that
 /// name is none.
 pub fn made_cards_law()
     ensures { MadeCardLaws }

@@ -26,7 +26,7 @@ pub fn numbered(stem: &[u8], i: u32) -> Name
 }
 
 /// The number of a name that is made of the stem and a number above 0, as 12 of `NAXIS12`, and `None` exactly
-/// where it is made of no such number: the digits have no zeros at their front (FITS 4.0, section 4.1.2.1).
+/// if it is made of no such number: the digits have no zeros at their front (FITS 4.0, section 4.1.2.1).
 pub fn number_behind(name: Name, stem: &[u8]) -> Option<u32>
     ensures { result ≡ number_behind stem.now name.bytes }
 {
@@ -64,7 +64,7 @@ pub fn whole_number(digits: &[u8]) -> Option<u32>
     text.parse().ok()
 }
 
-/// A name has a number after a stem exactly where it is made of both. A stem and a number that fit make a name of 8
+/// A name has a number after a stem exactly if it is made of both. A stem and a number that fit make a name of 8
 /// bytes.
 pub fn numbers_law()
     ensures { NumberedNameLaws }

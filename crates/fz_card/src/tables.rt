@@ -56,7 +56,7 @@ macro_rules! to_plain {
     };
 }
 
-/// Whether the name stands in some line of a list: a word, or a stem with the last number after it.
+/// Whether the name is in some line of a list: a word, or a stem with the last number after it.
 macro_rules! is_any_of {
     ($name:ident; $word:ident) => {
         $name == Name::$word
@@ -72,7 +72,7 @@ macro_rules! is_any_of {
     };
 }
 
-/// The name in a packed header of a name of an image, where it is another (FITS 4.0, section 10.1.1).
+/// The name in a packed header of a name of an image, if it is another (FITS 4.0, section 10.1.1).
 pub fn renamed(name: Name) -> Option<Name>
     ensures value { IfSome result (λ b. IsRenamed name.bytes b.bytes) }
     ensures none { IfNone result ((b : List ℕ) → ¬ (IsRenamed name.bytes b)) }
@@ -81,7 +81,7 @@ pub fn renamed(name: Name) -> Option<Name>
     renamings!(to_packed, name)
 }
 
-/// The name in an image of a name of a packed header, where it is another.
+/// The name in an image of a name of a packed header, if it is another.
 pub fn restored(name: Name) -> Option<Name>
     ensures value { IfSome result (λ a. IsRenamed a.bytes name.bytes) }
     ensures none { IfNone result ((a : List ℕ) → ¬ (IsRenamed a name.bytes)) }
@@ -90,7 +90,7 @@ pub fn restored(name: Name) -> Option<Name>
     renamings!(to_plain, name)
 }
 
-/// Whether a card of this name in a packed header is the table's alone, and not the image's.
+/// Whether a card of this name in a packed header is the table's only, and not the image's.
 pub fn is_dropped(name: Name) -> bool
     ensures value { IsTrue result ↔ IsDropped name.bytes }
     ensures function { result ≡ is_dropped name.bytes }
@@ -123,7 +123,7 @@ fn is_own(name: Name) -> bool
         DATASUM)
 }
 
-/// Whether the name stands in a packed header alone.
+/// Whether the name is only in a packed header.
 #[tactic(auto, unfolding(crate::specs::Tables::packed_names))]
 fn is_packed(name: Name) -> bool
     ensures { result ≡ is_in_some packed_names name.bytes }
@@ -144,7 +144,7 @@ fn is_packed(name: Name) -> bool
         ZMASKCMP)
 }
 
-/// Whether the name tells of a table that is packed in another way, or is one of an axis of a packed image.
+/// Whether the name says something of a table that is packed in another way, or is one of an axis of a packed image.
 #[tactic(auto, unfolding(crate::specs::Tables::foreign_names))]
 fn is_foreign(name: Name) -> bool
     ensures { result ≡ is_in_some foreign_names name.bytes }

@@ -1,4 +1,4 @@
-//! The text of a value that has no quotes: what stands in the value field before a comment, without the
+//! The text of a value that has no quotes: what is in the value field before a comment, without the
 //! blanks around it.
 ghost use Rattle.std.specs.Prelude.{◌≡◌, ◌==◌, position};
 ghost use Rattle.fz_card.specs.Plain.{before_comment, skip_blanks, cut_blanks, plain_text, ReadsField, ReadsPlainText};
@@ -6,11 +6,11 @@ ghost use Rattle.fz_card.specs.Laws.{ValueTextLaw, BlankLaws};
 
 use crate::card::{Card, FIELD_START, NAME_LEN};
 
-/// What stands in columns 9 and 10 of a card with a value (FITS 4.0, section 4.1.2.2).
+/// What is in columns 9 and 10 of a card with a value (FITS 4.0, section 4.1.2.2).
 const VALUE_INDICATOR: [u8; 2] = *b"= ";
 
 impl Card {
-    /// The value field, or `None` where columns 9 and 10 say that there is no value.
+    /// The value field, or `None` if columns 9 and 10 say that there is no value.
     pub(crate) fn value_field(&self) -> Option<&[u8]>
         ensures { ReadsField self.now.bytes result }
     {
@@ -22,8 +22,8 @@ impl Card {
         }
     }
 
-    /// The text of a value without quotes: what stands in the value field before the first `/`, without the blanks
-    /// around it, or `None` where columns 9 and 10 say that there is no value (FITS 4.0, sections 4.1.2.2 and
+    /// The text of a value without quotes: what is in the value field before the first `/`, without the blanks
+    /// around it, or `None` if columns 9 and 10 say that there is no value (FITS 4.0, sections 4.1.2.2 and
     /// 4.1.2.3).
     pub fn value_text(&self) -> Option<&[u8]>
         ensures { ReadsPlainText self.now.bytes result }
@@ -32,7 +32,7 @@ impl Card {
     }
 }
 
-/// What stands in the field before a comment, without the blanks around it.
+/// What is in the field before a comment, without the blanks around it.
 pub(crate) fn plain_text(field: &[u8]) -> &[u8]
     ensures { result.now ≡ plain_text field.now }
 {
@@ -75,12 +75,12 @@ pub(crate) fn without_last_blanks(text: &[u8]) -> &[u8]
     &text[..len]
 }
 
-/// A card has a text without blanks and `/` as the text of its value exactly where `Card::value_text` finds it.
+/// A card has a text without blanks and `/` as the text of its value exactly if `Card::value_text` finds it.
 pub fn value_text_law()
     ensures { ValueTextLaw }
 {}
 
-/// What stands before a text without the blanks at its front is blanks, and blanks before a text change nothing.
+/// What is before a text without the blanks at its front is blanks, and blanks before a text change nothing.
 pub fn blanks_law()
     ensures { BlankLaws }
 {}

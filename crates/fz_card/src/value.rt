@@ -29,7 +29,7 @@ impl Card {
     }
 }
 
-/// The logical value that the text stands for.
+/// The logical value that the text means.
 fn truth(text: &[u8]) -> Option<bool>
     ensures value { IfSome result (λ b. text.now ≡ logical_text b) }
     ensures none { IfNone result ((b : Bool) → text.now ≢ logical_text b) }

@@ -9,7 +9,7 @@ use crate::card::Card;
 use crate::value::without_sign;
 
 impl Card {
-    /// Whether the value is a number that is zero, as `0`, `-0.` or `0.0D+10`, or `None` where the card has no
+    /// Whether the value is a number that is zero, as `0`, `-0.` or `0.0D+10`, or `None` if the card has no
     /// value or a blank field (FITS 4.0, section 4.2.4).
     pub fn zero(&self) -> Option<bool>
         ensures value { IfSome result (ZeroValue self.now.bytes) }

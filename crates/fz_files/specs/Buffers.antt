@@ -57,7 +57,7 @@ plans_for ListHdus file hs = []
 plans_for (Drill rows) file hs = []
 plans_for (Retile o) file hs = map (plan_in file) (filter (is_image file) hs)
 
--- no tile is worked on where a header is refused
+-- no tile is worked on if a header is refused
 abbrev pub plans_behind : Option Fault → Job → List ℕ → List Plan
 plans_behind (Some fault) job file = []
 plans_behind None job file = plans_for job file (headers_for job file)
@@ -95,8 +95,8 @@ job_bound job file asked = buffer_bound (longest_header job file) (largest_tile 
 abbrev pub packing_bound : PackOptions → List ℕ → ℕ → ℕ
 packing_bound o file asked = buffer_bound (longest_header (Retile o) file) (largest_plain o (plain_of file)) asked
 
--- What the work of a job takes for headers of at most H bytes and tiles of at most n pixels, with W workers. Where nothing is written
--- no header is translated, and `list` looks at headers alone. `drill` and `retile` have no buffers of their own, but those of the jobs that they
+-- What the work of a job takes for headers of at most H bytes and tiles of at most n pixels, with W workers. If nothing is written
+-- no header is translated, and `list` looks only at headers. `drill` and `retile` have no buffers of their own, but those of the jobs that they
 -- run.
 abbrev pub job_buffers : Job → ℕ → ℕ → ℕ → List ℕ
 job_buffers (Pack o) H n W = work_buffers H true (Some n) W
@@ -117,7 +117,7 @@ header_takings ListHdus file = walk_takings (unpack_judge file) 2880 65536 0 0 f
 header_takings (Drill rows) file = []
 header_takings (Retile o) file = walk_takings (unpack_judge file) 2880 65536 0 0 file
 
--- the work of a job is taken where no header is refused
+-- the work of a job is taken if no header is refused
 abbrev pub work_takings : Option Fault → Job → List ℕ → ℕ → List (ℕ × ℕ)
 work_takings (Some fault) job file W = []
 work_takings None job file W = piled 2880 (job_buffers job (longest_header job file) (largest_tile job file) W)

@@ -32,11 +32,11 @@ pub record AreCutFrom (file : List ℕ) (h : Header) (sieve : Sieve) (numbers : 
 abbrev pub header_range : List ℕ → Reached → ℕ × ℕ
 header_range file r = (r.start, header_touched r.hdu r.start file - r.start)
 
--- what the reading of a row touches: its descriptors, and where no check refuses it the bytes of its record that are read
+-- what the reading of a row touches: its descriptors, and if no check refuses it the bytes of its record that are read
 abbrev pub ranges_of_row : List ℕ → ImageRow → List (ℕ × ℕ)
 ranges_of_row file r = tile_ranges file r.header.hdu (image_table file r.header) r.row (tile_of (plan_in file r.header) r.row)
 
--- the rows and records of the tiles that hold a pick, where no header is refused
+-- the rows and records of the tiles that hold a pick, if no header is refused
 abbrev pub rows_touched : Option Fault → Job → List ℕ → List (ℕ × ℕ)
 rows_touched (Some fault) job file = []
 rows_touched None job file = flat_map (ranges_of_row file) (rows_for job file (headers_for job file))

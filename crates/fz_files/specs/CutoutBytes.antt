@@ -1,6 +1,7 @@
 -- The bytes of a cutout: the header of the part, with the reference pixels that the cut moves, the pixels, and fill (FITS 4.0, sections
 -- 3.3.2, 4.4.1 and 8.1).
-use Rattle.std.specs.Prelude.{ℕ, zero, suc, ◌≡◌, ◌==◌, ◌-◌, ℤ, List, [], ◌∷◌, ◌++◌, map, replicate, slice_index, codes, Option, Some, None, unwrap_or, if◌then◌else◌}
+use Rattle.std.specs.Prelude.{ℕ, zero, suc, ◌≡◌, ◌==◌, ◌-◌, ℤ, List, [], ◌∷◌, ◌++◌, map, replicate}
+use Rattle.std.specs.Prelude.{slice_index, codes, Option, Some, None, unwrap_or, if◌then◌else◌}
 use Rattle.fz_card.specs.Layout.{card_name}
 use Rattle.fz_card.specs.Naming.{number_behind, up_to}
 use Rattle.fz_wcs.specs.Reading.{shifted}
@@ -23,7 +24,7 @@ use Rattle.fz_files.specs.Walks.{headers_for, last_of}
 abbrev pub picked_region : Sieve → Region
 picked_region sieve = record { n = sieve.n; lo = sieve.lo; len = sieve_lengths sieve ++ replicate (9 - sieve.n) 0 }
 
--- by how much the reference pixel of axis i, counted from 1, moves: by the corner where every pixel from there on is picked
+-- by how much the reference pixel of axis i, counted from 1, moves: by the corner if every pixel from there on is picked
 abbrev pub shift_along : Sieve → ℕ → ℕ
 shift_along sieve i = if slice_index sieve.step (i - 1) == 1 then slice_index sieve.lo (i - 1) else 0
 

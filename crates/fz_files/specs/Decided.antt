@@ -27,7 +27,7 @@ fault_behind ListHdus file = rows_fault ListHdus file
 fault_behind (Drill rows) file = rows_fault (Drill rows) file
 fault_behind (Retile o) file = fault_then (rows_fault (Retile o) file) (plain_fault o file)
 
--- the fault of the headers of a file, or else the one behind them
+-- the fault of the headers of a file, or otherwise the one after them
 abbrev pub fault_after : Option Fault → Job → List ℕ → Option Fault
 fault_after (Some fault) job file = Some fault
 fault_after None job file = fault_behind job file

@@ -60,7 +60,8 @@ run_of value = flat_map (λ n. value / 256 ∷ value % 256 ∷ []) (range_with_l
 abbrev pub stored_row : ℕ → TileCode
 stored_row v = record {
   place = Stored;
-  bytes = run_of v ++ (run_of (v + 7) ++ (run_of (v + 14) ++ (run_of (v + 21) ++ (run_of (v + 28) ++ (run_of (v + 35) ++ (run_of (v + 42) ++ run_of (v + 49)))))));
+  bytes = run_of v ++ (run_of (v + 7) ++ (run_of (v + 14) ++ (run_of (v + 21)
+      ++ (run_of (v + 28) ++ (run_of (v + 35) ++ (run_of (v + 42) ++ run_of (v + 49)))))));
 }
 
 -- the first pixels are 1000, 1001, 1004, 1009, 1016 and 1025

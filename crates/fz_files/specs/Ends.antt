@@ -69,7 +69,9 @@ pub record EndsWithTheFile (job : Job) (file : List ℕ) (x : Fault) : Type 0 wh
 
 -- if the headers of a file have a fault for a job, the walk ends there
 abbrev pub WalksEndAtTheFault : Type 0
-WalksEndAtTheFault = (job : Job) (file : List ℕ) (x : Fault) → header_fault job file ≡ Some x → EndsAtTheFault job file x ⊎ (EndsAtTheLimit job file x ⊎ EndsWithTheFile job file x)
+WalksEndAtTheFault =
+    (job : Job) (file : List ℕ) (x : Fault) → header_fault job file ≡ Some x
+    → EndsAtTheFault job file x ⊎ (EndsAtTheLimit job file x ⊎ EndsWithTheFile job file x)
 
 -- no header that a job meets is longer than 256 blocks of 2,880 bytes
 abbrev pub HeadersAreShort : Type 0

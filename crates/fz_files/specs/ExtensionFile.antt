@@ -60,7 +60,7 @@ image_plan = record {
   wide = false;
 }
 
--- both tiles stand as their plain bytes
+-- both tiles are stored as their plain bytes
 abbrev pub image_tiles : List TileCode
 image_tiles = record { place = Stored; bytes = row_pixels } ∷ record { place = Stored; bytes = row_pixels } ∷ []
 

@@ -31,7 +31,7 @@ reserved_fault = Some (refusal 0 (Card 5) Reserved)
 abbrev pub trailing_fault : Option Fault
 trailing_fault = Some (refusal 1 (Byte 5760) TrailingBytes)
 
--- the rows of the packed file of `PlainFile`, where those of tiles 3 and 5 describe 16 pixels each, which end after the heap
+-- the rows of the packed file of `PlainFile`, but those of tiles 3 and 5 describe 16 pixels each, which end after the heap
 abbrev pub past_rows : List ℕ
 past_rows =
     0 ∷ 0 ∷ 0 ∷ 0 ∷ 0 ∷ 0 ∷ 0 ∷ 0 ∷ 0 ∷ 0 ∷ 0 ∷ 4 ∷ 0 ∷ 0 ∷ 0 ∷ 0

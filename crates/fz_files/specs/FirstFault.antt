@@ -41,7 +41,7 @@ IsRowFault file r fault =
 abbrev pub IsRowSound : List ℕ → ImageRow → Type 0
 IsRowSound file r = (xs : List ℤ) × RowStandsFor file r.header r.row xs
 
--- the first of some rows that is refused, or none where all stand for pixels
+-- the first of some rows that is refused, or none if all stand for pixels
 abbrev pub IsFirstRowFault : List ℕ → List ImageRow → Option Fault → Type 0
 IsFirstRowFault file [] None = ⊤
 IsFirstRowFault file [] (Some fault) = ⊥
@@ -74,7 +74,7 @@ rows_for ListHdus file hs = []
 rows_for (Drill rows) file hs = []
 rows_for (Retile o) file hs = all_rows file hs
 
--- the first of some rows that is refused, or, where all stand for pixels, the fault that is looked for after them, or none
+-- the first of some rows that is refused, or, if all stand for pixels, the fault that is looked for after them, or none
 abbrev pub IsFaultThen : List ℕ → List ImageRow → Option Fault → Option Fault → Type 0
 IsFaultThen file rows later None = IsFirstRowFault file rows None × (later ≡ None)
 IsFaultThen file rows later (Some fault) = IsFirstRowFault file rows (Some fault) ⊎ (IsFirstRowFault file rows None × (later ≡ Some fault))
@@ -89,7 +89,7 @@ IsRowsFault ListHdus file fault = IsFirstRowFault file (rows_for ListHdus file (
 IsRowsFault (Drill rows) file fault = IsFirstRowFault file (rows_for (Drill rows) file (headers_for (Drill rows) file)) fault
 IsRowsFault (Retile o) file fault = IsFaultThen file (rows_for (Retile o) file (headers_for (Retile o) file)) (plain_fault o file) fault
 
--- the first fault of a file for a job, where the headers have this one or none
+-- the first fault of a file for a job, if the headers have this one or none
 abbrev pub IsFaultBehind : Option Fault → Job → List ℕ → Option Fault → Type 0
 IsFaultBehind (Some fault) job file found = found ≡ Some fault
 IsFaultBehind None job file found = IsRowsFault job file found

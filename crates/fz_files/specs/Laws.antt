@@ -69,7 +69,8 @@ ReachedLieWithin = (job : Job) (file : List ℕ) → All (λ r. (header_range fi
 -- and no check of its table does.
 abbrev pub RowsLieWithin : Type 0
 RowsLieWithin =
-    (file : List ℕ) (h : Header) (row : ℕ) → hdu_at h.hdu h.start file ≡ Ok h → first_refusal (table_checks (header_in file h) h) ≡ None → row < (image_table file h).rows →
+    (file : List ℕ) (h : Header) (row : ℕ) → hdu_at h.hdu h.start file ≡ Ok h → first_refusal (table_checks (header_in file h) h) ≡ None →
+    row < (image_table file h).rows →
     All (λ range. range.0 + range.1 ≤ length file) (ranges_of_row file (image_row h row))
 
 -- the bound on buffers rises with the longest header, the largest tile and the workers
@@ -84,7 +85,9 @@ pub record AreWithinDrill (rows : ℕ) (codec : CodecWord) : Type 0 where
 
 -- then every taking of `drill` stays within its bound
 abbrev pub DrillIsBounded : Type 0
-DrillIsBounded = (rows : ℕ) (file : List ℕ) (asked : ℕ) → ((codec : CodecWord) → AreWithinDrill rows codec) → first_past (job_bound (Drill rows) file asked) (job_takings (Drill rows) file asked) ≡ None
+DrillIsBounded =
+    (rows : ℕ) (file : List ℕ) (asked : ℕ) → ((codec : CodecWord) → AreWithinDrill rows codec)
+    → first_past (job_bound (Drill rows) file asked) (job_takings (Drill rows) file asked) ≡ None
 
 -- a packed file stands for at most one file
 abbrev pub StandsForOneFile : Type 0
@@ -93,19 +96,21 @@ StandsForOneFile = (file restored other : List ℕ) → StandsFor file restored 
 -- and at most one file is cut from it by a sieve of the image
 abbrev pub CutsOutOneFile : Type 0
 CutsOutOneFile =
-    (wanted : Option ℕ) (sieve : Sieve) (file part other : List ℕ) (h : Header) → last_of (headers_for (Cut wanted sieve) file) ≡ h ∷ [] → Sifts (lengths_of (plan_in file h).shape) sieve →
+    (wanted : Option ℕ) (sieve : Sieve) (file part other : List ℕ) (h : Header) → last_of (headers_for (Cut wanted sieve) file) ≡ h ∷ [] →
+    Sifts (lengths_of (plan_in file h).shape) sieve →
     IsCutout wanted sieve file part → IsCutout wanted sieve file other → part ≡ other
 
 -- the same of every sieve that a cut may be asked for, with no premise on the file
 abbrev pub PicksCutOneFile : Type 0
 PicksCutOneFile =
-    (wanted : Option ℕ) (sieve : Sieve) (file part other : List ℕ) → HasNinePlaces sieve → HasPicks sieve → IsCutout wanted sieve file part → IsCutout wanted sieve file other → part ≡ other
+    (wanted : Option ℕ) (sieve : Sieve) (file part other : List ℕ) → HasNinePlaces sieve → HasPicks sieve → IsCutout wanted sieve file part
+    → IsCutout wanted sieve file other → part ≡ other
 
 -- what is written for the tiles of an image that `pack` takes
 abbrev pub codes_from : PackOptions → List ℕ → Header → List TileCode
 codes_from o source from = tile_codes (pack_plan_of o from) (array_of (pack_plan_of o from) (hdu_of source from).payload)
 
--- what the header of its table tells, with or without cards of sums
+-- what the header of its table says, with or without cards of sums
 abbrev pub totals_from : PackOptions → List ℕ → Header → Totals
 totals_from o source from = record (totals_of (pack_plan_of o from) (codes_from o source from)) { sums = o.sums }
 
@@ -114,19 +119,23 @@ abbrev pub table_hdu : PackOptions → List ℕ → Header → Hdu
 table_hdu o source from =
     let p = pack_plan_of o from in
     let codes = codes_from o source from in
-    record { header = header_bytes (with_sums o.sums (table_header p (cards_of (hdu_of source from).header) codes) (packed_data p codes)); payload = packed_data p codes }
+    record {
+      header = header_bytes (with_sums o.sums (table_header p (cards_of (hdu_of source from).header) codes) (packed_data p codes));
+      payload = packed_data p codes;
+    }
 
--- An image of a file that `pack` takes with these options: in HDU 0 it begins with SIMPLE = T, and its data stand in the file.
+-- An image of a file that `pack` takes with these options: in HDU 0 it begins with SIMPLE = T, and its data are in the file.
 pub record IsTaken (o : PackOptions) (source : List ℕ) (from : Header) : Type 0 where
   pub image : IsImageToPack o source from
   pub bytes : AreBytes source
   pub simple : from.hdu ≡ 0 → is_set (codes "SIMPLE") (card_at (hdu_of source from).header 0) ≡ true
   pub whole : length (hdu_of source from).payload ≡ whole_blocks_of from.data_len
 
--- its table passes the checks of every job after the first HDU, wherever it stands in a file
+-- its table passes the checks of every job after the first HDU, wherever it is in a file
 abbrev pub TablesPass : Type 0
 TablesPass =
-    (o : PackOptions) (source : List ℕ) (from : Header) (k start len : ℕ) → IsTaken o source from → suc k < 65536 → start + length (hdu_bytes (table_hdu o source from)) ≤ len → len ≤ 2 ^ 62 →
+    (o : PackOptions) (source : List ℕ) (from : Header) (k start len : ℕ) → IsTaken o source from → suc k < 65536 →
+    start + length (hdu_bytes (table_hdu o source from)) ≤ len → len ≤ 2 ^ 62 →
     PassesAt (suc k) start len (table_hdu o source from)
 
 -- it is a packed image after the first HDU, of which no check refuses anything
@@ -142,24 +151,29 @@ pub record IsTableOf (o : PackOptions) (source : List ℕ) (from : Header) (file
   pub facts : h ≡ facts_of h.hdu h.start (hdu_of file h).header
   pub table : hdu_of file h ≡ table_hdu o source from
 
--- it stands for the image, and was a primary where the image is one
+-- it stands for the image, and was a primary if the image is one
 abbrev pub TablesStandForImages : Type 0
-TablesStandForImages = (o : PackOptions) (source : List ℕ) (from : Header) (file : List ℕ) (h : Header) → IsTableOf o source from file h → HduStandsFor file h (hdu_bytes (hdu_of source from))
+TablesStandForImages =
+    (o : PackOptions) (source : List ℕ) (from : Header) (file : List ℕ) (h : Header) → IsTableOf o source from file h
+    → HduStandsFor file h (hdu_bytes (hdu_of source from))
 
 abbrev pub TablesWerePrimary : Type 0
-TablesWerePrimary = (o : PackOptions) (source : List ℕ) (from : Header) (file : List ℕ) (h : Header) → IsTableOf o source from file h → is_packed_primary file h ≡ is_primary from.sort
+TablesWerePrimary =
+    (o : PackOptions) (source : List ℕ) (from : Header) (file : List ℕ) (h : Header) → IsTableOf o source from file h
+    → is_packed_primary file h ≡ is_primary from.sort
 
 -- `pack` refuses it, whatever the options: it is packed already, as its card 12 says, which is ZIMAGE
 abbrev pub TablesAreRefused : Type 0
 TablesAreRefused =
-    (o again : PackOptions) (source : List ℕ) (from : Header) (file : List ℕ) (h : Header) → IsTableOf o source from file h → pack_judge again file h ≡ Err (refusal h.hdu (Card 12) AlreadyPacked)
+    (o again : PackOptions) (source : List ℕ) (from : Header) (file : List ℕ) (h : Header) → IsTableOf o source from file h
+    → pack_judge again file h ≡ Err (refusal h.hdu (Card 12) AlreadyPacked)
 
 -- What an HDU becomes in a packed file, by the facts at its own place: the table of an image that can be packed, or its own bytes.
 abbrev pub HdusArePacked : Type 0
 HdusArePacked = (o : PackOptions) (d : Hdu) (h : Header) → IsHeaderOf d.header h →
     packed_hdu o h.hdu d ≡ (if is_packable h then before_table h.hdu ++ packed_image o.sums (pack_plan_of o h) d else hdu_bytes d)
 
--- before the table of an image that is the primary stands the empty primary, and before others nothing
+-- before the table of an image that is the primary is the empty primary, and before others nothing
 abbrev pub PrimariesStandFirst : Type 0
 PrimariesStandFirst = (o : PackOptions) (header : List ℕ) (h : Header) → IsHeaderOf header h →
     before_table h.hdu ≡ (if (pack_plan_of o h).primary then header_bytes empty_primary else [])

@@ -97,12 +97,12 @@ list_line file h =
     ++ (if is_image file h then packed_text (plan_in file h) else other_text h)
     ++ sizes_text h ++ codes "\n"
 
--- the headers before the HDU of a fault; all where there is none
+-- the headers before the HDU of a fault; all if there is none
 abbrev pub before_fault : Option Fault → List Header → List Header
 before_fault None hs = hs
 before_fault (Some fault) hs = filter (λ (h : Header). nat_lt h.hdu fault.hdu) hs
 
--- the lines of a job in a file whose headers have no fault, where this is the first fault of the rows, or none
+-- the lines of a job in a file whose headers have no fault, if this is the first fault of the rows, or none
 abbrev pub lines_of : Job → List ℕ → List Header → Option Fault → List ℕ
 lines_of (Pack o) file hs fault = []
 lines_of Unpack file hs fault = []
@@ -112,11 +112,11 @@ lines_of ListHdus file hs fault = flat_map (list_line file) hs
 lines_of (Drill rows) file hs fault = drill_lines rows
 lines_of (Retile o) file hs fault = []
 
--- the lines of a job, where the headers of the file have this fault or none, and this is its first fault or none
+-- the lines of a job, if the headers of the file have this fault or none, and this is its first fault or none
 abbrev pub lines_behind : Option Fault → Job → List ℕ → Option Fault → List ℕ
 lines_behind (Some refused) job file fault = []
 lines_behind None job file fault = lines_of job file (headers_for job file) fault
 
--- the lines that a job prints of a file of which this is the first fault, or none; none where a header is refused
+-- the lines that a job prints of a file of which this is the first fault, or none; none if a header is refused
 abbrev pub report_lines : Job → List ℕ → Option Fault → List ℕ
 report_lines job file fault = lines_behind (header_fault job file) job file fault

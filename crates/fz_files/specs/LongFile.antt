@@ -29,7 +29,7 @@ line_pixels =
 abbrev pub line_hdu : Hdu
 line_hdu = record { header = block_of line_cards; payload = line_pixels ++ replicate 2864 0 }
 
--- the file that it is alone in
+-- the file that has only this HDU
 abbrev pub line_file : List ℕ
 line_file = line_hdu.header ++ line_hdu.payload
 
@@ -48,7 +48,7 @@ long_plan = record {
   wide = false;
 }
 
--- the tile stands as its plain bytes
+-- the tile is stored as its plain bytes
 abbrev pub long_tiles : List TileCode
 long_tiles = record { place = Stored; bytes = line_pixels } ∷ []
 

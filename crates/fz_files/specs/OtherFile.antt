@@ -78,6 +78,6 @@ image_cards =
     ∷ card_of (codes "OBJECT  = 'M31     '           / what was observed")
     ∷ []
 
--- the file of 5,760 bytes that the packed file stands for: the image alone, with fill
+-- the file of 5,760 bytes that the packed file stands for: only the image, with fill
 abbrev pub image_file : List ℕ
 image_file = block_of image_cards ++ ((0x03 ∷ 0xE8 ∷ 0x03 ∷ 0xE8 ∷ 0x03 ∷ 0xEB ∷ []) ++ replicate 2874 0)

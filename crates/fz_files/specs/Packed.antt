@@ -1,6 +1,7 @@
 -- The packed file of a file: each image that can be packed becomes the table of its tiles, and every other HDU stays as it is (FITS 4.0,
 -- sections 7.3.5, 10.1 and 10.1.3).
-use Rattle.std.specs.Prelude.{ℕ, zero, suc, ◌≡◌, ◌+◌, ◌-◌, ◌/◌, Bool, true, false, List, [], ◌∷◌, ◌++◌, length, map, replicate, unsigned_abs, codes, if◌then◌else◌}
+use Rattle.std.specs.Prelude.{ℕ, zero, suc, ◌≡◌, ◌+◌, ◌-◌, ◌/◌, Bool, true, false, List, [], ◌∷◌}
+use Rattle.std.specs.Prelude.{◌++◌, length, map, replicate, unsigned_abs, codes, if◌then◌else◌}
 use Rattle.std.specs.List.{flat_map, range_with_len}
 use Rattle.fz_block.specs.Facts.{facts_of}
 use Rattle.fz_block.specs.Hdus.{Hdu, AreHdusOf, hdu_bytes, cards_of, header_bytes}
@@ -45,7 +46,7 @@ tiles_in p = tile_count (lengths_of p.shape) (lengths_of p.tile)
 unfoldable pub tile_codes : Plan → NumberArray → List TileCode
 tile_codes p a = map (λ t. tile_code p.codec (pixel_bits p) (tile a (lengths_of p.tile) t)) (range_with_len 0 (tiles_in p))
 
--- the tile stands as a code, and not as its plain bytes
+-- the tile is stored as a code, and not as its plain bytes
 abbrev pub is_coded : Place2 → Bool
 is_coded Coded = true
 is_coded Stored = false
@@ -61,13 +62,13 @@ stored_count p e = if is_coded e.place then 0 else length e.bytes / pixel_len p.
 abbrev pub described : ℕ → ℕ → Descriptor
 described count offset = record { count = count; offset = offset }
 
--- the row of a tile whose bytes stand at this offset of the heap
+-- the row of a tile whose bytes are at this offset of the heap
 abbrev pub row_of : Plan → ℕ → TileCode → List ℕ
 row_of p offset e =
     if is_coded e.place then packed_row p.wide (described (coded_count p e) offset) (described 0 0)
     else packed_row p.wide (described 0 0) (described (stored_count p e) offset)
 
--- the rows of tiles whose bytes stand one after another in the heap, from this offset on
+-- the rows of tiles whose bytes are one after another in the heap, from this offset on
 unfoldable pub rows_from : Plan → ℕ → List TileCode → List ℕ
 rows_from p offset [] = []
 rows_from p offset (e ∷ es) = row_of p offset e ++ rows_from p (offset + length e.bytes) es
@@ -76,7 +77,7 @@ rows_from p offset (e ∷ es) = row_of p offset e ++ rows_from p (offset + lengt
 unfoldable pub heap_of : List TileCode → List ℕ
 heap_of codes = flat_map (λ (e : TileCode). e.bytes) codes
 
--- what the header tells of the heap: its length, and the greatest count in each column
+-- what the header says of the heap: its length, and the greatest count in each column
 abbrev pub totals_of : Plan → List TileCode → Totals
 totals_of p codes = record {
   heap = length (heap_of codes);
@@ -118,7 +119,7 @@ packed_table sums p cards codes = header_bytes (with_sums sums (table_header p c
 abbrev pub packed_image : Bool → Plan → Hdu → List ℕ
 packed_image sums p h = packed_table sums p (cards_of h.header) (tile_codes p (array_of p h.payload))
 
--- what stands before the table of HDU k
+-- what is before the table of HDU k
 abbrev pub before_table : ℕ → List ℕ
 before_table zero = header_bytes empty_primary
 before_table (suc k) = []

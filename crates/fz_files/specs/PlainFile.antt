@@ -31,7 +31,7 @@ grid_hdu = record {
       ++ replicate 2865 0;
 }
 
--- the file that it is alone in
+-- the file that has only this HDU
 abbrev pub grid_file : List ℕ
 grid_file = grid_hdu.header ++ grid_hdu.payload
 
@@ -56,7 +56,7 @@ plain_plan = record {
   wide = false;
 }
 
--- a tile that stands as its plain bytes
+-- a tile that is stored as its plain bytes
 abbrev pub stored : List ℕ → TileCode
 stored bytes = record { place = Stored; bytes = bytes }
 

@@ -33,7 +33,7 @@ mask_pixels =
 abbrev pub mask_hdu : Hdu
 mask_hdu = record { header = block_of mask_cards; payload = mask_pixels ++ replicate 2816 0 }
 
--- the file that it is alone in
+-- the file that has only this HDU
 abbrev pub mask_file : List ℕ
 mask_file = mask_hdu.header ++ mask_hdu.payload
 

@@ -40,7 +40,7 @@ plan_in file h = plan_of_cards (cards_of (header_in file h))
 abbrev pub image_table : List ℕ → Header → Table
 image_table file h = table_in (header_in file h) h
 
--- tiles are stored as plain bytes alone
+-- tiles are stored only as plain bytes
 abbrev pub is_plain_codec : Codec → Bool
 is_plain_codec (Rice block bytepix) = false
 is_plain_codec Plio = false

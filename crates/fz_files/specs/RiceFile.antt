@@ -26,7 +26,7 @@ small_hdu = record {
   payload = (0 ∷ 0 ∷ 0 ∷ 1 ∷ 0 ∷ 0 ∷ 0 ∷ 1 ∷ 0 ∷ 0 ∷ 0 ∷ 1 ∷ 0 ∷ 0 ∷ 0 ∷ 1 ∷ []) ++ replicate 2864 0;
 }
 
--- the file that it is alone in
+-- the file that has only this HDU
 abbrev pub small_file : List ℕ
 small_file = small_hdu.header ++ small_hdu.payload
 

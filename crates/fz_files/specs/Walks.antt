@@ -1,5 +1,6 @@
 -- Which HDUs each job looks at, and where their headers are refused (FITS 4.0, sections 3.1, 3.3 and 10.1).
-use Rattle.std.specs.Prelude.{ℕ, zero, suc, ◌==◌, ◌+◌, ◌-◌, Bool, true, false, List, [], ◌∷◌, ◌++◌, length, replicate, Option, Some, None, Result, Ok, Err, if◌then◌else◌}
+use Rattle.std.specs.Prelude.{ℕ, zero, suc, ◌==◌, ◌+◌, ◌-◌, Bool, true, false, List, [], ◌∷◌, ◌++◌}
+use Rattle.std.specs.Prelude.{length, replicate, Option, Some, None, Result, Ok, Err, if◌then◌else◌}
 use Rattle.fz_base.specs.declared.fault.Fault.{Fault}
 use Rattle.fz_block.specs.Checks.{Judge, hdu_at, walk_of}
 use Rattle.fz_block.specs.Header.{next_start_of}
@@ -78,7 +79,7 @@ pub record Reached : Type 0 where
   pub hdu : ℕ
   pub start : ℕ
 
--- what a job reaches after an HDU: nothing where the HDU is refused, where the job stops at it, and where the file ends with it
+-- what a job reaches after an HDU: nothing if the HDU is refused, if the job stops at it, and if the file ends with it
 abbrev pub reached_behind : List ℕ → Header → List Reached → Result Bool Fault → List Reached
 reached_behind file h rest (Err fault) = []
 reached_behind file h rest (Ok true) = []

@@ -80,7 +80,7 @@ pub fn one_picked_file_law()
 }
 
 /// The table of an image that `pack` takes, after the first HDU of whatever file: no check of `unpack` refuses it, it
-/// stands for the image, it was a primary where the image is one, and `pack` refuses it at its card ZIMAGE.
+/// stands for the image, it was a primary if the image is one, and `pack` refuses it at its card ZIMAGE.
 pub fn table_law()
     ensures passes { TablesPass }
     ensures accepted { TablesAreAccepted }
@@ -107,7 +107,7 @@ pub fn table_law()
 }
 
 /// What an HDU becomes in a packed file, by the facts at its own place: the table of an image that can be packed,
-/// which is one HDU, after the empty primary where the image is the primary; or its own bytes.
+/// which is one HDU, after the empty primary if the image is the primary; or its own bytes.
 pub fn packed_hdu_law()
     ensures packed { HdusArePacked }
     ensures before { PrimariesStandFirst }

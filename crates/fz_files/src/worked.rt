@@ -83,7 +83,7 @@ pub fn long_file_law()
 {}
 
 /// The packed file of a primary without data and an image of 4 by 2 pixels of 16 bits in an extension, without a
-/// codec: the primary stays as it is, and no other stands before the table, as `specs/ExtensionFile.antt` writes
+/// codec: the primary stays as it is, and no other is before the table, as `specs/ExtensionFile.antt` writes
 /// it out.
 pub fn extension_file_law()
     ensures plan { pack_plan_of bare_options (facts_of 1 0 image_hdu.header) ≡ image_plan }

@@ -21,7 +21,8 @@ pub struct Picks {
     ghost shape_is: { IsShape shape },
     ghost within: { IsSieveOf shape sieve },
     ghost lengths_axes: { lengths.n ≡ shape.n },
-    ghost counted: { (i : ℕ) → i < shape.n → slice_index lengths.len i ≡ pick_count (slice_index sieve.lo i) (slice_index sieve.hi i) (slice_index sieve.step i) },
+    ghost counted: { (i : ℕ) → i < shape.n → slice_index lengths.len i
+        ≡ pick_count (slice_index sieve.lo i) (slice_index sieve.hi i) (slice_index sieve.step i) },
     ghost lengths_are: { IsShape lengths },
     ghost all: { end ≡ product (lengths_of lengths) },
     ghost ordered: { next ≤ end },

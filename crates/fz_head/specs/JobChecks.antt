@@ -1,6 +1,7 @@
 -- The checks that a job makes of one HDU, after those that every job makes, and what it learns of it (FITS 4.0, sections 3.3.2,
 -- 7.3 and 10.1).
-use Rattle.std.specs.Prelude.{◌≡◌, ℕ, ◌+◌, ◌-◌, ◌<◌, ◌≤◌, ◌&&◌, ◌||◌, ◌==◌, not, nat_lt, Bool, true, List, [], ◌∷◌, ◌++◌, drop, take, codes, slice_index, Option, Some, None, is_some, unwrap_or, Result, Ok, if◌then◌else◌}
+use Rattle.std.specs.Prelude.{◌≡◌, ℕ, ◌+◌, ◌-◌, ◌<◌, ◌≤◌, ◌&&◌, ◌||◌, ◌==◌, not, nat_lt, Bool, true, List, [], ◌∷◌, ◌++◌, drop}
+use Rattle.std.specs.Prelude.{take, codes, slice_index, Option, Some, None, is_some, unwrap_or, Result, Ok, if◌then◌else◌}
 use Rattle.std.specs.List.{flat_map, position, range_with_len}
 use Rattle.fz_base.specs.Refusal.{refusal, first_refusal}
 use Rattle.fz_base.specs.declared.fault.Fault.{Fault}
@@ -101,7 +102,8 @@ pub record IsImageOf (header : List ℕ) (h : Header) (image : PackedImage) : Ty
 
 -- the image of an HDU, none if it is copied; or the fault of the first check that refuses
 unfoldable pub image_to_unpack : Header → List ℕ → Bool → Result (Option PackedImage) Fault
-image_to_unpack h header after_empty = unless_refused (if is_packed header h then Some (image_in h header) else None) (first_refusal (unpack_checks h header after_empty))
+image_to_unpack h header after_empty =
+    unless_refused (if is_packed header h then Some (image_in h header) else None) (first_refusal (unpack_checks h header after_empty))
 
 -- the checks that `unpack`, `verify` and `list` make of one HDU of a file
 abbrev pub unpack_hdu_checks : List ℕ → Header → List (Bool × Fault)

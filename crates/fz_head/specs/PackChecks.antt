@@ -1,5 +1,6 @@
 -- The checks of an image that is to be packed, each a condition with the place where it refuses, in their order.
-use Rattle.std.specs.Prelude.{ℕ, ◌+◌, ◌^◌, ◌&&◌, ◌||◌, not, nat_lt, Bool, List, [], ◌∷◌, ◌++◌, length, drop, codes, ◌==◌, Option, is_some, unwrap_or, true, false, Result, if◌then◌else◌}
+use Rattle.std.specs.Prelude.{ℕ, ◌+◌, ◌^◌, ◌&&◌, ◌||◌, not, nat_lt, Bool, List, [], ◌∷◌, ◌++◌, length, drop}
+use Rattle.std.specs.Prelude.{codes, ◌==◌, Option, is_some, unwrap_or, true, false, Result, if◌then◌else◌}
 use Rattle.std.specs.List.{position}
 use Rattle.std.specs.Str.{byte}
 use Rattle.fz_base.specs.Refusal.{refusal, first_refusal}

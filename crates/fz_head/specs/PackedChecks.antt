@@ -1,6 +1,7 @@
 -- The checks of a packed header, each a condition with the place where it refuses, in their order (FITS 4.0, sections 10.1.1, 10.1.2
 -- and 10.4). The form of its table is checked before.
-use Rattle.std.specs.Prelude.{ℕ, pos, negsuc, ◌^◌, ◌&&◌, ◌||◌, not, ◌==◌, nat_lt, nat_le, Bool, false, ℤ, List, [], ◌∷◌, ◌++◌, length, codes, Option, Some, None, is_none, is_some, unwrap_or, Result, if◌then◌else◌}
+use Rattle.std.specs.Prelude.{ℕ, pos, negsuc, ◌^◌, ◌&&◌, ◌||◌, not, ◌==◌, nat_lt, nat_le, Bool, false, ℤ, List, [], ◌∷◌}
+use Rattle.std.specs.Prelude.{◌++◌, length, codes, Option, Some, None, is_none, is_some, unwrap_or, Result, if◌then◌else◌}
 use Rattle.std.specs.List.{flat_map, position, range_with_len}
 use Rattle.std.specs.Ordering.{int_eq}
 use Rattle.std.specs.Str.{str_eq_ignore_ascii_case}
@@ -21,7 +22,8 @@ use Rattle.fz_grid.specs.Grid.{tile_count}
 use Rattle.fz_head.specs.declared.plan.Plan.{Plan}
 use Rattle.fz_head.specs.CardLists.{index_of}
 use Rattle.fz_head.specs.PackChecks.{is_offset, refused_at}
-use Rattle.fz_head.specs.PackedPlan.{word_in, numbered_in, size_of, said_axes, said_tile, parameter_number, is_codec_name, is_plain_name, is_plio_name, is_rice_name, said_codec, plan_of_cards}
+use Rattle.fz_head.specs.PackedPlan.{word_in, numbered_in, size_of, said_axes, said_tile, parameter_number}
+use Rattle.fz_head.specs.PackedPlan.{is_codec_name, is_plain_name, is_plio_name, is_rice_name, said_codec, plan_of_cards}
 use Rattle.fz_head.specs.PlainHeader.{axis_count}
 
 -- the header is refused at the first card of this name, for this reason
@@ -183,7 +185,10 @@ must_be k cards word v =
 abbrev pub sort_checks : ℕ → List (List ℕ) → Bool → List (Bool × Fault)
 sort_checks k cards after_empty =
     (has_word (codes "ZSIMPLE") cards && not (unwrap_or (logical_of (word_in (codes "ZSIMPLE") cards)) false), at_word k (codes "ZSIMPLE") cards BadCard)
-    ∷ (has_word (codes "ZTENSION") cards && not (is_text (codes "IMAGE") (text_of (word_in (codes "ZTENSION") cards))), at_word k (codes "ZTENSION") cards BadCard)
+    ∷ (
+      has_word (codes "ZTENSION") cards && not (is_text (codes "IMAGE") (text_of (word_in (codes "ZTENSION") cards))),
+      at_word k (codes "ZTENSION") cards BadCard,
+    )
     ∷ (has_word (codes "ZSIMPLE") cards && not after_empty, at_word k (codes "ZSIMPLE") cards MisplacedPrimary)
     ∷ must_be k cards (codes "ZPCOUNT") (pos 0)
     ∷ must_be k cards (codes "ZGCOUNT") (pos 1)

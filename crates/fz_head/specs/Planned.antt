@@ -1,5 +1,6 @@
 -- How an image is packed: what its header and the options say (FITS 4.0, sections 10.1 and 10.4).
-use Rattle.std.specs.Prelude.{ℕ, pos, ◌*◌, ◌/◌, ◌<◌, ◌≤◌, slice_index, Bool, min, nat_lt, ℤ, List, [], ◌∷◌, take, Option, Some, None, unsigned_abs, if◌then◌else◌}
+use Rattle.std.specs.Prelude.{ℕ, pos, ◌*◌, ◌/◌, ◌<◌, ◌≤◌, slice_index, Bool, min, nat_lt, ℤ, List}
+use Rattle.std.specs.Prelude.{[], ◌∷◌, take, Option, Some, None, unsigned_abs, if◌then◌else◌}
 use Rattle.std.specs.Ordering.{int_eq}
 use Rattle.fz_block.specs.declared.axes.Axes.{Axes}
 use Rattle.fz_block.specs.declared.header.Header.{Header}

@@ -29,7 +29,7 @@ array_names =
     ∷ Word (codes "PCOUNT") ∷ Word (codes "GCOUNT") ∷ Word (codes "TFIELDS") ∷ Numbered (codes "TTYPE") 999
     ∷ Numbered (codes "TFORM") 999 ∷ Word (codes "THEAP") ∷ []
 
--- the names that tell of the packed image, and occur once
+-- the names that say something of the packed image, and occur once
 abbrev pub compression_names : List Names
 compression_names =
     Word (codes "ZIMAGE") ∷ Word (codes "ZCMPTYPE") ∷ Word (codes "ZBITPIX") ∷ Word (codes "ZNAXIS")

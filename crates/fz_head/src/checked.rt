@@ -29,7 +29,7 @@ pub fn pack_plan_law()
         → CanWrite p.codec p.bitpix }
 {}
 
-/// Where no check of the names of an image refuses anything, only blanks are after END; and where that of the
+/// If no check of the names of an image refuses anything, only blanks are after END; and if that of the
 /// fill of data refuses nothing, the fill is zeros.
 pub fn fill_law()
     ensures header { (h : Header) (header : List ℕ) → first_refusal (name_checks h header) ≡ None → HasBlankFill header }
@@ -71,8 +71,8 @@ pub fn primary_law()
     ensures planned { (o : PackOptions) (h : Header) → (pack_plan_of o h).primary ≡ is_primary h.sort }
 {}
 
-/// What `pack` answers for an HDU of which it refuses nothing: the plan that the options make where it can be
-/// packed, and none where it can not. Neither depends on the byte at which the HDU begins.
+/// What `pack` answers for an HDU of which it refuses nothing: the plan that the options make if it can be
+/// packed, and none if it can not. Neither depends on the byte at which the HDU begins.
 pub fn plan_to_pack_law()
     ensures answer { (o : PackOptions) (h : Header) (header : List ℕ) (r : Option Plan) → plan_to_pack o h header ≡ Ok r
         → r ≡ (if is_packable h then Some (pack_plan_of o h) else None) }

@@ -158,7 +158,7 @@ pub fn image_to_unpack(
     Ok(Some(image))
 }
 
-/// A fault at the end of a file of so many HDUs and bytes which has not the wanted HDU, or, where none is
+/// A fault at the end of a file of so many HDUs and bytes which has not the wanted HDU, or, if none is
 /// wanted, no packed one.
 pub fn missing_hdu(wanted: Option<u32>, hdus: u32, length: u64) -> Fault
     ensures { result ≡ missing_hdu_of wanted hdus length }

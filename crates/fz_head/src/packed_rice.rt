@@ -198,7 +198,7 @@ fn bytepix(buf: &[u8], header: &Header) -> Result<u32, Fault>
     bytepix_or_default(buf, header, number)
 }
 
-/// The codec with its parameters, of which those of a Rice code alone are looked at.
+/// The codec with its parameters, of which only those of a Rice code are looked at.
 pub(crate) fn check_parameters(buf: &[u8], header: &Header) -> Result<Codec, Fault>
     requires { IsHeaderOf buf.now header.now }
     ensures exact { IsFirstOf (parameter_checks header.now.hdu (cards_of buf.now)) result }

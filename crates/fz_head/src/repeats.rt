@@ -112,7 +112,7 @@ fn is_array_name(name: Name) -> bool
         || name == Name::THEAP
 }
 
-// Whether the name tells of the packed image, and occurs once.
+// Whether the name says something of the packed image, and occurs once.
 fn is_compression_name(name: Name) -> bool
     ensures { result ≡ is_in_some compression_names name.bytes }
 {

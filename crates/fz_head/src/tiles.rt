@@ -9,7 +9,7 @@ ghost use Rattle.fz_head.specs.Planned.{asked_tile, cut_tile};
 use fz_block::Axes;
 
 /// The lengths of a tile of an image with these axes: as they are asked for, each cut to the axis, and 1
-/// along axes that are not named. Where none are asked for, one row of axis 1.
+/// along axes that are not named. If none are asked for, one row of axis 1.
 pub(crate) fn cut_tile(axes: &Axes, asked: &Option<Axes>) -> Axes
     requires few { axes.now.n ≤ 9 }
     requires asked { ForSome asked.now (λ a. a.n ≤ 9) }

@@ -1,4 +1,4 @@
-//! What a packed header tells of the tiles' bytes.
+//! What a packed header says of the tiles' bytes.
 
 /// The length of the heap, and the greatest count in each column (FITS 4.0, section 7.3.5).
 #[derive(Clone, Copy, Debug, PartialEq, Eq)]

@@ -163,7 +163,7 @@ fn is_misplaced(buf: &[u8], header: &Header, after_empty: bool) -> bool
     stands(buf, header, &Name::ZSIMPLE) && !after_empty
 }
 
-// ZSIMPLE or ZTENSION say what the image is, and where it may stand.
+// ZSIMPLE or ZTENSION say what the image is, and where it may be.
 fn check_sort(buf: &[u8], header: &Header, after_empty: bool) -> Result<(), Fault>
     requires { IsHeaderOf buf.now header.now }
     ensures { IsFirstOf (sort_checks header.now.hdu (cards_of buf.now) after_empty) result }

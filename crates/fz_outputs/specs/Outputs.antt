@@ -41,12 +41,14 @@ left_out file hs = length hs - length (standing file hs)
 -- it has as many HDUs as those of the packed file that stand for something
 abbrev pub RestoredCount : Type 0
 RestoredCount =
-    (file bytes : List ℕ) → StandsFor file bytes → length bytes ≤ 2 ^ 62 → (hs : List Header) → headers_of 65536 bytes ≡ Ok hs → length hs ≡ length (standing file (headers_for Unpack file))
+    (file bytes : List ℕ) → StandsFor file bytes → length bytes ≤ 2 ^ 62 → (hs : List Header) → headers_of 65536 bytes ≡ Ok hs
+    → length hs ≡ length (standing file (headers_for Unpack file))
 
 -- an HDU that stands for something has the number of those before it that do, and one more if a primary stands for nothing
 abbrev pub PackedNumbers : Type 0
 PackedNumbers =
-    (file : List ℕ) → IsFirstFault Unpack file None → (earlier later : List Header) (h : Header) → standing file (headers_for Unpack file) ≡ earlier ++ h ∷ later →
+    (file : List ℕ) → IsFirstFault Unpack file None → (earlier later : List Header) (h : Header) →
+    standing file (headers_for Unpack file) ≡ earlier ++ h ∷ later →
     h.hdu ≡ length earlier + left_out file (headers_for Unpack file)
 
 -- The only HDU of a file, a primary image: BITPIX, and the lengths of its axes.
@@ -60,9 +62,12 @@ pub record IsOnePrimary (bytes : List ℕ) (size : ℤ) (lengths : List ℕ) : T
 -- a cutout is one primary image, with the BITPIX of the image that it is cut from, and along each axis as many pixels as picks
 abbrev pub CutoutIsFound : Type 0
 CutoutIsFound =
-    (wanted : Option ℕ) (sieve : Sieve) (file bytes : List ℕ) → HasNinePlaces sieve → HasPicks sieve → (cut : IsCutout wanted sieve file bytes) → length bytes ≤ 2 ^ 62 →
+    (wanted : Option ℕ) (sieve : Sieve) (file bytes : List ℕ) → HasNinePlaces sieve → HasPicks sieve →
+    (cut : IsCutout wanted sieve file bytes) → length bytes ≤ 2 ^ 62 →
     IsOnePrimary bytes (plan_in file cut.header).bitpix (sieve_lengths sieve)
 
 -- and it is a plain file
 abbrev pub CutoutIsPlain : Type 0
-CutoutIsPlain = (wanted : Option ℕ) (sieve : Sieve) (file bytes : List ℕ) → HasNinePlaces sieve → HasPicks sieve → IsCutout wanted sieve file bytes → length bytes ≤ 2 ^ 62 → IsPlain bytes
+CutoutIsPlain =
+    (wanted : Option ℕ) (sieve : Sieve) (file bytes : List ℕ) → HasNinePlaces sieve → HasPicks sieve → IsCutout wanted sieve file bytes
+    → length bytes ≤ 2 ^ 62 → IsPlain bytes

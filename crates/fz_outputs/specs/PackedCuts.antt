@@ -1,6 +1,7 @@
 -- What a cut of a packed file finds and makes, by the file that was packed; so the options that it was packed with do not matter (FITS
 -- 4.0, sections 3.3.2, 4.4.1.1 and 10.1).
-use Rattle.std.specs.Prelude.{ℕ, ◌≡◌, ◌↔◌, ◌==◌, ◌+◌, ◌-◌, ◌<◌, ◌&&◌, not, nat_lt, true, List, [], ◌∷◌, ◌++◌, length, take, drop, map, codes, slice_index, unsigned_abs, Option, Some, None, unwrap_or, Bool, if◌then◌else◌}
+use Rattle.std.specs.Prelude.{ℕ, ◌≡◌, ◌↔◌, ◌==◌, ◌+◌, ◌-◌, ◌<◌, ◌&&◌, not, nat_lt, true, List, [], ◌∷◌, ◌++◌, length, take}
+use Rattle.std.specs.Prelude.{drop, map, codes, slice_index, unsigned_abs, Option, Some, None, unwrap_or, Bool, if◌then◌else◌}
 use Rattle.std.specs.List.{filter, find, list_all, range_with_len}
 use Rattle.std.specs.Option.{option_map}
 use Rattle.fz_base.specs.declared.fault.Fault.{Fault}
@@ -78,17 +79,21 @@ cut_refusal wanted sieve file = reason_for wanted (box_of sieve) (hdus_in file) 
 -- the first fault of a cut of a packed file is in this HDU and of this kind
 abbrev pub CutsAreRefused : Type 0
 CutsAreRefused =
-    (o : PackOptions) (file bytes : List ℕ) (wanted : Option ℕ) (sieve : Sieve) (found : Option Fault) → IsPacked o file bytes → IsFirstFault (Cut wanted sieve) bytes found →
+    (o : PackOptions) (file bytes : List ℕ) (wanted : Option ℕ) (sieve : Sieve) (found : Option Fault) → IsPacked o file bytes →
+    IsFirstFault (Cut wanted sieve) bytes found →
     option_map reason_of found ≡ cut_refusal wanted sieve file
 
 -- there is none exactly if the file says none
 abbrev pub CutsAreSound : Type 0
-CutsAreSound = (o : PackOptions) (file bytes : List ℕ) (wanted : Option ℕ) (sieve : Sieve) → IsPacked o file bytes → IsFirstFault (Cut wanted sieve) bytes None ↔ (cut_refusal wanted sieve file ≡ None)
+CutsAreSound =
+    (o : PackOptions) (file bytes : List ℕ) (wanted : Option ℕ) (sieve : Sieve) → IsPacked o file bytes
+    → IsFirstFault (Cut wanted sieve) bytes None ↔ (cut_refusal wanted sieve file ≡ None)
 
 -- so it does not depend on the options but for its place
 abbrev pub FaultsAreAlike : Type 0
 FaultsAreAlike =
-    (o p : PackOptions) (file bytes others : List ℕ) (wanted : Option ℕ) (sieve : Sieve) (found other : Option Fault) → IsPacked o file bytes → IsPacked p file others →
+    (o p : PackOptions) (file bytes others : List ℕ) (wanted : Option ℕ) (sieve : Sieve) (found other : Option Fault) →
+    IsPacked o file bytes → IsPacked p file others →
     IsFirstFault (Cut wanted sieve) bytes found → IsFirstFault (Cut wanted sieve) others other → option_map reason_of found ≡ option_map reason_of other
 
 -- ---- what is cut
@@ -112,7 +117,9 @@ picked_cards sieve h d = map (moved_card sieve) (region_cards (is_primary h.sort
 
 -- the file of the picks of an image: these cards, and the bytes of its pixels at the picks
 abbrev pub picked_part : Sieve → Header → Hdu → List ℕ
-picked_part sieve h d = header_bytes (picked_cards sieve h d) ++ zero_filled (plain_bytes (unsigned_abs h.bitpix) (picked_numbers (stored_array h d.payload) sieve))
+picked_part sieve h d =
+    header_bytes (picked_cards sieve h d)
+    ++ zero_filled (plain_bytes (unsigned_abs h.bitpix) (picked_numbers (stored_array h d.payload) sieve))
 
 -- The bytes are the picks of the image of a file that a cut of its packed file asks for.
 pub record IsPickedPart (wanted : Option ℕ) (sieve : Sieve) (file part : List ℕ) : Type 0 where
@@ -143,12 +150,14 @@ pub record PicksAll (sieve : Sieve) (h : Header) : Type 0 where
 -- a cutout of all its pixels has all its data
 abbrev pub WholeCutoutsHaveAll : Type 0
 WholeCutoutsHaveAll =
-    (o : PackOptions) (file bytes : List ℕ) (wanted : Option ℕ) (sieve : Sieve) (part : List ℕ) (image : Header) → IsPacked o file bytes → HasNinePlaces sieve → HasPicks sieve →
+    (o : PackOptions) (file bytes : List ℕ) (wanted : Option ℕ) (sieve : Sieve) (part : List ℕ) (image : Header) → IsPacked o file bytes →
+    HasNinePlaces sieve → HasPicks sieve →
     IsCutout wanted sieve bytes part → asked_hdu wanted (hdus_in file) ≡ Some image → PicksAll sieve image →
     part ≡ header_bytes (picked_cards sieve image (hdu_of file image)) ++ (hdu_of file image).payload
 
 -- and no cutout depends on the options
 abbrev pub CutoutsAreAlike : Type 0
 CutoutsAreAlike =
-    (o p : PackOptions) (file bytes others : List ℕ) (wanted : Option ℕ) (sieve : Sieve) (part other : List ℕ) → IsPacked o file bytes → IsPacked p file others →
+    (o p : PackOptions) (file bytes others : List ℕ) (wanted : Option ℕ) (sieve : Sieve) (part other : List ℕ) → IsPacked o file bytes →
+    IsPacked p file others →
     HasNinePlaces sieve → HasPicks sieve → IsCutout wanted sieve bytes part → IsCutout wanted sieve others other → part ≡ other

@@ -1,4 +1,4 @@
--- What the laws of lists say, over the definitions alone.
+-- What the laws of lists say, over only the definitions.
 use Rattle.std.specs.Prelude.{ℕ, ◌^◌, ◌≤◌, ◌↔◌, ℤ, List, length, All, IsTrue}
 use Rattle.fz_plio.specs.Meaning.{IsLineList}
 use Rattle.fz_plio.specs.Producer.{InRange, can_hold_all, line_list}

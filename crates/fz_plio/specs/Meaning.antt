@@ -1,5 +1,6 @@
 -- The numbers that a line list means, and the lists that are refused (FITS 4.0, section 10.4.3).
-use Rattle.std.specs.Prelude.{◌≡◌, ◌≢◌, ℕ, ◌+◌, ◌-◌, ◌*◌, ◌%◌, ◌^◌, ◌<◌, ◌≤◌, ◌⊎◌, ℤ, pos, ⊤, List, [], ◌∷◌, ◌++◌, length, take, drop, replicate, slice_index, Any, MatchOption, unwrap_or, if◌then◌else◌, ◌==◌}
+use Rattle.std.specs.Prelude.{◌≡◌, ◌≢◌, ℕ, ◌+◌, ◌-◌, ◌*◌, ◌%◌, ◌^◌, ◌<◌, ◌≤◌, ◌⊎◌, ℤ, pos, ⊤, List, [], ◌∷◌, ◌++◌, length}
+use Rattle.std.specs.Prelude.{take, drop, replicate, slice_index, Any, MatchOption, unwrap_or, if◌then◌else◌, ◌==◌}
 use Rattle.fz_plio.specs.Words.{words}
 use Rattle.fz_plio.specs.Instructions.{Instruction, instructions}
 

@@ -1,5 +1,7 @@
 -- The line list that this crate writes (FITS 4.0, section 10.4.3).
-use Rattle.std.specs.Prelude.{ℕ, ◌+◌, ◌-◌, ◌/◌, ◌%◌, ◌^◌, ◌<◌, ℤ, pos, ◌≤ℤ◌, ◌<ℤ◌, nat_abs, Bool, ◌&&◌, not, List, [], ◌∷◌, ◌++◌, length, take, map, replicate, slice_index_or, Some, None, All, sum_by, if◌then◌else◌, ◌==◌, nat_lt, negsuc, true, false}
+use Rattle.std.specs.Prelude.{ℕ, ◌+◌, ◌-◌, ◌/◌, ◌%◌, ◌^◌, ◌<◌, ℤ, pos, ◌≤ℤ◌, ◌<ℤ◌, nat_abs, Bool, ◌&&◌}
+use Rattle.std.specs.Prelude.{not, List, [], ◌∷◌, ◌++◌, length, take, map, replicate, slice_index_or}
+use Rattle.std.specs.Prelude.{Some, None, All, sum_by, if◌then◌else◌, ◌==◌, nat_lt, negsuc, true, false}
 use Rattle.std.specs.List.{flat_map}
 use Rattle.fz_plio.specs.Words.{word_bytes}
 use Rattle.fz_plio.specs.Instructions.{Instruction, instruction_words}
@@ -34,7 +36,7 @@ abbrev pub after_zero : List Run → List Run
 after_zero [] = []
 after_zero (r ∷ rest) = record { zeros = r.zeros + 1; value = r.value; count = r.count } ∷ rest
 
--- the runs with the number v in front, which joins the first run where that is of v and directly after
+-- the runs with the number v in front, which joins the first run if that is of v and directly after
 abbrev pub after_number : ℕ → List Run → List Run
 after_number v [] = record { zeros = 0; value = v; count = 1 } ∷ []
 after_number v (r ∷ rest) =
@@ -75,7 +77,7 @@ high_change h v =
     else instruction 3 (h - v) ∷ []
 
 -- the zeros before a run and then the run; the last piece of zeros takes a single number with it
--- where there is room for it
+-- if there is room for it
 unfoldable pub zeros_and_highs : ℕ → ℕ → List Instruction
 zeros_and_highs zeros count =
     let last = (zeros - 1) % 4095 + 1 in

@@ -1,7 +1,7 @@
 -- The 16-bit big-endian words of a line list (FITS 4.0, section 10.4.3).
 use Rattle.std.specs.Prelude.{ℕ, ◌+◌, ◌*◌, ◌/◌, ◌%◌, List, [], ◌∷◌}
 
--- the words that stand in a list of bytes; a last odd byte is none
+-- the words that are in a list of bytes; a last odd byte is none
 unfoldable pub words : List ℕ → List ℕ
 words [] = []
 words (high ∷ []) = []

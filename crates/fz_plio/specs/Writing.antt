@@ -10,7 +10,7 @@ use Rattle.fz_plio.specs.Producer.{Run}
 abbrev pub overwritten : ℕ → List ℕ → List ℕ → List ℕ
 overwritten at bytes old = take at old ++ (bytes ++ drop (at + length bytes) old)
 
--- the words are put at a place, and the next place is after them; an error comes only where they do not fit
+-- the words are put at a place, and the next place is after them; an error comes only if they do not fit
 pub record Puts {T E : Type 0} (old new : List ℕ) (at next : ℕ) (ws : List ℕ) (result : Result T E) : Type 0 where
   pub len : length new ≡ length old
   pub place : OnOk result (next ≡ at + 2 * length ws)

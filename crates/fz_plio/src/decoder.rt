@@ -36,7 +36,7 @@ pub struct LineFault;
 
 /// Reads the numbers of a line from its list (FITS 4.0, section 10.4.3).
 ///
-/// `LineFault` comes where a byte is left over, where the header is faulty, and where an instruction
+/// `LineFault` comes if a byte is left over, if the header is faulty, and if an instruction
 /// is unknown or cut off, writes past the line or takes the high value out of 0 to 2^24 - 1. The
 /// numbers are then some values.
 pub fn decode(code: &[u8], numbers: &mut [i32]) -> Result<(), LineFault>

@@ -39,7 +39,7 @@ impl ListWriter<'_> {
         Ok(())
     }
 
-    /// Puts the instructions of a run, where the high value is this one.
+    /// Puts the instructions of a run, if the high value is this one.
     pub fn put_run(&mut self, high: u32, run: Run) -> Result<(), Full>
         requires high { high < 2 ^ 24 }
         requires value { run.value < 2 ^ 24 }
@@ -91,7 +91,7 @@ impl ListWriter<'_> {
     }
 
     /// Puts zeros and the numbers of the run after them. A single number goes with the last piece
-    /// of zeros, where there is room for it.
+    /// of zeros, if there is room for it.
     fn put_zeros_and_highs(&mut self, zeros: usize, count: usize) -> Result<(), Full>
         ensures same { self.new.out.ghost_name ≡ self.old.out.ghost_name }
         ensures puts { Puts self.old.out.now self.new.out.now self.old.at self.new.at

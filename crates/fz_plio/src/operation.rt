@@ -25,7 +25,7 @@ pub enum Operation {
 }
 
 impl Operation {
-    /// The operation with this code; none where the code is above 7.
+    /// The operation with this code; none if the code is above 7.
     #[inline]
     pub fn of(code: u16) -> Option<Operation>
         ensures { MatchOption result (8 ≤ code) (λ operation. code_of operation ≡ code) }

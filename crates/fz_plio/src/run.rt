@@ -28,7 +28,7 @@ impl Run {
     }
 }
 
-/// The first run of a line, and the numbers after it; none where no number is above 0.
+/// The first run of a line, and the numbers after it; none if no number is above 0.
 pub fn next_run(numbers: &[i32]) -> Option<(Run, &[i32])>
     requires { All InRange numbers.now }
     ensures none { IfNone result (runs (magnitudes numbers.now) ≡ []) }
@@ -74,7 +74,7 @@ pub fn front_len(numbers: &[i32], number: i32) -> usize
     at
 }
 
-// How many are in the stretches at the front that have this number alone.
+// How many are in the stretches at the front that have only this number.
 fn whole_len(numbers: &[i32], number: i32) -> usize
     ensures within { result ≤ length numbers.now }
     ensures front { take result numbers.now ≡ replicate result number }

@@ -26,7 +26,7 @@ pub struct Step {
 }
 
 /// The step of the first instruction, from this high value, and the bytes after the instruction;
-/// none where the instruction is refused.
+/// none if the instruction is refused.
 #[inline]
 pub fn next_step(bytes: &[u8], high: u32) -> Option<(Step, &[u8])>
     requires word { 2 ≤ length bytes.now }

@@ -1,4 +1,4 @@
--- What the laws of this crate say, over the definitions alone.
+-- What the laws of this crate say, over only the definitions.
 use Rattle.std.specs.Prelude.{◌≡◌, ℕ, ◌+◌, ◌*◌, ◌<◌, ◌≤◌, ◌++◌, ℤ, List, length, map, replicate, slice_get, slice_index_or, Some}
 use Rattle.fz_tile.specs.declared.codec.Codec.{Codec}
 use Rattle.fz_tile.specs.declared.fault.TileFault.{TileFault}
@@ -22,7 +22,9 @@ AreAsMany = (slots : List Slot) (m : ℕ) (size : ℕ × ℕ) → slot_sizes slo
 
 -- each of them is like the others
 abbrev pub IsAlike : Type 0
-IsAlike = (slots : List Slot) (m : ℕ) (size : ℕ × ℕ) (i : ℕ) (x : Slot) → slot_sizes slots ≡ replicate m size → i < m → slice_get slots i ≡ Some x → slot_size x ≡ size
+IsAlike =
+    (slots : List Slot) (m : ℕ) (size : ℕ × ℕ) (i : ℕ) (x : Slot) → slot_sizes slots ≡ replicate m size → i < m → slice_get slots i ≡ Some x
+    → slot_size x ≡ size
 
 -- what is asked for slots that were just filled
 abbrev pub AsksForFresh : Type 0
@@ -32,25 +34,29 @@ AsksForFresh = (m n : ℕ) → asked_for (replicate m (fresh_slot n)) ≡ m * fr
 abbrev pub AsksAlike : Type 0
 AsksAlike = (old new : List Slot) → slot_sizes new ≡ slot_sizes old → asked_for new ≡ asked_for old
 
--- where the slots of a window are alike, those of its halves are
+-- if the slots of a window are alike, those of its halves are
 abbrev pub HalvesAlike : Type 0
 HalvesAlike = (whole first second : Pool) (size : ℕ × ℕ) → AreHalves whole first second → slot_sizes whole.slots ≡ replicate (2 * whole.workers) size
     → (slot_sizes first.slots ≡ replicate (2 * first.workers) size) × (slot_sizes second.slots ≡ replicate (2 * second.workers) size)
 
--- where those of two windows are alike, all are
+-- if those of two windows are alike, all are
 abbrev pub BothAlike : Type 0
-BothAlike = (first second : Pool) (size : ℕ × ℕ) → slot_sizes first.slots ≡ replicate (2 * first.workers) size → slot_sizes second.slots ≡ replicate (2 * second.workers) size
+BothAlike =
+    (first second : Pool) (size : ℕ × ℕ) → slot_sizes first.slots ≡ replicate (2 * first.workers) size
+    → slot_sizes second.slots ≡ replicate (2 * second.workers) size
     → slot_sizes (first.slots ++ second.slots) ≡ replicate (2 * (first.workers + second.workers)) size
 
 -- ---- filling slots
 
--- what is left in a slot that was lent is put into the window, where its buffers are as long as before
+-- what is left in a slot that was lent is put into the window, if its buffers are as long as before
 abbrev pub PutsSlot : Type 0
 PutsSlot = (w : Pool) (i : ℕ) (x y : Slot) → slice_get w.slots i ≡ Some x → slot_size y ≡ slot_size x → IsPut w i y (with_slot w i y)
 
--- where those below i are ready, and a slot that is ready is put at i, those below i + 1 are
+-- if those below i are ready, and a slot that is ready is put at i, those below i + 1 are
 abbrev pub ReadiesNext : Type 0
-ReadiesNext = (task : Task) (i : ℕ) (old new : Pool) (x : Slot) → AreReady task i old.slots → IsPut old i x new → IsReady task x → AreReady task (i + 1) new.slots
+ReadiesNext =
+    (task : Task) (i : ℕ) (old new : Pool) (x : Slot) → AreReady task i old.slots → IsPut old i x new → IsReady task x
+    → AreReady task (i + 1) new.slots
 
 -- ---- the tiles of a call
 
@@ -59,7 +65,7 @@ abbrev pub EncodesTiles : Type 0
 EncodesTiles = (codec : Codec) (bits : ℕ) (tiles : List (List ℤ)) (old new : List Slot) → length tiles ≤ length new → HoldTiles codec bits old tiles
     → AreEncoded (length tiles) old new → coded_tiles (length tiles) new ≡ map (tile_code codec bits) tiles
 
--- a slot that was encoded tells how many bytes its tile has: they are within its code, and some elements of their
+-- a slot that was encoded shows how many bytes its tile has: they are within its code, and some elements of their
 -- column, no more than the plain bytes
 abbrev pub TellsLength : Type 0
 TellsLength = (x y : Slot) → IsForEncoding x → IsEncoded x y
@@ -67,11 +73,13 @@ TellsLength = (x y : Slot) → IsForEncoding x → IsEncoded x y
 
 -- slots that were decoded without a fault have the pixels of the tiles for which their records stand, in order
 abbrev pub DecodesTiles : Type 0
-DecodesTiles = (count : ℕ) (old new : List Slot) → count ≤ length old → count ≤ length new → HaveNumbers count old new → (tiles : List (List ℤ)) × (length tiles ≡ count) × AreTilesOf old new tiles
+DecodesTiles =
+    (count : ℕ) (old new : List Slot) → count ≤ length old → count ≤ length new → HaveNumbers count old new
+    → (tiles : List (List ℤ)) × (length tiles ≡ count) × AreTilesOf old new tiles
 
 -- ---- faults
 
--- where slots have the numbers of their records, none of these is faulty
+-- if slots have the numbers of their records, none of these is faulty
 abbrev pub HasNoFault : Type 0
 HasNoFault = (count : ℕ) (old new : List Slot) → AreForDecoding count old → HaveNumbers count old new
     → (i : ℕ) (d : Slot) (fault : TileFault) → i < count → ¬ HasFault (slice_index_or old i d).job (record_of (slice_index_or old i d)) fault

@@ -15,7 +15,8 @@ pub record HoldsTile (codec : Codec) (bits : ℕ) (x : Slot) (pixels : List ℤ)
 
 -- the first slots have the pixels of these tiles, in order
 abbrev pub HoldTiles : Codec → ℕ → List Slot → List (List ℤ) → Type 0
-HoldTiles codec bits slots tiles = (i : ℕ) (d : Slot) (e : List ℤ) → i < length tiles → HoldsTile codec bits (slice_index_or slots i d) (slice_index_or tiles i e)
+HoldTiles codec bits slots tiles =
+    (i : ℕ) (d : Slot) (e : List ℤ) → i < length tiles → HoldsTile codec bits (slice_index_or slots i d) (slice_index_or tiles i e)
 
 -- the bytes that a slot was encoded to, and their place
 abbrev pub coded_tile : Slot → TileCode
@@ -33,4 +34,6 @@ pub record IsTileOf (x y : Slot) (pixels : List ℤ) : Type 0 where
 
 -- the same for the first slots and these tiles, in order
 abbrev pub AreTilesOf : List Slot → List Slot → List (List ℤ) → Type 0
-AreTilesOf old new tiles = (i : ℕ) (d : Slot) (e : List ℤ) → i < length tiles → IsTileOf (slice_index_or old i d) (slice_index_or new i d) (slice_index_or tiles i e)
+AreTilesOf old new tiles =
+    (i : ℕ) (d : Slot) (e : List ℤ) → i < length tiles
+    → IsTileOf (slice_index_or old i d) (slice_index_or new i d) (slice_index_or tiles i e)

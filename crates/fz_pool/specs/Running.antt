@@ -1,4 +1,4 @@
--- The rule of the running window, and what each step tells.
+-- The rule of the running window, and what each step shows.
 use Rattle.std.specs.Prelude.{◌≡◌, ◌≢◌, ◌⊎◌, ℕ, ◌+◌, ◌-◌, ◌<◌, ◌≤◌, Bool, true, false, List, [], ◌∷◌, take, length, slice_index, Option, Some, None}
 use mathlib.Core.Option.{some, none}
 use mathlib.Core.Option as maybe
@@ -62,7 +62,7 @@ tile_if (some v) = tile_of v.turn
 abbrev pub turns : List View → ℕ → Option ℕ
 turns views j = tile_if (get_elem? views j)
 
--- The ticket and the seats' turns show this state of the core, for so many tiles, where the worker w has the seat w + 1
+-- The ticket and the seats' turns show this state of the core, for so many tiles, if the worker w has the seat w + 1
 pub record Shows (count ticket : ℕ) (turn : ℕ → Option ℕ) (s : WindowState) : Type 0 where
   -- the next tile is the same
   pub next : s.ticket ≡ ticket
@@ -169,7 +169,7 @@ pub record DrewNone (m : SeatState) (n : ℕ) (m' : SeatState) : Type 0 where
   pub view : m'.0 ≡ record m.0 { turn = Ended; seen = n + 1 }
   pub held : m'.1 ≡ m.1
 
--- what a draw tells: a tile where one was left, else none
+-- what a draw shows: a tile if one was left, otherwise none
 pub record TellsDraw (st : StepAt) (m : SeatState) (n : ℕ) (m' : SeatState) : Type 0 where
   pub slots : st.slots ≡ length m.0.starts
   pub few : st.slots ≤ 128

@@ -68,7 +68,7 @@ pub record HasNumbers (j : Job) (bytes : List ℕ) (numbers : List ℤ) : Type 0
 abbrev pub HasFault : Job → List ℕ → TileFault → Type 0
 HasFault j bytes fault = IsFault j.codec (bits_of_pixel j) j.place j.total bytes j.pixels fault
 
--- where there is no fault the record gives these numbers, else this is its fault
+-- if there is no fault the record gives these numbers, otherwise this is its fault
 abbrev pub ReadsAs : Job → List ℕ → List ℤ → Option TileFault → Type 0
 ReadsAs j bytes numbers None = HasNumbers j bytes numbers
 ReadsAs j bytes numbers (Some fault) = HasFault j bytes fault

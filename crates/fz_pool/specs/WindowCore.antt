@@ -34,7 +34,7 @@ is_tile k (Some j) = j == k
 
 -- for so many workers and tiles, and the result of each tile's job
 module _ (workers count : ℕ) (result : ℕ → ℕ) where
-  -- the ticket grows by 1, and where there was a tile of this number the worker w holds it
+  -- the ticket grows by 1, and if there was a tile of this number the worker w holds it
   abbrev pub drawn : WindowState → ℕ → Bool → WindowState
   drawn s w true = record { ticket = s.ticket + 1; held = changed s.held w (Some s.ticket); tiles = changed s.tiles s.ticket out }
   drawn s w false = record { ticket = s.ticket + 1; held = s.held; tiles = s.tiles }
@@ -53,7 +53,7 @@ module _ (workers count : ℕ) (result : ℕ → ℕ) where
   MayCome s (draw w) = (w < workers) × (s.held w ≡ None)
   MayCome s (put w) = (w < workers) × IsSome (s.held w)
 
-  -- each event may come where it stands
+  -- each event may come where it is
   abbrev pub AreEvents : WindowState → List Event → Type 0
   AreEvents s [] = Unit {0}
   AreEvents s (e ∷ es) = MayCome s e × AreEvents (after s e) es
@@ -80,7 +80,7 @@ module _ (workers count : ℕ) (result : ℕ → ℕ) where
   late_draws s (draw w ∷ es) = (if nat_lt s.ticket count then 0 else 1) + late_draws (after s (draw w)) es
   late_draws s (put w ∷ es) = late_draws (after s (put w)) es
 
-  -- the ticket of the last draw of the worker w, and `before` where it does not draw
+  -- the ticket of the last draw of the worker w, and `before` if it does not draw
   abbrev pub last_ticket : ℕ → Option ℕ → WindowState → List Event → Option ℕ
   last_ticket w before s [] = before
   last_ticket w before s (draw v ∷ es) = last_ticket w (if v == w then Some s.ticket else before) (after s (draw v)) es

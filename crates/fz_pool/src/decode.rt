@@ -88,7 +88,7 @@ pub fn decode_beside<R: Threads + Sync, G: Gate, J: FnMut() -> B, B>(
     ensures none { count ≡ 0 → result.0 ≡ Ok None }
     ensures job { J.step job.old result.1 job.new }
 {
-    // This call tells that there are no more than 128 slots.
+    // This call shows that there are no more than 128 slots.
     let _half = window.workers();
     let start = Start::with_job(window.slot(0), count);
     let (answer, done) = code_slots(

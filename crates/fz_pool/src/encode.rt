@@ -63,7 +63,7 @@ pub fn encode_beside<R: Threads + Sync, G: Gate, J: FnMut() -> B, B>(
     ensures none { count ≡ 0 → result.0 ≡ Ok tt }
     ensures job { J.step job.old result.1 job.new }
 {
-    // This call tells that there are no more than 128 slots.
+    // This call shows that there are no more than 128 slots.
     let _half = window.workers();
     let start = Start::with_job(window.slot(0), count);
     code_slots(

@@ -73,7 +73,7 @@ pub(crate) fn fill_slots(
         × (meter.new.peak ≡ max meter.old.peak (meter.old.live + r.spent)) × (meter.new.limit ≡ meter.old.limit)) }
     ensures capacity { vec_capacity slots.new ≡ vec_capacity slots.old }
 {
-    // These calls tell that what is live is at most the peak, and that at most the limit.
+    // These calls show that what is live is at most the peak, and that at most the limit.
     let (_live, _peak) = (meter.live(), meter.peak());
     for _i in 0..count {
         match take_slot(meter, n) {

@@ -48,7 +48,7 @@ pub fn round_law()
     ensures decoded { DecodesTiles }
 {}
 
-/// A slot that was encoded tells how many bytes its tile has: at least one, no more than the plain bytes, and whole
+/// A slot that was encoded shows how many bytes its tile has: at least one, no more than the plain bytes, and whole
 /// elements of their column (FITS 4.0, sections 7.3.5 and 10.1.3). They are the first of its code.
 pub fn length_law()
     ensures { TellsLength }
@@ -56,7 +56,7 @@ pub fn length_law()
     column_law();
 }
 
-/// `decode_window` answers None only where no record is faulty, and there is one lowest fault at most.
+/// `decode_window` answers None only if no record is faulty, and there is one lowest fault at most.
 pub fn lowest_fault_law()
     ensures none { HasNoFault }
     ensures one { IsOneLowest }

@@ -3,7 +3,7 @@ use fz_base::{Bytes, Numbers};
 use fz_tile::{Codec, Place2, TileFault};
 
 /// What is to be done with a tile. It uses the first `pixels` places of the slot's numbers, or the
-/// first `2 * pixels` where `bitpix` is 64, and the first `len` bytes of its code.
+/// first `2 * pixels` if `bitpix` is 64, and the first `len` bytes of its code.
 #[derive(Clone, Copy, Debug, PartialEq, Eq)]
 pub struct Job {
     /// The tile's number in its image.

@@ -1,4 +1,4 @@
-//! What the steps tell.
+//! What the steps show.
 ghost use Rattle.fz_pool.specs.Running.{TellsDraw, TellsHome, view_after_split, new_view, view_after_join, joined_view};
 
 use crate::Slot;

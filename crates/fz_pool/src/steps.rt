@@ -8,7 +8,7 @@ use crate::board::{Board, Hand};
 use crate::code::code_slot;
 use crate::step_facts::{DrawFact, HomeFact};
 
-/// Draws the next tile. The hand then holds the tile's slot with its start. None comes exactly where
+/// Draws the next tile. The hand then holds the tile's slot with its start. None comes exactly if
 /// all tiles were drawn already.
 pub fn draw(board: &Board, hand: &mut Hand) -> Option<u32>
     requires seat { IsSeatOf board.now.shared.table_id hand.old }

@@ -63,7 +63,7 @@ impl Window {
     }
 
     /// Fills an empty window with slots for tiles of n pixels. For each slot from 0 it takes 2n numbers
-    /// and then 8n + 64 bytes, and nothing else. `OverLimit` comes exactly where one of these takings
+    /// and then 8n + 64 bytes, and nothing else. `OverLimit` comes exactly if one of these takings
     /// passes the limit; a refusal hands back what was taken and leaves the window empty.
     pub fn fill(&mut self, meter: &mut Meter, n: u32) -> Result<(), Short>
         requires { IsEmpty self.old }

@@ -114,7 +114,7 @@ fn one_more_pays(board: &Board, threads: usize) -> bool
     left >= 2 && (drawn <= threads as u64 || left / 3 > drawn)
 }
 
-// Has each hand work. A new thread does the same with all but the first hand, where one more pays.
+// Has each hand work. A new thread does the same with all but the first hand, if one more pays.
 #[cycle(on_demand)]
 fn work_on_demand<R: Threads + Sync, G: Gate>(
     crew: &Crew<'_, R, G>,
@@ -179,7 +179,7 @@ fn processors(rt: &impl Threads) -> usize
 }
 
 // As many threads beside this one as the pixels of so many tiles pay, but one or more, and no more than there are
-// processors or tiles. The processors are asked for only where they matter.
+// processors or tiles. The processors are asked for only if they matter.
 fn threads_beside(rt: &impl Threads, pixels: u64, tiles: usize) -> usize
     ensures { 1 ≤ result }
 {

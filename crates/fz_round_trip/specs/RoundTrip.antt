@@ -110,7 +110,9 @@ ComesBack = (o : PackOptions) (file bytes : List ℕ) → IsProfileFile o file �
 
 -- so what the packed file stands for is the file only
 abbrev pub OnlyTheFileComesBack : Type 0
-OnlyTheFileComesBack = (o : PackOptions) (file bytes other : List ℕ) → IsProfileFile o file → IsPackedFile o file bytes → length bytes ≤ 2 ^ 62 → StandsFor bytes other → other ≡ file
+OnlyTheFileComesBack =
+    (o : PackOptions) (file bytes other : List ℕ) → IsProfileFile o file → IsPackedFile o file bytes → length bytes ≤ 2 ^ 62
+    → StandsFor bytes other → other ≡ file
 
 -- and two files with one packed file are one file, whatever options they were packed by
 abbrev pub LosesNothing : Type 0
@@ -126,7 +128,9 @@ OptionsDoNotMatter =
 
 -- a packed file in which `cut` finds no fault has a cutout
 abbrev pub HasCutout : Type 0
-HasCutout = (wanted : Option ℕ) (sieve : Sieve) (file : List ℕ) → IsFirstFault (Cut wanted sieve) file None → (bytes : List ℕ) × IsCutout wanted sieve file bytes
+HasCutout =
+    (wanted : Option ℕ) (sieve : Sieve) (file : List ℕ) → IsFirstFault (Cut wanted sieve) file None
+    → (bytes : List ℕ) × IsCutout wanted sieve file bytes
 
 -- ---- sums
 

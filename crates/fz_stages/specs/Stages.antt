@@ -39,7 +39,7 @@ HasStages ListHdus = ⊤
 HasStages (Drill rows) = ⊥
 HasStages (Retile o) = ⊥
 
--- where the look refuses the file, and its bytes are told, it tells the first fault of its headers for the job
+-- if the look refuses the file, and its bytes are shown, it gives the first fault of its headers for the job
 abbrev pub TellsHeaderFault : Job → Option (List ℕ) → Stop → Type 0
 TellsHeaderFault job held (Refused x) = IfSome held (λ file. header_fault job file ≡ Some x)
 TellsHeaderFault job held ReadFault = ⊤
@@ -55,7 +55,7 @@ pub record HasLargest (job : Job) (H n : ℕ) (file : List ℕ) : Type 0 where
 
 -- ---- the work
 
--- What the work of a job wants for headers of at most H bytes and tiles of at most n pixels. Where nothing is written no header is
+-- What the work of a job wants for headers of at most H bytes and tiles of at most n pixels. If nothing is written no header is
 -- translated, and `list` works on no tiles. `drill` and `retile` want nothing of their own.
 abbrev pub wants_of : Job → ℕ → ℕ → Wants
 wants_of (Pack o) H n = record { header_len = H; translates = true; tile = Some n }
@@ -66,14 +66,14 @@ wants_of ListHdus H n = record { header_len = H; translates = false; tile = None
 wants_of (Drill rows) H n = record { header_len = H; translates = false; tile = None }
 wants_of (Retile o) H n = record { header_len = H; translates = false; tile = None }
 
--- what it wants where the look learnt this; `list` leaves out the tile
+-- what it wants if the look learnt this; `list` leaves out the tile
 abbrev pub wants_for : Job → Survey → Wants
 wants_for job s = wants_of job s.header_len s.tile
 
 -- ---- why a job ended after its first block
 
--- Refused comes only where no count rose, ReadFault only where the source's count of faults rose, and WriteFault only where that of what the
--- job writes to rose, its sink or its text; OverLimit tells the limit, and what passes it; NoMemory comes at will.
+-- Refused comes only if no count rose, ReadFault only if the source's count of faults rose, and WriteFault only if that of what the
+-- job writes to rose, its sink or its text; OverLimit shows the limit, and what passes it; NoMemory comes at will.
 abbrev pub StoppedWorking : Tally → Tally → Tally → Tally → ℕ → Stop → Type 0
 StoppedWorking source source' sink sink' limit (Refused x) = (source' ≡ source) × (sink' ≡ sink)
 StoppedWorking source source' sink sink' limit ReadFault = Rose source.faults source'.faults

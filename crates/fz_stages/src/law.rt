@@ -9,7 +9,7 @@ use fz_survey::workspace_law;
 /// A job on a file takes one block, looks at the headers, takes the buffers that its work wants, and works: what these
 /// stages say of why they ended, of the takings and of the peak gives the job's cause, its answer and its peak.
 ///
-/// `T` is what the job answers with where it is done: a law of its clauses for every answer has it.
+/// `T` is what the job answers with if it is done: a law of its clauses for every answer has it.
 pub fn stages_law<T>()
     ensures block { BlockEnds T }
     ensures look { LookEnds T }

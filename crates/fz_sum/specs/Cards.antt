@@ -5,7 +5,7 @@ use Rattle.fz_card.specs.Made.{text_card_bytes}
 use Rattle.fz_card.specs.Layout.{padded}
 use Rattle.fz_sum.specs.Characters.{characters}
 
--- the name of the card that tells of the sum of the data
+-- the name of the card that gives the sum of the data
 abbrev pub datasum_name : List ℕ
 datasum_name = padded (codes "DATASUM")
 

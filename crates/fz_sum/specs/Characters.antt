@@ -1,5 +1,6 @@
 -- The sixteen characters that stand for a sum (FITS 4.0, appendix J).
-use Rattle.std.specs.Prelude.{ℕ, ◌≡◌, ◌⊎◌, ◌+◌, ◌-◌, ◌/◌, ◌%◌, ◌^◌, ◌<◌, ◌≤◌, ◌&&◌, ◌||◌, zero, suc, nat_le, if◌then◌else◌, Bool, List, [], ◌∷◌, ◌++◌, map, take, drop, slice_index}
+use Rattle.std.specs.Prelude.{ℕ, ◌≡◌, ◌⊎◌, ◌+◌, ◌-◌, ◌/◌, ◌%◌, ◌^◌, ◌<◌, ◌≤◌, ◌&&◌, ◌||◌, zero, suc, nat_le}
+use Rattle.std.specs.Prelude.{if◌then◌else◌, Bool, List, [], ◌∷◌, ◌++◌, map, take, drop, slice_index}
 use Rattle.std.specs.Int.{w32, to_be_bytes}
 
 -- the punctuation of ASCII between digits, capitals and small letters

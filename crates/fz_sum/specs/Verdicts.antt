@@ -16,19 +16,23 @@ pub record HasSumText (card : List ℕ) : Type 0 where
   pub has : TextValue card text
   pub some : text ≢ []
 
--- the verdict on the sum of the data: it is judged by the first of the cards that is named DATASUM, and is right if and only if the text of that card gives the sum of these data
+-- the verdict on the sum of the data: it is judged by the first of the cards that is named DATASUM, and is right if and only if the
+-- text of that card gives the sum of these data
 abbrev pub IsDatasumVerdict : List (List ℕ) → List ℕ → Verdict → Type 0
 IsDatasumVerdict cards payload Absent = (card : List ℕ) → IsFirstOfName datasum_name cards card → ¬ (HasSumText card)
 IsDatasumVerdict cards payload Right = (card : List ℕ) × IsFirstOfName datasum_name cards card × CardGivesSum card (ones_sum payload)
 IsDatasumVerdict cards payload Wrong = (card : List ℕ) × IsFirstOfName datasum_name cards card × HasSumText card × ¬ (CardGivesSum card (ones_sum payload))
 
--- the verdict on the sum of an HDU: the first of the cards that is named CHECKSUM counts, and it is right if and only if the sum of the header and the data is all ones
+-- the verdict on the sum of an HDU: the first of the cards that is named CHECKSUM counts, and it is right if and only if the sum of
+-- the header and the data is all ones
 abbrev pub IsChecksumVerdict : List (List ℕ) → List ℕ → List ℕ → Verdict → Type 0
 IsChecksumVerdict cards header payload Absent = (card : List ℕ) → IsFirstOfName checksum_name cards card → ¬ (HasSumText card)
-IsChecksumVerdict cards header payload Right = (card : List ℕ) × IsFirstOfName checksum_name cards card × HasSumText card × (ones_sum (header ++ payload) ≡ 4294967295)
-IsChecksumVerdict cards header payload Wrong = (card : List ℕ) × IsFirstOfName checksum_name cards card × HasSumText card × (ones_sum (header ++ payload) ≢ 4294967295)
+IsChecksumVerdict cards header payload Right =
+    (card : List ℕ) × IsFirstOfName checksum_name cards card × HasSumText card × (ones_sum (header ++ payload) ≡ 4294967295)
+IsChecksumVerdict cards header payload Wrong =
+    (card : List ℕ) × IsFirstOfName checksum_name cards card × HasSumText card × (ones_sum (header ++ payload) ≢ 4294967295)
 
--- there is a card, and it tells of a sum
+-- there is a card, and it gives a sum
 abbrev pub TellsSum : Option (List ℕ) → Type 0
 TellsSum None = ⊥
 TellsSum (Some card) = HasSumText card

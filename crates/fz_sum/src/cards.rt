@@ -15,7 +15,7 @@ pub fn datasum_card(sum: u32) -> Card
     text_card(Name::DATASUM, buffer.format(sum).as_bytes())
 }
 
-/// The card CHECKSUM with the characters of this sum: in place of the blank one, where the sum was that of the
+/// The card CHECKSUM with the characters of this sum: in place of the blank one, if the sum was that of the
 /// whole HDU, it makes that sum 4294967295.
 pub fn checksum_card(sum: u32) -> Card
     ensures { result.bytes ≡ checksum_card sum }
@@ -23,7 +23,7 @@ pub fn checksum_card(sum: u32) -> Card
     text_card(Name::CHECKSUM, &characters(sum))
 }
 
-/// The card CHECKSUM with sixteen times `0`, as it stands while the sum of its HDU is taken.
+/// The card CHECKSUM with sixteen times `0`, as it is while the sum of its HDU is taken.
 pub fn blank_checksum_card() -> Card
     ensures { result.bytes ≡ blank_checksum_card }
 {

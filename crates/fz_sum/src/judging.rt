@@ -37,7 +37,7 @@ pub fn datasum_verdict(buf: &[u8], cards: u32, sum: u32) -> Verdict
     verdict(card.as_ref(), gives(card.as_ref(), sum))
 }
 
-/// The verdict on the sum of an HDU, told by the first of so many cards of its header that is named CHECKSUM: `sum`
+/// The verdict on the sum of an HDU, given by the first of so many cards of its header that is named CHECKSUM: `sum`
 /// is the sum of the whole header and of the data with their fill (FITS 4.0, section 4.4.2.7).
 pub fn checksum_verdict(buf: &[u8], cards: u32, sum: u32) -> Verdict
     requires { 80 * cards ≤ length buf.now }
@@ -71,7 +71,7 @@ fn is_sum(given: Option<u32>, sum: u32) -> bool
     }
 }
 
-/// The verdict on the first card of that name, if there is one, where `right` says whether the sum is as it says:
+/// The verdict on the first card of that name, if there is one; `right` says whether the sum is as it says:
 /// that the sum of the data is the one that DATASUM gives, or that the sum of the HDU is 4294967295.
 pub fn verdict(card: Option<&Card>, right: bool) -> Verdict
     ensures value { IsVerdict (option_map (λ c. c.now.bytes) card.entry) right result }
@@ -81,7 +81,7 @@ pub fn verdict(card: Option<&Card>, right: bool) -> Verdict
     judged(is_told(card), right)
 }
 
-/// The verdict on a sum that is told or not.
+/// The verdict on a sum that is given or not.
 fn judged(told: bool, right: bool) -> Verdict
     ensures { result ≡ (if told then (if right then Right else Wrong) else Absent) }
 {
@@ -92,7 +92,7 @@ fn judged(told: bool, right: bool) -> Verdict
     }
 }
 
-/// Whether there is a card and it tells of a sum.
+/// Whether there is a card and it gives a sum.
 fn is_told(card: Option<&Card>) -> bool
     ensures { result ≡ is_some_text (option_and_then text_of (option_map (λ c. c.now.bytes) card.entry)) }
 {

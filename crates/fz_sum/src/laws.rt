@@ -32,7 +32,7 @@ ghost use Rattle.fz_sum.specs.Texts.{CardGivesSum};
 
 use fz_card::made_cards_law;
 
-/// A list that is added in parts, each at its place and in any order, is as the list added at once. Where it begins
+/// A list that is added in parts, each at its place and in any order, is as the list added at once. If it begins
 /// with a word its total is that of its words, and its value is its sum. A total at a place is that at any other
 /// place that lies whole words away, and the total of joined lists is that of both. Zeros add nothing, so the sum of
 /// data is that of the data with their fill. A sum has 32 bits.

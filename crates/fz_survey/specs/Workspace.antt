@@ -51,7 +51,9 @@ held_bytes w pool = length w.header + length w.translated + length w.copy + aske
 
 -- as long as no buffer changes its length, what is held is what was taken
 abbrev pub HoldsWhatItTook : Type 0
-HoldsWhatItTook = (wants : Wants) (w : Workspace) (pool : Pool) → HasLengths wants w → AreSizedFor wants.tile pool → held_bytes w pool ≡ sum (wanted_buffers wants pool.workers)
+HoldsWhatItTook =
+    (wants : Wants) (w : Workspace) (pool : Pool) → HasLengths wants w → AreSizedFor wants.tile pool
+    → held_bytes w pool ≡ sum (wanted_buffers wants pool.workers)
 
 -- the pixels of the largest tile, or 0
 abbrev pub pixels_of : Option ℕ → ℕ
@@ -72,4 +74,6 @@ PassesNoLimit = (limit live : ℕ) (buffers : List ℕ) → live + sum buffers �
 
 -- the first buffer that passes a limit is, with what is live before it, no more than all of them together
 abbrev pub PassesWithinAll : Type 0
-PassesWithinAll = (limit live before asked : ℕ) (buffers : List ℕ) → first_past limit (piled live buffers) ≡ Some (before, asked) → (limit < before + asked) × (before + asked ≤ live + sum buffers)
+PassesWithinAll =
+    (limit live before asked : ℕ) (buffers : List ℕ) → first_past limit (piled live buffers) ≡ Some (before, asked)
+    → (limit < before + asked) × (before + asked ≤ live + sum buffers)

@@ -27,7 +27,7 @@ pub struct Survey {
     pub header_len: u32,
     /// The pixels of the largest tile among the HDUs whose tiles the job works on, or 0.
     pub tile: u32,
-    /// The header of the HDU at which the job stopped, which is the last that it looked at; none where it
+    /// The header of the HDU at which the job stopped, which is the last that it looked at; none if it
     /// looked at all.
     pub stopped: Option<Header>,
 }

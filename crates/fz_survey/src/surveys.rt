@@ -20,7 +20,7 @@ use fz_head::{PackOptions, missing_hdu};
 /// The first look of `pack`, with these options. Block, headers and refusals as in `survey_headers`.
 ///
 /// Refused also: a table is packed already (AlreadyPacked); an image as `plan_to_pack` refuses it, and then
-/// where the fill after its data is not zeros (DataFill); a 65,536th HDU (Limit).
+/// if the fill after its data is not zeros (DataFill); a 65,536th HDU (Limit).
 pub fn survey_to_pack<S: Source>(
     source: &mut S,
     length: u64,

@@ -1,5 +1,6 @@
 -- Decimals as values of cards, and the card of a decimal less a whole number (FITS 4.0, sections 4.2.3, 4.2.4 and 8.1).
-use Rattle.std.specs.Prelude.{◌≡◌, ℕ, zero, suc, ◌+◌, ◌-◌, ◌*◌, ◌/◌, ◌%◌, ◌^◌, ◌≤◌, ◌⊎◌, ℤ, pos, negsuc, ◌-ℤ◌, ◌*ℤ◌, List, [], ◌∷◌, ◌++◌, length, codes, decimal, unsigned_abs}
+use Rattle.std.specs.Prelude.{◌≡◌, ℕ, zero, suc, ◌+◌, ◌-◌, ◌*◌, ◌/◌, ◌%◌, ◌^◌, ◌≤◌, ◌⊎◌, ℤ, pos, negsuc}
+use Rattle.std.specs.Prelude.{◌-ℤ◌, ◌*ℤ◌, List, [], ◌∷◌, ◌++◌, length, codes, decimal, unsigned_abs}
 use Rattle.std.specs.Str.{byte}
 use Rattle.std.specs.Str.Parse.{AllDigits, without_leading_sign}
 use Rattle.fz_wcs.specs.declared.decimal.Decimal.{Decimal}
@@ -61,7 +62,7 @@ abbrev pub last_digits : ℕ → ℕ → List ℕ
 last_digits zero n = []
 last_digits (suc count) n = (byte "0" + n / 10 ^ count % 10) ∷ last_digits count n
 
--- a point and a digit for each place; nothing where there is none
+-- a point and a digit for each place; nothing if there is none
 abbrev pub fraction_text : ℕ → ℕ → List ℕ
 fraction_text zero n = []
 fraction_text (suc places) n = codes "." ++ last_digits (suc places) n
@@ -75,7 +76,8 @@ sign_text (negsuc n) = codes "-"
 abbrev pub decimal_text : Decimal → List ℕ
 decimal_text d = sign_text d.number ++ (decimal (unsigned_abs d.number / 10 ^ d.places) ++ fraction_text d.places (unsigned_abs d.number))
 
--- a card with this decimal less a whole number: the same name, the text at the end of column 30, or from column 11 on where it has more than 20 characters, and no comment
+-- a card with this decimal less a whole number: the same name, the text at the end of column 30, or from column 11 on if it has
+-- more than 20 characters, and no comment
 abbrev pub shifted_card : List ℕ → ℕ → Decimal → List ℕ
 shifted_card card by d = value_card (card_name card) (right_aligned 20 (decimal_text (less d by)))
 

@@ -13,4 +13,6 @@ pub record DecimalLaws : Type 0 where
 
 -- the card with its decimal less a whole number of 32 bits has 80 bytes, and the name that it had
 abbrev pub ShiftedIsCard : Type 0
-ShiftedIsCard = (card : List ℕ) (by : ℕ) (other : List ℕ) → 8 ≤ length card → by < 2 ^ 32 → shifted card by ≡ Some other → (length other ≡ 80) × (card_name other ≡ card_name card)
+ShiftedIsCard =
+    (card : List ℕ) (by : ℕ) (other : List ℕ) → 8 ≤ length card → by < 2 ^ 32 → shifted card by ≡ Some other
+    → (length other ≡ 80) × (card_name other ≡ card_name card)

@@ -1,4 +1,5 @@
--- The decimal of a card, and the card of a decimal less a whole number, as functions, for definitions that compute with them. Laws say that they give the decimal by the parts of its text.
+-- The decimal of a card, and the card of a decimal less a whole number, as functions, for definitions that compute with them. Laws
+-- say that they give the decimal by the parts of its text.
 use Rattle.std.specs.Prelude.{ℕ, if◌then◌else◌, Option, None, List}
 use Rattle.std.specs.Option.{option_map}
 use Rattle.fz_card.specs.Layout.{value_field}

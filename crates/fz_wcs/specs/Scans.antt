@@ -8,7 +8,7 @@ use Rattle.fz_card.specs.Zeros.{skip_point}
 use Rattle.fz_wcs.specs.declared.decimal.Decimal.{Decimal}
 use Rattle.fz_wcs.specs.Decimals.{scaled}
 
--- what stands before the first byte that passes the test
+-- what is before the first byte that passes the test
 abbrev pub before : (ℕ → Bool) → List ℕ → List ℕ
 before test [] = []
 before test (b ∷ bs) = if test b then [] else b ∷ before test bs
@@ -45,7 +45,7 @@ abbrev pub exponent_in : List ℕ → Option ℤ
 exponent_in [] = Some (pos 0)
 exponent_in (b ∷ bs) = if is_letter b then small_integer_in bs else None
 
--- the integer that both parts write together, if the second is digits alone
+-- the integer that both parts write together, if the second is only digits
 abbrev pub joined_integer : List ℕ → List ℕ → Option ℤ
 joined_integer front fraction = if all_ascii_digits fraction then integer_in (front ++ fraction) else None
 

@@ -29,7 +29,7 @@ pub(crate) fn decimal_in(text: &[u8]) -> Option<Decimal>
     Some(scaled(integer, fraction.len() as u32, exponent))
 }
 
-/// How many characters stand before the letter of an exponent.
+/// How many characters are before the letter of an exponent.
 fn mantissa_len(text: &[u8]) -> usize
     ensures before { take result text.now ≡ before is_letter text.now }
     ensures behind { drop result text.now ≡ behind is_letter text.now }
@@ -48,7 +48,7 @@ fn is_letter(byte: u8) -> bool
     byte == b'E' || byte == b'D'
 }
 
-/// How many characters stand before the point.
+/// How many characters are before the point.
 fn front_len(text: &[u8]) -> usize
     ensures before { take result text.now ≡ before is_point text.now }
     ensures behind { drop result text.now ≡ behind is_point text.now }
@@ -76,7 +76,7 @@ fn without_point(text: &[u8]) -> &[u8]
     }
 }
 
-/// The integer that both parts write together, if the second is digits alone.
+/// The integer that both parts write together, if the second is only digits.
 fn joined_integer(front: &[u8], fraction: &[u8]) -> Option<i64>
     ensures value { result ≡ joined_integer_of front.now fraction.now }
     ensures few { IfSome result (λ _. length fraction.now ≤ 19) }

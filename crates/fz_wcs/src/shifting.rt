@@ -13,7 +13,7 @@ use crate::reading::decimal_in;
 use crate::writing::decimal_line;
 use fz_card::{Card, integer_text_law, made_cards_law, number_card, value_text_law};
 
-/// The card with its decimal less this whole number, and `None` exactly where its value is no decimal: a sign, 1 to 18
+/// The card with its decimal less this whole number, and `None` exactly if its value is no decimal: a sign, 1 to 18
 /// digits with at most one point and an exponent from -9 to 9, of which the sign, the point and the exponent may be
 /// left away (FITS 4.0, sections 4.2.4 and 8.1). The new value has as many digits after the point as hold the old one
 /// exactly, and the card has no comment.

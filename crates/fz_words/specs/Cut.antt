@@ -2,11 +2,11 @@
 use Rattle.std.specs.Prelude.{ℕ, ◌==◌, Bool, List, length, Option, Some, None, nat_lt, if◌then◌else◌}
 use Rattle.std.specs.List.{after_first, before_first, position_or_len, slice_split}
 
--- what stands before the first of this byte: all, where there is none
+-- what is before the first of this byte: all, if there is none
 abbrev pub before_byte : ℕ → List ℕ → List ℕ
 before_byte at text = before_first (λ b. b == at) text
 
--- what stands behind the first of this byte, if there is one
+-- what is after the first of this byte, if there is one
 abbrev pub behind_byte : ℕ → List ℕ → Option (List ℕ)
 behind_byte at text =
     if nat_lt (position_or_len (λ b. b == at) text) (length text) then Some (after_first (λ b. b == at) text) else None

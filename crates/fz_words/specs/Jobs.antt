@@ -18,7 +18,7 @@ use Rattle.fz_words.specs.declared.table.OptionName.{OptionName}
 use Rattle.fz_words.specs.declared.table.OptionName.TheVariants.{Codec, Tile, Block, Sums, Workers, Memory, Hdu, Box, Strict, At}
 
 -- What the words ask for: the job, the number of workers, whether `verify` also compares the file with what `pack` writes, the limit on
--- memory in bytes, and the names of the files; a name is empty where the command has none.
+-- memory in bytes, and the names of the files; a name is empty if the command has none.
 pub record Asked : Type 0 where
   pub job : Job
   pub workers : ℕ
@@ -27,7 +27,7 @@ pub record Asked : Type 0 where
   pub input : List ℕ
   pub output : List ℕ
 
--- the words behind a command: the parts before the first `--`, and the operands
+-- the words after a command: the parts before the first `--`, and the operands
 pub record LineIs : Type 0 where
   pub parts : List PartIs
   pub operands : List (List ℕ)
@@ -40,7 +40,7 @@ abbrev pub with_some : {A B : Type 0} → Option A → (A → Option B) → Opti
 with_some None f = None
 with_some (Some value) f = f value
 
--- the value of an option that is given at most once: none where it is not given
+-- the value of an option that is given at most once: none if it is not given
 abbrev pub at_most_once : List (List ℕ) → Option (Option (List ℕ))
 at_most_once [] = Some None
 at_most_once (value ∷ []) = Some (Some value)
@@ -49,12 +49,12 @@ at_most_once (value ∷ again ∷ others) = None
 abbrev pub value_of : OptionName → LineIs → Option (Option (List ℕ))
 value_of option line = at_most_once (values_in option line.parts)
 
--- what an option's value says, or what holds where the option is not given
+-- what an option's value says, or what holds if the option is not given
 abbrev pub read_or : {A : Type 0} → A → (List ℕ → Option A) → Option (List ℕ) → Option A
 read_or otherwise read None = Some otherwise
 read_or otherwise read (Some value) = read value
 
--- rice, where no codec is given
+-- rice, if no codec is given
 abbrev pub codec_of : LineIs → Option CodecWord
 codec_of line = with_some (value_of Codec line) (read_or word.Rice codec_in)
 
@@ -62,7 +62,7 @@ codec_of line = with_some (value_of Codec line) (read_or word.Rice codec_in)
 abbrev pub tile_of : LineIs → Option (Option Axes)
 tile_of line = with_some (value_of Tile line) (read_or None (λ text. option_map (λ axes. Some axes) (lengths_in text)))
 
--- a block is given with the codec rice alone
+-- a block is given only with the codec rice
 abbrev pub block_in : CodecWord → List ℕ → Option ℕ
 block_in word.Rice text = number_in 1 32767 text
 block_in word.Plio text = None
@@ -183,7 +183,7 @@ retile_of line =
     with_some (names_in line.operands) (λ names.
     Some (record { job = job.Retile options; workers = options.workers; strict = false; memory = memory; input = names.input; output = names.output }))))
 
--- what the words behind a command ask for; those of `patch` ask for no job
+-- what the words after a command ask for; those of `patch` ask for no job
 abbrev pub asked_by : Command → LineIs → Option Asked
 asked_by Pack line = pack_of line
 asked_by Unpack line = unpack_of line
@@ -194,7 +194,7 @@ asked_by Drill line = drill_of line
 asked_by Retile line = retile_of line
 asked_by Patch line = None
 
--- what the words behind a command ask for: each is an option of the command, its value or an operand
+-- what the words after a command ask for: each is an option of the command, its value or an operand
 abbrev pub job_of_line : Command → LineIs → Option Asked
 job_of_line command line = if list_all is_inside line.parts then asked_by command line else None
 

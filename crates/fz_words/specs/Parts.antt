@@ -1,4 +1,4 @@
--- What each word behind the command is: an option, the value of an option, or an operand.
+-- What each word after the command is: an option, the value of an option, or an operand.
 use Rattle.std.specs.Prelude.{ℕ, ◌==◌, ◌++◌, Bool, true, false, List, [], ◌∷◌, map, codes, String, string_bytes, Option, Some, None, if◌then◌else◌}
 use Rattle.std.specs.List.{after_first, before_first, filter_map}
 use Rattle.std.specs.Str.{bytes_eq}
@@ -34,7 +34,7 @@ abbrev pub had_by : Command → Option OptionName → Option OptionName
 had_by command None = None
 had_by command (Some option) = if has_option command option then Some option else None
 
--- The option is written with this behind its `=`, or without one: its value stands behind the `=` or in the next word,
+-- The option is written with this after its `=`, or without one: its value is after the `=` or in the next word,
 -- and an option that has no value is written without `=`.
 abbrev pub spelled : OptionName → Option (List ℕ) → PartIs
 spelled option None = if takes_value option then Awaiting option else Given option []
@@ -44,7 +44,7 @@ abbrev pub spelled_if : Option OptionName → Option (List ℕ) → PartIs
 spelled_if None value = Outside
 spelled_if (Some option) value = spelled option value
 
--- what a word is that names an option: its name is what stands before the first `=`
+-- what a word is that names an option: its name is what is before the first `=`
 abbrev pub spelled_option : Command → List ℕ → PartIs
 spelled_option command word = spelled_if (had_by command (option_named (before_byte 61 word))) (behind_byte 61 word)
 
@@ -54,11 +54,11 @@ awaited_by (Awaiting option) = Some option
 awaited_by (Operand word) = None
 awaited_by Outside = None
 
--- the option whose value is the word behind this one
+-- the option whose value is the word after this one
 abbrev pub awaited : Command → List ℕ → Option OptionName
 awaited command word = awaited_by (spelled_option command word)
 
--- what a word is behind an option that awaits its value, which does not begin with `-`; or behind any other word
+-- what a word is after an option that awaits its value, which does not begin with `-`; or after any other word
 abbrev pub part_behind : Option OptionName → Command → List ℕ → PartIs
 part_behind (Some option) command word = if begins_with_hyphen word then Outside else Given option word
 part_behind None command word = if is_option word then spelled_option command word else Operand word
@@ -72,7 +72,7 @@ abbrev pub unanswered : Option OptionName → List PartIs
 unanswered None = []
 unanswered (Some option) = Outside ∷ []
 
--- what each word is, of which the first stands behind this one
+-- what each word is, of which the first is after this one
 abbrev pub parts_behind : Command → List ℕ → List (List ℕ) → List PartIs
 parts_behind command before [] = unanswered (awaited command before)
 parts_behind command before (word ∷ words) = part_of command before word ∷ parts_behind command word words
@@ -114,7 +114,7 @@ operand_in Outside = None
 abbrev pub operands_in : List PartIs → List (List ℕ)
 operands_in parts = filter_map operand_in parts
 
--- the operands: those before the first `--`, and each word behind it
+-- the operands: those before the first `--`, and each word after it
 abbrev pub operands_of : Command → List (List ℕ) → List (List ℕ)
 operands_of command words = operands_in (parts_of command words) ++ after_first is_mark words
 

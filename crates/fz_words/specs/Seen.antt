@@ -21,13 +21,13 @@ seen_part (Awaiting option) = IsAwaiting option
 seen_part (Operand word) = IsOperand word.now
 seen_part Outside = IsOutside
 
--- the words behind a command: the parts before the first `--`, and the operands
+-- the words after a command: the parts before the first `--`, and the operands
 abbrev pub seen_line : Line → LineIs
 seen_line line =
     let parts = parts_behind line.command [] (texts_of line.words.now) in
     record { parts = parts; operands = operands_in parts ++ texts_of line.others.now }
 
--- the bytes of a text that was read, or none where the answer is Usage
+-- the bytes of a text that was read, or none if the answer is Usage
 abbrev pub seen_text : Result (Bor (List ℕ)) Usage → Option (List ℕ)
 seen_text (Ok text) = Some text.now
 seen_text (Err usage) = None
@@ -47,7 +47,7 @@ seen_range r = record { lo = r.lo; hi = r.hi; step = r.step }
 abbrev pub asked_of : Request → Asked
 asked_of r = record { job = r.job; workers = r.workers; strict = r.strict; memory = r.memory; input = r.input.now; output = r.output.now }
 
--- what an answer asks for: nothing, where it is Usage
+-- what an answer asks for: nothing, if it is Usage
 abbrev pub asked_in : Result Request Usage → Option Asked
 asked_in (Ok r) = Some (asked_of r)
 asked_in (Err usage) = None

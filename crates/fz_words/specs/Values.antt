@@ -10,7 +10,7 @@ use Rattle.fz_head.specs.declared.options.CodecWord.{CodecWord}
 use Rattle.fz_head.specs.declared.options.CodecWord.TheVariants as word
 use Rattle.fz_words.specs.Cut.{pieces}
 
--- the number that 1 to 18 decimal digits write; zeros may stand at their front
+-- the number that 1 to 18 decimal digits write; zeros may be at their front
 abbrev pub digits_in : List ℕ → Option ℕ
 digits_in text = if is_short_numeral text then Some (digits_value 10 text) else None
 
@@ -39,7 +39,7 @@ all_some (Some value ∷ values) = option_map (λ others. value ∷ others) (all
 abbrev pub at_most_nine : {A : Type 0} → List A → Option (List A)
 at_most_nine values = if nat_le (length values) 9 then Some values else None
 
--- the 9 entries of a table of axes: 0 behind the last
+-- the 9 entries of a table of axes: 0 after the last
 abbrev pub nine : List ℕ → List ℕ
 nine numbers = numbers ++ replicate (9 - length numbers) 0
 
@@ -56,7 +56,7 @@ pub record Range : Type 0 where
   pub hi : ℕ
   pub step : ℕ
 
--- `lo:hi` or `lo:hi:step`, where lo is at most hi; a missing step is 1
+-- `lo:hi` or `lo:hi:step`, if lo is at most hi; a missing step is 1
 abbrev pub range_of : List ℕ → Option Range
 range_of (lo ∷ hi ∷ []) = if nat_le lo hi then Some (record { lo = lo; hi = hi; step = 1 }) else None
 range_of (lo ∷ hi ∷ step ∷ []) = if nat_le lo hi then Some (record { lo = lo; hi = hi; step = step }) else None
@@ -69,7 +69,7 @@ only_one (Some []) = None
 only_one (Some (step ∷ [])) = Some step
 only_one (Some (step ∷ more ∷ others)) = None
 
--- the step, which is 1 where there is none
+-- the step, which is 1 if there is none
 abbrev pub step_in : Option (List ℕ) → Option ℕ
 step_in None = Some 1
 step_in (Some text) = only_one (all_some (map length_in (pieces 58 text)))

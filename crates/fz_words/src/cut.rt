@@ -3,7 +3,7 @@ ghost use Rattle.std.specs.Prelude.{◌≡◌, ◌<◌};
 ghost use Rattle.std.specs.Option.{option_copied};
 ghost use Rattle.fz_words.specs.Cut.{before_byte, behind_byte};
 
-/// What stands before the first of this character, and what stands behind it: all, and None, where there is none.
+/// What is before the first of this character, and what is after it: all, and None, if there is none.
 pub(crate) fn cut(text: &str, at: char) -> (&str, Option<&str>)
     requires ascii { at < 128 }
     ensures before { result.0.now ≡ before_byte at text.now }

@@ -1,4 +1,4 @@
-//! The words behind the command: options with their values, and operands.
+//! The words after the command: options with their values, and operands.
 ghost use Rattle.std.specs.Prelude.{◌≡◌, List, length, slice_get};
 ghost use Rattle.std.specs.List.{after_first, before_first, list_all, position};
 ghost use Rattle.std.specs.Option.{option_copied};
@@ -11,18 +11,18 @@ use crate::part::{awaited, part_of};
 use crate::request::Usage;
 use crate::table::{Command, OptionName};
 
-/// The words behind a command.
+/// The words after a command.
 #[derive(Clone, Copy)]
 pub(crate) struct Line<'a> {
     command: Command,
     /// The words before the first `--`.
     words: &'a [String],
-    /// The words behind it, each an operand.
+    /// The words after it, each an operand.
     others: &'a [String],
 }
 
 impl<'a> Line<'a> {
-    /// The words behind this command.
+    /// The words after this command.
     pub(crate) fn of(command: Command, words: &'a [String]) -> Line<'a>
         ensures { seen_line result ≡ line_of command (texts_of words.now) }
     {
@@ -55,7 +55,7 @@ impl<'a> Line<'a> {
         awaited(self.command, before).is_none()
     }
 
-    /// The value of an option that is given at most once: None where it is not given.
+    /// The value of an option that is given at most once: None if it is not given.
     pub(crate) fn value(&self, option: OptionName) -> Result<Option<&'a str>, Usage>
         ensures { seen_value result ≡ value_of option (seen_line self.now) }
     {

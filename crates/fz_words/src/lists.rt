@@ -87,7 +87,7 @@ fn range_in(text: &str) -> Option<Range>
     }
 }
 
-// The step, which is the last piece; 1 where there is none.
+// The step, which is the last piece; 1 if there is none.
 fn step_in(text: Option<&str>) -> Option<u32>
     ensures value { result ≡ step_in (option_copied text.entry) }
     ensures inside { IfSome result (λ step. 1 ≤ step) }

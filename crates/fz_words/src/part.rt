@@ -49,7 +49,7 @@ impl<'a> Part<'a> {
     }
 }
 
-/// What the word is, behind the word before it.
+/// What the word is, after the word before it.
 pub(crate) fn part_of<'a>(command: Command, before: &str, word: &'a str) -> Part<'a>
     ensures { seen_part result ≡ part_of command before.now word.now }
 {
@@ -61,7 +61,7 @@ pub(crate) fn part_of<'a>(command: Command, before: &str, word: &'a str) -> Part
     }
 }
 
-/// The option whose value is the word behind this one.
+/// The option whose value is the word after this one.
 pub(crate) fn awaited(command: Command, word: &str) -> Option<OptionName>
     ensures { result ≡ awaited command word.now }
 {

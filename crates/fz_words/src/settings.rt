@@ -16,10 +16,10 @@ use fz_block::Axes;
 use fz_grid::Sieve;
 use fz_head::CodecWord;
 
-/// The memory that buffers may take, where no limit is given: 4,294,967,296 bytes.
+/// The memory that buffers may take, if no limit is given: 4,294,967,296 bytes.
 pub(crate) const MEMORY: u64 = 1 << 32;
 
-/// The codec; rice, where none is given.
+/// The codec; rice, if none is given.
 pub(crate) fn codec_of(line: &Line<'_>) -> Result<CodecWord, Usage>
     ensures { result_ok result ≡ codec_of (seen_line line.now) }
 {
@@ -51,7 +51,7 @@ pub(crate) fn tile_of(line: &Line<'_>) -> Result<Option<Axes>, Usage>
     }
 }
 
-/// The numbers in a block of the Rice code, which no other codec has; 32, where they are not given.
+/// The numbers in a block of the Rice code, which no other codec has; 32, if they are not given.
 pub(crate) fn block_of(codec: CodecWord, line: &Line<'_>) -> Result<u32, Usage>
     ensures value { result_ok result ≡ block_of codec (seen_line line.now) }
     ensures lawful { IfOk result (λ block. (1 ≤ block) × (block ≤ 32767)) }
@@ -77,7 +77,7 @@ pub(crate) fn strict_of(line: &Line<'_>) -> Result<bool, Usage>
     Ok(line.value(OptionName::Strict)?.is_some())
 }
 
-/// The number of workers; 1, where it is not given.
+/// The number of workers; 1, if it is not given.
 pub(crate) fn workers_of(line: &Line<'_>) -> Result<u32, Usage>
     ensures value { result_ok result ≡ workers_of (seen_line line.now) }
     ensures lawful { IfOk result (λ workers. (1 ≤ workers) × (workers ≤ 64)) }
