@@ -14,12 +14,12 @@ pub record Halfway (w start : ℕ) (whole more : Reading (List ℕ)) (numbers : 
   pub numbers_are : numbers ≡ numbers_from w start values
   pub last_is : last ≡ last_of w start values
 
-numbers_from-append : (w start : ℕ) (xs ys : List ℕ) → numbers_from w start (xs ++ ys) ≡ numbers_from w start xs ++ numbers_from w (last_of w start xs) ys
+pub numbers_from-append : (w start : ℕ) (xs ys : List ℕ) → numbers_from w start (xs ++ ys) ≡ numbers_from w start xs ++ numbers_from w (last_of w start xs) ys
 numbers_from-append w start [] ys = refl
 numbers_from-append w start (x ∷ xs) ys =
     ap (λ l. number w (next_residue w start x) ∷ l) (numbers_from-append w (next_residue w start x) xs ys)
 
-last_of-append : (w start : ℕ) (xs ys : List ℕ) → last_of w start (xs ++ ys) ≡ last_of w (last_of w start xs) ys
+pub last_of-append : (w start : ℕ) (xs ys : List ℕ) → last_of w start (xs ++ ys) ≡ last_of w (last_of w start xs) ys
 last_of-append w start [] ys = refl
 last_of-append w start (x ∷ xs) ys = last_of-append w (next_residue w start x) xs ys
 
@@ -27,7 +27,7 @@ pub last_of_lt : (w start : ℕ) (vs : List ℕ) → start < 2 ^ w → last_of w
 last_of_lt w start [] h = h
 last_of_lt w start (v ∷ vs) h = last_of_lt w (next_residue w start v) vs (next_lt w start v)
 
-map_nothing : (r : Reading (List ℕ)) → r ≡ reading_map (λ vs. [] ++ vs) r
+pub map_nothing : (r : Reading (List ℕ)) → r ≡ reading_map (λ vs. [] ++ vs) r
 map_nothing (Ok p) = refl
 map_nothing (Err e) = refl
 
@@ -35,7 +35,7 @@ map_twice : (xs : List ℕ) (v : ℕ) (r : Reading (List ℕ)) → reading_map (
 map_twice xs v (Ok p) = ap (λ l. Ok (l, p.1)) (sym (append_assoc xs (v ∷ []) p.0))
 map_twice xs v (Err e) = refl
 
-map_append : (xs ys : List ℕ) (r : Reading (List ℕ)) → reading_map (λ vs. xs ++ vs) (reading_map (λ vs. ys ++ vs) r) ≡ reading_map (λ vs. (xs ++ ys) ++ vs) r
+pub map_append : (xs ys : List ℕ) (r : Reading (List ℕ)) → reading_map (λ vs. xs ++ vs) (reading_map (λ vs. ys ++ vs) r) ≡ reading_map (λ vs. (xs ++ ys) ++ vs) r
 map_append xs ys (Ok p) = ap (λ l. Ok (l, p.1)) (sym (append_assoc xs ys p.0))
 map_append xs ys (Err e) = refl
 

@@ -18,3 +18,4 @@ pub mod EncodeLemmas
 pub mod LawLemmas
 pub mod ReadingLemmas
 pub mod OnesLemmas
+pub mod MarkLemmas

@@ -1,6 +1,7 @@
 -- The RICE_1 code of a list of numbers (FITS 4.0, section 10.4.1): a start value, and then blocks of
 -- mapped differences, each after an id that says how they are written.
-use Rattle.std.specs.Prelude.{◌≡◌, ℕ, zero, suc, ◌+◌, ◌-◌, ◌*◌, ◌/◌, ◌%◌, ◌^◌, ◌<◌, ◌≤◌, ◌==◌, nat_lt, Bool, true, false, ℤ, List, [], ◌∷◌, ◌++◌, length, take, drop, replicate, All, if◌then◌else◌}
+use Rattle.std.specs.Prelude.{◌≡◌, ℕ, zero, suc, ◌+◌, ◌-◌, ◌*◌, ◌/◌, ◌%◌, ◌^◌, ◌<◌, ◌≤◌, ◌==◌, nat_lt, Bool, true}
+use Rattle.std.specs.Prelude.{false, ℤ, List, [], ◌∷◌, ◌++◌, length, take, drop, replicate, All, if◌then◌else◌}
 use Rattle.std.specs.List.{flat_map}
 use Rattle.fz_bits.specs.Bits.{number_bits}
 use Rattle.fz_rice.specs.Numbers.{IsNumber, residue}

@@ -5,3 +5,5 @@ pub mod Prefix
 pub mod Laws
 pub mod Reading
 pub mod Writing
+pub mod Marks
+pub mod MarkLaws

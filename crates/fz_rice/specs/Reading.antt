@@ -1,5 +1,6 @@
 -- The code read from a list of bits, bit by bit: the plain program beside the relation.
-use Rattle.std.specs.Prelude.{ℕ, zero, suc, ◌+◌, ◌-◌, ◌*◌, ◌/◌, ◌%◌, ◌^◌, ◌<◌, ◌==◌, nat_lt, min, Bool, true, false, ℤ, pos, negsuc, List, [], ◌∷◌, ◌++◌, length, take, drop, replicate, Result, Ok, Err, if◌then◌else◌, MatchResult, ◌≡◌}
+use Rattle.std.specs.Prelude.{ℕ, zero, suc, ◌+◌, ◌-◌, ◌*◌, ◌/◌, ◌%◌, ◌^◌, ◌<◌, ◌==◌, nat_lt, min, Bool, true, false, ℤ, pos, negsuc}
+use Rattle.std.specs.Prelude.{List, [], ◌∷◌, ◌++◌, length, take, drop, replicate, Result, Ok, Err, if◌then◌else◌, MatchResult, ◌≡◌}
 use Rattle.fz_bits.specs.Bits.{bits_value, number_bits}
 use Rattle.fz_bits.specs.Reader.{left, place}
 use Rattle.fz_bits.specs.declared.reader.BitReader.{BitReader}
@@ -47,11 +48,15 @@ many_at read (suc n) bits = and_then (read bits) (λ v rest. reading_map (λ vs.
 
 -- an id of n bits, at most `most`; a part of one is Ended only if an id can begin so
 abbrev pub id_at : ℕ → ℕ → List Bool → Reading ℕ
-id_at n most bits = if nat_lt (length bits) n then (if nat_lt most (bits_value bits * 2 ^ (n - length bits)) then Err Unlawful else Err Ended) else (if nat_lt most (bits_value (take n bits)) then Err Unlawful else Ok (bits_value (take n bits), drop n bits))
+id_at n most bits =
+    if nat_lt (length bits) n then (if nat_lt most (bits_value bits * 2 ^ (n - length bits)) then Err Unlawful else Err Ended)
+    else (if nat_lt most (bits_value (take n bits)) then Err Unlawful else Ok (bits_value (take n bits), drop n bits))
 
 -- n values after an id
 abbrev pub values_at : ℕ → ℕ → ℕ → List Bool → Reading (List ℕ)
-values_at w n id bits = if id == 0 then Ok (replicate n 0, bits) else (if id == (row w).raw_id then many_at (number_at w) n bits else many_at (split_at w (id - 1)) n bits)
+values_at w n id bits =
+    if id == 0 then Ok (replicate n 0, bits)
+    else (if id == (row w).raw_id then many_at (number_at w) n bits else many_at (split_at w (id - 1)) n bits)
 
 -- a block of n values
 abbrev pub block_at : ℕ → ℕ → List Bool → Reading (List ℕ)
@@ -61,7 +66,9 @@ block_at w n bits = and_then (id_at (row w).id_len (row w).raw_id bits) (values_
 unfoldable pub blocks_at : ℕ → ℕ → ℕ → ℕ → List Bool → Reading (List ℕ)
 blocks_at w block fuel zero bits = Ok ([], bits)
 blocks_at w block zero (suc n) bits = Ok ([], bits)
-blocks_at w block (suc fuel) (suc n) bits = and_then (block_at w (min block (suc n)) bits) (λ vs rest. reading_map (λ more. vs ++ more) (blocks_at w block fuel (suc n - block) rest))
+blocks_at w block (suc fuel) (suc n) bits =
+    and_then (block_at w (min block (suc n)) bits)
+    (λ vs rest. reading_map (λ more. vs ++ more) (blocks_at w block fuel (suc n - block) rest))
 
 -- the number of a residue
 abbrev pub number : ℕ → ℕ → ℤ
@@ -104,10 +111,6 @@ pub record GivesNumbers (w start : ℕ) (read : Reading (List ℕ)) (numbers : L
 -- a call read numbers, or met the fault that the plain program meets
 abbrev pub ReadsNumbers : ℕ → ℕ → Reading (List ℕ) → List ℤ → Result ℕ CodeFault → List Bool → Type 0
 ReadsNumbers w start read numbers result rest = MatchResult result (λ last. GivesNumbers w start read numbers last rest) (λ e. read ≡ Err e)
-
--- the same for a call that answers nothing
-abbrev pub ReadsAll : {A : Type 0} → ℕ → ℕ → Reading (List ℕ) → List ℤ → Result A CodeFault → List Bool → Type 0
-ReadsAll w start read numbers result rest = MatchResult result (λ _. (last : ℕ) × GivesNumbers w start read numbers last rest) (λ e. read ≡ Err e)
 
 -- the bits read and the bits that are left
 abbrev pub bit_count : BitReader → ℕ

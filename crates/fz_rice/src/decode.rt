@@ -16,7 +16,6 @@ ghost use Rattle.fz_rice.specs.Reading.{
   number,
   Reads,
   ReadsNumbers,
-  ReadsAll,
   bit_count,
 };
 
@@ -25,17 +24,18 @@ use crate::numbers::{greatest, id_len, next_residue, number, raw_id};
 use crate::several::{Shape, put_four, put_two, take_four, take_ones, take_two};
 use fz_bits::{BitReader, ZeroStop, number_law};
 
-/// Reads the numbers in blocks, the first difference from the residue `start`.
+/// Reads the numbers in blocks, the first difference from the residue `start`, and answers the residue
+/// of the last number.
 pub fn read_blocks<const W: u32>(
     reader: &mut BitReader,
     start: u32,
     block: u32,
     numbers: &mut [i32],
-) -> Result<(), CodeFault>
+) -> Result<u32, CodeFault>
     requires width { IsWidth W }
     requires start { start < 2 ^ W }
     requires block { (1 ≤ block) × (block ≤ 32767) }
-    ensures numbers { ReadsAll W start
+    ensures numbers { ReadsNumbers W start
         (blocks_at W block (length numbers.old) (length numbers.old) (left reader.old))
         numbers.new result (left reader.new) }
     ensures count { OnOk result (bit_count reader.new ≡ bit_count reader.old) }
@@ -47,7 +47,7 @@ pub fn read_blocks<const W: u32>(
         last = read_block::<W>(reader, last, &mut numbers[at..end])?;
         at = end;
     }
-    Ok(())
+    Ok(last)
 }
 
 /// Reads a block, and answers the residue of its last number.

@@ -6,6 +6,7 @@ ghost use Rattle.fz_rice.specs.Numbers.{IsWidth, IsNumber};
 ghost use Rattle.fz_rice.specs.Code.{IsRiceCode};
 ghost use Rattle.fz_rice.specs.Producer.{rice_code};
 ghost use Rattle.fz_rice.specs.Prefix.{BeginsWith};
+ghost use Rattle.fz_rice.specs.MarkLaws.{HoldsLast, ReadsNumbersOn, IsWholeBefore, LeadsOn, IsFront, AreNext, NeverStops, HasStart, ReadsOnInAll, StopsInAll};
 ghost use Rattle.fz_rice.specs.Laws.{IsItsCode, HasOneReading, IsNoBeginning, HasSomeAnswer, HasCodeBits, HasCodeBytes};
 
 use fz_bits::{bytes_law, number_law};
@@ -45,5 +46,23 @@ pub fn reading_law()
     ensures none { IsNoBeginning }
     ensures some { HasSomeAnswer }
 {
+    number_law();
+}
+
+/// Before a mark is a code of the numbers that were read, which are the first ones of each longer code
+/// that the bits begin with. From a mark after whole blocks on come its next numbers, and no fault.
+pub fn marks_law()
+    ensures last { HoldsLast }
+    ensures numbers { ReadsNumbersOn }
+    ensures whole { IsWholeBefore }
+    ensures on { LeadsOn }
+    ensures front { IsFront }
+    ensures next { AreNext }
+    ensures never { NeverStops }
+    ensures start { HasStart }
+    ensures moved { ReadsOnInAll }
+    ensures moved_stop { StopsInAll }
+{
+    bytes_law();
     number_law();
 }

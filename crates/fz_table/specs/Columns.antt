@@ -1,6 +1,7 @@
 -- The columns of a binary table, by the cards TFIELDS, TFORMi and TTYPEi, and those of a packed image among them (FITS 4.0,
 -- sections 7.3.1, 7.3.2, 7.3.5 and 10.1.3).
-use Rattle.std.specs.Prelude.{ℕ, zero, suc, ℤ, pos, negsuc, ◌+◌, ◌==◌, ◌&&◌, nat_le, Bool, false, List, codes, bytes_eq, Option, Some, None, unwrap_or, if◌then◌else◌}
+use Rattle.std.specs.Prelude.{ℕ, zero, suc, ℤ, pos, negsuc, ◌+◌, ◌==◌, ◌&&◌, nat_le, Bool, false}
+use Rattle.std.specs.Prelude.{List, codes, bytes_eq, Option, Some, None, unwrap_or, if◌then◌else◌}
 use Rattle.std.specs.Option.{option_and_then}
 use Rattle.std.specs.Str.{str_eq_ignore_ascii_case, byte}
 use Rattle.fz_card.specs.Layout.{card_name, padded}

@@ -1,5 +1,6 @@
 -- The forms of the columns of a binary table: a repeat count and a letter (FITS 4.0, sections 7.3.1 and 7.3.5, and table 18).
-use Rattle.std.specs.Prelude.{ℕ, ◌+◌, ◌*◌, ◌/◌, ◌==◌, ◌&&◌, not, nat_lt, Bool, List, [], ◌∷◌, length, take, drop, codes, slice_get, Option, Some, None, if◌then◌else◌}
+use Rattle.std.specs.Prelude.{ℕ, ◌+◌, ◌*◌, ◌/◌, ◌==◌, ◌&&◌, not, nat_lt, Bool, List, [], ◌∷◌, length}
+use Rattle.std.specs.Prelude.{take, drop, codes, slice_get, Option, Some, None, if◌then◌else◌}
 use Rattle.std.specs.List.{list_any, prefix_len}
 use Rattle.std.specs.Char.{is_ascii_digit}
 use Rattle.std.specs.Str.Parse.{digits_value}

@@ -1,5 +1,6 @@
 -- Which ranges of the file the reading of a row touches (FITS 4.0, sections 7.3.3 and 7.3.5).
-use Rattle.std.specs.Prelude.{◌≡◌, ℕ, ◌+◌, ◌*◌, ◌<◌, ◌≤◌, ◌==◌, ◌&&◌, ◌||◌, Bool, true, false, List, [], ◌∷◌, ◌++◌, Option, Some, None, Result, Ok, Err, if◌then◌else◌}
+use Rattle.std.specs.Prelude.{◌≡◌, ℕ, ◌+◌, ◌*◌, ◌<◌, ◌≤◌, ◌==◌, ◌&&◌, ◌||◌, Bool, true, false, List}
+use Rattle.std.specs.Prelude.{[], ◌∷◌, ◌++◌, Option, Some, None, Result, Ok, Err, if◌then◌else◌}
 use Rattle.fz_base.specs.Ranges.{LiesIn}
 use Rattle.fz_base.specs.declared.fault.Fault.{Fault}
 use Rattle.fz_table.specs.Rows.{descriptor_len, descriptor_start, row_start, IsTable}

@@ -1,6 +1,7 @@
 -- The rows of a packed table and the ranges of its heap: array descriptors are a count of elements and an offset in bytes, both
 -- read as unsigned numbers, the highest byte first (FITS 4.0, sections 5.2 and 7.3.5).
-use Rattle.std.specs.Prelude.{ℕ, ◌≡◌, ◌+◌, ◌*◌, ◌<◌, ◌≤◌, ◌^◌, nat_le, Bool, true, false, List, ◌++◌, length, take, drop, Option, Some, None, IfSome, IfNone, if◌then◌else◌}
+use Rattle.std.specs.Prelude.{ℕ, ◌≡◌, ◌+◌, ◌*◌, ◌<◌, ◌≤◌, ◌^◌, nat_le, Bool, true, false, List, ◌++◌}
+use Rattle.std.specs.Prelude.{length, take, drop, Option, Some, None, IfSome, IfNone, if◌then◌else◌}
 use Rattle.byteorder.specs.Endian.{big_number, big_bytes}
 use Rattle.fz_table.specs.declared.column.Column.{Column}
 use Rattle.fz_table.specs.declared.array.Descriptor.{Descriptor}

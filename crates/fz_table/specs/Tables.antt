@@ -1,6 +1,7 @@
 -- The table of a packed image: its rows, its heap and its columns, or why a header says none (FITS 4.0, sections 7.3.1, 7.3.5
 -- and 10.1.3).
-use Rattle.std.specs.Prelude.{ℕ, pos, ◌==◌, ◌+◌, ◌-◌, ◌*◌, ◌&&◌, not, Bool, List, [], ◌∷◌, ◌++◌, codes, slice_index, Option, Some, is_none, is_some, unwrap_or, Result, if◌then◌else◌}
+use Rattle.std.specs.Prelude.{ℕ, pos, ◌==◌, ◌+◌, ◌-◌, ◌*◌, ◌&&◌, not, Bool, List, [], ◌∷◌, ◌++◌, codes}
+use Rattle.std.specs.Prelude.{slice_index, Option, Some, is_none, is_some, unwrap_or, Result, if◌then◌else◌}
 use Rattle.std.specs.List.{flat_map, range_with_len}
 use Rattle.std.specs.Ordering.{int_eq}
 use Rattle.fz_base.specs.Refusal.{refusal, first_refusal}
@@ -12,7 +13,8 @@ use Rattle.fz_block.specs.Hdus.{size_in}
 use Rattle.fz_block.specs.Header.{data_start_of}
 use Rattle.fz_block.specs.Checks.{unless_refused}
 use Rattle.fz_block.specs.declared.header.Header.{Header}
-use Rattle.fz_table.specs.Columns.{first_named, integer_at, is_from, tfields_card, field_count, tform_card, form_of, ttype_card, title_of, is_called, columns_len, describes, column_called}
+use Rattle.fz_table.specs.Columns.{first_named, integer_at, is_from, tfields_card, field_count, tform_card}
+use Rattle.fz_table.specs.Columns.{form_of, ttype_card, title_of, is_called, columns_len, describes, column_called}
 use Rattle.fz_table.specs.declared.table.Table.{Table}
 
 -- the bytes of a row are NAXIS1, and the rows NAXIS2
@@ -59,8 +61,10 @@ width_checks header h = (not (columns_len header (field_count header) == row_len
 
 -- the heap begins after the rows, and within the data
 abbrev pub heap_checks : List ℕ → Header → List (Bool × Fault)
-heap_checks header h =
-    (is_some (theap_card header) && not (is_from (rows_len_of h) (rows_len_of h + h.pcount) (integer_at header (theap_card header))), bad_table h (theap_card header))
+heap_checks header h = (
+  is_some (theap_card header) && not (is_from (rows_len_of h) (rows_len_of h + h.pcount) (integer_at header (theap_card header))),
+  bad_table h (theap_card header),
+)
     ∷ []
 
 -- if column i has this name, no column before it has, and it is one of descriptors of elements of these letters

@@ -24,7 +24,7 @@ pub use column::Column;
 pub use columns::is_described;
 pub use form::first_digits;
 pub use neighbours::{filled_law, is_filled, row_in, row_in_law};
-pub use reading::{find_record, read_record, read_row, row_reads_law};
+pub use reading::{find_record, read_record, read_rest, read_row, row_reads_law};
 pub use record::{Record, Tile, TileColumn};
 pub use row::Row;
 pub use rows::{descriptor, descriptor_law, range, write_row};

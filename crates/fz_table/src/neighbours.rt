@@ -61,7 +61,7 @@ pub fn is_filled(table: &Table) -> bool
     }
 }
 
-/// Where the descriptors fill the row, each byte of rows that are one after another is one of a
+/// If the descriptors fill the row, each byte of rows that are one after another is one of a
 /// descriptor of one of them.
 pub fn filled_law()
     ensures { FilledLaw }

@@ -1,5 +1,5 @@
 //! The reading of rows and records.
-ghost use Rattle.std.specs.Prelude.{ℕ, ◌≡◌, ◌+◌, ◌*◌, ◌≤◌, ◌<◌, ◌^◌, length as len, take, drop, Some, IfOk, IfSome, IfNone, OnOk, OnErr};
+ghost use Rattle.std.specs.Prelude.{ℕ, ◌≡◌, ◌+◌, ◌-◌, ◌*◌, ◌≤◌, ◌<◌, ◌^◌, length as len, take, drop, Some, IfOk, IfSome, IfNone, OnOk, OnErr};
 ghost use Rattle.fz_base.specs.Stop.{ReadsOnly, IsDefined, IsRefused, IfAnswered, IfRefused};
 ghost use Rattle.fz_base.specs.Ranges.{Logs};
 ghost use Rattle.fz_base.specs.Source.{logged, MayLog};
@@ -232,6 +232,42 @@ pub fn read_record<S: Source>(source: &mut S, chosen: &Record, into: &mut [u8]) 
 {
     let (front, _) = into.split_at_mut(chosen.read as usize);
     source.read_at(chosen.start, front).map_err(Stop::reading)
+}
+
+/// Reads what `read_record` reads of a record, but without so many of the first bytes, into the front of a buffer, by one
+/// reading. The bytes after stay as they are.
+///
+/// It stops with ReadFault or NoMemory if the source does, and refuses nothing; the buffer then holds
+/// some bytes.
+pub fn read_rest<S: Source>(
+    source: &mut S,
+    chosen: &Record,
+    skipped: u64,
+    into: &mut [u8],
+) -> Result<(), Stop>
+    requires within { (n : ℕ) × (S.attached source.old ≡ Some n) × (chosen.now.start + chosen.now.total ≤ n) }
+    requires some { skipped < chosen.now.read }
+    requires first { chosen.now.read ≤ chosen.now.total }
+    requires room { chosen.now.read - skipped ≤ len into.old }
+    ensures bytes { OnOk result (IfSome (S.held source.old)
+        (λ g. take (chosen.now.read - skipped) into.new ≡ drop skipped (record_bytes g chosen.now))) }
+    ensures behind { drop (chosen.now.read - skipped) into.new ≡ drop (chosen.now.read - skipped) into.old }
+    ensures read { OnOk result
+        (S.ranges source.new ≡ logged (chosen.now.start + skipped) (chosen.now.read - skipped) (S.ranges source.old)) }
+    ensures failed { OnErr result
+        (MayLog (chosen.now.start + skipped) (chosen.now.read - skipped) (S.ranges source.old) (S.ranges source.new)) }
+    ensures held { S.held source.new ≡ S.held source.old }
+    ensures attached { S.attached source.new ≡ S.attached source.old }
+    ensures cause { ReadsOnly (S.tally source.old) (S.tally source.new) result }
+    ensures unrefused { ¬ (IsRefused result) }
+{
+    let rest = Record {
+        column: chosen.column,
+        start: chosen.start + skipped,
+        total: chosen.total - skipped,
+        read: chosen.read - skipped,
+    };
+    read_record(source, &rest, into)
 }
 
 /// What is read of a row are bytes of the descriptors of its named columns.

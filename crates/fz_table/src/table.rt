@@ -38,7 +38,7 @@ impl Table {
     /// Refused as BadTable, in this order: BITPIX is not 8, NAXIS not 2 or GCOUNT not 1, at that card;
     /// TFIELDS is not 1 to 999; a TFORMi cannot be read; the columns do not fill NAXIS1, at NAXIS1;
     /// THEAP is not between the end of the rows and that of the data; a column of a packed image has the
-    /// name of an earlier one, at TTYPEi, or has another form, at TFORMi. Where a card is missing, at END.
+    /// name of an earlier one, at TTYPEi, or has another form, at TFORMi. If a card is missing, at END.
     pub fn of(buf: &[u8], header: &Header) -> Result<Table, Fault>
         requires header { IsHeaderOf buf.now header.now }
         requires end { next_start_of header.now ≤ 2 ^ 62 }

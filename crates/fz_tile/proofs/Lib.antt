@@ -11,3 +11,4 @@ pub mod EncodeLemmas
 pub mod LawLemmas
 pub mod SliceLemmas
 pub mod ColumnLemmas
+pub mod PartLemmas

@@ -1,8 +1,7 @@
 -- Numbers in range, one after another.
-use Rattle.std.proofs.Common.{refl, ◌≡◌, ℕ, ◌+◌, ◌<◌, ◌↔◌, Bool, true, false, List, length, get_or, ℤ, pos, negsuc, int_lt, inl, inr, sym, subst, arith, unsigned_abs}
+use Rattle.std.proofs.Common.{refl, ◌≡◌, ℕ, ◌+◌, ◌<◌, ◌↔◌, Bool, true, false, List, length, get_or, ℤ, pos, negsuc, inl, inr, sym, subst, arith, unsigned_abs}
 use Rattle.std.specs.List.{All}
 use Rattle.std.specs.Prelude.{◌&&◌, IsTrue}
-use Rattle.std.proofs.lemmas.Int.{ints}
 use Rattle.std.proofs.lemmas.Bool.{cases_lt}
 use Rattle.std.proofs.lemmas.List.{get_or_default}
 use Rattle.fz_bits.specs.Numbers.{IsNumber}

@@ -1,4 +1,4 @@
--- Which codec may stand beside which BITPIX (FITS 4.0, sections 10.1.3 and 10.4): pixels of 64 bits are stored alone.
+-- Which codec may be beside which BITPIX (FITS 4.0, sections 10.1.3 and 10.4): pixels of 64 bits are only stored.
 use Rattle.std.specs.Prelude.{◌≡◌, ℕ, ◌/◌, ◌≤◌, ◌⊎◌, ⊤, ℤ, pos, unsigned_abs}
 use Rattle.fz_tile.specs.declared.codec.Codec.{Codec}
 use Rattle.fz_tile.specs.declared.codec.Codec.TheVariants.{Rice, Plio, Plain}

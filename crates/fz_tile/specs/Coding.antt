@@ -19,7 +19,7 @@ CanTry (Rice block bytepix) numbers = IsBlock block × IsWidth (8 * bytepix) × 
 CanTry Plio numbers = length numbers ≤ 2 ^ 26
 CanTry Plain numbers = ⊤
 
--- the code stands at the front of `out`; where it does not, there is none or it is longer than `out`
+-- the code is at the front of `out`; if it is not, there is none or it is longer than `out`
 abbrev pub Tries : Option (List ℕ) → List ℕ → Option ℕ → Type 0
 Tries code out written = MatchOption written
     ((bytes : List ℕ) → code ≡ Some bytes → length out < length bytes)

@@ -1,4 +1,4 @@
--- What the laws of this crate say, over the definitions alone.
+-- What the laws of this crate say, over only the definitions.
 use Rattle.std.specs.Prelude.{◌≡◌, ℕ, ◌+◌, ◌*◌, ◌/◌, ◌^◌, ◌≤◌, ℤ, pos, List, length, take, drop, All}
 use Rattle.fz_bits.specs.Numbers.{IsNumber}
 use Rattle.fz_tile.specs.declared.codec.Codec.{Codec}

@@ -6,3 +6,4 @@ pub mod Refusals
 pub mod TileCode
 pub mod Laws
 pub mod Coding
+pub mod Parts

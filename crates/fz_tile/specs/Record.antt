@@ -35,7 +35,7 @@ form_of (Rice block bytepix) Coded = rice (8 * bytepix) block
 form_of Plio Coded = line
 form_of Plain Coded = plain
 
--- bytes in this form mean the pixels; after a Rice code more bits may stand
+-- bytes in this form mean the pixels; after a Rice code there may be more bits
 abbrev pub MeansIn : Form → ℕ → ℕ → List ℕ → List ℤ → Type 0
 MeansIn plain bitpix total read xs = IsStored bitpix total read xs
 MeansIn (rice width block) bitpix total read xs = (bytes : ℕ) × BeginsWith width block xs bytes (bits_of read)

@@ -26,9 +26,11 @@ pub data IsRiceFault (width block bitpix total n : ℕ) (read : List ℕ) (fault
   -- the code ends early, in a record that is longer than what is read
   cut : fault ≡ CodeValue → IsBeginning width block n (bits_of read) → 8 * n + 64 < total → IsRiceFault width block bitpix total n read fault
   -- the code is unlawful
-  unlawful : fault ≡ CodeValue → ¬ BeginsWithCode width block n (bits_of read) → ¬ IsBeginning width block n (bits_of read) → IsRiceFault width block bitpix total n read fault
+  unlawful : fault ≡ CodeValue → ¬ BeginsWithCode width block n (bits_of read) → ¬ IsBeginning width block n (bits_of read)
+      → IsRiceFault width block bitpix total n read fault
   -- a number of the code is outside the range of BITPIX
-  out_of_range : fault ≡ PixelRange → (xs : List ℤ) (bytes : ℕ) → length xs ≡ n → BeginsWith width block xs bytes (bits_of read) → SomeOutside bitpix xs → IsRiceFault width block bitpix total n read fault
+  out_of_range : fault ≡ PixelRange → (xs : List ℤ) (bytes : ℕ) → length xs ≡ n → BeginsWith width block xs bytes (bits_of read)
+      → SomeOutside bitpix xs → IsRiceFault width block bitpix total n read fault
 
 -- why a line list is refused
 pub data IsLineFault (bitpix n : ℕ) (read : List ℕ) (fault : TileFault) : Type 0 where

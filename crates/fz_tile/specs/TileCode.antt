@@ -1,4 +1,4 @@
--- What is written for a tile (FITS 4.0, section 10.1.3): its code where that is shorter than its plain bytes, else these.
+-- What is written for a tile (FITS 4.0, section 10.1.3): its code if that is shorter than its plain bytes, otherwise these.
 use Rattle.std.specs.Prelude.{◌≡◌, ℕ, ◌*◌, ◌/◌, ◌%◌, ◌≤◌, nat_lt, ℤ, List, length, take, Option, Some, None, if◌then◌else◌}
 use Rattle.fz_rice.specs.Producer.{rice_bytes}
 use Rattle.fz_plio.specs.Producer.{can_hold_all, line_list}
@@ -13,13 +13,13 @@ pub record TileCode : Type 0 where
   pub place : Place2
   pub bytes : List ℕ
 
--- the code of the numbers, where there is one
+-- the code of the numbers, if there is one
 abbrev pub code_of : Codec → List ℤ → Option (List ℕ)
 code_of (Rice block bytepix) xs = Some (rice_bytes (8 * bytepix) block xs)
 code_of Plio xs = if can_hold_all xs then Some (line_list xs) else None
 code_of Plain xs = None
 
--- the code where it is shorter than the plain bytes, else these
+-- the code if it is shorter than the plain bytes, otherwise these
 abbrev pub shorter : Option (List ℕ) → List ℕ → TileCode
 shorter None plain = record { place = Stored; bytes = plain }
 shorter (Some code) plain =
@@ -37,8 +37,8 @@ pub record IsWritten (code : TileCode) (place : Place2) (len : ℕ) (out : List 
   pub within : len ≤ length out
   pub bytes_are : take len out ≡ code.bytes
 
--- the bytes of one element of the column: pixels in UNCOMPRESSED_DATA; in COMPRESSED_DATA words of 16 bits where
--- the tiles are line lists, else bytes
+-- the bytes of one element of the column: pixels in UNCOMPRESSED_DATA; in COMPRESSED_DATA words of 16 bits if
+-- the tiles are line lists, otherwise bytes
 abbrev pub element_len : Codec → ℕ → Place2 → ℕ
 element_len codec bitpix Stored = bitpix / 8
 element_len (Rice block bytepix) bitpix Coded = 1

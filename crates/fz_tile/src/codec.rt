@@ -7,6 +7,6 @@ pub enum Codec {
     Rice { block: u32, bytepix: u32 },
     /// PLIO_1.
     Plio,
-    /// NOCOMPRESS: plain bytes alone.
+    /// NOCOMPRESS: only plain bytes.
     Plain,
 }

@@ -1,4 +1,4 @@
-//! Where the bytes of a tile stand, and how many there are.
+//! Where the bytes of a tile are, and how many there are.
 
 /// The column that has the bytes of a tile (FITS 4.0, section 10.1.3).
 #[derive(Clone, Copy, Debug, PartialEq, Eq)]

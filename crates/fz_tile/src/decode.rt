@@ -19,7 +19,7 @@ use fz_rice::{CodeFault, Coder};
 ///
 /// `total` is the length of the record, and `code` is what was read of it: its first bytes, at most 8 for each pixel
 /// and 64 more. A pixel takes one place of `numbers`, and one of 64 bits two. Each refusal of `TileFault` comes
-/// exactly where it says; after it `numbers` holds some values.
+/// exactly in the case that it names; after it `numbers` holds some values.
 pub fn decode_tile(
     codec: Codec,
     bitpix: i32,
@@ -48,7 +48,7 @@ pub fn decode_tile(
     }
 }
 
-/// Reads a tile that stands as plain bytes.
+/// Reads a tile that is stored as plain bytes.
 fn read_stored(bitpix: i32, code: &[u8], total: u64, numbers: &mut [i32]) -> Result<(), TileFault>
     requires size { IsBitpix bitpix }
     requires tile { HoldTile (unsigned_abs bitpix) (length numbers.old) }
@@ -67,7 +67,7 @@ fn read_stored(bitpix: i32, code: &[u8], total: u64, numbers: &mut [i32]) -> Res
     Ok(())
 }
 
-/// Reads a tile that stands in the column of coded tiles.
+/// Reads a tile that is in the column of coded tiles.
 fn read_coded(
     codec: Codec,
     bitpix: i32,

@@ -13,9 +13,9 @@ use crate::{Codec, Coded, Place2};
 use fz_rice::Coder;
 
 /// Writes the bytes of a tile at the front of `out`, and answers their place and number (FITS 4.0, section 10.1.3):
-/// the tile's code where the codec has one that is shorter than the plain bytes, else the plain bytes.
+/// the tile's code if the codec has one that is shorter than the plain bytes, otherwise the plain bytes.
 ///
-/// A pixel stands in one place of `numbers`, and one of 64 bits in two: its upper half and its lower half, each
+/// A pixel is in one place of `numbers`, and one of 64 bits in two: its upper half and its lower half, each
 /// signed. `out` has at least 8 bytes for each pixel and 64 more; after the tile's bytes it then holds some bytes.
 pub fn encode_tile(codec: Codec, bitpix: i32, numbers: &[i32], out: &mut [u8]) -> Coded
     requires codec { CanWrite codec bitpix }
@@ -41,7 +41,7 @@ pub fn encode_tile(codec: Codec, bitpix: i32, numbers: &[i32], out: &mut [u8]) -
     }
 }
 
-/// Writes the code of the numbers at the front of `out`, and answers its length; None where there is no code or it is
+/// Writes the code of the numbers at the front of `out`, and answers its length; None if there is no code or it is
 /// longer than `out`.
 fn write_code(codec: Codec, numbers: &[i32], out: &mut [u8]) -> Option<usize>
     requires { CanTry codec numbers.now }

@@ -26,7 +26,7 @@ pub fn check_range(bitpix: i32, numbers: &[i32]) -> Result<(), TileFault>
     }
 }
 
-/// The same for numbers of a code of so many bits, which are in the range of these: where BITPIX has as many, none is
+/// The same for numbers of a code of so many bits, which are in the range of these: if BITPIX has as many, none is
 /// outside.
 pub fn check_width(width: u32, bitpix: i32, numbers: &[i32]) -> Result<(), TileFault>
     requires size { IsBitpix bitpix }

@@ -54,4 +54,4 @@ returns-clause-numbers g c =
     let all = length c.args.numbers.now in
     let whole = blocks_at w c.args.block all all (left c.args.reader.now) in
     let half = subst (λ (l : List ℤ). HalfwayBlocks w c.args.start c.args.block whole (length numbers - at) (left c.loop-at.reader) l c.loop-at.last) (take_all at numbers c.loop-at-test.false) c.loop-at.invariant.half in
-    (c.loop-at.last, blocks_end w c.args.start c.args.block whole (length numbers - at) (left c.loop-at.reader) numbers c.loop-at.last half (omega arith))
+    blocks_end w c.args.start c.args.block whole (length numbers - at) (left c.loop-at.reader) numbers c.loop-at.last half (omega arith)

@@ -1,5 +1,5 @@
 -- One more number is looked at.
-use Rattle.std.proofs.Common.{ℕ, ℤ, ◌<◌, pos, get_or, arith, rules, FitsSigned}
+use Rattle.std.proofs.Common.{ℤ, ◌<◌, pos, get_or, arith, rules, FitsSigned}
 use Rattle.std.specs.Int.{w32}
 use Rattle.std.proofs.lemmas.Int.{to_z-of_z}
 use Rattle.fz_tile.proofs.RangeLemmas.{one_more_looked}

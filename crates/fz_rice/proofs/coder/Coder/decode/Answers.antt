@@ -99,7 +99,7 @@ returns-clause-numbers g c =
     let xs = c.read_blocks.new.numbers in
     let one : number_at w bits ≡ Ok (c.in_ok-start.start, more) = subst (λ (x : List Bool). number_at w x ≡ Ok (c.in_ok-start.start, more)) c.new-reader.ensures.left c.in_ok-start.ensures.number in
     let gives = c.in_ok-read_blocks.ensures.numbers in
-    let read = code_read w block n c.in_ok-start.start gives.0 bits more rest xs one gives.1 in
+    let read = code_read w block n c.in_ok-start.start _ bits more rest xs one gives in
     let counted : c.place.result + length rest ≡ length bits = omega (arith, c.place.ensures, c.in_ok-read_blocks.ensures.count, c.in_ok-start.ensures.count, c.new-reader.ensures.place, ap length c.new-reader.ensures.left) in
     let size : c.div_ceil.result ≡ (length bits - length rest + 7) / 8 = c.div_ceil.ensures ∙ eighths c.place.result ∙ ap (λ k. (k + 7) / 8) (omega arith) in
     begins c.number_law.ensures w block n c.requires.width some bits xs rest c.div_ceil.result read size
@@ -116,7 +116,7 @@ returns-clause-ok g c =
     let xs = c.read_blocks.new.numbers in
     let one : number_at w bits ≡ Ok (c.in_ok-start.start, more) = subst (λ (x : List Bool). number_at w x ≡ Ok (c.in_ok-start.start, more)) c.new-reader.ensures.left c.in_ok-start.ensures.number in
     let gives = c.in_ok-read_blocks.ensures.numbers in
-    let read = code_read w block n c.in_ok-start.start gives.0 bits more rest xs one gives.1 in
+    let read = code_read w block n c.in_ok-start.start _ bits more rest xs one gives in
     let counted : c.place.result + length rest ≡ length bits = omega (arith, c.place.ensures, c.in_ok-read_blocks.ensures.count, c.in_ok-start.ensures.count, c.new-reader.ensures.place, ap length c.new-reader.ensures.left) in
     let size : c.div_ceil.result ≡ (length bits - length rest + 7) / 8 = c.div_ceil.ensures ∙ eighths c.place.result ∙ ap (λ k. (k + 7) / 8) (omega arith) in
     (λ _. answer_ok c.number_law.ensures w block n c.requires.width some bits xs rest c.div_ceil.result read size, λ _. refl)
@@ -133,7 +133,7 @@ returns-clause-ended g c =
     let xs = c.read_blocks.new.numbers in
     let one : number_at w bits ≡ Ok (c.in_ok-start.start, more) = subst (λ (x : List Bool). number_at w x ≡ Ok (c.in_ok-start.start, more)) c.new-reader.ensures.left c.in_ok-start.ensures.number in
     let gives = c.in_ok-read_blocks.ensures.numbers in
-    let read = code_read w block n c.in_ok-start.start gives.0 bits more rest xs one gives.1 in
+    let read = code_read w block n c.in_ok-start.start _ bits more rest xs one gives in
     let counted : c.place.result + length rest ≡ length bits = omega (arith, c.place.ensures, c.in_ok-read_blocks.ensures.count, c.in_ok-start.ensures.count, c.new-reader.ensures.place, ap length c.new-reader.ensures.left) in
     let size : c.div_ceil.result ≡ (length bits - length rest + 7) / 8 = c.div_ceil.ensures ∙ eighths c.place.result ∙ ap (λ k. (k + 7) / 8) (omega arith) in
     answer_ended c.number_law.ensures w block n c.requires.width some bits xs rest c.div_ceil.result read
@@ -150,7 +150,7 @@ returns-clause-unlawful g c =
     let xs = c.read_blocks.new.numbers in
     let one : number_at w bits ≡ Ok (c.in_ok-start.start, more) = subst (λ (x : List Bool). number_at w x ≡ Ok (c.in_ok-start.start, more)) c.new-reader.ensures.left c.in_ok-start.ensures.number in
     let gives = c.in_ok-read_blocks.ensures.numbers in
-    let read = code_read w block n c.in_ok-start.start gives.0 bits more rest xs one gives.1 in
+    let read = code_read w block n c.in_ok-start.start _ bits more rest xs one gives in
     let counted : c.place.result + length rest ≡ length bits = omega (arith, c.place.ensures, c.in_ok-read_blocks.ensures.count, c.in_ok-start.ensures.count, c.new-reader.ensures.place, ap length c.new-reader.ensures.left) in
     let size : c.div_ceil.result ≡ (length bits - length rest + 7) / 8 = c.div_ceil.ensures ∙ eighths c.place.result ∙ ap (λ k. (k + 7) / 8) (omega arith) in
     answer_unlawful c.number_law.ensures w block n c.requires.width some bits xs rest c.div_ceil.result read size
