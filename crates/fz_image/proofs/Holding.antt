@@ -1,6 +1,6 @@
--- Bytes that are held back, with more bytes, and with none.
+-- Bytes of a heap that are held back, with those of more tiles, and with none.
 use Rattle.std.proofs.Common.{◌≡◌, ℕ, ◌+◌, ◌-◌, ◌*◌, ◌≤◌, List, [], ◌∷◌, ◌++◌, length, take, Option, sym, ap, ◌∙◌, arith}
-use Rattle.std.proofs.lemmas.List.{length-map, length-take, length-take-le}
+use Rattle.std.proofs.lemmas.List.{length-map, length-take}
 use Rattle.std.proofs.Math.Nat.{mul-add, mul-le-mul_left}
 use Rattle.fz_base.specs.Sink.{written}
 use Rattle.fz_files.specs.Packed.{heap_of, rows_from}
@@ -8,7 +8,8 @@ use Rattle.fz_head.specs.PackedTable.{planned_row}
 use Rattle.fz_pool.specs.Round.{coded_tile, coded_tiles}
 use Rattle.fz_pool.specs.declared.slot.Slot.{Slot}
 use Rattle.fz_tile.specs.TileCode.{TileCode}
-use Rattle.fz_image.specs.Held.{caught_up, heap_caught_up}
+use Rattle.fz_job.specs.Held.{caught_up}
+use Rattle.fz_image.specs.Held.{heap_caught_up}
 use Rattle.fz_image.specs.Layout.{heap_at_of}
 use Rattle.fz_image.specs.Progress.{tiles_written, with_heap}
 use Rattle.fz_image.specs.declared.layout.Layout.{Layout}
@@ -16,26 +17,10 @@ use Rattle.fz_image.specs.declared.progress.Progress.{Progress}
 use Rattle.fz_image.proofs.Codes.{heap_more, rows_len}
 use Rattle.fz_image.proofs.Progresses.{WritesApart, WritesNext, no_write}
 
--- with more bytes after those that are held back
-pub held_more : (at n m : ℕ) (held held' bytes : List ℕ) (contents : Option (List ℕ)) → WritesNext → n ≤ at → n ≤ length held → m ≡ n + length bytes → take m held' ≡ take n held ++ bytes →
-    caught_up (at + length bytes) m held' contents ≡ written at bytes (caught_up at n held contents)
-held_more at n m held held' bytes contents next within room count kept =
-    let start : at + length bytes - m ≡ at - n = omega (arith, count) in
-    let size : length (take n held) ≡ n = length-take-le n held room in
-    let end : at ≡ at - n + length (take n held) = omega (arith, size) in
-    (λ i. written (start i) (kept i) contents)
-    ∙ sym (next (at - n) (take n held) bytes contents)
-    ∙ ap (λ k. written k bytes (caught_up at n held contents)) (sym end)
-
 -- with none that are held back
 pub none_held : (end n : ℕ) (held : List ℕ) (contents : Option (List ℕ)) → n ≡ 0 → caught_up end n held contents ≡ contents
 none_held end n held contents none =
     ap (λ k. written (end - k) (take k held) contents) none ∙ no_write (end - 0) contents
-
--- the first bytes that are held back
-pub held_first : (at n m : ℕ) (held held' bytes : List ℕ) (contents : Option (List ℕ)) → n ≡ 0 →
-    caught_up (at + length bytes) m held' contents ≡ written at bytes (caught_up at n held contents) → caught_up (at + length bytes) m held' contents ≡ written at bytes contents
-held_first at n m held held' bytes contents none more = more ∙ ap (written at bytes) (none_held at n held contents none)
 
 -- a write of the bytes of one tile more
 pub held_step : (l : Layout) (w p p' : Progress) (cs es : List TileCode) (e : TileCode) (code : List ℕ) (end n m : ℕ) (held held' : List ℕ) (before now now' : Option (List ℕ)) → WritesNext → p ≡ with_heap l w cs → es ≡ cs ++ e ∷ [] →

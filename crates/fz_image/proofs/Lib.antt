@@ -4,6 +4,7 @@ pub mod Progresses
 pub mod Holding
 pub mod Gathering
 pub mod Headers
+pub mod StripBytes
 pub mod LoadedTiles
 pub mod TileTotals
 pub mod Turning

@@ -9,12 +9,16 @@ use Rattle.fz_image.specs.declared.layout.Layout.{Layout}
 
 -- tiles that were encoded, and are the next ones after those with these codes, find room in the heap
 abbrev pub NextTilesFit : Type 0
-NextTilesFit = (l : Layout) (held : Option (List ℕ)) (cs : List TileCode) (count : ℕ) (w : Pool) → IsLayout l → AreCodesFrom l 0 cs → length cs + count ≤ l.tiles → count ≤ 2 * w.workers → AreEncodedTiles l held (length cs) count w
+NextTilesFit =
+    (l : Layout) (held : Option (List ℕ)) (cs : List TileCode) (count : ℕ) (w : Pool) → IsLayout l → AreCodesFrom l 0 cs
+    → length cs + count ≤ l.tiles → count ≤ 2 * w.workers → AreEncodedTiles l held (length cs) count w
     → AreNext l (with_tiles l no_progress cs).heap count w
 
 -- with more tiles the codes are those of the first tiles, and what was written is that of all
 abbrev pub TilesJoin : Type 0
-TilesJoin = (l : Layout) (cs es : List TileCode) → IsLayout l → AreCodesFrom l 0 cs → AreCodesFrom l (length cs) es → AreCodesFrom l 0 (cs ++ es) × (with_tiles l (with_tiles l no_progress cs) es ≡ with_tiles l no_progress (cs ++ es))
+TilesJoin =
+    (l : Layout) (cs es : List TileCode) → IsLayout l → AreCodesFrom l 0 cs → AreCodesFrom l (length cs) es
+    → AreCodesFrom l 0 (cs ++ es) × (with_tiles l (with_tiles l no_progress cs) es ≡ with_tiles l no_progress (cs ++ es))
 
 -- the heap of the first tiles has at most 2^43 bytes, and at most 2^60 are in the sum
 pub record IsSmall (l : Layout) (cs : List TileCode) : Type 0 where

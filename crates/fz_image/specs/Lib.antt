@@ -3,5 +3,6 @@ pub mod Image
 pub mod Laws
 pub mod Layout
 pub mod Progress
+pub mod Strips
 pub mod Tiles
 pub mod Turns

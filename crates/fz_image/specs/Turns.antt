@@ -65,9 +65,12 @@ pub record CanMove (l : Layout) (e : Ends) (w : Progress) (pool : Pool) (tiles n
   pub near : more ≤ 2 * pool.workers
 
 -- they were written, and more tiles read into the first slots
-pub record HasMoved {X : Type 0} (l : Layout) (e e' : Ends) (w w' : Progress) (pool pool' : Pool) (tiles next more n n' : ℕ) (rows rows' bytes bytes' : List ℕ) (result : Result X Stop) : Type 0 where
+pub record HasMoved
+    {X : Type 0} (l : Layout) (e e' : Ends) (w w' : Progress) (pool pool' : Pool) (tiles next more n n' : ℕ)
+    (rows rows' bytes bytes' : List ℕ) (result : Result X Stop) : Type 0 where
   pub progress : OnOk result (w' ≡ with_tiles l w (coded_tiles tiles pool.slots))
-  pub contents : OnOk result (heap_caught_up l w' n' bytes' e'.contents ≡ tiles_written l w (coded_tiles tiles pool.slots) (heap_caught_up l w n bytes e.contents))
+  pub contents : OnOk result (heap_caught_up l w' n' bytes' e'.contents
+      ≡ tiles_written l w (coded_tiles tiles pool.slots) (heap_caught_up l w n bytes e.contents))
   pub last : OnOk result (AreLast n' bytes' w')
   pub loaded : OnOk result (AreLoaded l e.held next more pool')
   pub ends : EndsStay e e'

@@ -24,15 +24,15 @@ ghost use Rattle.fz_image.specs.Progress.{IsWritten};
 ghost use Rattle.fz_image.specs.Tiles.{HaveRoom, codes_from};
 
 use crate::header::make_header;
-use crate::held::write_held;
 use crate::layout::Layout;
 use crate::progress::Progress;
 use crate::round::write_round;
+use crate::strips::Strips;
 use crate::turns::write_by_turns;
 use fz_base::{Gate, Sink, Source, Stop, log_law, output_law, write_behind};
 use fz_block::{Header, cards_law};
 use fz_head::{Plan, Totals, pack_plan_law, sizes_law, sum_cards_law, to_packed, whole_cards_law};
-use fz_job::write_fill;
+use fz_job::{write_fill, write_held};
 use fz_pool::{BY_TURNS, Crew, Window};
 use fz_tile::slice_law;
 use std::thread::Threads;
@@ -44,8 +44,8 @@ const ROWS_LEN: usize = 4096;
 /// (FITS 4.0, section 10.1).
 ///
 /// `buf` has the header of the image, `header` its facts, and `plan` says how it is packed. `made` has room for a
-/// header that is a block longer, and `copy` for the rows of a round and for codes that are held back; the slots
-/// of the window are those of a tile of the plan or of a larger one.
+/// header that is a block longer, and `copy` for the rows of a round, for lines that are read before they are wanted, and
+/// for codes that are held back; the slots of the window are those of a tile of the plan or of a larger one.
 pub fn write_image<R: Threads + Sync, S: Source, K: Sink, G: Gate>(
     crew: &Crew<'_, R, G>,
     source: &mut S,
@@ -179,11 +179,26 @@ fn write_tiles<R: Threads + Sync, S: Source, K: Sink, G: Gate>(
     ensures created { K.created sink.new ≡ K.created sink.old }
     ensures cause { CodesAndWrites (S.tally source.old) (S.tally source.new) (K.tally sink.old) (K.tally sink.new) result }
 {
-    let (rows, held) = copy.split_at_mut(ROWS_LEN);
+    let (rows, more) = copy.split_at_mut(ROWS_LEN);
+    let half = ahead_len(more.len(), layout, window);
+    let (ahead, held) = more.split_at_mut(half);
     let mut count = 0;
-    let progress = write_rounds(crew, source, sink, layout, window, rows, held, &mut count)?;
+    let progress = write_rounds(
+        crew, source, sink, layout, window, ahead, rows, held, &mut count,
+    )?;
     write_held(sink, layout.heap_at() + progress.heap, held, count)?;
     Ok(progress)
+}
+
+// How much of a buffer with so much room has lines that are read before they are wanted: none of it if the halves of the
+// window take turns, since lines are then read over the rows that were written.
+fn ahead_len(room: usize, layout: &Layout, window: &Window) -> usize
+    ensures { result ≤ room }
+{
+    if window.workers() < BY_TURNS || layout.tiles <= 2 * window.workers() {
+        return room / 2;
+    }
+    0
 }
 
 // The same, but the last bytes of the heap are held back.
@@ -193,6 +208,7 @@ fn write_rounds<R: Threads + Sync, S: Source, K: Sink, G: Gate>(
     sink: &mut K,
     layout: &Layout,
     window: &mut Window,
+    ahead: &mut [u8],
     rows: &mut [u8],
     held: &mut [u8],
     count: &mut usize,
@@ -208,6 +224,7 @@ fn write_rounds<R: Threads + Sync, S: Source, K: Sink, G: Gate>(
     ensures last { IfOk result (λ w. AreLast count.new held.new w) }
     ensures shut { StaysShut (K.contents sink.old) (K.contents sink.new) }
     ensures told_contents { StaysTold (K.contents sink.old) (K.contents sink.new) }
+    ensures ahead { len ahead.new ≡ len ahead.old }
     ensures rows { len rows.new ≡ len rows.old }
     ensures room { len held.new ≡ len held.old }
     ensures sizes { slot_sizes window.new.slots ≡ slot_sizes window.old.slots }
@@ -220,7 +237,7 @@ fn write_rounds<R: Threads + Sync, S: Source, K: Sink, G: Gate>(
     ensures cause { CodesAndWrites (S.tally source.old) (S.tally source.new) (K.tally sink.old) (K.tally sink.new) result }
 {
     if window.workers() < BY_TURNS || layout.tiles <= 2 * window.workers() {
-        return write_whole_rounds(crew, source, sink, layout, window, rows, held, count);
+        return write_whole_rounds(crew, source, sink, layout, window, ahead, rows, held, count);
     }
     write_by_turns(crew, source, sink, layout, window, rows, held, count)
 }
@@ -232,6 +249,7 @@ fn write_whole_rounds<R: Threads + Sync, S: Source, K: Sink, G: Gate>(
     sink: &mut K,
     layout: &Layout,
     window: &mut Window,
+    ahead: &mut [u8],
     rows: &mut [u8],
     held: &mut [u8],
     count: &mut usize,
@@ -247,6 +265,7 @@ fn write_whole_rounds<R: Threads + Sync, S: Source, K: Sink, G: Gate>(
     ensures last { IfOk result (λ w. AreLast count.new held.new w) }
     ensures shut { StaysShut (K.contents sink.old) (K.contents sink.new) }
     ensures told_contents { StaysTold (K.contents sink.old) (K.contents sink.new) }
+    ensures ahead { len ahead.new ≡ len ahead.old }
     ensures rows { len rows.new ≡ len rows.old }
     ensures room { len held.new ≡ len held.old }
     ensures sizes { slot_sizes window.new.slots ≡ slot_sizes window.old.slots }
@@ -259,6 +278,7 @@ fn write_whole_rounds<R: Threads + Sync, S: Source, K: Sink, G: Gate>(
     ensures cause { CodesAndWrites (S.tally source.old) (S.tally source.new) (K.tally sink.old) (K.tally sink.new) result }
 {
     log_law();
+    let mut strips = Strips::none();
     let mut progress = Progress::new();
     while progress.tiles < layout.tiles {
         write_round(
@@ -268,6 +288,8 @@ fn write_whole_rounds<R: Threads + Sync, S: Source, K: Sink, G: Gate>(
             layout,
             &mut progress,
             window,
+            &mut strips,
+            ahead,
             rows,
             held,
             count,

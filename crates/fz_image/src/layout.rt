@@ -1,10 +1,10 @@
 //! Where the parts of an image and of its table are.
 ghost use Rattle.std.specs.Prelude.{◌≡◌, ◌+◌, ◌≤◌, ◌^◌};
 ghost use Rattle.fz_block.specs.Header.{next_start_of};
-ghost use Rattle.fz_image.specs.Layout.{IsLayout, IsPlan, heap_at_of, layout_of, rows_len_of};
+ghost use Rattle.fz_image.specs.Layout.{IsLayout, IsPlan, heap_at_of, layout_of, pixel_bytes_of, rows_len_of};
 
 use fz_block::{Header, data_start};
-use fz_grid::Grid;
+use fz_grid::{Grid, volume};
 use fz_head::Plan;
 use fz_tile::plain_len;
 
@@ -56,6 +56,15 @@ impl Layout {
         ensures { result ≡ rows_len_of self.now }
     {
         u64::from(self.row_len) * u64::from(self.tiles)
+    }
+
+    /// The byte of the file after the pixels.
+    pub fn pixels_end(&self) -> u64
+        requires { IsLayout self.now }
+        ensures { result ≡ self.now.pixels_at + pixel_bytes_of self.now }
+    {
+        let len = u64::from(self.pixel_len) * volume(&self.plan.shape);
+        self.pixels_at + len
     }
 
     /// The byte of the packed file at which the heap begins.

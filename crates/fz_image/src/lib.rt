@@ -1,20 +1,19 @@
 //! Writes the table of a packed image: its header, its rows, its heap and the fill.
 //!
-//! Reading order: `layout`, `progress`, `held`; `gather`, `loading` (the tiles of a round into the window), `descriptors`,
-//! `round` (a round of tiles), `turns` (the same, in two halves), `header`,
-//! `image`.
+//! Reading order: `layout`, `progress`; `gather`, `strips`, `loading` (the tiles of a round into the window), `descriptors`,
+//! `round` (a round of tiles), `turns` (the same, in two halves), `header`, `image`.
 #![tactic(auto)]
 
 mod descriptors;
 mod gather;
 mod header;
-mod held;
 mod image;
 mod law;
 mod layout;
 mod loading;
 mod progress;
 mod round;
+mod strips;
 mod turns;
 
 pub use descriptors::put_rows;

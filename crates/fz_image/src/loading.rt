@@ -8,29 +8,37 @@ ghost use Rattle.fz_tile.specs.Pixels.{HoldPixels, IsBitpix, place_count as plac
 ghost use Rattle.fz_tile.specs.Plain.{stored_pixels};
 ghost use Rattle.fz_tile.specs.declared.coded.Place2.TheVariants.{Stored};
 ghost use Rattle.fz_image.specs.Layout.{HasPixels, IsLayout, ReadsPixels};
+ghost use Rattle.fz_image.specs.Strips.{HasStrips};
 ghost use Rattle.fz_image.specs.Tiles.{AreLoaded, HasRoom, HaveRoom, HoldTile, IsLoaded, pixels_of};
 
 use crate::gather::read_region;
 use crate::layout::Layout;
+use crate::strips::{Strips, look_ahead};
 use fz_base::{Source, Stop, log_law};
 use fz_grid::{place_law, tiles_law};
 use fz_pool::{Job, Slot, Window, put_law, sizes_law};
 use fz_tile::{Place2, read_plain};
 
-/// Reads so many tiles, from the first on, into the first slots of the window.
+/// Reads so many tiles, from the first on, into the first slots of the window. What the strips have is not read again,
+/// and lines of later tiles may be read with those of a tile.
 pub(crate) fn load_round<S: Source>(
     source: &mut S,
     layout: &Layout,
     first: u32,
     window: &mut Window,
     count: u32,
+    strips: &mut Strips,
+    ahead: &mut [u8],
 ) -> Result<(), Stop>
     requires layout { IsLayout layout.now }
     requires pixels { HasPixels (S.attached source.old) layout.now }
     requires tiles { first + count ≤ layout.now.tiles }
     requires window { HaveRoom layout.now window.old }
     requires near { count ≤ 2 * window.old.workers }
+    requires strips { HasStrips (S.held source.old) strips.old ahead.old }
     ensures loaded { OnOk result (AreLoaded layout.now (S.held source.old) first count window.new) }
+    ensures strips { HasStrips (S.held source.new) strips.new ahead.new }
+    ensures ahead { len ahead.new ≡ len ahead.old }
     ensures sizes { slot_sizes window.new.slots ≡ slot_sizes window.old.slots }
     ensures workers { window.new.workers ≡ window.old.workers }
     ensures held { S.held source.new ≡ S.held source.old }
@@ -42,7 +50,7 @@ pub(crate) fn load_round<S: Source>(
     log_law();
     put_law();
     for i in 0..count {
-        load_next(source, layout, first + i, window, i)?;
+        load_next(source, layout, first + i, window, i, strips, ahead)?;
     }
     Ok(())
 }
@@ -54,13 +62,18 @@ fn load_next<S: Source>(
     tile: u32,
     window: &mut Window,
     i: u32,
+    strips: &mut Strips,
+    ahead: &mut [u8],
 ) -> Result<(), Stop>
     requires layout { IsLayout layout.now }
     requires pixels { HasPixels (S.attached source.old) layout.now }
     requires tile { tile < layout.now.tiles }
     requires window { HaveRoom layout.now window.old }
     requires near { i < 2 * window.old.workers }
+    requires strips { HasStrips (S.held source.old) strips.old ahead.old }
     ensures put { OnOk result ((x : SlotOf) × IsPut window.old i x window.new × IsLoaded layout.now (S.held source.old) tile x) }
+    ensures strips { HasStrips (S.held source.new) strips.new ahead.new }
+    ensures ahead { len ahead.new ≡ len ahead.old }
     ensures sizes { slot_sizes window.new.slots ≡ slot_sizes window.old.slots }
     ensures workers { window.new.workers ≡ window.old.workers }
     ensures held { S.held source.new ≡ S.held source.old }
@@ -71,7 +84,7 @@ fn load_next<S: Source>(
 {
     sizes_law();
     put_law();
-    load_slot(source, layout, tile, window.slot_mut(i))
+    load_slot(source, layout, tile, window.slot_mut(i), strips, ahead)
 }
 
 // Reads the pixels of a tile into the slot, in which it is to be encoded.
@@ -80,12 +93,17 @@ fn load_slot<S: Source>(
     layout: &Layout,
     tile: u32,
     slot: &mut Slot,
+    strips: &mut Strips,
+    ahead: &mut [u8],
 ) -> Result<(), Stop>
     requires layout { IsLayout layout.now }
     requires pixels { HasPixels (S.attached source.old) layout.now }
     requires tile { tile < layout.now.tiles }
     requires room { HasRoom layout.now (slot_size slot.old) }
+    requires strips { HasStrips (S.held source.old) strips.old ahead.old }
     ensures loaded { OnOk result (IsLoaded layout.now (S.held source.old) tile slot.new) }
+    ensures strips { HasStrips (S.held source.new) strips.new ahead.new }
+    ensures ahead { len ahead.new ≡ len ahead.old }
     ensures size { slot_size slot.new ≡ slot_size slot.old }
     ensures held { S.held source.new ≡ S.held source.old }
     ensures log { ReadsPixels layout.now (S.ranges source.old) (S.ranges source.new) }
@@ -95,7 +113,15 @@ fn load_slot<S: Source>(
 {
     slot.job = job_of(layout, tile, tile_pixels(layout, tile));
     let numbers = slot.numbers.as_mut_slice();
-    load_tile(source, layout, tile, numbers, slot.code.as_mut_slice())
+    load_tile(
+        source,
+        layout,
+        tile,
+        numbers,
+        slot.code.as_mut_slice(),
+        strips,
+        ahead,
+    )
 }
 
 // Reads the pixels of a tile: their bytes to the front of the code, and the pixels into the first numbers.
@@ -105,13 +131,18 @@ fn load_tile<S: Source>(
     tile: u32,
     numbers: &mut [i32],
     code: &mut [u8],
+    strips: &mut Strips,
+    ahead: &mut [u8],
 ) -> Result<(), Stop>
     requires layout { IsLayout layout.now }
     requires pixels { HasPixels (S.attached source.old) layout.now }
     requires tile { tile < layout.now.tiles }
     requires numbers { 2 * pixels_of layout.now tile ≤ len numbers.old }
     requires code { 8 * pixels_of layout.now tile ≤ len code.old }
+    requires strips { HasStrips (S.held source.old) strips.old ahead.old }
     ensures holds { OnOk result (HoldTile layout.now (S.held source.old) tile numbers.new) }
+    ensures strips { HasStrips (S.held source.new) strips.new ahead.new }
+    ensures ahead { len ahead.new ≡ len ahead.old }
     ensures numbers { len numbers.new ≡ len numbers.old }
     ensures code { len code.new ≡ len code.old }
     ensures held { S.held source.new ≡ S.held source.old }
@@ -120,10 +151,12 @@ fn load_tile<S: Source>(
     ensures attached { S.attached source.new ≡ S.attached source.old }
     ensures cause { OnlyReads (S.tally source.old) (S.tally source.new) result }
 {
+    log_law();
     place_law();
     tiles_law();
     let region = layout.grid().tile_box(tile);
     let pixels = tile_pixels(layout, tile);
+    look_ahead(source, layout, &region, strips, ahead)?;
     let bytes = &mut code[..layout.pixel_len as usize * pixels as usize];
     read_region(
         source,
@@ -131,6 +164,8 @@ fn load_tile<S: Source>(
         layout.pixel_len,
         &layout.plan.shape,
         &region,
+        strips,
+        ahead,
         bytes,
     )?;
     read_front(layout.plan.bitpix, pixels, bytes, numbers);

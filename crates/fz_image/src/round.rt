@@ -11,21 +11,24 @@ ghost use Rattle.fz_pool.specs.Window.{slot_sizes};
 ghost use Rattle.fz_image.specs.Held.{AreLast, heap_caught_up};
 ghost use Rattle.fz_image.specs.Layout.{HasPixels, IsLayout, ReadsPixels, heap_at_of};
 ghost use Rattle.fz_image.specs.Progress.{AreNext, IsWritten, tiles_written, with_heap, with_tiles};
+ghost use Rattle.fz_image.specs.Strips.{HasStrips};
 ghost use Rattle.fz_image.specs.Tiles.{AreEncodedTiles, AreLoaded, HaveRoom};
 
 use crate::descriptors::put_rows;
-use crate::held::hold_back;
 use crate::layout::Layout;
 use crate::loading::load_round;
 use crate::progress::{Progress, code_of};
+use crate::strips::Strips;
 use fz_base::{Gate, Sink, Source, Stop, output_law, write_behind};
+use fz_job::hold_back;
 use fz_pool::{Crew, Window, encode_window, round_law, sizes_law};
 use fz_sum::sum_law;
 use fz_tile::column_law;
 use std::thread::Threads;
 
 /// Packs the next tiles, as many as the window has slots for: their codes go after the heap, and their rows
-/// after the rows. The last bytes of the heap may be held back, before and then: the first `count` of `held`.
+/// after the rows. The last bytes of the heap may be held back, before and then: the first `count` of `held`. Lines of
+/// later tiles may be read with those of these: `strips` says which `ahead` has.
 pub(crate) fn write_round<R: Threads + Sync, S: Source, K: Sink, G: Gate>(
     crew: &Crew<'_, R, G>,
     source: &mut S,
@@ -33,6 +36,8 @@ pub(crate) fn write_round<R: Threads + Sync, S: Source, K: Sink, G: Gate>(
     layout: &Layout,
     progress: &mut Progress,
     window: &mut Window,
+    strips: &mut Strips,
+    ahead: &mut [u8],
     rows: &mut [u8],
     held: &mut [u8],
     count: &mut usize,
@@ -46,6 +51,7 @@ pub(crate) fn write_round<R: Threads + Sync, S: Source, K: Sink, G: Gate>(
     requires so_far { (before : Option (List ℕ)) × IsWritten layout.now (S.held source.old) before
         (heap_caught_up layout.now progress.old count.old held.old (K.contents sink.old)) progress.old }
     requires left { progress.old.tiles < layout.now.tiles }
+    requires strips { HasStrips (S.held source.old) strips.old ahead.old }
     ensures more { OnOk result ((before : Option (List ℕ))
         → IsWritten layout.now (S.held source.old) before (heap_caught_up layout.now progress.old count.old held.old
         (K.contents sink.old)) progress.old
@@ -53,6 +59,8 @@ pub(crate) fn write_round<R: Threads + Sync, S: Source, K: Sink, G: Gate>(
         (K.contents sink.new)) progress.new) }
     ensures held { OnOk result (AreLast count.new held.new progress.new) }
     ensures grown { OnOk result (progress.old.tiles < progress.new.tiles) }
+    ensures strips { HasStrips (S.held source.new) strips.new ahead.new }
+    ensures ahead { len ahead.new ≡ len ahead.old }
     ensures shut { StaysShut (K.contents sink.old) (K.contents sink.new) }
     ensures told_contents { StaysTold (K.contents sink.old) (K.contents sink.new) }
     ensures sizes { slot_sizes window.new.slots ≡ slot_sizes window.old.slots }
@@ -69,7 +77,8 @@ pub(crate) fn write_round<R: Threads + Sync, S: Source, K: Sink, G: Gate>(
     output_law();
     sum_law();
     let tiles = (2 * window.workers()).min(layout.tiles - progress.tiles);
-    encode_tiles(crew, source, layout, progress.tiles, window, tiles)?;
+    let first = progress.tiles;
+    encode_tiles(crew, source, layout, first, window, tiles, strips, ahead)?;
     write_tiles(sink, layout, progress, window, tiles, rows, held, count)
 }
 
@@ -81,13 +90,18 @@ fn encode_tiles<R: Threads + Sync, S: Source, G: Gate>(
     first: u32,
     window: &mut Window,
     count: u32,
+    strips: &mut Strips,
+    ahead: &mut [u8],
 ) -> Result<(), Stop>
     requires layout { IsLayout layout.now }
     requires pixels { HasPixels (S.attached source.old) layout.now }
     requires tiles { first + count ≤ layout.now.tiles }
     requires window { HaveRoom layout.now window.old }
     requires near { count ≤ 2 * window.old.workers }
+    requires strips { HasStrips (S.held source.old) strips.old ahead.old }
     ensures encoded { OnOk result (AreEncodedTiles layout.now (S.held source.old) first count window.new) }
+    ensures strips { HasStrips (S.held source.new) strips.new ahead.new }
+    ensures ahead { len ahead.new ≡ len ahead.old }
     ensures sizes { slot_sizes window.new.slots ≡ slot_sizes window.old.slots }
     ensures workers { window.new.workers ≡ window.old.workers }
     ensures held { S.held source.new ≡ S.held source.old }
@@ -96,7 +110,7 @@ fn encode_tiles<R: Threads + Sync, S: Source, G: Gate>(
     ensures attached { S.attached source.new ≡ S.attached source.old }
     ensures cause { Codes (S.tally source.old) (S.tally source.new) result }
 {
-    load_round(source, layout, first, window, count)?;
+    load_round(source, layout, first, window, count, strips, ahead)?;
     encode_loaded(crew, layout, first, window, count)
 }
 

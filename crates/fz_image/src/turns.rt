@@ -15,6 +15,7 @@ use crate::layout::Layout;
 use crate::loading::load_round;
 use crate::progress::Progress;
 use crate::round::write_tiles;
+use crate::strips::Strips;
 use fz_base::{Gate, Sink, Source, Stop, log_law, output_law};
 use fz_pool::{Crew, Window, encode_beside, halves_law, round_law, sizes_law};
 use fz_sum::sum_law;
@@ -360,5 +361,7 @@ fn move_tiles<S: Source, K: Sink>(
 {
     log_law();
     write_tiles(sink, layout, progress, window, tiles, rows, held, count)?;
-    load_round(source, layout, next, window, more)
+    // The rows were written: there is room for lines of several tiles.
+    let mut strips = Strips::none();
+    load_round(source, layout, next, window, more, &mut strips, rows)
 }

@@ -19,7 +19,7 @@ use Rattle.fz_files.specs.Walks.{header_fault}
 use Rattle.fz_files.specs.declared.job.Job.{Job}
 use Rattle.fz_files.specs.declared.job.Job.TheVariants.{Pack, Unpack, Cut, Verify, List as ListHdus, Drill, Retile}
 
--- the contents, where they and the bytes of the source are told, are an output of the bytes
+-- the contents, if they and the bytes of the source are shown, are an output of the bytes
 abbrev pub HoldsOutput : (List ℕ → List ℕ → Type 0) → Option (List ℕ) → Option (List ℕ) → Type 0
 HoldsOutput Output held contents = IfSome held (λ file. IfSome contents (Output file))
 
@@ -41,7 +41,7 @@ IsAnswer (Err WriteFault) = ⊥
 IsAnswer (Err (OverLimit live asked limit)) = ⊥
 IsAnswer (Err NoMemory) = ⊤
 
--- where no count of faults rose, and the limit is at least the bound of the job, the answer is one of these
+-- if no count of faults rose, and the limit is at least the bound of the job, the answer is one of these
 abbrev pub Answers : {X : Type 0} → Job → Option (List ℕ) → Tally → Tally → Tally → Tally → ℕ → ℕ → Result X Stop → Type 0
 Answers job held source source' sink sink' limit workers result =
     ¬ Rose source.faults source'.faults → ¬ Rose sink.faults sink'.faults
@@ -61,11 +61,13 @@ greatest_tile (Retile o) = 2 ^ 26
 abbrev pub greatest_bound : Job → ℕ → ℕ
 greatest_bound job asked = buffer_bound 737280 (greatest_tile job) (workers_of job asked)
 
--- Why a job ended as it did: after Ok and after Refused no count rose; the two faults come only where that of the source or of the sink
--- rose; OverLimit tells the limit and what passes it, which is never
--- more than the greatest bound; it is the first of the job's takings that passes the limit, and comes where one does. The first taking, of one
--- block, comes before anything is read: a limit below that decides alone.
-pub record HasJobCause {X : Type 0} (job : Job) (held : Option (List ℕ)) (source source' sink sink' : Tally) (limit workers : ℕ) (result : Result X Stop) : Type 0 where
+-- Why a job ended as it did: after Ok and after Refused no count rose; the two faults come only if that of the source or of the sink
+-- rose; OverLimit shows the limit and what passes it, which is never
+-- more than the greatest bound; it is the first of the job's takings that passes the limit, and comes if one does. The first taking, of one
+-- block, comes before anything is read: a limit below that decides by itself.
+pub record HasJobCause
+    {X : Type 0} (job : Job) (held : Option (List ℕ)) (source source' sink sink' : Tally) (limit workers : ℕ)
+    (result : Result X Stop) : Type 0 where
   pub done : OnOk result ((source' ≡ source) × (sink' ≡ sink))
   pub refused : IsRefused result → (source' ≡ source) × (sink' ≡ sink)
   pub read_fault : IsErrOf result ReadFault → Rose source.faults source'.faults
@@ -75,7 +77,7 @@ pub record HasJobCause {X : Type 0} (job : Job) (held : Option (List ℕ)) (sour
   pub block : limit < 2880 → IsErrOf result (OverLimit 0 2880 limit) × (source' ≡ source) × (sink' ≡ sink)
 
 -- After an error the contents are empty, or begin with another byte than S; or they are the whole output, of which byte 0 came last, and
--- then the answer is WriteFault or NoMemory. So the contents are shut after every other error, also of a source that does not tell its
+-- then the answer is WriteFault or NoMemory. So the contents are shut after every other error, also of a source that does not show its
 -- bytes.
 abbrev pub IsShutOrWhole : {X : Type 0} → Option (List ℕ) → Type 0 → Result X Stop → Type 0
 IsShutOrWhole contents Whole result = OnErr result (IsShut contents ⊎ (Whole × (IsErrOf result WriteFault ⊎ IsErrOf result NoMemory)))
@@ -97,7 +99,7 @@ IsChanged x = x ≡ refusal x.hdu (Card 0) BadCard
 abbrev pub IsOfSomeRow : Fault → Type 0
 IsOfSomeRow x = (row : ℕ) × (x.at ≡ Row row)
 
--- The faults that a job may tell after its first look: that of an HDU which changed, and, of a job that reads rows, that of a row.
+-- The faults that a job may give after its first look: that of an HDU which changed, and, of a job that reads rows, that of a row.
 abbrev pub ComesLate : Job → Fault → Type 0
 ComesLate (Pack o) x = IsChanged x
 ComesLate Unpack x = IsChanged x ⊎ IsOfSomeRow x
@@ -109,7 +111,9 @@ ComesLate (Retile o) x = IsChanged x ⊎ IsOfSomeRow x
 
 -- The sink is not made if a header of the file is refused or one of these takings passes the limit, whatever the answer, nor after OverLimit.
 -- A refusal leaves it unmade too, except one that comes after the first look.
-pub record StaysUnmade {X : Type 0} (job : Job) (held : Option (List ℕ)) (limit : ℕ) (takings : List ℕ → List (ℕ × ℕ)) (Same : Type 0) (result : Result X Stop) : Type 0 where
+pub record StaysUnmade
+    {X : Type 0} (job : Job) (held : Option (List ℕ)) (limit : ℕ) (takings : List ℕ → List (ℕ × ℕ)) (Same : Type 0)
+    (result : Result X Stop) : Type 0 where
   pub faulty : IfSome held (λ file. ¬ (header_fault job file ≡ None) → Same)
   pub past : IfSome held (λ file. IsSome (first_past limit (takings file)) → Same)
   pub over_limit : IfOverLimit result Same
@@ -120,7 +124,7 @@ abbrev pub IsUnmade : {X : Type 0} → Job → Option (List ℕ) → ℕ → ℕ
 IsUnmade job held limit asked Same result = StaysUnmade job held limit (λ file. job_takings job file asked) Same result
 
 -- Nothing is live, the limit stays, the peak is at most that before or the bound of the job, and the window is empty. Of a file that does
--- not tell its bytes the greatest bound is said.
+-- not show its bytes the greatest bound is said.
 pub record KeepsBuffers (job : Job) (held : Option (List ℕ)) (old new : Gauge) (window window' : Pool) : Type 0 where
   pub live : new.live ≡ 0
   pub limit : new.limit ≡ old.limit

@@ -21,7 +21,7 @@ pub record WindowStays (old new : Pool) : Type 0 where
   pub sizes : slot_sizes new.slots ≡ slot_sizes old.slots
   pub workers : new.workers ≡ old.workers
 
--- Why a call stopped that reads headers once more, packs, copies and writes: Refused comes only where no count rose.
+-- Why a call stopped that reads headers once more, packs, copies and writes: Refused comes only if no count rose.
 abbrev pub StoppedRewriting : Tally → Tally → Tally → Tally → Stop → Type 0
 StoppedRewriting source source' sink sink' (Refused x) = (source' ≡ source) × (sink' ≡ sink)
 StoppedRewriting source source' sink sink' ReadFault = Rose source.faults source'.faults

@@ -1,4 +1,5 @@
 pub mod Behind
 pub mod Bounds
 pub mod Clauses
+pub mod Held
 pub mod Keeps

@@ -1,10 +1,11 @@
 -- One run after another.
-use Rattle.std.proofs.Common.{◌≡◌, ℕ, ◌+◌, ◌*◌, ◌<◌, ◌≤◌, [], ◌∷◌, length, refl, sym, ap, ◌∙◌, subst, arith, rules}
+use Rattle.std.proofs.Common.{◌≡◌, ℕ, ◌+◌, ◌*◌, ◌<◌, ◌≤◌, List, [], ◌∷◌, length, Option, refl, sym, ap, ◌∙◌, subst, arith, rules}
 use Rattle.fz_base.specs.Source.{LogsWithin}
 use Rattle.fz_grid.specs.Arrays.{product}
 use Rattle.fz_grid.specs.Region.{lengths_of, places_of, region_corner, region_lengths}
 use Rattle.fz_grid.specs.Runs.{AreApart, EndWithin, total_length}
 use Rattle.fz_grid.specs.Walks.{runs_left}
+use Rattle.fz_image.specs.Strips.{HasStrips}
 use Rattle.fz_image.proofs.Gathering.{next_apart, next_inside, next_total, read_all, read_more, read_none, run_fits, run_places, run_within, runs_below, some_bytes}
 use Rattle.fz_image.proofs.gather.read_region.Goals as goal
 
@@ -68,8 +69,8 @@ overflow_add-done g c =
     (ap (λ n. c.loop-first.done + w * n) (sym total) ∙ c.loop-first.invariant.left) in
     record { fits = omega (arith, fits.0, within, c.requires.near, ap (λ n. n * c.in-Some.count) c.from.ensures) }
 
-pub read_part-requires-clause-within : goal.read_part-requires-clause-within
-read_part-requires-clause-within g c =
+pub get_part-requires-clause-within : goal.get_part-requires-clause-within
+get_part-requires-clause-within g c =
     let next : runs_left c.loop-first.first-iterator ≡ (c.in-Some.first, c.in-Some.count) ∷ runs_left c.next.new.self = c.in-Some.ensures.steps in
     let w : ℕ = c.args.pixel_len in
     let most : ℕ = product (lengths_of c.args.shape.now) in
@@ -78,8 +79,8 @@ read_part-requires-clause-within g c =
     run_within w c.args.pixels_at c.in-Some.first c.in-Some.count most (c.args.pixels_at + w * most) inside.0 (omega arith) in
     (c.requires.within.0, c.loop-first.invariant.attached ∙ c.requires.within.1, omega (arith, within, c.requires.within.2, ap (λ n. n * c.in-Some.count) c.from.ensures, ap (λ n. n * c.in-Some.first) c.from-in-loop-first.ensures))
 
-pub read_part-requires-clause-some : goal.read_part-requires-clause-some
-read_part-requires-clause-some g c =
+pub get_part-requires-clause-some : goal.get_part-requires-clause-some
+get_part-requires-clause-some g c =
     let next : runs_left c.loop-first.first-iterator ≡ (c.in-Some.first, c.in-Some.count) ∷ runs_left c.next.new.self = c.in-Some.ensures.steps in
     let w : ℕ = c.args.pixel_len in
     let most : ℕ = product (lengths_of c.args.shape.now) in
@@ -90,8 +91,8 @@ read_part-requires-clause-some g c =
     let some : 0 < w * c.in-Some.count = some_bytes w c.in-Some.count c.requires.pixel apart.0 in
     subst (λ n. 0 < n * c.in-Some.count) (sym c.from.ensures) some
 
-pub read_part-requires-clause-room : goal.read_part-requires-clause-room
-read_part-requires-clause-room g c =
+pub get_part-requires-clause-room : goal.get_part-requires-clause-room
+get_part-requires-clause-room g c =
     let next : runs_left c.loop-first.first-iterator ≡ (c.in-Some.first, c.in-Some.count) ∷ runs_left c.next.new.self = c.in-Some.ensures.steps in
     let w : ℕ = c.args.pixel_len in
     let most : ℕ = product (lengths_of c.args.shape.now) in
@@ -102,6 +103,9 @@ read_part-requires-clause-room g c =
     let fits = run_fits w c.loop-first.done c.in-Some.count (total_length (runs_left c.next.new.self)) (length c.args.into.now)
     (ap (λ n. c.loop-first.done + w * n) (sym total) ∙ c.loop-first.invariant.left) in
     omega (arith, fits.0, c.loop-first.invariant.long, ap (λ n. n * c.in-Some.count) c.from.ensures)
+
+pub get_part-requires-clause-strips : goal.get_part-requires-clause-strips
+get_part-requires-clause-strips g c = subst (λ (h : Option (List ℕ)). HasStrips h c.args.strips.now c.args.ahead.now) (sym c.loop-first.invariant.held) c.requires.strips
 
 pub loop-first-preserved : goal.loop-first-preserved
 loop-first-preserved g c =
@@ -121,23 +125,23 @@ loop-first-preserved g c =
     let one : ℕ = c.args.pixels_at + c.from-in-loop-first.result * c.in-Some.first in
     let to : ℕ = one + c.from.result * c.in-Some.count in
     let end : ℕ = c.args.pixels_at + w * most in
-    let log : LogsWithin c.args.pixels_at end (g.S.Source.ranges c.args.source.now) (g.S.Source.ranges c.read_part.new.source) =
-    c.log_law.ensures.both c.args.pixels_at end (g.S.Source.ranges c.args.source.now) (g.S.Source.ranges c.loop-first.source) (g.S.Source.ranges c.read_part.new.source) c.loop-first.invariant.log
-    (c.log_law.ensures.wider one to c.args.pixels_at end (g.S.Source.ranges c.loop-first.source) (g.S.Source.ranges c.read_part.new.source) (omega arith)
-    (omega (arith, within, ap (λ n. n * c.in-Some.count) c.from.ensures, ap (λ n. n * c.in-Some.first) c.from-in-loop-first.ensures)) c.in_ok-read_part.ensures.log) in
+    let log : LogsWithin c.args.pixels_at end (g.S.Source.ranges c.args.source.now) (g.S.Source.ranges c.get_part.new.source) =
+    c.log_law.ensures.both c.args.pixels_at end (g.S.Source.ranges c.args.source.now) (g.S.Source.ranges c.loop-first.source) (g.S.Source.ranges c.get_part.new.source) c.loop-first.invariant.log
+    (c.log_law.ensures.wider one to c.args.pixels_at end (g.S.Source.ranges c.loop-first.source) (g.S.Source.ranges c.get_part.new.source) (omega arith)
+    (omega (arith, within, ap (λ n. n * c.in-Some.count) c.from.ensures, ap (λ n. n * c.in-Some.first) c.from-in-loop-first.ensures)) c.in_ok-get_part.ensures.log) in
     record {
       held = search rules;
       attached = search rules;
       log = log;
-      told_ranges = λ told. c.in_ok-read_part.ensures.told_ranges (c.loop-first.invariant.told_ranges told);
+      told_ranges = λ told. c.in_ok-get_part.ensures.told_ranges (c.loop-first.invariant.told_ranges told);
       reads = search rules;
-      long = c.in_ok-read_part.ensures.len ∙ c.loop-first.invariant.long;
+      long = c.in_ok-get_part.ensures.len ∙ c.loop-first.invariant.long;
       apart = apart.1;
       inside = inside.1;
       left = omega (arith, fits.1, size);
       pixels = read_more w c.args.pixels_at (places_of (lengths_of c.args.shape.now) (region_corner c.args.region.now) (region_lengths c.args.region.now)) (g.S.Source.held c.args.source.now) (g.S.Source.held c.loop-first.source)
-          c.loop-first.into c.read_part.new.into c.loop-first.done c.in-Some.first c.in-Some.count (c.args.pixels_at + c.from-in-loop-first.result * c.in-Some.first) (c.from.result * c.in-Some.count) (runs_left c.loop-first.first-iterator) (runs_left c.next.new.self) c.loop-first.invariant.held
-          next place size c.loop-first.invariant.pixels c.in_ok-read_part.ensures.part;
+          c.loop-first.into c.get_part.new.into c.loop-first.done c.in-Some.first c.in-Some.count (c.args.pixels_at + c.from-in-loop-first.result * c.in-Some.first) (c.from.result * c.in-Some.count) (runs_left c.loop-first.first-iterator) (runs_left c.next.new.self) c.loop-first.invariant.held
+          next place size c.loop-first.invariant.pixels c.in_ok-get_part.ensures.part;
     }
 
 pub returns-clause-pixels : goal.returns-clause-pixels
@@ -148,14 +152,14 @@ returns-clause-pixels g c =
     read_all c.args.pixel_len c.args.pixels_at (places_of (lengths_of c.args.shape.now) (region_corner c.args.region.now) (region_lengths c.args.region.now)) (g.S.Source.held c.args.source.now) c.loop-first.into c.loop-first.done
     (runs_left c.loop-first.first-iterator) none (omega (arith, done, c.loop-first.invariant.long)) c.loop-first.invariant.pixels
 
-pub returns-in_err-read_part-clause-below : goal.returns-in_err-read_part-clause-below
-returns-in_err-read_part-clause-below g c = runs_below _ (runs_left c.runs-first-items.result) _ c.runs-first-items.ensures.runs.listed c.runs-first-items.ensures.inside
+pub returns-in_err-get_part-clause-below : goal.returns-in_err-get_part-clause-below
+returns-in_err-get_part-clause-below g c = runs_below _ (runs_left c.runs-first-items.result) _ c.runs-first-items.ensures.runs.listed c.runs-first-items.ensures.inside
 
 pub returns-clause-below : goal.returns-clause-below
 returns-clause-below g c = runs_below _ (runs_left c.runs-first-items.result) _ c.runs-first-items.ensures.runs.listed c.runs-first-items.ensures.inside
 
-pub returns-in_err-read_part-clause-log : goal.returns-in_err-read_part-clause-log
-returns-in_err-read_part-clause-log g c =
+pub returns-in_err-get_part-clause-log : goal.returns-in_err-get_part-clause-log
+returns-in_err-get_part-clause-log g c =
     let next : runs_left c.loop-first.first-iterator ≡ (c.in-Some.first, c.in-Some.count) ∷ runs_left c.next.new.self = c.in-Some.ensures.steps in
     let w : ℕ = c.args.pixel_len in
     let most : ℕ = product (lengths_of c.args.shape.now) in
@@ -165,8 +169,8 @@ returns-in_err-read_part-clause-log g c =
     let one : ℕ = c.args.pixels_at + c.from-in-loop-first.result * c.in-Some.first in
     let to : ℕ = one + c.from.result * c.in-Some.count in
     let end : ℕ = c.args.pixels_at + w * most in
-    let log : LogsWithin c.args.pixels_at end (g.S.Source.ranges c.args.source.now) (g.S.Source.ranges c.read_part.new.source) =
-    c.log_law.ensures.both c.args.pixels_at end (g.S.Source.ranges c.args.source.now) (g.S.Source.ranges c.loop-first.source) (g.S.Source.ranges c.read_part.new.source) c.loop-first.invariant.log
-    (c.log_law.ensures.wider one to c.args.pixels_at end (g.S.Source.ranges c.loop-first.source) (g.S.Source.ranges c.read_part.new.source) (omega arith)
-    (omega (arith, within, ap (λ n. n * c.in-Some.count) c.from.ensures, ap (λ n. n * c.in-Some.first) c.from-in-loop-first.ensures)) c.in_err-read_part.ensures.log) in
+    let log : LogsWithin c.args.pixels_at end (g.S.Source.ranges c.args.source.now) (g.S.Source.ranges c.get_part.new.source) =
+    c.log_law.ensures.both c.args.pixels_at end (g.S.Source.ranges c.args.source.now) (g.S.Source.ranges c.loop-first.source) (g.S.Source.ranges c.get_part.new.source) c.loop-first.invariant.log
+    (c.log_law.ensures.wider one to c.args.pixels_at end (g.S.Source.ranges c.loop-first.source) (g.S.Source.ranges c.get_part.new.source) (omega arith)
+    (omega (arith, within, ap (λ n. n * c.in-Some.count) c.from.ensures, ap (λ n. n * c.in-Some.first) c.from-in-loop-first.ensures)) c.in_err-get_part.ensures.log) in
     log

@@ -1,6 +1,7 @@
 -- What was held back is written, and with it the table of all tiles.
 use Rattle.std.proofs.Common.{◌≡◌, ◌+◌, ℕ, List, Option, sym, ap, ◌∙◌, subst, arith}
-use Rattle.fz_image.specs.Held.{caught_up, heap_caught_up}
+use Rattle.fz_job.specs.Held.{caught_up}
+use Rattle.fz_image.specs.Held.{heap_caught_up}
 use Rattle.fz_image.specs.Progress.{IsWritten}
 use Rattle.fz_image.proofs.WholeTables.{data_small}
 use Rattle.fz_image.proofs.image.write_tiles.Goals as goal

@@ -3,6 +3,7 @@ use Rattle.std.proofs.Common.{ℕ, ◌≡◌, ◌+◌, ◌≤◌, List, length, 
 use Rattle.fz_image.specs.Held.{heap_caught_up}
 use Rattle.fz_image.specs.Layout.{heap_at_of, pixel_bytes_of}
 use Rattle.fz_image.specs.Progress.{IsWritten}
+use Rattle.fz_image.specs.Strips.{HasStrips}
 use Rattle.fz_image.proofs.Holding.{none_held}
 use Rattle.fz_image.proofs.Progresses.{written_few, written_none}
 use Rattle.fz_image.proofs.image.write_whole_rounds.Goals as goal
@@ -29,6 +30,8 @@ loop-progress-init g c =
       told_contents = λ told. told;
       sizes = refl;
       workers = refl;
+      strips = c.none-strips.ensures.strips held c.args.ahead.now;
+      ahead = refl;
       rows = refl;
       room = refl;
       last = (short, few);
@@ -42,6 +45,10 @@ write_round-requires-clause-so_far g c κs within =
     let before : Option (List ℕ) = g.K.Sink.contents c.args.sink.now in
     let so_far : Option (List ℕ) = heap_caught_up l c.loop-progress.progress c.loop-progress.count c.loop-progress.held (g.K.Sink.contents c.loop-progress.sink) in
     (before, subst (λ (h : Option (List ℕ)). IsWritten l h before so_far c.loop-progress.progress) (sym c.loop-progress.invariant.held) c.loop-progress.invariant.written)
+
+pub write_round-requires-clause-strips : goal.write_round-requires-clause-strips
+write_round-requires-clause-strips g c κs within =
+    subst (λ (h : Option (List ℕ)). HasStrips h c.loop-progress.strips c.loop-progress.ahead) (sym c.loop-progress.invariant.held) c.loop-progress.invariant.strips
 
 pub loop-progress-preserved : goal.loop-progress-preserved
 loop-progress-preserved g c =
@@ -68,6 +75,8 @@ loop-progress-preserved g c =
       told_contents = λ told. c.in_ok-write_round.ensures.told_contents (old.told_contents told);
       sizes = c.in_ok-write_round.ensures.sizes ∙ old.sizes;
       workers = c.in_ok-write_round.ensures.workers ∙ old.workers;
+      strips = subst (λ (h : Option (List ℕ)). HasStrips h c.write_round.new.strips c.write_round.new.ahead) (c.in_ok-write_round.ensures.source ∙ old.held) c.in_ok-write_round.ensures.strips;
+      ahead = c.in_ok-write_round.ensures.ahead ∙ old.ahead;
       rows = c.in_ok-write_round.ensures.rows ∙ old.rows;
       room = c.in_ok-write_round.ensures.room ∙ old.room;
       last = c.in_ok-write_round.ensures.held;

@@ -6,6 +6,7 @@ use Rattle.fz_pool.specs.Window.{slot_sizes}
 use Rattle.fz_image.specs.Held.{AreLast, heap_caught_up}
 use Rattle.fz_image.specs.Layout.{ReadsPixels}
 use Rattle.fz_image.specs.Progress.{IsWritten}
+use Rattle.fz_image.specs.Strips.{HasStrips}
 use Rattle.fz_image.proofs.image.write_whole_rounds.Given as goal
 
 abbrev pub invariant-loop-progress : goal.invariant-loop-progress
@@ -21,6 +22,8 @@ invariant-loop-progress g l = record {
   told_contents : StaysTold (g.K.Sink.contents l.fn.sink) (g.K.Sink.contents l.sink);
   sizes : slot_sizes l.window.slots ≡ slot_sizes l.fn.window.slots;
   workers : l.window.workers ≡ l.fn.window.workers;
+  strips : HasStrips (g.S.Source.held l.fn.source) l.strips l.ahead;
+  ahead : length l.ahead ≡ length l.fn.ahead;
   rows : length l.rows ≡ length l.fn.rows;
   room : length l.held ≡ length l.fn.held;
   last : AreLast l.count l.held l.progress;

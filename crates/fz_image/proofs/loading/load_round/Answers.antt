@@ -1,6 +1,7 @@
 -- One tile after another.
 use Rattle.std.proofs.Common.{◌≡◌, ℕ, ◌+◌, ◌*◌, List, Option, replicate, refl, sym, ap, ◌∙◌, subst, arith, rules}
 use Rattle.fz_image.specs.Layout.{pixel_bytes_of}
+use Rattle.fz_image.specs.Strips.{HasStrips}
 use Rattle.fz_image.specs.Tiles.{AreLoaded, IsLoaded}
 use Rattle.fz_image.proofs.LoadedTiles.{loaded_more, loaded_none}
 use Rattle.fz_image.proofs.loading.load_round.Goals as goal
@@ -13,6 +14,8 @@ loop-i-init g c = record {
   log = c.log_law.ensures.none c.args.layout.now.pixels_at (c.args.layout.now.pixels_at + pixel_bytes_of c.args.layout.now) (g.S.Source.ranges c.args.source.now);
   reads = refl;
   sizes = refl;
+  strips = c.requires.strips;
+  ahead = refl;
   workers = refl;
   loaded = loaded_none c.args.layout.now (g.S.Source.held c.args.source.now) c.args.first c.args.window.now;
 }
@@ -28,6 +31,9 @@ load_next-requires-clause-window g c =
 pub load_next-requires-clause-near : goal.load_next-requires-clause-near
 load_next-requires-clause-near g c = omega (arith, c.loop-i.invariant.workers, c.requires.near)
 
+pub load_next-requires-clause-strips : goal.load_next-requires-clause-strips
+load_next-requires-clause-strips g c = subst (λ (h : Option (List ℕ)). HasStrips h c.loop-i.strips c.loop-i.ahead) (sym c.loop-i.invariant.held) c.loop-i.invariant.strips
+
 pub loop-i-preserved : goal.loop-i-preserved
 loop-i-preserved g c =
     let l = c.args.layout.now in
@@ -41,9 +47,14 @@ loop-i-preserved g c =
       told_ranges = λ told. c.in_ok-load_next.ensures.told_ranges (c.loop-i.invariant.told_ranges told);
       reads = search rules;
       sizes = c.in_ok-load_next.ensures.sizes ∙ c.loop-i.invariant.sizes;
+      strips = subst (λ (h : Option (List ℕ)). HasStrips h c.load_next.new.strips c.load_next.new.ahead) (c.in_ok-load_next.ensures.held ∙ c.loop-i.invariant.held) c.in_ok-load_next.ensures.strips;
+      ahead = c.in_ok-load_next.ensures.ahead ∙ c.loop-i.invariant.ahead;
       workers = c.in_ok-load_next.ensures.workers ∙ c.loop-i.invariant.workers;
       loaded = loaded_more l held c.args.first c.loop-i.i c.loop-i.window c.load_next.new.window put.0 put.1 now c.loop-i.invariant.loaded c.put_law.ensures.ready;
     }
+
+pub returns-clause-strips : goal.returns-clause-strips
+returns-clause-strips g c = subst (λ (h : Option (List ℕ)). HasStrips h c.loop-i.strips c.loop-i.ahead) (sym c.loop-i.invariant.held) c.loop-i.invariant.strips
 
 pub returns-clause-loaded : goal.returns-clause-loaded
 returns-clause-loaded g c =

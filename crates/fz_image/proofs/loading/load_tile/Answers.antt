@@ -1,10 +1,13 @@
 -- The pixels stand in the numbers, and are those of the tile.
-use Rattle.std.proofs.Common.{◌≡◌, ℕ, List, length, sym, ap, ◌∙◌}
+use Rattle.std.proofs.Common.{◌≡◌, ℕ, ◌+◌, List, length, drop, Option, IfSome, sym, ap, ◌∙◌, subst}
 use Rattle.std.specs.Prelude.{unsigned_abs}
 use Rattle.fz_grid.specs.Arrays.{product}
 use Rattle.fz_grid.specs.Division.{tile_places}
 use Rattle.fz_grid.specs.Grid.{tile_corner, tile_lengths}
 use Rattle.fz_grid.specs.Region.{lengths_of, places_of, region_corner, region_lengths}
+use Rattle.fz_image.specs.Layout.{pixel_bytes_of}
+use Rattle.fz_image.specs.Strips.{HasStrips}
+use Rattle.fz_image.specs.Tiles.{pixels_at_places}
 use Rattle.fz_image.proofs.LoadedTiles.{hold_tile, round_trip, told_tile}
 use Rattle.fz_image.proofs.loading.load_tile.Goals as goal
 
@@ -25,4 +28,27 @@ returns-clause-holds g c =
     let count : length places ≡ n = c.place_law.ensures.pixels (lengths_of l.plan.shape) (region_corner r) (region_lengths r) ∙ ap product lengths ∙ sym c.tile_pixels-pixels.ensures.pixels in
     hold_tile l (g.S.Source.held c.args.source.now) t n _ c.read_front.new.numbers c.read_region.new.into (ap unsigned_abs (round_trip l.plan.bitpix c.requires.layout.plan.writable.size)) c.tile_pixels-pixels.ensures.pixels c.tile_pixels-pixels.ensures.some c.tile_pixels-pixels.ensures.most c.read_front.ensures.pixels
     (told_tile l (g.S.Source.held c.args.source.now) c.requires.pixels.0 t n c.read_region.new.into places c.requires.layout c.requires.pixels.2 (g.met.S.Source.agrees c.args.source.now c.requires.pixels.0 c.requires.pixels.1)
-    c.tiles_law.ensures.places at count c.in_ok-read_region.ensures.below c.in_ok-read_region.ensures.pixels)
+    c.tiles_law.ensures.places at count c.in_ok-read_region.ensures.below
+    (subst (λ (h : Option (List ℕ)). IfSome h (λ file. c.read_region.new.into ≡ pixels_at_places l.pixel_len (drop l.pixels_at file) places)) c.look_ahead.ensures.held c.in_ok-read_region.ensures.pixels))
+
+-- ---- what is read
+
+pub returns-clause-log : goal.returns-clause-log
+returns-clause-log g c =
+    let l = c.args.layout.now in
+    c.log_law.ensures.both l.pixels_at (l.pixels_at + pixel_bytes_of l) (g.S.Source.ranges c.args.source.now) (g.S.Source.ranges c.look_ahead.new.source) (g.S.Source.ranges c.read_region.new.source)
+    c.look_ahead.ensures.log c.read_region.ensures.log
+
+pub returns-in_err-read_region-clause-log : goal.returns-in_err-read_region-clause-log
+returns-in_err-read_region-clause-log g c =
+    let l = c.args.layout.now in
+    c.log_law.ensures.both l.pixels_at (l.pixels_at + pixel_bytes_of l) (g.S.Source.ranges c.args.source.now) (g.S.Source.ranges c.look_ahead.new.source) (g.S.Source.ranges c.read_region.new.source)
+    c.look_ahead.ensures.log c.read_region.ensures.log
+
+-- ---- the strips are still there
+
+pub returns-clause-strips : goal.returns-clause-strips
+returns-clause-strips g c = subst (λ (h : Option (List ℕ)). HasStrips h c.look_ahead.new.strips c.look_ahead.new.ahead) (sym c.read_region.ensures.held) c.look_ahead.ensures.strips
+
+pub returns-in_err-read_region-clause-strips : goal.returns-in_err-read_region-clause-strips
+returns-in_err-read_region-clause-strips g c = subst (λ (h : Option (List ℕ)). HasStrips h c.look_ahead.new.strips c.look_ahead.new.ahead) (sym c.read_region.ensures.held) c.look_ahead.ensures.strips

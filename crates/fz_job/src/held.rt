@@ -1,16 +1,105 @@
 //! Bytes that are held back, so that many short pieces are one write.
-ghost use Rattle.std.specs.Prelude.{ℕ, ◌≡◌, ◌+◌, ◌<◌, ◌≤◌, IsTrue, List, Option, length as len, OnOk};
+ghost use Rattle.std.specs.Prelude.{ℕ, ◌≡◌, ◌+◌, ◌^◌, ◌<◌, ◌≤◌, IsTrue, List, Option, length as len, OnOk};
 ghost use Rattle.fz_base.specs.FirstByte.{StaysShut};
 ghost use Rattle.fz_base.specs.Sink.{written};
 ghost use Rattle.fz_base.specs.Stop.{Writes};
 ghost use Rattle.fz_base.specs.Told.{StaysTold};
-ghost use Rattle.fz_image.specs.Held.{caught_up};
+ghost use Rattle.fz_job.specs.Held.{IsHeld, caught_up, nothing_held, settled};
 
 use fz_base::{Sink, Stop, output_law, write_behind};
 
+/// How many of the first bytes of a buffer are held back, and where they go.
+#[derive(Clone, Copy, Debug)]
+pub struct Held {
+    /// So many.
+    pub count: usize,
+    /// The byte of the sink after them.
+    pub end: u64,
+}
+
+impl Held {
+    /// None are held back.
+    pub fn none() -> Held
+        ensures nothing { result ≡ nothing_held }
+        ensures held { (held : List ℕ) → IsHeld result held }
+        ensures settled { (held : List ℕ) (contents : Option (List ℕ)) → settled result held contents ≡ contents }
+    {
+        Held { count: 0, end: 1 }
+    }
+}
+
+/// Has a piece written to a place after byte 0, now or later. Bytes that are held back stay so if the piece follows them
+/// and there is room for it. Otherwise they are written first.
+pub fn hold_piece<K: Sink>(
+    sink: &mut K,
+    at: u64,
+    bytes: &[u8],
+    held: &mut [u8],
+    back: &mut Held,
+) -> Result<(), Stop>
+    requires created { IsTrue (K.created sink.old) }
+    requires held { IsHeld back.old held.old }
+    requires behind { 0 < at }
+    requires near { at + len bytes.now < 2 ^ 64 }
+    ensures written { OnOk result (settled back.new held.new (K.contents sink.new) ≡ written at bytes.now
+        (settled back.old held.old (K.contents sink.old))) }
+    ensures kept { OnOk result (IsHeld back.new held.new) }
+    ensures len { len held.new ≡ len held.old }
+    ensures shut { StaysShut (K.contents sink.old) (K.contents sink.new) }
+    ensures told { StaysTold (K.contents sink.old) (K.contents sink.new) }
+    ensures created { K.created sink.new ≡ K.created sink.old }
+    ensures cause { Writes (K.tally sink.old) (K.tally sink.new) result }
+{
+    if at == back.end {
+        return hold_next(sink, at, bytes, held, back);
+    }
+    write_pieces(sink, held, back)?;
+    *back = Held { count: 0, end: at };
+    hold_next(sink, at, bytes, held, back)
+}
+
+// The same of a piece that follows what is held back.
+fn hold_next<K: Sink>(
+    sink: &mut K,
+    at: u64,
+    bytes: &[u8],
+    held: &mut [u8],
+    back: &mut Held,
+) -> Result<(), Stop>
+    requires created { IsTrue (K.created sink.old) }
+    requires held { IsHeld back.old held.old }
+    requires follows { at ≡ back.old.end }
+    requires near { at + len bytes.now < 2 ^ 64 }
+    ensures written { OnOk result (settled back.new held.new (K.contents sink.new) ≡ written at bytes.now
+        (settled back.old held.old (K.contents sink.old))) }
+    ensures kept { OnOk result (IsHeld back.new held.new) }
+    ensures len { len held.new ≡ len held.old }
+    ensures shut { StaysShut (K.contents sink.old) (K.contents sink.new) }
+    ensures told { StaysTold (K.contents sink.old) (K.contents sink.new) }
+    ensures created { K.created sink.new ≡ K.created sink.old }
+    ensures cause { Writes (K.tally sink.old) (K.tally sink.new) result }
+{
+    hold_back(sink, at, bytes, held, &mut back.count)?;
+    back.end = at + bytes.len() as u64;
+    Ok(())
+}
+
+/// Writes what is held back.
+pub fn write_pieces<K: Sink>(sink: &mut K, held: &[u8], back: &Held) -> Result<(), Stop>
+    requires created { IsTrue (K.created sink.old) }
+    requires held { IsHeld back.now held.now }
+    ensures written { OnOk result (K.contents sink.new ≡ settled back.now held.now (K.contents sink.old)) }
+    ensures shut { StaysShut (K.contents sink.old) (K.contents sink.new) }
+    ensures told { StaysTold (K.contents sink.old) (K.contents sink.new) }
+    ensures created { K.created sink.new ≡ K.created sink.old }
+    ensures cause { Writes (K.tally sink.old) (K.tally sink.new) result }
+{
+    write_held(sink, back.end, held, back.count)
+}
+
 /// Has bytes written to a place after byte 0, now or later: the first `count` bytes of `held` are held back, and
 /// go just before that place. A piece is held back if it leaves room for others.
-pub(crate) fn hold_back<K: Sink>(
+pub fn hold_back<K: Sink>(
     sink: &mut K,
     at: u64,
     bytes: &[u8],
@@ -107,12 +196,7 @@ fn keep(bytes: &[u8], held: &mut [u8], count: &mut usize)
 }
 
 /// Writes the bytes that are held back, which end before this place.
-pub(crate) fn write_held<K: Sink>(
-    sink: &mut K,
-    end: u64,
-    held: &[u8],
-    count: usize,
-) -> Result<(), Stop>
+pub fn write_held<K: Sink>(sink: &mut K, end: u64, held: &[u8], count: usize) -> Result<(), Stop>
     requires created { IsTrue (K.created sink.old) }
     requires within { count ≤ len held.now }
     requires behind { count < end }

@@ -1,7 +1,7 @@
 -- The bytes are the first that are held back.
 use Rattle.std.proofs.Common.{◌≤◌, arith}
-use Rattle.fz_image.proofs.Holding.{held_first}
-use Rattle.fz_image.proofs.held.begin.Goals as goal
+use Rattle.fz_job.proofs.HeldBytes.{held_first}
+use Rattle.fz_job.proofs.held.begin.Goals as goal
 
 pub returns-clause-written : goal.returns-clause-written
 returns-clause-written g c =

@@ -1,8 +1,8 @@
 -- The bytes are after those that are held back.
 use Rattle.std.proofs.Common.{◌≡◌, ℕ, ◌+◌, ◌≤◌, List, ◌++◌, length, take, sym, ap, ◌∙◌, rules, arith}
 use Rattle.std.proofs.lemmas.Slice.{take-put_mid}
-use Rattle.fz_image.proofs.Holding.{held_more}
-use Rattle.fz_image.proofs.held.keep.Goals as goal
+use Rattle.fz_job.proofs.HeldBytes.{held_more}
+use Rattle.fz_job.proofs.held.keep.Goals as goal
 
 pub returns-clause-later : goal.returns-clause-later
 returns-clause-later c = λ at contents within.
