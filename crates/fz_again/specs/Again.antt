@@ -1,5 +1,6 @@
 -- A header that is read once more, after the first look at all headers (FITS 4.0, sections 3.1 and 10.1).
-use Rattle.std.specs.Prelude.{ℕ, suc, ◌≡◌, ◌+◌, ◌*◌, ◌^◌, ◌≤◌, ◌&&◌, ◌==◌, nat_lt, Bool, true, false, List, [], ◌∷◌, length, take, codes, Option, Some, None, IfSome, Result, Ok, Err, ⊤}
+use Rattle.std.specs.Prelude.{ℕ, suc, ◌≡◌, ◌+◌, ◌*◌, ◌^◌, ◌≤◌, ◌&&◌, ◌==◌, nat_lt, Bool, true, false, List}
+use Rattle.std.specs.Prelude.{[], ◌∷◌, length, take, codes, Option, Some, None, IfSome, Result, Ok, Err, ⊤}
 use Rattle.fz_base.specs.Source.{Reads}
 use Rattle.fz_base.specs.Stop.{IfRefused}
 use Rattle.fz_base.specs.declared.failure.Stop.{Stop}
@@ -38,7 +39,7 @@ pub record IsUsable (header : List ℕ) (h : Header) (len : ℕ) (image : Packed
   pub readable : IsReadable image
   pub inside : image.table.heap_at + image.table.heap_len ≤ len
 
--- the header of an HDU within so many bytes stands at the front of the buffer, and this is the image that stands in the HDU, or none
+-- the header of an HDU within so many bytes is at the front of the buffer, and this is the image that is in the HDU, or none
 pub record IsAgain (held : Option (List ℕ)) (len : ℕ) (buf : List ℕ) (a : ReadHdu) : Type 0 where
   pub room : 2880 * a.header.blocks ≤ length buf
   pub header : IsHeaderOf (header_at_front a buf) a.header

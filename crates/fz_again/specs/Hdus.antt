@@ -47,14 +47,17 @@ TilesAreOfImage =
 
 -- the rows and records of a packed HDU, and the data of one that is copied, are what `unpack` reads of it
 pub record UnpacksWithin : Type 0 where
-  pub rows : (file : List ℕ) (h : Header) (old new : Option (List (ℕ × ℕ))) → is_image file h ≡ true → LogsIn (image_ranges file h) old new → LogsIn (data_touched Unpack file h) old new
+  pub rows : (file : List ℕ) (h : Header) (old new : Option (List (ℕ × ℕ))) → is_image file h ≡ true → LogsIn (image_ranges file h) old new
+      → LogsIn (data_touched Unpack file h) old new
   pub rest : (file : List ℕ) (h : Header) (old new : Option (List (ℕ × ℕ))) → is_image file h ≡ false → LogsWithin (data_start_of h) (next_start_of h) old new
       → LogsIn (data_touched Unpack file h) old new
 
 -- the rows and records of a packed HDU, and the data of any, are what `verify` reads of it
 pub record VerifiesWithin : Type 0 where
-  pub rows : (file : List ℕ) (h : Header) (old new : Option (List (ℕ × ℕ))) → is_image file h ≡ true → LogsIn (image_ranges file h) old new → LogsIn (data_touched Verify file h) old new
-  pub rest : (file : List ℕ) (h : Header) (old new : Option (List (ℕ × ℕ))) → LogsWithin (data_start_of h) (next_start_of h) old new → LogsIn (data_touched Verify file h) old new
+  pub rows : (file : List ℕ) (h : Header) (old new : Option (List (ℕ × ℕ))) → is_image file h ≡ true → LogsIn (image_ranges file h) old new
+      → LogsIn (data_touched Verify file h) old new
+  pub rest : (file : List ℕ) (h : Header) (old new : Option (List (ℕ × ℕ))) → LogsWithin (data_start_of h) (next_start_of h) old new
+      → LogsIn (data_touched Verify file h) old new
 
 -- what is read of the HDUs of a file that is known is what the job reads of the file
 abbrev pub KnownAreTouched : Job → Type 0

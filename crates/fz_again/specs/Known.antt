@@ -32,7 +32,7 @@ MeetsTile ListHdus file s = ⊤
 MeetsTile job file s = largest_tile job file ≡ s.tile
 
 -- A file passed all checks, and this was learnt of it: its headers were seen, they are those that the job looks at, none is refused, and they
--- tell the longest header and the largest tile that the job meets.
+-- show the longest header and the largest tile that the job meets.
 pub record IsKnown (job : Job) (file : List ℕ) (s : Survey) : Type 0 where
   pub headers : List Header
   pub seen : IsList file s headers

@@ -1,4 +1,4 @@
-//! The header of an HDU, read once more, and the image that stands in the HDU.
+//! The header of an HDU, read once more, and the image that is in the HDU.
 
 ghost use Rattle.std.specs.Prelude.{◌≡◌, ◌⊎◌, ◌<◌, ◌≤◌, Ok, Some, length as len, IfOk, IfSome};
 ghost use Rattle.fz_base.specs.Refusal.{refusal};
@@ -26,7 +26,7 @@ use fz_head::{PackedImage, image_to_unpack};
 pub struct ReadHdu {
     /// The facts of its header.
     pub header: Header,
-    /// The image that stands in it, if it is packed.
+    /// The image that is in it, if it is packed.
     pub image: Option<PackedImage>,
 }
 
@@ -41,7 +41,7 @@ impl ReadHdu {
         self.header.hdu == 0 && self.header.axes.n == 0
     }
 
-    /// Whether the image that stands in the HDU was a primary.
+    /// Whether the image that is in the HDU was a primary.
     pub fn was_primary(&self) -> bool
         ensures { result ≡ was_primary_image self.now.image }
     {
@@ -55,7 +55,7 @@ impl ReadHdu {
 /// Reads the header of an HDU once more, into the first bytes of a buffer, and finds its image, whose tiles have at
 /// most so many pixels. `after_empty` says that this is HDU 1 after a primary with NAXIS 0.
 ///
-/// Refused: only where the source gives other bytes than before, and then with BadCard at card 0 of the HDU.
+/// Refused: only if the source gives other bytes than before, and then with BadCard at card 0 of the HDU.
 pub fn read_again<S: Source>(
     source: &mut S,
     length: u64,

@@ -9,7 +9,7 @@ use fz_block::{found_hdus_law, found_law, hdu_law, walk_law};
 use fz_files::reached_law;
 
 /// A survey of a file with the checks of `unpack` knows its headers, the longest of them and the largest tile, and a
-/// fault that it tells is the first of the file's headers: for each job that makes these checks.
+/// fault that it gives is the first of the file's headers: for each job that makes these checks.
 pub fn known_law()
     ensures know { (job : Job) → ChecksAsUnpack job → SurveysKnow job }
     ensures refuse { (job : Job) → ChecksAsUnpack job → SurveysRefuse job }

@@ -1,4 +1,4 @@
-//! The tiles of a packed image, which are decoded and go nowhere.
+//! The tiles of a packed image, decoded round by round.
 ghost use Rattle.std.specs.Prelude.{◌≡◌, ◌+◌, ◌*◌, ◌≤◌, Some, None, map, length as len, IfSome, OnOk};
 ghost use Rattle.std.specs.List.{range_with_len};
 ghost use Rattle.fz_base.specs.Ranges.{LogsIn};
@@ -6,6 +6,8 @@ ghost use Rattle.fz_base.specs.Stop.{IfRefused};
 ghost use Rattle.fz_base.specs.Told.{StaysTold};
 ghost use Rattle.fz_files.specs.FirstFault.{IsFirstRowFault, image_row, rows_of};
 ghost use Rattle.fz_files.specs.Packed.{tiles_in};
+ghost use Rattle.fz_fetch.specs.Ahead.{IsAhead};
+ghost use Rattle.fz_fetch.specs.Fetched.{AreFetched};
 ghost use Rattle.fz_fetch.specs.Images.{HaveRoom, IsReadable, IsSaid};
 ghost use Rattle.fz_fetch.specs.Rows.{StandsWithin};
 ghost use Rattle.fz_fetch.specs.Stops.{Fetches};
@@ -16,13 +18,14 @@ ghost use Rattle.fz_job.specs.Keeps.{SourceStays, WindowStays};
 use crate::law::hdus_law;
 use fz_base::{Gate, Source, Stop, ranges_law};
 use fz_block::Header;
-use fz_fetch::{MOST_TILES, fetch_tiles, number_tiles};
+use fz_fetch::{Ahead, MOST_TILES, fetch_ahead, fetch_tiles, number_tiles};
 use fz_grid::Grid;
 use fz_head::PackedImage;
 use fz_pool::{Crew, Window};
 use std::thread::Threads;
 
-/// Decodes all tiles of a packed image, round by round. `rows` has room for the rows of a round.
+/// Decodes all tiles of a packed image, round by round, and keeps no pixels. `rows` has room for the rows of a round; in
+/// what is longer of it records are read that are wanted later.
 ///
 /// Refused: the lowest faulty row, as `fetch_tiles` refuses it.
 pub fn decode_tiles<R: Threads + Sync, S: Source, G: Gate>(
@@ -50,17 +53,63 @@ pub fn decode_tiles<R: Threads + Sync, S: Source, G: Gate>(
 {
     ranges_law();
     let tiles = Grid::new(image.plan.shape, image.plan.tile).tile_count();
+    let mut ahead = Ahead::none();
     let mut first = 0;
     while first < tiles {
         let count = (2 * window.workers()).min(tiles - first);
-        decode_round(crew, source, window, header, image, first, count, rows)?;
+        decode_ahead(
+            crew, source, window, header, image, first, count, rows, &mut ahead,
+        )?;
         first += count;
     }
     Ok(())
 }
 
-// Decodes so many tiles, from the first on.
-fn decode_round<R: Threads + Sync, S: Source, G: Gate>(
+// Decodes a round: `count` tiles from `first` on, into the first slots of the window. Rows and records that are wanted
+// later are read together with theirs, into `rows`.
+fn decode_ahead<R: Threads + Sync, S: Source, G: Gate>(
+    crew: &Crew<'_, R, G>,
+    source: &mut S,
+    window: &mut Window,
+    header: &Header,
+    image: &PackedImage,
+    first: u32,
+    count: u32,
+    rows: &mut [u8],
+    ahead: &mut Ahead,
+) -> Result<(), Stop>
+    requires image { IsReadable image.now }
+    requires within { StandsWithin (S.attached source.old) image.now.table }
+    requires said { IfSome (S.held source.old) (λ g. IsSaid g header.now image.now) }
+    requires tiles { first + count ≤ tiles_in image.now.plan }
+    requires near { count ≤ 2 * window.old.workers }
+    requires few { count ≤ 128 }
+    requires window { HaveRoom image.now window.old }
+    requires ahead { IsAhead (S.held source.old) image.now.table rows.old ahead.old }
+    ensures sound { OnOk result (IfSome (S.held source.old) (λ g. IsFirstRowFault g (map (image_row header.now) (range_with_len first count)) None)) }
+    ensures fault { IfRefused result (λ x. IfSome (S.held source.old)
+        (λ g. IsFirstRowFault g (map (image_row header.now) (range_with_len first count)) (Some x))) }
+    ensures row { IfRefused result IsOfSomeRow }
+    ensures rows { len rows.new ≡ len rows.old }
+    ensures ahead { IsAhead (S.held source.new) image.now.table rows.new ahead.new }
+    ensures window { WindowStays window.old window.new }
+    ensures source { SourceStays (S.held source.old) (S.held source.new) (S.attached source.old) (S.attached source.new) }
+    ensures read { IfSome (S.held source.old) (λ g. LogsIn (image_ranges g header.now) (S.ranges source.old) (S.ranges source.new)) }
+    ensures told { StaysTold (S.ranges source.old) (S.ranges source.new) }
+    ensures cause { Fetches (S.tally source.old) (S.tally source.new) result }
+{
+    hdus_law();
+    let mut numbers = [0; MOST_TILES];
+    let tiles = &mut numbers[..count as usize];
+    number_tiles(first, tiles);
+    fetch_ahead(crew, source, header, image, tiles, rows, ahead, window)
+}
+
+/// Decodes a round: `count` tiles from `first` on, into the first slots of the window. `rows` has room for their rows, and
+/// no other rows are read.
+///
+/// Refused: the lowest faulty row of the round, as `fetch_tiles` refuses it.
+pub fn decode_round<R: Threads + Sync, S: Source, G: Gate>(
     crew: &Crew<'_, R, G>,
     source: &mut S,
     window: &mut Window,
@@ -78,6 +127,7 @@ fn decode_round<R: Threads + Sync, S: Source, G: Gate>(
     requires few { count ≤ 128 }
     requires window { HaveRoom image.now window.old }
     requires rows { 4096 ≤ len rows.old }
+    ensures fetched { OnOk result (AreFetched (S.held source.old) header.now image.now.plan (range_with_len first count) window.new.slots) }
     ensures sound { OnOk result (IfSome (S.held source.old) (λ g. IsFirstRowFault g (map (image_row header.now) (range_with_len first count)) None)) }
     ensures fault { IfRefused result (λ x. IfSome (S.held source.old)
         (λ g. IsFirstRowFault g (map (image_row header.now) (range_with_len first count)) (Some x))) }

@@ -49,7 +49,7 @@ same_then a b n old mid new first second before now k d later = now k d (omega (
 
 -- ---- ranges
 
-lies_in_either : (xs ys : List (ℕ × ℕ)) (byte : ℕ) → LiesIn (xs ++ ys) byte → LiesIn xs byte ⊎ LiesIn ys byte
+pub lies_in_either : (xs ys : List (ℕ × ℕ)) (byte : ℕ) → LiesIn (xs ++ ys) byte → LiesIn xs byte ⊎ LiesIn ys byte
 lies_in_either [] ys byte lies = inr lies
 lies_in_either ((start, count) ∷ xs) ys byte (inl here) = inl (inl here)
 lies_in_either ((start, count) ∷ xs) ys byte (inr later) = ⊎_elim (λ first. inl (inr first)) (λ second. inr second) (lies_in_either xs ys byte later)

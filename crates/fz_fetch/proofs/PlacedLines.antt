@@ -1,15 +1,11 @@
 -- The picks of lines, put to their places in a buffer, one line after another.
-use Rattle.std.proofs.Common.{◌≡◌, ℕ, ◌+◌, ◌-◌, ◌*◌, ◌^◌, ◌≤◌, ℤ, List, [], ◌∷◌, ◌++◌, length, take, drop, replicate, Option, Some, sym, ap, ◌∙◌, arith}
-use Rattle.std.specs.List.{AllByRecursion}
+use Rattle.std.proofs.Common.{◌≡◌, ℕ, ◌+◌, ◌-◌, ◌*◌, ◌≤◌, List, [], ◌∷◌, ◌++◌, length, take, drop, replicate, Option, Some, sym, ap, ◌∙◌, arith}
 use Rattle.std.proofs.lemmas.List.{append-nil, append_assoc, length-append, take-append-drop}
-use Rattle.std.proofs.Math.Nat.{mul-add, mul-le-mul_left}
 use Rattle.std.proofs.Math.Seq.{drop-append_seam, take-append_seam}
 use Rattle.fz_base.specs.Sink.{overwrite, written}
-use Rattle.fz_parts.specs.Line.{IsLineWithin, lines_in_cutout}
+use Rattle.fz_parts.specs.Line.{lines_in_cutout}
 use Rattle.fz_parts.specs.declared.line.Line.{Line}
-use Rattle.fz_tile.specs.Pixels.{HoldPixels}
 use Rattle.fz_fetch.specs.Pieces.{pieces_written}
-use Rattle.fz_fetch.proofs.LineWrites.{line_near}
 use Rattle.fz_fetch.proofs.Running.{JoinsWrites, run_written}
 
 -- what is written within contents takes the place of as many bytes
@@ -45,22 +41,3 @@ line_placed joins w line left left' piece rest out out' goal next long room put 
     ∙ sym (run_written joins w 0 line.in_cutout line.count (lines_in_cutout left') bytes (Some out) fits)
     ∙ sym (ap (λ l. pieces_written w 0 (lines_in_cutout l) bytes (Some out)) next)
     ∙ so_far
-
--- ---- lines within a buffer that has room for what is cut out
-
--- pixels that are held, and lines within them and within the buffer
-abbrev pub AreHeldWithin : ℕ → ℕ → ℕ → List ℤ → List Line → Type 0
-AreHeldWithin bits w room numbers all =
-    (xs : List ℤ) × HoldPixels bits numbers xs × (length xs ≤ 2 ^ 26) × ((cutout : ℕ) × AllByRecursion (IsLineWithin (length xs) cutout) all × (w * cutout ≤ room))
-
-pub lines_held : (bits w room : ℕ) (numbers : List ℤ) (all : List Line) → AreHeldWithin bits w room numbers all
-    → (xs : List ℤ) × HoldPixels bits numbers xs × (length xs ≤ 2 ^ 26) × ((cutout : ℕ) × AllByRecursion (IsLineWithin (length xs) cutout) all)
-lines_held bits w room numbers all (xs, held, small, (cutout, lines, fits)) = (xs, held, small, (cutout, lines))
-
-pub line_room : (bits w room : ℕ) (numbers : List ℤ) (line : Line) (all left left' : List Line) → AreHeldWithin bits w room numbers all
-    → ((n cutout : ℕ) → AllByRecursion (IsLineWithin n cutout) all → AllByRecursion (IsLineWithin n cutout) left) → left ≡ line ∷ left'
-    → w * line.in_cutout + w * line.count ≤ room
-line_room bits w room numbers line all left left' (xs, held, small, (cutout, lines, fits)) keep next =
-    let inside : line.in_cutout + line.count ≤ cutout = line_near line all left left' (length xs) cutout lines keep next in
-    let times : w * (line.in_cutout + line.count) ≤ w * cutout = mul-le-mul_left w inside in
-    omega (arith, times, mul-add w line.in_cutout line.count, fits)

@@ -1,5 +1,5 @@
 -- How much of a record is read, and the ranges that are read for a tile.
-use Rattle.std.proofs.Common.{◌≡◌, ℕ, ◌+◌, ◌*◌, min, List, [], ◌∷◌, inr, Option, Some, None, IfSome, Result, Ok, Err, OnOk, OnErr, sym, ap, ◌∙◌, subst}
+use Rattle.std.proofs.Common.{◌≡◌, ℕ, ◌+◌, ◌*◌, min, List, [], ◌∷◌, inr, Option, Some, None, IfSome, Result, Ok, Err, OnOk, OnErr, refl, sym, ap, ◌∙◌, subst}
 use Rattle.fz_base.specs.Ranges.{LiesIn, LogsIn, LogsJoinLaw}
 use Rattle.fz_base.specs.Refusal.{first_refusal}
 use Rattle.fz_base.specs.Source.{MayLog, logged}
@@ -46,22 +46,34 @@ row_alone None hdu row t tile old new logs = tt
 row_alone (Some file) hdu row t tile old new logs =
     wider (row_ranges t row) (tile_ranges file hdu t row tile) old new (λ byte lies. in_first (row_ranges t row) (record_ranges (record_at file hdu t row tile)) byte lies) logs
 
--- and then the record that it says
-pub row_and_record : LogsJoinLaw → (held : Option (List ℕ)) (hdu row : ℕ) (t : Table) (says : Row) (tile : Tile) (found : Record) (old mid new : Option (List (ℕ × ℕ)))
-    → IfSome held (λ file. says ≡ row_at file t row) → record_of hdu row t says tile ≡ Ok found
-    → LogsIn (row_ranges t row) old mid → LogsIn ((found.start, found.read) ∷ []) mid new
+-- where the bytes are told, the record is that of the row
+pub told_found : (held : Option (List ℕ)) (hdu row : ℕ) (t : Table) (says : Row) (known tile : Tile) (found : Record) → known ≡ tile
+    → IfSome held (λ file. says ≡ row_at file t row) → record_of hdu row t says known ≡ Ok found → IfSome held (λ file. record_at file hdu t row tile ≡ Ok found)
+told_found None hdu row t says known tile found is exact said = tt
+told_found (Some file) hdu row t says known tile found is exact said =
+    sym (ap (λ (k : Tile). record_of hdu row t (row_at file t row) k) is) ∙ sym (ap (λ (s : Row). record_of hdu row t s known) exact) ∙ said
+
+-- and then it is read
+pub row_then_record : LogsJoinLaw → (held : Option (List ℕ)) (hdu row : ℕ) (t : Table) (tile : Tile) (found : Record) (old mid new : Option (List (ℕ × ℕ)))
+    → IfSome held (λ file. record_at file hdu t row tile ≡ Ok found) → LogsIn (row_ranges t row) old mid → LogsIn ((found.start, found.read) ∷ []) mid new
     → IfSome held (λ file. LogsIn (tile_ranges file hdu t row tile) old new)
-row_and_record join None hdu row t says tile found old mid new exact is first second = tt
-row_and_record join (Some file) hdu row t says tile found old mid new exact is first second =
+row_then_record join None hdu row t tile found old mid new is first second = tt
+row_then_record join (Some file) hdu row t tile found old mid new is first second =
     let all : List (ℕ × ℕ) = tile_ranges file hdu t row tile in
-    let here : record_at file hdu t row tile ≡ Ok found = sym (ap (λ (s : Row). record_of hdu row t s tile) exact) ∙ is in
-    let one : record_ranges (record_at file hdu t row tile) ≡ (found.start, found.read) ∷ [] = ap record_ranges here in
+    let one : record_ranges (record_at file hdu t row tile) ≡ (found.start, found.read) ∷ [] = ap record_ranges is in
     let front = wider (row_ranges t row) all old mid (λ byte lies. in_first (row_ranges t row) (record_ranges (record_at file hdu t row tile)) byte lies) first in
     let back = wider ((found.start, found.read) ∷ []) all mid new
     (λ byte lies. in_second (row_ranges t row) (record_ranges (record_at file hdu t row tile)) byte (subst (λ (rs : List (ℕ × ℕ)). LiesIn rs byte) (sym one) lies)) second in
     join all old mid new front back
 
--- where the bytes are told, the record is that of the row, and these are its bytes
+pub row_and_record : LogsJoinLaw → (held : Option (List ℕ)) (hdu row : ℕ) (t : Table) (says : Row) (tile : Tile) (found : Record) (old mid new : Option (List (ℕ × ℕ)))
+    → IfSome held (λ file. says ≡ row_at file t row) → record_of hdu row t says tile ≡ Ok found
+    → LogsIn (row_ranges t row) old mid → LogsIn ((found.start, found.read) ∷ []) mid new
+    → IfSome held (λ file. LogsIn (tile_ranges file hdu t row tile) old new)
+row_and_record join held hdu row t says tile found old mid new exact is first second =
+    row_then_record join held hdu row t tile found old mid new (told_found held hdu row t says tile tile found refl exact is) first second
+
+-- and these are its bytes, where they are told
 pub told_record : (held held' : Option (List ℕ)) (hdu row : ℕ) (t : Table) (says : Row) (known tile : Tile) (found : Record) (bytes : List ℕ) → held' ≡ held → known ≡ tile
     → IfSome held (λ file. says ≡ row_at file t row) → record_of hdu row t says known ≡ Ok found → IfSome held' (λ file. bytes ≡ record_bytes file found)
     → IfSome held (λ file. (record_at file hdu t row tile ≡ Ok found) × (bytes ≡ record_bytes file found))
@@ -75,12 +87,3 @@ told_record (Some file) held' hdu row t says known tile found bytes same is exac
 pub all_three : {X E : Type 0} {A B C D : Type 0} (result : Result X E) → OnOk result A → OnOk result B → OnOk result C → (A → B → C → D) → OnOk result D
 all_three (Ok x) a b c make = make a b c
 all_three (Err e) a b c make = tt
-
--- each of two facts of the bytes, if they are told
-pub first_told : (held : Option (List ℕ)) (A B : List ℕ → Type 0) → IfSome held (λ file. A file × B file) → IfSome held A
-first_told None A B both = tt
-first_told (Some file) A B both = both.0
-
-pub second_told : (held : Option (List ℕ)) (A B : List ℕ → Type 0) → IfSome held (λ file. A file × B file) → IfSome held B
-second_told None A B both = tt
-second_told (Some file) A B both = both.1

@@ -16,7 +16,7 @@ pub record IsReadable (image : PackedImage) : Type 0 where
   pub codec : CanRead image.plan.codec image.plan.bitpix
   pub rows : image.table.rows ≡ tiles_in image.plan
 
--- where the bytes are told, it is the image that the header of an HDU says
+-- if the bytes are shown, it is the image that the header of an HDU says
 pub record IsSaid (file : List ℕ) (h : Header) (image : PackedImage) : Type 0 where
   pub plan : plan_in file h ≡ image.plan
   pub table : image_table file h ≡ image.table

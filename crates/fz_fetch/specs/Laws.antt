@@ -29,13 +29,15 @@ JoinsRoundsOfParts =
 -- all tiles of an image, each at its places, are the bytes of the image in one piece
 abbrev pub TilesMakeTheBytes : Type 0
 TilesMakeTheBytes =
-    (p : Plan) (at : ℕ) (pixels : List (List ℤ)) (contents : Option (List ℕ)) → IsDivided p.shape p.tile → IsBitpix p.bitpix → AreTiles (lengths_of p.shape) (lengths_of p.tile) pixels
+    (p : Plan) (at : ℕ) (pixels : List (List ℤ)) (contents : Option (List ℕ)) → IsDivided p.shape p.tile → IsBitpix p.bitpix
+    → AreTiles (lengths_of p.shape) (lengths_of p.tile) pixels
     → tiles_written p at (range_with_len 0 (tiles_in p)) pixels contents
     ≡ written at (plain_bytes (pixel_bits p) (joined (lengths_of p.shape) (lengths_of p.tile) pixels).numbers) contents
 
 -- the picks of all tiles that hold one, each at its place, are the bytes of the cutout in one piece
 abbrev pub PartsMakeTheBytes : Type 0
 PartsMakeTheBytes =
-    (p : Plan) (sieve : Sieve) (at : ℕ) (a : NumberArray) (contents : Option (List ℕ)) → IsDivided p.shape p.tile → IsBitpix p.bitpix → Sifts (lengths_of p.shape) sieve → IsArray a → a.lengths ≡ lengths_of p.shape
+    (p : Plan) (sieve : Sieve) (at : ℕ) (a : NumberArray) (contents : Option (List ℕ)) → IsDivided p.shape p.tile → IsBitpix p.bitpix
+    → Sifts (lengths_of p.shape) sieve → IsArray a → a.lengths ≡ lengths_of p.shape
     → parts_written p sieve at (picked_tiles_of p sieve) (map (tile a (lengths_of p.tile)) (picked_tiles_of p sieve)) contents
     ≡ written at (plain_bytes (pixel_bits p) (picked_numbers a sieve)) contents

@@ -5,7 +5,7 @@ use Rattle.fz_table.specs.Reads.{row_ranges}
 use Rattle.fz_table.specs.Rows.{row_at, row_in}
 use Rattle.fz_table.specs.declared.table.Table.{Table}
 
--- the rows and the heap of a table stand within what is attached
+-- the rows and the heap of a table lie within what is attached
 abbrev pub StandsWithin : Option ℕ → Table → Type 0
 StandsWithin attached t = (n : ℕ) × (n < 2 ^ 64) × (attached ≡ Some n) × (t.heap_at + t.heap_len ≤ n)
 

@@ -4,7 +4,7 @@ use Rattle.fz_base.specs.Counts.{Rose, Tally, CountsKept}
 use Rattle.fz_base.specs.declared.failure.Stop.{Stop}
 use Rattle.fz_base.specs.declared.failure.Stop.TheVariants.{Refused, ReadFault, WriteFault, OverLimit, NoMemory}
 
--- Why a call that reads and decodes tiles stopped: Refused comes only where no count rose, and there may be no memory to decode tiles.
+-- Why a call that reads and decodes tiles stopped: Refused comes only if no count rose, and there may be no memory to decode tiles.
 abbrev pub StoppedFetching : Tally → Tally → Stop → Type 0
 StoppedFetching before now (Refused x) = now ≡ before
 StoppedFetching before now ReadFault = Rose before.faults now.faults

@@ -1,4 +1,4 @@
--- What a slot is told of a tile that it is to decode (FITS 4.0, section 10.1.3).
+-- What a slot is given of a tile that it is to decode (FITS 4.0, section 10.1.3).
 use Rattle.std.specs.Prelude.{ℕ}
 use Rattle.fz_table.specs.declared.record.Record.{Record}
 use Rattle.fz_head.specs.declared.plan.Plan.{Plan}

@@ -135,7 +135,7 @@ pub(crate) fn put_line(bitpix: i32, numbers: &[i32], line: &Line, code: &mut [u8
     );
 }
 
-// The same where the picks do not stand together in the tile, and a pixel has two places: one at a time.
+// The same if the picks are not together in the tile, and a pixel has two places: one at a time.
 fn put_apart(bitpix: i32, numbers: &[i32], line: &Line, code: &mut [u8], at: u64)
     requires size { IsBitpix bitpix }
     requires pixels { (xs : List ℤ) × HoldPixels (unsigned_abs bitpix) numbers.now xs × (len xs ≤ 2 ^ 26)

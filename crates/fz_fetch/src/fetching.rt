@@ -9,12 +9,15 @@ ghost use Rattle.fz_base.specs.declared.fault.Place.TheVariants.{Row as AtRow};
 ghost use Rattle.fz_head.specs.TileKinds.{kind_of_tile};
 ghost use Rattle.fz_pool.specs.Calls.{AreSameFrom};
 ghost use Rattle.fz_pool.specs.Window.{slot_sizes};
+ghost use Rattle.fz_fetch.specs.Ahead.{IsAhead, image_tiles};
 ghost use Rattle.fz_fetch.specs.Fetched.{AreFetched, IsOfRowAmong, TellsRowFault, fetched_ranges};
 ghost use Rattle.fz_fetch.specs.Images.{AreTilesOf, HaveRoom, IsReadable, IsSaid};
 ghost use Rattle.fz_fetch.specs.Rows.{StandsWithin};
 ghost use Rattle.fz_fetch.specs.Stops.{Fetches};
 
+use crate::ahead::Ahead;
 use crate::loading::load_round;
+use crate::loading_ahead::load_round_ahead;
 use fz_base::{Fault, Gate, Place, Source, Stop};
 use fz_block::Header;
 use fz_head::{PackedImage, tile_kind};
@@ -62,11 +65,60 @@ pub fn fetch_tiles<R: Threads + Sync, S: Source, G: Gate>(
 {
     round_law();
     sizes_law();
-    // This call tells that there are at most 64 workers.
+    // This call shows that there are at most 64 workers.
     let _workers = window.workers();
     let loaded = load_round(source, header.hdu, image, tiles, rows, window)?;
     match decode_window(crew.rt, window, loaded.count, crew.gate) {
         Ok(Some((i, fault))) => Err(faulty(header.hdu, tiles[i as usize], fault)),
+        Ok(None) => match loaded.refused {
+            Some(fault) => Err(Stop::Refused(fault)),
+            None => Ok(()),
+        },
+        Err(_) => Err(Stop::NoMemory),
+    }
+}
+
+/// Fetches as `fetch_tiles` does, but reads rows and records of the image that are wanted later together with those of
+/// these tiles, into the buffer. What `ahead` says the buffer has of the image is not read again.
+pub fn fetch_ahead<R: Threads + Sync, S: Source, G: Gate>(
+    crew: &Crew<'_, R, G>,
+    source: &mut S,
+    header: &Header,
+    image: &PackedImage,
+    tiles: &[u32],
+    buf: &mut [u8],
+    ahead: &mut Ahead,
+    window: &mut Window,
+) -> Result<(), Stop>
+    requires image { IsReadable image.now }
+    requires within { StandsWithin (S.attached source.old) image.now.table }
+    requires said { IfSome (S.held source.old) (λ g. IsSaid g header.now image.now) }
+    requires tiles { AreTilesOf image.now tiles.now }
+    requires few { len tiles.now ≤ 2 * window.old.workers }
+    requires ahead { IsAhead (S.held source.old) image.now.table buf.old ahead.old }
+    requires window { HaveRoom image.now window.old }
+    ensures fetched { OnOk result (AreFetched (S.held source.old) header.now image.now.plan tiles.now window.new.slots) }
+    ensures row { IfRefused result (IsOfRowAmong header.now.hdu tiles.now) }
+    ensures fault { TellsRowFault (S.held source.old) header.now tiles.now result }
+    ensures ahead { IsAhead (S.held source.new) image.now.table buf.new ahead.new }
+    ensures buffer { len buf.new ≡ len buf.old }
+    ensures read { IfSome (S.held source.old)
+        (λ g. LogsIn (fetched_ranges g header.now (image_tiles image.now)) (S.ranges source.old) (S.ranges source.new)) }
+    ensures told_ranges { StaysTold (S.ranges source.old) (S.ranges source.new) }
+    ensures others { AreSameFrom (len tiles.now) window.old.slots window.new.slots }
+    ensures sizes { slot_sizes window.new.slots ≡ slot_sizes window.old.slots }
+    ensures workers { window.new.workers ≡ window.old.workers }
+    ensures held { S.held source.new ≡ S.held source.old }
+    ensures attached { S.attached source.new ≡ S.attached source.old }
+    ensures cause { Fetches (S.tally source.old) (S.tally source.new) result }
+{
+    round_law();
+    sizes_law();
+    // This call shows that there are at most 64 workers.
+    let _workers = window.workers();
+    let loaded = load_round_ahead(source, header.hdu, image, tiles, buf, ahead, window)?;
+    match decode_window(crew.rt, window, loaded.count, crew.gate) {
+        Ok(Some((slot, fault))) => Err(faulty(header.hdu, tiles[slot as usize], fault)),
         Ok(None) => match loaded.refused {
             Some(fault) => Err(Stop::Refused(fault)),
             None => Ok(()),
@@ -111,7 +163,7 @@ pub fn fetch_beside<R: Threads + Sync, S: Source, G: Gate, J: FnMut() -> B, B>(
 {
     round_law();
     sizes_law();
-    // This call tells that there are at most 64 workers.
+    // This call shows that there are at most 64 workers.
     let _workers = window.workers();
     let loaded = match load_round(source, header.hdu, image, tiles, rows, window) {
         Ok(loaded) => loaded,

@@ -1,4 +1,4 @@
-//! The plain bytes of pixels that stand apart in a tile, gathered in one loop.
+//! The plain bytes of pixels that are apart in a tile, gathered in one loop.
 ghost use Rattle.std.specs.Prelude.{ℕ, ◌≡◌, ◌≢◌, ◌+◌, ◌-◌, ◌*◌, ◌/◌, ◌<◌, ◌≤◌, ◌^◌, ℤ, pos, List, map, unsigned_abs, length as len};
 ghost use Rattle.std.specs.List.{range_with_len};
 ghost use Rattle.fz_parts.specs.Cutout.{numbers_at};
@@ -8,7 +8,7 @@ ghost use Rattle.fz_tile.specs.Plain.{plain_bytes};
 
 use fz_parts::Line;
 
-/// Writes the plain bytes of the picks of a line, where a pixel has one place.
+/// Writes the plain bytes of the picks of a line, if a pixel has one place.
 pub(crate) fn gather(bitpix: i32, numbers: &[i32], line: &Line, out: &mut [u8])
     requires size { IsBitpix bitpix }
     requires one { bitpix ≢ pos 64 }

@@ -117,8 +117,8 @@ fn load_tiles<S: Source>(
     })
 }
 
-// The fault of a row that was refused; any other stop is the answer.
-fn refused_by(stop: Stop) -> Result<Fault, Stop>
+/// The fault of a row that was refused; any other stop is the answer.
+pub(crate) fn refused_by(stop: Stop) -> Result<Fault, Stop>
     ensures refused { IfOk result (λ fault. stop ≡ Refused fault) }
     ensures other { IfErr result (λ other. other ≡ stop) }
     ensures unrefused { ¬ (IsRefused result) }
@@ -177,7 +177,7 @@ fn load_next<S: Source>(
     )
 }
 
-// Reads the record of a tile into the slot, where it is to be decoded.
+// Reads the record of a tile into the slot in which it is to be decoded.
 fn load_slot<S: Source>(
     source: &mut S,
     table: &Table,

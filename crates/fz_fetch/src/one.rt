@@ -3,8 +3,8 @@ ghost use Rattle.std.specs.Prelude.{◌≡◌, ◌+◌, ◌*◌, ◌<◌, ◌≤
 ghost use Rattle.fz_base.specs.Ranges.{LogsIn};
 ghost use Rattle.fz_base.specs.Stop.{IfRefused, ReadsOnly};
 ghost use Rattle.fz_base.specs.Told.{StaysTold};
-ghost use Rattle.fz_table.specs.Reads.{tile_ranges};
-ghost use Rattle.fz_table.specs.Records.{IsOfRow, record_bytes};
+ghost use Rattle.fz_table.specs.Reads.{row_ranges, tile_ranges};
+ghost use Rattle.fz_table.specs.Records.{IsOfRow, StandsInHeap, record_bytes};
 ghost use Rattle.fz_grid.specs.Region.{IsDivided};
 ghost use Rattle.fz_tile.specs.Codecs.{CanRead};
 ghost use Rattle.fz_tile.specs.Pixels.{HoldTile, IsBitpix, pixel_count, place_count as place_count_of};
@@ -44,7 +44,7 @@ pub fn fetch_tile<S: Source>(
     requires within { StandsWithin (S.attached source.old) image.now.table }
     requires said { IfSome (S.held source.old) (λ g. IsSaid g header.now image.now) }
     requires tile { tile < tiles_in image.now.plan }
-    requires numbers { 2 * pixels_of image.now.plan 0 ≤ len numbers.old }
+    requires numbers { place_count_of (pixel_bits image.now.plan) (pixels_of image.now.plan 0) ≤ len numbers.old }
     requires code { 8 * pixels_of image.now.plan 0 + 64 ≤ len code.old }
     ensures fetched { OnOk result (IsFetched (S.held source.old) header.now image.now.plan tile numbers.new) }
     ensures row { IfRefused result (IsOfRow header.now.hdu tile) }
@@ -93,10 +93,36 @@ fn read_tile<S: Source>(
 {
     ranges_law();
     log_law();
+    let found = find_tile(source, hdu, image, tile)?;
+    read_record(source, &found, code)?;
+    Ok(found)
+}
+
+/// Finds the record of a tile.
+pub(crate) fn find_tile<S: Source>(
+    source: &mut S,
+    hdu: u32,
+    image: &PackedImage,
+    tile: u32,
+) -> Result<Record, Stop>
+    requires image { IsReadable image.now }
+    requires within { StandsWithin (S.attached source.old) image.now.table }
+    requires tile { tile < tiles_in image.now.plan }
+    ensures found { IfOk result (λ found. IfSome (S.held source.old) (λ g. IsRecordIn g hdu image.now tile found)) }
+    ensures within { IfOk result (StandsInHeap image.now.table (tile_of image.now.plan tile)) }
+    ensures most { IfOk result (λ found. found.read ≤ 8 * pixels_of image.now.plan 0 + 64) }
+    ensures row { IfRefused result (IsOfRow hdu tile) }
+    ensures refused { IfRefused result (λ x. IfSome (S.held source.old) (λ g. IsRefusedIn g hdu image.now tile x)) }
+    ensures read { LogsIn (row_ranges image.now.table tile) (S.ranges source.old) (S.ranges source.new) }
+    ensures told_ranges { StaysTold (S.ranges source.old) (S.ranges source.new) }
+    ensures held { S.held source.new ≡ S.held source.old }
+    ensures attached { S.attached source.new ≡ S.attached source.old }
+    ensures cause { ReadsOnly (S.tally source.old) (S.tally source.new) result }
+{
+    log_law();
     let says = row_of(source, &image.table, None, 0, tile)?;
     let known = known_tile(&image.plan, tile);
     let found = record_of(hdu, tile, &image.table, &says, &known).map_err(Stop::Refused)?;
-    read_record(source, &found, code)?;
     Ok(found)
 }
 
@@ -112,7 +138,7 @@ fn decode_record(
     requires codec { CanRead plan.now.codec plan.now.bitpix }
     requires tile { tile < tiles_in plan.now }
     requires read { len code.now ≡ read_len (pixels_of plan.now tile) found.now.total }
-    requires numbers { 2 * pixels_of plan.now 0 ≤ len numbers.old }
+    requires numbers { place_count_of (pixel_bits plan.now) (pixels_of plan.now 0) ≤ len numbers.old }
     ensures decodes { Decodes plan.now.codec (pixel_bits plan.now) (place_in_column found.now.column) found.now.total
         (pixels_of plan.now tile) code.now (take (place_count_of (pixel_bits plan.now) (pixels_of plan.now tile)) numbers.new) result }
     ensures len { len numbers.new ≡ len numbers.old }
@@ -130,7 +156,7 @@ fn places_of(plan: &Plan, tile: u32) -> usize
     ensures places { result ≡ place_count_of (pixel_bits plan.now) (pixels_of plan.now tile) }
     ensures whole { HoldTile (pixel_bits plan.now) result }
     ensures pixels { pixel_count (pixel_bits plan.now) result ≡ pixels_of plan.now tile }
-    ensures most { result ≤ 2 * pixels_of plan.now 0 }
+    ensures most { result ≤ place_count_of (pixel_bits plan.now) (pixels_of plan.now 0) }
 {
     place_count(plan.bitpix, u64::from(known_tile(plan, tile).pixels)) as usize
 }

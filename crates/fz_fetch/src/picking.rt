@@ -60,7 +60,7 @@ pub fn scatter_picks<K: Sink>(
     ensures cause { Writes (K.tally sink.old) (K.tally sink.new) result }
 {
     sizes_law();
-    // This call tells that there are no more than 128 slots.
+    // This call shows that there are no more than 128 slots.
     let _workers = window.workers();
     for i in 0..tiles.len() as u32 {
         scatter_next(sink, data_at, plan, sieve, tiles[i as usize], window, i)?;
@@ -179,7 +179,7 @@ fn write_part<K: Sink>(
     shape_law();
     plain_law();
     let grid = Grid::new(plan.shape, plan.tile);
-    // These calls tell that no tile has more than 2^26 pixels, and that the sieve is one of the image.
+    // These calls show that no tile has more than 2^26 pixels, and that the sieve is one of the image.
     let _largest = grid.largest();
     let _cutout = cutout_axes(&plan.shape, sieve);
     let places = place_count(plan.bitpix, grid.tile_box(tile).pixels()) as usize;

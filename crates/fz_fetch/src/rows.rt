@@ -87,7 +87,7 @@ fn row_at(table: &Table, row: u32) -> u64
     table.rows_at + u64::from(table.row_bytes) * u64::from(row)
 }
 
-/// What the row of a tile says: that with this index of the rows that were read together, or else it is read alone.
+/// What the row of a tile says: that with this index of the rows that were read together, or otherwise it is read by itself.
 pub(crate) fn row_of<S: Source>(
     source: &mut S,
     table: &Table,

@@ -4,6 +4,7 @@ ghost use Rattle.std.specs.List.{AllByRecursion};
 ghost use Rattle.fz_base.specs.FirstByte.{StaysShut};
 ghost use Rattle.fz_base.specs.Stop.{Writes};
 ghost use Rattle.fz_base.specs.Told.{StaysTold};
+ghost use Rattle.fz_job.specs.Held.{IsHeld, settled};
 ghost use Rattle.fz_grid.specs.Arrays.{product};
 ghost use Rattle.fz_grid.specs.Region.{IsShape, IsWithin, lengths_of, places_of, region_corner, region_lengths};
 ghost use Rattle.fz_parts.specs.Line.{IsLineWithin, lines_in_cutout};
@@ -13,10 +14,11 @@ ghost use Rattle.fz_fetch.specs.Pieces.{pieces_written};
 use fz_base::{Sink, Stop, output_law, write_behind};
 use fz_block::Axes;
 use fz_grid::{Region, runs};
+use fz_job::{Held, hold_piece};
 use fz_parts::Lines;
 
-/// Writes the bytes of the pixels of a region, axis 1 fastest, to their places in an image of this shape, whose data
-/// begin at this byte of the sink after byte 0: each run of neighbouring pixels at once.
+/// Has the bytes of the pixels of a region, axis 1 fastest, written to their places in an image of this shape, whose data
+/// begin at this byte of the sink after byte 0, now or later: each run of neighbouring pixels at once.
 pub(crate) fn write_region<K: Sink>(
     sink: &mut K,
     data_at: u64,
@@ -24,6 +26,8 @@ pub(crate) fn write_region<K: Sink>(
     shape: &Axes,
     region: &Region,
     bytes: &[u8],
+    held: &mut [u8],
+    back: &mut Held,
 ) -> Result<(), Stop>
     requires created { IsTrue (K.created sink.old) }
     requires behind { 0 < data_at }
@@ -31,9 +35,12 @@ pub(crate) fn write_region<K: Sink>(
     requires shape { IsShape shape.now }
     requires region { IsWithin shape.now region.now }
     requires bytes { len bytes.now ≡ pixel_len * product (region_lengths region.now) }
-    ensures written { OnOk result (K.contents sink.new
+    requires held { IsHeld back.old held.old }
+    ensures written { OnOk result (settled back.new held.new (K.contents sink.new)
         ≡ pieces_written pixel_len data_at (places_of (lengths_of shape.now) (region_corner region.now) (region_lengths region.now))
-        bytes.now (K.contents sink.old)) }
+        bytes.now (settled back.old held.old (K.contents sink.old))) }
+    ensures kept { OnOk result (IsHeld back.new held.new) }
+    ensures room { len held.new ≡ len held.old }
     ensures shut { StaysShut (K.contents sink.old) (K.contents sink.new) }
     ensures told { StaysTold (K.contents sink.old) (K.contents sink.new) }
     ensures created { K.created sink.new ≡ K.created sink.old }
@@ -44,14 +51,20 @@ pub(crate) fn write_region<K: Sink>(
     for (first, count) in runs(shape, region) {
         let len = u64::from(pixel_len) * count;
         let run = &bytes[done as usize..(done + len) as usize];
-        write_behind(sink, data_at + u64::from(pixel_len) * first, run)?;
+        hold_piece(
+            sink,
+            data_at + u64::from(pixel_len) * first,
+            run,
+            held,
+            back,
+        )?;
         done += len;
     }
     Ok(())
 }
 
 /// Writes the bytes of the picks of these lines to their places in what is cut out of an image, whose data begin at this
-/// byte of the sink after byte 0: lines that stand together there at once.
+/// byte of the sink after byte 0: lines that are together there at once.
 pub(crate) fn write_lines<K: Sink>(
     sink: &mut K,
     data_at: u64,

@@ -11,6 +11,7 @@ ghost use Rattle.fz_files.specs.Restored.{pixels_of};
 ghost use Rattle.fz_pool.specs.Calls.{AreSameFrom};
 ghost use Rattle.fz_pool.specs.Window.{HasSlotsFor, slot_size, slot_sizes};
 ghost use Rattle.fz_pool.specs.declared.slot.Slot.{Slot as SlotOf};
+ghost use Rattle.fz_job.specs.Held.{IsHeld, settled};
 ghost use Rattle.fz_fetch.specs.Fetched.{HasTile, HaveTiles, HoldsPixels};
 ghost use Rattle.fz_fetch.specs.Images.{HasSlotFor};
 ghost use Rattle.fz_fetch.specs.Scattered.{tile_written, tiles_written};
@@ -20,6 +21,7 @@ use crate::runs::write_region;
 use fz_base::{Sink, Stop};
 use fz_grid::{Grid, place_law, shape_law, tile_pixels_law};
 use fz_head::Plan;
+use fz_job::Held;
 use fz_pool::{Slot, Window, put_law, sizes_law};
 
 /// Writes the pixels of these tiles, which are in the first slots, to their places in the image, whose data begin at
@@ -50,16 +52,64 @@ pub fn scatter_tiles<K: Sink>(
     ensures created { K.created sink.new ≡ K.created sink.old }
     ensures cause { Writes (K.tally sink.old) (K.tally sink.new) result }
 {
+    let mut back = Held::none();
+    let no_room: &mut [u8] = &mut [];
+    scatter_held(sink, data_at, plan, tiles, window, no_room, &mut back)
+}
+
+/// Writes as `scatter_tiles` does, now or later: bytes are held back as long as they are neighbours and there is room for
+/// them.
+pub fn scatter_held<K: Sink>(
+    sink: &mut K,
+    data_at: u64,
+    plan: &Plan,
+    tiles: &[u32],
+    window: &mut Window,
+    held: &mut [u8],
+    back: &mut Held,
+) -> Result<(), Stop>
+    requires created { IsTrue (K.created sink.old) }
+    requires behind { 0 < data_at }
+    requires near { data_at + pixel_bits plan.now / 8 * product (lengths_of plan.now.shape) < 2 ^ 64 }
+    requires divided { IsDivided plan.now.shape plan.now.tile }
+    requires size { IsBitpix plan.now.bitpix }
+    requires few { len tiles.now ≤ 2 * window.old.workers }
+    requires window { HasSlotsFor (pixels_of plan.now 0) window.old }
+    requires tiles { (i : ℕ) → i < len tiles.now → slice_index tiles.now i < tiles_in plan.now }
+    requires pixels { (pixels : List (List ℤ)) × HaveTiles plan.now tiles.now window.old.slots pixels }
+    requires held { IsHeld back.old held.old }
+    ensures written { OnOk result ((pixels : List (List ℤ)) → HaveTiles plan.now tiles.now window.old.slots pixels
+        → settled back.new held.new (K.contents sink.new)
+        ≡ tiles_written plan.now data_at tiles.now pixels (settled back.old held.old (K.contents sink.old))) }
+    ensures kept { OnOk result (IsHeld back.new held.new) }
+    ensures room { len held.new ≡ len held.old }
+    ensures others { AreSameFrom (len tiles.now) window.old.slots window.new.slots }
+    ensures shut { StaysShut (K.contents sink.old) (K.contents sink.new) }
+    ensures told { StaysTold (K.contents sink.old) (K.contents sink.new) }
+    ensures sizes { slot_sizes window.new.slots ≡ slot_sizes window.old.slots }
+    ensures workers { window.new.workers ≡ window.old.workers }
+    ensures created { K.created sink.new ≡ K.created sink.old }
+    ensures cause { Writes (K.tally sink.old) (K.tally sink.new) result }
+{
     sizes_law();
-    // This call tells that there are no more than 128 slots.
+    // This call shows that there are no more than 128 slots.
     let _workers = window.workers();
     for i in 0..tiles.len() as u32 {
-        scatter_next(sink, data_at, plan, tiles[i as usize], window, i)?;
+        scatter_next(
+            sink,
+            data_at,
+            plan,
+            tiles[i as usize],
+            window,
+            i,
+            held,
+            back,
+        )?;
     }
     Ok(())
 }
 
-// Writes the pixels of a tile, which is in this slot of the window.
+// Has the pixels of a tile, which is in this slot of the window, written now or later.
 fn scatter_next<K: Sink>(
     sink: &mut K,
     data_at: u64,
@@ -67,6 +117,8 @@ fn scatter_next<K: Sink>(
     tile: u32,
     window: &mut Window,
     i: u32,
+    held: &mut [u8],
+    back: &mut Held,
 ) -> Result<(), Stop>
     requires created { IsTrue (K.created sink.old) }
     requires behind { 0 < data_at }
@@ -77,8 +129,12 @@ fn scatter_next<K: Sink>(
     requires window { HasSlotsFor (pixels_of plan.now 0) window.old }
     requires slot { i < 2 * window.old.workers }
     requires pixels { (xs : List ℤ) × ((d : SlotOf) → HasTile plan.now tile (slice_index_or window.old.slots i d) xs) }
+    requires held { IsHeld back.old held.old }
     ensures written { OnOk result ((xs : List ℤ) → ((d : SlotOf) → HasTile plan.now tile (slice_index_or window.old.slots i d) xs)
-        → K.contents sink.new ≡ tile_written plan.now data_at tile xs (K.contents sink.old)) }
+        → settled back.new held.new (K.contents sink.new)
+        ≡ tile_written plan.now data_at tile xs (settled back.old held.old (K.contents sink.old))) }
+    ensures kept { OnOk result (IsHeld back.new held.new) }
+    ensures room { len held.new ≡ len held.old }
     ensures others { (k : ℕ) (d : SlotOf) → k ≢ i → slice_index_or window.new.slots k d ≡ slice_index_or window.old.slots k d }
     ensures shut { StaysShut (K.contents sink.old) (K.contents sink.new) }
     ensures told { StaysTold (K.contents sink.old) (K.contents sink.new) }
@@ -89,16 +145,18 @@ fn scatter_next<K: Sink>(
 {
     sizes_law();
     put_law();
-    scatter_tile(sink, data_at, plan, tile, window.slot_mut(i))
+    scatter_tile(sink, data_at, plan, tile, window.slot_mut(i), held, back)
 }
 
-// Writes the pixels of a tile, which is in the slot.
+// Has the pixels of a tile, which is in the slot, written now or later.
 fn scatter_tile<K: Sink>(
     sink: &mut K,
     data_at: u64,
     plan: &Plan,
     tile: u32,
     slot: &mut Slot,
+    held: &mut [u8],
+    back: &mut Held,
 ) -> Result<(), Stop>
     requires created { IsTrue (K.created sink.old) }
     requires behind { 0 < data_at }
@@ -108,8 +166,12 @@ fn scatter_tile<K: Sink>(
     requires tile { tile < tiles_in plan.now }
     requires room { HasSlotFor (pixels_of plan.now 0) (slot_size slot.old) }
     requires pixels { (xs : List ℤ) × HasTile plan.now tile slot.old xs }
+    requires held { IsHeld back.old held.old }
     ensures written { OnOk result ((xs : List ℤ) → HasTile plan.now tile slot.old xs
-        → K.contents sink.new ≡ tile_written plan.now data_at tile xs (K.contents sink.old)) }
+        → settled back.new held.new (K.contents sink.new)
+        ≡ tile_written plan.now data_at tile xs (settled back.old held.old (K.contents sink.old))) }
+    ensures kept { OnOk result (IsHeld back.new held.new) }
+    ensures room { len held.new ≡ len held.old }
     ensures shut { StaysShut (K.contents sink.old) (K.contents sink.new) }
     ensures told { StaysTold (K.contents sink.old) (K.contents sink.new) }
     ensures size { slot_size slot.new ≡ slot_size slot.old }
@@ -119,11 +181,20 @@ fn scatter_tile<K: Sink>(
     tile_pixels_law();
     shape_law();
     let numbers = slot.numbers.as_slice();
-    write_tile(sink, data_at, plan, tile, numbers, slot.code.as_mut_slice())
+    write_tile(
+        sink,
+        data_at,
+        plan,
+        tile,
+        numbers,
+        slot.code.as_mut_slice(),
+        held,
+        back,
+    )
 }
 
-// Writes the pixels of a tile, which these numbers hold: their plain bytes to the front of the code, and then to their
-// places.
+// Has the pixels of a tile, which these numbers hold, written: their plain bytes to the front of the code, and then to
+// their places, now or later.
 fn write_tile<K: Sink>(
     sink: &mut K,
     data_at: u64,
@@ -131,6 +202,8 @@ fn write_tile<K: Sink>(
     tile: u32,
     numbers: &[i32],
     code: &mut [u8],
+    held: &mut [u8],
+    back: &mut Held,
 ) -> Result<(), Stop>
     requires created { IsTrue (K.created sink.old) }
     requires behind { 0 < data_at }
@@ -141,8 +214,12 @@ fn write_tile<K: Sink>(
     requires numbers { 2 * pixels_of plan.now tile ≤ len numbers.now }
     requires code { 8 * pixels_of plan.now tile ≤ len code.old }
     requires pixels { (xs : List ℤ) × HoldsPixels plan.now tile numbers.now xs }
+    requires held { IsHeld back.old held.old }
     ensures written { OnOk result ((xs : List ℤ) → HoldsPixels plan.now tile numbers.now xs
-        → K.contents sink.new ≡ tile_written plan.now data_at tile xs (K.contents sink.old)) }
+        → settled back.new held.new (K.contents sink.new)
+        ≡ tile_written plan.now data_at tile xs (settled back.old held.old (K.contents sink.old))) }
+    ensures kept { OnOk result (IsHeld back.new held.new) }
+    ensures room { len held.new ≡ len held.old }
     ensures len { len code.new ≡ len code.old }
     ensures shut { StaysShut (K.contents sink.old) (K.contents sink.new) }
     ensures told { StaysTold (K.contents sink.old) (K.contents sink.new) }
@@ -152,12 +229,12 @@ fn write_tile<K: Sink>(
     place_law();
     shape_law();
     let grid = Grid::new(plan.shape, plan.tile);
-    // This call tells that no tile has more than 2^26 pixels.
+    // This call shows that no tile has more than 2^26 pixels.
     let _largest = grid.largest();
     let region = grid.tile_box(tile);
     let pixels = region.pixels();
     put_tile(plan.bitpix, pixels as u32, numbers, code);
     let len = pixel_len(plan.bitpix);
     let bytes = &code[..len as usize * pixels as usize];
-    write_region(sink, data_at, len, &plan.shape, &region, bytes)
+    write_region(sink, data_at, len, &plan.shape, &region, bytes, held, back)
 }

@@ -44,8 +44,8 @@ pub(crate) fn known_tile(plan: &Plan, tile: u32) -> Tile
     }
 }
 
-// How many pixels a tile has.
-fn tile_pixels(plan: &Plan, tile: u32) -> u32
+/// How many pixels a tile has.
+pub(crate) fn tile_pixels(plan: &Plan, tile: u32) -> u32
     requires divided { IsDivided plan.now.shape plan.now.tile }
     requires tile { tile < tiles_in plan.now }
     ensures pixels { result ≡ pixels_of plan.now tile }
@@ -55,12 +55,12 @@ fn tile_pixels(plan: &Plan, tile: u32) -> u32
 {
     place_law();
     let grid = Grid::new(plan.shape, plan.tile);
-    // This call tells that no tile has more than 2^26 pixels.
+    // This call shows that no tile has more than 2^26 pixels.
     let _largest = grid.largest();
     grid.tile_box(tile).pixels() as u32
 }
 
-// Whether tiles are stored as plain bytes alone.
+// Whether tiles are stored only as plain bytes.
 fn is_plain(codec: Codec) -> bool
     ensures { result ≡ is_plain_codec codec }
 {

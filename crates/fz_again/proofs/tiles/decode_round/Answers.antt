@@ -1,10 +1,10 @@
 -- The rows of a round are those of neighbouring tiles.
-use Rattle.std.proofs.Common.{◌≡◌, ℕ, arith}
+use Rattle.std.proofs.Common.{◌≡◌, ℕ, List, OnOk, subst, arith}
 use Rattle.std.specs.List.{range_with_len}
 use Rattle.std.proofs.lemmas.List.{length-replicate, length-take}
 use Rattle.std.proofs.lemmas.Result.{on_ok_weaker}
-use Rattle.fz_again.proofs.RoundReads.{round_read}
-use Rattle.fz_again.proofs.RoundReads.{refused_weaker}
+use Rattle.fz_fetch.specs.Fetched.{AreFetched}
+use Rattle.fz_again.proofs.RoundReads.{refused_weaker, round_read}
 use Rattle.fz_again.proofs.Rounds.{numbered, round_fault, round_sound, tiles_of_image}
 use Rattle.fz_again.proofs.tiles.decode_round.Goals as goal
 
@@ -30,6 +30,12 @@ returns-clause-fault g c =
 
 pub returns-clause-row : goal.returns-clause-row
 returns-clause-row g c = refused_weaker c.fetch_tiles.result (λ x among. (_, among.2.1)) c.fetch_tiles.ensures.row
+
+pub returns-clause-fetched : goal.returns-clause-fetched
+returns-clause-fetched g c =
+    let are : c.number_tiles.new.tiles ≡ range_with_len c.args.first c.args.count =
+    numbered c.args.first c.args.count _ c.number_tiles.new.tiles c.number_tiles.ensures (omega (arith, c.requires.few, length-take {A = ℕ}, length-replicate {A = ℕ})) in
+    subst (λ (ts : List ℕ). OnOk c.fetch_tiles.result (AreFetched (g.S.Source.held c.args.source.now) c.args.header.now c.args.image.now.plan ts c.fetch_tiles.new.window.slots)) are c.fetch_tiles.ensures.fetched
 
 pub returns-clause-read : goal.returns-clause-read
 returns-clause-read g c =

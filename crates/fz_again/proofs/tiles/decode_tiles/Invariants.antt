@@ -5,6 +5,7 @@ use Rattle.fz_base.specs.Ranges.{LogsIn}
 use Rattle.fz_base.specs.Told.{StaysTold}
 use Rattle.fz_files.specs.FirstFault.{IsFirstRowFault, image_row}
 use Rattle.fz_files.specs.Touched.{image_ranges}
+use Rattle.fz_fetch.specs.Ahead.{IsAhead}
 use Rattle.fz_job.specs.Keeps.{WindowStays}
 use Rattle.fz_again.proofs.tiles.decode_tiles.Given as goal
 
@@ -17,6 +18,7 @@ invariant-loop-first g l = record {
   read : IfSome (g.S.Source.held l.fn.source) (λ file. LogsIn (image_ranges file l.header) (g.S.Source.ranges l.fn.source) (g.S.Source.ranges l.source));
   window : WindowStays l.fn.window l.window;
   rows : length l.rows ≡ length l.fn.rows;
+  ahead : IsAhead (g.S.Source.held l.fn.source) l.image.table l.rows l.ahead;
   within : l.first ≤ l.tiles;
   sound : IfSome (g.S.Source.held l.fn.source) (λ file. IsFirstRowFault file (map (image_row l.header) (range_with_len 0 l.first)) None);
 }

@@ -6,7 +6,7 @@ use Rattle.fz_files.specs.Packed.{pixel_bits}
 use Rattle.fz_files.specs.Restored.{pixels_of}
 use Rattle.fz_fetch.proofs.OneTile.{tile_held}
 use Rattle.fz_fetch.proofs.PartWrites.{back_of}
-use Rattle.fz_fetch.proofs.PixelBytes.{count_pixels}
+use Rattle.fz_fetch.proofs.PixelBytes.{count_most, count_pixels}
 use Rattle.fz_fetch.proofs.one.places_of.Goals as goal
 
 pub returns-clause-places : goal.returns-clause-places
@@ -41,5 +41,10 @@ returns-clause-pixels c =
 pub returns-clause-most : goal.returns-clause-most
 returns-clause-most c =
     let p = c.args.plan.now in
-    let pixels : c.known_tile.result.pixels ≡ pixels_of p c.args.tile = ap (λ (k : Tile). k.pixels) c.known_tile.ensures.known in
-    omega (arith, pixels, c.from.ensures, c.place_count.ensures.most, c.known_tile.ensures.no_larger)
+    let n : ℕ = pixels_of p c.args.tile in
+    let back : to_z w32 (of_z w32 p.bitpix) ≡ p.bitpix = back_of p.bitpix c.requires.size in
+    let pixels : c.known_tile.result.pixels ≡ n = ap (λ (k : Tile). k.pixels) c.known_tile.ensures.known in
+    let places : c.place_count.result ≡ place_count (pixel_bits p) n =
+    c.place_count.ensures.count ∙ ap (λ (y : ℤ). place_count (unsigned_abs y) c.from.result) back ∙ ap (place_count (pixel_bits p)) (c.from.ensures ∙ pixels) in
+    let most : place_count (pixel_bits p) n ≤ place_count (pixel_bits p) (pixels_of p 0) = count_most (pixel_bits p) n (pixels_of p 0) c.known_tile.ensures.no_larger in
+    omega (arith, places, most)

@@ -2,6 +2,7 @@
 use Rattle.std.proofs.Common.{◌≡◌, ◌+◌, ◌*◌, drop, length}
 use Rattle.fz_base.specs.FirstByte.{StaysShut}
 use Rattle.fz_base.specs.Told.{StaysTold}
+use Rattle.fz_job.specs.Held.{IsHeld, settled}
 use Rattle.fz_grid.specs.Arrays.{product}
 use Rattle.fz_grid.specs.Region.{lengths_of, places_of, region_corner, region_lengths}
 use Rattle.fz_grid.specs.Runs.{EndWithin, total_length}
@@ -18,6 +19,8 @@ invariant-loop-first g l = record {
   told : StaysTold (g.K.Sink.contents l.fn.sink) (g.K.Sink.contents l.sink);
   inside : EndWithin (product (lengths_of l.shape)) (runs_left l.first-iterator);
   left : l.done + l.pixel_len * total_length (runs_left l.first-iterator) ≡ length l.bytes;
-  rest : pieces_written l.pixel_len l.data_at (run_places (runs_left l.first-iterator)) (drop l.done l.bytes) (g.K.Sink.contents l.sink)
-      ≡ pieces_written l.pixel_len l.data_at (places_of (lengths_of l.shape) (region_corner l.region) (region_lengths l.region)) l.bytes (g.K.Sink.contents l.fn.sink);
+  kept : IsHeld l.back l.held;
+  room : length l.held ≡ length l.fn.held;
+  rest : pieces_written l.pixel_len l.data_at (run_places (runs_left l.first-iterator)) (drop l.done l.bytes) (settled l.back l.held (g.K.Sink.contents l.sink))
+      ≡ pieces_written l.pixel_len l.data_at (places_of (lengths_of l.shape) (region_corner l.region) (region_lengths l.region)) l.bytes (settled l.fn.back l.fn.held (g.K.Sink.contents l.fn.sink));
 }
