@@ -76,7 +76,9 @@ greatest_patch_bound = buffer_bound 737280 (2 ^ 26) 1
 -- Why a patch ended as it did: after Ok and after Refused no count rose; ReadFault comes only if a count of read faults rose, of either file,
 -- and WriteFault only if that of write faults rose. OverLimit is the first of the takings that passes the limit, and comes if one does. The
 -- first taking, of one block, comes before anything is read: if the limit is below that, the answer is OverLimit.
-pub record HasPatchCause {X : Type 0} (job : PatchJob) (held given : Option (List ℕ)) (store store' patch patch' : Tally) (limit : ℕ) (result : Result X Stop) : Type 0 where
+pub record HasPatchCause
+    {X : Type 0} (job : PatchJob) (held given : Option (List ℕ)) (store store' patch patch' : Tally) (limit : ℕ)
+    (result : Result X Stop) : Type 0 where
   pub done : OnOk result (SameCounts store store' × (patch' ≡ patch))
   pub refused : IsRefused result → SameCounts store store' × (patch' ≡ patch)
   pub read_fault : IsErrOf result ReadFault → Rose store.faults store'.faults ⊎ Rose patch.faults patch'.faults

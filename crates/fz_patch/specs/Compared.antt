@@ -23,7 +23,9 @@ CodesLie p m file at [] = ⊤
 CodesLie p m file at ((row, e) ∷ more) = (has_bytes file at e.bytes ≡ true) × (is_measured p m e ≡ true) × CodesLie p m file (at + length e.bytes) more
 
 -- Some rows were written, and each describes a code that is in the heap of the file, from this offset on: whatever these codes are.
-pub record DescribesCodes (t : Table) (p : Plan) (m : Measure) (offset : ℕ) (file : List ℕ) (held held' : Option (List ℕ)) (writes writes' : Option (List Amend)) : Type 0 where
+pub record DescribesCodes
+    (t : Table) (p : Plan) (m : Measure) (offset : ℕ) (file : List ℕ) (held held' : Option (List ℕ))
+    (writes writes' : Option (List Amend)) : Type 0 where
   pub rows : List (ℕ × TileCode)
   pub lie : CodesLie p m file (t.heap_at + offset) rows
   pub wrote : WroteSome (row_writes t p offset rows) held held' writes writes'

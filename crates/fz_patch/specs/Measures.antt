@@ -1,5 +1,6 @@
 -- What is known of the new codes before any is written: how long they are, and the greatest counts (FITS 4.0, section 7.3.5).
-use Rattle.std.specs.Prelude.{ℕ, ◌≡◌, ◌+◌, ◌-◌, ◌^◌, ◌<◌, ◌≤◌, ◌&&◌, ◌||◌, max, Bool, true, List, length, map, Option, Some, None, nat_le, nat_lt, if◌then◌else◌}
+use Rattle.std.specs.Prelude.{ℕ, ◌≡◌, ◌+◌, ◌-◌, ◌^◌, ◌<◌, ◌≤◌, ◌&&◌, ◌||◌, max, Bool, true, List}
+use Rattle.std.specs.Prelude.{length, map, Option, Some, None, nat_le, nat_lt, if◌then◌else◌}
 use Rattle.std.specs.List.{range_with_len}
 use Rattle.fz_files.specs.Packed.{coded_count, heap_of, stored_count}
 use Rattle.fz_head.specs.Greatest.{greatest}

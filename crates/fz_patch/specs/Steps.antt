@@ -33,7 +33,7 @@ pub record WroteSome (ws : List Amend) (held held' : Option (List ℕ)) (writes 
 abbrev pub KeepsReach : Option ℕ → Option ℕ → Type 0
 KeepsReach attached attached' = (n : ℕ) → HasAtLeast attached n → HasAtLeast attached' n
 
--- the faults of a file that gave other bytes than before, told while the tiles are worked on
+-- the faults of a file that gave other bytes than before, reported while the tiles are worked on
 abbrev pub ComesInWork : ℕ → Fault → Type 0
 ComesInWork hdu x = IsOfSomeRow x ⊎ (x ≡ refusal hdu (Card 0) BadCard)
 

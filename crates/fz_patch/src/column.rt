@@ -1,4 +1,4 @@
-//! The greatest counts that the columns say after the patch, where they do not say enough.
+//! The greatest counts that the columns say after the patch, if they do not say enough.
 ghost use Rattle.std.specs.Prelude.{◌≡◌, ◌+◌, ◌-◌, ◌*◌, ◌^◌, ◌<◌, ◌≤◌, length as len, Some, None, IfOk, IfSome, if◌then◌else◌};
 ghost use Rattle.fz_base.specs.Stop.{OnlyReads};
 ghost use Rattle.fz_block.specs.Facts.{IsHeaderOf};

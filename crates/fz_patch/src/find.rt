@@ -83,7 +83,7 @@ pub(crate) fn find_target<S: Source>(
         return Err(Stop::Refused(fault));
     }
     let sieve = sieve_of(shape, &region);
-    // This call tells that the sieve is one of the image.
+    // This call shows that the sieve is one of the image.
     let _box = cutout_axes(shape, &sieve);
     Ok(Target {
         header: *header,

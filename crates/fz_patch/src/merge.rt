@@ -49,7 +49,7 @@ pub(crate) fn put_given<S: Source>(
     shape_law();
     tile_pixels_law();
     let grid = target.grid();
-    // This call tells that no tile has more than 2^26 pixels.
+    // This call shows that no tile has more than 2^26 pixels.
     let _largest = grid.largest();
     for line in tile_lines(&grid, &target.sieve, tile) {
         put_line(patch, target, &line, numbers, copy)?;

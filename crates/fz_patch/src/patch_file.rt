@@ -181,7 +181,8 @@ fn read_again<D: Source>(
     requires attached { D.attached store.old ≡ Some length }
     requires block { len block.old ≡ 2880 }
     ensures again { IfOk result (λ r. IsReadAgain (D.held store.old) length found.now r) }
-    ensures same { IfSome (D.held store.old) (λ g. hdu_at found.now.hdu found.now.start g ≡ Ok found.now → (¬ IsRefused result) × IfOk result (λ r. r.facts ≡ found.now)) }
+    ensures same { IfSome (D.held store.old) (λ g. hdu_at found.now.hdu found.now.start g ≡ Ok found.now
+        → (¬ IsRefused result) × IfOk result (λ r. r.facts ≡ found.now)) }
     ensures taken { IfOk result (λ r. (meter.old.live + len r.bytes ≤ meter.old.limit) × (meter.new ≡ taken meter.old (len r.bytes))) }
     ensures given { OnErr result ((meter.new.live ≡ meter.old.live) × (meter.new.limit ≡ meter.old.limit) × (meter.old.peak ≤ meter.new.peak)) }
     ensures first_past { IfSome (D.held store.old)
@@ -309,7 +310,8 @@ fn work<R: Threads + Sync, D: Store, S: Source>(
         (piled meter.old.live (work_buffers 0 false (Some (pixels_of target.now.image.plan 0)) 1)) result }
     ensures peak { meter.new.peak ≤ max meter.old.peak
         (meter.old.live + sum (work_buffers 0 false (Some (pixels_of target.now.image.plan 0)) 1)) }
-    ensures late { IfRefused result (λ x. ((D.held store.new ≡ D.held store.old) × (D.tally store.new ≡ D.tally store.old)) ⊎ ComesInWork target.now.header.hdu x) }
+    ensures late { IfRefused result (λ x. ((D.held store.new ≡ D.held store.old) × (D.tally store.new ≡ D.tally store.old))
+        ⊎ ComesInWork target.now.header.hdu x) }
     ensures buf { len buf.new ≡ len buf.old }
     ensures live { meter.new.live ≡ meter.old.live }
     ensures limit { meter.new.limit ≡ meter.old.limit }

@@ -57,7 +57,8 @@ pub(crate) fn write_patch<R: Threads + Sync, D: Store, S: Source>(
         (λ job file by. TellsPatchFault job (Some file) (Some by) result) }
     ensures unwritten { IsRefused result → ForJobs (D.held store.old) (S.held patch.old) target.now
         (λ job file by. (D.held store.new ≡ D.held store.old) × (D.tally store.new ≡ D.tally store.old)) }
-    ensures late { IfRefused result (λ x. ((D.held store.new ≡ D.held store.old) × (D.tally store.new ≡ D.tally store.old)) ⊎ ComesInWork target.now.header.hdu x) }
+    ensures late { IfRefused result (λ x. ((D.held store.new ≡ D.held store.old) × (D.tally store.new ≡ D.tally store.old))
+        ⊎ ComesInWork target.now.header.hdu x) }
     ensures buf { len buf.new ≡ len buf.old }
     ensures window { WindowStays window.old window.new }
     ensures copy { len copy.new ≡ len copy.old }

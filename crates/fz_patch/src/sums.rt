@@ -52,7 +52,7 @@ pub(crate) fn write_sums<D: Store>(
     settle(store)
 }
 
-// Whether neither card is told.
+// Whether neither card is given.
 fn are_none(datasum: Option<u32>, checksum: Option<u32>) -> bool
     ensures { result ≡ (is_none datasum && is_none checksum) }
 {
@@ -102,7 +102,7 @@ fn sum_of<D: Source>(store: &mut D, start: u64, end: u64, copy: &mut [u8]) -> Re
     Ok(sum)
 }
 
-// Writes DATASUM, if it is told.
+// Writes DATASUM, if it is given.
 fn write_datasum<D: Store>(
     store: &mut D,
     header: &Header,
@@ -128,7 +128,7 @@ fn write_datasum<D: Store>(
     }
 }
 
-// Writes CHECKSUM, if it is told: the sum of the header, in which it is blank, is added to that of the data.
+// Writes CHECKSUM, if it is given: the sum of the header, in which it is blank, is added to that of the data.
 fn write_checksum<D: Store>(
     store: &mut D,
     header: &Header,
@@ -141,9 +141,11 @@ fn write_checksum<D: Store>(
     requires header { len buf.old ≡ 2880 * header.now.blocks }
     requires card { IfSome found (IsCardIn buf.old) }
     requires few { sum.count < 2 ^ 62 }
-    ensures wrote { OnOk result ((payload : List ℕ) → sum ≡ after nothing 0 payload → Wrote (checksum_write header.now found payload buf.old) (D.held store.old) (D.held store.new)
+    ensures wrote { OnOk result ((payload : List ℕ) → sum ≡ after nothing 0 payload
+        → Wrote (checksum_write header.now found payload buf.old) (D.held store.old) (D.held store.new)
         (D.tally store.old).amended.writes (D.tally store.new).amended.writes) }
-    ensures some { (payload : List ℕ) → sum ≡ after nothing 0 payload → WroteSome (checksum_write header.now found payload buf.old) (D.held store.old) (D.held store.new)
+    ensures some { (payload : List ℕ) → sum ≡ after nothing 0 payload
+        → WroteSome (checksum_write header.now found payload buf.old) (D.held store.old) (D.held store.new)
         (D.tally store.old).amended.writes (D.tally store.new).amended.writes }
     ensures len { len buf.new ≡ len buf.old }
     ensures reach { KeepsReach (D.attached store.old) (D.attached store.new) }

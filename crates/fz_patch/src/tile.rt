@@ -25,7 +25,7 @@ use fz_pool::{Crew, Job, Slot, Window, encode_window, put_law, sizes_law};
 use fz_tile::{Place2, one_fault_law, one_record_law};
 use std::thread::Threads;
 
-/// Leaves the code of the new pixels of a tile in slot 0 of the window, where the store gives the old ones.
+/// Leaves the code of the new pixels of a tile in slot 0 of the window, if the store gives the old ones.
 ///
 /// Refused: the row of the tile, as `fetch_tiles` refuses it; never if the row stands for numbers.
 pub(crate) fn prepare_tile<R: Threads + Sync, D: Source, S: Source>(
@@ -164,7 +164,7 @@ fn tile_pixels(target: &Target, tile: u32) -> u32
 {
     place_law();
     let grid = target.grid();
-    // This call tells that no tile has more than 2^26 pixels.
+    // This call shows that no tile has more than 2^26 pixels.
     let _largest = grid.largest();
     grid.tile_box(tile).pixels() as u32
 }

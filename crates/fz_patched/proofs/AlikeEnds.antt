@@ -7,7 +7,7 @@ use Rattle.fz_block.specs.Header.{data_start_of, next_start_of, whole_blocks_of}
 use Rattle.fz_block.specs.Walk.{hdu_of, is_stop, stops}
 use Rattle.fz_block.specs.declared.header.Header.{Header}
 use Rattle.fz_files.specs.Walks.{last_of}
-use Rattle.fz_patched.proofs.AlikeFiles.{HduLaws}
+use Rattle.fz_patched.specs.Taken.{HduLaws}
 use Rattle.fz_patched.proofs.AlikeWalks.{Ended, Stopped, Went, last_later, no_walk, same_here, same_last, starts_before, step}
 use Rattle.fz_patched.proofs.Walked.{ends_with, goes_on}
 

@@ -12,27 +12,8 @@ use Rattle.fz_block.specs.Hdus.{IsHeader, data_len_of}
 use Rattle.fz_block.specs.Header.{data_start_of, next_start_of, whole_blocks_of}
 use Rattle.fz_block.specs.Walk.{StandsAt, begins_hdu, hdu_of}
 use Rattle.fz_block.specs.declared.header.Header.{Header}
+use Rattle.fz_patched.specs.Taken.{HduLaws}
 use Rattle.fz_patched.proofs.Passes.{PassesAll, all_pass, is_so, pass_both}
-
--- what is taken of the laws of HDUs
-abbrev pub FoundFacts : Type 0
-FoundFacts = (k start : ℕ) (file : List ℕ) (h : Header) → hdu_at k start file ≡ Ok h → (h.hdu ≡ k) × (h.start ≡ start) × IsHeaderOf (hdu_of file h).header h
-
-abbrev pub FoundBlocks : Type 0
-FoundBlocks = (k start : ℕ) (file : List ℕ) (h : Header) → hdu_at k start file ≡ Ok h → header_blocks_of k start file ≡ Ok h.blocks
-
-abbrev pub FoundHeader : Type 0
-FoundHeader = (k start : ℕ) (file header : List ℕ) → StandsAt k start file header → hdu_at k start file ≡ header_of k start (length file) header
-
-abbrev pub ChecksStay : Type 0
-ChecksStay = (k start len : ℕ) (header : List ℕ) (h : Header) (start' len' : ℕ) → header_of k start len header ≡ Ok h → hdu_end k start' header ≤ len' → hdu_end k start' header ≤ 2 ^ 62 →
-    header_of k start' len' header ≡ Ok (begun_at start' h)
-
-pub record HduLaws : Type 0 where
-  pub facts : FoundFacts
-  pub blocks : FoundBlocks
-  pub header : FoundHeader
-  pub checks : ChecksStay
 
 -- ---- where an HDU stands
 

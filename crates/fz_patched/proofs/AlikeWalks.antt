@@ -6,7 +6,8 @@ use Rattle.fz_block.specs.Header.{data_start_of, next_start_of, whole_blocks_of}
 use Rattle.fz_block.specs.Walk.{hdu_of, is_stop, stops}
 use Rattle.fz_block.specs.declared.header.Header.{Header}
 use Rattle.fz_files.specs.Walks.{last_of}
-use Rattle.fz_patched.proofs.AlikeFiles.{HduLaws, header_length, some_blocks}
+use Rattle.fz_patched.specs.Taken.{HduLaws}
+use Rattle.fz_patched.proofs.AlikeFiles.{header_length, some_blocks}
 use Rattle.fz_patched.proofs.Walked.{goes_on, stops_at}
 
 -- ---- one step of a walk

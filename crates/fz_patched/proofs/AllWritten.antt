@@ -16,13 +16,13 @@ use Rattle.fz_patched.specs.Given.{Given, PatchJob, given_by}
 use Rattle.fz_patched.specs.Laws.{AllWritesTile, AreInOrder, ArePatching, new_code}
 use Rattle.fz_patched.specs.NewNumbers.{box_tiles, new_numbers}
 use Rattle.fz_patched.specs.Patched.{HasNewTiles}
+use Rattle.fz_patched.specs.Taken.{SafeLaws}
 use Rattle.fz_patched.specs.Writes.{Steps, all_writes, before_rows, before_sums, header_now, heap_end, new_codes, row_writes, steps_of, table_plan}
 use Rattle.fz_patched.proofs.Between.{IsCardWrite, IsRowWrite, LiesIn, row_bytes}
 use Rattle.fz_patched.proofs.PatchedAgain.{late_end}
 use Rattle.fz_patched.proofs.Patching.{IsPatching, patching_is}
 use Rattle.fz_patched.proofs.Prefixes.{LatePrefix, late_prefix, order_rest, order_take_first}
 use Rattle.fz_patched.proofs.RowWrites.{AreInBox, AreInPlace, row_low, some_row}
-use Rattle.fz_patched.proofs.SafeAfter.{SafeLaws}
 use Rattle.fz_patched.proofs.SafeRows.{kept_row, new_row_stands}
 use Rattle.fz_patched.proofs.Slices.{long_written, rest_after, slice_before, slice_here}
 use Rattle.fz_patched.proofs.StepWrites.{all_is, applied_both, box_is, in_order, new_rows, with_codes}

@@ -13,14 +13,11 @@ use Rattle.fz_sum.specs.Cards.{checksum_name, datasum_name}
 use Rattle.fz_table.specs.Columns.{column_called, column_of, columns_len, first_named, form_of, integer_at, is_called, text_at, tform_card, title_of, width_of}
 use Rattle.fz_table.specs.Forms.{form_in}
 use Rattle.fz_patched.specs.Headers.{IsAmended, IsAmendedCard, IsChanged}
+use Rattle.fz_patched.specs.Taken.{FirstCards}
 use Rattle.fz_patched.proofs.Alike.{AreAlike, IsAlike, naming, position_alike, range_alike}
 use Rattle.fz_patched.proofs.CardPlaces.{before_end, end_same, first_has}
 use Rattle.fz_patched.proofs.Loose.{IsFree, is_loose}
 use Rattle.fz_patched.proofs.Passes.{is_named_so}
-
--- what is taken of the law of cards
-abbrev pub FirstCards : Type 0
-FirstCards = (has : List ℕ → Bool) (header : List ℕ) → first_card has header ≡ position has (cards_of header)
 
 -- ---- the names of the cards that are changed
 

@@ -15,7 +15,8 @@ use Rattle.fz_block.specs.Hdus.{IsHeader, axes_of, gcount_index, naxis_of, pcoun
 use Rattle.fz_block.specs.Mandatory.{axis_checks, count_checks, is_bitpix, is_size, mandatory_checks, must}
 use Rattle.fz_sum.specs.Cards.{checksum_name, datasum_name}
 use Rattle.fz_patched.specs.Headers.{IsAmended, IsAmendedCard, IsChanged}
-use Rattle.fz_patched.proofs.AmendedCards.{FirstCards, ends_same, kept_card, name_at}
+use Rattle.fz_patched.specs.Taken.{FirstCards}
+use Rattle.fz_patched.proofs.AmendedCards.{ends_same, kept_card, name_at}
 use Rattle.fz_patched.proofs.CardPlaces.{card_in_front, end_same}
 use Rattle.fz_patched.proofs.Loose.{is_loose}
 use Rattle.fz_patched.proofs.Passes.{PassesAll, all_pass, and_both, and_left, and_right, each_passes, flat_map_range, is_named_so, is_so, map_range, pass_both}

@@ -24,8 +24,9 @@ use Rattle.fz_head.specs.TableChecks.{compressed_table, repeated_table_names}
 use Rattle.fz_patched.specs.Checks.{find_checks}
 use Rattle.fz_patched.specs.Headers.{IsAmended, SaysTheSame}
 use Rattle.fz_patched.specs.Laws.{AmendedHeadersSayTheSame}
+use Rattle.fz_patched.specs.Taken.{FirstCards}
 use Rattle.fz_patched.proofs.Alike.{AreAlike, any_alike, ignoring, position_alike}
-use Rattle.fz_patched.proofs.AmendedCards.{FirstCards, cards_alike, columns_same, ends_same, forms_same, integer_same, lens_same, named_same, titles_same}
+use Rattle.fz_patched.proofs.AmendedCards.{cards_alike, columns_same, ends_same, forms_same, integer_same, lens_same, named_same, titles_same}
 use Rattle.fz_patched.proofs.AmendedFacts.{axis_total, facts_same, header_same, pcount_grows, second_axis}
 use Rattle.fz_patched.proofs.Loose.{by_set, is_loose}
 use Rattle.fz_patched.proofs.Passes.{PassesAll, all_pass, and_both, and_left, and_right, both_pass, is_so, joined_pass}

@@ -14,24 +14,9 @@ use Rattle.fz_files.specs.Restored.{header_in}
 use Rattle.fz_patched.specs.Amends.{amended, applied}
 use Rattle.fz_patched.specs.Headers.{IsAmended, IsAmendedCard}
 use Rattle.fz_patched.specs.Laws.{AreInOrder}
+use Rattle.fz_patched.specs.Taken.{CardPlaceLaws}
 use Rattle.fz_patched.proofs.CardInFile.{slice_written}
 use Rattle.fz_patched.proofs.Slices.{long_written, rest_after, slice_before, slice_here}
-
--- what is taken of the law of cards in place
-abbrev pub CardIsThere : Type 0
-CardIsThere = (i : ℕ) (card bytes : List ℕ) → length card ≡ 80 → 80 * (i + 1) ≤ length bytes → take 80 (drop (80 * i) (with_card i card bytes)) ≡ card
-
-abbrev pub OthersAreThere : Type 0
-OthersAreThere =
-    (i j : ℕ) (card bytes : List ℕ) → length card ≡ 80 → 80 * (i + 1) ≤ length bytes → i ≢ j → take 80 (drop (80 * j) (with_card i card bytes)) ≡ take 80 (drop (80 * j) bytes)
-
-abbrev pub CardsAreLong : Type 0
-CardsAreLong = (i : ℕ) (card bytes : List ℕ) → length card ≡ 80 → 80 * (i + 1) ≤ length bytes → length (with_card i card bytes) ≡ length bytes
-
-pub record CardPlaceLaws : Type 0 where
-  pub there : CardIsThere
-  pub others : OthersAreThere
-  pub long : CardsAreLong
 
 -- Where the table with this header lies in a file: the heap directly after the rows, and both within the file.
 pub record LiesIn (file : List ℕ) (h : Header) (t : Table) : Type 0 where

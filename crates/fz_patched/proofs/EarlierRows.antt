@@ -29,8 +29,8 @@ use Rattle.fz_head.specs.declared.plan.Plan.{Plan}
 use Rattle.fz_files.specs.Laws.{RowsLieWithin}
 use Rattle.fz_files.specs.Packed.{pixel_bits, tiles_in}
 use Rattle.fz_files.specs.Restored.{HduStandsFor, IsImageOf as StandsForImage, RecordMeans, RowStandsFor, RowsStandFor, StandsForAs, header_in, image_bytes, image_table, is_image, pixels_of, place_in, plan_in, tile_of}
-use Rattle.fz_patched.proofs.AlikeFiles.{HduLaws, found_in, header_length}
-use Rattle.fz_patched.proofs.OnePatch.{ChecksFindImage}
+use Rattle.fz_patched.specs.Taken.{ChecksFindImage, HduLaws}
+use Rattle.fz_patched.proofs.AlikeFiles.{found_in, header_length}
 use Rattle.fz_patched.proofs.Passes.{both_pass}
 use Rattle.fz_patched.proofs.RowSlices.{descriptor_same, part_same}
 

@@ -9,9 +9,10 @@ use Rattle.fz_head.specs.JobChecks.{missing_hdu}
 use Rattle.fz_files.specs.Walks.{last_of}
 use Rattle.fz_patched.specs.Checks.{find_judge, if_all_pass, if_patchable, last_or, patch_target, wanted_among, wanted_image}
 use Rattle.fz_patched.specs.Given.{PatchJob}
-use Rattle.fz_patched.proofs.AlikeFiles.{HduLaws, header_length, some_blocks}
+use Rattle.fz_patched.specs.Taken.{HduLaws}
+use Rattle.fz_patched.proofs.AlikeFiles.{header_length, some_blocks}
 use Rattle.fz_patched.proofs.AlikeWalks.{Ended, Stopped, Went, either, last_later, no_walk, same_here, same_last, starts_before, step}
-use Rattle.fz_patched.proofs.OnePatch.{WalkFinds, target_wanted}
+use Rattle.fz_patched.proofs.OnePatch.{target_wanted}
 use Rattle.fz_patched.proofs.TargetFacts.{HasTarget}
 
 -- ---- the wanted image

@@ -31,10 +31,10 @@ use Rattle.fz_patched.specs.Form.{has_form, has_wide, is_wide_table}
 use Rattle.fz_patched.specs.Grown.{IsCardFor, IsFormFor, IsFoundHeader, SaysMore, form_index, longer}
 use Rattle.fz_patched.specs.Headers.{IsAmended, IsAmendedCard, IsChanged, SaysTheSame}
 use Rattle.fz_patched.specs.Laws.{AmendedHeadersSayTheSame}
+use Rattle.fz_patched.specs.Taken.{CardPlaceLaws}
 use Rattle.fz_patched.specs.Writes.{told_sum}
 use Rattle.fz_patched.proofs.Again.{not_first, packed_is_table}
 use Rattle.fz_patched.proofs.AmendedFacts.{HasMandatory, has_mandatory}
-use Rattle.fz_patched.proofs.Between.{CardPlaceLaws}
 use Rattle.fz_patched.proofs.CardWrites.{HasFormCard, form_card_there, form_differs, pcount_named, pcount_said, pcount_within, sum_differs, told_card}
 use Rattle.fz_patched.proofs.DataLen.{table_data, two_axes}
 use Rattle.fz_patched.proofs.FormColumns.{HasForm, IsLetter, coded_byte, first_form, form_parts, form_some, second_form, stored_byte}

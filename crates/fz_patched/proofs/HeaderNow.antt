@@ -23,9 +23,10 @@ use Rattle.fz_patched.specs.Checks.{find_checks}
 use Rattle.fz_patched.specs.Given.{Given}
 use Rattle.fz_patched.specs.Headers.{SaysTheSame}
 use Rattle.fz_patched.specs.Laws.{AmendedHeadersSayTheSame}
+use Rattle.fz_patched.specs.Taken.{HduLaws}
 use Rattle.fz_patched.specs.Writes.{header_now}
 use Rattle.fz_patched.proofs.Again.{facts_are, header_again, says, table_again}
-use Rattle.fz_patched.proofs.AlikeFiles.{HduLaws, checked, header_length, number}
+use Rattle.fz_patched.proofs.AlikeFiles.{checked, header_length, number}
 use Rattle.fz_patched.proofs.AmendedFacts.{HasMandatory, has_mandatory}
 use Rattle.fz_patched.proofs.CardWrites.{pcount_said}
 use Rattle.fz_patched.proofs.DataLen.{table_data, two_axes}

@@ -16,9 +16,10 @@ use Rattle.fz_tile.specs.Record.{IsRecord}
 use Rattle.fz_files.specs.Packed.{pixel_bits}
 use Rattle.fz_files.specs.Restored.{RecordMeans, RowStandsFor, image_table, pixels_of, place_in, plan_in, tile_of}
 use Rattle.fz_patched.specs.Laws.{AmendedHeadersSayTheSame, IsKeptRow, KeptRowsStand}
+use Rattle.fz_patched.specs.Taken.{TakenLaws}
 use Rattle.fz_patched.specs.Writes.{header_now}
 use Rattle.fz_patched.proofs.Again.{heap_grows, heap_now, plan_again, table_again}
-use Rattle.fz_patched.proofs.OnePatch.{IsFoundImage, TakenLaws, target_found}
+use Rattle.fz_patched.proofs.OnePatch.{IsFoundImage, target_found}
 
 -- ---- a longer heap refuses no row that a shorter one let pass
 

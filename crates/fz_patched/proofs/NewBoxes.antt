@@ -15,7 +15,8 @@ use Rattle.fz_parts.specs.Laws.{PartsAreOfTilesWithAPick}
 use Rattle.fz_patched.specs.Given.{Given, box_sieve, last_along, nine_numbers}
 use Rattle.fz_patched.specs.Laws.{OthersKeepNumbers}
 use Rattle.fz_patched.specs.NewNumbers.{from_corner, is_in_box, new_at, new_number}
-use Rattle.fz_patched.proofs.NewTiles.{Below, PlaceLaws, below_by_axes, pixel_inside, tile_order}
+use Rattle.fz_patched.specs.Taken.{PlaceLaws}
+use Rattle.fz_patched.proofs.NewTiles.{Below, below_by_axes, pixel_inside, tile_order}
 use Rattle.fz_patched.proofs.Passes.{and_left, and_right, same_or_more}
 
 -- ---- the sieve

@@ -26,14 +26,8 @@ use Rattle.fz_patched.specs.Form.{has_pixel_codes}
 use Rattle.fz_patched.specs.Given.{Given}
 use Rattle.fz_patched.specs.Laws.{IsGivenFor}
 use Rattle.fz_patched.specs.NewNumbers.{from_corner, is_in_box, new_at, new_number, new_numbers}
+use Rattle.fz_patched.specs.Taken.{PlaceLaws, TileCodesHold, TileLaws}
 use Rattle.fz_patched.proofs.NewBoxes.{coordinates_count}
-use Rattle.fz_patched.proofs.NewTiles.{PlaceLaws}
-
--- what is written for a tile is a record that stands for it
-abbrev pub TileCodesHold : Type 0
-TileCodesHold =
-    (codec : Codec) (bitpix : ℕ) (xs : List ℤ) → CanWrite codec (pos bitpix) → 1 ≤ length xs → length xs ≤ 2 ^ 26 → All (IsNumber bitpix) xs →
-    IsRecord codec bitpix (tile_code codec bitpix xs).place (length (tile_code codec bitpix xs).bytes) (tile_code codec bitpix xs).bytes xs
 
 -- ---- one tile
 
@@ -134,16 +128,6 @@ new_length g (c ∷ cs) (x ∷ xs) same = ap suc (new_length g cs xs (omega arit
 pub new_count : PlaceLaws → (p : Plan) (g : Given) (t : ℕ) (xs : List ℤ) → length xs ≡ pixels_of p t → length (new_numbers p g t xs) ≡ length xs
 new_count places p g t xs count =
     new_length g (tile_coordinates (lengths_of p.shape) (lengths_of p.tile) t) xs (coordinates_count places (lengths_of p.shape) (lengths_of p.tile) t ∙ sym count)
-
--- what is taken of the laws of tiles
-pub record TileLaws : Type 0 where
-  pub hold : TileCodesHold
-  pub fills : FillsColumn
-  pub lens : HasPlainLen
-  pub places : PlaceLaws
-  pub tiles : DividedArraysHaveTiles
-  pub some : TilesHaveAPixel
-  pub most : TilesHaveAtMostTheirLengths
 
 pub new_code_is : TileLaws → (p : Plan) (g : Given) (t : ℕ) (xs : List ℤ) → IsDivided p.shape p.tile → CanWrite p.codec (pos (pixel_bits p)) → IsGivenFor p g → t < tiles_in p →
     length xs ≡ pixels_of p t → All (IsNumber (pixel_bits p)) xs → IsCodeOf p (new_numbers p g t xs) (tile_code p.codec (pixel_bits p) (new_numbers p g t xs))

@@ -15,8 +15,9 @@ use Rattle.fz_head.specs.declared.plan.Plan.{Plan}
 use Rattle.fz_patched.specs.Given.{Given, box_sieve, last_along}
 use Rattle.fz_patched.specs.Laws.{IsGivenFor, NewNumbersAreGiven}
 use Rattle.fz_patched.specs.NewNumbers.{from_corner, is_in_box, new_numbers, replaced}
+use Rattle.fz_patched.specs.Taken.{PlaceLaws}
 use Rattle.fz_patched.proofs.NewBoxes.{his, in_box_at, last_at, los, steps}
-use Rattle.fz_patched.proofs.NewTiles.{Below, PlaceLaws, at_replaced, below_by_axes, tiles_are_replaced}
+use Rattle.fz_patched.proofs.NewTiles.{Below, at_replaced, below_by_axes, tiles_are_replaced}
 use Rattle.fz_patched.proofs.Passes.{and_both, map_range}
 
 -- ---- the lengths of a cutout of the box are those of the given image

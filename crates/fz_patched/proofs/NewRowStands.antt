@@ -17,13 +17,14 @@ use Rattle.fz_patched.specs.Form.{has_form, is_wide_table}
 use Rattle.fz_patched.specs.Given.{Given, PatchJob, given_by}
 use Rattle.fz_patched.specs.Laws.{AmendedHeadersSayTheSame, IsGivenFor, IsNewRow, NewRowsStand, TargetsAreGiven, new_code}
 use Rattle.fz_patched.specs.NewNumbers.{new_numbers}
+use Rattle.fz_patched.specs.Taken.{TakenLaws, TileLaws}
 use Rattle.fz_patched.specs.Writes.{header_now, table_plan}
 use Rattle.fz_patched.proofs.Again.{facts_are, heap_now, plan_again, table_again}
 use Rattle.fz_patched.proofs.FormColumns.{HasForm, coded_is, form_parts, gzip_is, stored_is}
-use Rattle.fz_patched.proofs.NewCodes.{IsCodeOf, TileLaws, new_code_is, new_count, writable}
+use Rattle.fz_patched.proofs.NewCodes.{IsCodeOf, new_code_is, new_count, writable}
 use Rattle.fz_patched.proofs.NewRows.{DescriptorsAreRead, FitWithin, IsRowOfCode, formed, row_stands}
 use Rattle.fz_patched.proofs.NewTarget.{target_passed}
-use Rattle.fz_patched.proofs.OnePatch.{IsFoundImage, TakenLaws, target_found, target_readable}
+use Rattle.fz_patched.proofs.OnePatch.{IsFoundImage, target_found, target_readable}
 use Rattle.fz_patched.proofs.Passes.{PassesAll, all_pass, both_pass, is_so}
 use Rattle.fz_patched.proofs.Walked.{RowIsOf, stands_by}
 

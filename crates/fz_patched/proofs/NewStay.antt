@@ -11,8 +11,9 @@ use Rattle.fz_head.specs.declared.plan.Plan.{Plan}
 use Rattle.fz_patched.specs.Given.{Given, box_sieve, last_along}
 use Rattle.fz_patched.specs.Laws.{IsGivenFor, NewNumbersStay}
 use Rattle.fz_patched.specs.NewNumbers.{from_corner, is_in_box, new_number}
+use Rattle.fz_patched.specs.Taken.{PlaceLaws}
 use Rattle.fz_patched.proofs.NewBoxes.{coordinates_count, corner_length, his, los, nth_coordinates, steps, tile_lengths_length}
-use Rattle.fz_patched.proofs.NewTiles.{Below, PlaceLaws, axes_by_below, below_by_axes, boxes_count, nth_box, nth_new}
+use Rattle.fz_patched.proofs.NewTiles.{Below, axes_by_below, below_by_axes, boxes_count, nth_box, nth_new}
 use Rattle.fz_patched.proofs.Passes.{and_left, and_right}
 
 -- ---- along one axis: of a tile from c on, n long, pixel d lies between o and h

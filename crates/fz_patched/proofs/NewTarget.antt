@@ -36,6 +36,7 @@ use Rattle.fz_files.specs.Restored.{header_in, plan_in}
 use Rattle.fz_patched.specs.Checks.{if_all_pass, if_patchable, inside_checks, may_be_given, patch_target, target_checks, wanted_image}
 use Rattle.fz_patched.specs.Given.{Given, PatchJob, array_if, array_in, box_region, box_sieve, given_by, given_header, last_along, nine_numbers}
 use Rattle.fz_patched.specs.Laws.{IsGivenFor, TargetsAreGiven}
+use Rattle.fz_patched.specs.Taken.{FoundFacts}
 use Rattle.fz_patched.proofs.NewBoxes.{his, last_at, last_length, los, one_at, ones_length, steps}
 use Rattle.fz_patched.proofs.Passes.{PassesAll, all_pass, and_left, and_right, each_passes, is_so}
 
@@ -126,10 +127,6 @@ primary_bits header e =
     bits_said (integer_of (card_at header 1))
     (and_right (is_named (codes "BITPIX") (card_at header 1)) (is_bitpix (integer_of (card_at header 1)))
     (is_so (is_named (codes "BITPIX") (card_at header 1) && is_bitpix (integer_of (card_at header 1))) all.0))
-
--- what is taken of the law of headers
-abbrev pub FoundFacts : Type 0
-FoundFacts = (k start : ℕ) (file : List ℕ) (h : Header) → hdu_at k start file ≡ Ok h → (h.hdu ≡ k) × (h.start ≡ start) × IsHeaderOf (hdu_of file h).header h
 
 header_bits : (header : List ℕ) (q : Header) → q.hdu ≡ 0 → IsHeaderOf header q → IsBitpix (pos (unsigned_abs q.bitpix))
 header_bits header q zero_is is =

@@ -10,14 +10,8 @@ use Rattle.fz_grid.specs.Region.{lengths_of}
 use Rattle.fz_patched.specs.Given.{Given}
 use Rattle.fz_patched.specs.Laws.{TilesAreReplaced}
 use Rattle.fz_patched.specs.NewNumbers.{new_at, new_number, replaced}
+use Rattle.fz_patched.specs.Taken.{PlaceLaws}
 use Rattle.fz_patched.proofs.Passes.{map_range}
-
--- what is taken of the law of places
-pub record PlaceLaws : Type 0 where
-  pub inside : PlacesAreInside
-  pub coordinates : PlacesHaveCoordinates
-  pub numbers : NumbersHavePlaces
-  pub order : BoxesAreInOrder
 
 -- coordinates below lengths, axis by axis
 abbrev pub Below : List ℕ → List ℕ → Type 0

@@ -30,41 +30,9 @@ use Rattle.fz_patched.specs.FirstPatchFault.{ArePatchSteps, IsBoxFault, IsFaultB
 use Rattle.fz_patched.specs.Given.{Given, PatchJob, given_by}
 use Rattle.fz_patched.specs.Laws.{HasOnePatch, HasOnePatchFault, HasWritesOrFault}
 use Rattle.fz_patched.specs.NewNumbers.{box_tiles}
+use Rattle.fz_patched.specs.Taken.{TakenLaws}
 use Rattle.fz_patched.specs.Writes.{Steps, steps_of}
 use Rattle.fz_patched.proofs.Passes.{both_pass}
-
--- ---- what is taken of the laws
-
--- a walk finds its headers where they begin
-abbrev pub WalkFinds : Type 0
-WalkFinds = (judge : Judge) (most : ℕ) (file : List ℕ) (hs : List Header) → walk_of judge most file ≡ Ok hs → All (λ h. hdu_at h.hdu h.start file ≡ Ok h) hs
-
--- and stops at no HDU but the last
-abbrev pub WalkStops : Type 0
-WalkStops = (judge : Judge) (most : ℕ) (file : List ℕ) (hs : List Header) (h : Header) → walk_of judge most file ≡ Ok (hs ++ h ∷ []) → stops judge hs ≡ false
-
-abbrev pub FoundAre : Type 0
-FoundAre = (k start : ℕ) (file : List ℕ) (h : Header) → hdu_at k start file ≡ Ok h → (h.hdu ≡ k) × (h.start ≡ start) × IsHeaderOf (hdu_of file h).header h
-
--- a header of which the checks refuse nothing says an image
-abbrev pub ChecksFindImage : Type 0
-ChecksFindImage =
-    (h : Header) (header : List ℕ) (after_empty : Bool) → IsHeaderOf header h → first_refusal (image_checks h header after_empty) ≡ None → IsImageOf header h (image_in h header)
-
--- a record stands for at most one list of so many pixels
-abbrev pub StandsForOneList : Type 0
-StandsForOneList =
-    (codec : Codec) (bitpix total : ℕ) (place : Place2) (read : List ℕ) (xs ys : List ℤ) → CanRead codec (pos bitpix) → length ys ≡ length xs →
-    IsRecord codec bitpix place total read xs → IsRecord codec bitpix place total read ys → ys ≡ xs
-
-pub record TakenLaws : Type 0 where
-  pub walk : WalkFinds
-  pub last : WalkStops
-  pub facts : FoundAre
-  pub image : ChecksFindImage
-  pub one : StandsForOneList
-  pub unrefused : StandsUnrefused
-  pub once : IsRefusedOnce
 
 -- ---- the image that is found can be read
 

@@ -21,6 +21,7 @@ use Rattle.fz_patched.specs.Buffers.{given_len, given_len_after, given_len_by, g
 use Rattle.fz_patched.specs.Checks.{find_judge, if_all_pass, if_patchable, last_or, own_checks, patch_target, target_checks, wanted_among, wanted_image}
 use Rattle.fz_patched.specs.Given.{PatchJob}
 use Rattle.fz_patched.specs.Laws.{PatchIsBounded}
+use Rattle.fz_patched.specs.Taken.{FoundBlocks}
 
 one_within : (b live asked : ℕ) (ts : List (ℕ × ℕ)) → live + asked ≤ b → first_past b ts ≡ None → first_past b ((live, asked) ∷ ts) ≡ None
 one_within b live asked ts room rest = let test : nat_lt b (live + asked) ≡ false = grind (arith, nat_tests) in rw test rest
@@ -85,10 +86,6 @@ walk_within judge b H (suc more) k start file most room =
         first_past b (for_those_after file judge (λ h. walk_takings judge 2880 more (suc k) (next_start_of h) file) r) ≡ None
     by_hdu later (Err x) most = refl
     by_hdu later (Ok h) most = by_judge later h (judge h) most
-
--- what is taken of the law of headers
-abbrev pub FoundBlocks : Type 0
-FoundBlocks = (k start : ℕ) (file : List ℕ) (h : Header) → hdu_at k start file ≡ Ok h → header_blocks_of k start file ≡ Ok h.blocks
 
 -- no header is longer
 abbrev AreShort : ℕ → List Header → Type 0

@@ -36,6 +36,7 @@ use Rattle.fz_patched.specs.Headers.{SaysTheSame}
 use Rattle.fz_patched.specs.Laws.{ArePatching, PatchesAgain, PatchesAgainCutBack}
 use Rattle.fz_patched.specs.NewNumbers.{box_tiles, new_numbers}
 use Rattle.fz_patched.specs.Safe.{HasOldOrNew}
+use Rattle.fz_patched.specs.Taken.{CutLaws, RowLaws, SafeLaws}
 use Rattle.fz_patched.specs.Writes.{Steps, all_writes, header_now}
 use Rattle.fz_patched.proofs.Again.{plan_again}
 use Rattle.fz_patched.proofs.AlikeEnds.{EndAlike, EndsAlike, end_alike}
@@ -48,9 +49,8 @@ use Rattle.fz_patched.proofs.Passes.{PassesAll, all_pass, both_pass, each_passes
 use Rattle.fz_patched.proofs.Patching.{IsPatching, patching_is}
 use Rattle.fz_patched.proofs.Prefixes.{IsPrefix, LatePrefix, cut_long, cut_prefix, cut_stays, early_is, late_prefix}
 use Rattle.fz_patched.proofs.RowWrites.{AreInBox}
-use Rattle.fz_patched.proofs.SafeAfter.{SafeLaws}
-use Rattle.fz_patched.proofs.SafeCuts.{CutLaws, alike, all, earlier, each_is, empty_same, facts_same, find_alike, find_passes, find_stops, header_now_is, header_same, passed, same, some, there, walks}
-use Rattle.fz_patched.proofs.SafeRows.{RowLaws, old_or_new}
+use Rattle.fz_patched.proofs.SafeCuts.{alike, all, earlier, each_is, empty_same, facts_same, find_alike, find_passes, find_stops, header_now_is, header_same, passed, same, some, there, walks}
+use Rattle.fz_patched.proofs.SafeRows.{old_or_new}
 use Rattle.fz_patched.proofs.StepWrites.{HasRoom, box_is}
 use Rattle.fz_patched.proofs.TargetFacts.{HasTarget, data_is, lies}
 

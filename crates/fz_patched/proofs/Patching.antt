@@ -6,15 +6,11 @@ use Rattle.fz_files.specs.Restored.{plan_in}
 use Rattle.fz_patched.specs.Given.{Given, PatchJob, given_by}
 use Rattle.fz_patched.specs.Laws.{AreInOrder, ArePatching, IsGivenFor, TargetsAreGiven, WritesAreInOrder}
 use Rattle.fz_patched.specs.NewNumbers.{box_tiles}
+use Rattle.fz_patched.specs.Taken.{PatchLaws}
 use Rattle.fz_patched.specs.Writes.{Steps, all_writes, new_codes}
-use Rattle.fz_patched.proofs.OnePatch.{TakenLaws, target_readable}
-use Rattle.fz_patched.proofs.StepWrites.{AreWrites, WriteLaws, are_writes, in_order}
+use Rattle.fz_patched.proofs.OnePatch.{target_readable}
+use Rattle.fz_patched.proofs.StepWrites.{AreWrites, are_writes, in_order}
 use Rattle.fz_patched.proofs.TargetFacts.{HasTarget, target_facts}
-
-pub record PatchLaws : Type 0 where
-  pub taken : TakenLaws
-  pub writes : WriteLaws
-  pub given : TargetsAreGiven
 
 -- What is known of a patch.
 pub record IsPatching (file patch : List ℕ) (job : PatchJob) (h : Header) (s : Steps) : Type 0 where

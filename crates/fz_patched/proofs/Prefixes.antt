@@ -24,8 +24,9 @@ use Rattle.fz_patched.specs.Amends.{amend_of, amended, applied}
 use Rattle.fz_patched.specs.Given.{Given}
 use Rattle.fz_patched.specs.Headers.{IsAmended}
 use Rattle.fz_patched.specs.Laws.{AreInOrder}
+use Rattle.fz_patched.specs.Taken.{CardPlaceLaws}
 use Rattle.fz_patched.specs.Writes.{Steps, all_writes, card_write, code_writes, grown_end, heap_end, heap_writes, zero_writes}
-use Rattle.fz_patched.proofs.Between.{AreFine, CardPlaceLaws, IsBetween, row_bytes, steps, unchanged}
+use Rattle.fz_patched.proofs.Between.{AreFine, IsBetween, row_bytes, steps, unchanged}
 use Rattle.fz_patched.proofs.CardPlaces.{card_in_front}
 use Rattle.fz_patched.proofs.CardWrites.{AreApart, pcount_said, pcount_within}
 use Rattle.fz_patched.proofs.CodesWritten.{EndWithin}

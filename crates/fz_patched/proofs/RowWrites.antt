@@ -18,11 +18,12 @@ use Rattle.fz_patched.specs.Form.{is_wide_table}
 use Rattle.fz_patched.specs.Given.{Given}
 use Rattle.fz_patched.specs.Laws.{IsGivenFor, new_code}
 use Rattle.fz_patched.specs.NewNumbers.{box_tiles}
+use Rattle.fz_patched.specs.Taken.{TileLaws}
 use Rattle.fz_patched.specs.Writes.{code_writes, heap_end, new_codes, row_writes, table_plan, zero_writes}
 use Rattle.fz_patched.proofs.Between.{AreFine, IsCardWrite, IsFine, IsRowWrite, LiesIn}
 use Rattle.fz_patched.proofs.CodesWritten.{CodesAre, EndWithin, HaveBytes, heap_length}
-use Rattle.fz_patched.proofs.NewCodes.{IsCodeOf, TileLaws, new_code_is, writable}
-use Rattle.fz_patched.proofs.OnePatch.{TakenLaws, target_readable}
+use Rattle.fz_patched.proofs.NewCodes.{IsCodeOf, new_code_is, writable}
+use Rattle.fz_patched.proofs.OnePatch.{target_readable}
 use Rattle.fz_patched.proofs.TargetFacts.{HasTarget, lies, row_bytes_is, rows_are}
 
 -- ---- writes in place: of cards and of rows

@@ -12,20 +12,17 @@ use Rattle.fz_patched.specs.Amends.{IsOutside, amended, applied}
 use Rattle.fz_patched.specs.Given.{Given, PatchJob, given_by}
 use Rattle.fz_patched.specs.Laws.{AreInOrder, ArePatching, EachPrefixIsSafe}
 use Rattle.fz_patched.specs.Safe.{IsSafeAfter}
+use Rattle.fz_patched.specs.Taken.{BytesOutsideStay, SafeLaws}
 use Rattle.fz_patched.specs.Writes.{Steps, all_writes, before_rows, heap_end, heap_writes}
 use Rattle.fz_patched.proofs.Between.{IsCardWrite, IsRowWrite, LiesIn, row_bytes}
-use Rattle.fz_patched.proofs.Patching.{IsPatching, PatchLaws, patching_is}
+use Rattle.fz_patched.proofs.Patching.{IsPatching, patching_is}
 use Rattle.fz_patched.proofs.Prefixes.{AreAfter, IsPrefix, front_of, heap_after, order_take, prefix}
 use Rattle.fz_patched.proofs.RowWrites.{AreInPlace, NoRow, row_low}
-use Rattle.fz_patched.proofs.SafeCuts.{CutLaws, cuts_find_it, cuts_still_pass}
-use Rattle.fz_patched.proofs.SafeRows.{RowLaws, kept_row, old_or_new}
+use Rattle.fz_patched.proofs.SafeCuts.{cuts_find_it, cuts_still_pass}
+use Rattle.fz_patched.proofs.SafeRows.{kept_row, old_or_new}
 use Rattle.fz_patched.proofs.Slices.{long_written, rest_after, slice_before}
 use Rattle.fz_patched.proofs.StepWrites.{in_order}
 use Rattle.fz_patched.proofs.TargetFacts.{lies, rows_are}
-
--- what is taken of the law of places of bytes
-abbrev pub BytesOutsideStay : Type 0
-BytesOutsideStay = (at : ℕ) (bytes contents : List ℕ) (i : ℕ) → (i < at) ⊎ (at + length bytes ≤ i) → get_or (overwrite at bytes contents) i 0 ≡ get_or contents i 0
 
 others_stay : BytesOutsideStay → (i n : ℕ) (ws : List Amend) (file : List ℕ) → All (IsOutside i) ws → slice_index (applied (take n ws) file) i ≡ slice_index file i
 others_stay law i zero ws file all = refl
@@ -80,12 +77,6 @@ row_stays file h t row is low (w ∷ ws) x order all =
     by_side (inr before) = ap (take t.row_bytes) (rest_after w.at w.bytes x (row_start t row) order.1 order.0 (omega arith))
 
 -- ---- every prefix
-
-pub record SafeLaws : Type 0 where
-  pub patch : PatchLaws
-  pub rows : RowLaws
-  pub cuts : CutLaws
-  pub outside : BytesOutsideStay
 
 module _ (laws : SafeLaws) (file patch : List ℕ) (job : PatchJob) (h : Header) (s : Steps) (n : ℕ) (p : ArePatching file patch job h s) where
   abbrev g : Given

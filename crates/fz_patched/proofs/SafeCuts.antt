@@ -33,9 +33,10 @@ use Rattle.fz_patched.specs.Given.{Given, PatchJob, given_by}
 use Rattle.fz_patched.specs.Headers.{SaysTheSame}
 use Rattle.fz_patched.specs.Laws.{AmendedHeadersSayTheSame}
 use Rattle.fz_patched.specs.Safe.{CutsFindIt, CutsStillPass}
+use Rattle.fz_patched.specs.Taken.{CutLaws}
 use Rattle.fz_patched.specs.Writes.{header_now}
 use Rattle.fz_patched.proofs.Again.{facts_are, header_again, says}
-use Rattle.fz_patched.proofs.AlikeFiles.{HduLaws, found_in, header_length, some_blocks}
+use Rattle.fz_patched.proofs.AlikeFiles.{found_in, header_length, some_blocks}
 use Rattle.fz_patched.proofs.AlikeWalks.{AreAlikeUpTo, WalksAlike, stops_too, walk_alike}
 use Rattle.fz_patched.proofs.FoundWalks.{HasAll, all_headers, first_ends, stops_last, wanted_walk}
 use Rattle.fz_patched.proofs.HeaderNow.{checks_now, found_now}
@@ -142,11 +143,6 @@ false_passes false found e = refl
 both_say : (wanted : Bool) (found : Option Fault) → wanted ≡ true → found ≡ None → (if wanted then unless_refused true found else Ok false) ≡ Ok true
 both_say true found e none = ap (unless_refused true) none
 both_say false found e none = absurd cc
-
--- what is taken of the laws
-pub record CutLaws : Type 0 where
-  pub hdus : HduLaws
-  pub amended : AmendedHeadersSayTheSame
 
 module _ (laws : CutLaws) (file patch x : List ℕ) (job : PatchJob) (h : Header) (es : List TileCode) (has : HasTarget file h) (target : patch_target file patch job ≡ Ok h) (is : IsPrefix file h (given_by patch job) es x) where
   abbrev pub g : Given

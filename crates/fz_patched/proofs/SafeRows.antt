@@ -16,26 +16,18 @@ use Rattle.fz_patched.specs.Given.{Given, PatchJob, given_by}
 use Rattle.fz_patched.specs.Laws.{AmendedHeadersSayTheSame, IsKeptRow, IsNewRow, KeptRowsStand, NewRowsStand, new_code}
 use Rattle.fz_patched.specs.NewNumbers.{box_tiles, new_numbers}
 use Rattle.fz_patched.specs.Safe.{HasOldOrNew}
+use Rattle.fz_patched.specs.Taken.{RowLaws}
 use Rattle.fz_patched.specs.Writes.{heap_end, header_now, table_plan}
-use Rattle.fz_patched.proofs.AlikeFiles.{HduLaws}
 use Rattle.fz_patched.proofs.Between.{row_bytes}
 use Rattle.fz_patched.proofs.FormColumns.{coded_is, gzip_is, stored_is}
 use Rattle.fz_patched.proofs.HeaderNow.{heap_is}
 use Rattle.fz_patched.proofs.NewRows.{formed}
-use Rattle.fz_patched.proofs.OnePatch.{TakenLaws, one_row, target_readable}
+use Rattle.fz_patched.proofs.OnePatch.{one_row, target_readable}
 use Rattle.fz_patched.proofs.Prefixes.{IsPrefix}
 use Rattle.fz_patched.proofs.RowSlices.{Lies, record_lies, record_same, row_same}
 use Rattle.fz_patched.proofs.RowWrites.{IsNewBytes}
 use Rattle.fz_patched.proofs.StepWrites.{HasRoom, new_rows, with_codes}
 use Rattle.fz_patched.proofs.TargetFacts.{HasTarget, heap_end_is, heap_len_is, row_bytes_is, rows_are}
-
--- what is taken of the laws of rows
-pub record RowLaws : Type 0 where
-  pub taken : TakenLaws
-  pub hdus : HduLaws
-  pub amended : AmendedHeadersSayTheSame
-  pub kept : KeptRowsStand
-  pub fresh : NewRowsStand
 
 module _ (laws : RowLaws) (file patch x : List ℕ) (job : PatchJob) (h : Header) (es : List TileCode) (has : HasTarget file h) (room : HasRoom file h (length (heap_of es)))
     (bytes : AreBytes patch) (target : patch_target file patch job ≡ Ok h) (is : IsPrefix file h (given_by patch job) es x) where

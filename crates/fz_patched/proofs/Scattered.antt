@@ -24,14 +24,14 @@ use Rattle.fz_patched.specs.Amends.{IsOutside, amended, applied}
 use Rattle.fz_patched.specs.Given.{Given, PatchJob, given_by}
 use Rattle.fz_patched.specs.Laws.{AnyOfAStepIsSafe, AreInOrder, ArePatching}
 use Rattle.fz_patched.specs.Safe.{IsSafeAmid, IsStep, IsStepBeforeRows, picked}
+use Rattle.fz_patched.specs.Taken.{BytesOutsideStay, CardPlaceLaws, SafeLaws}
 use Rattle.fz_patched.specs.Writes.{Steps, all_writes, before_rows, before_sums, card_write, grown_end, heap_end, heap_writes}
-use Rattle.fz_patched.proofs.Between.{AreFine, CardPlaceLaws, IsBetween, row_bytes, steps, unchanged}
+use Rattle.fz_patched.proofs.Between.{AreFine, IsBetween, row_bytes, steps, unchanged}
 use Rattle.fz_patched.proofs.CardWrites.{AreApart, apart_both, pcount_said, pcount_within}
 use Rattle.fz_patched.proofs.EarlierRows.{all_left, all_right}
 use Rattle.fz_patched.proofs.Patching.{IsPatching, patching_is}
 use Rattle.fz_patched.proofs.Prefixes.{AreAfter, IsPrefix, card_stays, card_there, front_prefix, heap_after, no_shorter, rest_stays, slice_cut}
 use Rattle.fz_patched.proofs.RowWrites.{AreInPlace, NoRow, any_place, fine_both, in_place_both, in_place_fine, in_place_within, row_low, some_row}
-use Rattle.fz_patched.proofs.SafeAfter.{BytesOutsideStay, SafeLaws}
 use Rattle.fz_patched.proofs.SafeCuts.{cuts_find_it, cuts_still_pass}
 use Rattle.fz_patched.proofs.SafeRows.{kept_row, old_or_new}
 use Rattle.fz_patched.proofs.Slices.{long_written, slice_here}

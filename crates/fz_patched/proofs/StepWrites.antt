@@ -38,16 +38,16 @@ use Rattle.fz_patched.specs.Given.{Given}
 use Rattle.fz_patched.specs.Headers.{IsAmended}
 use Rattle.fz_patched.specs.Laws.{AreInOrder, IsGivenFor}
 use Rattle.fz_patched.specs.NewNumbers.{box_tiles}
+use Rattle.fz_patched.specs.Taken.{WriteLaws}
 use Rattle.fz_patched.specs.Writes.{Steps, all_writes, before_rows, before_sums, card_write, checksum_write, checksum_writes, code_writes, column_writes, data_now, datasum_write, datasum_writes, form_writes, grown_end, heap_end, heap_writes, new_codes, pcount_writes, row_writes, said_most, steps_of, sum_writes, table_plan, table_steps, told_sum, zero_writes}
-use Rattle.fz_patched.proofs.AmendedCards.{FirstCards, name_at}
-use Rattle.fz_patched.proofs.Between.{AreFine, CardPlaceLaws, IsBetween, IsCardWrite, steps, unchanged}
+use Rattle.fz_patched.proofs.AmendedCards.{name_at}
+use Rattle.fz_patched.proofs.Between.{AreFine, IsBetween, IsCardWrite, steps, unchanged}
 use Rattle.fz_patched.proofs.CardWrites.{AreApart, HasFormCard, apart_both, card_apart, form_card, form_card_there, form_differs, pcount_card, pcount_named, pcount_within, sum_card, sum_differs, told_card}
 use Rattle.fz_patched.proofs.CodesWritten.{CodesAre, EndWithin, HaveBytes, InOrderFrom, before_zeros, codes_long, codes_ordered, codes_there, codes_stay, within_both, within_ordered, zeros_long, zeros_ordered}
 use Rattle.fz_patched.proofs.Counts.{AreBelow, both_below, coded_below, coded_rows_below, greatest_below, stored_below, stored_rows_below}
 use Rattle.fz_patched.proofs.FormColumns.{IsLetter, coded_byte, first_form, form_some, second_form, stored_byte}
 use Rattle.fz_patched.proofs.FormTexts.{form_is_text}
 use Rattle.fz_patched.proofs.NewBoxes.{kept}
-use Rattle.fz_patched.proofs.NewCodes.{TileLaws}
 use Rattle.fz_patched.proofs.Passes.{all_pass}
 use Rattle.fz_patched.proofs.RowWrites.{AreInBox, AreInPlace, IsNewBytes, NoRow, any_place, codes_fine, fine_both, have_bytes, in_place_both, in_place_fine, in_place_within, rows_in_place, some_row, zeros_fine}
 use Rattle.fz_patched.proofs.TargetFacts.{HasTarget, heap_end_is, heap_len_is, lies, whole_at_least, whole_rises}
@@ -107,16 +107,6 @@ has_room file h more e =
     }
 
 -- ---- the writes
-
--- what is taken of the laws
-pub record WriteLaws : Type 0 where
-  pub tiles : TileLaws
-  pub cards : CardLaws
-  pub first : FirstCards
-  pub places : CardPlaceLaws
-  pub datasum : (sum : ℕ) → sum < 2 ^ 32 → IsSumCard (datasum_card sum)
-  pub checksum : (sum : ℕ) → IsSumCard (checksum_card sum)
-  pub fits : (bytes : List ℕ) → ones_sum bytes < 2 ^ 32
 
 header_room : (file : List ℕ) (h : Header) → length (header_in file h) ≤ 2880 * h.blocks
 header_room file h = let size : length (header_in file h) ≡ min (2880 * h.blocks) (length (drop h.start file)) = length-take (2880 * h.blocks) (drop h.start file) in omega arith

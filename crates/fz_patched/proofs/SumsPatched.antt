@@ -27,19 +27,18 @@ use Rattle.fz_patched.specs.Headers.{IsAmended}
 use Rattle.fz_patched.specs.Laws.{ArePatching}
 use Rattle.fz_patched.specs.NewNumbers.{box_tiles}
 use Rattle.fz_patched.specs.Patched.{HasRightSums}
+use Rattle.fz_patched.specs.Taken.{SafeLaws}
 use Rattle.fz_patched.specs.Writes.{Steps, all_writes, before_rows, before_sums, card_write, checksum_write, checksum_writes, column_writes, data_now, datasum_write, datasum_writes, header_now, heap_end, new_codes, steps_of, sum_writes, table_plan, told_sum}
 use Rattle.fz_patched.proofs.AllWritten.{rows_are}
 use Rattle.fz_patched.proofs.Again.{header_again, says}
 use Rattle.fz_patched.proofs.AlikeFiles.{header_length}
 use Rattle.fz_patched.proofs.AmendedCards.{name_at}
-use Rattle.fz_patched.proofs.Between.{CardPlaceLaws}
 use Rattle.fz_patched.proofs.CardInFile.{cards_stand_in_place}
 use Rattle.fz_patched.proofs.CardWrites.{AreApart, apart_both, card_apart, pcount_named, sum_differs, told_card, whole_card}
 use Rattle.fz_patched.proofs.HeaderNow.{facts_now}
 use Rattle.fz_patched.proofs.PatchedAgain.{late_end}
 use Rattle.fz_patched.proofs.Patching.{IsPatching, patching_is}
 use Rattle.fz_patched.proofs.Prefixes.{AreAfter, LatePrefix, card_stays, card_there, heap_after, late_prefix, order_take_first}
-use Rattle.fz_patched.proofs.SafeAfter.{SafeLaws}
 use Rattle.fz_patched.proofs.SafeCuts.{found}
 use Rattle.fz_patched.proofs.Slices.{rest_after}
 use Rattle.fz_patched.proofs.StepWrites.{applied_both, forms_apart, has_room, in_order, rows_apart}

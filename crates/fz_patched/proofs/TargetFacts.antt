@@ -17,13 +17,14 @@ use Rattle.fz_files.specs.Restored.{header_in, image_table, plan_in}
 use Rattle.fz_patched.specs.Checks.{patch_target, target_checks}
 use Rattle.fz_patched.specs.Form.{has_form, is_wide_table}
 use Rattle.fz_patched.specs.Given.{PatchJob}
+use Rattle.fz_patched.specs.Taken.{TakenLaws}
 use Rattle.fz_patched.specs.Writes.{heap_end}
 use Rattle.fz_patched.proofs.Again.{found_later}
 use Rattle.fz_patched.proofs.Between.{LiesIn}
 use Rattle.fz_patched.proofs.DataLen.{table_data}
 use Rattle.fz_patched.proofs.FormColumns.{HasForm, form_parts, row_is}
 use Rattle.fz_patched.proofs.NewTarget.{target_passed}
-use Rattle.fz_patched.proofs.OnePatch.{IsFoundImage, TakenLaws, target_found}
+use Rattle.fz_patched.proofs.OnePatch.{IsFoundImage, target_found}
 use Rattle.fz_patched.proofs.Passes.{PassesAll, all_pass, both_pass, is_so, pass_both}
 
 pub record HasTarget (file : List ℕ) (h : Header) : Type 0 where

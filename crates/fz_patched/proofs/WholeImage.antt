@@ -26,9 +26,10 @@ use Rattle.fz_patched.specs.Given.{Given}
 use Rattle.fz_patched.specs.Laws.{IsGivenFor, OthersKeepNumbers, TilesAreReplaced}
 use Rattle.fz_patched.specs.NewNumbers.{box_tiles, new_at, new_numbers, replaced}
 use Rattle.fz_patched.specs.Patched.{HasNewTiles, IsReplacedIn, StandsForReplaced}
+use Rattle.fz_patched.specs.Taken.{PlaceLaws}
 use Rattle.fz_patched.proofs.AlikeEnds.{AreEarlier, EndsAlike}
 use Rattle.fz_patched.proofs.EarlierRows.{EarlierLaws, hdu_stands, header_new, image_new, plan_new, tile_new}
-use Rattle.fz_patched.proofs.NewTiles.{PlaceLaws, boxes_count}
+use Rattle.fz_patched.proofs.NewTiles.{boxes_count}
 use Rattle.fz_patched.proofs.Passes.{same_or_more}
 
 -- ---- an array with its box replaced

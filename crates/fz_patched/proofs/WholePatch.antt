@@ -15,6 +15,7 @@ use Rattle.fz_patched.specs.Amends.{applied}
 use Rattle.fz_patched.specs.Given.{Given, PatchJob, given_by}
 use Rattle.fz_patched.specs.Laws.{AllWritesPatch, AllWritesTile, ArePatching}
 use Rattle.fz_patched.specs.Patched.{HasNewTiles, IsPatched}
+use Rattle.fz_patched.specs.Taken.{SafeLaws}
 use Rattle.fz_patched.specs.Writes.{Steps, all_writes, header_now}
 use Rattle.fz_patched.proofs.AlikeEnds.{EndsAlike}
 use Rattle.fz_patched.proofs.EarlierRows.{EarlierLaws}
@@ -23,7 +24,6 @@ use Rattle.fz_patched.proofs.Passes.{PassesAll, all_pass, both_pass, is_so}
 use Rattle.fz_patched.proofs.PatchedAgain.{late_end, unpack_passes, unpack_walks}
 use Rattle.fz_patched.proofs.Patching.{IsPatching, patching_is}
 use Rattle.fz_patched.proofs.Prefixes.{LatePrefix}
-use Rattle.fz_patched.proofs.SafeAfter.{SafeLaws}
 use Rattle.fz_patched.proofs.SafeCuts.{header_now_is, same, wanted_same}
 use Rattle.fz_patched.proofs.SumsPatched.{late_all, right_sums}
 use Rattle.fz_patched.proofs.SumsWritten.{VerdictLaws}

@@ -27,7 +27,7 @@ abbrev pub tile_takings : List ℕ → Header → Option Fault → List (ℕ × 
 tile_takings file h (Some fault) = []
 tile_takings file h None = piled (kept_live h) (work_buffers 0 false (Some (pixels_of_tile (plan_in file h))) 1)
 
--- the header of the given image, where no check before it refuses, and then the work
+-- the header of the given image, if no check before it refuses, and then the work
 abbrev pub given_takings : List ℕ → List ℕ → PatchJob → Header → Option Fault → List (ℕ × ℕ)
 given_takings file patch job h (Some fault) = []
 given_takings file patch job h None =
@@ -37,7 +37,7 @@ abbrev pub target_takings : List ℕ → List ℕ → PatchJob → Result Header
 target_takings file patch job (Err fault) = []
 target_takings file patch job (Ok h) = (2880, 2880 * h.blocks) ∷ given_takings file patch job h (first_refusal (own_checks file h job))
 
--- the second look at the headers, where the first refuses none
+-- the second look at the headers, if the first refuses none
 abbrev pub second_takings : List ℕ → List ℕ → PatchJob → Result (List Header) Fault → List (ℕ × ℕ)
 second_takings file patch job (Err fault) = []
 second_takings file patch job (Ok hs) =
@@ -49,7 +49,7 @@ patch_takings file patch job =
 
 -- ---- the bound
 
--- the length of the header of the given image, where it is read
+-- the length of the header of the given image, if it is read
 abbrev pub given_len : List ℕ → Option Fault → ℕ
 given_len patch (Some fault) = 0
 given_len patch None = found_len (header_blocks_of 0 0 patch)
@@ -67,7 +67,7 @@ abbrev pub longest_read : List ℕ → List ℕ → PatchJob → ℕ
 longest_read file patch job =
     max (greatest (map (header_len file) (reached_from unjudged 65536 0 0 file))) (given_len_after file patch job (headers_of 65536 file))
 
--- the pixels of the largest tile of the image; 0 where a header is refused
+-- the pixels of the largest tile of the image; 0 if a header is refused
 abbrev pub target_tile : List ℕ → Result Header Fault → ℕ
 target_tile file (Err fault) = 0
 target_tile file (Ok h) = pixels_of_tile (plan_in file h)

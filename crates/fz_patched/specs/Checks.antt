@@ -37,7 +37,7 @@ abbrev pub find_judge : Option ℕ → List ℕ → Judge
 find_judge wanted file h =
     if is_wanted wanted (hdu_of file h).header h then unless_refused true (first_refusal (find_hdu_checks file h)) else Ok false
 
--- the last of some headers; this fault where there is none
+-- the last of some headers; this fault if there is none
 abbrev pub last_or : Fault → List Header → Result Header Fault
 last_or fault [] = Err fault
 last_or fault (h ∷ []) = Ok h

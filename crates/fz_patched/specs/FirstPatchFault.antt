@@ -41,7 +41,7 @@ room_check file h more = (
   refusal h.hdu (Card 5) Limit,
 )
 
--- the first fault of the rows of the box, or, where there is none, that of the room for the new codes, or none
+-- the first fault of the rows of the box, or, if there is none, that of the room for the new codes, or none
 abbrev pub IsBoxFault : List ℕ → Header → Given → Option Fault → Type 0
 IsBoxFault file h g found =
     ((fault : Fault) × (found ≡ Some fault) × IsFirstRowFault file (picked_rows file (box_sieve g) h) (Some fault))

@@ -37,7 +37,7 @@ has_letters header p =
     && (describes (stored_letter p.bitpix) (form_of header 2)
     && (if is_wide_table header then is_wide_column header stored_name else not (is_wide_column header stored_name)))
 
--- the heap begins directly after the rows, whether a card THEAP says so or none stands
+-- the heap begins directly after the rows, whether a card THEAP says so or there is none
 abbrev pub has_heap_after_rows : List ℕ → Header → Bool
 has_heap_after_rows header h = heap_start_of header h == rows_len_of h
 

@@ -26,7 +26,7 @@ array_in file h = record {
   numbers = stored_pixels (unsigned_abs h.bitpix) (product (lengths_of h.axes)) (hdu_of file h).payload;
 }
 
--- no axis and no number where a header is refused
+-- no axis and no number if a header is refused
 abbrev pub array_if : List ℕ → Result Header Fault → NumberArray
 array_if file (Ok h) = array_in file h
 array_if file (Err fault) = record { lengths = []; numbers = [] }
@@ -41,7 +41,7 @@ given_by patch job = record { corner = job.corner; array = array_if patch (given
 
 -- ---- the box
 
--- a number for each of nine axes: zeros behind those that there are
+-- a number for each of nine axes: zeros after those that there are
 abbrev pub nine_numbers : List ℕ → List ℕ
 nine_numbers numbers = numbers ++ replicate (9 - length numbers) 0
 

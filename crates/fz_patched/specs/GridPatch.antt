@@ -1,5 +1,5 @@
 -- Patches of the packed file of `PlainFile`, without a codec and with tiles of 2 by 2 pixels, written out by hand: six pixels in four tiles;
--- the last pixel alone; and two pixels of a table whose TFORM2 says less than its rows (FITS 4.0, sections 4.4.1.2, 7.3.5 and 10.1.3).
+-- only the last pixel; and two pixels of a table whose TFORM2 says less than its rows (FITS 4.0, sections 4.4.1.2, 7.3.5 and 10.1.3).
 use Rattle.std.specs.Prelude.{ℕ, List, [], ◌∷◌, ◌++◌, codes, drop, replicate, take, Some, None}
 use Rattle.fz_base.specs.Counts.{Amend}
 use Rattle.fz_files.specs.HandMade.{block_of, card_of, empty_cards}
@@ -32,7 +32,7 @@ six_job = record { wanted = None; corner = 1 ∷ 1 ∷ [] }
 abbrev pub six_tiles : List ℕ
 six_tiles = 0 ∷ 1 ∷ 3 ∷ 4 ∷ []
 
--- the writes: four tiles behind the heap of 15 bytes, and zeros to the end of the block; PCOUNT is card 5; and each row says no code, and
+-- the writes: four tiles after the heap of 15 bytes, and zeros to the end of the block; PCOUNT is card 5; and each row says no code, and
 -- the pixels of the tile, counted, at their byte of the heap. No count is above the 4 that TFORM2 says.
 abbrev pub six_steps : Steps
 six_steps = record {

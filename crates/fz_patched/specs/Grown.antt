@@ -48,13 +48,16 @@ IsFormFor header i letter most =
 
 abbrev pub FormsChange : Type 0
 FormsChange =
-    (header : List ℕ) (h : Header) (most : ℕ) → IsFoundHeader header h → IsBitpix (plan_of_cards (cards_of header)).bitpix → has_form header h (plan_of_cards (cards_of header)) ≡ true → most < 2 ^ 64 →
-    IsFormFor header 1 (coded_letter (plan_of_cards (cards_of header)).codec) most × IsFormFor header 2 (stored_letter (plan_of_cards (cards_of header)).bitpix) most
+    (header : List ℕ) (h : Header) (most : ℕ) → IsFoundHeader header h → IsBitpix (plan_of_cards (cards_of header)).bitpix →
+    has_form header h (plan_of_cards (cards_of header)) ≡ true → most < 2 ^ 64 →
+    IsFormFor header 1 (coded_letter (plan_of_cards (cards_of header)).codec) most
+    × IsFormFor header 2 (stored_letter (plan_of_cards (cards_of header)).bitpix) most
 
 -- so may that of a checksum
 abbrev pub SumsChange : Type 0
 SumsChange =
-    (header : List ℕ) (h : Header) (name card : List ℕ) (i : ℕ) → IsFoundHeader header h → (name ≡ datasum_name) ⊎ (name ≡ checksum_name) → told_sum name header ≡ Some i →
+    (header : List ℕ) (h : Header) (name card : List ℕ) (i : ℕ) → IsFoundHeader header h → (name ≡ datasum_name) ⊎ (name ≡ checksum_name) →
+    told_sum name header ≡ Some i →
     length card ≡ 80 → card_name card ≡ name → IsCardFor header i card × (i ≢ pcount_index header)
 
 -- one more of them was put there
@@ -69,7 +72,8 @@ longer h more = record h { pcount = h.pcount + more; data_len = h.data_len + mor
 pub record SaysMore (header new : List ℕ) (h : Header) (more : ℕ) : Type 0 where
   pub is : IsFoundHeader new (longer h more)
   pub plan : plan_of_cards (cards_of new) ≡ plan_of_cards (cards_of header)
-  pub table : heap_start_of header h ≤ rows_len_of h + h.pcount → table_in new (longer h more) ≡ record (table_in header h) { heap_len = (table_in header h).heap_len + more }
+  pub table : heap_start_of header h ≤ rows_len_of h + h.pcount
+      → table_in new (longer h more) ≡ record (table_in header h) { heap_len = (table_in header h).heap_len + more }
   pub wide : is_wide_table new ≡ is_wide_table header
   pub index : pcount_index new ≡ pcount_index header
   pub count : size_at new (pcount_index new) ≡ h.pcount + more

@@ -1,4 +1,4 @@
--- What is promised of patches, by the definitions alone.
+-- What is promised of patches, by only the definitions.
 use Rattle.std.specs.Prelude.{ℕ, ◌≡◌, ◌↔◌, ◌+◌, ◌*◌, ◌^◌, ◌<◌, ◌≤◌, max, ℤ, pos, List, [], ◌∷◌, length, take, drop, All, Contains, slice_index}
 use Rattle.std.specs.Prelude.{slice_index_or, Bool, Option, None, Ok, ⊤, if◌then◌else◌}
 use Rattle.fz_base.specs.Counts.{Amend}
@@ -42,7 +42,7 @@ abbrev pub AmendedHeadersSayTheSame : Type 0
 AmendedHeadersSayTheSame =
     (k start : ℕ) (old new : List ℕ) → 0 < k → IsHeaderOf old (facts_of k start old) → IsAmended old new → SaysTheSame k start old new
 
--- a card that is written in place stands in the header of the file, whatever its fill, and all other cards stay
+-- a card that is written in place is in the header of the file, whatever its fill, and all other cards stay
 abbrev pub CardsStandInPlace : Type 0
 CardsStandInPlace =
     (file : List ℕ) (h : Header) (i : ℕ) (card : List ℕ) → length card ≡ 80 → 80 * (i + 1) ≤ 2880 * h.blocks → h.start + 2880 * h.blocks ≤ length file →

@@ -15,5 +15,6 @@ pub mod RicePatch
 pub mod Safe
 pub mod SumPatch
 pub mod Tables
+pub mod Taken
 pub mod WidePatch
 pub mod Writes

@@ -41,6 +41,6 @@ form_fault = Some (refusal 1 (Card 0) Unpatchable)
 abbrev pub no_image_fault : Option Fault
 no_image_fault = Some (refusal 1 (Byte 5760) NotPacked)
 
--- rows 3 and 5 describe bytes behind the heap: the box has tile 3
+-- rows 3 and 5 describe bytes after the heap: the box has tile 3
 abbrev pub row_fault : Option Fault
 row_fault = Some (refusal 1 (AtRow 3) DescriptorRange)

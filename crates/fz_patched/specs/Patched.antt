@@ -25,7 +25,7 @@ pub record HasNewTiles (file new : List ℕ) (h : Header) (g : Given) : Type 0 w
       RowStandsFor new (header_now new h) t xs
   pub ends : next_start_of (header_now new h) ≡ length new
 
--- Of two files the second is the first with the box of an image replaced, which is the last HDU of both: what stands before it is the same,
+-- Of two files the second is the first with the box of an image replaced, which is the last HDU of both: what is before it is the same,
 -- and its header. The image is the one that this packed HDU of another file stands for.
 pub record IsReplacedIn (file : List ℕ) (h : Header) (g : Given) (restored after : List ℕ) : Type 0 where
   pub earlier : List ℕ

@@ -8,7 +8,7 @@ use Rattle.fz_patched.specs.Amends.{amend_of}
 use Rattle.fz_patched.specs.Given.{PatchJob}
 use Rattle.fz_patched.specs.Writes.{Steps}
 
--- the header of the table, behind the empty primary: 25 cards in one block, and 32 bytes of rows and 8 bytes of heap behind it
+-- the header of the table, after the empty primary: 25 cards in one block, and 32 bytes of rows and 8 bytes of heap after it
 abbrev pub rice_facts : Header
 rice_facts = record {
   hdu = 1;
@@ -44,7 +44,7 @@ far_file = block_of row_cards ++ (far_bytes ++ replicate 2872 0)
 abbrev pub far_job : PatchJob
 far_job = record { wanted = None; corner = 0 ∷ 1 ∷ [] }
 
--- the tile is stored behind the heap of 8 bytes; TFORM2, which is card 11 and says 0, says 4 then
+-- the tile is stored after the heap of 8 bytes; TFORM2, which is card 11 and says 0, says 4 then
 abbrev pub far_steps : Steps
 far_steps = record {
   heap = amend_of 5800 far_bytes ∷ amend_of 5808 (replicate 2832 0) ∷ [];

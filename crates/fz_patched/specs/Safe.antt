@@ -1,8 +1,7 @@
 -- What a patch leaves that stopped between two writes, or lost some of the writes of one step (FITS 4.0, sections 7.3.5 and 10.1.3): an image of
 -- which every tile that had numbers has its old ones or its new ones.
-use Rattle.std.specs.Prelude.{ℕ, ◌≡◌, ◌⊎◌, ◌<◌, ◌≤◌, ℤ, Bool, List, [], ◌∷◌, ◌++◌, length, take, All, Contains, slice_index, Option, Some, None, Ok}
+use Rattle.std.specs.Prelude.{ℕ, ◌≡◌, ◌⊎◌, ◌<◌, ◌≤◌, ℤ, Bool, List, [], ◌∷◌, ◌++◌, length, take, All, Contains, slice_index, Option, None, Ok}
 use Rattle.std.specs.Prelude.{if◌then◌else◌}
-use Rattle.std.specs.Option.{option_map}
 use Rattle.fz_base.specs.Counts.{Amend}
 use Rattle.fz_block.specs.declared.header.Header.{Header}
 use Rattle.fz_grid.specs.Sieve.{IsSieveOf}
@@ -14,8 +13,7 @@ use Rattle.fz_files.specs.Walks.{header_fault, headers_for, last_of}
 use Rattle.fz_files.specs.declared.job.Job.TheVariants.{Cut}
 use Rattle.fz_patched.specs.Amends.{IsOutside, applied}
 use Rattle.fz_patched.specs.Checks.{wanted_image}
-use Rattle.fz_patched.specs.FirstPatchFault.{ArePatchSteps}
-use Rattle.fz_patched.specs.Given.{Given, PatchJob}
+use Rattle.fz_patched.specs.Given.{Given}
 use Rattle.fz_patched.specs.NewNumbers.{box_tiles, new_numbers}
 use Rattle.fz_patched.specs.Writes.{Steps, all_writes, before_rows, before_sums, header_now}
 
@@ -23,7 +21,7 @@ use Rattle.fz_patched.specs.Writes.{Steps, all_writes, before_rows, before_sums,
 abbrev pub CutsStillPass : List ℕ → List ℕ → Type 0
 CutsStillPass file new = (wanted : Option ℕ) (sieve : Sieve) → header_fault (Cut wanted sieve) file ≡ None → header_fault (Cut wanted sieve) new ≡ None
 
--- a cut that was to find this HDU passes them, if its box lies in the image, and finds the header that stands there now
+-- a cut that was to find this HDU passes them, if its box lies in the image, and finds the header that is there now
 abbrev pub CutsFindIt : List ℕ → List ℕ → Header → Type 0
 CutsFindIt file new h =
     (wanted : Option ℕ) (sieve : Sieve) → wanted_image wanted file ≡ Ok h → HasNinePlaces sieve → IsSieveOf (plan_in new h).shape sieve →
@@ -80,9 +78,3 @@ pub record IsSafeAmid (file : List ℕ) (h : Header) (g : Given) (steps : Steps)
   pub safe : IsSafeNow file (applied (before ++ picked flags within) file) h g
   pub old : IsStepBeforeRows steps before within → AreAllOld file (applied (before ++ picked flags within) file) h
   pub others : KeepsOthers (all_writes steps) file (applied (before ++ picked flags within) file)
-
--- What a call logged: some of the writes of a patch, from the first on.
-pub record LoggedSome (file patch : List ℕ) (job : PatchJob) (before now : Option (List Amend)) : Type 0 where
-  pub more : List Amend
-  pub logged : now ≡ option_map (λ ws. ws ++ more) before
-  pub first : (more ≡ []) ⊎ ((h : Header) × (steps : Steps) × (n : ℕ) × ArePatchSteps file patch job h steps × (more ≡ take n (all_writes steps)))

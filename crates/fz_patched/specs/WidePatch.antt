@@ -1,5 +1,5 @@
 -- A patch of a file of another packer, written out by hand: descriptors of 64 bits, though the image is small; tiles of NOCOMPRESS that
--- stand as codes; names of columns in small letters; a card THEAP; forms that say no greatest count; and checksums without a text (FITS 4.0,
+-- are stored as codes; names of columns in small letters; a card THEAP; forms that say no greatest count; and checksums without a text (FITS 4.0,
 -- sections 4.4.2.7, 7.3.1, 7.3.5 and 10.1.3).
 use Rattle.std.specs.Prelude.{ℕ, pos, List, [], ◌∷◌, ◌++◌, codes, replicate, None}
 use Rattle.fz_block.specs.declared.header.Header.{Header}
@@ -35,7 +35,7 @@ lent_cards =
     ∷ card_of (codes "CHECKSUM= '        '")
     ∷ []
 
--- its header, behind a primary without data: 21 cards in one block, and 64 bytes of rows and 4 bytes of heap behind it
+-- its header, after a primary without data: 21 cards in one block, and 64 bytes of rows and 4 bytes of heap after it
 abbrev pub lent_facts : Header
 lent_facts = record {
   hdu = 1;
@@ -78,7 +78,7 @@ nine_image = block_of nine_cards ++ 9 ∷ replicate 2879 0
 abbrev pub lent_job : PatchJob
 lent_job = record { wanted = None; corner = 3 ∷ [] }
 
--- the tile stands as plain bytes then, and its row says no code; TFORM1 stays, since no code is written; the checksums stay without a text
+-- the tile is stored as plain bytes then, and its row says no code; TFORM1 stays, since no code is written; the checksums stay without a text
 abbrev pub lent_steps : Steps
 lent_steps = record {
   heap = amend_of 5828 (3 ∷ 9 ∷ []) ∷ amend_of 5830 (replicate 2810 0) ∷ [];

@@ -1,5 +1,5 @@
 -- The writes of a patch, in their order: the new codes from the heap's end on, and zeros to a whole block; then PCOUNT, by which they
--- belong to the heap; the forms of the columns, where a count passes what they say; then the rows, which describe the new codes from then
+-- belong to the heap; the forms of the columns, if a count passes what they say; then the rows, which describe the new codes from then
 -- on; and then the checksums (FITS 4.0, sections 3.3.2, 4.4.1.2, 4.4.2.7, 7.3.1, 7.3.5 and 10.1.3).
 use Rattle.std.specs.Prelude.{ℕ, ◌+◌, ◌-◌, ◌*◌, ◌==◌, ◌&&◌, not, nat_lt, nat_le, ℤ, List, [], ◌∷◌, ◌++◌, length, map, drop, filter, replicate}
 use Rattle.std.specs.Prelude.{zip, codes, Option, Some, None, unwrap_or, if◌then◌else◌}
@@ -37,7 +37,7 @@ use Rattle.fz_patched.specs.NewNumbers.{box_tiles, new_numbers}
 
 -- ---- what is written for the tiles
 
--- what is written for each tile with a pixel in the box, which had these numbers: also where no number of it changes
+-- what is written for each tile with a pixel in the box, which had these numbers: also if no number of it changes
 abbrev pub new_codes : Plan → Given → List ℕ → List (List ℤ) → List TileCode
 new_codes p g tiles olds = map (λ old. tile_code p.codec (pixel_bits p) (new_numbers p g old.0 old.1)) (zip tiles olds)
 
@@ -45,7 +45,7 @@ new_codes p g tiles olds = map (λ old. tile_code p.codec (pixel_bits p) (new_nu
 abbrev pub table_plan : List ℕ → Header → Plan
 table_plan file h = record (plan_in file h) { wide = is_wide_table (header_in file h) }
 
--- the byte behind the heap
+-- the byte after the heap
 abbrev pub heap_end : Table → ℕ
 heap_end t = t.heap_at + t.heap_len
 
@@ -58,7 +58,7 @@ abbrev pub code_writes : ℕ → List TileCode → List Amend
 code_writes start [] = []
 code_writes start (e ∷ es) = amend_of start e.bytes ∷ code_writes (start + length e.bytes) es
 
--- zeros from one byte to another; none where nothing is between
+-- zeros from one byte to another; none if nothing is between
 abbrev pub zero_writes : ℕ → ℕ → List Amend
 zero_writes start end = if start == end then [] else amend_of start (replicate (end - start) 0) ∷ []
 
@@ -90,7 +90,7 @@ number_in_parentheses [] = None
 number_in_parentheses (b ∷ bs) =
     if b == byte "(" then closed_number (first_digits bs) (drop (length (first_digits bs)) bs) else None
 
--- the greatest count that the form of a column says, directly behind the letter of the elements; 0 where it says none
+-- the greatest count that the form of a column says, directly after the letter of the elements; 0 if it says none
 abbrev pub most_in : Option (List ℕ) → ℕ
 most_in None = 0
 most_in (Some text) = unwrap_or (number_in_parentheses (drop (length (first_digits text) + 2) text)) 0
@@ -98,7 +98,7 @@ most_in (Some text) = unwrap_or (number_in_parentheses (drop (length (first_digi
 abbrev pub said_most : List ℕ → ℕ → ℕ
 said_most header i = most_in (text_at header (tform_card header i))
 
--- TFORMi, where one of the new counts in its column is above what it says: it says the greatest count of all rows then, which have these
+-- TFORMi, if one of the new counts in its column is above what it says: it says the greatest count of all rows then, which have these
 -- other counts
 abbrev pub form_writes : List ℕ → Header → ℕ → List ℕ → List ℕ → List ℕ → List Amend
 form_writes header h i letter news others =
@@ -122,7 +122,7 @@ column_writes file h tiles es =
 
 -- ---- the rows
 
--- the row of each tile, whose bytes stand one after another in the heap from this offset on
+-- the row of each tile, whose bytes are one after another in the heap from this offset on
 abbrev pub row_writes : Table → Plan → ℕ → List (ℕ × TileCode) → List Amend
 row_writes t p offset [] = []
 row_writes t p offset ((row, e) ∷ more) = amend_of (row_start t row) (row_of p offset e) ∷ row_writes t p (offset + length e.bytes) more

@@ -5,6 +5,7 @@ ghost use Rattle.fz_patched.specs.Laws.{HasOnePatch, HasOnePatchFault, HasWrites
 ghost use Rattle.fz_patched.specs.Laws.{KeptRowsStand, NewNumbersAreGiven, NewNumbersStay, NewRowsStand, OthersKeepNumbers};
 ghost use Rattle.fz_patched.specs.Laws.{PatchIsBounded, PatchesAgain, PatchesAgainCutBack, TargetsAreGiven, TilesAreReplaced, WritesAreInOrder};
 ghost use Rattle.fz_patched.specs.Tables.{FormsHaveTables};
+ghost use Rattle.fz_patched.specs.Taken.{PatchLaws, SafeLaws, TakenLaws, TileLaws};
 
 use fz_base::places_law;
 use fz_block::{cards_law, found_hdus_law, found_law, hdu_at_law, start_law};
@@ -65,16 +66,23 @@ pub fn new_numbers_law()
     tiles_law();
 }
 
-/// A row stands for the same numbers if its descriptors and its record stay, and the heap goes at least as far.
-pub fn kept_rows_law()
-    ensures { KeptRowsStand }
+// What the laws of rows take from those of the crates below.
+fn row_laws()
+    ensures { TakenLaws }
 {
-    amended_header_law();
     found_hdus_law();
     hdu_at_law();
     one_fault_law();
     one_record_law();
     packed_image_law();
+}
+
+/// A row stands for the same numbers if its descriptors and its record stay, and the heap goes at least as far.
+pub fn kept_rows_law()
+    ensures { KeptRowsStand }
+{
+    amended_header_law();
+    row_laws();
 }
 
 /// A patch has one first fault at most, and one list of writes exactly if it has none.
@@ -83,11 +91,7 @@ pub fn one_patch_law()
     ensures fault { HasOnePatchFault }
     ensures writes { HasWritesOrFault }
 {
-    found_hdus_law();
-    hdu_at_law();
-    one_fault_law();
-    one_record_law();
-    packed_image_law();
+    row_laws();
 }
 
 /// No taking of a patch passes its bound.
@@ -97,19 +101,11 @@ pub fn patch_buffers_law()
     hdu_at_law();
 }
 
-/// A row that describes the code of the new numbers of a tile stands for these.
-pub fn new_row_law()
-    ensures { NewRowsStand }
+// What the laws of the numbers and the codes of tiles take from those of the crates below.
+fn tile_laws()
+    ensures { TileLaws }
 {
-    amended_header_law();
     column_law();
-    descriptor_law();
-    found_hdus_law();
-    hdu_at_law();
-    new_numbers_law();
-    one_fault_law();
-    one_record_law();
-    packed_image_law();
     place_law();
     plain_law();
     shape_law();
@@ -117,27 +113,50 @@ pub fn new_row_law()
     tile_pixels_law();
 }
 
+/// A row that describes the code of the new numbers of a tile stands for these.
+pub fn new_row_law()
+    ensures { NewRowsStand }
+{
+    amended_header_law();
+    descriptor_law();
+    new_numbers_law();
+    row_laws();
+    tile_laws();
+}
+
+// What the laws of the writes take.
+fn write_laws()
+    ensures { PatchLaws }
+{
+    card_laws();
+    cards_law();
+    new_numbers_law();
+    row_laws();
+    sum_cards_law();
+    sum_law();
+    tile_laws();
+    with_card_law();
+}
+
 /// Every write of a patch begins within the file or at the end of the one before it, so that none leaves a gap.
 pub fn writes_in_order_law()
     ensures { WritesAreInOrder }
 {
-    card_laws();
-    cards_law();
-    column_law();
-    found_hdus_law();
+    write_laws();
+}
+
+// What the laws of a file after some of the writes take.
+fn safe_laws()
+    ensures { SafeLaws }
+{
+    amended_header_law();
+    found_law();
     hdu_at_law();
-    new_numbers_law();
-    one_fault_law();
-    one_record_law();
-    packed_image_law();
-    place_law();
-    plain_law();
-    shape_law();
-    sum_cards_law();
-    sum_law();
-    tile_code_law();
-    tile_pixels_law();
-    with_card_law();
+    kept_rows_law();
+    new_row_law();
+    places_law();
+    start_law();
+    write_laws();
 }
 
 /// After every prefix of the writes of a patch the file is safe to read: a cut finds the image, and each tile that had
@@ -145,29 +164,7 @@ pub fn writes_in_order_law()
 pub fn safe_patch_law()
     ensures { EachPrefixIsSafe }
 {
-    amended_header_law();
-    card_laws();
-    cards_law();
-    column_law();
-    found_hdus_law();
-    found_law();
-    hdu_at_law();
-    kept_rows_law();
-    new_numbers_law();
-    new_row_law();
-    one_fault_law();
-    one_record_law();
-    packed_image_law();
-    place_law();
-    places_law();
-    plain_law();
-    shape_law();
-    start_law();
-    sum_cards_law();
-    sum_law();
-    tile_code_law();
-    tile_pixels_law();
-    with_card_law();
+    safe_laws();
 }
 
 /// After all steps of a patch before one, and any of the writes of that, the file is safe to read, as after a prefix: that is
@@ -176,29 +173,7 @@ pub fn safe_patch_law()
 pub fn safe_step_law()
     ensures { AnyOfAStepIsSafe }
 {
-    amended_header_law();
-    card_laws();
-    cards_law();
-    column_law();
-    found_hdus_law();
-    found_law();
-    hdu_at_law();
-    kept_rows_law();
-    new_numbers_law();
-    new_row_law();
-    one_fault_law();
-    one_record_law();
-    packed_image_law();
-    place_law();
-    places_law();
-    plain_law();
-    shape_law();
-    start_law();
-    sum_cards_law();
-    sum_law();
-    tile_code_law();
-    tile_pixels_law();
-    with_card_law();
+    safe_laws();
 }
 
 /// After a stop the same patch passes the checks of headers and rows again: from the write of PCOUNT on as the file is, and
@@ -207,29 +182,7 @@ pub fn patch_again_law()
     ensures again { PatchesAgain }
     ensures back { PatchesAgainCutBack }
 {
-    amended_header_law();
-    card_laws();
-    cards_law();
-    column_law();
-    found_hdus_law();
-    found_law();
-    hdu_at_law();
-    kept_rows_law();
-    new_numbers_law();
-    new_row_law();
-    one_fault_law();
-    one_record_law();
-    packed_image_law();
-    place_law();
-    places_law();
-    plain_law();
-    shape_law();
-    start_law();
-    sum_cards_law();
-    sum_law();
-    tile_code_law();
-    tile_pixels_law();
-    with_card_law();
+    safe_laws();
 }
 
 /// After all writes of a patch each tile with a pixel in the box has its new numbers, every other that had numbers has
@@ -237,29 +190,7 @@ pub fn patch_again_law()
 pub fn new_tiles_law()
     ensures { AllWritesTile }
 {
-    amended_header_law();
-    card_laws();
-    cards_law();
-    column_law();
-    found_hdus_law();
-    found_law();
-    hdu_at_law();
-    kept_rows_law();
-    new_numbers_law();
-    new_row_law();
-    one_fault_law();
-    one_record_law();
-    packed_image_law();
-    place_law();
-    places_law();
-    plain_law();
-    shape_law();
-    start_law();
-    sum_cards_law();
-    sum_law();
-    tile_code_law();
-    tile_pixels_law();
-    with_card_law();
+    safe_laws();
 }
 
 /// After all writes of a patch the file is patched: it stands for what it stood for, with the box replaced, and each
@@ -268,33 +199,12 @@ pub fn whole_patch_law()
     ensures { AllWritesPatch }
 {
     all_ones_law();
-    amended_header_law();
-    card_laws();
-    cards_law();
     characters_law();
-    column_law();
     datasum_law();
     first_of_name_law();
-    found_hdus_law();
-    found_law();
-    hdu_at_law();
-    kept_rows_law();
     new_numbers_law();
-    new_row_law();
     new_tiles_law();
-    one_fault_law();
-    one_record_law();
-    packed_image_law();
-    place_law();
-    places_law();
-    plain_law();
-    shape_law();
-    start_law();
-    sum_cards_law();
-    sum_law();
+    safe_laws();
     table_reads_law();
-    tile_code_law();
-    tile_pixels_law();
     verdicts_law();
-    with_card_law();
 }

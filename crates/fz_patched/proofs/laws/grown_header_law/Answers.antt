@@ -1,5 +1,5 @@
 -- Card by card, and then what all of them say.
-use Rattle.fz_patched.proofs.Between.{CardPlaceLaws}
+use Rattle.fz_patched.specs.Taken.{CardPlaceLaws}
 use Rattle.fz_patched.proofs.GrownHeaders.{counts_grow, forms_change, one_more, says_more, sums_change}
 use Rattle.fz_patched.proofs.laws.grown_header_law.Goals as goal
 

@@ -1,9 +1,10 @@
 -- Pixel by pixel.
+use Rattle.fz_patched.specs.Taken.{PlaceLaws}
 use Rattle.fz_patched.proofs.NewBoxes.{others_keep_numbers}
 use Rattle.fz_patched.proofs.NewGiven.{given_are}
 use Rattle.fz_patched.proofs.NewStay.{stay_same}
 use Rattle.fz_patched.proofs.NewTarget.{targets_are_given}
-use Rattle.fz_patched.proofs.NewTiles.{PlaceLaws, tiles_are_replaced}
+use Rattle.fz_patched.proofs.NewTiles.{tiles_are_replaced}
 use Rattle.fz_patched.proofs.laws.new_numbers_law.Goals as goal
 
 pub returns : goal.returns
