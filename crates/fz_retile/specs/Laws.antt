@@ -1,4 +1,4 @@
--- What follows from the promises of `retile` where both meters have one limit, and of what it writes.
+-- What follows from the promises of `retile` if both meters have one limit, and of what it writes.
 use Rattle.std.specs.Prelude.{ℕ, ◌≡◌, ◌^◌, ◌≤◌, Bool, List, length, Option, None, Result, ⊤}
 use Rattle.fz_base.specs.Counts.{Tally}
 use Rattle.fz_base.specs.declared.failure.Stop.{Stop}
@@ -19,7 +19,7 @@ OneLimitCauses =
     HasRetileCause o held source source' sink sink' limit limit workers result
     → HasJobCause (Retile o) held source source' sink sink' limit workers result
 
--- it answers where the limit is at least the bound of the job
+-- it answers if the limit is at least the bound of the job
 abbrev pub OneLimitAnswers : Type 0
 OneLimitAnswers =
     (o : PackOptions) (held : Option (List ℕ)) (source source' sink sink' : Tally) (limit workers : ℕ) (result : Result ⊤ Stop) →
@@ -33,7 +33,7 @@ OneLimitLeavesUnmade =
     StaysUnmadeBoth o held limit limit workers ((created' ≡ created) × (contents' ≡ contents)) result
     → IsUnmade (Retile o) held limit workers ((created' ≡ created) × (contents' ≡ contents)) result
 
--- What is packed anew from a file in which `retile` finds no fault stands for the same file, where it has at most 2^62 bytes.
+-- What is packed anew from a file in which `retile` finds no fault stands for the same file, if it has at most 2^62 bytes.
 abbrev pub StandsForTheSame : Type 0
 StandsForTheSame =
     (o : PackOptions) (file bytes plain : List ℕ) → AreBytes file → AreOptions o → IsFirstFault (Retile o) file None → IsRetiled o file bytes

@@ -1,5 +1,6 @@
 -- What `retile` promises, with its two meters.
-use Rattle.std.specs.Prelude.{ℕ, ◌≡◌, ◌+◌, ◌⊎◌, ◌<◌, ◌≤◌, max, Bool, true, false, List, [], Option, Some, None, IfSome, IsSome, Result, Ok, Err, OnOk, IsErrOf, ⊤}
+use Rattle.std.specs.Prelude.{ℕ, ◌≡◌, ◌+◌, ◌⊎◌, ◌<◌, ◌≤◌, max, Bool, true, false, List, [], Option}
+use Rattle.std.specs.Prelude.{Some, None, IfSome, IsSome, Result, Ok, Err, OnOk, IsErrOf, ⊤}
 use Rattle.fz_base.specs.Counts.{Rose, Tally}
 use Rattle.fz_base.specs.Meter.{Gauge}
 use Rattle.fz_base.specs.Stop.{IfRefused, IsRefused, stop_of_read}
@@ -22,7 +23,7 @@ HoldsRetiled o held contents = HoldsOutput (IsRetiled o) held contents
 
 -- ---- the answer
 
--- What stopped `pack`, by whether a call of the sink failed: a reading that failed after it is told as want of memory. No source and no sink of
+-- What stopped `pack`, by whether a call of the sink failed: a reading that failed after it is reported as want of memory. No source and no sink of
 -- this program bring that about, since `pack` ends at the first call that fails.
 abbrev pub stop_unless : Bool → Stop → Stop
 stop_unless false stop = stop
@@ -46,7 +47,7 @@ late_of (OverLimit live asked limit) later = OverLimit live asked limit
 late_of NoMemory later = NoMemory
 
 -- What stopped `pack`, if a reading of the source failed: that reading, if `pack` took it for one of the view, or for a refusal. What the sink, a
--- limit or want of memory stopped is told as it is.
+-- limit or want of memory stopped is reported as it is.
 abbrev pub failed_of : Stop → Failed → Stop
 failed_of (Refused x) failed = stop_of_read failed
 failed_of ReadFault failed = stop_of_read failed
@@ -84,21 +85,24 @@ TellsFirstOfBoth past (Err WriteFault) = past ≡ None
 TellsFirstOfBoth past (Err (OverLimit live asked limit)) = past ≡ Some (live, asked, limit)
 TellsFirstOfBoth past (Err NoMemory) = ⊤
 
--- what OverLimit tells is the limit of one of the meters, and what passes it, which is never more than the greatest bound
+-- what OverLimit shows is the limit of one of the meters, and what passes it, which is never more than the greatest bound
 abbrev pub TellsEitherLimit : ℕ → ℕ → ℕ → Result ⊤ Stop → Type 0
 TellsEitherLimit view_limit limit most (Ok x) = ⊤
 TellsEitherLimit view_limit limit most (Err (Refused x)) = ⊤
 TellsEitherLimit view_limit limit most (Err ReadFault) = ⊤
 TellsEitherLimit view_limit limit most (Err WriteFault) = ⊤
-TellsEitherLimit view_limit limit most (Err (OverLimit live asked told)) = ((told ≡ view_limit) ⊎ (told ≡ limit)) × (told < live + asked) × (live + asked ≤ most)
+TellsEitherLimit view_limit limit most (Err (OverLimit live asked told)) =
+    ((told ≡ view_limit) ⊎ (told ≡ limit)) × (told < live + asked) × (live + asked ≤ most)
 TellsEitherLimit view_limit limit most (Err NoMemory) = ⊤
 
 -- ---- why the job ended
 
--- Why the job ended as it did: after Ok and after Refused no count rose; the two faults come only where that of the source or of the sink
--- rose; OverLimit tells the first taking that passes its limit, and comes where one does. The first taking, of one block by the view, comes
--- before anything is read: a limit below that decides alone.
-pub record HasRetileCause (o : PackOptions) (held : Option (List ℕ)) (source source' sink sink' : Tally) (view_limit limit workers : ℕ) (result : Result ⊤ Stop) : Type 0 where
+-- Why the job ended as it did: after Ok and after Refused no count rose; the two faults come only if that of the source or of the sink
+-- rose; OverLimit shows the first taking that passes its limit, and comes if one does. The first taking, of one block by the view, comes
+-- before anything is read: a limit below that decides by itself.
+pub record HasRetileCause
+    (o : PackOptions) (held : Option (List ℕ)) (source source' sink sink' : Tally) (view_limit limit workers : ℕ)
+    (result : Result ⊤ Stop) : Type 0 where
   pub done : OnOk result ((source' ≡ source) × (sink' ≡ sink))
   pub refused : IsRefused result → (source' ≡ source) × (sink' ≡ sink)
   pub read_fault : IsErrOf result ReadFault → Rose source.faults source'.faults
@@ -107,7 +111,7 @@ pub record HasRetileCause (o : PackOptions) (held : Option (List ℕ)) (source s
   pub first_past : IfSome held (λ g. TellsFirstOfBoth (first_past_of o g workers view_limit limit) result)
   pub block : view_limit < 2880 → IsErrOf result (OverLimit 0 2880 view_limit) × (source' ≡ source) × (sink' ≡ sink)
 
--- where no count of faults rose, and each limit is at least its own bound, the answer is Ok or Refused, or there was no memory
+-- if no count of faults rose, and each limit is at least its own bound, the answer is Ok or Refused, or there was no memory
 abbrev pub AnswersBoth : PackOptions → Option (List ℕ) → Tally → Tally → Tally → Tally → ℕ → ℕ → ℕ → Result ⊤ Stop → Type 0
 AnswersBoth o held source source' sink sink' view_limit limit workers result =
     ¬ Rose source.faults source'.faults → ¬ Rose sink.faults sink'.faults

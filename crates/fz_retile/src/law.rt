@@ -5,7 +5,7 @@ use fz_base::takings_law;
 use fz_files::{buffers_law, one_file_law};
 use fz_round_trip::{restored_bytes_law, restored_law, round_trip_law};
 
-/// Where both meters have one limit, `retile` keeps the promises of a job whose takings are those of both, one after
+/// If both meters have one limit, `retile` keeps the promises of a job whose takings are those of both, one after
 /// another. What it writes stands for the file that was packed anew.
 pub fn retile_law()
     ensures causes { OneLimitCauses }

@@ -39,7 +39,7 @@ pub(crate) struct Ended<'a, 'k, S: Source, K: Sink> {
 /// Packs what the view shows, and answers the view and the sink. What is pinned is what its source, its counts and its bytes were, and
 /// those of the sink.
 ///
-/// A reading that failed after a call of the sink had is told as want of memory: `pack` ends at the first call that fails,
+/// A reading that failed after a call of the sink had is reported as want of memory: `pack` ends at the first call that fails,
 /// so that no source and no sink of this program bring it about.
 pub(crate) fn in_view<'a, 'k, L: Origin, M: Watch, R: Threads + Sync, S: Source, K: Sink, G: Gate>(
     rt: &R,
@@ -124,7 +124,7 @@ pub(crate) fn in_view<'a, 'k, L: Origin, M: Watch, R: Threads + Sync, S: Source,
     Ended { view, lent }
 }
 
-// What `pack` answers; but a reading that failed after a call of the sink had is told as want of memory.
+// What `pack` answers; but a reading that failed after a call of the sink had is reported as want of memory.
 fn unless_failed(sink_failed: bool, answered: Result<(), Stop>) -> Result<(), Stop>
     ensures { result ≡ unless_failed sink_failed answered }
 {

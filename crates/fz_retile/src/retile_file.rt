@@ -56,7 +56,7 @@ pub fn retile<R: Threads + Sync, S: Source, K: Sink, G: Gate>(
     ensures output { OnOk result (HoldsRetiled options.now (S.held source.old) (K.contents sink.new)) }
     ensures finished { OnOk result (K.finished sink.new ≡ true) }
     ensures first_fault { TellsFirstFault (Retile options.now) (S.held source.old) result }
-    // Where no count of faults rose and each limit is at least its own bound, the first fault alone decides.
+    // If no count of faults rose and each limit is at least its own bound, only the first fault decides.
     ensures answered { AnswersBoth options.now (S.held source.old) (S.tally source.old) (S.tally source.new) (nameless (K.tally sink.old))
         (nameless (K.tally sink.new)) view.old.limit meter.old.limit window.old.workers result }
     ensures cause { HasRetileCause options.now (S.held source.old) (S.tally source.old) (S.tally source.new) (nameless (K.tally sink.old))

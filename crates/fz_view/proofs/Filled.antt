@@ -42,12 +42,13 @@ use Rattle.fz_round_trip.specs.RoundTrip.{HasFirstFault, ImageArraysStand}
 use Rattle.fz_fetch.specs.Fetched.{HoldsPixels, IsFetched, fetched_ranges}
 use Rattle.fz_fetch.specs.Images.{IsReadable, IsSaid}
 use Rattle.fz_fetch.specs.Laws.{JoinsRoundsOfParts, PartsMakeTheBytes}
+use Rattle.fz_fetch.specs.Marks.{HoldsBetween, IsPartFetched}
 use Rattle.fz_fetch.specs.Scattered.{part_written, parts_written}
 use Rattle.fz_survey.specs.declared.survey.Survey.{Survey}
 use Rattle.fz_again.specs.Hdus.{DataAreOfHdus, KnownAreTouched, TilesAreOfImage, UnpacksWithin}
 use Rattle.fz_again.specs.Known.{IsKnown}
 use Rattle.fz_job.specs.Clauses.{IsOfSomeRow}
-use Rattle.fz_view.specs.Boxes.{HasBox}
+use Rattle.fz_view.specs.Boxes.{HasBox, HasPart}
 use Rattle.fz_view.specs.Here.{here_of}
 use Rattle.fz_view.specs.Laws.{IsKnownImage}
 use Rattle.fz_view.specs.declared.here.Here.{Here}
@@ -123,6 +124,7 @@ module _ (arrays : ImageArraysStand) (faults : HasFirstFault) (one : StandsForOn
       let low_in : (t : ℕ) → t < tiles_in i.plan → t < tiles_in (plan_in g h.read.header) = λ t low. subst (λ (p : Plan). t < tiles_in p) plan low in
       record {
         said = said;
+        stands = λ t low. subst (λ (p : Plan). RowStandsFor g h.read.header t (tile (image_array g h.read.header) (lengths_of p.tile) t)) (sym plan) (rows.tiles t (low_in t low));
         rows = λ t xs low stands.
             one_row g h.read.header can one t (tile (image_array g h.read.header) (lengths_of (plan_in g h.read.header).tile) t) xs (rows.tiles t (low_in t low)) stands
             ∙ ap (λ (p : Plan). tile (image_array g h.read.header) (lengths_of p.tile) t) (sym plan);
@@ -176,29 +178,42 @@ none_told (Some g) h p sieve before = refl
 pub none_filled : (held : Option (List ℕ)) (h : Header) (p : Plan) (sieve : Sieve) (left before : List ℕ) → left ≡ picked_tiles_of p sieve → IsFilling held h p sieve left before before
 none_filled held h p sieve left before is = record { front = []; parts = sym is; told = none_told held h p sieve before }
 
-one_told : JoinsRoundsOfParts → (held : Option (List ℕ)) (h : Header) (i : PackedImage) (sieve : Sieve) (front : List ℕ) (t : ℕ) (numbers : List ℤ) (before mid now : List ℕ) → t < tiles_in i.plan →
-    IfSome held (λ g. IsKnownImage g h i) → IsFetched held h i.plan t numbers → ((xs : List ℤ) → HoldsPixels i.plan t numbers xs → Some now ≡ part_written i.plan sieve 0 t xs (Some mid)) →
-    IfSome held (λ g. Some mid ≡ parts_written i.plan sieve 0 front (map (tile (image_array g h) (lengths_of i.plan.tile)) front) (Some before)) →
-    IfSome held (λ g. Some now ≡ parts_written i.plan sieve 0 (front ++ t ∷ []) (map (tile (image_array g h) (lengths_of i.plan.tile)) (front ++ t ∷ [])) (Some before))
-one_told joins None h i sieve front t numbers before mid now low known fetched put told = tt
-one_told joins (Some g) h i sieve front t numbers before mid now low known fetched put told =
-    let p : Plan = i.plan in
+one_told : JoinsRoundsOfParts → (held : Option (List ℕ)) (h : Header) (p : Plan) (sieve : Sieve) (front : List ℕ) (t : ℕ) (before mid now : List ℕ) → IfSome held (λ g. HasPart g h p sieve t mid now) →
+    IfSome held (λ g. Some mid ≡ parts_written p sieve 0 front (map (tile (image_array g h) (lengths_of p.tile)) front) (Some before)) →
+    IfSome held (λ g. Some now ≡ parts_written p sieve 0 (front ++ t ∷ []) (map (tile (image_array g h) (lengths_of p.tile)) (front ++ t ∷ [])) (Some before))
+one_told joins None h p sieve front t before mid now put told = tt
+one_told joins (Some g) h p sieve front t before mid now put told =
     let T : ℕ → List ℤ = tile (image_array g h) (lengths_of p.tile) in
-    let is : fetched.pixels ≡ T t = known.rows t fetched.pixels low fetched.told in
-    put fetched.pixels fetched.hold
-    ∙ ap (λ xs. part_written p sieve 0 t xs (Some mid)) is
+    put
     ∙ ap (part_written p sieve 0 t (T t)) told
     ∙ sym (joins p sieve 0 front (t ∷ []) (map T front) (T t ∷ []) (Some before) (length-map front T))
     ∙ ap (λ xs. parts_written p sieve 0 (front ++ t ∷ []) xs (Some before)) (sym (map-append T front (t ∷ [])))
 
-pub one_filled : JoinsRoundsOfParts → (held : Option (List ℕ)) (h : Header) (i : PackedImage) (sieve : Sieve) (t : ℕ) (left behind : List ℕ) (numbers : List ℤ) (before mid now : List ℕ) → t < tiles_in i.plan → left ≡ t ∷ behind →
-    IfSome held (λ g. IsKnownImage g h i) → IsFetched held h i.plan t numbers → ((xs : List ℤ) → HoldsPixels i.plan t numbers xs → Some now ≡ part_written i.plan sieve 0 t xs (Some mid)) →
-    IsFilling held h i.plan sieve left before mid → IsFilling held h i.plan sieve behind before now
-one_filled joins held h i sieve t left behind numbers before mid now low next known fetched put done = record {
+pub one_filled : JoinsRoundsOfParts → (held : Option (List ℕ)) (h : Header) (p : Plan) (sieve : Sieve) (t : ℕ) (left behind : List ℕ) (before mid now : List ℕ) → left ≡ t ∷ behind → IfSome held (λ g. HasPart g h p sieve t mid now) →
+    IsFilling held h p sieve left before mid → IsFilling held h p sieve behind before now
+one_filled joins held h p sieve t left behind before mid now next put done = record {
   front = done.front ++ t ∷ [];
   parts = done.parts ∙ ap (λ l. done.front ++ l) next ∙ sym (append_assoc done.front (t ∷ []) behind);
-  told = one_told joins held h i sieve done.front t numbers before mid now low known fetched put done.told;
+  told = one_told joins held h p sieve done.front t before mid now put done.told;
 }
+
+-- ---- the part of one tile
+
+-- if the whole tile was read
+pub whole_put : (held : Option (List ℕ)) (h : Header) (i : PackedImage) (sieve : Sieve) (t : ℕ) (numbers : List ℤ) (before now : List ℕ) → t < tiles_in i.plan → IfSome held (λ g. IsKnownImage g h i) → IsFetched held h i.plan t numbers →
+    ((xs : List ℤ) → HoldsPixels i.plan t numbers xs → Some now ≡ part_written i.plan sieve 0 t xs (Some before)) → IfSome held (λ g. HasPart g h i.plan sieve t before now)
+whole_put None h i sieve t numbers before now low known fetched put = tt
+whole_put (Some g) h i sieve t numbers before now low known fetched put =
+    put fetched.pixels fetched.hold ∙ ap (λ xs. part_written i.plan sieve 0 t xs (Some before)) (known.rows t fetched.pixels low fetched.told)
+
+-- if a part of it was
+pub part_put : (held : Option (List ℕ)) (h : Header) (i : PackedImage) (sieve : Sieve) (t first end : ℕ) (numbers : List ℤ) (before now : List ℕ) → t < tiles_in i.plan → IfSome held (λ g. IsKnownImage g h i) →
+    IsPartFetched held h i.plan t first end numbers → ((xs : List ℤ) → HoldsBetween i.plan t first end numbers xs → Some now ≡ part_written i.plan sieve 0 t xs (Some before)) →
+    IfSome held (λ g. HasPart g h i.plan sieve t before now)
+part_put None h i sieve t first end numbers before now low known fetched put = tt
+part_put (Some g) h i sieve t first end numbers before now low known fetched put =
+    let T : List ℤ = tile (image_array g h) (lengths_of i.plan.tile) t in
+    put T (fetched.told T (known.stands t low))
 
 -- ---- all of them
 

@@ -29,7 +29,7 @@ use Rattle.fz_view.specs.Holds.{AreFailures, AreReads, AreRefusals, IsAtHand, Is
 use Rattle.fz_view.specs.Laws.{FirstIsPlaced, HasNext, NextIsPlaced}
 use Rattle.fz_view.specs.Looked.{HaveRoom, buffers_of}
 use Rattle.fz_view.specs.Scratch.{ScratchStays}
-use Rattle.fz_view.specs.Views.{failed_after, is_late, is_late_at, later_after, more_by}
+use Rattle.fz_view.specs.Views.{KeepsFirst, failed_after, is_late, is_late_at, later_after, more_by}
 use Rattle.fz_view.specs.declared.here.Here.{Here}
 use Rattle.fz_view.specs.declared.looked.First.{First}
 use Rattle.fz_view.specs.declared.looked.Space.{Space}
@@ -282,6 +282,18 @@ pub refusals_kept : (held : Option (List ℕ)) (stop : Stop) (later later' : Opt
     AreRefusals held later' more'
 refusals_kept held stop later later' more more' is count was =
     subst (λ (l : Option Fault). AreRefusals held l more') (sym is) (subst (λ n. AreRefusals held (later_after stop later) n) (sym count) was)
+
+still_first : (stop : Stop) (x : Fault) → later_after stop (Some x) ≡ Some x
+still_first (Refused y) x = refl
+still_first ReadFault x = refl
+still_first WriteFault x = refl
+still_first (OverLimit live asked limit) x = refl
+still_first NoMemory x = refl
+
+pub first_kept : (X : Type 0) (later later' : Option Fault) (stop : Stop) (failed : Failed) → later' ≡ later_after stop later →
+    KeepsFirst {X = X} later later' (Err failed)
+first_kept X None later' stop failed is = record { ok = tt; first = tt }
+first_kept X (Some x) later' stop failed is = record { ok = tt; first = is ∙ still_first stop x }
 
 pub failures_kept : (start now : Tally) (stop : Stop) (failed failed' : Option Failed) → failed' ≡ failed_after stop failed → AreFailures start now (failed_after stop failed) → AreFailures start now failed'
 failures_kept start now stop failed failed' is was = subst (λ (f : Option Failed). AreFailures start now f) (sym is) was

@@ -21,6 +21,8 @@ pub mod Lengths
 pub mod LineParts
 pub mod Lines
 pub mod Looking
+pub mod Marking
+pub mod Merely
 pub mod Numbered
 pub mod Opening
 pub mod Outcomes
@@ -36,6 +38,7 @@ pub mod Shown
 pub mod Somes
 pub mod Space
 pub mod Standing
+pub mod Stretches
 pub mod Tallies
 pub mod Tests
 pub mod Touching

@@ -40,7 +40,7 @@ can_make header h len None usable = tt
 can_make header h len (Some i) usable = (usable.said.planned, usable.readable)
 
 -- a buffer that was lent and filled
-pub given_back : (old new : List ℕ) → length new ≡ length old → take (length old) (new ++ drop (length new) old) ≡ new
+pub given_back : {A : Type 0} (old new : List A) → length new ≡ length old → take (length old) (new ++ drop (length new) old) ≡ new
 given_back old new long = take_at new (drop (length new) old) (length old) long
 
 -- the same buffer, as it was lent

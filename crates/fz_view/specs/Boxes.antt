@@ -1,9 +1,10 @@
 -- Boxes of an image whose pixels are at hand (FITS 4.0, sections 3.3.2 and 10.1).
-use Rattle.std.specs.Prelude.{ℕ, ◌≡◌, ◌+◌, ◌-◌, ◌*◌, ◌/◌, ◌<◌, ◌≤◌, List, [], ◌∷◌, ◌++◌, take, replicate, length, slice_index}
+use Rattle.std.specs.Prelude.{ℕ, ◌≡◌, ◌+◌, ◌-◌, ◌*◌, ◌/◌, ◌<◌, ◌≤◌, List, [], ◌∷◌, ◌++◌, take, replicate, length, slice_index, Some}
 use Rattle.fz_block.specs.declared.axes.Axes.{Axes}
 use Rattle.fz_block.specs.declared.header.Header.{Header}
 use Rattle.fz_grid.specs.Arrays.{product}
-use Rattle.fz_grid.specs.Region.{IsWithin, region_corner, region_lengths}
+use Rattle.fz_grid.specs.Grid.{tile as tile_of}
+use Rattle.fz_grid.specs.Region.{IsWithin, lengths_of, region_corner, region_lengths}
 use Rattle.fz_grid.specs.declared.region.Region.{Region}
 use Rattle.fz_grid.specs.declared.sieve.Sieve.{Sieve}
 use Rattle.fz_parts.specs.Cutout.{picked_numbers}
@@ -12,6 +13,7 @@ use Rattle.fz_head.specs.declared.plan.Plan.{Plan}
 use Rattle.fz_files.specs.Packed.{pixel_bits}
 use Rattle.fz_files.specs.Restored.{plan_in}
 use Rattle.fz_files.specs.RestoredFile.{image_array}
+use Rattle.fz_fetch.specs.Scattered.{part_written}
 
 -- the last coordinates of a region along each axis
 abbrev pub last_of : List ℕ → List ℕ → List ℕ
@@ -55,6 +57,10 @@ abbrev pub HasBox : List ℕ → Header → Sieve → List ℕ → Type 0
 HasBox g h sieve band =
     let bytes = plain_bytes (pixel_bits (plan_in g h)) (picked_numbers (image_array g h) sieve) in
     take (length bytes) band ≡ bytes
+
+-- the bytes of these pixels after those of them that tile t of the image has were put to their places
+abbrev pub HasPart : List ℕ → Header → Plan → Sieve → ℕ → List ℕ → List ℕ → Type 0
+HasPart g h p sieve t before now = Some now ≡ part_written p sieve 0 t (tile_of (image_array g h) (lengths_of p.tile) t) (Some before)
 
 -- coordinates counted from the corner of a region
 abbrev pub from_corner : List ℕ → List ℕ → List ℕ

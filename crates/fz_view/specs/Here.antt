@@ -1,6 +1,7 @@
 -- The HDU at hand: one that stands for something, and where what it stands for is in the file that the packed file stands for (FITS 4.0,
 -- section 10.1).
-use Rattle.std.specs.Prelude.{ℕ, ◌≡◌, ◌+◌, ◌-◌, ◌*◌, ◌/◌, ◌<◌, ◌≤◌, ◌==◌, nat_lt, Bool, List, [], length, take, Option, Some, None, IsSome, Result, Ok, Err, if◌then◌else◌}
+use Rattle.std.specs.Prelude.{ℕ, ◌≡◌, ◌+◌, ◌-◌, ◌*◌, ◌/◌, ◌<◌, ◌≤◌, ◌==◌, nat_lt, Bool, List, []}
+use Rattle.std.specs.Prelude.{length, take, Option, Some, None, IsSome, Result, Ok, Err, if◌then◌else◌}
 use Rattle.std.specs.List.{filter, find, flat_map}
 use Rattle.std.specs.Option.{ForSome, option_map}
 use Rattle.fz_base.specs.declared.fault.Fault.{Fault}
@@ -25,7 +26,7 @@ use Rattle.fz_head.specs.declared.plan.Plan.{Plan}
 use Rattle.fz_again.specs.declared.again.ReadHdu.{ReadHdu}
 use Rattle.fz_view.specs.declared.here.Here.{Here}
 
--- the image that stands in an HDU of which no check refuses anything, if there is one
+-- the image that is in an HDU of which no check refuses anything, if there is one
 abbrev pub image_or_none : Result (Option PackedImage) Fault → Option PackedImage
 image_or_none (Ok image) = image
 image_or_none (Err fault) = None

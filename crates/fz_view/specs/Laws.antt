@@ -1,5 +1,6 @@
 -- What the definitions of a view promise (FITS 4.0, sections 3.1, 3.3.2 and 10.1).
-use Rattle.std.specs.Prelude.{ℕ, ◌≡◌, ◌+◌, ◌-◌, ◌*◌, ◌/◌, ◌%◌, ◌<◌, ◌≤◌, ℤ, pos, Bool, List, [], ◌∷◌, take, drop, replicate, length, slice_index, None, Some, IfSome, Option, Result, Ok}
+use Rattle.std.specs.Prelude.{ℕ, ◌≡◌, ◌+◌, ◌-◌, ◌*◌, ◌/◌, ◌%◌, ◌<◌, ◌≤◌, ℤ, pos, Bool, List, [], ◌∷◌, take}
+use Rattle.std.specs.Prelude.{drop, replicate, length, slice_index, None, Some, IfSome, Option, Result, Ok}
 use Rattle.fz_base.specs.Ranges.{LogsIn}
 use Rattle.fz_base.specs.Source.{LogsWithin}
 use Rattle.fz_base.specs.Stop.{IfRefused}
@@ -47,7 +48,9 @@ use Rattle.fz_view.specs.declared.looked.First.{First}
 
 -- the first HDU that stands for something begins with the plain bytes
 abbrev pub FirstIsPlaced : Type 0
-FirstIsPlaced = (g : List ℕ) (s : Survey) (f : First) → surveyed UnpackChecks g ≡ Ok s → 0 < s.hdus → f ≡ first_of g (headers_for Unpack g) → IsPlaced g f.hdu f.start f.after_empty 0
+FirstIsPlaced =
+    (g : List ℕ) (s : Survey) (f : First) → surveyed UnpackChecks g ≡ Ok s → 0 < s.hdus → f ≡ first_of g (headers_for Unpack g)
+    → IsPlaced g f.hdu f.start f.after_empty 0
 
 -- There is one more HDU after this one, which begins where this one ends.
 pub record HasNext (g : List ℕ) (s : Survey) (h : Here) : Type 0 where
@@ -57,7 +60,9 @@ pub record HasNext (g : List ℕ) (s : Survey) (h : Here) : Type 0 where
 
 -- so it is if plain bytes are left
 abbrev pub NextIsPlaced : Type 0
-NextIsPlaced = (g : List ℕ) (s : Survey) (h : Here) → surveyed UnpackChecks g ≡ Ok s → here_of g h.read.header.hdu ≡ Some h → h.end < length (restored g) → HasNext g s h
+NextIsPlaced =
+    (g : List ℕ) (s : Survey) (h : Here) → surveyed UnpackChecks g ≡ Ok s → here_of g h.read.header.hdu ≡ Some h
+    → h.end < length (restored g) → HasNext g s h
 
 -- the header of an HDU that is placed is not refused when it is read once more
 abbrev pub PlacedIsRead : Type 0
@@ -84,7 +89,8 @@ pub record IsHere (g buf : List ℕ) (a : ReadHdu) (h : Here) : Type 0 where
 
 abbrev pub FoundIsHere : Type 0
 FoundIsHere =
-    (g : List ℕ) (s : Survey) (k start at : ℕ) (flag : Bool) (buf : List ℕ) (a : ReadHdu) (h : Here) → IsFound g s k start at flag buf a → h.read ≡ a → h.after_empty ≡ flag → h.at ≡ at
+    (g : List ℕ) (s : Survey) (k start at : ℕ) (flag : Bool) (buf : List ℕ) (a : ReadHdu) (h : Here) → IsFound g s k start at flag buf a
+    → h.read ≡ a → h.after_empty ≡ flag → h.at ≡ at
     → (a.image ≡ None → IsCopiedHere a at h) → IfSome a.image (λ i. IsImageHere (header_at_front a buf) a i.plan flag at h) → IsHere g buf a h
 
 -- ---- what is read
@@ -97,7 +103,8 @@ HeaderIsTouched =
 
 abbrev pub CopyIsTouched : Type 0
 CopyIsTouched =
-    (g : List ℕ) (s : Survey) (h : Here) (old new : Option (List (ℕ × ℕ))) → surveyed UnpackChecks g ≡ Ok s → here_of g h.read.header.hdu ≡ Some h → h.read.image ≡ None
+    (g : List ℕ) (s : Survey) (h : Here) (old new : Option (List (ℕ × ℕ))) → surveyed UnpackChecks g ≡ Ok s
+    → here_of g h.read.header.hdu ≡ Some h → h.read.image ≡ None
     → LogsWithin h.read.header.start (next_start_of h.read.header) old new → LogsIn (touched_by Unpack g) old new
 
 -- ---- plain bytes
@@ -121,20 +128,25 @@ HereHasPieces = (g : List ℕ) (s : Survey) (h : Here) → surveyed UnpackChecks
 
 -- an image that no check refuses can be read
 abbrev pub FoundIsReadable : Type 0
-FoundIsReadable = (h : Header) (header : List ℕ) (flag : Bool) (i : PackedImage) → IsReadHeader header h → image_to_unpack h header flag ≡ Ok (Some i) → IsTable i.table → IsReadable i
+FoundIsReadable =
+    (h : Header) (header : List ℕ) (flag : Bool) (i : PackedImage) → IsReadHeader header h → image_to_unpack h header flag ≡ Ok (Some i)
+    → IsTable i.table → IsReadable i
 
--- What is known of an image: it is the one that the header says, the numbers of each of its rows are those of the array, no row is refused, and
--- what is read of one is what `unpack` reads.
+-- What is known of an image: it is the one that the header says, each of its rows stands for the numbers of the array and for no others, none is
+-- refused, and what is read of one is what `unpack` reads.
 pub record IsKnownImage (g : List ℕ) (h : Header) (i : PackedImage) : Type 0 where
   pub said : IsSaid g h i
+  pub stands : (t : ℕ) → t < tiles_in i.plan → RowStandsFor g h t (tile (image_array g h) (lengths_of i.plan.tile) t)
   pub rows : (t : ℕ) (xs : List ℤ) → t < tiles_in i.plan → RowStandsFor g h t xs → xs ≡ tile (image_array g h) (lengths_of i.plan.tile) t
   pub never : (t : ℕ) (x : Fault) → t < tiles_in i.plan → ¬ IsRowFault g (image_row h t) x
-  pub touched : (t : ℕ) (old new : Option (List (ℕ × ℕ))) → t < tiles_in i.plan → LogsIn (fetched_ranges g h (t ∷ [])) old new → LogsIn (touched_by Unpack g) old new
+  pub touched : (t : ℕ) (old new : Option (List (ℕ × ℕ))) → t < tiles_in i.plan → LogsIn (fetched_ranges g h (t ∷ [])) old new
+      → LogsIn (touched_by Unpack g) old new
 
 -- so it is of the HDU at hand
 abbrev pub HereIsKnown : Type 0
 HereIsKnown =
-    (g : List ℕ) (s : Survey) (h : Here) (i : PackedImage) → AreBytes g → first_fault Unpack g ≡ None → surveyed UnpackChecks g ≡ Ok s → here_of g h.read.header.hdu ≡ Some h
+    (g : List ℕ) (s : Survey) (h : Here) (i : PackedImage) → AreBytes g → first_fault Unpack g ≡ None → surveyed UnpackChecks g ≡ Ok s
+    → here_of g h.read.header.hdu ≡ Some h
     → h.read.image ≡ Some i → IsReadable i → IsKnownImage g h.read.header i
 
 -- the sieve that picks a region is one of the array, and picks as many numbers as the region has
@@ -158,7 +170,8 @@ HoldsBox bytes band = take (length bytes) band ≡ bytes
 -- bytes in a band that has the box are those of the array, as far as the line goes in the box; and that is within the array
 abbrev pub LineIsBytes : Type 0
 LineIsBytes =
-    (bits from n : ℕ) (shape : Axes) (r : Region) (at : List ℕ) (a : NumberArray) (band : List ℕ) → IsBitpix (pos bits) → IsArray a → a.lengths ≡ lengths_of shape
+    (bits from n : ℕ) (shape : Axes) (r : Region) (at : List ℕ) (a : NumberArray) (band : List ℕ) → IsBitpix (pos bits) → IsArray a
+    → a.lengths ≡ lengths_of shape
     → 1 ≤ shape.n → shape.n ≤ 9 → length r.lo ≡ 9 → length r.len ≡ 9 → length at ≡ 9 → IsWithin shape r → HasPixel r at
     → take shape.n at ≡ coordinates_of (lengths_of shape) (from / (bits / 8)) → from / (bits / 8) < product (lengths_of shape)
     → HoldsBox (plain_bytes bits (picked_numbers a (sieve_in r))) band

@@ -6,5 +6,6 @@ pub mod Holds
 pub mod Laws
 pub mod Looked
 pub mod Looks
+pub mod Marked
 pub mod Scratch
 pub mod Views

@@ -90,7 +90,8 @@ abbrev pub IsFaultAmong : List ℕ → Survey → Fault → Type 0
 IsFaultAmong g s x =
     (hs : List Header) → IsList g s hs →
     IsFirstRowFault g (all_rows g hs) (Some x)
-    ⊎ (IsFirstRowFault g (all_rows g hs) None × (2 ^ 62 < length (flat_map (restored_hdu g) (standing g hs))) × (x ≡ refusal (length hs) (Byte (length g)) Limit))
+    ⊎ (IsFirstRowFault g (all_rows g hs) None × (2 ^ 62 < length (flat_map (restored_hdu g) (standing g hs)))
+    × (x ≡ refusal (length hs) (Byte (length g)) Limit))
 
 -- ---- the look
 
@@ -120,6 +121,6 @@ pub record IsLooked (g : List ℕ) (l : Looked) : Type 0 where
   pub list : IsList g l.survey headers
   pub first : l.first ≡ first_of g headers
 
--- the fault of a file that the look refuses: the first of `unpack`, or else that it stands for one of more than 2^62 bytes
+-- the fault of a file that the look refuses: the first of `unpack`, or otherwise that it stands for one of more than 2^62 bytes
 abbrev pub IsLookFault : List ℕ → Fault → Type 0
 IsLookFault g x = IsFirstFault Unpack g (Some x) ⊎ (IsFirstFault Unpack g None × (2 ^ 62 < length (restored g)) × (x ≡ too_long g))

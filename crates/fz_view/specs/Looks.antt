@@ -13,8 +13,8 @@ use Rattle.fz_pool.specs.Window.{Pool}
 use Rattle.fz_view.specs.Looked.{buffers_of}
 use Rattle.fz_view.specs.declared.looked.Looked.{Looked}
 
--- After Ok and after Refused no count rose; ReadFault comes only where the count of faults rose; OverLimit is the first of the takings of
--- `unpack` that passes the limit, and comes where one does. A limit below one block decides before anything is read.
+-- After Ok and after Refused no count rose; ReadFault comes only if the count of faults rose; OverLimit is the first of the takings of
+-- `unpack` that passes the limit, and comes if one does. A limit below one block decides before anything is read.
 pub record HasLookCause (held : Option (List ℕ)) (source source' : Tally) (limit workers : ℕ) (result : Result Looked Stop) : Type 0 where
   pub kept : CountsKept source source'
   pub done : OnOk result (source' ≡ source)

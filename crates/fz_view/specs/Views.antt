@@ -1,5 +1,7 @@
 -- What a view shows: the bytes of the file that a packed file stands for, and counts (FITS 4.0, section 10.1).
-use Rattle.std.specs.Prelude.{ℕ, ◌≡◌, ◌+◌, ◌-◌, ◌^◌, ◌≤◌, ◌==◌, ◌&&◌, ◌||◌, nat_le, nat_lt, min, Bool, true, false, List, [], ◌∷◌, length, take, drop, IfSome, Option, Some, None, refl}
+use Rattle.std.specs.Prelude.{ℕ, ◌≡◌, ◌+◌, ◌-◌, ◌^◌, ◌≤◌, ◌==◌, ◌&&◌, ◌||◌, nat_le, nat_lt, min, Bool, true}
+use Rattle.std.specs.Prelude.{false, List, [], ◌∷◌, length, take, drop, IfSome, Option, Some, None, refl}
+use Rattle.std.specs.Prelude.{OnErr, OnOk, Result}
 use Rattle.std.specs.List.{list_all, range_with_len}
 use Rattle.std.specs.Option.{ForSome}
 use Rattle.std.proofs.Common.{◌∙◌, subst}
@@ -72,6 +74,11 @@ later_after WriteFault later = later
 later_after (OverLimit live asked limit) later = later
 later_after NoMemory later = later
 
+-- A call of a view that answers Ok keeps no refusal anew. A refusal that is kept stays, whatever is refused later.
+pub record KeepsFirst {X : Type 0} (later later' : Option Fault) (result : Result X Failed) : Type 0 where
+  pub ok : OnOk result (later' ≡ later)
+  pub first : OnErr result (IfSome later (λ x. later' ≡ Some x))
+
 -- ---- what was read, and refused, since the look began
 
 -- a byte lies in one of the ranges
@@ -111,7 +118,8 @@ shown_of : (plain : Option (List ℕ)) (count n : ℕ) → ForSome plain (λ u. 
 shown_of None count n fits e = tt
 shown_of (Some u) count n fits e = fits u refl ∙ same_Some count n e
 
-pub agrees_of : (held : Option (List ℕ)) (count n : ℕ) → ForSome (restored_from held) (λ u. length u ≡ count) → Some count ≡ Some n → HoldsLength (restored_from held) n
+pub agrees_of : (held : Option (List ℕ)) (count n : ℕ) → ForSome (restored_from held) (λ u. length u ≡ count) → Some count ≡ Some n
+    → HoldsLength (restored_from held) n
 agrees_of held count n fits e = shown_of (restored_from held) count n fits e
 
 -- and is at most 2^62

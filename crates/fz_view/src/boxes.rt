@@ -47,7 +47,7 @@ pub(crate) fn has_pixel(region: &Region, at: &[u32; 9]) -> bool
     true
 }
 
-/// The box of at most so many pixels that is decoded for the pixel at these coordinates, where tiles of the lengths that
+/// The box of at most so many pixels that is decoded for the pixel at these coordinates, if tiles of the lengths that
 /// are asked for, or rows, are read one after another.
 ///
 /// If such a tile fits, it is that tile and as many whole ones after it as fit; else the part of it from the pixel on that

@@ -3,11 +3,12 @@ ghost use Rattle.std.specs.Prelude.{◌≡◌, ◌⊎◌, ◌+◌, ◌<◌, ◌�
 ghost use Rattle.fz_base.specs.Counts.{HasCause};
 ghost use Rattle.fz_view.specs.Here.{IsPlaced};
 ghost use Rattle.fz_view.specs.Looked.{buffers_of};
-ghost use Rattle.fz_view.specs.Views.{with_more};
+ghost use Rattle.fz_view.specs.Views.{KeepsFirst, with_more};
 
 use crate::hdus::changed;
 use crate::here::Here;
 use crate::law::places_law;
+use crate::marked::forget_marks;
 use crate::reading::{Begin, read_begun};
 use crate::view::{PlainView, keep_stop};
 use fz_base::{Failed, Source, ranges_law};
@@ -26,6 +27,7 @@ impl<'a, S: Source> PlainView<'a, S> {
         ensures file { self.new.length ≡ self.old.length }
         ensures space { buffers_of self.new.space ≡ buffers_of self.old.space }
         ensures cause { HasCause (with_more (S.tally self.old.inner.now) self.old.more) (with_more (S.tally self.new.inner.now) self.new.more) result }
+        ensures later { KeepsFirst self.old.later self.new.later result }
     {
         let mut here = match self.here {
             Some(here) if here.at <= at => here,
@@ -48,6 +50,7 @@ impl<'a, S: Source> PlainView<'a, S> {
         ensures file { self.new.length ≡ self.old.length }
         ensures space { buffers_of self.new.space ≡ buffers_of self.old.space }
         ensures cause { HasCause (with_more (S.tally self.old.inner.now) self.old.more) (with_more (S.tally self.new.inner.now) self.new.more) result }
+        ensures later { KeepsFirst self.old.later self.new.later result }
     {
         places_law();
         let begin = Begin {
@@ -72,6 +75,7 @@ impl<'a, S: Source> PlainView<'a, S> {
         ensures file { self.new.length ≡ self.old.length }
         ensures space { buffers_of self.new.space ≡ buffers_of self.old.space }
         ensures cause { HasCause (with_more (S.tally self.old.inner.now) self.old.more) (with_more (S.tally self.new.inner.now) self.new.more) result }
+        ensures later { KeepsFirst self.old.later self.new.later result }
     {
         places_law();
         let begin = Begin {
@@ -102,6 +106,7 @@ impl<'a, S: Source> PlainView<'a, S> {
         ensures file { self.new.length ≡ self.old.length }
         ensures space { buffers_of self.new.space ≡ buffers_of self.old.space }
         ensures cause { HasCause (with_more (S.tally self.old.inner.now) self.old.more) (with_more (S.tally self.new.inner.now) self.new.more) result }
+        ensures later { KeepsFirst self.old.later self.new.later result }
     {
         ranges_law();
         self.here = None;
@@ -116,6 +121,7 @@ impl<'a, S: Source> PlainView<'a, S> {
         );
         match answer {
             Ok(here) => {
+                forget_marks(&mut self.space);
                 self.here = Some(here);
                 Ok(here)
             }

@@ -1,6 +1,7 @@
 //! The file that a packed file stands for, as a source: its bytes are decoded as they are read.
 //!
-//! Reading order: `looked`, `whole_look`, `hdus`; `here`, `view`, `going`, `reading`, `pixels`, `filling`, `fronts`, `boxes`, `plain_source`, `pinned`; `law`.
+//! Reading order: `looked`, `whole_look`, `hdus`; `here`, `view`, `going`, `reading`, `pixels`, `marked`, `filling`, `fronts`,
+//! `boxes`, `plain_source`, `pinned`; `law`.
 #![tactic(auto)]
 
 mod boxes;
@@ -11,6 +12,7 @@ mod hdus;
 mod here;
 mod law;
 mod looked;
+mod marked;
 mod pinned;
 mod pixels;
 mod plain_source;

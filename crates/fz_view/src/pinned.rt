@@ -1,15 +1,16 @@
 //! A view whose type keeps what no call changes.
-ghost use Rattle.std.specs.Prelude.{ℕ, ◌≡◌, ◌+◌, ◌≤◌, List, Option, length as len, Some, None};
+ghost use Rattle.std.specs.Prelude.{ℕ, ◌≡◌, ◌+◌, ◌<◌, ◌≤◌, List, OnErr, OnOk, Option, length as len, Some, None};
 ghost use Rattle.std.proofs.Props.{props};
-ghost use Rattle.fz_base.specs.Counts.{Tally, uncounted};
+ghost use Rattle.fz_base.specs.Counts.{HasCause, Tally, uncounted};
+ghost use Rattle.fz_base.specs.Source.{MayLog, Reads, logged};
 ghost use Rattle.fz_view.specs.Looked.{buffers_of};
-ghost use Rattle.fz_view.specs.Views.{restored_from, with_more};
+ghost use Rattle.fz_view.specs.Views.{KeepsFirst, restored_from, with_more};
 
 use crate::view::PlainView;
 use fz_base::{Failed, Source};
 use std::marker::{Brand, PhantomData};
 
-/// What no call through a view changes, for proofs alone.
+/// What no call through a view changes, for proofs only.
 pub trait Origin {
     ghost name: { ℕ };
 
@@ -71,7 +72,20 @@ impl<'a, S: Source, L: Origin> Source for Pinned<'a, S, L> {
         Ok(self.view.plain_len)
     }
 
-    fn read_at(&mut self, at: u64, into: &mut [u8]) -> Result<(), Failed> {
+    fn read_at(&mut self, at: u64, into: &mut [u8]) -> Result<(), Failed>
+        requires within { (n : ℕ) × (Some self.old.view.plain_len ≡ Some n) × (at + len into.old ≤ n) }
+        requires some { 0 < len into.old }
+        ensures bytes { OnOk result (Reads (restored_from (S.held self.old.view.inner.now)) at into.new) }
+        ensures logged { OnOk result (None ≡ logged at (len into.old) None) }
+        ensures log_err { OnErr result (MayLog at (len into.old) None None) }
+        ensures held { restored_from (S.held self.new.view.inner.now) ≡ restored_from (S.held self.old.view.inner.now) }
+        ensures attached { Some self.new.view.plain_len ≡ Some self.old.view.plain_len }
+        ensures cause { HasCause (with_more (S.tally self.old.view.inner.now) self.old.view.more)
+            (with_more (S.tally self.new.view.inner.now) self.new.view.more) result }
+
+        // The refusal that is kept is the first.
+        ensures later { KeepsFirst self.old.view.later self.new.view.later result }
+    {
         self.view.read_plain(at, into)
     }
 

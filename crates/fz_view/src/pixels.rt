@@ -8,7 +8,7 @@ ghost use Rattle.fz_view.specs.Boxes.{HasBox, HasPixel, LiesInImage, inside_of, 
 ghost use Rattle.fz_files.specs.Packed.{pixel_bits};
 ghost use Rattle.fz_fetch.specs.Images.{IsReadable};
 ghost use Rattle.fz_view.specs.Looked.{buffers_of};
-ghost use Rattle.fz_view.specs.Views.{ReadsFront, restored_from, with_more};
+ghost use Rattle.fz_view.specs.Views.{KeepsFirst, ReadsFront, restored_from, with_more};
 
 use crate::boxes::{box_at, has_pixel};
 use crate::filling::fill_band;
@@ -35,6 +35,7 @@ impl<'a, S: Source> PlainView<'a, S> {
         ensures file { self.new.length ≡ self.old.length }
         ensures space { buffers_of self.new.space ≡ buffers_of self.old.space }
         ensures cause { HasCause (with_more (S.tally self.old.inner.now) self.old.more) (with_more (S.tally self.new.inner.now) self.new.more) result }
+        ensures later { KeepsFirst self.old.later self.new.later result }
     {
         let mut done = 0;
         while done < into.len() {
@@ -58,6 +59,7 @@ impl<'a, S: Source> PlainView<'a, S> {
         ensures file { self.new.length ≡ self.old.length }
         ensures space { buffers_of self.new.space ≡ buffers_of self.old.space }
         ensures cause { HasCause (with_more (S.tally self.old.inner.now) self.old.more) (with_more (S.tally self.new.inner.now) self.new.more) result }
+        ensures later { KeepsFirst self.old.later self.new.later result }
     {
         pieces_law();
         let here = self.go_to(at)?;
@@ -96,6 +98,7 @@ impl<'a, S: Source> PlainView<'a, S> {
         ensures file { self.new.length ≡ self.old.length }
         ensures space { buffers_of self.new.space ≡ buffers_of self.old.space }
         ensures cause { HasCause (with_more (S.tally self.old.inner.now) self.old.more) (with_more (S.tally self.new.inner.now) self.new.more) result }
+        ensures later { KeepsFirst self.old.later self.new.later result }
     {
         log_law();
         pieces_law();
@@ -137,6 +140,7 @@ impl<'a, S: Source> PlainView<'a, S> {
         ensures file { self.new.length ≡ self.old.length }
         ensures space { buffers_of self.new.space ≡ buffers_of self.old.space }
         ensures cause { HasCause (with_more (S.tally self.old.inner.now) self.old.more) (with_more (S.tally self.new.inner.now) self.new.more) result }
+        ensures later { KeepsFirst self.old.later self.new.later result }
     {
         image_law();
         line_law();
@@ -174,6 +178,7 @@ impl<'a, S: Source> PlainView<'a, S> {
         ensures file { self.new.length ≡ self.old.length }
         ensures space { buffers_of self.new.space ≡ buffers_of self.old.space }
         ensures cause { HasCause (with_more (S.tally self.old.inner.now) self.old.more) (with_more (S.tally self.new.inner.now) self.new.more) result }
+        ensures later { KeepsFirst self.old.later self.new.later result }
     {
         readable_law();
         if let Some(region) = self.boxed {
@@ -202,6 +207,7 @@ impl<'a, S: Source> PlainView<'a, S> {
         ensures file { self.new.length ≡ self.old.length }
         ensures space { buffers_of self.new.space ≡ buffers_of self.old.space }
         ensures cause { HasCause (with_more (S.tally self.old.inner.now) self.old.more) (with_more (S.tally self.new.inner.now) self.new.more) result }
+        ensures later { KeepsFirst self.old.later self.new.later result }
     {
         image_law();
         ranges_law();

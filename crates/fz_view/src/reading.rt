@@ -111,7 +111,8 @@ fn here_for(buf: &[u8], read: &ReadHdu, made: &mut [u8], after_empty: bool, at: 
     ensures read { (result.read ≡ read.now) × (result.after_empty ≡ after_empty) × (result.at ≡ at) }
     ensures copied { read.now.image ≡ None → IsCopiedHere read.now at result }
     ensures image { IfSome read.now.image (λ i. IsImageHere (header_at_front read.now buf.now) read.now i.plan after_empty at result) }
-    ensures made { IfSome read.now.image (λ i. take (result.data_at - at) made.new ≡ header_bytes (plain_header (cards_of (header_at_front read.now buf.now)))) }
+    ensures made { IfSome read.now.image (λ i. take (result.data_at - at) made.new
+        ≡ header_bytes (plain_header (cards_of (header_at_front read.now buf.now)))) }
     ensures fits { result.data_at ≤ at + len made.old }
     ensures len { len made.new ≡ len made.old }
 {

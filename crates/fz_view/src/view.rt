@@ -12,6 +12,7 @@ ghost use Rattle.fz_files.specs.Touched.{touched_by};
 ghost use Rattle.fz_files.specs.declared.job.Job.TheVariants.{Unpack};
 ghost use Rattle.fz_view.specs.Holds.{AreFailures, AreReads, AreRefusals, IsAtHand, IsFixed, IsKnownView};
 ghost use Rattle.fz_view.specs.Looked.{HaveRoom, IsLooked, IsSoundLook, buffers_of};
+ghost use Rattle.fz_view.specs.Marked.{AreMarksOf};
 ghost use Rattle.fz_view.specs.Views.{failed_after, failed_by, is_late, later_after, more_by, restored_from};
 
 use crate::here::Here;
@@ -57,6 +58,7 @@ pub struct PlainView<'a, S: Source> {
     pub ghost at_hand: { IsAtHand length plain_len survey space here boxed } by { Prim.hlevel props },
     // What holds if it shows its bytes.
     pub ghost known: { ForSome (S.held inner.now) (λ g. IsKnownView g plain_len survey first space here boxed) } by { Prim.hlevel props },
+    pub ghost marks: { AreMarksOf (S.held inner.now) here space.numbers } by { Prim.hlevel props },
     pub ghost fits: { ForSome (restored_from (S.held inner.now)) (λ u. len u ≡ plain_len) } by { Prim.hlevel props },
     pub ghost octets: { HoldsOctets (restored_from (S.held inner.now)) } by { Prim.hlevel props },
     // What was read since the look began, what was refused, and what failed.

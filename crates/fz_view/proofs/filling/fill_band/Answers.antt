@@ -10,8 +10,8 @@ use Rattle.fz_grid.specs.declared.sieving.SieveTiles.{SieveTiles}
 use Rattle.fz_files.specs.Packed.{pixel_bits}
 use Rattle.fz_files.specs.Touched.{touched_by}
 use Rattle.fz_files.specs.declared.job.Job.TheVariants.{Unpack}
-use Rattle.fz_fetch.specs.Fetched.{IsFetched}
-use Rattle.fz_view.specs.Boxes.{HasBox}
+use Rattle.fz_view.specs.Boxes.{HasBox, HasPart}
+use Rattle.fz_view.specs.Marked.{AreMarks, table_in}
 use Rattle.fz_view.proofs.Filled.{IsTileWithPick, all_filled, both_read, first_left, never_ok, none_filled, none_read, one_filled, tiles_of_grid, tiles_with_pick}
 use Rattle.fz_view.proofs.filling.fill_band.Goals as goal
 
@@ -32,6 +32,7 @@ loop-tile-init g c =
       told_ranges = λ told. told;
       read = none_read held (touched_by Unpack) (g.S.Source.ranges c.args.source.now);
       space = record { block = refl; header = refl; translated = refl; numbers = refl; code = refl; band = refl };
+      marks = c.requires.marks;
       picked = subst (AllByRecursion (IsTileWithPick p sieve)) (sym given) all;
       done = none_filled held c.args.header.now p sieve left c.args.space.now.band
           (given ∙ tiles_of_grid p sieve c.new-grid.result.shape c.new-grid.result.tile (sieve_tiles_left c.sieve_tiles-tile-items.result) shape tile c.sieve_tiles-tile-items.ensures.tiles);
@@ -50,7 +51,8 @@ loop-tile-preserved g c =
     let behind : List ℕ = sieve_tiles_left c.next.new.self in
     let next : left ≡ c.in-Some.tile ∷ behind = c.in-Some.ensures.steps in
     let here = first_left (IsTileWithPick i.plan sieve) c.in-Some.tile left behind next old.picked in
-    let fetched : IsFetched held h i.plan c.in-Some.tile new.space.numbers = subst (λ (l : Option (List ℕ)). IsFetched l h i.plan c.in-Some.tile new.space.numbers) old.held one.fetched in
+    let put : IfSome held (λ f. HasPart f h i.plan sieve c.in-Some.tile c.loop-tile.space.band new.space.band) =
+    subst (λ (l : Option (List ℕ)). IfSome l (λ f. HasPart f h i.plan sieve c.in-Some.tile c.loop-tile.space.band new.space.band)) old.held one.placed in
     record {
       held = one.source.held_is ∙ old.held;
       attached = one.source.attached_is ∙ old.attached;
@@ -66,8 +68,9 @@ loop-tile-preserved g c =
         code = one.space.code ∙ old.space.code;
         band = one.space.band ∙ old.space.band;
       };
+      marks = subst (λ (l : Option (List ℕ)). IfSome l (λ f. AreMarks f h (table_in i.plan.codec new.space.numbers))) old.held one.marks;
       picked = here.1;
-      done = one_filled c.scattered_law.ensures.parts held h i sieve c.in-Some.tile left behind new.space.numbers c.args.space.now.band c.loop-tile.space.band new.space.band here.0.0 next c.requires.known fetched one.placed old.done;
+      done = one_filled c.scattered_law.ensures.parts held h i.plan sieve c.in-Some.tile left behind c.args.space.now.band c.loop-tile.space.band new.space.band next put old.done;
     }
 
 pub sieve_tiles-tile-items-requires : goal.sieve_tiles-tile-items-requires
@@ -81,6 +84,16 @@ put_tile-requires-clause-room g c =
     let bytes : ℕ = pixel_bits c.args.image.now.plan / 8 in
     subst (λ n. bytes * product (sieve_lengths c.sieve_of-sieve.result) ≤ n) (sym c.loop-tile.invariant.space.band)
     (subst (λ (l : List ℕ). bytes * product l ≤ length c.args.space.now.band) (sym c.sieve_of-sieve.ensures.lengths) c.requires.region.fits)
+
+pub put_tile-requires-clause-marks : goal.put_tile-requires-clause-marks
+put_tile-requires-clause-marks g c =
+    let i = c.args.image.now in
+    subst (λ (l : Option (List ℕ)). IfSome l (λ f. AreMarks f c.args.header.now (table_in i.plan.codec c.loop-tile.space.numbers))) (sym c.loop-tile.invariant.held) c.loop-tile.invariant.marks
+
+pub returns-in_err-put_tile-clause-marks : goal.returns-in_err-put_tile-clause-marks
+returns-in_err-put_tile-clause-marks g c =
+    let i = c.args.image.now in
+    subst (λ (l : Option (List ℕ)). IfSome l (λ f. AreMarks f c.args.header.now (table_in i.plan.codec c.put_tile.new.space.numbers))) c.loop-tile.invariant.held c.in_err-put_tile.ensures.marks
 
 pub returns-in_err-put_tile-clause-read : goal.returns-in_err-put_tile-clause-read
 returns-in_err-put_tile-clause-read g c =

@@ -1,4 +1,4 @@
--- The parts of the tiles so far are in the band; the source and the counts are as at the start.
+-- The parts of the tiles so far are in the band, and the marks are those of the image; the source and the counts are as at the start.
 use Rattle.std.proofs.Common.{◌≡◌, IfSome}
 use Rattle.std.specs.List.{AllByRecursion}
 use Rattle.fz_base.specs.Ranges.{LogsIn}
@@ -6,6 +6,7 @@ use Rattle.fz_base.specs.Told.{StaysTold}
 use Rattle.fz_grid.specs.SieveWalks.{sieve_tiles_left}
 use Rattle.fz_files.specs.Touched.{touched_by}
 use Rattle.fz_files.specs.declared.job.Job.TheVariants.{Unpack}
+use Rattle.fz_view.specs.Marked.{AreMarks, table_in}
 use Rattle.fz_view.specs.Scratch.{ScratchStays}
 use Rattle.fz_view.proofs.Filled.{IsFilling, IsTileWithPick}
 use Rattle.fz_view.proofs.filling.fill_band.Given as goal
@@ -18,6 +19,7 @@ invariant-loop-tile g l = record {
   told_ranges : StaysTold (g.S.Source.ranges l.fn.source) (g.S.Source.ranges l.source);
   read : IfSome (g.S.Source.held l.fn.source) (λ file. LogsIn (touched_by Unpack file) (g.S.Source.ranges l.fn.source) (g.S.Source.ranges l.source));
   space : ScratchStays l.fn.space l.space;
+  marks : IfSome (g.S.Source.held l.fn.source) (λ file. AreMarks file l.header (table_in l.image.plan.codec l.space.numbers));
   picked : AllByRecursion (IsTileWithPick l.image.plan l.sieve) (sieve_tiles_left l.tile-iterator);
   done : IsFilling (g.S.Source.held l.fn.source) l.header l.image.plan l.sieve (sieve_tiles_left l.tile-iterator) l.fn.space.band l.space.band;
 }

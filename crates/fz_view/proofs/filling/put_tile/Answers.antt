@@ -1,37 +1,46 @@
--- A tile is decoded, and its part goes to its place.
-use Rattle.std.proofs.Common.{◌≡◌, ℕ, List, Option, IfSome, Result, Err, sym, subst, rules}
-use Rattle.fz_base.specs.Stop.{IfRefused}
-use Rattle.fz_base.specs.declared.failure.Stop.{Stop}
-use Rattle.fz_job.specs.Clauses.{IsOfSomeRow}
-use Rattle.fz_view.proofs.Filled.{never_of, never_ok, said_of, some_row, touched_of}
+-- The buffers that were lent come back.
+use Rattle.std.proofs.Common.{◌≡◌, ℕ, ◌*◌, ◌+◌, ◌/◌, ◌≤◌, ℤ, List, length, Option, IfSome, OnOk, refl, sym, ap, ◌∙◌, subst}
+use Rattle.fz_view.specs.Boxes.{HasPart}
+use Rattle.fz_view.specs.Marked.{AreMarks, table_in}
+use Rattle.fz_view.proofs.ReadAgain.{given_back}
 use Rattle.fz_view.proofs.filling.put_tile.Goals as goal
 
-pub fetch_tile-requires-clause-said : goal.fetch_tile-requires-clause-said
-fetch_tile-requires-clause-said g c = said_of c.args.header.now c.args.image.now (g.S.Source.held c.args.source.now) c.requires.known
+pub put_beside-requires-clause-marks : goal.put_beside-requires-clause-marks
+put_beside-requires-clause-marks g c =
+    subst (λ (l : List ℤ). IfSome (g.S.Source.held c.args.source.now) (λ f. AreMarks f c.args.header.now (table_in c.args.image.now.plan.codec l))) (sym c.as_mut_slice-numbers.ensures.value) c.requires.marks
 
-pub returns-clause-never : goal.returns-clause-never
-returns-clause-never g c = never_ok (Unit {0}) _ (g.S.Source.held c.args.source.now)
-
-pub returns-in_err-fetch_tile-clause-row : goal.returns-in_err-fetch_tile-clause-row
-returns-in_err-fetch_tile-clause-row g c =
-    let stop : Stop = c.in_err-fetch_tile.field-0.0 in
-    let stopped : c.from_residual.result ≡ Err stop = search rules in
-    subst (λ (r : Result (Unit {0}) Stop). IfRefused r IsOfSomeRow) (sym stopped) (some_row (Unit {0}) (Unit {0}) stop c.args.header.now.hdu c.args.tile c.in_err-fetch_tile.ensures.row)
-
-pub returns-in_err-fetch_tile-clause-never : goal.returns-in_err-fetch_tile-clause-never
-returns-in_err-fetch_tile-clause-never g c =
+pub returns-clause-placed : goal.returns-clause-placed
+returns-clause-placed g c =
     let held : Option (List ℕ) = g.S.Source.held c.args.source.now in
-    let stop : Stop = c.in_err-fetch_tile.field-0.0 in
-    let stopped : c.from_residual.result ≡ Err stop = search rules in
-    subst (λ (r : Result (Unit {0}) Stop). IfSome held (λ f. IfRefused r (λ x. ⊥))) (sym stopped)
-    (never_of c.args.header.now c.args.image.now (Unit {0}) (Unit {0}) held stop c.args.tile c.requires.tile c.requires.known c.in_err-fetch_tile.ensures.fault)
+    let h = c.args.header.now in
+    let p = c.args.image.now.plan in
+    let old : List ℕ = c.args.space.now.band in
+    let new : List ℕ = c.put_beside.new.band in
+    let lent : c.as_mut_slice-band.result.now ≡ old = c.as_mut_slice-band.ensures.value in
+    let long : length new ≡ length old = c.put_beside.ensures.band ∙ ap length lent in
+    subst (λ (l : List ℕ). OnOk c.put_beside.result (IfSome held (λ f. HasPart f h p c.args.sieve.now c.args.tile old l))) (sym (given_back old new long))
+    (subst (λ (l : List ℕ). OnOk c.put_beside.result (IfSome held (λ f. HasPart f h p c.args.sieve.now c.args.tile l new))) lent c.put_beside.ensures.placed)
 
-pub returns-in_err-fetch_tile-clause-read : goal.returns-in_err-fetch_tile-clause-read
-returns-in_err-fetch_tile-clause-read g c =
-    touched_of c.args.header.now c.args.image.now (g.S.Source.held c.args.source.now) c.args.tile (g.S.Source.ranges c.args.source.now) (g.S.Source.ranges c.fetch_tile.new.source) c.requires.tile c.requires.known
-    c.in_err-fetch_tile.ensures.read
+pub returns-clause-marks : goal.returns-clause-marks
+returns-clause-marks g c =
+    let p = c.args.image.now.plan in
+    let old : List ℤ = c.args.space.now.numbers in
+    let new : List ℤ = c.put_beside.new.numbers in
+    let long : length new ≡ length old = c.put_beside.ensures.numbers ∙ ap length c.as_mut_slice-numbers.ensures.value in
+    subst (λ (l : List ℤ). IfSome (g.S.Source.held c.args.source.now) (λ f. AreMarks f c.args.header.now (table_in p.codec l))) (sym (given_back old new long)) c.put_beside.ensures.marks
 
-pub returns-clause-read : goal.returns-clause-read
-returns-clause-read g c =
-    touched_of c.args.header.now c.args.image.now (g.S.Source.held c.args.source.now) c.args.tile (g.S.Source.ranges c.args.source.now) (g.S.Source.ranges c.fetch_tile.new.source) c.requires.tile c.requires.known
-    c.in_ok-fetch_tile.ensures.read
+pub returns-clause-space : goal.returns-clause-space
+returns-clause-space g c =
+    let space = c.args.space.now in
+    let new = c.put_beside.new in
+    let numbers : length new.numbers ≡ length space.numbers = c.put_beside.ensures.numbers ∙ ap length c.as_mut_slice-numbers.ensures.value in
+    let code : length new.code ≡ length space.code = c.put_beside.ensures.code ∙ ap length c.as_mut_slice-code.ensures.value in
+    let band : length new.band ≡ length space.band = c.put_beside.ensures.band ∙ ap length c.as_mut_slice-band.ensures.value in
+    record {
+      block = refl;
+      header = refl;
+      translated = refl;
+      numbers = ap length (given_back space.numbers new.numbers numbers) ∙ numbers;
+      code = ap length (given_back space.code new.code code) ∙ code;
+      band = ap length (given_back space.band new.band band) ∙ band;
+    }

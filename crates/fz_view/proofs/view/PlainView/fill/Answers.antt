@@ -4,6 +4,8 @@ use Rattle.fz_base.specs.declared.failure.Stop.{Stop}
 use Rattle.fz_fetch.specs.Images.{IsReadable}
 use Rattle.fz_view.proofs.Imaging.{image_known, image_read}
 use Rattle.fz_view.proofs.Keeping.{boxed_at_hand, failures_kept, failures_stop, known_boxed, known_unboxed, late_row, reads_kept, refusals_kept, refusals_stop, room_filled, unboxed_at_hand}
+use Rattle.fz_view.proofs.Keeping.{first_kept}
+use Rattle.fz_view.proofs.Marking.{marks_filled, marks_shown}
 use Rattle.fz_view.proofs.Same.{failures_same, fits_same, octets_same, refusals_same}
 use Rattle.fz_view.proofs.Tallies.{cause_kept}
 use Rattle.fz_view.proofs.view.PlainView.fill.Goals as goal
@@ -38,6 +40,11 @@ fill_band-requires-clause-code g c =
     let small = (v.at_hand.read c.args.here.now c.requires.here).small c.args.image.now c.requires.image in
     omega (arith, small, v.room.code)
 
+pub fill_band-requires-clause-marks : goal.fill_band-requires-clause-marks
+fill_band-requires-clause-marks g c =
+    let v = c.args.self.now in
+    marks_shown (g.S.Source.held v.inner.now) v.here c.args.here.now c.args.image.now v.space.numbers c.requires.here c.requires.image v.marks
+
 pub invariant_of-self : goal.invariant_of-self
 invariant_of-self g c =
     let v = c.args.self.now in
@@ -52,6 +59,7 @@ invariant_of-self g c =
       room = room_filled v.survey.header_len v.survey.tile v.space new.space v.room done.space;
       at_hand = boxed_at_hand v.length v.plain_len v.survey v.space new.space v.here v.boxed c.args.here.now c.args.image.now c.args.region.now done.space c.requires.here c.requires.image c.requires.region v.at_hand;
       known = known_boxed v.plain_len v.survey v.first held held' v.space new.space v.here v.boxed c.args.here.now c.args.region.now same done.space c.requires.here done.filled v.known;
+      marks = marks_filled held held' same v.here c.args.here.now c.args.image.now new.space.numbers c.requires.here c.requires.image done.marks;
       fits = fits_same held held' same v.plain_len v.fits;
       octets = octets_same held held' same v.octets;
       reads = reads_kept c.ranges_law.ensures.join held held' (g.S.Source.ranges v.start.value) (g.S.Source.ranges v.inner.now) (g.S.Source.ranges new.source) same done.read done.told v.reads;
@@ -76,6 +84,7 @@ invariant_of-self-in-Err g c =
       room = room_filled v.survey.header_len v.survey.tile v.space new.space v.room done.space;
       at_hand = unboxed_at_hand v.length v.plain_len v.survey v.space new.space v.here v.boxed done.space v.at_hand;
       known = known_unboxed v.plain_len v.survey v.first held held' v.space new.space v.here v.boxed same done.space v.known;
+      marks = marks_filled held held' same v.here c.args.here.now c.args.image.now new.space.numbers c.requires.here c.requires.image done.marks;
       fits = fits_same held held' same v.plain_len v.fits;
       octets = octets_same held held' same v.octets;
       reads = reads_kept c.ranges_law.ensures.join held held' (g.S.Source.ranges v.start.value) (g.S.Source.ranges v.inner.now) (g.S.Source.ranges new.source) same done.read done.told v.reads;
@@ -91,3 +100,6 @@ returns-in-Err-clause-cause g c =
     let new = c.fill_band.new in
     cause_kept (Unit {0}) (g.S.Source.tally v.inner.now) (g.S.Source.tally new.source) v.more c.keep_stop.new.more c.in-Err.stop c.keep_stop.result c.keep_stop.ensures.more c.keep_stop.ensures.answer
     c.in-Err.ensures.cause.kept c.in-Err.ensures.cause.stop
+
+pub returns-in-Err-clause-later : goal.returns-in-Err-clause-later
+returns-in-Err-clause-later g c = first_kept (Unit {0}) c.args.self.now.later c.keep_stop.new.later c.in-Err.stop c.keep_stop.result c.keep_stop.ensures.later

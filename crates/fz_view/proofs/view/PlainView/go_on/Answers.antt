@@ -6,6 +6,7 @@ use Rattle.fz_view.specs.Here.{IsPlaced}
 use Rattle.fz_view.specs.Laws.{HasNext}
 use Rattle.fz_view.specs.declared.here.Here.{Here}
 use Rattle.fz_view.proofs.Keeping.{changed_late, changed_why, failures_kept, failures_stop, never_missed, next_begins, next_of_view, refusals_kept, refusals_stop}
+use Rattle.fz_view.proofs.Keeping.{first_kept}
 use Rattle.fz_view.proofs.Tallies.{cause_kept, kept_same}
 use Rattle.fz_view.proofs.view.PlainView.go_on.Goals as goal
 
@@ -44,6 +45,7 @@ invariant_of-self g c =
       room = v.room;
       at_hand = v.at_hand;
       known = v.known;
+      marks = v.marks;
       fits = v.fits;
       octets = v.octets;
       reads = v.reads;
@@ -60,3 +62,7 @@ returns-then-not-is_there-clause-cause g c =
     let now = g.S.Source.tally v.inner.now in
     let stop : Stop = c.changed-stop.result in
     cause_kept Here now now v.more c.keep_stop.new.more stop c.keep_stop.result c.keep_stop.ensures.more c.keep_stop.ensures.answer (kept_same now) (changed_why now stop _ c.changed-stop.ensures)
+
+pub returns-then-not-is_there-clause-later : goal.returns-then-not-is_there-clause-later
+returns-then-not-is_there-clause-later g c =
+    first_kept Here c.args.self.now.later c.keep_stop.new.later c.changed-stop.result c.keep_stop.result c.keep_stop.ensures.later

@@ -13,6 +13,7 @@ invariant-loop-here g l = record {
   file : l.self.length ≡ l.fn.self.length;
   space : buffers_of l.self.space ≡ buffers_of l.fn.self.space;
   cause : with_more (g.S.Source.tally l.self.inner.now) l.self.more ≡ with_more (g.S.Source.tally l.fn.self.inner.now) l.fn.self.more;
+  later : l.self.later ≡ l.fn.self.later;
   here : l.self.here ≡ Some l.here;
   low : l.here.at ≤ l.at;
 }

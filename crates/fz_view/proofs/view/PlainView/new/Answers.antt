@@ -3,6 +3,7 @@ use Rattle.std.proofs.Common.{ℕ, ◌≤◌, List, Option}
 use Rattle.fz_files.specs.declared.job.Job.TheVariants.{Unpack}
 use Rattle.fz_view.proofs.Opening.{fits_known, known_view, no_failures, no_refusals, octets_known, reads_since}
 use Rattle.fz_view.proofs.Keeping.{none_at_hand}
+use Rattle.fz_view.proofs.Marking.{marks_none}
 use Rattle.fz_view.proofs.Somes.{for_some}
 use Rattle.fz_view.proofs.view.PlainView.new.Goals as goal
 
@@ -25,6 +26,7 @@ invariant_of-result g c =
       room = c.requires.sound.room;
       at_hand = none_at_hand c.args.length l.plain_len l.survey l.space;
       known = known_view c.first_fault_law.ensures.only (c.known_law.ensures.know Unpack tt) held l c.requires.looked;
+      marks = marks_none held l.space.numbers;
       fits = fits_known held l c.requires.looked;
       octets = octets_known c.restored_law.ensures.stands c.restored_bytes_law.ensures held l (g.met.S.Source.octets c.args.source.now) c.requires.looked;
       reads = reads_since held (g.S.Source.ranges c.args.start.value) (g.S.Source.ranges c.args.source.now) c.requires.touched c.requires.told;

@@ -7,6 +7,8 @@ use Rattle.fz_files.specs.declared.job.Job.TheVariants.{Unpack}
 use Rattle.fz_view.specs.Views.{is_late}
 use Rattle.fz_view.proofs.Copying.{copy_read}
 use Rattle.fz_view.proofs.Keeping.{failures_kept, failures_stop, reading_never, reading_not_refused, reading_stopped, reads_kept, refusals_kept, refusals_stop}
+use Rattle.fz_view.proofs.Keeping.{first_kept}
+use Rattle.fz_view.proofs.Marking.{marks_same}
 use Rattle.fz_view.proofs.Same.{failures_same, fits_same, known_same, octets_same, refusals_same}
 use Rattle.fz_view.proofs.Shown.{copied_shown}
 use Rattle.fz_view.proofs.Tallies.{cause_kept}
@@ -54,6 +56,7 @@ invariant_of-self g c =
       room = v.room;
       at_hand = v.at_hand;
       known = known_same held held' same v.plain_len v.survey v.first v.space v.here v.boxed v.known;
+      marks = marks_same held held' same v.here v.space.numbers v.marks;
       fits = fits_same held held' same v.plain_len v.fits;
       octets = octets_same held held' same v.octets;
       reads = reads_kept c.ranges_law.ensures.join held held' (g.S.Source.ranges v.start.value) (g.S.Source.ranges v.inner.now) (g.S.Source.ranges new.source) same read done.told v.reads;
@@ -85,6 +88,7 @@ invariant_of-self-in-Err g c =
       room = v.room;
       at_hand = v.at_hand;
       known = known_same held held' same v.plain_len v.survey v.first v.space v.here v.boxed v.known;
+      marks = marks_same held held' same v.here v.space.numbers v.marks;
       fits = fits_same held held' same v.plain_len v.fits;
       octets = octets_same held held' same v.octets;
       reads = reads_kept c.ranges_law.ensures.join held held' (g.S.Source.ranges v.start.value) (g.S.Source.ranges v.inner.now) (g.S.Source.ranges new.source) same read done.told v.reads;
@@ -102,3 +106,6 @@ returns-in-Err-clause-cause g c =
     let t1 = g.S.Source.tally c.read_front.new.source in
     cause_kept ℕ t0 t1 v.more c.keep_stop.new.more c.reading.result c.keep_stop.result c.keep_stop.ensures.more c.keep_stop.ensures.answer
     c.in-Err.ensures.cause.kept (reading_stopped t0 t1 c.in-Err.failed c.reading.result c.reading.ensures c.in-Err.ensures.cause)
+
+pub returns-in-Err-clause-later : goal.returns-in-Err-clause-later
+returns-in-Err-clause-later g c = first_kept ℕ c.args.self.now.later c.keep_stop.new.later c.reading.result c.keep_stop.result c.keep_stop.ensures.later

@@ -1,8 +1,10 @@
 -- The HDU is at hand, or why its header was not read is kept.
-use Rattle.std.proofs.Common.{◌≡◌, ℕ, List, Option, ◌∙◌}
+use Rattle.std.proofs.Common.{◌≡◌, ℕ, List, Option, Some, None, refl, ◌∙◌}
 use Rattle.fz_base.specs.declared.failure.Stop.{Stop}
 use Rattle.fz_view.specs.declared.here.Here.{Here}
-use Rattle.fz_view.proofs.Keeping.{begun_of, failures_kept, failures_stop, known_none, known_read, late_changed, none_at_hand, read_at_hand, reads_kept, refusals_kept, refusals_stop, room_read}
+use Rattle.fz_view.proofs.Keeping.{begun_of, bytes_filled, bytes_read, failures_kept, failures_stop, known_none, known_read, known_unboxed, late_changed, none_at_hand, read_at_hand, reads_kept, refusals_kept, refusals_stop, room_filled, room_read, unboxed_at_hand}
+use Rattle.fz_view.proofs.Keeping.{first_kept}
+use Rattle.fz_view.proofs.Marking.{marks_cleared, marks_none}
 use Rattle.fz_view.proofs.Same.{failures_same, fits_same, octets_same, refusals_same}
 use Rattle.fz_view.proofs.Tallies.{cause_kept}
 use Rattle.fz_view.proofs.view.PlainView.read_hdu.Goals as goal
@@ -15,22 +17,33 @@ read_begun-answer-requires-clause-told g c =
 pub invariant_of-self : goal.invariant_of-self
 invariant_of-self g c =
     let v = c.args.self.now in
-    let new = c.read_begun-answer.new in
+    let mid = c.read_begun-answer.new in
+    let new = c.forget_marks.new.space in
     let held : Option (List ℕ) = g.S.Source.held v.inner.now in
-    let held' : Option (List ℕ) = g.S.Source.held new.source in
+    let held' : Option (List ℕ) = g.S.Source.held mid.source in
     let same : held' ≡ held = c.in-Ok.ensures.source.held_is in
+    let stay = c.forget_marks.ensures.space in
     record {
       is_attached = c.in-Ok.ensures.source.attached_is ∙ v.is_attached;
       fixed = v.fixed;
-      room = room_read v.survey.header_len v.survey.tile v.space new.space v.room c.in-Ok.ensures.space;
-      at_hand = read_at_hand v.length v.plain_len v.survey v.space new.space c.in-Ok.here c.in-Ok.ensures.space c.in-Ok.ensures.read;
-      known = known_read v.plain_len v.survey v.first held held' v.space new.space v.here v.boxed c.in-Ok.here same v.known c.in-Ok.ensures.told;
+      room = room_filled v.survey.header_len v.survey.tile mid.space new (room_read v.survey.header_len v.survey.tile v.space mid.space v.room c.in-Ok.ensures.space) stay;
+      at_hand = unboxed_at_hand v.length v.plain_len v.survey mid.space new (Some c.in-Ok.here) None stay
+          (read_at_hand v.length v.plain_len v.survey v.space mid.space c.in-Ok.here c.in-Ok.ensures.space c.in-Ok.ensures.read);
+      known = known_unboxed v.plain_len v.survey v.first held' held' mid.space new (Some c.in-Ok.here) None refl stay
+          (known_read v.plain_len v.survey v.first held held' v.space mid.space v.here v.boxed c.in-Ok.here same v.known c.in-Ok.ensures.told);
+      marks = marks_cleared held' (Some c.in-Ok.here) new.numbers c.forget_marks.ensures.none;
       fits = fits_same held held' same v.plain_len v.fits;
       octets = octets_same held held' same v.octets;
-      reads = reads_kept c.ranges_law.ensures.join held held' (g.S.Source.ranges v.start.value) (g.S.Source.ranges v.inner.now) (g.S.Source.ranges new.source) same c.in-Ok.ensures.touched c.in-Ok.ensures.told_ranges v.reads;
+      reads = reads_kept c.ranges_law.ensures.join held held' (g.S.Source.ranges v.start.value) (g.S.Source.ranges v.inner.now) (g.S.Source.ranges mid.source) same c.in-Ok.ensures.touched c.in-Ok.ensures.told_ranges v.reads;
       refusals = refusals_same held held' same v.later v.more v.refusals;
-      failures = failures_same (g.S.Source.tally v.start.value) (g.S.Source.tally v.inner.now) (g.S.Source.tally new.source) v.failed c.in-Ok.ensures.cause.ok v.failures;
+      failures = failures_same (g.S.Source.tally v.start.value) (g.S.Source.tally v.inner.now) (g.S.Source.tally mid.source) v.failed c.in-Ok.ensures.cause.ok v.failures;
     }
+
+pub returns-in-Ok-clause-space : goal.returns-in-Ok-clause-space
+returns-in-Ok-clause-space g c =
+    let v = c.args.self.now in
+    let mid = c.read_begun-answer.new in
+    bytes_filled mid.space c.forget_marks.new.space c.forget_marks.ensures.space ∙ bytes_read v.space mid.space c.in-Ok.ensures.space
 
 pub invariant_of-self-in-Err : goal.invariant_of-self-in-Err
 invariant_of-self-in-Err g c =
@@ -48,6 +61,7 @@ invariant_of-self-in-Err g c =
       room = room_read v.survey.header_len v.survey.tile v.space new.space v.room c.in-Err.ensures.space;
       at_hand = none_at_hand v.length v.plain_len v.survey new.space;
       known = known_none v.plain_len v.survey v.first held held' v.space new.space v.here v.boxed same v.known;
+      marks = marks_none held' new.space.numbers;
       fits = fits_same held held' same v.plain_len v.fits;
       octets = octets_same held held' same v.octets;
       reads = reads_kept c.ranges_law.ensures.join held held' (g.S.Source.ranges v.start.value) (g.S.Source.ranges v.inner.now) (g.S.Source.ranges new.source) same c.in-Err.ensures.touched c.in-Err.ensures.told_ranges v.reads;
@@ -63,3 +77,6 @@ returns-in-Err-clause-cause g c =
     let new = c.read_begun-answer.new in
     cause_kept Here (g.S.Source.tally v.inner.now) (g.S.Source.tally new.source) v.more c.keep_stop.new.more c.in-Err.stop c.keep_stop.result c.keep_stop.ensures.more c.keep_stop.ensures.answer
     c.in-Err.ensures.cause.kept c.in-Err.ensures.cause.stop
+
+pub returns-in-Err-clause-later : goal.returns-in-Err-clause-later
+returns-in-Err-clause-later g c = first_kept Here c.args.self.now.later c.keep_stop.new.later c.in-Err.stop c.keep_stop.result c.keep_stop.ensures.later

@@ -25,6 +25,7 @@ loop-done-preserved g c =
       file = one.file ∙ old.file;
       space = one.space ∙ old.space;
       cause = one.cause.ok ∙ old.cause;
+      later = one.later.ok ∙ old.later;
       long = same ∙ old.long;
       few = omega (arith, same, few, old.few);
       bytes = more_front plain done n c.args.at into (piece ++ post_of done left into) (put_mid done left into piece) old.few refl old.bytes

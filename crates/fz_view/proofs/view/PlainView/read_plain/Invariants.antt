@@ -13,6 +13,7 @@ invariant-loop-done g l = record {
   file : l.self.length ≡ l.fn.self.length;
   space : buffers_of l.self.space ≡ buffers_of l.fn.self.space;
   cause : with_more (g.S.Source.tally l.self.inner.now) l.self.more ≡ with_more (g.S.Source.tally l.fn.self.inner.now) l.fn.self.more;
+  later : l.self.later ≡ l.fn.self.later;
   long : length l.into ≡ length l.fn.into;
   few : l.done ≤ length l.into;
   bytes : IfSome (restored_from (g.S.Source.held l.fn.self.inner.now)) (λ u. take l.done l.into ≡ take l.done (drop l.at u));

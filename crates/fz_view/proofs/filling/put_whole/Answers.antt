@@ -1,0 +1,55 @@
+-- A tile is decoded, and its part goes to its place.
+use Rattle.std.proofs.Common.{◌≡◌, ℕ, ◌≤◌, List, length, Option, IfSome, Result, Err, sym, subst, rules}
+use Rattle.fz_base.specs.Stop.{IfRefused}
+use Rattle.fz_base.specs.declared.failure.Stop.{Stop}
+use Rattle.fz_grid.specs.Region.{lengths_of}
+use Rattle.fz_tile.specs.Pixels.{place_count}
+use Rattle.fz_files.specs.Packed.{pixel_bits}
+use Rattle.fz_files.specs.Restored.{pixels_of}
+use Rattle.fz_job.specs.Clauses.{IsOfSomeRow}
+use Rattle.fz_view.proofs.Filled.{never_of, never_ok, said_of, some_row, touched_of, whole_put}
+use Rattle.fz_view.proofs.Stretches.{fewer_fit}
+use Rattle.fz_view.proofs.filling.put_whole.Goals as goal
+
+pub fetch_tile-requires-clause-said : goal.fetch_tile-requires-clause-said
+fetch_tile-requires-clause-said g c = said_of c.args.header.now c.args.image.now (g.S.Source.held c.args.source.now) c.requires.known
+
+pub place_part-requires-clause-numbers : goal.place_part-requires-clause-numbers
+place_part-requires-clause-numbers g c =
+    let p = c.args.image.now.plan in
+    let divided = c.requires.image.divided in
+    let few : pixels_of p c.args.tile ≤ pixels_of p 0 = c.tile_pixels_law.ensures.most (lengths_of p.shape) (lengths_of p.tile) c.args.tile (c.shape_law.ensures.tiles p.shape p.tile divided) in
+    subst (λ n. place_count (pixel_bits p) (pixels_of p c.args.tile) ≤ n) (sym c.in_ok-fetch_tile.ensures.numbers)
+    (fewer_fit (pixel_bits p) (pixels_of p c.args.tile) (pixels_of p 0) (length c.args.numbers.now) few c.requires.numbers)
+
+pub returns-clause-placed : goal.returns-clause-placed
+returns-clause-placed g c =
+    whole_put (g.S.Source.held c.args.source.now) c.args.header.now c.args.image.now c.args.sieve.now c.args.tile c.fetch_tile.new.numbers c.args.band.now c.place_part.new.out c.requires.tile c.requires.known
+    c.in_ok-fetch_tile.ensures.fetched c.place_part.ensures.placed
+
+pub returns-clause-never : goal.returns-clause-never
+returns-clause-never g c = never_ok (Unit {0}) _ (g.S.Source.held c.args.source.now)
+
+pub returns-in_err-fetch_tile-clause-row : goal.returns-in_err-fetch_tile-clause-row
+returns-in_err-fetch_tile-clause-row g c =
+    let stop : Stop = c.in_err-fetch_tile.field-0.0 in
+    let stopped : c.from_residual.result ≡ Err stop = search rules in
+    subst (λ (r : Result (Unit {0}) Stop). IfRefused r IsOfSomeRow) (sym stopped) (some_row (Unit {0}) (Unit {0}) stop c.args.header.now.hdu c.args.tile c.in_err-fetch_tile.ensures.row)
+
+pub returns-in_err-fetch_tile-clause-never : goal.returns-in_err-fetch_tile-clause-never
+returns-in_err-fetch_tile-clause-never g c =
+    let held : Option (List ℕ) = g.S.Source.held c.args.source.now in
+    let stop : Stop = c.in_err-fetch_tile.field-0.0 in
+    let stopped : c.from_residual.result ≡ Err stop = search rules in
+    subst (λ (r : Result (Unit {0}) Stop). IfSome held (λ f. IfRefused r (λ x. ⊥))) (sym stopped)
+    (never_of c.args.header.now c.args.image.now (Unit {0}) (Unit {0}) held stop c.args.tile c.requires.tile c.requires.known c.in_err-fetch_tile.ensures.fault)
+
+pub returns-in_err-fetch_tile-clause-read : goal.returns-in_err-fetch_tile-clause-read
+returns-in_err-fetch_tile-clause-read g c =
+    touched_of c.args.header.now c.args.image.now (g.S.Source.held c.args.source.now) c.args.tile (g.S.Source.ranges c.args.source.now) (g.S.Source.ranges c.fetch_tile.new.source) c.requires.tile c.requires.known
+    c.in_err-fetch_tile.ensures.read
+
+pub returns-clause-read : goal.returns-clause-read
+returns-clause-read g c =
+    touched_of c.args.header.now c.args.image.now (g.S.Source.held c.args.source.now) c.args.tile (g.S.Source.ranges c.args.source.now) (g.S.Source.ranges c.fetch_tile.new.source) c.requires.tile c.requires.known
+    c.in_ok-fetch_tile.ensures.read
