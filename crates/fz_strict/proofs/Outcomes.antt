@@ -64,6 +64,22 @@ pub short_compared : (file : List ℕ) (s : Survey) (short : Short) → Compares
 short_compared file s NoRoom = λ known. tt
 short_compared file s (PastLimit live asked limit) = λ known. tt
 
+pub if_refused : {X : Type 0} (P : Fault → Type 0) (r : Result X Stop) → ((x : Fault) → P x) → IfRefused r P
+if_refused P (Ok x) all = tt
+if_refused P (Err (Refused x)) all = all x
+if_refused P (Err ReadFault) all = tt
+if_refused P (Err WriteFault) all = tt
+if_refused P (Err (OverLimit live asked limit)) all = tt
+if_refused P (Err NoMemory) all = tt
+
+pub refused_weaker : {X : Type 0} {P Q : Fault → Type 0} (r : Result X Stop) → ((x : Fault) → P x → Q x) → IfRefused r P → IfRefused r Q
+refused_weaker (Ok x) f p = tt
+refused_weaker (Err (Refused x)) f p = f x p
+refused_weaker (Err ReadFault) f p = tt
+refused_weaker (Err WriteFault) f p = tt
+refused_weaker (Err (OverLimit live asked limit)) f p = tt
+refused_weaker (Err NoMemory) f p = tt
+
 pub short_refuses : (X : Type 0) (P : Fault → Type 0) (short : Short) → IfRefused {X = X} (Err (stop_of_short short)) P
 short_refuses X P NoRoom = tt
 short_refuses X P (PastLimit live asked limit) = tt

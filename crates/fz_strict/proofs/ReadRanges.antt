@@ -18,11 +18,9 @@ use Rattle.fz_head.specs.declared.job_checks.PackedImage.{PackedImage}
 use Rattle.fz_files.specs.Touched.{data_range, data_touched, image_ranges, packed_ranges}
 use Rattle.fz_files.specs.Restored.{is_image}
 use Rattle.fz_files.specs.declared.job.Job.TheVariants.{Verify}
-use Rattle.fz_fetch.specs.Fetched.{fetched_ranges}
-use Rattle.fz_fetch.specs.Images.{AreTilesOf, IsSaid}
 use Rattle.fz_survey.specs.declared.survey.Survey.{Survey}
 use Rattle.fz_again.specs.Again.{IsAgain, ReadsAsSeen, WasSeen, WereSeen}
-use Rattle.fz_again.specs.Hdus.{HeaderIsOfHdus, TilesAreOfImage, ranges_of_hdus}
+use Rattle.fz_again.specs.Hdus.{HeaderIsOfHdus, ranges_of_hdus}
 use Rattle.fz_again.specs.Headers.{ranges_of_headers}
 use Rattle.fz_again.specs.Known.{IsList}
 use Rattle.fz_again.specs.declared.again.ReadHdu.{ReadHdu}
@@ -80,12 +78,6 @@ lies_behind [] back byte is = is
 lies_behind ((start, count) ∷ front) back byte is = inr (lies_behind front back byte is)
 
 -- ---- a packed image
-
--- the rows of a round
-pub round_read : TilesAreOfImage → (held : Option (List ℕ)) (h : Header) (image : PackedImage) (tiles : List ℕ) (old new : Option (List (ℕ × ℕ))) → IfSome held (λ g. IsSaid g h image) → AreTilesOf image tiles →
-    IfSome held (λ g. LogsIn (fetched_ranges g h tiles) old new) → IfSome held (λ g. LogsIn (image_ranges g h) old new)
-round_read law None h image tiles old new said are reads = tt
-round_read law (Some g) h image tiles old new said are reads = law g h image tiles old new said are reads
 
 pub rows_read : (held : Option (List ℕ)) (h : Header) (old new : Option (List (ℕ × ℕ))) → IfSome held (λ g. LogsIn (image_ranges g h) old new) → IfSome held (λ g. LogsIn (table_ranges g h) old new)
 rows_read None h old new reads = tt

@@ -1,8 +1,8 @@
 -- Rounds of tiles that were fetched, one after another (FITS 4.0, section 10.1).
-use Rattle.std.proofs.Common.{◌≡◌, ℕ, zero, suc, ◌+◌, ◌-◌, ◌*◌, ◌<◌, ◌≤◌, ℤ, List, [], ◌∷◌, ◌++◌, length, map, replicate, slice_index, Option, Some, None, IfSome, Result, Ok, Err, inl, inr, sym, ap, ◌∙◌, subst, arith}
+use Rattle.std.proofs.Common.{◌≡◌, ℕ, zero, suc, ◌+◌, ◌-◌, ◌*◌, ◌<◌, ◌≤◌, List, [], ◌∷◌, ◌++◌, map, replicate, slice_index, Option, Some, None, IfSome, Err, inl, inr, sym, ap, ◌∙◌, subst, arith}
 use Rattle.std.specs.List.{range_with_len}
 use Rattle.std.proofs.lemmas.List.{map-append}
-use Rattle.std.proofs.lemmas.List.FromFn.{get_or-range_with_len, length-range_with_len}
+use Rattle.std.proofs.lemmas.List.FromFn.{get_or-range_with_len}
 use Rattle.fz_base.specs.declared.fault.Fault.{Fault}
 use Rattle.fz_base.specs.declared.failure.Stop.{Stop}
 use Rattle.fz_base.specs.declared.failure.Stop.TheVariants.{Refused, ReadFault, WriteFault, OverLimit, NoMemory}
@@ -14,9 +14,7 @@ use Rattle.fz_files.specs.FirstFault.{ImageRow, IsFirstRowFault, image_row, rows
 use Rattle.fz_files.specs.Packed.{tiles_in}
 use Rattle.fz_job.specs.Keeps.{WindowStays}
 use Rattle.fz_pool.specs.Window.{HasSlotsFor, Pool}
-use Rattle.fz_pool.specs.declared.slot.Slot.{Slot}
-use Rattle.fz_fetch.specs.Fetched.{AreFetched, RowsGive, TellsRowFault}
-use Rattle.fz_fetch.specs.Images.{AreTilesOf, IsSaid}
+use Rattle.fz_fetch.specs.Images.{IsSaid}
 
 -- ---- lists of rows
 
@@ -39,7 +37,7 @@ module _ (file : List ℕ) where
 pub number_at : (first count i : ℕ) → i < count → slice_index (range_with_len first count) i ≡ first + i
 number_at first count i low = get_or-range_with_len first count i 0 low
 
--- numbers from one on are those of a round, and those behind it
+-- numbers from one on are those of a round, and those after it
 pub range_more : (a m n : ℕ) → range_with_len a (m + n) ≡ range_with_len a m ++ range_with_len (a + m) n
 range_more a zero n =
     let none : zero + n ≡ n = omega arith in
@@ -51,26 +49,10 @@ range_more a (suc m) n =
     ap (range_with_len a) long
     ∙ ap (λ (l : List ℕ). a ∷ l) (range_more (a + 1) m n ∙ ap (λ k. range_with_len (a + 1) m ++ range_with_len k n) place)
 
--- as many as there are places for them
-pub numbered : (first count : ℕ) (places tiles : List ℕ) → tiles ≡ range_with_len first (length places) → length places ≡ count → tiles ≡ range_with_len first count
-numbered first count places tiles are long = are ∙ ap (range_with_len first) long
-
--- they are numbers of tiles of the image
-pub tiles_of_image : (image : PackedImage) (first count : ℕ) (tiles : List ℕ) → tiles ≡ range_with_len first count → first + count ≤ tiles_in image.plan → AreTilesOf image tiles
-tiles_of_image image first count tiles are few =
-    subst (AreTilesOf image) (sym are)
-    (λ i low. let near : i < count = omega (arith, low, length-range_with_len first count) in let is = number_at first count i near in omega (arith, is, near, few))
-
 -- ---- rows
 
 module _ (file : List ℕ) (h : Header) where
-  -- rows that stand for pixels are sound
-  pub given_sound : (tiles : List ℕ) (pixels : List (List ℤ)) → RowsGive file h tiles pixels → IsFirstRowFault file (map (image_row h) tiles) None
-  given_sound [] pixels give = tt
-  given_sound (t ∷ ts) [] give = ((_, give 0 [] (omega arith)), given_sound ts [] (λ i e low. give (suc i) e (omega (arith, low))))
-  given_sound (t ∷ ts) (xs ∷ pixels) give = ((xs, give 0 [] (omega arith)), given_sound ts pixels (λ i e low. give (suc i) e (omega (arith, low))))
-
-  -- the fault of a round behind rows that are sound is the first of all
+  -- the fault of a round after rows that are sound is the first of all
   pub fault_in_round : (first count n : ℕ) (x : Fault) → first + count ≤ n → IsFirstRowFault file (map (image_row h) (range_with_len 0 first)) None →
       IsFirstRowFault file (map (image_row h) (range_with_len first count)) (Some x) → IsFirstRowFault file (map (image_row h) (range_with_len 0 n)) (Some x)
   fault_in_round first count n x few sound fault =
@@ -101,18 +83,6 @@ module _ (file : List ℕ) (h : Header) where
       subst (λ l. IsFirstRowFault file l None) (sym parts) (sound_both file (map (image_row h) (range_with_len 0 first)) (map (image_row h) (range_with_len first count)) front back)
 
 -- ---- where the source tells its bytes
-
--- the rows of a round are sound
-pub round_sound : (held : Option (List ℕ)) (h : Header) (p : Plan) (first count : ℕ) (tiles : List ℕ) (slots : List Slot) → tiles ≡ range_with_len first count → AreFetched held h p tiles slots →
-    IfSome held (λ file. IsFirstRowFault file (map (image_row h) (range_with_len first count)) None)
-round_sound None h p first count tiles slots are fetched = tt
-round_sound (Some file) h p first count tiles slots are fetched =
-    subst (λ (ts : List ℕ). IsFirstRowFault file (map (image_row h) ts) None) are (given_sound file h tiles fetched.pixels fetched.told)
-
--- or one of them is refused
-pub round_fault : {X : Type 0} (held : Option (List ℕ)) (h : Header) (first count : ℕ) (tiles : List ℕ) (r : Result X Stop) → tiles ≡ range_with_len first count → TellsRowFault held h tiles r →
-    IfRefused r (λ x. IfSome held (λ file. IsFirstRowFault file (map (image_row h) (range_with_len first count)) (Some x)))
-round_fault {X} held h first count tiles r are fault = subst (λ (ts : List ℕ). TellsRowFault {X = X} held h ts r) are fault
 
 pub none_sound : (held : Option (List ℕ)) (h : Header) → IfSome held (λ file. IsFirstRowFault file (map (image_row h) (range_with_len 0 0)) None)
 none_sound None h = tt
@@ -149,15 +119,6 @@ rounds_fault X held h image first count ReadFault said few sound fault = tt
 rounds_fault X held h image first count WriteFault said few sound fault = tt
 rounds_fault X held h image first count (OverLimit live asked limit) said few sound fault = tt
 rounds_fault X held h image first count NoMemory said few sound fault = tt
-
--- the refusal of a row, whatever is said of it beside
-pub refused_weaker : {X : Type 0} {P Q : Fault → Type 0} (r : Result X Stop) → ((x : Fault) → P x → Q x) → IfRefused r P → IfRefused r Q
-refused_weaker (Ok x) f p = tt
-refused_weaker (Err (Refused x)) f p = f x p
-refused_weaker (Err ReadFault) f p = tt
-refused_weaker (Err WriteFault) f p = tt
-refused_weaker (Err (OverLimit live asked limit)) f p = tt
-refused_weaker (Err NoMemory) f p = tt
 
 -- slots that stay have room as before
 pub room_stays : (pixels : ℕ) (old new : Pool) → HasSlotsFor pixels old → WindowStays old new → HasSlotsFor pixels new

@@ -1,4 +1,4 @@
--- A packed image whose header was restored, behind HDUs that are what `pack` writes (FITS 4.0, sections 10.1.1 and 10.1.2).
+-- A packed image whose header was restored, after HDUs that are what `pack` writes (FITS 4.0, sections 10.1.1 and 10.1.2).
 use Rattle.std.specs.Prelude.{ℕ, ◌≡◌, ◌-◌, ◌*◌, ◌^◌, ◌≤◌, Bool, true, List, length, take, codes, Option, Some, None, IfSome, if◌then◌else◌}
 use Rattle.fz_block.specs.Cards.{card_at}
 use Rattle.fz_block.specs.Checks.{is_set}
@@ -22,7 +22,7 @@ use Rattle.fz_strict.specs.SameImages.{ComparesImage, origin_before}
 use Rattle.fz_strict.specs.declared.image.Restored.{Restored}
 use Rattle.fz_strict.specs.declared.origin.Origin.{Origin}
 
--- The header of the table h with these cards is that of an image, which `pack` packs by this plan behind these HDUs: its facts, and the layout
+-- The header of the table h with these cards is that of an image, which `pack` packs by this plan after these HDUs: its facts, and the layout
 -- of the table that `pack` makes. There is none if there is a difference before it, or if `pack` does not pack it so.
 abbrev pub Restores : PackOptions → List (List ℕ) → Header → Plan → Option Origin → Option Restored → Type 0
 Restores o cards h p None now = now ≡ None

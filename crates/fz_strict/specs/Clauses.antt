@@ -1,5 +1,6 @@
 -- What the call promises of its answer, its takings and its peak.
-use Rattle.std.specs.Prelude.{ℕ, ◌≡◌, ◌+◌, ◌*◌, ◌<◌, ◌≤◌, ◌↔◌, max, Bool, true, false, List, [], ◌∷◌, ◌++◌, Option, None, Some, IfSome, IfErr, Result, OnOk, IsErrOf, ⊤}
+use Rattle.std.specs.Prelude.{ℕ, ◌≡◌, ◌+◌, ◌*◌, ◌<◌, ◌≤◌, ◌↔◌, ◌⊎◌, max, Bool, true, false, List, []}
+use Rattle.std.specs.Prelude.{◌∷◌, ◌++◌, Option, None, Some, IfSome, IfErr, Result, OnOk, IsErrOf, ⊤}
 use Rattle.fz_base.specs.Counts.{Rose, Tally, CountsKept}
 use Rattle.fz_base.specs.Meter.{Gauge}
 use Rattle.fz_base.specs.Stop.{IsRefused, TellsLimit}
@@ -11,7 +12,7 @@ use Rattle.fz_files.specs.Buffers.{header_takings, job_bound, largest_tile, long
 use Rattle.fz_files.specs.Walks.{header_fault}
 use Rattle.fz_files.specs.declared.job.Job.TheVariants.{Verify}
 use Rattle.fz_head.specs.WorkBuffers.{work_buffers}
-use Rattle.fz_job.specs.Clauses.{IsAnswer, greatest_bound}
+use Rattle.fz_job.specs.Clauses.{ComesLate, IsAnswer, greatest_bound}
 use Rattle.fz_survey.specs.Surveys.{survey_takings}
 use Rattle.fz_survey.specs.declared.checks.JobChecks.TheVariants.{Unpack as UnpackChecks}
 use Rattle.fz_survey.specs.declared.survey.Survey.{Survey}
@@ -44,9 +45,9 @@ later_takings (Some x) file = []
 abbrev pub strict_takings : List ℕ → List (ℕ × ℕ)
 strict_takings file = (0, 2880) ∷ (header_takings Verify file ++ later_takings (header_fault Verify file) file)
 
--- Why the call ended as it did: after Ok and after Refused no count rose, ReadFault comes only where the source's count of faults rose, and
--- OverLimit is the first of the takings that passes the limit, and comes where one does. The first taking, of one block, comes before anything
--- is read: a limit below that decides alone.
+-- Why the call ended as it did: after Ok and after Refused no count rose, ReadFault comes only if the source's count of faults rose, and
+-- OverLimit is the first of the takings that passes the limit, and comes if one does. The first taking, of one block, comes before anything
+-- is read: a limit below that decides by itself.
 pub record HasStrictCause {X : Type 0} (held : Option (List ℕ)) (source source' : Tally) (limit : ℕ) (result : Result X Stop) : Type 0 where
   pub done : OnOk result (source' ≡ source)
   pub refused : IsRefused result → source' ≡ source
@@ -56,6 +57,11 @@ pub record HasStrictCause {X : Type 0} (held : Option (List ℕ)) (source source
   pub first_past : IfSome held (λ file. TellsFirstPast limit (strict_takings file) result)
   pub block : limit < 2880 → IsErrOf result (OverLimit 0 2880 limit) × (source' ≡ source)
 
--- where no count of faults rose, and the limit is at least the bound, the answer is Ok or Refused, or there was no memory
+-- A refusal is that of a row, or of an HDU that changed since the look, or the peak is one that the look may reach: 740,160 bytes, or what
+-- the peak was before. So nothing is said if the buffers of the work are no larger than that.
+abbrev pub IsLateOrEarly : ℕ → ℕ → Fault → Type 0
+IsLateOrEarly peak peak' x = ComesLate Verify x ⊎ (peak' ≤ max peak (2880 + 737280))
+
+-- if no count of faults rose, and the limit is at least the bound, the answer is Ok or Refused, or there was no memory
 abbrev pub AnswersStrict : {X : Type 0} → Option (List ℕ) → Tally → Tally → ℕ → Result X Stop → Type 0
 AnswersStrict held source source' limit result = ¬ Rose source.faults source'.faults → IfSome held (λ file. job_bound Verify file 1 ≤ limit → IsAnswer result)

@@ -1,5 +1,6 @@
 -- Bytes of a packed file, compared with those that `pack` writes (FITS 4.0, sections 3.3.2, 7.3.5 and 10.1).
-use Rattle.std.specs.Prelude.{false, ℕ, ◌≡◌, ◌+◌, ◌-◌, ◌*◌, ◌^◌, ◌<◌, ◌≤◌, ℤ, Bool, true, bytes_eq, nat_le, ◌==◌, ◌&&◌, List, length, replicate, take, drop, Option, Some, None, IfSome}
+use Rattle.std.specs.Prelude.{false, ℕ, ◌≡◌, ◌+◌, ◌-◌, ◌*◌, ◌^◌, ◌<◌, ◌≤◌, ℤ, Bool, true, bytes_eq, nat_le}
+use Rattle.std.specs.Prelude.{◌==◌, ◌&&◌, List, length, replicate, take, drop, Option, Some, None, IfSome}
 use Rattle.std.specs.List.{range_with_len}
 use Rattle.fz_block.specs.Hdus.{header_bytes}
 use Rattle.fz_block.specs.Header.{data_start_of, next_start_of, whole_blocks_of}
@@ -33,16 +34,16 @@ has_fill file end l heap =
 abbrev pub has_header : List ℕ → Header → List ℕ → Bool
 has_header file h bytes = (h.start + length bytes == data_start_of h) && has_bytes file h.start (data_start_of h) bytes
 
--- the primary without data that `pack` writes stands before the HDU, and nothing else
+-- the primary without data that `pack` writes is before the HDU, and nothing else
 abbrev pub has_empty_primary : List ℕ → Header → Bool
 has_empty_primary file h = (h.start == 2880) && has_bytes file 0 h.start (header_bytes empty_primary)
 
--- what stands before the table of an image is what `pack` writes, if the image was a primary
+-- what is before the table of an image is what `pack` writes, if the image was a primary
 abbrev pub begins_right : Bool → List ℕ → Header → Bool
 begins_right false file h = true
 begins_right true file h = has_empty_primary file h
 
--- All but the rows and the heap is what `pack` writes for tiles with these codes: the table ends behind the heap and zeros, what stands before
+-- All but the rows and the heap is what `pack` writes for tiles with these codes: the table ends after the heap and zeros, what is before
 -- the table of a primary is the primary without data, and the header is that of the table of an image with these cards.
 abbrev pub has_frame : List ℕ → Header → Layout → Bool → List (List ℕ) → List TileCode → Bool
 has_frame file h l sums cards codes =

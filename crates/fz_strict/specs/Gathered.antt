@@ -1,5 +1,6 @@
 -- What the headers of packed images say of the options by which they were packed, one image after another.
-use Rattle.std.specs.Prelude.{ℕ, zero, suc, pos, ◌≡◌, ◌<◌, ◌≤◌, max, nat_lt, Bool, true, false, is_some, List, [], ◌∷◌, map, length, slice_index, Option, Some, None, IfSome, Result, Ok, Err, if◌then◌else◌, ⊤}
+use Rattle.std.specs.Prelude.{ℕ, zero, suc, pos, ◌≡◌, ◌<◌, ◌≤◌, max, nat_lt, Bool, true, false, is_some, List, [], ◌∷◌}
+use Rattle.std.specs.Prelude.{map, length, slice_index, Option, Some, None, IfSome, Result, Ok, Err, if◌then◌else◌, ⊤}
 use Rattle.std.specs.List.{filter}
 use Rattle.std.specs.Ordering.{int_eq}
 use Rattle.fz_base.specs.declared.failure.Stop.{Stop}
@@ -57,7 +58,7 @@ with_image f p sums = record {
   sums = if is_some f.tile then f.sums else sums;
 }
 
--- with an HDU more, whose cards are these, and in which this image stands
+-- with an HDU more, whose cards are these, and which has this image
 abbrev pub with_cards : Found → List (List ℕ) → Option PackedImage → Found
 with_cards f cards None = f
 with_cards f cards (Some i) = with_image f i.plan (has_sums cards)

@@ -38,7 +38,7 @@ HdusStandForOne = (file : List ℕ) → IsFirstFault Unpack file None → All (S
 abbrev pub HdusAreDecided : Type 0
 HdusAreDecided = (o : PackOptions) (file : List ℕ) → IsFirstFault Unpack file None → All (IsDecided o file) (headers_for Unpack file)
 
--- and bytes are a header and what is behind it in one way only
+-- and bytes are a header and what is after it in one way only
 abbrev pub BytesHaveOneHeader : Type 0
 BytesHaveOneHeader = (header other behind more : List ℕ) → IsHeader header → IsHeader other → header ++ behind ≡ other ++ more →
     (header ≡ other) × (behind ≡ more)

@@ -1,5 +1,6 @@
 -- The file that a packed file stands for, as far as it was compared (FITS 4.0, sections 3.1, 4.4.1 and 10.1.2).
-use Rattle.std.specs.Prelude.{ℕ, ◌≡◌, ◌+◌, ◌*◌, ◌^◌, ◌≤◌, ◌==◌, ◌||◌, nat_lt, Bool, true, codes, List, length, Option, Some, None, Result, Ok, Err, if◌then◌else◌}
+use Rattle.std.specs.Prelude.{ℕ, ◌≡◌, ◌+◌, ◌*◌, ◌^◌, ◌≤◌, ◌==◌, ◌||◌, nat_lt, Bool, true, codes}
+use Rattle.std.specs.Prelude.{List, length, Option, Some, None, Result, Ok, Err, if◌then◌else◌}
 use Rattle.fz_base.specs.declared.fault.Fault.{Fault}
 use Rattle.fz_block.specs.Cards.{card_at}
 use Rattle.fz_block.specs.Checks.{header_of, is_set}
@@ -15,7 +16,7 @@ use Rattle.fz_strict.specs.declared.origin.Origin.{Origin}
 abbrev pub no_origin : Origin
 no_origin = record { hdus = 0; end = 0 }
 
--- with one HDU more of so many bytes, where a file that is packed can have it: it has at most 65,535 HDUs, and ends at byte 2^62 at most
+-- with one HDU more of so many bytes, if a file that is packed can have it: it has at most 65,535 HDUs, and ends at byte 2^62 at most
 abbrev pub with_hdu : Origin → ℕ → Option Origin
 with_hdu o n = if (o.hdus == 65535) || nat_lt (2 ^ 62) (o.end + n) then None else Some (record { hdus = o.hdus + 1; end = o.end + n })
 

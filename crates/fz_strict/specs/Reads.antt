@@ -1,4 +1,4 @@
--- What is read of a file that is compared: headers, the tables of packed images, and what stands before them (FITS 4.0, sections 3.1, 7.3.5
+-- What is read of a file that is compared: headers, the tables of packed images, and what is before them (FITS 4.0, sections 3.1, 7.3.5
 -- and 10.1).
 use Rattle.std.specs.Prelude.{ℕ, List, ◌∷◌, Option}
 use Rattle.fz_base.specs.Ranges.{LogsIn}

@@ -21,7 +21,7 @@ abbrev pub IsHduFault : List ℕ → Header → Fault → Type 0
 IsHduFault file h x = IsFirstRowFault file (all_rows file (h ∷ [])) (Some x)
 
 -- After Ok no row of these HDUs is refused, and the answer is true if and only if each HDU is what `pack` makes by these options of what it
--- stands for. A refusal tells the first faulty row.
+-- stands for. A refusal gives the first faulty row.
 abbrev pub IsCompared : PackOptions → List ℕ → List Header → Result Bool Stop → Type 0
 IsCompared o file hs (Ok same) = IsFirstRowFault file (all_rows file hs) None × ((same ≡ true) ↔ HasSameHdus o file)
 IsCompared o file hs (Err (Refused x)) = IsFirstRowFault file (all_rows file hs) (Some x)

@@ -1,5 +1,6 @@
 -- The HDUs of a packed file, each beside what `pack` makes of what it stands for (FITS 4.0, sections 10.1.1 to 10.1.3).
-use Rattle.std.specs.Prelude.{ℕ, suc, ◌≡◌, ◌==◌, ◌↔◌, ◌+◌, ◌^◌, ◌<◌, ◌≤◌, List, [], ◌∷◌, ◌++◌, length, codes, Bool, true, false, Option, Some, None, Ok, if◌then◌else◌, ⊤}
+use Rattle.std.specs.Prelude.{ℕ, suc, ◌≡◌, ◌==◌, ◌↔◌, ◌+◌, ◌^◌, ◌<◌, ◌≤◌, List, [], ◌∷◌, ◌++◌, length}
+use Rattle.std.specs.Prelude.{codes, Bool, true, false, Option, Some, None, Ok, if◌then◌else◌, ⊤}
 use Rattle.std.specs.List.{flat_map}
 use Rattle.fz_block.specs.Cards.{card_at}
 use Rattle.fz_block.specs.Checks.{header_of, is_set}
@@ -93,8 +94,8 @@ pub record ComesBackAs (o : PackOptions) (file : List ℕ) (k start : ℕ) (h : 
 abbrev pub table_again : PackOptions → List ℕ → Header → NumberArray → List ℕ
 table_again o file h a = packed_table o.sums (plan_in file h) (plain_header (cards_of (header_in file h))) (tile_codes (plan_in file h) a)
 
--- A packed image whose tiles are those of this array is what `pack` makes of what it stands for: the image comes back, and its table stands in
--- the file, behind the empty primary where that is due.
+-- A packed image whose tiles are those of this array is what `pack` makes of what it stands for: the image comes back, and its table is in
+-- the file, after the empty primary if that is due.
 pub record IsSameImage (o : PackOptions) (file front : List ℕ) (k start : ℕ) (h : Header) (a : NumberArray) : Type 0 where
   pub back : ComesBackAs o file k start h
   pub table : before_table k ++ table_again o file h a ≡ front ++ hdu_bytes (hdu_of file h)

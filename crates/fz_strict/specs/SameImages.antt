@@ -1,4 +1,4 @@
--- A packed image behind HDUs that are what `pack` writes, compared with what `pack` writes for it (FITS 4.0, sections 10.1.1 to 10.1.3).
+-- A packed image after HDUs that are what `pack` writes, compared with what `pack` writes for it (FITS 4.0, sections 10.1.1 to 10.1.3).
 use Rattle.std.specs.Prelude.{ℕ, ◌≡◌, Bool, true, false, List, [], length, take, Option, Some, None, if◌then◌else◌}
 use Rattle.fz_block.specs.Hdus.{IsHeader, hdu_bytes}
 use Rattle.fz_block.specs.Walk.{hdu_of}
@@ -23,7 +23,7 @@ front_before file h p = if p.primary then take h.start file else []
 abbrev pub HasHeaderBefore : List ℕ → Header → Type 0
 HasHeaderBefore file h = (plan_in file h).primary ≡ true → IsHeader (take h.start file)
 
--- The packed image whose tiles are those of this array is what `pack` makes of what it stands for, behind these HDUs; and these are the HDUs
+-- The packed image whose tiles are those of this array is what `pack` makes of what it stands for, after these HDUs; and these are the HDUs
 -- with it.
 pub record IsSameAfter (o : PackOptions) (file : List ℕ) (before : Origin) (h : Header) (a : NumberArray) (now : Origin) : Type 0 where
   pub same : IsSameImage o file (front_before file h (plan_in file h)) before.hdus before.end h a
@@ -36,7 +36,8 @@ ComparesFrom o file h a (Some before) None = (now : Origin) → ¬ IsSameAfter o
 ComparesFrom o file h a (Some before) (Some now) = IsSameAfter o file before h a now
 
 abbrev pub ComparesImage : PackOptions → List ℕ → Header → Option Origin → Option Origin → Type 0
-ComparesImage o file h origin now = (a : NumberArray) → RowsStandFor file h a → HasHeaderBefore file h → ComparesFrom o file h a (origin_before origin (plan_in file h)) now
+ComparesImage o file h origin now =
+    (a : NumberArray) → RowsStandFor file h a → HasHeaderBefore file h → ComparesFrom o file h a (origin_before origin (plan_in file h)) now
 
 -- The same of an HDU that is not packed: `pack` copies it.
 pub record IsCopyAfter (o : PackOptions) (file : List ℕ) (before : Origin) (h : Header) (now : Origin) : Type 0 where

@@ -5,7 +5,7 @@ use Rattle.fz_files.specs.HandMade.{block_of, empty_cards}
 use Rattle.fz_files.specs.PlainFile.{plain_cards, plain_data, plain_heap, plain_rows}
 use Rattle.fz_files.specs.SumFile.{sum_file_cards}
 
--- a primary without data, alone
+-- only a primary without data
 abbrev pub bare_file : List ℕ
 bare_file = block_of empty_cards
 

@@ -57,7 +57,9 @@ fn image_header(buf: &[u8], plan: &Plan, options: &PackOptions, origin: &Origin)
     ensures found { IfSome result (λ h. header_of origin.now.hdus origin.now.end (2 ^ 62) buf.now ≡ Ok h) }
     ensures packs { IfSome result (λ h. plan_to_pack_of options.now h buf.now ≡ Ok (Some plan.now)) }
     ensures simple { IfSome result (λ h. origin.now.hdus ≡ 0 → is_set (codes "SIMPLE") (card_at buf.now 0) ≡ true) }
-    ensures none { IsNone result → origin.now.end + len buf.now ≤ 2 ^ 62 → (origin.now.hdus ≡ 0 → is_set (codes "SIMPLE") (card_at buf.now 0) ≡ true) → (h : HeaderOf) → header_of origin.now.hdus origin.now.end (2 ^ 62) buf.now ≡ Ok h
+    ensures none { IsNone result → origin.now.end + len buf.now ≤ 2 ^ 62
+        → (origin.now.hdus ≡ 0 → is_set (codes "SIMPLE") (card_at buf.now 0) ≡ true)
+        → (h : HeaderOf) → header_of origin.now.hdus origin.now.end (2 ^ 62) buf.now ≡ Ok h
         → ¬ (plan_to_pack_of options.now h buf.now ≡ Ok (Some plan.now)) }
     ensures header { IfSome result (IsHeaderOf buf.now) }
     ensures place { IfSome result (λ h. (next_start_of h ≤ 2 ^ 62) × (h.start ≡ origin.now.end) × (h.hdu ≡ origin.now.hdus)) }

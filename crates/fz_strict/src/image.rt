@@ -25,7 +25,8 @@ ghost use Rattle.fz_job.specs.Keeps.{SourceStays, WindowStays};
 ghost use Rattle.fz_pool.specs.Window.{HasSlotsFor};
 ghost use Rattle.fz_survey.specs.Workspace.{SpaceStays};
 ghost use Rattle.fz_strict.specs.Backs.{ComparesRest, IsBack, Restores};
-ghost use Rattle.fz_strict.specs.Compared.{IsSoFar, begins_right as begins_right_of, has_empty_primary as has_empty_primary_of, has_fill as has_fill_of, has_frame as has_frame_of, has_header as has_header_of};
+ghost use Rattle.fz_strict.specs.Compared.{IsSoFar, begins_right as begins_right_of, has_empty_primary as has_empty_primary_of};
+ghost use Rattle.fz_strict.specs.Compared.{has_fill as has_fill_of, has_frame as has_frame_of, has_header as has_header_of};
 ghost use Rattle.fz_strict.specs.Origins.{IsOrigin, with_hdu};
 ghost use Rattle.fz_strict.specs.Reads.{table_ranges};
 ghost use Rattle.fz_strict.specs.Rows.{IsHduFault, IsHduSound};
@@ -57,7 +58,7 @@ pub(crate) struct Restored {
 }
 
 /// Decodes a packed image, whose header is in the workspace. Answers the HDUs so far with this image, if the table, and
-/// what stands before that of a primary, is what `pack` writes for the image.
+/// what is before that of a primary, is what `pack` writes for the image.
 pub(crate) fn compare_image<R: Threads + Sync, S: Source, G: Gate>(
     crew: &Crew<'_, R, G>,
     source: &mut S,
@@ -69,7 +70,8 @@ pub(crate) fn compare_image<R: Threads + Sync, S: Source, G: Gate>(
     plain: &mut [u8],
     space: &mut Workspace,
 ) -> Result<Option<Origin>, Stop>
-    requires again { (n : ℕ) × (n < 2 ^ 64) × (S.attached source.old ≡ Some n) × IsAgain (S.held source.old) n space.old.header (record { header = header.now; image = Some image.now }) }
+    requires again { (n : ℕ) × (n < 2 ^ 64) × (S.attached source.old ≡ Some n)
+        × IsAgain (S.held source.old) n space.old.header (record { header = header.now; image = Some image.now }) }
     requires options { AreOptions options.now }
     requires origin { IfSome origin.now IsOrigin }
     requires window { HasSlotsFor (pixels_of image.now.plan 0) window.old }
@@ -286,7 +288,7 @@ fn with_image(restored: &Restored, same: bool) -> Option<Origin>
     }
 }
 
-// Whether all but the rows and the heap is what `pack` writes: what stands before the table, its header and its fill.
+// Whether all but the rows and the heap is what `pack` writes: what is before the table, its header and its fill.
 fn has_frame<S: Source>(
     source: &mut S,
     sums: bool,
@@ -307,7 +309,8 @@ fn has_frame<S: Source>(
     requires progress { IsSoFar layout.now progress × (progress.tiles ≡ layout.now.tiles) }
     requires made { len buf.now + 2880 ≤ len made.old }
     requires piece { 2880 ≤ len piece.old }
-    ensures same { IfOk result (λ yes. IfSome (S.held source.old) (λ g. (codes : List TileCode) → AreCodesFrom layout.now 0 codes → len codes ≡ layout.now.tiles → progress ≡ with_tiles layout.now no_progress codes
+    ensures same { IfOk result (λ yes. IfSome (S.held source.old) (λ g. (codes : List TileCode) → AreCodesFrom layout.now 0 codes
+        → len codes ≡ layout.now.tiles → progress ≡ with_tiles layout.now no_progress codes
         → yes ≡ has_frame_of g header.now layout.now sums (cards_of buf.now) codes)) }
     ensures made { len made.new ≡ len made.old }
     ensures piece { len piece.new ≡ len piece.old }
@@ -396,7 +399,7 @@ fn has_header<S: Source>(
     has_bytes(source, header.start, end, bytes, piece)
 }
 
-// Whether what stands before the table of an image is what `pack` writes, if the image was a primary.
+// Whether what is before the table of an image is what `pack` writes, if the image was a primary.
 fn begins_right<S: Source>(
     source: &mut S,
     header: &Header,
@@ -423,7 +426,7 @@ fn begins_right<S: Source>(
     has_empty_primary(source, header, made, piece)
 }
 
-// Whether the primary without data that `pack` writes, and nothing else, stands before an HDU.
+// Whether the primary without data that `pack` writes, and nothing else, is before an HDU.
 fn has_empty_primary<S: Source>(
     source: &mut S,
     header: &Header,

@@ -1,5 +1,6 @@
 //! The laws of strict files: no code runs.
-ghost use Rattle.fz_strict.specs.Laws.{BytesHaveOneHeader, FoundOptionsAreAllowed, FoundOptionsDo, FoundOptionsDoForEach, HdusAreDecided, HdusStandForOne, StrictImagesAgree, StrictIsHduByHdu};
+ghost use Rattle.fz_strict.specs.Laws.{BytesHaveOneHeader, FoundOptionsAreAllowed, FoundOptionsDo, FoundOptionsDoForEach};
+ghost use Rattle.fz_strict.specs.Laws.{HdusAreDecided, HdusStandForOne, StrictImagesAgree, StrictIsHduByHdu};
 ghost use Rattle.fz_round_trip.specs.RoundTrip.{RestoredAreBytes};
 
 use fz_block::{cards_law, found_hdus_law, hdu_list_law, passing_law, walk_law};

@@ -19,5 +19,5 @@ mod tiles;
 mod worked;
 
 pub use laws::{one_hdu_law, options_law, same_hdus_law};
-pub use strict_file::strict;
+pub use strict_file::{Decoded, strict, strict_decoded};
 pub use worked::strict_files_law;

@@ -11,7 +11,8 @@ ghost use Rattle.fz_again.specs.Hdus.{ReadsHdus};
 ghost use Rattle.fz_job.specs.Clauses.{IsChanged};
 ghost use Rattle.fz_job.specs.Keeps.{SourceStays};
 ghost use Rattle.fz_strict.specs.FoundOptions.{has_sums as has_sums_of};
-ghost use Rattle.fz_strict.specs.Gathered.{FindsOptions, greater_tile as greater_tile_of, greatest_tile as greatest_tile_of, length_along as length_along_of, longer as longer_of, said_codec as said_codec_of};
+ghost use Rattle.fz_strict.specs.Gathered.{FindsOptions, greater_tile as greater_tile_of, greatest_tile as greatest_tile_of};
+ghost use Rattle.fz_strict.specs.Gathered.{length_along as length_along_of, longer as longer_of, said_codec as said_codec_of};
 
 use crate::reread::read_front;
 use fz_again::{ReadHdu, hdus_law};

@@ -19,7 +19,7 @@ const MOST_HDUS: u32 = 65_535;
 pub(crate) struct Origin {
     /// How many HDUs.
     pub(crate) hdus: u32,
-    /// The byte behind them.
+    /// The byte after them.
     pub(crate) end: u64,
 }
 

@@ -1,11 +1,13 @@
 //! The call: look at all headers, take all buffers, and then compare.
-ghost use Rattle.std.specs.Prelude.{◌≡◌, ◌+◌, ◌*◌, ◌<◌, ◌≤◌, max, [], Some, length as len, replicate, sum, IfOk, IfSome, IsErrOf, OnOk};
+ghost use Rattle.std.specs.Prelude.{◌≡◌, ◌+◌, ◌*◌, ◌<◌, ◌≤◌, max, [], None, Some, length as len, replicate, sum, IfOk, IfSome, IsErrOf, IsSome, OnOk};
+ghost use Rattle.std.specs.Prelude.{is_ok, is_some};
 ghost use Rattle.fz_base.specs.Ranges.{LogsIn};
 ghost use Rattle.fz_base.specs.Stop.{IfRefused, IsDefined, ReadsAndTakes, TellsLimit};
 ghost use Rattle.fz_base.specs.Takings.{TellsFirstPast, highest, piled};
 ghost use Rattle.fz_base.specs.Told.{StaysTold};
 ghost use Rattle.fz_base.specs.declared.failure.Stop.TheVariants.{OverLimit};
 ghost use Rattle.fz_fetch.specs.Stops.{Fetches};
+ghost use Rattle.fz_files.specs.FirstFault.{IsFirstFault};
 ghost use Rattle.fz_files.specs.Reads.{header_ranges};
 ghost use Rattle.fz_files.specs.Touched.{touched_by};
 ghost use Rattle.fz_files.specs.declared.job.Job.TheVariants.{Verify};
@@ -15,7 +17,8 @@ ghost use Rattle.fz_survey.specs.Workspace.{SpaceStays, wanted_buffers};
 ghost use Rattle.fz_survey.specs.declared.checks.JobChecks.TheVariants.{Unpack};
 ghost use Rattle.fz_job.specs.Clauses.{ComesLate, KeepsBuffers, KeepsSource, TellsFirstFault};
 ghost use Rattle.fz_job.specs.Keeps.{SourceStays, WindowStays};
-ghost use Rattle.fz_strict.specs.Clauses.{AnswersStrict, HasStrictCause, IsStrictAsSaid, look_takings, strict_buffers, strict_takings, strict_wants};
+ghost use Rattle.fz_strict.specs.Clauses.{AnswersStrict, HasStrictCause, IsLateOrEarly, IsStrictAsSaid};
+ghost use Rattle.fz_strict.specs.Clauses.{look_takings, strict_buffers, strict_takings, strict_wants};
 ghost use Rattle.fz_strict.specs.Reads.{ReadsKnown};
 ghost use Rattle.fz_strict.specs.Rows.{ComparesFound};
 
@@ -29,11 +32,12 @@ use fz_files::same_faults_law;
 use fz_pool::{Crew, Window, sizes_law};
 use fz_stages::stages_law;
 use fz_survey::{Survey, Wants, Workspace, survey_law, survey_to_unpack, workspace_law};
+use std::snapshot::Snapshot;
 use std::thread::Threads;
 
 /// Whether the file that is attached to the source is the packed file, by some options, of the file that it stands for.
 ///
-/// All checks of headers come first, then all buffers are taken, and every tile is decoded, also where a difference was
+/// All checks of headers come first, then all buffers are taken, and every tile is decoded, also if a difference was
 /// found before. Refused: as `verify` refuses the file.
 pub fn strict<R: Threads + Sync, S: Source, G: Gate>(
     rt: &R,
@@ -50,7 +54,9 @@ pub fn strict<R: Threads + Sync, S: Source, G: Gate>(
 
     ensures right { IfOk result (λ same. IfSome (S.held source.old) (IsStrictAsSaid same)) }
     ensures first_fault { TellsFirstFault Verify (S.held source.old) result }
-    // Where no count of faults rose and the limit is at least the bound, the first fault alone decides.
+    // Of every source: what is refused, if the peak passed what the look may take.
+    ensures late { IfRefused result (IsLateOrEarly meter.old.peak meter.new.peak) }
+    // If no count of faults rose and the limit is at least the bound, only the first fault decides.
     ensures answered { AnswersStrict (S.held source.old) (S.tally source.old) (S.tally source.new) meter.old.limit result }
     ensures cause { HasStrictCause (S.held source.old) (S.tally source.old) (S.tally source.new) meter.old.limit result }
     ensures buffers { KeepsBuffers Verify (S.held source.old) meter.old meter.new window.old window.new }
@@ -58,7 +64,8 @@ pub fn strict<R: Threads + Sync, S: Source, G: Gate>(
     ensures exact_peak { OnOk result (IfSome (S.held source.old) (λ g. meter.new.peak ≡ max meter.old.peak (highest (strict_takings g)))) }
     // The first block is taken before anything is read.
     ensures unread { meter.old.limit < 2880 → S.ranges source.new ≡ S.ranges source.old }
-    ensures kept { KeepsSource (S.held source.old) (S.held source.new) (S.attached source.old) (S.attached source.new) (S.tally source.old) (S.tally source.new) (S.tally source.old) (S.tally source.new) }
+    ensures kept { KeepsSource (S.held source.old) (S.held source.new) (S.attached source.old) (S.attached source.new)
+        (S.tally source.old) (S.tally source.new) (S.tally source.old) (S.tally source.new) }
     ensures touched { IfSome (S.held source.old) (λ g. LogsIn (touched_by Verify g) (S.ranges source.old) (S.ranges source.new)) }
     ensures told { StaysTold (S.ranges source.old) (S.ranges source.new) }
 {
@@ -78,6 +85,69 @@ pub fn strict<R: Threads + Sync, S: Source, G: Gate>(
     };
     let survey = look(source, length, meter)?;
     compare(&crew, source, length, meter, window, &survey)
+}
+
+/// What `strict_decoded` hands out after it decoded every tile of a file, and none had a fault. Nothing else makes one, so a
+/// call that is shown one of the source as it is need not decode the tiles again.
+pub struct Decoded<S> {
+    // The source as it was when its tiles had been decoded. It takes no memory.
+    of: Snapshot<S>,
+}
+
+impl<S> Drop for Decoded<S> {
+    fn drop(self) {
+        let Self { of } = self;
+        drop(of);
+    }
+}
+
+/// Does what `strict` does; and if and only if it answers Ok, it also says that all tiles were decoded of this very source.
+pub fn strict_decoded<R: Threads + Sync, S: Source, G: Gate>(
+    rt: &R,
+    source: &mut S,
+    length: u64,
+    meter: &mut Meter,
+    window: &mut Window,
+    gate: &G,
+) -> (Result<bool, Stop>, Option<Decoded<S>>)
+    requires attached { S.attached source.old ≡ Some length }
+    requires nothing_live { meter.old.live ≡ 0 }
+    requires window { IsEmpty window.old }
+    requires one_worker { window.old.workers ≡ 1 }
+
+    ensures of { IfSome result.1 (λ d. d.of.value ≡ source.new) }
+    ensures only { is_some result.1 ≡ is_ok result.0 }
+    ensures sound { IsSome result.1 → IfSome (S.held source.new) (λ g. IsFirstFault Verify g None) }
+    // The rest is said of the answer as `strict` says it.
+    ensures right { IfOk result.0 (λ same. IfSome (S.held source.old) (IsStrictAsSaid same)) }
+    ensures first_fault { TellsFirstFault Verify (S.held source.old) result.0 }
+    ensures late { IfRefused result.0 (IsLateOrEarly meter.old.peak meter.new.peak) }
+    ensures answered { AnswersStrict (S.held source.old) (S.tally source.old) (S.tally source.new) meter.old.limit result.0 }
+    ensures cause { HasStrictCause (S.held source.old) (S.tally source.old) (S.tally source.new) meter.old.limit result.0 }
+    ensures buffers { KeepsBuffers Verify (S.held source.old) meter.old meter.new window.old window.new }
+    ensures exact_peak { OnOk result.0 (IfSome (S.held source.old) (λ g. meter.new.peak ≡ max meter.old.peak (highest (strict_takings g)))) }
+    ensures unread { meter.old.limit < 2880 → S.ranges source.new ≡ S.ranges source.old }
+    ensures kept { KeepsSource (S.held source.old) (S.held source.new) (S.attached source.old) (S.attached source.new)
+        (S.tally source.old) (S.tally source.new) (S.tally source.old) (S.tally source.new) }
+    ensures touched { IfSome (S.held source.old) (λ g. LogsIn (touched_by Verify g) (S.ranges source.old) (S.ranges source.new)) }
+    ensures told { StaysTold (S.ranges source.old) (S.ranges source.new) }
+{
+    let answer = strict(rt, source, length, meter, window, gate);
+    let decoded = decoded_by(&answer, &*source);
+    (answer, decoded)
+}
+
+// What is said of the source after this answer of `strict`.
+fn decoded_by<S>(answer: &Result<bool, Stop>, source: &S) -> Option<Decoded<S>>
+    ensures of { IfSome result (λ d. d.of.value ≡ source.now) }
+    ensures only { is_some result ≡ is_ok answer.now }
+{
+    match answer {
+        Ok(_) => Some(Decoded {
+            of: Snapshot::of(source),
+        }),
+        Err(_) => None,
+    }
 }
 
 // Looks at all headers. The block for it is handed back.
@@ -170,7 +240,8 @@ fn with_plain<R: Threads + Sync, S: Source, G: Gate>(
     ensures live { meter.new.live ≡ meter.old.live }
     ensures limit { meter.new.limit ≡ meter.old.limit }
     ensures peak { meter.new.peak ≤ max meter.old.peak (meter.old.live + sum (wanted_buffers (strict_wants survey.now) window.old.workers)) }
-    ensures exact_peak { OnOk result (meter.new.peak ≡ max meter.old.peak (meter.old.live + sum (wanted_buffers (strict_wants survey.now) window.old.workers))) }
+    ensures exact_peak { OnOk result (meter.new.peak
+        ≡ max meter.old.peak (meter.old.live + sum (wanted_buffers (strict_wants survey.now) window.old.workers))) }
     ensures first_past { TellsFirstPast meter.old.limit (piled meter.old.live (wanted_buffers (strict_wants survey.now) window.old.workers)) result }
     ensures emptied { window.new ≡ record { slots = []; workers = window.old.workers } }
     ensures late { IfRefused result (ComesLate Verify) }

@@ -1,18 +1,14 @@
 //! The tiles of a packed image: each is decoded, and then compared with what `pack` writes for its pixels.
-ghost use Rattle.std.specs.Prelude.{ℕ, ◌≡◌, ◌+◌, ◌*◌, ◌^◌, ◌<◌, ◌≤◌, None, Some, map, length as len, IfOk, IfSome, OnOk};
-ghost use Rattle.std.specs.List.{range_with_len};
+ghost use Rattle.std.specs.Prelude.{ℕ, ◌≡◌, ◌*◌, ◌^◌, ◌<◌, ◌≤◌, None, Some, length as len, IfOk, IfSome, OnOk};
 ghost use Rattle.fz_base.specs.Ranges.{LogsIn};
 ghost use Rattle.fz_base.specs.Source.{LogsWithin};
 ghost use Rattle.fz_base.specs.Stop.{Codes, IfRefused};
 ghost use Rattle.fz_base.specs.Told.{StaysTold};
 ghost use Rattle.fz_block.specs.Header.{next_start_of};
-ghost use Rattle.fz_fetch.specs.Fetched.{AreFetched};
 ghost use Rattle.fz_fetch.specs.Images.{HaveRoom, IsReadable, IsSaid};
 ghost use Rattle.fz_fetch.specs.Rows.{StandsWithin};
 ghost use Rattle.fz_fetch.specs.Stops.{Fetches};
-ghost use Rattle.fz_files.specs.FirstFault.{IsFirstRowFault, image_row, rows_of};
-ghost use Rattle.fz_files.specs.Packed.{tiles_in};
-ghost use Rattle.fz_files.specs.Touched.{image_ranges};
+ghost use Rattle.fz_files.specs.FirstFault.{IsFirstRowFault, rows_of};
 ghost use Rattle.fz_image.specs.Layout.{IsLayout};
 ghost use Rattle.fz_job.specs.Clauses.{IsOfSomeRow};
 ghost use Rattle.fz_job.specs.Keeps.{SourceStays, WindowStays};
@@ -20,10 +16,9 @@ ghost use Rattle.fz_strict.specs.Compared.{AreReady, ComparesNext, ComparesTable
 ghost use Rattle.fz_strict.specs.Reads.{table_ranges};
 
 use crate::coded::compare_round;
-use fz_again::hdus_law;
+use fz_again::decode_round;
 use fz_base::{Gate, Source, Stop, log_law, ranges_law};
 use fz_block::{Header, next_start};
-use fz_fetch::{MOST_TILES, fetch_tiles, number_tiles};
 use fz_grid::Grid;
 use fz_head::PackedImage;
 use fz_image::{Layout, Progress};
@@ -75,7 +70,7 @@ pub(crate) fn compare_tiles<R: Threads + Sync, S: Source, G: Gate>(
     let mut first = 0;
     while first < tiles {
         let count = (2 * window.workers()).min(tiles - first);
-        fetch_round(crew, source, window, header, image, first, count, copy)?;
+        decode_round(crew, source, window, header, image, first, count, copy)?;
         progress = compare_next(crew, source, window, end, layout, progress, count, copy)?;
         first += count;
     }
@@ -127,41 +122,4 @@ fn compare_next<R: Threads + Sync, S: Source, G: Gate>(
         },
         None => Ok(None),
     }
-}
-
-// Decodes so many tiles from this one on.
-fn fetch_round<R: Threads + Sync, S: Source, G: Gate>(
-    crew: &Crew<'_, R, G>,
-    source: &mut S,
-    window: &mut Window,
-    header: &Header,
-    image: &PackedImage,
-    first: u32,
-    count: u32,
-    rows: &mut [u8],
-) -> Result<(), Stop>
-    requires image { IsReadable image.now }
-    requires within { StandsWithin (S.attached source.old) image.now.table }
-    requires said { IfSome (S.held source.old) (λ g. IsSaid g header.now image.now) }
-    requires tiles { first + count ≤ tiles_in image.now.plan }
-    requires near { count ≤ 2 * window.old.workers }
-    requires few { count ≤ 128 }
-    requires window { HaveRoom image.now window.old }
-    requires rows { 4096 ≤ len rows.old }
-    ensures fetched { OnOk result (AreFetched (S.held source.old) header.now image.now.plan (range_with_len first count) window.new.slots) }
-    ensures sound { OnOk result (IfSome (S.held source.old) (λ g. IsFirstRowFault g (map (image_row header.now) (range_with_len first count)) None)) }
-    ensures fault { IfRefused result (λ x. IfSome (S.held source.old) (λ g. IsFirstRowFault g (map (image_row header.now) (range_with_len first count)) (Some x))) }
-    ensures row { IfRefused result IsOfSomeRow }
-    ensures rows { len rows.new ≡ len rows.old }
-    ensures window { WindowStays window.old window.new }
-    ensures source { SourceStays (S.held source.old) (S.held source.new) (S.attached source.old) (S.attached source.new) }
-    ensures read { IfSome (S.held source.old) (λ g. LogsIn (image_ranges g header.now) (S.ranges source.old) (S.ranges source.new)) }
-    ensures told { StaysTold (S.ranges source.old) (S.ranges source.new) }
-    ensures cause { Fetches (S.tally source.old) (S.tally source.new) result }
-{
-    hdus_law();
-    let mut numbers = [0; MOST_TILES];
-    let tiles = &mut numbers[..count as usize];
-    number_tiles(first, tiles);
-    fetch_tiles(crew, source, header, image, tiles, rows, window)
 }

@@ -1,4 +1,4 @@
--- What a job promises that prints lines, beside what every job promises: the text stands in the place of the sink.
+-- What a job promises that prints lines, beside what every job promises: the text takes the place of the sink.
 use Rattle.std.specs.Prelude.{ℕ, ◌≡◌, ◌≤◌, max, not, Bool, List, Option, Some, None, IfSome, Result, Ok, Err}
 use Rattle.fz_base.specs.Meter.{Gauge}
 use Rattle.fz_base.specs.Sink.{MayAppend, appended}
@@ -11,7 +11,7 @@ use Rattle.fz_files.specs.Lines.{has_wrong_sums, report_lines}
 use Rattle.fz_files.specs.declared.job.Job.{Job}
 use Rattle.fz_job.specs.Clauses.{greatest_bound}
 
--- told text with the lines of a job after it, for a file of which this is the first fault, or none
+-- shown text with the lines of a job after it, for a file of which this is the first fault, or none
 abbrev pub GotLines : Job → List ℕ → Option Fault → Option (List ℕ) → Option (List ℕ) → Type 0
 GotLines job file fault old new = new ≡ appended (report_lines job file fault) old
 
@@ -19,8 +19,8 @@ GotLines job file fault old new = new ≡ appended (report_lines job file fault)
 abbrev pub GotFront : Job → List ℕ → Option (List ℕ) → Option (List ℕ) → Type 0
 GotFront job file old new = (fault : Option Fault) → IsFirstFault job file fault → MayAppend (report_lines job file fault) old new
 
--- After Ok the text has got the lines of the job and nothing else, and after Refused those of a file with this first fault: none where a
--- header is refused, and where a row is, those of the HDUs before. After every other answer it has got a prefix of the lines.
+-- After Ok the text has got the lines of the job and nothing else, and after Refused those of a file with this first fault: none if a
+-- header is refused, and if a row is, those of the HDUs before. After every other answer it has got a prefix of the lines.
 abbrev pub PrintsLines : {X : Type 0} → Job → Option (List ℕ) → Option (List ℕ) → Option (List ℕ) → Result X Stop → Type 0
 PrintsLines job held old new (Ok x) = IfSome held (λ file. GotLines job file None old new)
 PrintsLines job held old new (Err (Refused x)) = IfSome held (λ file. GotLines job file (Some x) old new)
@@ -29,11 +29,11 @@ PrintsLines job held old new (Err WriteFault) = IfSome held (λ file. GotFront j
 PrintsLines job held old new (Err (OverLimit live asked limit)) = IfSome held (λ file. GotFront job file old new)
 PrintsLines job held old new (Err NoMemory) = IfSome held (λ file. GotFront job file old new)
 
--- a file is right exactly where no sum of an HDU is wrong that its header has
+-- a file is right exactly if no sum of an HDU is wrong that its header has
 abbrev pub IsRightAsSaid : Bool → List ℕ → Type 0
 IsRightAsSaid right file = right ≡ not (has_wrong_sums file)
 
--- Nothing is live, the limit stays, and the peak is at most that before or the bound of the job. Of a file that does not tell its bytes
+-- Nothing is live, the limit stays, and the peak is at most that before or the bound of the job. Of a file that does not show its bytes
 -- the greatest bound is said.
 pub record KeepsMeter (job : Job) (held : Option (List ℕ)) (old new : Gauge) : Type 0 where
   pub live : new.live ≡ 0

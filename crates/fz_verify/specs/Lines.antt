@@ -6,7 +6,7 @@ use Rattle.fz_files.specs.Lines.{other_text, packed_text, sizes_text, verdict_wo
 use Rattle.fz_files.specs.Packed.{tiles_in}
 use Rattle.fz_verify.specs.declared.sums.Verdicts.{Verdicts}
 
--- the number of tiles of the image that stands in an HDU, if one does
+-- the number of tiles of the image that is in an HDU, if there is one
 abbrev pub tiles_said : Option PackedImage → List ℕ
 tiles_said None = codes "-"
 tiles_said (Some i) = decimal (tiles_in i.plan)

@@ -37,7 +37,7 @@ ListsSeen file s old new result = (hs : List Header) → IsList file s hs → Go
 
 -- ---- those of `verify`
 
--- the text has got the lines of the HDUs before the fault, or of all where there is none
+-- the text has got the lines of the HDUs before the fault, or of all if there is none
 abbrev pub GotBefore : List ℕ → List Header → Option Fault → Option (List ℕ) → Option (List ℕ) → Type 0
 GotBefore file hs fault old new = new ≡ appended (verify_lines file (before_fault fault hs)) old
 
@@ -112,7 +112,7 @@ GotLine file h old new = new ≡ appended (verify_line file h) old
 abbrev pub GotLineFront : List ℕ → Header → Option (List ℕ) → Option (List ℕ) → Type 0
 GotLineFront file h old new = (IsHduSound file h × MayAppend (verify_line file h) old new) ⊎ (new ≡ old)
 
--- After Ok its rows are sound, its line was printed, and the answer says whether no sum is wrong. A refusal tells its first faulty row,
+-- After Ok its rows are sound, its line was printed, and the answer says whether no sum is wrong. A refusal gives its first faulty row,
 -- and then nothing was printed of it.
 abbrev pub ChecksHdu : List ℕ → Header → Option (List ℕ) → Option (List ℕ) → Result Bool Stop → Type 0
 ChecksHdu file h old new (Ok right) = IsHduSound file h × (right ≡ not (has_wrong_sum file h)) × GotLine file h old new

@@ -1,4 +1,4 @@
--- What `verify` reports of HDUs, whatever the source tells of its bytes (FITS 4.0, sections 3.1 and 4.4.2.7).
+-- What `verify` reports of HDUs, whatever the source shows of its bytes (FITS 4.0, sections 3.1 and 4.4.2.7).
 use Rattle.std.specs.Prelude.{ℕ, ◌≡◌, ◌+◌, ◌||◌, not, Bool, List, [], ◌∷◌, ◌++◌, length, codes, decimal, Option, Some, None, ⊤}
 use Rattle.std.specs.List.{flat_map, list_all}
 use Rattle.fz_base.specs.Sink.{appended}

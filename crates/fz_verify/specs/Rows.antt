@@ -18,5 +18,6 @@ IsHduFault file h x = IsFirstRowFault file (all_rows file (h ∷ [])) (Some x)
 -- a row of an image of which no check of headers refuses anything either stands for pixels, or is refused
 abbrev pub SoundRowsAreNotRefused : Type 0
 SoundRowsAreNotRefused =
-    (file : List ℕ) (h : Header) (after_empty : Bool) (row : ℕ) (x : Fault) → IsHeaderOf (header_in file h) h → IsOk (image_to_unpack h (header_in file h) after_empty) → is_image file h ≡ true
+    (file : List ℕ) (h : Header) (after_empty : Bool) (row : ℕ) (x : Fault) → IsHeaderOf (header_in file h) h
+    → IsOk (image_to_unpack h (header_in file h) after_empty) → is_image file h ≡ true
     → IsRowSound file (image_row h row) → ¬ (IsRowFault file (image_row h row) x)

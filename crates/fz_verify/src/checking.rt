@@ -27,27 +27,34 @@ use fz_pool::{Crew, Window};
 use fz_survey::{Survey, Workspace};
 use std::thread::Threads;
 
+/// What is verified, and by whom: who works, the length of the file, and whether all its tiles were decoded before, without a
+/// fault.
+#[derive(Drop)]
+pub(crate) struct Verifying<'a, R, G> {
+    pub(crate) crew: Crew<'a, R, G>,
+    pub(crate) length: u64,
+    pub(crate) decoded: bool,
+}
+
 /// Verifies each HDU and prints its line; tiles that were decoded before are not decoded again. Answers whether no sum
 /// is wrong.
 pub(crate) fn verify_hdus<R: Threads + Sync, S: Source, T: Text, G: Gate>(
-    crew: &Crew<'_, R, G>,
+    asked: &Verifying<'_, R, G>,
     source: &mut S,
-    length: u64,
     text: &mut T,
     window: &mut Window,
     survey: &Survey,
     space: &mut Workspace,
     block: &mut [u8],
-    decoded: bool,
 ) -> Result<bool, Stop>
-    requires attached { S.attached source.old ≡ Some length }
+    requires attached { S.attached source.old ≡ Some asked.now.length }
     requires some { 0 < survey.now.hdus }
     requires few { survey.now.hdus ≤ 65536 }
     requires window { slot_sizes window.old.slots ≡ replicate (2 * window.old.workers) (2 * survey.now.tile, 8 * survey.now.tile + 64) }
     requires header { len space.old.header ≡ survey.now.header_len }
     requires copy { 4096 ≤ len space.old.copy }
     requires block { len block.old ≡ 2880 }
-    requires sound { decoded ≡ true → IfSome (S.held source.old) (AreRowsSound survey.now) }
+    requires sound { asked.now.decoded ≡ true → IfSome (S.held source.old) (AreRowsSound survey.now) }
     ensures verified { IfSome (S.held source.old) (λ g. VerifiesSeen g survey.now (T.contents text.old) (T.contents text.new) result) }
     ensures reported { IfOk result (Reports (T.contents text.old) (T.contents text.new)) }
     ensures grown { Grew (T.contents text.old) (T.contents text.new) }
@@ -64,6 +71,7 @@ pub(crate) fn verify_hdus<R: Threads + Sync, S: Source, T: Text, G: Gate>(
     none_refused_law();
     hdus_law();
     ranges_law();
+    let length = asked.length;
     let mut start = 0;
     let mut after_empty = false;
     let mut right = true;
@@ -79,7 +87,15 @@ pub(crate) fn verify_hdus<R: Threads + Sync, S: Source, T: Text, G: Gate>(
             block,
             buf,
         )?;
-        let sound = print_verified(crew, source, text, window, &again, space, decoded)?;
+        let sound = print_verified(
+            &asked.crew,
+            source,
+            text,
+            window,
+            &again,
+            space,
+            asked.decoded,
+        )?;
         right = right & sound;
         start = next_start(&again.header);
         // An HDU ends the file exactly if it is the last.

@@ -14,4 +14,4 @@ mod sums;
 mod verify_file;
 
 pub use list_file::list;
-pub use verify_file::verify;
+pub use verify_file::{verify, verify_decoded};

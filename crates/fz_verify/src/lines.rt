@@ -22,7 +22,7 @@ use itoa::Buffer;
 /// A line has room for the lengths of nine axes twice, and the words beside them.
 pub(crate) type Line = ArrayString<640>;
 
-/// The line of `verify` for an HDU of this number, with the image that stands in it, if it is packed.
+/// The line of `verify` for an HDU of this number, with the image that is in it, if it is packed.
 pub(crate) fn verify_line(hdu: u32, image: &Option<PackedImage>, verdicts: &Verdicts) -> Line
     requires image { IfSome image.now (λ i. IsDivided i.plan.shape i.plan.tile) }
     ensures { result.bytes ≡ verdicts_text hdu image.now verdicts.now }
@@ -40,7 +40,7 @@ pub(crate) fn verify_line(hdu: u32, image: &Option<PackedImage>, verdicts: &Verd
     line
 }
 
-/// The line of `list` for an HDU, with the image that stands in it, if it is packed.
+/// The line of `list` for an HDU, with the image that is in it, if it is packed.
 pub(crate) fn list_line(header: &Header, image: &Option<PackedImage>) -> Line
     requires axes { header.now.axes.n ≤ 9 }
     requires end { next_start_of header.now ≤ 2 ^ 62 }

@@ -41,12 +41,12 @@ pub fn list<S: Source, T: Text>(
     // Of every source: nothing that was printed is taken back.
     ensures grown { Grew (T.contents text.old) (T.contents text.new) }
     ensures first_fault { TellsFirstFault ListHdus (S.held source.old) result }
-    // Where no count of faults rose and the limit is at least the bound, the first fault alone decides.
+    // If no count of faults rose and the limit is at least the bound, only the first fault decides.
     ensures answered { Answers ListHdus (S.held source.old) (S.tally source.old) (S.tally source.new) (T.tally text.old)
         (T.tally text.new) meter.old.limit 1 result }
     ensures cause { HasJobCause ListHdus (S.held source.old) (S.tally source.old) (S.tally source.new) (T.tally text.old)
         (T.tally text.new) meter.old.limit 1 result }
-    // Nothing is printed where a header is refused.
+    // Nothing is printed if a header is refused.
     ensures silent { IsUnmade ListHdus (S.held source.old) meter.old.limit 1
         ((T.contents text.new ≡ T.contents text.old) × (T.tally text.new ≡ T.tally text.old)) result }
     ensures buffers { KeepsMeter ListHdus (S.held source.old) meter.old meter.new }

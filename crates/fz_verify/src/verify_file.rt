@@ -19,12 +19,13 @@ ghost use Rattle.fz_verify.specs.Reported.{Grew, Reports};
 ghost use Rattle.fz_verify.specs.Printed.{AreRowsSound, VerifiesSeen};
 ghost use Rattle.fz_stages.specs.Stages.{Works, later_takings, wants_for};
 
-use crate::checking::verify_hdus;
+use crate::checking::{Verifying, verify_hdus};
 use fz_again::{hdus_law, headers_law, known_law};
 use fz_base::{Gate, Meter, Source, Stop, Text, ranges_law};
 use fz_block::BLOCK_LEN;
 use fz_pool::{Crew, Window, sizes_law};
 use fz_stages::stages_law;
+use fz_strict::Decoded;
 use fz_survey::{Survey, Wants, Workspace, survey_to_unpack};
 use std::thread::Threads;
 
@@ -35,8 +36,6 @@ use std::thread::Threads;
 /// then nothing is printed; the lowest faulty row of the first packed image that has one, as `fetch_tiles` refuses it,
 /// after the lines of the HDUs before. Of a source that gives other bytes at the second reading also an HDU that is no
 /// longer the one that was looked at.
-///
-/// If all tiles were decoded before, without a fault, they are not decoded again.
 pub fn verify<R: Threads + Sync, S: Source, T: Text, G: Gate>(
     rt: &R,
     source: &mut S,
@@ -45,13 +44,11 @@ pub fn verify<R: Threads + Sync, S: Source, T: Text, G: Gate>(
     meter: &mut Meter,
     window: &mut Window,
     gate: &G,
-    decoded: bool,
 ) -> Result<bool, Stop>
     requires attached { S.attached source.old ≡ Some length }
     requires nothing_live { meter.old.live ≡ 0 }
     requires window { IsEmpty window.old }
     requires one_worker { window.old.workers ≡ 1 }
-    requires sound { decoded ≡ true → IfSome (S.held source.old) (λ g. IsFirstFault Verify g None) }
 
     ensures lines { PrintsLines Verify (S.held source.old) (T.contents text.old) (T.contents text.new) result }
     ensures right { IfOk result (λ right. IfSome (S.held source.old) (IsRightAsSaid right)) }
@@ -59,12 +56,62 @@ pub fn verify<R: Threads + Sync, S: Source, T: Text, G: Gate>(
     ensures reported { IfOk result (Reports (T.contents text.old) (T.contents text.new)) }
     ensures grown { Grew (T.contents text.old) (T.contents text.new) }
     ensures first_fault { TellsFirstFault Verify (S.held source.old) result }
-    // Where no count of faults rose and the limit is at least the bound, the first fault alone decides.
+    // If no count of faults rose and the limit is at least the bound, only the first fault decides.
     ensures answered { Answers Verify (S.held source.old) (S.tally source.old) (S.tally source.new) (T.tally text.old)
         (T.tally text.new) meter.old.limit 1 result }
     ensures cause { HasJobCause Verify (S.held source.old) (S.tally source.old) (S.tally source.new) (T.tally text.old)
         (T.tally text.new) meter.old.limit 1 result }
-    // Nothing is printed where a header is refused.
+    // Nothing is printed if a header is refused.
+    ensures silent { IsUnmade Verify (S.held source.old) meter.old.limit 1
+        ((T.contents text.new ≡ T.contents text.old) × (T.tally text.new ≡ T.tally text.old)) result }
+    ensures buffers { KeepsBuffers Verify (S.held source.old) meter.old meter.new window.old window.new }
+    // Every byte that is read, whatever the answer, is of a header that the checks come to, or, if no header is
+    // rejected, of a row or a record of a packed image, or of the data of an HDU, of which the sums are made.
+    ensures touched { IfSome (S.held source.old) (λ g. LogsIn (touched_by Verify g) (S.ranges source.old) (S.ranges source.new)) }
+    // After a job that is done the peak is exactly the greatest sum of its takings, for so many workers.
+    ensures exact_peak { OnOk result (IfSome (S.held source.old) (λ g. meter.new.peak ≡ max meter.old.peak (highest (job_takings Verify g 1)))) }
+    // The first block is taken before anything is read.
+    ensures unread { meter.old.limit < 2880 → S.ranges source.new ≡ S.ranges source.old }
+    ensures kept { KeepsSource (S.held source.old) (S.held source.new) (S.attached source.old) (S.attached source.new)
+        (S.tally source.old) (S.tally source.new) (T.tally text.old) (T.tally text.new) }
+    ensures told_ranges { StaysTold (S.ranges source.old) (S.ranges source.new) }
+    ensures told_contents { StaysTold (T.contents text.old) (T.contents text.new) }
+{
+    let decoded: Option<Decoded<S>> = None;
+    verify_decoded(rt, source, length, text, meter, window, gate, &decoded)
+}
+
+/// The same of a file of which all tiles may have been decoded before, without a fault: if `strict_decoded` says so of this
+/// very source, as it is now, they are not decoded again.
+pub fn verify_decoded<R: Threads + Sync, S: Source, T: Text, G: Gate>(
+    rt: &R,
+    source: &mut S,
+    length: u64,
+    text: &mut T,
+    meter: &mut Meter,
+    window: &mut Window,
+    gate: &G,
+    decoded: &Option<Decoded<S>>,
+) -> Result<bool, Stop>
+    requires attached { S.attached source.old ≡ Some length }
+    requires nothing_live { meter.old.live ≡ 0 }
+    requires window { IsEmpty window.old }
+    requires one_worker { window.old.workers ≡ 1 }
+    requires of { IfSome decoded.now (λ d. d.of.value ≡ source.old) }
+    requires sound { IsSome decoded.now → IfSome (S.held source.old) (λ g. IsFirstFault Verify g None) }
+
+    ensures lines { PrintsLines Verify (S.held source.old) (T.contents text.old) (T.contents text.new) result }
+    ensures right { IfOk result (λ right. IfSome (S.held source.old) (IsRightAsSaid right)) }
+    // Of every source: the answer says what the lines say, and nothing that was printed is taken back.
+    ensures reported { IfOk result (Reports (T.contents text.old) (T.contents text.new)) }
+    ensures grown { Grew (T.contents text.old) (T.contents text.new) }
+    ensures first_fault { TellsFirstFault Verify (S.held source.old) result }
+    // If no count of faults rose and the limit is at least the bound, only the first fault decides.
+    ensures answered { Answers Verify (S.held source.old) (S.tally source.old) (S.tally source.new) (T.tally text.old)
+        (T.tally text.new) meter.old.limit 1 result }
+    ensures cause { HasJobCause Verify (S.held source.old) (S.tally source.old) (S.tally source.new) (T.tally text.old)
+        (T.tally text.new) meter.old.limit 1 result }
+    // Nothing is printed if a header is refused.
     ensures silent { IsUnmade Verify (S.held source.old) meter.old.limit 1
         ((T.contents text.new ≡ T.contents text.old) × (T.tally text.new ≡ T.tally text.old)) result }
     ensures buffers { KeepsBuffers Verify (S.held source.old) meter.old meter.new window.old window.new }
@@ -82,43 +129,38 @@ pub fn verify<R: Threads + Sync, S: Source, T: Text, G: Gate>(
 {
     // How the promises of the job follow from its stages.
     stages_law::<bool>();
+    let skip = decoded.is_some();
     let crew = Crew {
         rt,
         gate,
         workers: window.workers(),
     };
-    let mut block = meter.bytes(BLOCK_LEN as u64)?;
-    let answer = verify_with_block(
-        &crew,
-        source,
+    let asked = Verifying {
+        crew,
         length,
-        text,
-        meter,
-        window,
-        block.as_mut_slice(),
-        decoded,
-    );
+        decoded: skip,
+    };
+    let mut block = meter.bytes(BLOCK_LEN as u64)?;
+    let answer = verify_with_block(&asked, source, text, meter, window, block.as_mut_slice());
     meter.give_bytes(block);
     answer
 }
 
 // Looks at the headers, and then works.
 fn verify_with_block<R: Threads + Sync, S: Source, T: Text, G: Gate>(
-    crew: &Crew<'_, R, G>,
+    asked: &Verifying<'_, R, G>,
     source: &mut S,
-    length: u64,
     text: &mut T,
     meter: &mut Meter,
     window: &mut Window,
     block: &mut [u8],
-    decoded: bool,
 ) -> Result<bool, Stop>
-    requires attached { S.attached source.old ≡ Some length }
+    requires attached { S.attached source.old ≡ Some asked.now.length }
     requires one_block { meter.old.live ≡ 2880 }
     requires window { IsEmpty window.old }
     requires one_worker { window.old.workers ≡ 1 }
     requires block { len block.old ≡ 2880 }
-    requires sound { decoded ≡ true → IfSome (S.held source.old) (λ g. IsFirstFault Verify g None) }
+    requires sound { asked.now.decoded ≡ true → IfSome (S.held source.old) (λ g. IsFirstFault Verify g None) }
     ensures lines { PrintsLines Verify (S.held source.old) (T.contents text.old) (T.contents text.new) result }
     ensures right { IfOk result (λ right. IfSome (S.held source.old) (IsRightAsSaid right)) }
     ensures reported { IfOk result (Reports (T.contents text.old) (T.contents text.new)) }
@@ -146,30 +188,26 @@ fn verify_with_block<R: Threads + Sync, S: Source, T: Text, G: Gate>(
     known_law();
     ranges_law();
     stages_law::<bool>();
-    let survey = survey_to_unpack(source, length, meter, block)?;
-    verify_seen(
-        crew, source, length, text, meter, window, &survey, block, decoded,
-    )
+    let survey = survey_to_unpack(source, asked.length, meter, block)?;
+    verify_seen(asked, source, text, meter, window, &survey, block)
 }
 
 // Takes all buffers, verifies the HDUs, and hands the buffers back.
 fn verify_seen<R: Threads + Sync, S: Source, T: Text, G: Gate>(
-    crew: &Crew<'_, R, G>,
+    asked: &Verifying<'_, R, G>,
     source: &mut S,
-    length: u64,
     text: &mut T,
     meter: &mut Meter,
     window: &mut Window,
     survey: &Survey,
     block: &mut [u8],
-    decoded: bool,
 ) -> Result<bool, Stop>
-    requires attached { S.attached source.old ≡ Some length }
+    requires attached { S.attached source.old ≡ Some asked.now.length }
     requires window { IsEmpty window.old }
     requires some { 0 < survey.now.hdus }
     requires few { survey.now.hdus ≤ 65536 }
     requires block { len block.old ≡ 2880 }
-    requires sound { decoded ≡ true → IfSome (S.held source.old) (AreRowsSound survey.now) }
+    requires sound { asked.now.decoded ≡ true → IfSome (S.held source.old) (AreRowsSound survey.now) }
     ensures verified { IfSome (S.held source.old) (λ g. VerifiesSeen g survey.now (T.contents text.old) (T.contents text.new) result) }
     ensures reported { IfOk result (Reports (T.contents text.old) (T.contents text.new)) }
     ensures grown { Grew (T.contents text.old) (T.contents text.new) }
@@ -200,9 +238,7 @@ fn verify_seen<R: Threads + Sync, S: Source, T: Text, G: Gate>(
         tile: Some(survey.tile),
     };
     let mut space = Workspace::take(meter, window, &wants)?;
-    let answer = verify_hdus(
-        crew, source, length, text, window, survey, &mut space, block, decoded,
-    );
+    let answer = verify_hdus(asked, source, text, window, survey, &mut space, block);
     space.give_back(meter, window);
     answer
 }

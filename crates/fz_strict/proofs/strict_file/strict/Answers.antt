@@ -1,4 +1,5 @@
 -- The look stops, or knows the file, and then the comparison says the rest.
+use Rattle.std.proofs.Common.{inl, inr}
 use Rattle.std.proofs.Common.{◌≡◌, ℕ, ◌+◌, ◌<◌, ◌≤◌, max, Bool, List, [], ◌∷◌, Option, None, IfSome, Result, Err, sum, refl, sym, ap, ◌∙◌, subst, arith, rules}
 use Rattle.std.specs.Prelude.{OnOk, IfOk}
 use Rattle.fz_base.specs.Counts.{Tally}
@@ -15,7 +16,7 @@ use Rattle.fz_survey.specs.declared.survey.Survey.{Survey}
 use Rattle.fz_strict.specs.Clauses.{AnswersStrict, HasStrictCause, IsStrictAsSaid, look_takings, strict_buffers, strict_takings}
 use Rattle.fz_strict.specs.Reads.{ReadsKnown}
 use Rattle.fz_strict.specs.Rows.{ComparesFound}
-use Rattle.fz_strict.proofs.Outcomes.{kept_same, ok_weaker}
+use Rattle.fz_strict.proofs.Outcomes.{if_refused, kept_same, ok_weaker, refused_weaker}
 use Rattle.fz_strict.proofs.Promises.{Knows, answers, block_other, buffers_most, cause_of, headers_within, never_ok, compare_limit, compare_reached, compare_tells, compare_within, learnt, look_faulty, look_tells, look_within, takes_other, takings_within, tells_more, work_faulty, work_right}
 use Rattle.fz_strict.proofs.ReadHdus.{all_read, headers_read}
 use Rattle.fz_strict.proofs.strict_file.strict.Goals as goal
@@ -60,6 +61,9 @@ returns-in_err-survey-clause-buffers g c =
       most = omega (arith, within, c.in_err-survey.ensures.peak_most);
       window_is = λ i. record { slots = c.requires.window i; workers = c.args.window.now.workers };
     }
+
+pub returns-in_err-survey-clause-late : goal.returns-in_err-survey-clause-late
+returns-in_err-survey-clause-late g c = if_refused _ c.from_residual.result (λ x. inr c.in_err-survey.ensures.peak_most)
 
 pub returns-in_err-survey-clause-kept : goal.returns-in_err-survey-clause-kept
 returns-in_err-survey-clause-kept g c = record {
@@ -141,6 +145,9 @@ returns-clause-exact_peak g c =
     let look : IfSome held (λ file. c.look.new.meter.peak ≡ max c.args.meter.now.peak (highest (look_takings file))) = c.in_ok-survey.ensures.exact_peak in
     let reached : OnOk c.compare.result (c.compare.new.meter.peak ≡ max c.look.new.meter.peak (sum (strict_buffers s.header_len s.tile 1))) = rw c.requires.one_worker at c.compare.ensures.exact_peak in
     ok_weaker c.compare.result (compare_reached c.survey_law.ensures.unpack held s.header_len s.tile c.args.meter.now.peak c.look.new.meter.peak c.compare.new.meter.peak largest look) reached
+
+pub returns-clause-late : goal.returns-clause-late
+returns-clause-late g c = refused_weaker c.compare.result (λ x is. inl is) c.compare.ensures.late
 
 pub returns-clause-unread : goal.returns-clause-unread
 returns-clause-unread g c = λ low. absurd (never_ok _ _ _ _ c.in_ok-survey.ensures.block low)

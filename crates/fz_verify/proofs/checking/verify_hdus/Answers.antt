@@ -106,10 +106,10 @@ returns-then-start-length-clause-verified g c =
     subst (λ (h : Option (List ℕ)). IfSome h (λ f. ChecksHdu f a.header mid now (Ok sound))) (c.in_ok-again.ensures.source.held_is ∙ old.held) c.in_ok-sound.ensures.checked in
     let more : IfSome held (IsChecking s (k + 1) (next_start_of a.header) (is_empty_primary a.header) (right && sound) before now) =
     more_checked c.none_refused_law.ensures s before held k start flag (is_empty_primary a.header) right sound mid now a few old.checked seen checked refl in
-    let told : HoldsLength held c.args.length = g.met.S.Source.agrees c.args.source.now c.args.length c.requires.attached in
-    let differ : not (beq (eqb (next_start_of a.header) c.args.length) (eqb (k + 1) s.hdus)) ≡ true =
-    subst (λ n. not (beq (eqb n c.args.length) (eqb (k + 1) s.hdus)) ≡ true) c.next_start-start.ensures c.if-start-length.true in
-    stops_changed c.none_refused_law.ensures s before held c.args.length (k + 1) (next_start_of a.header) (is_empty_primary a.header) (right && sound) now (Err c.changed.result) told differ more
+    let told : HoldsLength held c.args.asked.now.length = g.met.S.Source.agrees c.args.source.now c.args.asked.now.length c.requires.attached in
+    let differ : not (beq (eqb (next_start_of a.header) c.args.asked.now.length) (eqb (k + 1) s.hdus)) ≡ true =
+    subst (λ n. not (beq (eqb n c.args.asked.now.length) (eqb (k + 1) s.hdus)) ≡ true) c.next_start-start.ensures c.if-start-length.true in
+    stops_changed c.none_refused_law.ensures s before held c.args.asked.now.length (k + 1) (next_start_of a.header) (is_empty_primary a.header) (right && sound) now (Err c.changed.result) told differ more
 
 pub loop-hdu-preserved : goal.loop-hdu-preserved
 loop-hdu-preserved g c =
@@ -136,7 +136,7 @@ loop-hdu-preserved g c =
     more_checked c.none_refused_law.ensures s before held k start flag (is_empty_primary a.header) right sound mid now a few old.checked seen checked refl in
     let next : c.next_start-start.result ≡ next_start_of a.header = c.next_start-start.ensures in
     let says : c.is_empty_primary-after_empty.result ≡ is_empty_primary a.header = c.is_empty_primary-after_empty.ensures in
-    let inside : next_start_of a.header ≤ c.args.length = c.in_ok-again.ensures.again.inside in
+    let inside : next_start_of a.header ≤ c.args.asked.now.length = c.in_ok-again.ensures.again.inside in
     let early : next_start_of a.header ≤ 2 ^ 62 = c.in_ok-again.ensures.again.near in
     let first : Option (List (ℕ × ℕ)) = g.S.Source.ranges c.args.source.now in
     let one : Option (List (ℕ × ℕ)) = g.S.Source.ranges c.loop-hdu.source in
@@ -160,7 +160,7 @@ loop-hdu-preserved g c =
         copy = c.in_ok-sound.ensures.space.copy ∙ old.space.copy;
       };
       window = record { sizes = c.in_ok-sound.ensures.window.sizes ∙ old.window.sizes; workers = c.in_ok-sound.ensures.window.workers ∙ old.window.workers };
-      within = λ left. inl (not_at_end c.next_start-start.result c.args.length (k + 1) s.hdus c.if-start-length.false left (omega (arith, next, inside)));
+      within = λ left. inl (not_at_end c.next_start-start.result c.args.asked.now.length (k + 1) s.hdus c.if-start-length.false left (omega (arith, next, inside)));
       early = omega (arith, next, early);
       checked = subst (λ b. IfSome held (IsChecking s (k + 1) c.next_start-start.result b (right && sound) before now)) (sym says)
           (subst (λ n. IfSome held (IsChecking s (k + 1) n (is_empty_primary a.header) (right && sound) before now)) (sym next) more);
