@@ -26,8 +26,8 @@ pub record IsUsable (header : List ℕ) (h : Header) (len : ℕ) (region : Regio
   pub inside : image.table.heap_at + image.table.heap_len ≤ len
   pub within : IsWithin image.plan.shape region
 
--- The header of an HDU within so many bytes stands at the front of the buffer, and no check refuses to cut this box from its image. Where
--- a packed primary stands was looked at before.
+-- The header of an HDU within so many bytes is at the front of the buffer, and no check refuses to cut this box from its image. Where
+-- a packed primary is was looked at before.
 pub record IsAgain (held : Option (List ℕ)) (len : ℕ) (region : Region) (buf : List ℕ) (a : Again) : Type 0 where
   pub room : 2880 * a.header.blocks ≤ length buf
   pub header : IsHeaderOf (header_at_front a buf) a.header

@@ -29,4 +29,6 @@ SurveysKnow = (wanted : Option ℕ) (sieve : Sieve) (file : List ℕ) (s : Surve
 
 -- and refuses it by its first fault
 abbrev pub SurveysRefuse : Type 0
-SurveysRefuse = (wanted : Option ℕ) (sieve : Sieve) (file : List ℕ) (x : Fault) → cut_surveyed wanted (box_of sieve) file ≡ Err x → header_fault (Cut wanted sieve) file ≡ Some x
+SurveysRefuse =
+    (wanted : Option ℕ) (sieve : Sieve) (file : List ℕ) (x : Fault) → cut_surveyed wanted (box_of sieve) file ≡ Err x
+    → header_fault (Cut wanted sieve) file ≡ Some x

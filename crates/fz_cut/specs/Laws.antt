@@ -1,4 +1,4 @@
--- Where the headers and the rows stand that a cut reads, and how a part begins (FITS 4.0, sections 3.1, 4.4.1.1 and 10.1).
+-- Where the headers and the rows are that a cut reads, and how a part begins (FITS 4.0, sections 3.1, 4.4.1.1 and 10.1).
 use Rattle.std.specs.Prelude.{ℕ, ◌≡◌, ◌+◌, ◌≤◌, ◌<◌, List, ◌∷◌, drop, Option}
 use Rattle.fz_block.specs.declared.header.Header.{Header}
 use Rattle.fz_base.specs.Ranges.{LiesIn}

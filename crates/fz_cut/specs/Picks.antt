@@ -15,7 +15,9 @@ use Rattle.fz_fetch.specs.Fetched.{RowsGive}
 use Rattle.fz_fetch.specs.Scattered.{parts_written}
 
 -- the picks of tiles were written to their places
-pub record AreWrittenParts (held : Option (List ℕ)) (h : Header) (p : Plan) (sieve : Sieve) (at : ℕ) (tiles : List ℕ) (before now : Option (List ℕ)) : Type 0 where
+pub record AreWrittenParts
+    (held : Option (List ℕ)) (h : Header) (p : Plan) (sieve : Sieve) (at : ℕ) (tiles : List ℕ)
+    (before now : Option (List ℕ)) : Type 0 where
   pub pixels : List (List ℤ)
   pub count : length pixels ≡ length tiles
   pub told : IfSome held (λ file. RowsGive file h tiles pixels)

@@ -15,7 +15,7 @@ use Rattle.fz_files.specs.declared.job.Job.TheVariants.{Cut, Unpack}
 use Rattle.fz_job.specs.Clauses.{HoldsOutput}
 use Rattle.fz_cut.specs.Output.{HoldsCutout}
 
--- The image of the packed HDU with this header has these numbers, axis 1 fastest, and stands in the restored file after what the HDUs
+-- The image of the packed HDU with this header has these numbers, axis 1 fastest, and is in the restored file after what the HDUs
 -- before it stand for.
 pub record HasImage (file restored : List ℕ) (h : Header) (a : NumberArray) : Type 0 where
   pub rows : RowsStandFor file h a
@@ -35,7 +35,8 @@ pub record IsSliceOf (wanted : Option ℕ) (sieve : Sieve) (file restored part :
   pub array : NumberArray
   pub image : HasImage file restored header array
   pub numbers :
-      part ≡ header_bytes (cutout_cards sieve (cards_of (header_in file header))) ++ zero_filled (plain_bytes (pixel_bits (plan_in file header)) (picked_numbers array sieve))
+      part ≡ header_bytes (cutout_cards sieve (cards_of (header_in file header)))
+      ++ zero_filled (plain_bytes (pixel_bits (plan_in file header)) (picked_numbers array sieve))
 
 -- for every file that a packed file stands for, a cutout is a slice of it
 abbrev pub CutoutsAreSlices : Sieve → Type 0
@@ -44,7 +45,8 @@ CutoutsAreSlices sieve =
 
 -- the contents are a slice of every file that the bytes of the source stand for
 abbrev pub HoldsSlice : Option ℕ → Sieve → Option (List ℕ) → Option (List ℕ) → Type 0
-HoldsSlice wanted sieve held contents = HoldsOutput (λ file part. (restored : List ℕ) → StandsFor file restored → IsSliceOf wanted sieve file restored part) held contents
+HoldsSlice wanted sieve held contents =
+    HoldsOutput (λ file part. (restored : List ℕ) → StandsFor file restored → IsSliceOf wanted sieve file restored part) held contents
 
 -- and so is what a cut leaves in its sink
 abbrev pub SinksHoldSlices : Sieve → Type 0

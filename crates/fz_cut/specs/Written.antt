@@ -13,13 +13,15 @@ use Rattle.fz_cut.specs.Again.{WasSeen}
 use Rattle.fz_cut.specs.Part.{IsPartOf, IsPickFault}
 use Rattle.fz_cut.specs.Picks.{picked_ranges}
 
--- told contents are the part that a sieve picks from the HDU with this header
+-- shown contents are the part that a sieve picks from the HDU with this header
 abbrev pub IsPart : List ℕ → Header → Sieve → Option (List ℕ) → Type 0
 IsPart file h sieve contents = IfSome contents (IsPartOf file h sieve)
 
 -- The part of an HDU that was seen was written, and no row of its tiles that hold a pick is refused; or the first faulty one is, and not
 -- the HDU.
-pub record FinishesSeen {X : Type 0} (file : List ℕ) (sieve : Sieve) (header_len tile : ℕ) (h : Header) (now : Option (List ℕ)) (result : Result X Stop) : Type 0 where
+pub record FinishesSeen
+    {X : Type 0} (file : List ℕ) (sieve : Sieve) (header_len tile : ℕ) (h : Header) (now : Option (List ℕ))
+    (result : Result X Stop) : Type 0 where
   pub part : WasSeen file (box_of sieve) header_len tile h → OnOk result (IsPart file h sieve now)
   pub sound : WasSeen file (box_of sieve) header_len tile h → OnOk result (IsFirstRowFault file (picked_rows file sieve h) None)
   pub first_fault : WasSeen file (box_of sieve) header_len tile h → IfRefused result (IsPickFault file h sieve)

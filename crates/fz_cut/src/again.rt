@@ -30,7 +30,7 @@ pub(crate) struct Again {
 /// Reads the header of the HDU once more, into the first bytes of a buffer, and finds its image, whose tiles have at
 /// most so many pixels.
 ///
-/// Refused: only where the source gives other bytes than before, and then with BadCard at card 0 of the HDU.
+/// Refused: only if the source gives other bytes than before, and then with BadCard at card 0 of the HDU.
 pub(crate) fn read_again<S: Source>(
     source: &mut S,
     length: u64,
@@ -92,7 +92,7 @@ fn read_image<S: Source>(
     }
     let header = header_again(source, length, from.hdu, from.start, block, buf)?;
     let buf = &buf[..BLOCK_LEN * header.blocks as usize];
-    // Where a packed primary may stand was looked at before.
+    // Where a packed primary may be was looked at before.
     let image = image_to_cut(buf, &header, true, region).map_err(Stop::Refused)?;
     if is_larger(&image, tile) {
         return Err(changed(from.hdu));

@@ -38,7 +38,7 @@ use std::thread::Threads;
 /// No HDU after that one is looked at. All checks of headers come first, then all buffers are taken, and only then the
 /// sink is made; its byte 0 is written last. Refused: as `survey_to_cut` refuses the file; the lowest faulty row of
 /// a tile that holds a pick, as `fetch_tiles` refuses it. Of a source that gives other bytes at the second reading also
-/// the HDU, where it is no longer the one that was looked at.
+/// the HDU, if it is no longer the one that was looked at.
 pub fn cut<R: Threads + Sync, S: Source, K: Sink, G: Gate>(
     rt: &R,
     source: &mut S,
@@ -63,7 +63,7 @@ pub fn cut<R: Threads + Sync, S: Source, K: Sink, G: Gate>(
     // Every byte of the ranges that it read, whatever its answer, lies in a header that it comes to, or in the row or the
     // record of a tile that holds a pick.
     ensures touched { IfSome (S.held source.old) (λ g. LogsIn (touched hdu sieve.now g) (S.ranges source.old) (S.ranges source.new)) }
-    // Where no count of faults rose and the limit is at least the bound, the first fault alone decides.
+    // If no count of faults rose and the limit is at least the bound, only the first fault decides.
     ensures answered { Answers (Cut hdu sieve.now) (S.held source.old) (S.tally source.old) (S.tally source.new)
         (nameless (K.tally sink.old)) (nameless (K.tally sink.new)) meter.old.limit window.old.workers result }
     ensures cause { HasJobCause (Cut hdu sieve.now) (S.held source.old) (S.tally source.old) (S.tally source.new)

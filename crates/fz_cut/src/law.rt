@@ -12,7 +12,7 @@ use fz_grid::{Sieve, shape_law, tile_pixels_law};
 use fz_head::packed_image_law;
 
 /// A survey of a file that a part is cut from knows the HDU, the longest header and the largest tile; a fault that it
-/// tells is the first of the file's headers.
+/// gives is the first of the file's headers.
 pub(crate) fn known_law()
     ensures know { SurveysKnow }
     ensures refuse { SurveysRefuse }

@@ -1,5 +1,5 @@
-//! Cuts a part out of a packed image: the picks of a box with steps become a primary image of their own, from the headers
-//! of the file and the tiles that hold a pick alone.
+//! Cuts a part out of a packed image: the picks of a box with steps become a primary image of their own, only from the headers
+//! of the file and the tiles that hold a pick.
 //!
 //! Reading order: `cut_file`, `law`, `boxes`, `again`, `file`, `part_header`, `moved`, `picks`.
 #![tactic(auto)]

@@ -70,7 +70,7 @@ fn shift_by(sieve: &Sieve, name: Name) -> u32
     }
 }
 
-// By how much the reference pixel of axis `i`, counted from 1, moves: by the corner where every pixel from there on is
+// By how much the reference pixel of axis `i`, counted from 1, moves: by the corner if every pixel from there on is
 // picked.
 fn shift_along(sieve: &Sieve, i: u32) -> u32
     requires sieve { HasPicks sieve.now }

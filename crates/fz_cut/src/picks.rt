@@ -64,7 +64,7 @@ pub(crate) fn write_picks<R: Threads + Sync, S: Source, K: Sink, G: Gate>(
     scattered_law();
     shape_law();
     tiles_law();
-    // This call tells that the sieve is one of the image.
+    // This call shows that the sieve is one of the image.
     let _part = cutout_axes(&image.plan.shape, sieve);
     let most = 2 * window.workers() as usize;
     let mut tiles = [0; MOST_TILES];
@@ -127,7 +127,7 @@ fn write_round<R: Threads + Sync, S: Source, K: Sink, G: Gate>(
     ensures cause { Rewrites (S.tally source.old) (S.tally source.new) (K.tally sink.old) (K.tally sink.new) result }
 {
     shape_law();
-    // This call tells that the part has no more than 2^40 pixels.
+    // This call shows that the part has no more than 2^40 pixels.
     let _part = cutout_axes(&image.plan.shape, sieve);
     fetch_tiles(crew, source, header, image, tiles, rows, window)?;
     scatter_picks(sink, data_at, &image.plan, sieve, tiles, window)

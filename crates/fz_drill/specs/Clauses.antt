@@ -25,7 +25,7 @@ IsDone (Err WriteFault) = ⊥
 IsDone (Err (OverLimit live asked limit)) = ⊥
 IsDone (Err NoMemory) = ⊤
 
--- where no count of the text's faults rose, and the limit is at least the bound, it is done
+-- if no count of the text's faults rose, and the limit is at least the bound, it is done
 abbrev pub Answers : {X : Type 0} → ℕ → Tally → Tally → ℕ → Result X Stop → Type 0
 Answers rows text text' limit result = ¬ Rose text.faults text'.faults → drill_bound rows ≤ limit → IsDone result
 
@@ -37,8 +37,8 @@ StoppedDrilling text text' WriteFault = Rose text.faults text'.faults
 StoppedDrilling text text' (OverLimit live asked limit) = text' ≡ text
 StoppedDrilling text text' NoMemory = ⊤
 
--- OverLimit tells the limit, and the first of the takings of all jobs that passes it, which is never more than the bound; it comes where one
--- does. A limit below the first taking, of one block, decides alone, where there was memory for the files.
+-- OverLimit shows the limit, and the first of the takings of all jobs that passes it, which is never more than the bound; it comes if one
+-- does. A limit below the first taking, of one block, decides by itself, if there was memory for the files.
 pub record HasDrillCause {X : Type 0} (rows : ℕ) (text text' : Tally) (limit : ℕ) (result : Result X Stop) : Type 0 where
   pub kept : CountsKept text text'
   pub done : OnOk result (text' ≡ text)

@@ -13,9 +13,11 @@ use Rattle.fz_drill.specs.Files.{IsRows}
 abbrev pub PlainFilesAreLong : Type 0
 PlainFilesAreLong = (rows : ℕ) → IsRows rows → length (drill_file rows) ≡ 2880 + whole_blocks_of (512 * rows)
 
--- an empty primary, a header of one block, and for each row 16 bytes and its pixels, or its code where that is shorter
+-- an empty primary, a header of one block, and for each row 16 bytes and its pixels, or its code if that is shorter
 abbrev pub PackedFilesAreShort : Type 0
-PackedFilesAreShort = (rows : ℕ) (codec : CodecWord) → IsRows rows → (8640 ≤ length (drill_packed rows codec)) × (length (drill_packed rows codec) ≤ 5760 + whole_blocks_of (528 * rows))
+PackedFilesAreShort =
+    (rows : ℕ) (codec : CodecWord) → IsRows rows
+    → (8640 ≤ length (drill_packed rows codec)) × (length (drill_packed rows codec) ≤ 5760 + whole_blocks_of (528 * rows))
 
 -- without a codec all pixels are stored
 abbrev pub StoredFilesAreLong : Type 0
@@ -23,4 +25,6 @@ StoredFilesAreLong = (rows : ℕ) → IsRows rows → length (drill_packed rows 
 
 -- no taking of `drill` passes its bound
 abbrev pub DrillsAreBounded : Type 0
-DrillsAreBounded = (rows : ℕ) (file : List ℕ) (asked : ℕ) → IsRows rows → first_past (job_bound (Drill rows) file asked) (job_takings (Drill rows) file asked) ≡ None
+DrillsAreBounded =
+    (rows : ℕ) (file : List ℕ) (asked : ℕ) → IsRows rows
+    → first_past (job_bound (Drill rows) file asked) (job_takings (Drill rows) file asked) ≡ None

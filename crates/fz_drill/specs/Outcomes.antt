@@ -1,5 +1,5 @@
 -- What the parts of `drill` keep, why they stop, and what they answer.
-use Rattle.std.specs.Prelude.{ℕ, ◌≡◌, ◌⊎◌, ◌<◌, ◌≤◌, max, true, List, length, Option, Some, Result, IfErr, IsErrOf, ⊤}
+use Rattle.std.specs.Prelude.{ℕ, ◌≡◌, ◌⊎◌, ◌<◌, ◌≤◌, max, true, List, length, Result, IfErr, IsErrOf, ⊤}
 use Rattle.fz_base.specs.Meter.{Gauge}
 use Rattle.fz_base.specs.Stop.{TellsLimit}
 use Rattle.fz_base.specs.Takings.{TellsFirstPast}
@@ -13,7 +13,7 @@ use Rattle.fz_drill.specs.Bound.{drill_bound}
 use Rattle.fz_drill.specs.declared.outcome.Outcome.{Outcome}
 use Rattle.fz_drill.specs.declared.outcome.Outcomes.{Outcomes}
 
--- Jobs over files in memory stop for a limit or for want of memory alone, and for no limit that is at least the bound.
+-- Jobs over files in memory stop only for a limit or for want of memory, and for no limit that is at least the bound.
 abbrev pub StoppedInMemory : ℕ → ℕ → Stop → Type 0
 StoppedInMemory rows limit (Refused x) = ⊥
 StoppedInMemory rows limit ReadFault = ⊥
@@ -27,15 +27,9 @@ pub record Stops {X : Type 0} (rows : ℕ) (takings : List (ℕ × ℕ)) (limit 
   pub over_limit : TellsLimit limit (drill_bound rows) result
   pub first_past : TellsFirstPast limit takings result
 
--- a limit below the first taking decides alone, where there was memory for the files
+-- a limit below the first taking decides by itself, if there was memory for the files
 abbrev pub BlockDecides : {X : Type 0} → ℕ → Result X Stop → Type 0
 BlockDecides limit result = limit < 2880 → IsErrOf result (OverLimit 0 2880 limit) ⊎ IsErrOf result NoMemory
-
--- a source holds these bytes, and is attached
-pub record HoldsFile (file : List ℕ) (length_is : ℕ) (held : Option (List ℕ)) (attached : Option ℕ) : Type 0 where
-  pub held_is : held ≡ Some file
-  pub attached_is : attached ≡ Some length_is
-  pub length_of : length_is ≡ length file
 
 -- the packed file of a codec has so many bytes, and what was unpacked and cut from it were the right bytes
 pub record IsOutcome (rows : ℕ) (codec : CodecWord) (outcome : Outcome) : Type 0 where
@@ -57,7 +51,7 @@ pub record KeepsAll (rows : ℕ) (old new : Gauge) (window window' : Pool) : Typ
   pub peak : new.peak ≤ max old.peak (drill_bound rows)
   pub window_is : window' ≡ window
 
--- a sink in memory fails for want of memory alone
+-- a sink in memory fails only for want of memory
 abbrev pub in_memory : Stop → Stop
 in_memory (Refused x) = Refused x
 in_memory ReadFault = ReadFault

@@ -17,7 +17,7 @@ use std::thread::Threads;
 /// Makes a file of so many rows in memory, packs it with each codec, unpacks what came out and cuts columns from it, with 4
 /// workers; and prints how long the file and the packed ones are, and whether the right bytes came out, which is always.
 ///
-/// All of it is printed after the last job: so nothing is where one of them stopped.
+/// All of it is printed after the last job: so nothing is if one of them stopped.
 pub fn drill<R: Threads + Sync, T: Text, G: Gate>(
     rt: &R,
     alloc: Global,
@@ -30,10 +30,10 @@ pub fn drill<R: Threads + Sync, T: Text, G: Gate>(
     requires nothing_live { meter.old.live ≡ 0 }
 
     ensures lines { PrintsLines rows (T.contents text.old) (T.contents text.new) result }
-    // Where no count of the text's faults rose and the limit is at least the bound, it is done, or there was no memory.
+    // If no count of the text's faults rose and the limit is at least the bound, it is done, or there was no memory.
     ensures answered { Answers rows (T.tally text.old) (T.tally text.new) meter.old.limit result }
     ensures cause { HasDrillCause rows (T.tally text.old) (T.tally text.new) meter.old.limit result }
-    // Nothing is printed where a buffer passes the limit.
+    // Nothing is printed if a buffer passes the limit.
     ensures silent { IsSilent rows meter.old.limit (T.contents text.old) (T.contents text.new) (T.tally text.old) (T.tally text.new) result }
     ensures buffers { KeepsMeter rows meter.old meter.new }
     // The peak after all is done is what the takings of all nine jobs come to.

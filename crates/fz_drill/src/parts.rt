@@ -180,7 +180,7 @@ fn sieve_of(rows: u32) -> Sieve
     }
 }
 
-// Why a job on files in memory stopped: a sink that is told to fail at no call fails for want of memory alone.
+// Why a job on files in memory stopped: a sink that is set to fail at no call fails only for want of memory.
 fn in_memory(stop: Stop) -> Stop
     ensures { result ≡ in_memory stop }
 {

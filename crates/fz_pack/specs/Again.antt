@@ -1,5 +1,6 @@
 -- A header that is read once more, after the first look at all headers (FITS 4.0, sections 3.1 and 10.1).
-use Rattle.std.specs.Prelude.{ℕ, suc, ◌≡◌, ◌*◌, ◌^◌, ◌≤◌, nat_lt, Bool, true, false, List, [], ◌∷◌, length, take, codes, Option, Some, None, IfSome, Result, Ok, Err, ⊤}
+use Rattle.std.specs.Prelude.{ℕ, suc, ◌≡◌, ◌*◌, ◌^◌, ◌≤◌, nat_lt, Bool, true, false, List, [], ◌∷◌}
+use Rattle.std.specs.Prelude.{length, take, codes, Option, Some, None, IfSome, Result, Ok, Err, ⊤}
 use Rattle.fz_base.specs.Source.{Reads}
 use Rattle.fz_base.specs.Stop.{IfRefused}
 use Rattle.fz_base.specs.declared.failure.Stop.{Stop}
@@ -31,7 +32,7 @@ abbrev pub is_larger : ℕ → Option Plan → Bool
 is_larger tile None = false
 is_larger tile (Some p) = nat_lt tile (largest_of p)
 
--- the header of an HDU within so many bytes stands at the front of the buffer, and this is the plan of the HDU, or none where it is copied
+-- the header of an HDU within so many bytes is at the front of the buffer, and this is the plan of the HDU, or none if it is copied
 pub record IsAgain (o : PackOptions) (held : Option (List ℕ)) (len : ℕ) (buf : List ℕ) (a : Again) : Type 0 where
   pub room : 2880 * a.header.blocks ≤ length buf
   pub header : IsHeaderOf (header_in a buf) a.header

@@ -12,7 +12,7 @@ use Rattle.fz_files.specs.Packed.{packed_hdu, packed_file}
 use Rattle.fz_job.specs.Behind.{HoldsBytes, written_behind}
 use Rattle.fz_pack.specs.Again.{WereSeen}
 
--- those that stand before the table of an image, which was the primary or not
+-- those that are before the table of an image, which was the primary or not
 abbrev pub before_image : Bool → List ℕ
 before_image true = header_bytes empty_primary
 before_image false = []
@@ -27,8 +27,11 @@ pub record EndsNear (h : Header) (at end : ℕ) : Type 0 where
   pub near : end + h.start ≤ at + 2 ^ 46 + next_start_of h
 
 -- The packed file of a file whose HDUs were seen was written, and no HDU was refused that was seen.
-pub record RewritesSeen {X : Type 0} (o : PackOptions) (file : List ℕ) (header_len tile hdus : ℕ) (before now : Option (List ℕ)) (result : Result X Stop) : Type 0 where
-  pub packed : (hs : List Header) → WereSeen o file header_len tile 0 0 hs → length hs ≡ hdus → OnOk result (now ≡ written_behind 0 (packed_file o (map (hdu_of file) hs)) before)
+pub record RewritesSeen
+    {X : Type 0} (o : PackOptions) (file : List ℕ) (header_len tile hdus : ℕ) (before now : Option (List ℕ))
+    (result : Result X Stop) : Type 0 where
+  pub packed : (hs : List Header) → WereSeen o file header_len tile 0 0 hs → length hs ≡ hdus
+      → OnOk result (now ≡ written_behind 0 (packed_file o (map (hdu_of file) hs)) before)
   pub as_seen : (hs : List Header) → WereSeen o file header_len tile 0 0 hs → length hs ≡ hdus → IfRefused result (λ x. ⊥)
 
 -- Of a file with these headers the HDUs before number k were written, and those from number k on begin at one byte.

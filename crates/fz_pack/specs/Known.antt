@@ -14,7 +14,7 @@ use Rattle.fz_files.specs.declared.job.Job.TheVariants.{Pack}
 use Rattle.fz_pack.specs.Written.{IsList}
 
 -- A file passed all checks, and this was learnt of it: its headers were seen, they are those of its HDUs, none is refused, and they
--- tell the longest header and the largest tile that the job meets.
+-- show the longest header and the largest tile that the job meets.
 pub record IsKnown (o : PackOptions) (file : List ℕ) (s : Survey) : Type 0 where
   pub headers : List Header
   pub seen : IsList o file s headers

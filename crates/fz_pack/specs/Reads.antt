@@ -28,7 +28,8 @@ ReadsHdus o file s old new = (hs : List Header) → IsList o file s hs → LogsI
 -- every byte that the first look reads is one of those that the job may read
 abbrev pub LooksAreTouched : Type 0
 LooksAreTouched =
-    (o : PackOptions) (file : List ℕ) (range : ℕ × ℕ) → IsWithinOne (survey_places (PackChecks o) file) range → (byte : ℕ) → range.0 ≤ byte → byte < range.0 + range.1
+    (o : PackOptions) (file : List ℕ) (range : ℕ × ℕ) → IsWithinOne (survey_places (PackChecks o) file) range → (byte : ℕ) → range.0 ≤ byte
+    → byte < range.0 + range.1
     → LiesIn (touched_by (Pack o) file) byte
 
 -- and so is every byte of the HDUs that it saw

@@ -16,7 +16,7 @@ pub record IsList (o : PackOptions) (file : List ℕ) (s : Survey) (hs : List He
   pub seen : WereSeen o file s.header_len s.tile 0 0 hs
   pub count : length hs ≡ s.hdus
 
--- told contents are the packed file
+-- shown contents are the packed file
 abbrev pub ArePacked : PackOptions → List ℕ → List Header → Option (List ℕ) → Type 0
 ArePacked o file hs contents = IfSome contents (λ bytes. bytes ≡ packed_file o (map (hdu_of file) hs))
 

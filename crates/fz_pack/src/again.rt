@@ -31,7 +31,7 @@ pub(crate) struct Again {
 /// Reads the header of an HDU once more, into the first bytes of a buffer, and makes its plan, whose tiles have
 /// at most so many pixels.
 ///
-/// Refused: only where the source gives other bytes than before, and then with BadCard at card 0 of the HDU.
+/// Refused: only if the source gives other bytes than before, and then with BadCard at card 0 of the HDU.
 pub(crate) fn read_again<S: Source>(
     source: &mut S,
     length: u64,

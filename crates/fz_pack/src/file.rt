@@ -24,22 +24,28 @@ use fz_pool::{Crew, Window};
 use fz_survey::{Survey, Workspace};
 use std::thread::Threads;
 
+/// What is packed, how, and by whom: who works, the length of the file, the name of the sink, and the options.
+#[derive(Drop)]
+pub(crate) struct Packing<'a, 'n, R, G> {
+    pub(crate) crew: Crew<'a, R, G>,
+    pub(crate) length: u64,
+    pub(crate) name: &'n str,
+    pub(crate) options: PackOptions,
+}
+
 /// Makes the sink, writes the packed file, its byte 0 last, and finishes.
 pub(crate) fn write_file<R: Threads + Sync, S: Source, K: Sink, G: Gate>(
-    crew: &Crew<'_, R, G>,
+    asked: &Packing<'_, '_, R, G>,
     source: &mut S,
-    length: u64,
-    name: &str,
     sink: &mut K,
     window: &mut Window,
-    options: &PackOptions,
     survey: &Survey,
     space: &mut Workspace,
     block: &mut [u8],
 ) -> Result<(), Stop>
-    requires attached { S.attached source.old ≡ Some length }
+    requires attached { S.attached source.old ≡ Some asked.now.length }
     requires empty { IfSome (K.contents sink.old) (λ c. c ≡ []) }
-    requires options { AreOptions options.now }
+    requires options { AreOptions asked.now.options }
     requires some { 0 < survey.now.hdus }
     requires few { survey.now.hdus ≤ 65535 }
     requires window { slot_sizes window.old.slots ≡ replicate (2 * window.old.workers) (2 * survey.now.tile, 8 * survey.now.tile + 64) }
@@ -47,50 +53,46 @@ pub(crate) fn write_file<R: Threads + Sync, S: Source, K: Sink, G: Gate>(
     requires translated { len space.old.header + 2880 ≤ len space.old.translated }
     requires copy { 4096 ≤ len space.old.copy }
     requires block { len block.old ≡ 2880 }
-    ensures written { IfSome (S.held source.old) (λ g. FinishesSeen options.now g survey.now (K.contents sink.new) result) }
+    ensures written { IfSome (S.held source.old) (λ g. FinishesSeen asked.now.options g survey.now (K.contents sink.new) result) }
     ensures finished { OnOk result (K.finished sink.new ≡ true) }
-    ensures shut { AreShutOrWhole options.now survey.now (S.held source.old) (K.contents sink.new) result }
+    ensures shut { AreShutOrWhole asked.now.options survey.now (S.held source.old) (K.contents sink.new) result }
     ensures block { len block.new ≡ 2880 }
     ensures space { SpaceStays space.old space.new }
     ensures window { WindowStays window.old window.new }
     ensures source { SourceStays (S.held source.old) (S.held source.new) (S.attached source.old) (S.attached source.new) }
     ensures changed { IfRefused result IsChanged }
-    ensures read { IfSome (S.held source.old) (λ g. ReadsHdus options.now g survey.now (S.ranges source.old) (S.ranges source.new)) }
+    ensures read { IfSome (S.held source.old) (λ g. ReadsHdus asked.now.options g survey.now (S.ranges source.old) (S.ranges source.new)) }
     ensures told_ranges { StaysTold (S.ranges source.old) (S.ranges source.new) }
     ensures told_contents { StaysTold (K.contents sink.old) (K.contents sink.new) }
     ensures cause { Rewrites (S.tally source.old) (S.tally source.new) (nameless (K.tally sink.old)) (nameless (K.tally sink.new)) result }
-    ensures names { NamesOnce name.now (K.tally sink.old).names (K.tally sink.new).names result }
+    ensures names { NamesOnce asked.now.name.now (K.tally sink.old).names (K.tally sink.new).names result }
 {
     output_law();
-    sink.create(name).map_err(Stop::writing)?;
-    write_hdus(
-        crew, source, length, sink, window, options, survey, space, block,
-    )?;
+    sink.create(asked.name).map_err(Stop::writing)?;
+    write_hdus(asked, source, sink, window, survey, space, block)?;
     seal(sink)
 }
 
 // Writes the HDUs of the packed file, without byte 0.
 fn write_hdus<R: Threads + Sync, S: Source, K: Sink, G: Gate>(
-    crew: &Crew<'_, R, G>,
+    asked: &Packing<'_, '_, R, G>,
     source: &mut S,
-    length: u64,
     sink: &mut K,
     window: &mut Window,
-    options: &PackOptions,
     survey: &Survey,
     space: &mut Workspace,
     block: &mut [u8],
 ) -> Result<(), Stop>
-    requires attached { S.attached source.old ≡ Some length }
+    requires attached { S.attached source.old ≡ Some asked.now.length }
     requires created { IsTrue (K.created sink.old) }
-    requires options { AreOptions options.now }
+    requires options { AreOptions asked.now.options }
     requires few { survey.now.hdus ≤ 65535 }
     requires window { slot_sizes window.old.slots ≡ replicate (2 * window.old.workers) (2 * survey.now.tile, 8 * survey.now.tile + 64) }
     requires header { len space.old.header ≡ survey.now.header_len }
     requires translated { len space.old.header + 2880 ≤ len space.old.translated }
     requires copy { 4096 ≤ len space.old.copy }
     requires block { len block.old ≡ 2880 }
-    ensures written { IfSome (S.held source.old) (λ g. RewritesSeen options.now g survey.now.header_len survey.now.tile
+    ensures written { IfSome (S.held source.old) (λ g. RewritesSeen asked.now.options g survey.now.header_len survey.now.tile
         survey.now.hdus (K.contents sink.old) (K.contents sink.new) result) }
     ensures block { len block.new ≡ 2880 }
     ensures space { SpaceStays space.old space.new }
@@ -98,7 +100,7 @@ fn write_hdus<R: Threads + Sync, S: Source, K: Sink, G: Gate>(
     ensures source { SourceStays (S.held source.old) (S.held source.new) (S.attached source.old) (S.attached source.new) }
     ensures sink { SinkStays (K.created sink.old) (K.created sink.new) (K.contents sink.old) (K.contents sink.new) }
     ensures changed { IfRefused result IsChanged }
-    ensures read { IfSome (S.held source.old) (λ g. ReadsHdus options.now g survey.now (S.ranges source.old) (S.ranges source.new)) }
+    ensures read { IfSome (S.held source.old) (λ g. ReadsHdus asked.now.options g survey.now (S.ranges source.old) (S.ranges source.new)) }
     ensures told_ranges { StaysTold (S.ranges source.old) (S.ranges source.new) }
     ensures told_contents { StaysTold (K.contents sink.old) (K.contents sink.new) }
     ensures cause { Rewrites (S.tally source.old) (S.tally source.new) (K.tally sink.old) (K.tally sink.new) result }
@@ -106,13 +108,31 @@ fn write_hdus<R: Threads + Sync, S: Source, K: Sink, G: Gate>(
     hdu_at_law();
     output_law();
     ranges_law();
+    let length = asked.length;
     let mut start = 0;
     let mut at = 0;
     for hdu in 0..survey.hdus {
         let buf = space.header.as_mut_slice();
-        let again = read_again(source, length, hdu, start, options, survey.tile, block, buf)?;
+        let again = read_again(
+            source,
+            length,
+            hdu,
+            start,
+            &asked.options,
+            survey.tile,
+            block,
+            buf,
+        )?;
         at = write_hdu(
-            crew, source, sink, window, options, &again, at, space, block,
+            &asked.crew,
+            source,
+            sink,
+            window,
+            &asked.options,
+            &again,
+            at,
+            space,
+            block,
         )?;
         start = next_start(&again.header);
         // An HDU ends the file exactly if it is the last.

@@ -88,7 +88,7 @@ pub(crate) fn write_hdu<R: Threads + Sync, S: Source, K: Sink, G: Gate>(
     }
 }
 
-// Writes what stands before the table of an image, which is a primary where the image was one, and answers the byte
+// Writes what is before the table of an image, which is a primary if the image was one, and answers the byte
 // after it.
 fn write_before<K: Sink>(sink: &mut K, plan: &Plan, at: u64, block: &mut [u8]) -> Result<u64, Stop>
     requires first { plan.now.primary ≡ true → at ≡ 0 }

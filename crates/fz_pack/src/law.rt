@@ -5,7 +5,7 @@ ghost use Rattle.fz_pack.specs.Reads.{HdusAreTouched, LooksAreTouched};
 use fz_block::{found_hdus_law, found_law, hdu_law, hdu_list_law, walk_law};
 use fz_files::reached_law;
 
-/// A survey of a file knows its HDUs, the longest header and the largest tile; a fault that it tells is the first of
+/// A survey of a file knows its HDUs, the longest header and the largest tile; a fault that it gives is the first of
 /// the file's headers.
 pub(crate) fn known_law()
     ensures know { SurveysKnow }

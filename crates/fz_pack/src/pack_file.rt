@@ -20,7 +20,7 @@ ghost use Rattle.fz_pack.specs.Reads.{ReadsHdus};
 ghost use Rattle.fz_files.specs.Touched.{touched_by};
 ghost use Rattle.fz_pack.specs.Written.{AreShutOrWhole, FinishesSeen};
 
-use crate::file::write_file;
+use crate::file::{Packing, write_file};
 use crate::law::{known_law, touched_law};
 use fz_base::{Gate, Meter, Sink, Source, Stop, ranges_law};
 use fz_block::BLOCK_LEN;
@@ -55,7 +55,7 @@ pub fn pack<R: Threads + Sync, S: Source, K: Sink, G: Gate>(
     ensures output { OnOk result (HoldsPacked options.now (S.held source.old) (K.contents sink.new)) }
     ensures finished { OnOk result (K.finished sink.new ≡ true) }
     ensures first_fault { TellsFirstFault (Pack options.now) (S.held source.old) result }
-    // Where no count of faults rose and the limit is at least the bound, the first fault alone decides.
+    // If no count of faults rose and the limit is at least the bound, only the first fault decides.
     ensures answered { Answers (Pack options.now) (S.held source.old) (S.tally source.old) (S.tally source.new)
         (nameless (K.tally sink.old)) (nameless (K.tally sink.new)) meter.old.limit window.old.workers result }
     ensures cause { HasJobCause (Pack options.now) (S.held source.old) (S.tally source.old) (S.tally source.new)
@@ -86,119 +86,108 @@ pub fn pack<R: Threads + Sync, S: Source, K: Sink, G: Gate>(
         gate,
         workers: window.workers(),
     };
-    let mut block = meter.bytes(BLOCK_LEN as u64)?;
-    let answer = with_block(
-        &crew,
-        source,
+    let asked = Packing {
+        crew,
         length,
         name,
-        sink,
-        meter,
-        window,
-        options,
-        block.as_mut_slice(),
-    );
+        options: *options,
+    };
+    let mut block = meter.bytes(BLOCK_LEN as u64)?;
+    let answer = with_block(&asked, source, sink, meter, window, block.as_mut_slice());
     meter.give_bytes(block);
     answer
 }
 
 // Looks at the headers, and then works.
 fn with_block<R: Threads + Sync, S: Source, K: Sink, G: Gate>(
-    crew: &Crew<'_, R, G>,
+    asked: &Packing<'_, '_, R, G>,
     source: &mut S,
-    length: u64,
-    name: &str,
     sink: &mut K,
     meter: &mut Meter,
     window: &mut Window,
-    options: &PackOptions,
     block: &mut [u8],
 ) -> Result<(), Stop>
-    requires attached { S.attached source.old ≡ Some length }
+    requires attached { S.attached source.old ≡ Some asked.now.length }
     requires empty { IfSome (K.contents sink.old) (λ c. c ≡ []) }
     requires one_block { meter.old.live ≡ 2880 }
     requires window { IsEmpty window.old }
-    requires options { AreOptions options.now }
+    requires options { AreOptions asked.now.options }
     requires block { len block.old ≡ 2880 }
-    ensures output { OnOk result (HoldsPacked options.now (S.held source.old) (K.contents sink.new)) }
+    ensures output { OnOk result (HoldsPacked asked.now.options (S.held source.old) (K.contents sink.new)) }
     ensures finished { OnOk result (K.finished sink.new ≡ true) }
-    ensures first_fault { TellsFirstFault (Pack options.now) (S.held source.old) result }
-    ensures first_byte { IsShutOrWhole (K.contents sink.new) (HoldsPacked options.now (S.held source.old) (K.contents sink.new)) result }
-    ensures unmade { StaysUnmade (Pack options.now) (S.held source.old) meter.old.limit (λ g. later_takings (Pack options.now) g window.old.workers)
+    ensures first_fault { TellsFirstFault (Pack asked.now.options) (S.held source.old) result }
+    ensures first_byte { IsShutOrWhole (K.contents sink.new) (HoldsPacked asked.now.options (S.held source.old) (K.contents sink.new)) result }
+    ensures unmade { StaysUnmade (Pack asked.now.options) (S.held source.old) meter.old.limit
+        (λ g. later_takings (Pack asked.now.options) g window.old.workers)
         ((K.created sink.new ≡ K.created sink.old) × (K.contents sink.new ≡ K.contents sink.old)) result }
     ensures first_past { IfSome (S.held source.old) (λ g. TellsFirstPast meter.old.limit
-        (later_takings (Pack options.now) g window.old.workers) result) }
-    ensures peak { IfSome (S.held source.old) (λ g. meter.new.peak ≤ max meter.old.peak (job_bound (Pack options.now) g window.old.workers)) }
+        (later_takings (Pack asked.now.options) g window.old.workers) result) }
+    ensures peak { IfSome (S.held source.old) (λ g. meter.new.peak ≤ max meter.old.peak (job_bound (Pack asked.now.options) g window.old.workers)) }
     ensures exact_peak { OnOk result (IfSome (S.held source.old)
-        (λ g. meter.new.peak ≡ max meter.old.peak (highest (later_takings (Pack options.now) g window.old.workers)))) }
-    ensures most { TellsLimit meter.old.limit (greatest_bound (Pack options.now) window.old.workers) result }
-    ensures peak_most { meter.new.peak ≤ max meter.old.peak (greatest_bound (Pack options.now) window.old.workers) }
+        (λ g. meter.new.peak ≡ max meter.old.peak (highest (later_takings (Pack asked.now.options) g window.old.workers)))) }
+    ensures most { TellsLimit meter.old.limit (greatest_bound (Pack asked.now.options) window.old.workers) result }
+    ensures peak_most { meter.new.peak ≤ max meter.old.peak (greatest_bound (Pack asked.now.options) window.old.workers) }
     ensures live { meter.new.live ≡ meter.old.live }
     ensures limit { meter.new.limit ≡ meter.old.limit }
     ensures emptied { window.new ≡ record { slots = []; workers = window.old.workers } }
     ensures source { SourceStays (S.held source.old) (S.held source.new) (S.attached source.old) (S.attached source.new) }
-    ensures touched { IfSome (S.held source.old) (λ g. LogsIn (touched_by (Pack options.now) g) (S.ranges source.old) (S.ranges source.new)) }
+    ensures touched { IfSome (S.held source.old) (λ g. LogsIn (touched_by (Pack asked.now.options) g) (S.ranges source.old) (S.ranges source.new)) }
     ensures told_ranges { StaysTold (S.ranges source.old) (S.ranges source.new) }
     ensures told_contents { StaysTold (K.contents sink.old) (K.contents sink.new) }
     ensures cause { Works (S.tally source.old) (S.tally source.new) (nameless (K.tally sink.old)) (nameless (K.tally sink.new))
         meter.old.limit result }
-    ensures names { NamesOnce name.now (K.tally sink.old).names (K.tally sink.new).names result }
+    ensures names { NamesOnce asked.now.name.now (K.tally sink.old).names (K.tally sink.new).names result }
 {
     // What the survey reads and says of the file, and what follows from it for the job.
     known_law();
     ranges_law();
     touched_law();
     stages_law::<()>();
-    let survey = survey_to_pack(source, length, meter, block, options)?;
-    work(
-        crew, source, length, name, sink, meter, window, options, &survey, block,
-    )
+    let survey = survey_to_pack(source, asked.length, meter, block, &asked.options)?;
+    work(asked, source, sink, meter, window, &survey, block)
 }
 
 // Takes all buffers, writes the packed file, and hands the buffers back.
 fn work<R: Threads + Sync, S: Source, K: Sink, G: Gate>(
-    crew: &Crew<'_, R, G>,
+    asked: &Packing<'_, '_, R, G>,
     source: &mut S,
-    length: u64,
-    name: &str,
     sink: &mut K,
     meter: &mut Meter,
     window: &mut Window,
-    options: &PackOptions,
     survey: &Survey,
     block: &mut [u8],
 ) -> Result<(), Stop>
-    requires attached { S.attached source.old ≡ Some length }
+    requires attached { S.attached source.old ≡ Some asked.now.length }
     requires empty { IfSome (K.contents sink.old) (λ c. c ≡ []) }
     requires window { IsEmpty window.old }
-    requires options { AreOptions options.now }
+    requires options { AreOptions asked.now.options }
     requires some { 0 < survey.now.hdus }
     requires few { survey.now.hdus ≤ 65535 }
     requires block { len block.old ≡ 2880 }
-    ensures written { IfSome (S.held source.old) (λ g. FinishesSeen options.now g survey.now (K.contents sink.new) result) }
+    ensures written { IfSome (S.held source.old) (λ g. FinishesSeen asked.now.options g survey.now (K.contents sink.new) result) }
     ensures finished { OnOk result (K.finished sink.new ≡ true) }
-    ensures shut { AreShutOrWhole options.now survey.now (S.held source.old) (K.contents sink.new) result }
+    ensures shut { AreShutOrWhole asked.now.options survey.now (S.held source.old) (K.contents sink.new) result }
     ensures unmade { IfOverLimit result ((K.created sink.new ≡ K.created sink.old) × (K.contents sink.new ≡ K.contents sink.old)) }
     ensures first_past { TellsFirstPast meter.old.limit
-        (piled meter.old.live (wanted_buffers (wants_for (Pack options.now) survey.now) window.old.workers)) result }
+        (piled meter.old.live (wanted_buffers (wants_for (Pack asked.now.options) survey.now) window.old.workers)) result }
     ensures past { IsSome (first_past meter.old.limit (piled meter.old.live
-        (wanted_buffers (wants_for (Pack options.now) survey.now) window.old.workers)))
+        (wanted_buffers (wants_for (Pack asked.now.options) survey.now) window.old.workers)))
         → (K.created sink.new ≡ K.created sink.old) × (K.contents sink.new ≡ K.contents sink.old) }
     ensures peak { meter.new.peak ≤ max meter.old.peak (meter.old.live + sum
-        (wanted_buffers (wants_for (Pack options.now) survey.now) window.old.workers)) }
+        (wanted_buffers (wants_for (Pack asked.now.options) survey.now) window.old.workers)) }
     ensures exact_peak { OnOk result (meter.new.peak ≡ max meter.old.peak
-        (meter.old.live + sum (wanted_buffers (wants_for (Pack options.now) survey.now) window.old.workers))) }
+        (meter.old.live + sum (wanted_buffers (wants_for (Pack asked.now.options) survey.now) window.old.workers))) }
     ensures live { meter.new.live ≡ meter.old.live }
     ensures limit { meter.new.limit ≡ meter.old.limit }
     ensures emptied { window.new ≡ record { slots = []; workers = window.old.workers } }
     ensures source { SourceStays (S.held source.old) (S.held source.new) (S.attached source.old) (S.attached source.new) }
     ensures changed { IfRefused result IsChanged }
-    ensures read { IfSome (S.held source.old) (λ g. ReadsHdus options.now g survey.now (S.ranges source.old) (S.ranges source.new)) }
+    ensures read { IfSome (S.held source.old) (λ g. ReadsHdus asked.now.options g survey.now (S.ranges source.old) (S.ranges source.new)) }
     ensures told_ranges { StaysTold (S.ranges source.old) (S.ranges source.new) }
     ensures told_contents { StaysTold (K.contents sink.old) (K.contents sink.new) }
     ensures cause { Works (S.tally source.old) (S.tally source.new) (nameless (K.tally sink.old)) (nameless (K.tally sink.new))
         meter.old.limit result }
-    ensures names { NamesOnce name.now (K.tally sink.old).names (K.tally sink.new).names result }
+    ensures names { NamesOnce asked.now.name.now (K.tally sink.old).names (K.tally sink.new).names result }
 {
     // How long the slots are that were filled, and that what was taken comes back.
     sizes_law();
@@ -209,9 +198,7 @@ fn work<R: Threads + Sync, S: Source, K: Sink, G: Gate>(
         tile: Some(survey.tile),
     };
     let mut space = Workspace::take(meter, window, &wants)?;
-    let answer = write_file(
-        crew, source, length, name, sink, window, options, survey, &mut space, block,
-    );
+    let answer = write_file(asked, source, sink, window, survey, &mut space, block);
     space.give_back(meter, window);
     answer
 }

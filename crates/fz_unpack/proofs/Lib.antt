@@ -1,6 +1,7 @@
 pub mod AsSeen
 pub mod Begun
 pub mod Finished
+pub mod Gathered
 pub mod HduReads
 pub mod Hdus
 pub mod Held

@@ -41,7 +41,8 @@ pub record HoldsHdus (file : List ℕ) (hs : List Header) (before now : Option (
 -- The restored file of a file whose HDUs were seen was written; or its first faulty row is refused, and no HDU that was seen.
 pub record RestoresSeen {X : Type 0} (file : List ℕ) (header_len tile hdus : ℕ) (before now : Option (List ℕ)) (result : Result X Stop) : Type 0 where
   pub restored : (hs : List Header) → WereSeen file header_len tile 0 0 hs → length hs ≡ hdus → OnOk result (HoldsHdus file hs before now)
-  pub first_fault : (hs : List Header) → WereSeen file header_len tile 0 0 hs → length hs ≡ hdus → IfRefused result (λ x. IsFirstRowFault file (all_rows file hs) (Some x))
+  pub first_fault : (hs : List Header) → WereSeen file header_len tile 0 0 hs → length hs ≡ hdus
+      → IfRefused result (λ x. IsFirstRowFault file (all_rows file hs) (Some x))
 
 -- the flag says of the first of some HDUs whether it is HDU 1 after a primary with NAXIS 0
 abbrev pub SaysBehind : List ℕ → Bool → List Header → Type 0
@@ -49,7 +50,9 @@ SaysBehind file after_empty [] = ⊤
 SaysBehind file after_empty (h ∷ hs) = after_empty ≡ is_after_empty file h
 
 -- Of a file with these headers what the HDUs before number k stand for was written, and those from number k on begin at one byte.
-pub record AreWritten (file : List ℕ) (header_len tile : ℕ) (hs : List Header) (k start at : ℕ) (after_empty : Bool) (before now : Option (List ℕ)) : Type 0 where
+pub record AreWritten
+    (file : List ℕ) (header_len tile : ℕ) (hs : List Header) (k start at : ℕ) (after_empty : Bool)
+    (before now : Option (List ℕ)) : Type 0 where
   pub done : List Header
   pub rest : List Header
   pub parts : standing file hs ≡ done ++ rest

@@ -37,7 +37,9 @@ pub record CanScatter (p : Plan) (at : ℕ) (created : Bool) (tiles : List ℕ) 
   pub pixels : (pixels : List (List ℤ)) × HaveTiles p tiles w.slots pixels
 
 -- they were scattered
-pub record HasScattered {X : Type 0} (p : Plan) (at : ℕ) (tiles : List ℕ) (w w' : Pool) (created created' : Bool) (contents contents' : Option (List ℕ)) (result : Result X Stop) : Type 0 where
+pub record HasScattered
+    {X : Type 0} (p : Plan) (at : ℕ) (tiles : List ℕ) (w w' : Pool) (created created' : Bool)
+    (contents contents' : Option (List ℕ)) (result : Result X Stop) : Type 0 where
   pub written : OnOk result ((pixels : List (List ℤ)) → HaveTiles p tiles w.slots pixels → contents' ≡ tiles_written p at tiles pixels contents)
   pub shut : StaysShut contents contents'
   pub told : StaysTold contents contents'

@@ -10,7 +10,7 @@ use Rattle.fz_files.specs.Restored.{HdusStandFor, standing}
 use Rattle.fz_survey.specs.declared.survey.Survey.{Survey}
 use Rattle.fz_again.specs.Known.{IsList}
 
--- the HDUs stand for some bytes, and told contents are these
+-- the HDUs stand for some bytes, and shown contents are these
 pub record AreRestored (file : List ℕ) (hs : List Header) (contents : Option (List ℕ)) : Type 0 where
   pub bytes : List ℕ
   pub stand : HdusStandFor file (standing file hs) bytes

@@ -25,19 +25,25 @@ use fz_pool::{Crew, Window};
 use fz_survey::{Survey, Workspace};
 use std::thread::Threads;
 
+/// What is unpacked, and by whom: who works, the length of the packed file, and the name of the sink.
+#[derive(Drop)]
+pub(crate) struct Unpacking<'a, 'n, R, G> {
+    pub(crate) crew: Crew<'a, R, G>,
+    pub(crate) length: u64,
+    pub(crate) name: &'n str,
+}
+
 /// Makes the sink, writes the restored file, its byte 0 last, and finishes.
 pub(crate) fn write_file<R: Threads + Sync, S: Source, K: Sink, G: Gate>(
-    crew: &Crew<'_, R, G>,
+    asked: &Unpacking<'_, '_, R, G>,
     source: &mut S,
-    length: u64,
-    name: &str,
     sink: &mut K,
     window: &mut Window,
     survey: &Survey,
     space: &mut Workspace,
     block: &mut [u8],
 ) -> Result<(), Stop>
-    requires attached { S.attached source.old ≡ Some length }
+    requires attached { S.attached source.old ≡ Some asked.now.length }
     requires empty { IfSome (K.contents sink.old) (λ c. c ≡ []) }
     requires some { 0 < survey.now.hdus }
     requires few { survey.now.hdus ≤ 65536 }
@@ -58,12 +64,12 @@ pub(crate) fn write_file<R: Threads + Sync, S: Source, K: Sink, G: Gate>(
     ensures told_ranges { StaysTold (S.ranges source.old) (S.ranges source.new) }
     ensures told_contents { StaysTold (K.contents sink.old) (K.contents sink.new) }
     ensures cause { Rewrites (S.tally source.old) (S.tally source.new) (nameless (K.tally sink.old)) (nameless (K.tally sink.new)) result }
-    ensures names { NamesOnce name.now (K.tally sink.old).names (K.tally sink.new).names result }
+    ensures names { NamesOnce asked.now.name.now (K.tally sink.old).names (K.tally sink.new).names result }
 {
     output_law();
     primary_law();
-    sink.create(name).map_err(Stop::writing)?;
-    write_hdus(crew, source, length, sink, window, survey, space, block)?;
+    sink.create(asked.name).map_err(Stop::writing)?;
+    write_hdus(asked, source, sink, window, survey, space, block)?;
     seal(sink)
 }
 
@@ -71,16 +77,15 @@ pub(crate) fn write_file<R: Threads + Sync, S: Source, K: Sink, G: Gate>(
 //
 // Refused: for a row that stands for no pixels, and if the source gives other bytes than at the first look.
 fn write_hdus<R: Threads + Sync, S: Source, K: Sink, G: Gate>(
-    crew: &Crew<'_, R, G>,
+    asked: &Unpacking<'_, '_, R, G>,
     source: &mut S,
-    length: u64,
     sink: &mut K,
     window: &mut Window,
     survey: &Survey,
     space: &mut Workspace,
     block: &mut [u8],
 ) -> Result<(), Stop>
-    requires attached { S.attached source.old ≡ Some length }
+    requires attached { S.attached source.old ≡ Some asked.now.length }
     requires created { IsTrue (K.created sink.old) }
     requires some { 0 < survey.now.hdus }
     requires few { survey.now.hdus ≤ 65536 }
@@ -105,6 +110,7 @@ fn write_hdus<R: Threads + Sync, S: Source, K: Sink, G: Gate>(
     hdus_law();
     output_law();
     ranges_law();
+    let length = asked.length;
     let first = first_standing(source, length, survey, space.header.as_mut_slice(), block)?;
     if first.hdu >= survey.hdus {
         return Err(changed(first.hdu));
@@ -127,7 +133,7 @@ fn write_hdus<R: Threads + Sync, S: Source, K: Sink, G: Gate>(
         if !is_primary_as_found(&first, after_empty, &again) {
             return Err(changed(hdu));
         }
-        at = write_hdu(crew, source, sink, window, &again, at, space)?;
+        at = write_hdu(&asked.crew, source, sink, window, &again, at, space)?;
         start = next_start(&again.header);
         if !is_last_as_seen(hdu, survey.hdus, start, length) {
             return Err(changed(hdu));

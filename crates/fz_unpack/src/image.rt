@@ -1,4 +1,4 @@
-//! The image that stands in a packed table, written whole.
+//! The image that is in a packed table, written whole.
 
 ghost use Rattle.std.specs.Prelude.{ℕ, ◌≡◌, ◌+◌, ◌-◌, ◌*◌, ◌/◌, ◌^◌, ◌≤◌, ◌<◌, IsTrue, Some, map, length as len, IfOk, IfSome, OnOk};
 ghost use Rattle.std.specs.List.{range_with_len};
@@ -17,11 +17,13 @@ ghost use Rattle.fz_files.specs.FirstFault.{IsFirstRowFault, image_row, rows_of}
 ghost use Rattle.fz_files.specs.Packed.{pixel_bits, tiles_in};
 ghost use Rattle.fz_files.specs.Restored.{pixels_of};
 ghost use Rattle.fz_pool.specs.Window.{HasSlotsFor};
+ghost use Rattle.fz_fetch.specs.Ahead.{IsAhead};
 ghost use Rattle.fz_fetch.specs.Images.{HaveRoom, IsReadable, IsSaid};
 ghost use Rattle.fz_fetch.specs.Rows.{StandsWithin};
 ghost use Rattle.fz_again.specs.Again.{IsAgain};
 ghost use Rattle.fz_files.specs.Touched.{image_ranges};
 ghost use Rattle.fz_job.specs.Behind.{HoldsBytes, written_behind};
+ghost use Rattle.fz_job.specs.Held.{IsHeld, settled};
 ghost use Rattle.fz_unpack.specs.Behind.{HoldsImage, IsHduFault};
 ghost use Rattle.fz_job.specs.Clauses.{IsOfSomeRow};
 ghost use Rattle.fz_unpack.specs.Images.{AreWrittenTiles, HoldsPixels};
@@ -32,10 +34,12 @@ use crate::turns::write_by_turns;
 use fz_again::hdus_law;
 use fz_base::{Gate, Sink, Source, Stop, output_law, ranges_law, write_behind};
 use fz_block::{BLOCK_LEN, Header};
-use fz_fetch::{MOST_TILES, fetch_tiles, number_tiles, scatter_tiles, scattered_law};
+use fz_fetch::{
+    Ahead, MOST_TILES, ROWS_LEN, fetch_ahead, number_tiles, scatter_held, scattered_law,
+};
 use fz_grid::{Grid, shape_law, tiles_law, volume};
 use fz_head::{PackedImage, Plan, to_plain};
-use fz_job::{left_for_last, write_fill};
+use fz_job::{Held, left_for_last, write_fill, write_pieces};
 use fz_pool::{BY_TURNS, Crew, Window};
 use fz_survey::Workspace;
 use fz_tile::{plain_law, plain_len};
@@ -136,7 +140,7 @@ fn data_len(image: &PackedImage) -> u64
     plain_len(image.plan.bitpix, volume(&image.plan.shape))
 }
 
-// Writes the pixels of all tiles, round by round.
+// Writes the pixels of all tiles, round by round or by turns.
 fn write_tiles<R: Threads + Sync, S: Source, K: Sink, G: Gate>(
     crew: &Crew<'_, R, G>,
     source: &mut S,
@@ -166,7 +170,6 @@ fn write_tiles<R: Threads + Sync, S: Source, K: Sink, G: Gate>(
     ensures told_contents { StaysTold (K.contents sink.old) (K.contents sink.new) }
     ensures cause { Rewrites (S.tally source.old) (S.tally source.new) (K.tally sink.old) (K.tally sink.new) result }
 {
-    ranges_law();
     scattered_law();
     shape_law();
     tiles_law();
@@ -176,18 +179,110 @@ fn write_tiles<R: Threads + Sync, S: Source, K: Sink, G: Gate>(
             crew, source, sink, window, header, image, data_at, tiles, rows,
         );
     }
+    write_gathered(
+        crew, source, sink, window, header, image, data_at, tiles, rows,
+    )
+}
+
+// The same round by round: what is short is read and written together with its neighbours. The copy buffer has rows, then
+// records, and then pixels that are held back.
+fn write_gathered<R: Threads + Sync, S: Source, K: Sink, G: Gate>(
+    crew: &Crew<'_, R, G>,
+    source: &mut S,
+    sink: &mut K,
+    window: &mut Window,
+    header: &Header,
+    image: &PackedImage,
+    data_at: u64,
+    tiles: u32,
+    copy: &mut [u8],
+) -> Result<(), Stop>
+    requires image { IsReadable image.now }
+    requires within { StandsWithin (S.attached source.old) image.now.table }
+    requires said { IfSome (S.held source.old) (λ g. IsSaid g header.now image.now) }
+    requires tiles { tiles ≡ tiles_in image.now.plan }
+    requires data { (0 < data_at) × (data_at + 2 ^ 43 ≤ 2 ^ 63) }
+    requires created { IsTrue (K.created sink.old) }
+    requires window { HaveRoom image.now window.old }
+    requires copy { 4096 ≤ len copy.old }
+    ensures pixels { OnOk result (IfSome (S.held source.old)
+        (λ g. AreWrittenTiles g header.now image.now.plan data_at (range_with_len 0 tiles) (K.contents sink.old)
+        (K.contents sink.new))) }
+    ensures fault { IfRefused result (λ x. IfSome (S.held source.old) (λ g. IsFirstRowFault g (rows_of g header.now) (Some x))) }
+    ensures copy { len copy.new ≡ len copy.old }
+    ensures window { WindowStays window.old window.new }
+    ensures source { SourceStays (S.held source.old) (S.held source.new) (S.attached source.old) (S.attached source.new) }
+    ensures sink { SinkStays (K.created sink.old) (K.created sink.new) (K.contents sink.old) (K.contents sink.new) }
+    ensures row { IfRefused result IsOfSomeRow }
+    ensures read { IfSome (S.held source.old) (λ g. LogsIn (image_ranges g header.now) (S.ranges source.old) (S.ranges source.new)) }
+    ensures told_ranges { StaysTold (S.ranges source.old) (S.ranges source.new) }
+    ensures told_contents { StaysTold (K.contents sink.old) (K.contents sink.new) }
+    ensures cause { Rewrites (S.tally source.old) (S.tally source.new) (K.tally sink.old) (K.tally sink.new) result }
+{
+    let half = ROWS_LEN + (copy.len() - ROWS_LEN) / 2;
+    let (buf, held) = copy.split_at_mut(half);
+    let mut back = Held::none();
+    write_rounds(
+        crew, source, sink, window, header, image, data_at, tiles, buf, held, &mut back,
+    )?;
+    write_pieces(sink, held, &back)
+}
+
+// The same, but the last pixels may be held back.
+fn write_rounds<R: Threads + Sync, S: Source, K: Sink, G: Gate>(
+    crew: &Crew<'_, R, G>,
+    source: &mut S,
+    sink: &mut K,
+    window: &mut Window,
+    header: &Header,
+    image: &PackedImage,
+    data_at: u64,
+    tiles: u32,
+    buf: &mut [u8],
+    held: &mut [u8],
+    back: &mut Held,
+) -> Result<(), Stop>
+    requires image { IsReadable image.now }
+    requires within { StandsWithin (S.attached source.old) image.now.table }
+    requires said { IfSome (S.held source.old) (λ g. IsSaid g header.now image.now) }
+    requires tiles { tiles ≡ tiles_in image.now.plan }
+    requires data { (0 < data_at) × (data_at + 2 ^ 43 ≤ 2 ^ 63) }
+    requires created { IsTrue (K.created sink.old) }
+    requires window { HaveRoom image.now window.old }
+    requires buffer { 4096 ≤ len buf.old }
+    requires held { IsHeld back.old held.old }
+    ensures pixels { OnOk result (IfSome (S.held source.old)
+        (λ g. AreWrittenTiles g header.now image.now.plan data_at (range_with_len 0 tiles) (settled back.old held.old (K.contents sink.old))
+        (settled back.new held.new (K.contents sink.new)))) }
+    ensures kept { OnOk result (IsHeld back.new held.new) }
+    ensures fault { IfRefused result (λ x. IfSome (S.held source.old) (λ g. IsFirstRowFault g (rows_of g header.now) (Some x))) }
+    ensures buffer { len buf.new ≡ len buf.old }
+    ensures room { len held.new ≡ len held.old }
+    ensures window { WindowStays window.old window.new }
+    ensures source { SourceStays (S.held source.old) (S.held source.new) (S.attached source.old) (S.attached source.new) }
+    ensures sink { SinkStays (K.created sink.old) (K.created sink.new) (K.contents sink.old) (K.contents sink.new) }
+    ensures row { IfRefused result IsOfSomeRow }
+    ensures read { IfSome (S.held source.old) (λ g. LogsIn (image_ranges g header.now) (S.ranges source.old) (S.ranges source.new)) }
+    ensures told_ranges { StaysTold (S.ranges source.old) (S.ranges source.new) }
+    ensures told_contents { StaysTold (K.contents sink.old) (K.contents sink.new) }
+    ensures cause { Rewrites (S.tally source.old) (S.tally source.new) (K.tally sink.old) (K.tally sink.new) result }
+{
+    ranges_law();
+    scattered_law();
+    let mut ahead = Ahead::none();
     let mut first = 0;
     while first < tiles {
         let count = (2 * window.workers()).min(tiles - first);
         write_round(
-            crew, source, sink, window, header, image, data_at, first, count, rows,
+            crew, source, sink, window, header, image, data_at, first, count, buf, &mut ahead,
+            held, back,
         )?;
         first += count;
     }
     Ok(())
 }
 
-// Writes the pixels of so many tiles, from the first on.
+// Writes the pixels of so many tiles, from the first on, now or later.
 fn write_round<R: Threads + Sync, S: Source, K: Sink, G: Gate>(
     crew: &Crew<'_, R, G>,
     source: &mut S,
@@ -198,7 +293,10 @@ fn write_round<R: Threads + Sync, S: Source, K: Sink, G: Gate>(
     data_at: u64,
     first: u32,
     count: u32,
-    rows: &mut [u8],
+    buf: &mut [u8],
+    ahead: &mut Ahead,
+    held: &mut [u8],
+    back: &mut Held,
 ) -> Result<(), Stop>
     requires image { IsReadable image.now }
     requires within { StandsWithin (S.attached source.old) image.now.table }
@@ -209,13 +307,17 @@ fn write_round<R: Threads + Sync, S: Source, K: Sink, G: Gate>(
     requires data { (0 < data_at) × (data_at + 2 ^ 43 ≤ 2 ^ 63) }
     requires created { IsTrue (K.created sink.old) }
     requires window { HaveRoom image.now window.old }
-    requires rows { 4096 ≤ len rows.old }
+    requires ahead { IsAhead (S.held source.old) image.now.table buf.old ahead.old }
+    requires held { IsHeld back.old held.old }
     ensures pixels { OnOk result (IfSome (S.held source.old)
-        (λ g. AreWrittenTiles g header.now image.now.plan data_at (range_with_len first count) (K.contents sink.old)
-        (K.contents sink.new))) }
+        (λ g. AreWrittenTiles g header.now image.now.plan data_at (range_with_len first count)
+        (settled back.old held.old (K.contents sink.old)) (settled back.new held.new (K.contents sink.new)))) }
+    ensures kept { OnOk result (IsHeld back.new held.new) }
     ensures fault { IfRefused result (λ x. IfSome (S.held source.old)
         (λ g. IsFirstRowFault g (map (image_row header.now) (range_with_len first count)) (Some x))) }
-    ensures rows { len rows.new ≡ len rows.old }
+    ensures ahead { IsAhead (S.held source.new) image.now.table buf.new ahead.new }
+    ensures buffer { len buf.new ≡ len buf.old }
+    ensures room { len held.new ≡ len held.old }
     ensures window { WindowStays window.old window.new }
     ensures source { SourceStays (S.held source.old) (S.held source.new) (S.attached source.old) (S.attached source.new) }
     ensures sink { SinkStays (K.created sink.old) (K.created sink.new) (K.contents sink.old) (K.contents sink.new) }
@@ -229,6 +331,6 @@ fn write_round<R: Threads + Sync, S: Source, K: Sink, G: Gate>(
     let mut numbers = [0; MOST_TILES];
     let tiles = &mut numbers[..count as usize];
     number_tiles(first, tiles);
-    fetch_tiles(crew, source, header, image, tiles, rows, window)?;
-    scatter_tiles(sink, data_at, &image.plan, tiles, window)
+    fetch_ahead(crew, source, header, image, tiles, buf, ahead, window)?;
+    scatter_held(sink, data_at, &image.plan, tiles, window, held, back)
 }

@@ -183,7 +183,7 @@ fn take_turn<R: Threads + Sync, S: Source, K: Sink, G: Gate>(
 {
     let next = turn.written + turn.decoded;
     let count = (2 * first.workers()).min(tiles - next);
-    // This call tells that the second half has no more than 128 slots.
+    // This call shows that the second half has no more than 128 slots.
     let _others = second.workers();
     let (mut numbers, mut others) = ([0; MOST_TILES], [0; MOST_TILES]);
     let scattering = &mut others[..turn.decoded as usize];

@@ -19,7 +19,7 @@ ghost use Rattle.fz_job.specs.Keeps.{SourceStays};
 ghost use Rattle.fz_stages.specs.Stages.{Works, later_takings, wants_for};
 ghost use Rattle.fz_unpack.specs.Written.{AreShutOrWhole, FinishesSeen};
 
-use crate::file::write_file;
+use crate::file::{Unpacking, write_file};
 use fz_again::{hdus_law, headers_law, known_law};
 use fz_base::{Gate, Meter, Sink, Source, Stop, ranges_law};
 use fz_block::BLOCK_LEN;
@@ -53,7 +53,7 @@ pub fn unpack<R: Threads + Sync, S: Source, K: Sink, G: Gate>(
     ensures output { OnOk result (HoldsRestored (S.held source.old) (K.contents sink.new)) }
     ensures finished { OnOk result (K.finished sink.new ≡ true) }
     ensures first_fault { TellsFirstFault Unpack (S.held source.old) result }
-    // Where no count of faults rose and the limit is at least the bound, the first fault alone decides.
+    // If no count of faults rose and the limit is at least the bound, only the first fault decides.
     ensures answered { Answers Unpack (S.held source.old) (S.tally source.old) (S.tally source.new) (nameless (K.tally sink.old))
         (nameless (K.tally sink.new)) meter.old.limit window.old.workers result }
     ensures cause { HasJobCause Unpack (S.held source.old) (S.tally source.old) (S.tally source.new) (nameless (K.tally sink.old))
@@ -84,33 +84,23 @@ pub fn unpack<R: Threads + Sync, S: Source, K: Sink, G: Gate>(
         gate,
         workers: window.workers(),
     };
+    let asked = Unpacking { crew, length, name };
     let mut block = meter.bytes(BLOCK_LEN as u64)?;
-    let answer = with_block(
-        &crew,
-        source,
-        length,
-        name,
-        sink,
-        meter,
-        window,
-        block.as_mut_slice(),
-    );
+    let answer = with_block(&asked, source, sink, meter, window, block.as_mut_slice());
     meter.give_bytes(block);
     answer
 }
 
 // Looks at the headers, and then works.
 fn with_block<R: Threads + Sync, S: Source, K: Sink, G: Gate>(
-    crew: &Crew<'_, R, G>,
+    asked: &Unpacking<'_, '_, R, G>,
     source: &mut S,
-    length: u64,
-    name: &str,
     sink: &mut K,
     meter: &mut Meter,
     window: &mut Window,
     block: &mut [u8],
 ) -> Result<(), Stop>
-    requires attached { S.attached source.old ≡ Some length }
+    requires attached { S.attached source.old ≡ Some asked.now.length }
     requires empty { IfSome (K.contents sink.old) (λ c. c ≡ []) }
     requires one_block { meter.old.live ≡ 2880 }
     requires window { IsEmpty window.old }
@@ -136,7 +126,7 @@ fn with_block<R: Threads + Sync, S: Source, K: Sink, G: Gate>(
     ensures told_contents { StaysTold (K.contents sink.old) (K.contents sink.new) }
     ensures cause { Works (S.tally source.old) (S.tally source.new) (nameless (K.tally sink.old)) (nameless (K.tally sink.new))
         meter.old.limit result }
-    ensures names { NamesOnce name.now (K.tally sink.old).names (K.tally sink.new).names result }
+    ensures names { NamesOnce asked.now.name.now (K.tally sink.old).names (K.tally sink.new).names result }
 {
     // What the survey reads and says of the file, and what follows from it for the job.
     hdus_law();
@@ -144,25 +134,21 @@ fn with_block<R: Threads + Sync, S: Source, K: Sink, G: Gate>(
     known_law();
     ranges_law();
     stages_law::<()>();
-    let survey = survey_to_unpack(source, length, meter, block)?;
-    work(
-        crew, source, length, name, sink, meter, window, &survey, block,
-    )
+    let survey = survey_to_unpack(source, asked.length, meter, block)?;
+    work(asked, source, sink, meter, window, &survey, block)
 }
 
 // Takes all buffers, writes the restored file, and hands the buffers back.
 fn work<R: Threads + Sync, S: Source, K: Sink, G: Gate>(
-    crew: &Crew<'_, R, G>,
+    asked: &Unpacking<'_, '_, R, G>,
     source: &mut S,
-    length: u64,
-    name: &str,
     sink: &mut K,
     meter: &mut Meter,
     window: &mut Window,
     survey: &Survey,
     block: &mut [u8],
 ) -> Result<(), Stop>
-    requires attached { S.attached source.old ≡ Some length }
+    requires attached { S.attached source.old ≡ Some asked.now.length }
     requires empty { IfSome (K.contents sink.old) (λ c. c ≡ []) }
     requires window { IsEmpty window.old }
     requires some { 0 < survey.now.hdus }
@@ -189,7 +175,7 @@ fn work<R: Threads + Sync, S: Source, K: Sink, G: Gate>(
     ensures told_contents { StaysTold (K.contents sink.old) (K.contents sink.new) }
     ensures cause { Works (S.tally source.old) (S.tally source.new) (nameless (K.tally sink.old)) (nameless (K.tally sink.new))
         meter.old.limit result }
-    ensures names { NamesOnce name.now (K.tally sink.old).names (K.tally sink.new).names result }
+    ensures names { NamesOnce asked.now.name.now (K.tally sink.old).names (K.tally sink.new).names result }
 {
     // How long the slots are that were filled, and that what was taken comes back.
     sizes_law();
@@ -200,9 +186,7 @@ fn work<R: Threads + Sync, S: Source, K: Sink, G: Gate>(
         tile: Some(survey.tile),
     };
     let mut space = Workspace::take(meter, window, &wants)?;
-    let answer = write_file(
-        crew, source, length, name, sink, window, survey, &mut space, block,
-    );
+    let answer = write_file(asked, source, sink, window, survey, &mut space, block);
     space.give_back(meter, window);
     answer
 }

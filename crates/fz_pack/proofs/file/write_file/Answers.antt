@@ -11,7 +11,7 @@ returns-clause-written g c =
     let old : Option (List ℕ) = g.K.Sink.contents c.args.sink.now in
     let made : Option (List ℕ) = g.K.Sink.contents c.create.new.self in
     let empty : made ≡ emptied old = search rules in
-    sealed_finishes c.args.options.now c.args.survey.now old made (g.K.Sink.contents c.write_hdus.new.sink) (g.K.Sink.contents c.seal.new.sink) c.in_ok-write_hdus.field-0 c.seal.result
+    sealed_finishes c.args.asked.now.options c.args.survey.now old made (g.K.Sink.contents c.write_hdus.new.sink) (g.K.Sink.contents c.seal.new.sink) c.in_ok-write_hdus.field-0 c.seal.result
     (g.K.Sink.tally c.write_hdus.new.sink) (g.K.Sink.tally c.seal.new.sink) (g.S.Source.held c.args.source.now)
     c.output_law.ensures.sealed c.requires.some empty c.in_ok-write_hdus.ensures.written c.seal.ensures.sealed c.seal.ensures.cause.stop
 
@@ -21,9 +21,9 @@ returns-clause-shut g c =
     let made : Option (List ℕ) = g.K.Sink.contents c.create.new.self in
     let empty : made ≡ emptied old = search rules in
     let shut : IsShut (g.K.Sink.contents c.write_hdus.new.sink) = c.in_ok-write_hdus.ensures.sink.shut (subst IsShut (sym empty) (c.output_law.ensures.empty old)) in
-    sealed_or_shut c.args.options.now c.args.survey.now old made (g.K.Sink.contents c.write_hdus.new.sink) (g.K.Sink.contents c.seal.new.sink) c.in_ok-write_hdus.field-0 c.seal.result
+    sealed_or_shut c.args.asked.now.options c.args.survey.now old made (g.K.Sink.contents c.write_hdus.new.sink) (g.K.Sink.contents c.seal.new.sink) c.in_ok-write_hdus.field-0 c.seal.result
     (g.K.Sink.tally c.write_hdus.new.sink) (g.K.Sink.tally c.seal.new.sink) (g.S.Source.held c.args.source.now)
     c.output_law.ensures.sealed c.requires.some empty shut c.in_ok-write_hdus.ensures.written c.seal.ensures.cause.stop c.seal.ensures.stopped
 
 pub returns-in_err-map_err-clause-read : goal.returns-in_err-map_err-clause-read
-returns-in_err-map_err-clause-read g c = no_hdu c.args.options.now c.args.survey.now (g.S.Source.ranges c.args.source.now) (g.S.Source.held c.args.source.now)
+returns-in_err-map_err-clause-read g c = no_hdu c.args.asked.now.options c.args.survey.now (g.S.Source.ranges c.args.source.now) (g.S.Source.held c.args.source.now)

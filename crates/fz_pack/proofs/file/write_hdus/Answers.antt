@@ -25,7 +25,7 @@ loop-hdu-init g c = record {
   shut = λ shut. shut;
   told_ranges = λ told. told;
   told_contents = λ told. told;
-  read = no_hdu c.args.options.now c.args.survey.now (g.S.Source.ranges c.args.source.now) (g.S.Source.held c.args.source.now);
+  read = no_hdu c.args.asked.now.options c.args.survey.now (g.S.Source.ranges c.args.source.now) (g.S.Source.held c.args.source.now);
   space = record { header = refl; translated = refl; copy = refl };
   window = record { sizes = refl; workers = refl };
   block = c.requires.block;
@@ -34,12 +34,12 @@ loop-hdu-init g c = record {
   behind = λ some. absurd (omega arith);
   early = omega arith;
   near = omega arith;
-  written = none_written c.args.options.now c.args.survey.now.header_len c.args.survey.now.tile c.args.survey.now.hdus (g.K.Sink.contents c.args.sink.now) (g.S.Source.held c.args.source.now);
+  written = none_written c.args.asked.now.options c.args.survey.now.header_len c.args.survey.now.tile c.args.survey.now.hdus (g.K.Sink.contents c.args.sink.now) (g.S.Source.held c.args.source.now);
 }
 
 pub returns-in_err-again-clause-written : goal.returns-in_err-again-clause-written
 returns-in_err-again-clause-written g c =
-    let o = c.args.options.now in
+    let o = c.args.asked.now.options in
     let s = c.args.survey.now in
     let k : ℕ = c.loop-hdu.hdu in
     let start : ℕ = c.loop-hdu.start in
@@ -57,7 +57,7 @@ returns-in_err-again-clause-written g c =
 
 pub returns-in_err-at-clause-written : goal.returns-in_err-at-clause-written
 returns-in_err-at-clause-written g c =
-    let o = c.args.options.now in
+    let o = c.args.asked.now.options in
     let s = c.args.survey.now in
     let held : Option (List ℕ) = g.S.Source.held c.args.source.now in
     let before : Option (List ℕ) = g.K.Sink.contents c.args.sink.now in
@@ -68,7 +68,7 @@ returns-in_err-at-clause-written g c =
 
 pub returns-then-start-length-clause-written : goal.returns-then-start-length-clause-written
 returns-then-start-length-clause-written g c =
-    let o = c.args.options.now in
+    let o = c.args.asked.now.options in
     let s = c.args.survey.now in
     let k : ℕ = c.loop-hdu.hdu in
     let start : ℕ = c.loop-hdu.start in
@@ -88,14 +88,14 @@ returns-then-start-length-clause-written g c =
     subst (λ (h : Option (List ℕ)). IfSome h (λ f. HoldsHdu o a.header f at end mid now)) (c.in_ok-again.ensures.source.held_is ∙ c.loop-hdu.invariant.held) c.in_ok-at.ensures.written in
     let more : IfSome held (IsUnderway o s.header_len s.tile s.hdus (k + 1) (next_start_of a.header) end before now) =
     more_written o s.header_len s.tile s.hdus before c.output_law.ensures.next held k start at end mid now a few c.loop-hdu.invariant.written seen c.in_ok-again.ensures.place.0 holds in
-    let told : HoldsLength held c.args.length = g.met.S.Source.agrees c.args.source.now c.args.length c.requires.attached in
-    let differ : not (beq (eqb (next_start_of a.header) c.args.length) (eqb (k + 1) s.hdus)) ≡ true =
-    subst (λ n. not (beq (eqb n c.args.length) (eqb (k + 1) s.hdus)) ≡ true) c.next_start-start.ensures c.if-start-length.true in
-    stops_changed o s.header_len s.tile s.hdus before (Unit {0}) held c.args.length (k + 1) (next_start_of a.header) end now (Err c.changed.result) told differ more
+    let told : HoldsLength held c.args.asked.now.length = g.met.S.Source.agrees c.args.source.now c.args.asked.now.length c.requires.attached in
+    let differ : not (beq (eqb (next_start_of a.header) c.args.asked.now.length) (eqb (k + 1) s.hdus)) ≡ true =
+    subst (λ n. not (beq (eqb n c.args.asked.now.length) (eqb (k + 1) s.hdus)) ≡ true) c.next_start-start.ensures c.if-start-length.true in
+    stops_changed o s.header_len s.tile s.hdus before (Unit {0}) held c.args.asked.now.length (k + 1) (next_start_of a.header) end now (Err c.changed.result) told differ more
 
 pub loop-hdu-preserved : goal.loop-hdu-preserved
 loop-hdu-preserved g c =
-    let o = c.args.options.now in
+    let o = c.args.asked.now.options in
     let s = c.args.survey.now in
     let k : ℕ = c.loop-hdu.hdu in
     let start : ℕ = c.loop-hdu.start in
@@ -118,7 +118,7 @@ loop-hdu-preserved g c =
     more_written o s.header_len s.tile s.hdus before c.output_law.ensures.next held k start at end mid now a few old.written seen c.in_ok-again.ensures.place.0 holds in
     let place : a.header.start ≡ start = c.in_ok-again.ensures.place.1 in
     let next : c.next_start-start.result ≡ next_start_of a.header = c.next_start-start.ensures in
-    let inside : next_start_of a.header ≤ c.args.length = c.in_ok-again.ensures.again.inside in
+    let inside : next_start_of a.header ≤ c.args.asked.now.length = c.in_ok-again.ensures.again.inside in
     let early : next_start_of a.header ≤ 2 ^ 62 = c.in_ok-again.ensures.again.near in
     let near : end + a.header.start ≤ at + 2 ^ 46 + next_start_of a.header = c.in_ok-at.ensures.end.near in
     let zero : Option (List (ℕ × ℕ)) = g.S.Source.ranges c.args.source.now in
@@ -144,7 +144,7 @@ loop-hdu-preserved g c =
       };
       window = record { sizes = c.in_ok-at.ensures.window.sizes ∙ old.window.sizes; workers = c.in_ok-at.ensures.window.workers ∙ old.window.workers };
       block = c.in_ok-at.ensures.block;
-      within = λ left. inl (not_at_end c.next_start-start.result c.args.length (k + 1) s.hdus c.if-start-length.false left (omega (arith, next, inside)));
+      within = λ left. inl (not_at_end c.next_start-start.result c.args.asked.now.length (k + 1) s.hdus c.if-start-length.false left (omega (arith, next, inside)));
       first = λ e. absurd (omega (arith, e));
       behind = λ some. c.in_ok-at.ensures.end.some;
       early = omega (arith, next, early);
@@ -154,7 +154,7 @@ loop-hdu-preserved g c =
 
 pub returns-in_err-again-clause-read : goal.returns-in_err-again-clause-read
 returns-in_err-again-clause-read g c =
-    let o = c.args.options.now in
+    let o = c.args.asked.now.options in
     let s = c.args.survey.now in
     let k : ℕ = c.loop-hdu.hdu in
     let start : ℕ = c.loop-hdu.start in
@@ -171,7 +171,7 @@ returns-in_err-again-clause-read g c =
 
 pub returns-in_err-at-clause-read : goal.returns-in_err-at-clause-read
 returns-in_err-at-clause-read g c =
-    let o = c.args.options.now in
+    let o = c.args.asked.now.options in
     let s = c.args.survey.now in
     let k : ℕ = c.loop-hdu.hdu in
     let start : ℕ = c.loop-hdu.start in
@@ -195,7 +195,7 @@ returns-in_err-at-clause-read g c =
 
 pub returns-then-start-length-clause-read : goal.returns-then-start-length-clause-read
 returns-then-start-length-clause-read g c =
-    let o = c.args.options.now in
+    let o = c.args.asked.now.options in
     let s = c.args.survey.now in
     let k : ℕ = c.loop-hdu.hdu in
     let start : ℕ = c.loop-hdu.start in

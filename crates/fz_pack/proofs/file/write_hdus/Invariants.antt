@@ -18,7 +18,7 @@ invariant-loop-hdu g l = record {
   shut : StaysShut (g.K.Sink.contents l.fn.sink) (g.K.Sink.contents l.sink);
   told_ranges : StaysTold (g.S.Source.ranges l.fn.source) (g.S.Source.ranges l.source);
   told_contents : StaysTold (g.K.Sink.contents l.fn.sink) (g.K.Sink.contents l.sink);
-  read : IfSome (g.S.Source.held l.fn.source) (λ f. ReadsHdus l.options f l.survey (g.S.Source.ranges l.fn.source) (g.S.Source.ranges l.source));
+  read : IfSome (g.S.Source.held l.fn.source) (λ f. ReadsHdus l.asked.options f l.survey (g.S.Source.ranges l.fn.source) (g.S.Source.ranges l.source));
   space : SpaceStays l.fn.space l.space;
   window : WindowStays l.fn.window l.window;
   block : length l.block ≡ 2880;
@@ -27,5 +27,5 @@ invariant-loop-hdu g l = record {
   behind : 0 < l.hdu → 0 < l.at;
   early : l.start ≤ 2 ^ 62;
   near : l.at ≤ l.start + l.hdu * 2 ^ 46;
-  written : IfSome (g.S.Source.held l.fn.source) (IsUnderway l.options l.survey.header_len l.survey.tile l.survey.hdus l.hdu l.start l.at (g.K.Sink.contents l.fn.sink) (g.K.Sink.contents l.sink));
+  written : IfSome (g.S.Source.held l.fn.source) (IsUnderway l.asked.options l.survey.header_len l.survey.tile l.survey.hdus l.hdu l.start l.at (g.K.Sink.contents l.fn.sink) (g.K.Sink.contents l.sink));
 }

@@ -19,12 +19,12 @@ pub returns-in_err-space-clause-written : goal.returns-in_err-space-clause-writt
 returns-in_err-space-clause-written g c =
     let held : Option (List ℕ) = g.S.Source.held c.args.source.now in
     let stopped : c.from_residual.result ≡ Err (stop_of_short c.in_err-space.field-0.0) = search rules in
-    subst (λ (r : Result (Unit {0}) Stop). IfSome held (λ file. FinishesSeen c.args.options.now file c.args.survey.now (g.K.Sink.contents c.args.sink.now) r)) (sym stopped)
-    (short_unwritten (Unit {0}) c.args.options.now held c.args.survey.now (g.K.Sink.contents c.args.sink.now) c.in_err-space.field-0.0)
+    subst (λ (r : Result (Unit {0}) Stop). IfSome held (λ file. FinishesSeen c.args.asked.now.options file c.args.survey.now (g.K.Sink.contents c.args.sink.now) r)) (sym stopped)
+    (short_unwritten (Unit {0}) c.args.asked.now.options held c.args.survey.now (g.K.Sink.contents c.args.sink.now) c.in_err-space.field-0.0)
 
 pub returns-in_err-space-clause-shut : goal.returns-in_err-space-clause-shut
 returns-in_err-space-clause-shut g c =
-    short_shut c.args.options.now (g.S.Source.held c.args.source.now) c.args.survey.now (g.K.Sink.contents c.args.sink.now) c.from_residual.result c.requires.empty
+    short_shut c.args.asked.now.options (g.S.Source.held c.args.source.now) c.args.survey.now (g.K.Sink.contents c.args.sink.now) c.from_residual.result c.requires.empty
 
 pub returns-in_err-space-clause-unmade : goal.returns-in_err-space-clause-unmade
 returns-in_err-space-clause-unmade g c = if_over c.from_residual.result _ (refl, refl)
@@ -32,7 +32,7 @@ returns-in_err-space-clause-unmade g c = if_over c.from_residual.result _ (refl,
 pub returns-in_err-space-clause-first_past : goal.returns-in_err-space-clause-first_past
 returns-in_err-space-clause-first_past g c =
     let meter = c.args.meter.now in
-    let ts : List (ℕ × ℕ) = piled meter.live (wanted_buffers (wants_for (Pack c.args.options.now) c.args.survey.now) c.args.window.now.workers) in
+    let ts : List (ℕ × ℕ) = piled meter.live (wanted_buffers (wants_for (Pack c.args.asked.now.options) c.args.survey.now) c.args.window.now.workers) in
     let stopped : c.from_residual.result ≡ Err (stop_of_short c.in_err-space.field-0.0) = search rules in
     subst (λ (r : Result (Unit {0}) Stop). TellsFirstPast meter.limit ts r) (sym stopped) (c.stages_law.ensures.work.short_past meter.limit ts c.in_err-space.field-0.0 c.in_err-space.ensures.takings.first_past)
 
@@ -56,7 +56,7 @@ write_file-answer-requires-clause-translated g c =
 
 pub give_back-requires : goal.give_back-requires
 give_back-requires g c =
-    let wants : Wants = wants_for (Pack c.args.options.now) c.args.survey.now in
+    let wants : Wants = wants_for (Pack c.args.asked.now.options) c.args.survey.now in
     let held = c.stages_law.ensures.back.kept wants c.in_ok-space.space c.write_file-answer.new.space c.args.window.now.workers c.take.new.window c.write_file-answer.new.window
     c.in_ok-space.ensures.lengths c.write_file-answer.ensures.space c.in_ok-space.ensures.filled c.write_file-answer.ensures.window in
     let live = ap (λ m. m.live) c.in_ok-space.ensures.takings.all.1 in
@@ -68,12 +68,12 @@ returns-clause-unmade g c =
 
 pub returns-clause-first_past : goal.returns-clause-first_past
 returns-clause-first_past g c =
-    c.stages_law.ensures.work.past _ _ _ _ c.args.meter.now.limit (piled c.args.meter.now.live (wanted_buffers (wants_for (Pack c.args.options.now) c.args.survey.now) c.args.window.now.workers)) c.write_file-answer.result
+    c.stages_law.ensures.work.past _ _ _ _ c.args.meter.now.limit (piled c.args.meter.now.live (wanted_buffers (wants_for (Pack c.args.asked.now.options) c.args.survey.now) c.args.window.now.workers)) c.write_file-answer.result
     c.write_file-answer.ensures.cause.stop c.in_ok-space.ensures.takings.first_past
 
 pub returns-clause-peak : goal.returns-clause-peak
 returns-clause-peak g c =
-    let wants : Wants = wants_for (Pack c.args.options.now) c.args.survey.now in
+    let wants : Wants = wants_for (Pack c.args.asked.now.options) c.args.survey.now in
     let held = c.stages_law.ensures.back.kept wants c.in_ok-space.space c.write_file-answer.new.space c.args.window.now.workers c.take.new.window c.write_file-answer.new.window
     c.in_ok-space.ensures.lengths c.write_file-answer.ensures.space c.in_ok-space.ensures.filled c.write_file-answer.ensures.window in
     let reached = (c.stages_law.ensures.back.given c.args.meter.now c.take.new.meter c.give_back.new.meter (sum (wanted_buffers wants c.args.window.now.workers)) (held_bytes c.write_file-answer.new.space c.write_file-answer.new.window)
@@ -82,7 +82,7 @@ returns-clause-peak g c =
 
 pub returns-clause-exact_peak : goal.returns-clause-exact_peak
 returns-clause-exact_peak g c =
-    let wants : Wants = wants_for (Pack c.args.options.now) c.args.survey.now in
+    let wants : Wants = wants_for (Pack c.args.asked.now.options) c.args.survey.now in
     let held = c.stages_law.ensures.back.kept wants c.in_ok-space.space c.write_file-answer.new.space c.args.window.now.workers c.take.new.window c.write_file-answer.new.window
     c.in_ok-space.ensures.lengths c.write_file-answer.ensures.space c.in_ok-space.ensures.filled c.write_file-answer.ensures.window in
     ok_always c.write_file-answer.result _
@@ -91,7 +91,7 @@ returns-clause-exact_peak g c =
 
 pub returns-clause-live : goal.returns-clause-live
 returns-clause-live g c =
-    let wants : Wants = wants_for (Pack c.args.options.now) c.args.survey.now in
+    let wants : Wants = wants_for (Pack c.args.asked.now.options) c.args.survey.now in
     let held = c.stages_law.ensures.back.kept wants c.in_ok-space.space c.write_file-answer.new.space c.args.window.now.workers c.take.new.window c.write_file-answer.new.window
     c.in_ok-space.ensures.lengths c.write_file-answer.ensures.space c.in_ok-space.ensures.filled c.write_file-answer.ensures.window in
     (c.stages_law.ensures.back.given c.args.meter.now c.take.new.meter c.give_back.new.meter (sum (wanted_buffers wants c.args.window.now.workers)) (held_bytes c.write_file-answer.new.space c.write_file-answer.new.window)
@@ -99,7 +99,7 @@ returns-clause-live g c =
 
 pub returns-clause-limit : goal.returns-clause-limit
 returns-clause-limit g c =
-    let wants : Wants = wants_for (Pack c.args.options.now) c.args.survey.now in
+    let wants : Wants = wants_for (Pack c.args.asked.now.options) c.args.survey.now in
     let held = c.stages_law.ensures.back.kept wants c.in_ok-space.space c.write_file-answer.new.space c.args.window.now.workers c.take.new.window c.write_file-answer.new.window
     c.in_ok-space.ensures.lengths c.write_file-answer.ensures.space c.in_ok-space.ensures.filled c.write_file-answer.ensures.window in
     (c.stages_law.ensures.back.given c.args.meter.now c.take.new.meter c.give_back.new.meter (sum (wanted_buffers wants c.args.window.now.workers)) (held_bytes c.write_file-answer.new.space c.write_file-answer.new.window)
@@ -117,7 +117,7 @@ pub returns-in_err-space-clause-past : goal.returns-in_err-space-clause-past
 returns-in_err-space-clause-past g c = λ some. (refl, refl)
 
 pub returns-clause-past : goal.returns-clause-past
-returns-clause-past g c = none_passed _ (first_past c.args.meter.now.limit (piled c.args.meter.now.live (wanted_buffers (wants_for (Pack c.args.options.now) c.args.survey.now) c.args.window.now.workers))) c.in_ok-space.ensures.takings.first_past
+returns-clause-past g c = none_passed _ (first_past c.args.meter.now.limit (piled c.args.meter.now.live (wanted_buffers (wants_for (Pack c.args.asked.now.options) c.args.survey.now) c.args.window.now.workers))) c.in_ok-space.ensures.takings.first_past
 
 pub returns-in_err-space-clause-read : goal.returns-in_err-space-clause-read
-returns-in_err-space-clause-read g c = no_hdu c.args.options.now c.args.survey.now (g.S.Source.ranges c.args.source.now) (g.S.Source.held c.args.source.now)
+returns-in_err-space-clause-read g c = no_hdu c.args.asked.now.options c.args.survey.now (g.S.Source.ranges c.args.source.now) (g.S.Source.held c.args.source.now)

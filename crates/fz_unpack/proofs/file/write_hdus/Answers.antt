@@ -122,9 +122,9 @@ returns-then-not-is_primary_as_found-clause-written g c =
     let seen : IfSome held (λ f. ReadsAsSeen f k start flag s.header_len s.tile (Ok a)) =
     subst (λ n. IfSome held (λ f. ReadsAsSeen f k start flag n s.tile (Ok a))) long
     (subst (λ (h : Option (List ℕ)). IfSome h (λ f. ReadsAsSeen f k start flag (length c.as_mut_slice-buf.result.now) s.tile (Ok a))) old.held c.in_ok-again.ensures.as_seen) in
-    let usable : IsAgain held c.args.length buf a = subst (λ (h : Option (List ℕ)). IsAgain h c.args.length buf a) old.held c.in_ok-again.ensures.again in
+    let usable : IsAgain held c.args.asked.now.length buf a = subst (λ (h : Option (List ℕ)). IsAgain h c.args.asked.now.length buf a) old.held c.in_ok-again.ensures.again in
     let never : (flag ≡ true → was_primary_image a.image ≡ (c.in_ok-first.first.hdu == 1)) → ⊥ = λ so. told_false c.is_primary_as_found.result (search rules) (c.is_primary_as_found.ensures.exact.1 so) in
-    primary_as_seen s.header_len s.tile s.hdus before c.requires.some (Unit {0}) held c.changed-then-not-is_primary_as_found.result k start c.loop-hdu.at flag mid mid c.in_ok-first.first c.args.length buf a few
+    primary_as_seen s.header_len s.tile s.hdus before c.requires.some (Unit {0}) held c.changed-then-not-is_primary_as_found.result k start c.loop-hdu.at flag mid mid c.in_ok-first.first c.args.asked.now.length buf a few
     old.written c.in_ok-first.ensures.first seen usable never
 
 pub returns-then-not-is_last_as_seen-clause-written : goal.returns-then-not-is_last_as_seen-clause-written
@@ -150,11 +150,11 @@ returns-then-not-is_last_as_seen-clause-written g c =
     subst (λ (h : Option (List ℕ)). IfSome h (λ f. HoldsHdu a.header f at end mid now)) (c.in_ok-again.ensures.source.held_is ∙ old.held) c.in_ok-at.ensures.written in
     let more : IfSome held (IsUnderway s.header_len s.tile s.hdus (k + 1) (next_start_of a.header) end (is_empty_primary a.header) before now) =
     more_written s.header_len s.tile s.hdus before c.output_law.ensures.next held k start at end flag (is_empty_primary a.header) mid now a few old.written seen holds refl in
-    let told : HoldsLength held c.args.length = g.met.S.Source.agrees c.args.source.now c.args.length c.requires.attached in
+    let told : HoldsLength held c.args.asked.now.length = g.met.S.Source.agrees c.args.source.now c.args.asked.now.length c.requires.attached in
     let next : c.next_start-start.result ≡ next_start_of a.header = c.next_start-start.ensures in
-    let never : ((next_start_of a.header ≡ c.args.length) ↔ (k + 1 ≡ s.hdus)) → ⊥ =
-    λ so. told_false c.is_last_as_seen.result (search rules) (c.is_last_as_seen.ensures.exact.1 (subst (λ n. (n ≡ c.args.length) ↔ (k + 1 ≡ s.hdus)) (sym next) so)) in
-    last_as_seen s.header_len s.tile s.hdus before (Unit {0}) held c.changed-then-not-is_last_as_seen.result c.args.length (k + 1) (next_start_of a.header) end (is_empty_primary a.header) now told more never
+    let never : ((next_start_of a.header ≡ c.args.asked.now.length) ↔ (k + 1 ≡ s.hdus)) → ⊥ =
+    λ so. told_false c.is_last_as_seen.result (search rules) (c.is_last_as_seen.ensures.exact.1 (subst (λ n. (n ≡ c.args.asked.now.length) ↔ (k + 1 ≡ s.hdus)) (sym next) so)) in
+    last_as_seen s.header_len s.tile s.hdus before (Unit {0}) held c.changed-then-not-is_last_as_seen.result c.args.asked.now.length (k + 1) (next_start_of a.header) end (is_empty_primary a.header) now told more never
 
 pub loop-hdu-preserved : goal.loop-hdu-preserved
 loop-hdu-preserved g c =
@@ -182,10 +182,10 @@ loop-hdu-preserved g c =
     let place : a.header.start ≡ start = c.in_ok-again.ensures.place.1 in
     let next : c.next_start-start.result ≡ next_start_of a.header = c.next_start-start.ensures in
     let says : c.is_empty_primary-after_empty.result ≡ is_empty_primary a.header = c.is_empty_primary-after_empty.ensures in
-    let inside : next_start_of a.header ≤ c.args.length = c.in_ok-again.ensures.again.inside in
+    let inside : next_start_of a.header ≤ c.args.asked.now.length = c.in_ok-again.ensures.again.inside in
     let early : next_start_of a.header ≤ 2 ^ 62 = c.in_ok-again.ensures.again.near in
     let near : end + a.header.start ≤ at + 2 ^ 46 + next_start_of a.header = c.in_ok-at.ensures.end.near in
-    let last : (c.next_start-start.result ≡ c.args.length) ↔ (k + 1 ≡ s.hdus) = c.is_last_as_seen.ensures.exact.0 (search rules) in
+    let last : (c.next_start-start.result ≡ c.args.asked.now.length) ↔ (k + 1 ≡ s.hdus) = c.is_last_as_seen.ensures.exact.0 (search rules) in
     let zero : Option (List (ℕ × ℕ)) = g.S.Source.ranges c.args.source.now in
     let one : Option (List (ℕ × ℕ)) = g.S.Source.ranges c.loop-hdu.source in
     let two : Option (List (ℕ × ℕ)) = g.S.Source.ranges c.read_again.new.source in
@@ -211,7 +211,7 @@ loop-hdu-preserved g c =
       };
       window = record { sizes = c.in_ok-at.ensures.window.sizes ∙ old.window.sizes; workers = c.in_ok-at.ensures.window.workers ∙ old.window.workers };
       block = c.in_ok-again.ensures.block;
-      within = λ more. inl (not_at_end c.next_start-start.result c.args.length (k + 1) s.hdus (omega (arith, next, inside)) last more);
+      within = λ more. inl (not_at_end c.next_start-start.result c.args.asked.now.length (k + 1) s.hdus (omega (arith, next, inside)) last more);
       early = omega (arith, next, early);
       near = omega (arith, next, near, place, old.near);
       written = subst (λ b. IfSome held (IsUnderway s.header_len s.tile s.hdus (k + 1) c.next_start-start.result end b before now)) (sym says)

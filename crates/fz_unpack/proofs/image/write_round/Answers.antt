@@ -1,20 +1,22 @@
--- The tiles of a round are fetched, and then written to their places.
-use Rattle.std.proofs.Common.{◌≡◌, ℕ, arith}
+-- The tiles of a round are fetched, and then written to their places, now or later.
+use Rattle.std.proofs.Common.{◌≡◌, ℕ, refl, arith}
 use Rattle.std.specs.List.{range_with_len}
 use Rattle.std.proofs.lemmas.List.{length-replicate, length-take}
 use Rattle.std.proofs.lemmas.Result.{on_ok_weaker}
+use Rattle.fz_fetch.specs.Ahead.{image_tiles}
+use Rattle.fz_job.specs.Held.{settled}
 use Rattle.fz_unpack.proofs.HduReads.{round_read}
 use Rattle.fz_unpack.proofs.Tiles.{numbered, round_written, tiles_of_image}
 use Rattle.fz_unpack.proofs.image.write_round.Goals as goal
 
-pub fetch_tiles-requires-clause-tiles : goal.fetch_tiles-requires-clause-tiles
-fetch_tiles-requires-clause-tiles g c κs within =
+pub fetch_ahead-requires-clause-tiles : goal.fetch_ahead-requires-clause-tiles
+fetch_ahead-requires-clause-tiles g c κs within =
     let are : c.number_tiles.new.tiles ≡ range_with_len c.args.first c.args.count =
     numbered c.args.first c.args.count _ c.number_tiles.new.tiles c.number_tiles.ensures (omega (arith, c.requires.few, length-take {A = ℕ}, length-replicate {A = ℕ})) in
     tiles_of_image c.args.image.now c.args.first c.args.count c.number_tiles.new.tiles are c.requires.tiles
 
-pub scatter_tiles-requires-clause-tiles : goal.scatter_tiles-requires-clause-tiles
-scatter_tiles-requires-clause-tiles g c =
+pub scatter_held-requires-clause-tiles : goal.scatter_held-requires-clause-tiles
+scatter_held-requires-clause-tiles g c =
     let are : c.number_tiles.new.tiles ≡ range_with_len c.args.first c.args.count =
     numbered c.args.first c.args.count _ c.number_tiles.new.tiles c.number_tiles.ensures (omega (arith, c.requires.few, length-take {A = ℕ}, length-replicate {A = ℕ})) in
     tiles_of_image c.args.image.now c.args.first c.args.count c.number_tiles.new.tiles are c.requires.tiles
@@ -23,21 +25,21 @@ pub returns-clause-pixels : goal.returns-clause-pixels
 returns-clause-pixels g c =
     let are : c.number_tiles.new.tiles ≡ range_with_len c.args.first c.args.count =
     numbered c.args.first c.args.count _ c.number_tiles.new.tiles c.number_tiles.ensures (omega (arith, c.requires.few, length-take {A = ℕ}, length-replicate {A = ℕ})) in
-    on_ok_weaker c.scatter_tiles.result
-    (λ put. round_written (g.S.Source.held c.args.source.now) c.args.header.now c.args.image.now.plan c.args.data_at c.args.first c.args.count c.number_tiles.new.tiles c.fetch_tiles.new.window.slots
-    (g.K.Sink.contents c.args.sink.now) (g.K.Sink.contents c.scatter_tiles.new.sink) are c.in_ok-fetch_tiles.ensures.fetched put)
-    c.scatter_tiles.ensures.written
+    on_ok_weaker c.scatter_held.result
+    (λ put. round_written (g.S.Source.held c.args.source.now) c.args.header.now c.args.image.now.plan c.args.data_at c.args.first c.args.count c.number_tiles.new.tiles c.fetch_ahead.new.window.slots
+    (settled c.args.back.now c.args.held.now (g.K.Sink.contents c.args.sink.now)) (settled c.scatter_held.new.back c.scatter_held.new.held (g.K.Sink.contents c.scatter_held.new.sink)) are c.in_ok-fetch_ahead.ensures.fetched put)
+    c.scatter_held.ensures.written
 
-pub returns-in_err-fetch_tiles-clause-read : goal.returns-in_err-fetch_tiles-clause-read
-returns-in_err-fetch_tiles-clause-read g c =
-    let are : c.number_tiles.new.tiles ≡ range_with_len c.args.first c.args.count =
-    numbered c.args.first c.args.count _ c.number_tiles.new.tiles c.number_tiles.ensures (omega (arith, c.requires.few, length-take {A = ℕ}, length-replicate {A = ℕ})) in
-    round_read c.hdus_law.ensures.tiles (g.S.Source.held c.args.source.now) c.args.header.now c.args.image.now c.number_tiles.new.tiles (g.S.Source.ranges c.args.source.now) (g.S.Source.ranges c.fetch_tiles.new.source) c.requires.said
-    (tiles_of_image c.args.image.now c.args.first c.args.count c.number_tiles.new.tiles are c.requires.tiles) c.in_err-fetch_tiles.ensures.read
+-- ---- what is read
+
+pub returns-in_err-fetch_ahead-clause-read : goal.returns-in_err-fetch_ahead-clause-read
+returns-in_err-fetch_ahead-clause-read g c =
+    let image = c.args.image.now in
+    round_read c.hdus_law.ensures.tiles (g.S.Source.held c.args.source.now) c.args.header.now image (image_tiles image) (g.S.Source.ranges c.args.source.now) (g.S.Source.ranges c.fetch_ahead.new.source) c.requires.said
+    (tiles_of_image image 0 image.table.rows (image_tiles image) refl (omega (arith, c.requires.image.rows))) c.in_err-fetch_ahead.ensures.read
 
 pub returns-clause-read : goal.returns-clause-read
 returns-clause-read g c =
-    let are : c.number_tiles.new.tiles ≡ range_with_len c.args.first c.args.count =
-    numbered c.args.first c.args.count _ c.number_tiles.new.tiles c.number_tiles.ensures (omega (arith, c.requires.few, length-take {A = ℕ}, length-replicate {A = ℕ})) in
-    round_read c.hdus_law.ensures.tiles (g.S.Source.held c.args.source.now) c.args.header.now c.args.image.now c.number_tiles.new.tiles (g.S.Source.ranges c.args.source.now) (g.S.Source.ranges c.fetch_tiles.new.source) c.requires.said
-    (tiles_of_image c.args.image.now c.args.first c.args.count c.number_tiles.new.tiles are c.requires.tiles) c.in_ok-fetch_tiles.ensures.read
+    let image = c.args.image.now in
+    round_read c.hdus_law.ensures.tiles (g.S.Source.held c.args.source.now) c.args.header.now image (image_tiles image) (g.S.Source.ranges c.args.source.now) (g.S.Source.ranges c.fetch_ahead.new.source) c.requires.said
+    (tiles_of_image image 0 image.table.rows (image_tiles image) refl (omega (arith, c.requires.image.rows))) c.in_ok-fetch_ahead.ensures.read

@@ -1,98 +1,22 @@
--- One round after another.
-use Rattle.std.proofs.Common.{◌≡◌, ℕ, ◌+◌, ◌≤◌, List, map, Option, Some, IfSome, Result, Err, refl, sym, ◌∙◌, subst, arith, rules}
+-- All tiles are written, round by round or by turns.
+use Rattle.std.proofs.Common.{◌≡◌, ℕ, List, Option, ◌∙◌}
 use Rattle.std.proofs.lemmas.Result.{on_ok_weaker}
-use Rattle.std.specs.List.{range_with_len}
-use Rattle.fz_base.specs.Ranges.{LogsIn}
-use Rattle.fz_base.specs.Stop.{IfRefused}
-use Rattle.fz_files.specs.Touched.{image_ranges}
-use Rattle.fz_base.specs.declared.failure.Stop.{Stop}
 use Rattle.fz_grid.specs.Grid.{tile_count}
 use Rattle.fz_grid.specs.Region.{lengths_of}
-use Rattle.fz_files.specs.FirstFault.{IsFirstRowFault, image_row, rows_of}
 use Rattle.fz_files.specs.Packed.{tiles_in}
-use Rattle.fz_unpack.specs.Images.{AreWrittenTiles}
-use Rattle.fz_unpack.proofs.HduReads.{join_told, unread}
-use Rattle.fz_unpack.proofs.Outcomes.{stop_weaker}
-use Rattle.fz_unpack.proofs.Tiles.{all_written, more_tiles, none_written, refused_in_round}
+use Rattle.fz_unpack.proofs.Tiles.{all_written}
 use Rattle.fz_unpack.proofs.image.write_tiles.Goals as goal
-
-pub loop-first-init : goal.loop-first-init
-loop-first-init g c = record {
-  held = refl;
-  attached = refl;
-  reads = refl;
-  writes = refl;
-  created = refl;
-  shut = λ shut. shut;
-  told_ranges = λ told. told;
-  told_contents = λ told. told;
-  read = unread (g.S.Source.held c.args.source.now) (λ file. image_ranges file c.args.header.now) (g.S.Source.ranges c.args.source.now);
-  window = record { sizes = refl; workers = refl };
-  rows = refl;
-  within = omega arith;
-  written = none_written (g.S.Source.held c.args.source.now) c.args.header.now c.args.image.now.plan c.args.data_at (g.K.Sink.contents c.args.sink.now);
-}
-
-pub loop-first-preserved : goal.loop-first-preserved
-loop-first-preserved g c =
-    let held : Option (List ℕ) = g.S.Source.held c.args.source.now in
-    let h = c.args.header.now in
-    let p = c.args.image.now.plan in
-    let at : ℕ = c.args.data_at in
-    let before : Option (List ℕ) = g.K.Sink.contents c.args.sink.now in
-    let old = c.loop-first.invariant in
-    let first : ℕ = c.loop-first.first in
-    let count : ℕ = c.min-count.result in
-    let mid : Option (List ℕ) = g.K.Sink.contents c.loop-first.sink in
-    let now : Option (List ℕ) = g.K.Sink.contents c.write_round.new.sink in
-    let round : IfSome held (λ file. AreWrittenTiles file h p at (range_with_len first count) mid now) =
-    subst (λ (l : Option (List ℕ)). IfSome l (λ file. AreWrittenTiles file h p at (range_with_len first count) mid now)) old.held c.in_ok-write_round.ensures.pixels in
-    record {
-      held = search rules;
-      attached = search rules;
-      reads = search rules;
-      writes = search rules;
-      created = search rules;
-      shut = λ shut. c.in_ok-write_round.ensures.sink.shut (old.shut shut);
-      told_ranges = λ told. c.in_ok-write_round.ensures.told_ranges (old.told_ranges told);
-      told_contents = λ told. c.in_ok-write_round.ensures.told_contents (old.told_contents told);
-      read = join_told c.ranges_law.ensures.join held (λ file. image_ranges file h) (g.S.Source.ranges c.args.source.now) (g.S.Source.ranges c.loop-first.source) (g.S.Source.ranges c.write_round.new.source) old.read
-          (subst (λ (l : Option (List ℕ)). IfSome l (λ file. LogsIn (image_ranges file h) (g.S.Source.ranges c.loop-first.source) (g.S.Source.ranges c.write_round.new.source))) old.held c.in_ok-write_round.ensures.read);
-      window = record { sizes = c.in_ok-write_round.ensures.window.sizes ∙ old.window.sizes; workers = c.in_ok-write_round.ensures.window.workers ∙ old.window.workers };
-      rows = c.in_ok-write_round.ensures.rows ∙ old.rows;
-      within = omega (arith, c.min-count.ensures, old.within);
-      written = more_tiles c.scattered_law.ensures.rounds held h p at first count before mid now old.written round;
-    }
-
-pub returns-in_err-write_round-clause-fault : goal.returns-in_err-write_round-clause-fault
-returns-in_err-write_round-clause-fault g c =
-    let held : Option (List ℕ) = g.S.Source.held c.args.source.now in
-    let h = c.args.header.now in
-    let image = c.args.image.now in
-    let old = c.loop-first.invariant in
-    let first : ℕ = c.loop-first.first in
-    let count : ℕ = c.min-count.result in
-    let before : Option (List ℕ) = g.K.Sink.contents c.args.sink.now in
-    let mid : Option (List ℕ) = g.K.Sink.contents c.loop-first.sink in
-    let stop : Stop = c.in_err-write_round.field-0.0 in
-    let stopped : c.from_residual.result ≡ Err stop = search rules in
-    let many : c.tile_count-tiles.result ≡ tiles_in image.plan = c.tile_count-tiles.ensures.count ∙ (λ i. tile_count (lengths_of (c.new.ensures.shape i)) (lengths_of (c.new.ensures.tile i))) in
-    let few : first + count ≤ tiles_in image.plan = omega (arith, c.min-count.ensures, old.within, many) in
-    let fault : IfRefused {X = Unit {0}} (Err stop) (λ x. IfSome held (λ file. IsFirstRowFault file (map (image_row h) (range_with_len first count)) (Some x))) =
-    subst (λ (l : Option (List ℕ)). IfRefused {X = Unit {0}} (Err stop) (λ x. IfSome l (λ file. IsFirstRowFault file (map (image_row h) (range_with_len first count)) (Some x)))) old.held c.in_err-write_round.ensures.fault in
-    subst (λ (r : Result (Unit {0}) Stop). IfRefused r (λ x. IfSome held (λ file. IsFirstRowFault file (rows_of file h) (Some x)))) (sym stopped)
-    (stop_weaker (Unit {0}) (Unit {0}) stop (λ x is. refused_in_round held h image c.args.data_at first count before mid x c.requires.said few old.written is) fault)
 
 pub returns-clause-pixels : goal.returns-clause-pixels
 returns-clause-pixels g c =
     let held : Option (List ℕ) = g.S.Source.held c.args.source.now in
     let image = c.args.image.now in
-    let old = c.loop-first.invariant in
     let many : c.tile_count-tiles.result ≡ tiles_in image.plan = c.tile_count-tiles.ensures.count ∙ (λ i. tile_count (lengths_of (c.new.ensures.shape i)) (lengths_of (c.new.ensures.tile i))) in
-    let all : c.loop-first.first ≡ tiles_in image.plan = omega (arith, old.within, many) in
-    all_written c.tiles_law.ensures.whole c.tiles_law.ensures.joined c.scattered_law.ensures.image held c.args.header.now image c.args.data_at c.loop-first.first
-    (g.K.Sink.contents c.args.sink.now) (g.K.Sink.contents c.loop-first.sink) c.requires.said all c.requires.image.divided c.requires.image.codec.size
-    (c.shape_law.ensures.tiles image.plan.shape image.plan.tile c.requires.image.divided) old.written
+    on_ok_weaker c.write_gathered.result
+    (λ written. all_written c.tiles_law.ensures.whole c.tiles_law.ensures.joined c.scattered_law.ensures.image held c.args.header.now image c.args.data_at c.tile_count-tiles.result
+    (g.K.Sink.contents c.args.sink.now) (g.K.Sink.contents c.write_gathered.new.sink) c.requires.said many c.requires.image.divided c.requires.image.codec.size
+    (c.shape_law.ensures.tiles image.plan.shape image.plan.tile c.requires.image.divided) written)
+    c.write_gathered.ensures.pixels
 
 -- by turns all are written too
 pub returns-then-tiles-workers-clause-pixels : goal.returns-then-tiles-workers-clause-pixels
@@ -105,11 +29,3 @@ returns-then-tiles-workers-clause-pixels g c =
     (g.K.Sink.contents c.args.sink.now) (g.K.Sink.contents c.write_by_turns.new.sink) c.requires.said many c.requires.image.divided c.requires.image.codec.size
     (c.shape_law.ensures.tiles image.plan.shape image.plan.tile c.requires.image.divided) written)
     c.write_by_turns.ensures.pixels
-
-pub returns-in_err-write_round-clause-read : goal.returns-in_err-write_round-clause-read
-returns-in_err-write_round-clause-read g c =
-    let held : Option (List ℕ) = g.S.Source.held c.args.source.now in
-    let h = c.args.header.now in
-    let old = c.loop-first.invariant in
-    join_told c.ranges_law.ensures.join held (λ file. image_ranges file h) (g.S.Source.ranges c.args.source.now) (g.S.Source.ranges c.loop-first.source) (g.S.Source.ranges c.write_round.new.source) old.read
-    (subst (λ (l : Option (List ℕ)). IfSome l (λ file. LogsIn (image_ranges file h) (g.S.Source.ranges c.loop-first.source) (g.S.Source.ranges c.write_round.new.source))) old.held c.in_err-write_round.ensures.read)
