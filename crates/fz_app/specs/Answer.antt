@@ -1,7 +1,8 @@
--- The status of a run is made from its job's answer, and tells it: so what is said of the answers of jobs is said of statuses.
+-- The status of a run is made from its job's answer, and shows it: so what is said of the answers of jobs is said of statuses.
 use Rattle.std.specs.Prelude.{ℕ, ◌≡◌, ◌≢◌, not, ◌&&◌, Bool, true, false, List, Option, Some, None, IfSome, Result, Ok, Err, OnOk, ⊤, if◌then◌else◌}
 use Rattle.fz_base.specs.declared.failure.Stop.{Stop}
-use Rattle.fz_base.specs.declared.failure.Stop.TheVariants.{Refused as StopRefused, ReadFault as StopRead, WriteFault as StopWrite, OverLimit as StopLimit, NoMemory as StopMemory}
+use Rattle.fz_base.specs.declared.failure.Stop.TheVariants.{Refused as StopRefused, ReadFault as StopRead, WriteFault as StopWrite}
+use Rattle.fz_base.specs.declared.failure.Stop.TheVariants.{OverLimit as StopLimit, NoMemory as StopMemory}
 use Rattle.fz_files.specs.Lines.{has_wrong_sums}
 use Rattle.fz_files.specs.declared.job.Job.{Job}
 use Rattle.fz_files.specs.declared.job.Job.TheVariants.{Pack, Unpack, Cut, Verify, List as ListHdus, Drill, Retile}
@@ -25,7 +26,7 @@ abbrev pub status_of : Result ⊤ Stop → Status
 status_of (Ok done) = Done
 status_of (Err stop) = status_of_stop stop
 
--- A fact of the answer that a status tells. Usage tells none, since no job was begun.
+-- A fact of the answer that a status shows. Usage shows none, since no job was begun.
 abbrev pub IfAnswer : Status → (Result ⊤ Stop → Type 0) → Type 0
 IfAnswer Done P = P (Ok tt)
 IfAnswer Different P = P (Ok tt)
@@ -51,7 +52,7 @@ abbrev pub done_of : {X : Type 0} → Result X Stop → Result ⊤ Stop
 done_of (Ok x) = Ok tt
 done_of (Err stop) = Err stop
 
--- A promise of the answer to what the words ask for. Where they ask for nothing the status is Usage, and else it is not.
+-- A promise of the answer to what the words ask for. If they ask for nothing the status is Usage, and otherwise it is not.
 abbrev pub IsPromisedTo : {A : Type 0} → Option A → Status → (A → Result ⊤ Stop → Type 0) → Type 0
 IsPromisedTo None status P = status ≡ Usage
 IsPromisedTo (Some asked) status P = IfAnswer status (P asked) × (status ≢ Usage)

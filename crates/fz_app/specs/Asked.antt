@@ -2,7 +2,8 @@
 -- bound.
 use Rattle.std.specs.Prelude.{ℕ, min, not, ◌&&◌, Bool, true, false, List, [], ◌++◌, Option, Some, None, IfSome, Result, Ok, Err, ⊤}
 use Rattle.fz_base.specs.declared.failure.Stop.{Stop}
-use Rattle.fz_base.specs.declared.failure.Stop.TheVariants.{Refused as StopRefused, ReadFault as StopRead, WriteFault as StopWrite, OverLimit as StopLimit, NoMemory as StopMemory}
+use Rattle.fz_base.specs.declared.failure.Stop.TheVariants.{Refused as StopRefused, ReadFault as StopRead, WriteFault as StopWrite}
+use Rattle.fz_base.specs.declared.failure.Stop.TheVariants.{OverLimit as StopLimit, NoMemory as StopMemory}
 use Rattle.fz_base.specs.declared.fault.Fault.{Fault}
 use Rattle.fz_files.specs.Buffers.{job_bound, job_takings, own_takings}
 use Rattle.fz_files.specs.declared.job.Job.{Job}
@@ -16,7 +17,7 @@ use Rattle.fz_words.specs.Jobs.{Asked, job_of}
 abbrev pub IfAsked : List (List ℕ) → (Asked → Type 0) → Type 0
 IfAsked words P = IfSome (job_of words) P
 
--- The file that a job is given, where it is told: what the source holds. `drill` is given none, and works alike whatever the source holds:
+-- The file that a job is given, if it is shown: what the source holds. `drill` is given none, and works alike whatever the source holds:
 -- it has the empty file here.
 abbrev pub given : Job → Option (List ℕ) → Option (List ℕ)
 given (Pack options) held = held
@@ -27,7 +28,7 @@ given ListHdus held = held
 given (Drill rows) held = Some []
 given (Retile options) held = held
 
--- the limit on buffers: that of the meter, or that of the words where it is smaller
+-- the limit on buffers: that of the meter, or that of the words if it is smaller
 abbrev pub limit_of : Asked → ℕ → ℕ
 limit_of asked limit = min limit asked.memory
 
@@ -72,10 +73,6 @@ compared_takings (Some x) file = []
 abbrev pub takings_with : Bool → List ℕ → List (ℕ × ℕ) → List (ℕ × ℕ)
 takings_with false file takings = takings
 takings_with true file takings = takings ++ compared_takings (first_fault Verify file) file
-
--- all that is taken of the meter for what is asked
-abbrev pub asked_takings : Asked → List ℕ → List (ℕ × ℕ)
-asked_takings asked file = takings_with (is_compared asked) file (job_takings asked.job file asked.workers)
 
 -- those of the meter that the job is given
 abbrev pub own_asked : Asked → List ℕ → List (ℕ × ℕ)

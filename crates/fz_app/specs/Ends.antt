@@ -1,23 +1,23 @@
--- What source, sink, text and meter tell before a job and behind it.
+-- What source, sink, text and meter show before a job and after it.
 use Rattle.std.specs.Prelude.{ℕ, ◌≡◌, Bool, List, Option}
 use Rattle.fz_base.specs.Counts.{Tally}
 use Rattle.fz_base.specs.Meter.{Gauge}
 use Rattle.fz_files.specs.declared.job.Job.{Job}
 use Rattle.fz_files.specs.declared.job.Job.TheVariants.{Pack, Unpack, Cut, Verify, List as ListHdus, Drill, Retile}
 
--- what a sink tells
+-- what a sink shows
 pub record SinkIs : Type 0 where
   pub contents : Option (List ℕ)
   pub created : Bool
   pub finished : Bool
   pub tally : Tally
 
--- what a text tells
+-- what a text shows
 pub record TextIs : Type 0 where
   pub contents : Option (List ℕ)
   pub tally : Tally
 
--- what all of them tell at one moment
+-- what all of them show at one moment
 pub record Ends : Type 0 where
   pub held : Option (List ℕ)
   pub ranges : Option (List (ℕ × ℕ))
@@ -26,7 +26,7 @@ pub record Ends : Type 0 where
   pub text : TextIs
   pub meter : Gauge
 
--- a sink, a text, and all of them together, that tell this
+-- a sink, a text, and all of them together, that show this
 abbrev pub sink_is : Option (List ℕ) → Bool → Bool → Tally → SinkIs
 sink_is contents created finished tally = record { contents = contents; created = created; finished = finished; tally = tally }
 
@@ -40,7 +40,7 @@ ends held ranges source sink text meter = record { held = held; ranges = ranges;
 abbrev pub IsSameSink : SinkIs → SinkIs → Type 0
 IsSameSink old new = (new.created ≡ old.created) × (new.contents ≡ old.contents)
 
--- the counts of what a job writes to: of the sink, or of the text where it prints
+-- the counts of what a job writes to: of the sink, or of the text if it prints
 abbrev pub written_counts : Job → Tally → Tally → Tally
 written_counts (Pack options) sink text = sink
 written_counts Unpack sink text = sink

@@ -1,7 +1,8 @@
 -- What the comparison of a file found, if it comes before the lines of `verify`.
 use Rattle.std.specs.Prelude.{Bool, Result, Ok, Err}
 use Rattle.fz_base.specs.declared.failure.Stop.{Stop}
-use Rattle.fz_base.specs.declared.failure.Stop.TheVariants.{Refused as StopRefused, ReadFault as StopRead, WriteFault as StopWrite, OverLimit as StopLimit, NoMemory as StopMemory}
+use Rattle.fz_base.specs.declared.failure.Stop.TheVariants.{Refused as StopRefused, ReadFault as StopRead, WriteFault as StopWrite}
+use Rattle.fz_base.specs.declared.failure.Stop.TheVariants.{OverLimit as StopLimit, NoMemory as StopMemory}
 use Rattle.fz_base.specs.declared.fault.Fault.{Fault}
 
 -- whether the file is strict, or the fault for which it is rejected: `verify` prints the lines before that; any other stop stays one

@@ -4,7 +4,11 @@ use Rattle.fz_base.specs.Counts.{Rose, Tally}
 use Rattle.fz_base.specs.Sink.{appended, MayAppend}
 use Rattle.fz_base.specs.Kind.{kind_number}
 use Rattle.fz_base.specs.declared.kind.Kind.{Kind}
-use Rattle.fz_base.specs.declared.kind.Kind.TheVariants.{NotFits, Truncated, LongHeader, BadCard, Duplicate, HeaderFill, DataFill, TrailingBytes, Reserved, AlreadyPacked, Limit as PastLimit, Groups, UnknownCodec, Quantised, CompressedTable, BadTable, RowCount, DescriptorRange, TileMissing, GzipTile, CodeShort, CodeValue, LineList, PixelRange, TileSize, MisplacedPrimary, NotPacked, OutOfBox, PlioOffset, Unpatchable, BadPatch}
+use Rattle.fz_base.specs.declared.kind.Kind.TheVariants.{NotFits, Truncated, LongHeader, BadCard, Duplicate, HeaderFill, DataFill}
+use Rattle.fz_base.specs.declared.kind.Kind.TheVariants.{TrailingBytes, Reserved, AlreadyPacked, Limit as PastLimit, Groups}
+use Rattle.fz_base.specs.declared.kind.Kind.TheVariants.{UnknownCodec, Quantised, CompressedTable, BadTable, RowCount, DescriptorRange}
+use Rattle.fz_base.specs.declared.kind.Kind.TheVariants.{TileMissing, GzipTile, CodeShort, CodeValue, LineList, PixelRange, TileSize}
+use Rattle.fz_base.specs.declared.kind.Kind.TheVariants.{MisplacedPrimary, NotPacked, OutOfBox, PlioOffset, Unpatchable, BadPatch}
 use Rattle.fz_base.specs.declared.fault.Fault.{Fault}
 use Rattle.fz_base.specs.declared.fault.Place.{Place}
 use Rattle.fz_base.specs.declared.fault.Place.TheVariants.{Byte, Card, Row}
@@ -56,7 +60,7 @@ abbrev pub refusal_text : Fault → List ℕ
 refusal_text x =
     codes "refused: " ++ decimal (kind_number x.kind) ++ codes " " ++ kind_name_of x.kind ++ codes " hdu " ++ decimal x.hdu ++ codes " " ++ place_text x.at
 
--- the line of a status; none where the job's output is told by its own lines
+-- the line of a status; none if the job's own lines report its output
 abbrev pub status_line : Status → List ℕ
 status_line Done = []
 status_line Different = []
@@ -68,7 +72,7 @@ status_line (OverLimit live asked limit) =
     codes "over limit: live " ++ decimal live ++ codes " asked " ++ decimal asked ++ codes " limit " ++ decimal limit ++ codes "\n"
 status_line NoMemory = codes "no memory\n"
 
--- What a text got of a line: nothing where there is no line; else the line, and its counts stayed; or, where a count of its
+-- What a text got of a line: nothing if there is no line; otherwise the line, and its counts stayed; or, if a count of its
 -- faults or wants rose, a prefix of the line, possibly empty.
 abbrev pub GotLine : List ℕ → Option (List ℕ) → Option (List ℕ) → Tally → Tally → Type 0
 GotLine [] old new before now = (new ≡ old) × (now ≡ before)

@@ -24,7 +24,7 @@ IsOutput ListHdus file bytes = bytes ≡ []
 IsOutput (Drill rows) file bytes = bytes ≡ []
 IsOutput (Retile options) file bytes = IsRetiled options file bytes
 
--- Packing and unpacking undo each other. Packed bytes stand for the file, where they are at most 2^62: so unpacking them gives it again.
+-- Packing and unpacking undo each other. Packed bytes stand for the file, if they are at most 2^62: so unpacking them gives it again.
 -- What is unpacked from the packed file of a plain file, whatever this was packed with, is the plain file. What was packed anew stands for the
 -- same file.
 abbrev pub Restores : Job → List ℕ → List ℕ → Type 0
@@ -40,18 +40,19 @@ Restores (Retile options) file bytes = (plain : List ℕ) → StandsFor file pla
 abbrev pub PackedIsSound : Job → List ℕ → Type 0
 PackedIsSound (Pack options) file = ⊤
 PackedIsSound Unpack file =
-    (options : PackOptions) (plain : List ℕ) → IsProfileFile options plain → IsPackedFile options plain file → length file ≤ 2 ^ 62 → IsFirstFault Unpack file None
+    (options : PackOptions) (plain : List ℕ) → IsProfileFile options plain → IsPackedFile options plain file → length file ≤ 2 ^ 62
+    → IsFirstFault Unpack file None
 PackedIsSound (Cut wanted sieve) file = ⊤
 PackedIsSound Verify file = ⊤
 PackedIsSound ListHdus file = ⊤
 PackedIsSound (Drill rows) file = ⊤
 PackedIsSound (Retile options) file = ⊤
 
--- what comes back, of the bytes of the source and the contents of the sink, where both are told
+-- what comes back, of the bytes of the source and the contents of the sink, if both are shown
 abbrev pub JobRestores : Job → Option (List ℕ) → Option (List ℕ) → Type 0
 JobRestores job held contents = IfSome held (λ file. IfSome contents (Restores job file))
 
--- contents are what a job writes for the bytes of the source, where both are told
+-- contents are what a job writes for the bytes of the source, if both are shown
 abbrev pub HoldsJobOutput : Job → Option (List ℕ) → Option (List ℕ) → Type 0
 HoldsJobOutput job held contents = IfSome held (λ file. IfSome contents (IsOutput job file))
 

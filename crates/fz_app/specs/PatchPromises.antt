@@ -7,7 +7,8 @@ use Rattle.fz_base.specs.Stop.{IsRefused, TellsLimit}
 use Rattle.fz_base.specs.Store.{StoreKept}
 use Rattle.fz_base.specs.Takings.{TellsFirstPast}
 use Rattle.fz_base.specs.declared.failure.Stop.{Stop}
-use Rattle.fz_base.specs.declared.failure.Stop.TheVariants.{Refused as StopRefused, ReadFault as StopRead, WriteFault as StopWrite, OverLimit as StopLimit, NoMemory as StopMemory}
+use Rattle.fz_base.specs.declared.failure.Stop.TheVariants.{Refused as StopRefused, ReadFault as StopRead, WriteFault as StopWrite}
+use Rattle.fz_base.specs.declared.failure.Stop.TheVariants.{OverLimit as StopLimit, NoMemory as StopMemory}
 use Rattle.fz_block.specs.declared.header.Header.{Header}
 use Rattle.fz_grid.specs.Region.{lengths_of}
 use Rattle.fz_patch.specs.Clauses.{AnswersPatch, IsPatchedBy, IsUnwritten, KeepsPatchBuffers, LeavesSafe, TellsPatchFault, greatest_patch_bound}
@@ -62,7 +63,7 @@ IsReplacedFor words held given held' status =
 abbrev pub IsLeftSafe : List (List ℕ) → Option (List ℕ) → Option (List ℕ) → Option (List ℕ) → Option (List Amend) → Option (List Amend) → Type 0
 IsLeftSafe words held given held' writes writes' = IfPatch words (λ asked. IfBoth held given (LeavesSafe (job_asked asked) held' writes writes'))
 
--- First fault: after Done the patch has none, and Refused tells it.
+-- First fault: after Done the patch has none, and Refused gives it.
 abbrev pub HasPatchFault : List (List ℕ) → Option (List ℕ) → Option (List ℕ) → Status → Type 0
 HasPatchFault words held given status = IfPatchRan words status (λ asked answer. TellsPatchFault (job_asked asked) held given answer)
 
@@ -88,7 +89,9 @@ IsPatchComplete words held given store store' patch patch' meter status =
 -- of the write faults of FILE rose. OverLimit is the first of the takings that passes the limit, and comes if one does; what passes it is never
 -- more than the bound of the patch, so a limit of at least the bound is never passed. Below the first taking, of one block, it comes unless a
 -- file could not be opened.
-pub record PatchHasCause (words : List (List ℕ)) (held given : Option (List ℕ)) (store store' patch patch' : Tally) (meter : Gauge) (status : Status) : Type 0 where
+pub record PatchHasCause
+    (words : List (List ℕ)) (held given : Option (List ℕ)) (store store' patch patch' : Tally) (meter : Gauge)
+    (status : Status) : Type 0 where
   pub done : IfPatchRan words status (λ asked answer. OnOk answer (SameCounts store store' × (patch' ≡ patch)))
   pub refused : IfPatchRan words status (λ asked answer. IsRefused answer → SameCounts store store' × (patch' ≡ patch))
   pub read_fault : IfPatchRan words status (λ asked answer. IsErrOf answer StopRead → Rose store.faults store'.faults ⊎ Rose patch.faults patch'.faults)
@@ -102,7 +105,8 @@ pub record PatchHasCause (words : List (List ℕ)) (held given : Option (List �
       (λ asked answer. IfBoth held given (λ file by. TellsLimit (patch_limit asked meter) (patch_bound file by (job_asked asked)) answer))
   pub block :
       IfPatchRan words status
-      (λ asked answer. patch_limit asked meter < 2880 → IsErrOf answer (StopLimit 0 2880 (patch_limit asked meter)) ⊎ (IsErrOf answer StopRead ⊎ IsErrOf answer StopMemory))
+      (λ asked answer. patch_limit asked meter < 2880
+      → IsErrOf answer (StopLimit 0 2880 (patch_limit asked meter)) ⊎ (IsErrOf answer StopRead ⊎ IsErrOf answer StopMemory))
 
 -- Buffers: nothing is live, the limit is that of the meter or of the words, and the peak is at most that and at most the bound of the patch.
 pub record PatchIsBounded (words : List (List ℕ)) (held given : Option (List ℕ)) (old new : Gauge) : Type 0 where
@@ -155,7 +159,9 @@ pub record OpensBoth {X : Type 0} (store store' patch patch' : Tally) (result : 
   pub stop : IfErr result (StoppedOpening store store' patch patch')
 
 -- what a run promises of the answer to what is asked for, whole
-pub record PatchEnds (asked : PatchAsked) (held held' given : Option (List ℕ)) (store store' patch patch' : Tally) (old new : Gauge) (answer : Result ⊤ Stop) : Type 0 where
+pub record PatchEnds
+    (asked : PatchAsked) (held held' given : Option (List ℕ)) (store store' patch patch' : Tally) (old new : Gauge)
+    (answer : Result ⊤ Stop) : Type 0 where
   pub patched : OnOk answer (IfBoth held given (IsPatchedBy (job_asked asked) held' store.amended.writes store'.amended.writes))
   pub safe : IfBoth held given (LeavesSafe (job_asked asked) held' store.amended.writes store'.amended.writes)
   pub unwritten :

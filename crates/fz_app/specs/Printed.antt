@@ -6,7 +6,8 @@ use Rattle.fz_base.specs.Stop.{IfRefused, IsRefused}
 use Rattle.fz_base.specs.Takings.{first_past}
 use Rattle.fz_base.specs.Told.{StaysTold}
 use Rattle.fz_base.specs.declared.failure.Stop.{Stop}
-use Rattle.fz_base.specs.declared.failure.Stop.TheVariants.{Refused as StopRefused, ReadFault as StopRead, WriteFault as StopWrite, OverLimit as StopLimit, NoMemory as StopMemory}
+use Rattle.fz_base.specs.declared.failure.Stop.TheVariants.{Refused as StopRefused, ReadFault as StopRead, WriteFault as StopWrite}
+use Rattle.fz_base.specs.declared.failure.Stop.TheVariants.{OverLimit as StopLimit, NoMemory as StopMemory}
 use Rattle.fz_base.specs.declared.fault.Fault.{Fault}
 use Rattle.fz_files.specs.Buffers.{job_takings}
 use Rattle.fz_files.specs.FirstFault.{IsFirstFault}
@@ -35,7 +36,7 @@ compared_line (Some x) same = []
 abbrev pub compared_lines : List ℕ → Option Fault → Bool → List ℕ
 compared_lines file fault same = report_lines Verify file fault ++ compared_line fault same
 
--- told text with all of them behind it
+-- shown text with all of them after it
 abbrev pub GotCompared : List ℕ → Option (List ℕ) → Option (List ℕ) → Type 0
 GotCompared file old new = (same : Bool) × IsStrictAsSaid same file × (new ≡ appended (compared_lines file None same) old)
 
@@ -64,9 +65,9 @@ pub record GotAll (held old new : Option (List ℕ)) : Type 0 where
   pub lines : IfSome held (λ file. GotLines Verify file None old new)
   pub reported : (right : Bool) × Reports old new right
 
--- When nothing is printed if a file is compared: where a header is refused or one of the takings of `verify` passes the limit, whatever the
+-- When nothing is printed if a file is compared: if a header is refused or one of the takings of `verify` passes the limit, whatever the
 -- answer. Over limit, and a refusal that is of no row, come either before the first line or, of the comparison, after all lines of `verify`; a
--- refusal so only of a source that does not tell its bytes, which may have changed.
+-- refusal so only of a source that does not show its bytes, which may have changed.
 pub record IsSilent (held : Option (List ℕ)) (limit workers : ℕ) (Same All : Type 0) (answer : Result ⊤ Stop) : Type 0 where
   pub faulty : IfSome held (λ file. ¬ (header_fault Verify file ≡ None) → Same)
   pub past : IfSome held (λ file. IsSome (first_past limit (job_takings Verify file workers)) → Same)
@@ -80,11 +81,12 @@ IsSilentBy true job held limit workers Same All answer = IsSilent held limit wor
 
 -- What a job that prints did to the text. The text has got the lines of the job and nothing else, after the refusal of a row those of the
 -- HDUs before, and after another end a prefix of the lines. Nothing was printed if a header of the file is refused or a buffer of the job passes
--- the limit, whatever the answer, and after a refusal that comes before the lines. Its counts stay where the job was done or the file refused,
--- and where the job ends with WriteFault the text's count of faults rose. If the file is compared, one line more comes after the others.
+-- the limit, whatever the answer, and after a refusal that comes before the lines. Its counts stay if the job was done or the file refused,
+-- and if the job ends with WriteFault the text's count of faults rose. If the file is compared, one line more comes after the others.
 pub record HasPrinted (compared : Bool) (job : Job) (held : Option (List ℕ)) (limit workers : ℕ) (old new : TextIs) (answer : Result ⊤ Stop) : Type 0 where
   pub lines : PrintsBy compared job held old.contents new.contents answer
-  pub silent : IsSilentBy compared job held limit workers ((new.contents ≡ old.contents) × (new.tally ≡ old.tally)) (GotAll held old.contents new.contents) answer
+  pub silent : IsSilentBy compared job held limit workers ((new.contents ≡ old.contents) × (new.tally ≡ old.tally))
+      (GotAll held old.contents new.contents) answer
   pub done : OnOk answer (new.tally ≡ old.tally)
   pub refused : IsRefused answer → new.tally ≡ old.tally
   pub write_fault : IsErrOf answer StopWrite → Rose old.tally.faults new.tally.faults
@@ -101,12 +103,13 @@ JobPrinted ListHdus compared held limit workers old new answer = HasPrinted comp
 JobPrinted (Drill rows) compared held limit workers old new answer = HasPrinted compared (Drill rows) held limit workers old new answer
 JobPrinted (Retile options) compared held limit workers old new answer = new ≡ old
 
--- the same of what the words ask for; the text is as it was where they ask for nothing
+-- the same of what the words ask for; the text is as it was if they ask for nothing
 abbrev pub IsPrinted : Option Asked → Option (List ℕ) → ℕ → TextIs → TextIs → Status → Type 0
 IsPrinted None held limit old new status = new ≡ old
-IsPrinted (Some asked) held limit old new status = IfAnswer status (JobPrinted asked.job (is_compared asked) (given asked.job held) (limit_of asked limit) asked.workers old new)
+IsPrinted (Some asked) held limit old new status =
+    IfAnswer status (JobPrinted asked.job (is_compared asked) (given asked.job held) (limit_of asked limit) asked.workers old new)
 
--- ---- whatever the source tells
+-- ---- whatever the source shows
 
 -- a text got the lines of some HDUs and then the line of the comparison, and all is right if no sum is reported as wrong and the line says yes
 pub record ReportsCompared (old new : Option (List ℕ)) (right : Bool) : Type 0 where

@@ -21,9 +21,11 @@ pub record IsPromised (asked : Asked) (old new : Ends) (answer : Result ⊤ Stop
   pub output : OnOk answer (HoldsJobOutput asked.job old.held new.sink.contents × IsFinished asked.job new.sink.finished)
   pub slice : OnOk answer (HoldsJobSlice asked.job old.held new.sink.contents)
   pub first_fault : TellsFirstFault asked.job (given asked.job old.held) answer
-  pub answered : (IsOfFile asked.job → ¬ Rose old.source.faults new.source.faults) → ¬ Rose (counts_written asked.job old).faults (counts_written asked.job new).faults
+  pub answered : (IsOfFile asked.job → ¬ Rose old.source.faults new.source.faults)
+      → ¬ Rose (counts_written asked.job old).faults (counts_written asked.job new).faults
       → IfSome (given asked.job old.held) (λ file. job_bound asked.job file asked.workers ≤ limit_of asked old.meter.limit → IsAnswer answer)
-  pub first_byte : OnErr answer (IsShut new.sink.contents ⊎ (IsWhole asked.job old.held new.sink.contents × (IsErrOf answer StopWrite ⊎ IsErrOf answer StopMemory)))
+  pub first_byte : OnErr answer (IsShut new.sink.contents
+      ⊎ (IsWhole asked.job old.held new.sink.contents × (IsErrOf answer StopWrite ⊎ IsErrOf answer StopMemory)))
   pub live : new.meter.live ≡ 0
   pub limit : new.meter.limit ≡ limit_of asked old.meter.limit
   pub peak : IfSome (given asked.job old.held) (λ file. new.meter.peak ≤ own_bound asked.job file asked.workers)
@@ -35,7 +37,8 @@ pub record IsPromised (asked : Asked) (old new : Ends) (answer : Result ⊤ Stop
   pub most : new.meter.peak ≤ most_bound asked.job asked.workers
   pub told_limit : TellsLimit (limit_of asked old.meter.limit) (most_bound asked.job asked.workers) answer
   pub first_past : IfSome (given asked.job old.held) (λ file. TellsFirstPast (limit_of asked old.meter.limit) (takings_told asked answer file) answer)
-  pub block : limit_of asked old.meter.limit < 2880 → IsErrOf answer (StopLimit 0 2880 (limit_of asked old.meter.limit)) ⊎ (IsErrOf answer StopRead ⊎ IsErrOf answer StopMemory)
+  pub block : limit_of asked old.meter.limit < 2880
+      → IsErrOf answer (StopLimit 0 2880 (limit_of asked old.meter.limit)) ⊎ (IsErrOf answer StopRead ⊎ IsErrOf answer StopMemory)
   pub unread : limit_of asked old.meter.limit < 2880 → new.ranges ≡ old.ranges
   pub unmade : IsUnmade asked.job old.held (limit_of asked old.meter.limit) asked.workers (IsSameSink old.sink new.sink) answer
   pub faulty : LeavesFaulty asked.job old.held (IsSameSink old.sink new.sink)

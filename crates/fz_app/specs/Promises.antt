@@ -71,7 +71,7 @@ GotFrontBy false job file old new = MayAppend (report_lines job file (first_faul
 GotFrontBy true job file old new = (same : Bool) → IsStrictAsSaid same file → MayAppend (compared_lines file (first_fault Verify file) same) old new
 
 -- Text: it got the lines of the job, and after them the line of the status. Between them it was as the job left it: with a beginning of the
--- lines that the first fault of the file decides, whatever the status; and, whatever the source tells, if `verify` was done, with lines in which
+-- lines that the first fault of the file decides, whatever the status; and, whatever the source shows, if `verify` was done, with lines in which
 -- no sum is reported as wrong, or one is if the status is Different. If the file is compared, the line that says whether it is strict comes after
 -- those of `verify`, and decides with them.
 pub record GotText (words : List (List ℕ)) (held : Option (List ℕ)) (limit : ℕ) (old new : TextIs) (status : Status) : Type 0 where
@@ -87,7 +87,7 @@ IsAnswerTo asked file None status = EndsAs asked file status ⊎ (status ≡ NoM
 IsAnswerTo asked file (Some x) status = (status ≡ Refused x) ⊎ (status ≡ NoMemory)
 
 -- Completeness: if no count of faults rose, of the source of a job that is given a file, and of what the job writes to, and the limit is at
--- least the bound of the job, the first fault of the file alone decides.
+-- least the bound of the job, only the first fault of the file decides.
 abbrev pub IsComplete : List (List ℕ) → Option (List ℕ) → Tally → Tally → Tally → Tally → Tally → Tally → ℕ → Status → Type 0
 IsComplete words held source source' sink sink' text text' limit status =
     IfAsked words (λ asked. (IsOfFile asked.job → ¬ Rose source.faults source'.faults)

@@ -16,14 +16,14 @@ ghost use Rattle.fz_app.specs.Names.{JobNames};
 ghost use Rattle.fz_app.specs.Printed.{ReportsBy};
 ghost use Rattle.fz_app.specs.Promised.{IsPromised};
 
+use crate::host::Host;
 use crate::line::strict_line;
 use crate::run_job::begin;
 use fz_base::{Fault, Gate, Meter, Source, Stop, Text, ranges_law};
 use fz_round_trip::first_fault_law;
-use fz_strict::strict;
-use fz_verify::verify;
+use fz_strict::strict_decoded;
+use fz_verify::verify_decoded;
 use fz_words::Request;
-use std::alloc::Global;
 use std::thread::Threads;
 
 /// The bound of the buffers if one worker verifies or compares a file with headers of 256 blocks and tiles of 2^26 pixels: no
@@ -42,12 +42,10 @@ pub(crate) fn is_ample(limit: u64) -> bool
 ///
 /// If a row is rejected, `verify` decodes it again, after the lines of the HDUs before. No buffer exceeds the limit, which is ample.
 pub(crate) fn run_compared<R: Threads + Sync, S: Source, T: Text, G: Gate>(
-    rt: &R,
-    alloc: Global,
+    host: &Host<'_, R, G>,
     request: &Request<'_>,
     source: &mut S,
     text: &mut T,
-    gate: &G,
     meter: &mut Meter,
 ) -> Result<bool, Stop>
     requires job { request.now.job ≡ Verify }
@@ -66,10 +64,19 @@ pub(crate) fn run_compared<R: Threads + Sync, S: Source, T: Text, G: Gate>(
 {
     first_fault_law();
     ranges_law();
-    let (length, mut window) = begin(alloc, request, 1, source, meter)?;
-    let found = found_by(strict(rt, source, length, meter, &mut window, gate))?;
-    let decoded = found.is_ok();
-    let right = verify(rt, source, length, text, meter, &mut window, gate, decoded)?;
+    let (length, mut window) = begin(host.alloc, request, 1, source, meter)?;
+    let (answer, decoded) = strict_decoded(host.rt, source, length, meter, &mut window, host.gate);
+    let found = found_by(answer)?;
+    let right = verify_decoded(
+        host.rt,
+        source,
+        length,
+        text,
+        meter,
+        &mut window,
+        host.gate,
+        &decoded,
+    )?;
     let same = print_found(text, found)?;
     Ok(right & same)
 }

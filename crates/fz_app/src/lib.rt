@@ -1,10 +1,11 @@
 //! What the program does: the words of a command line become a job, the job a status, and the status
 //! a line and a number.
 //!
-//! Reading order: `status`, `run_job`, `comparing`, `patch_words`, `line`, `kind_name`.
+//! Reading order: `status`, `host`, `run_job`, `comparing`, `patch_words`, `line`, `kind_name`.
 #![tactic(auto)]
 
 mod comparing;
+mod host;
 mod kind_name;
 mod line;
 mod patch_words;

@@ -69,7 +69,7 @@ pub fn run_patch<R: Threads + Sync, S: Source, D: Store, T: Text>(
     patch_buffers_law();
     takings_law();
     let status = answer_to(rt, alloc, words, patch, store, meter);
-    // This call tells that the peak is within the limit.
+    // This call shows that the peak is within the limit.
     let _peak = meter.peak();
     report(text, &status);
     status

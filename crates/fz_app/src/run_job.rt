@@ -36,6 +36,7 @@ ghost use Rattle.fz_app.specs.Promises.{IsComplete, IsRestored, ReadsWithin};
 ghost use Rattle.fz_app.specs.declared.status.Status.TheVariants.{Usage as IsUsageStatus};
 
 use crate::comparing::{is_ample, run_compared};
+use crate::host::Host;
 use crate::line::{line_of, strict_line};
 use crate::status::{Status, ended, verified};
 use fz_base::{Gate, Meter, Sink, Source, Stop, Text, ranges_law, takings_law};
@@ -120,8 +121,9 @@ pub fn run<R: Threads + Sync, S: Source, K: Sink, T: Text, G: Gate>(
     // No taking passes the bound.
     buffers_law();
     takings_law();
-    let status = answer_to(rt, alloc, words, source, sink, text, gate, meter);
-    // This call tells that the peak is within the limit.
+    let host = Host { rt, gate, alloc };
+    let status = answer_to(&host, words, source, sink, text, meter);
+    // This call shows that the peak is within the limit.
     let _peak = meter.peak();
     report(text, &status);
     status
@@ -129,13 +131,11 @@ pub fn run<R: Threads + Sync, S: Source, K: Sink, T: Text, G: Gate>(
 
 // Does what the words ask for.
 fn answer_to<R: Threads + Sync, S: Source, K: Sink, T: Text, G: Gate>(
-    rt: &R,
-    alloc: Global,
+    host: &Host<'_, R, G>,
     words: &[String],
     source: &mut S,
     sink: &mut K,
     text: &mut T,
-    gate: &G,
     meter: &mut Meter,
 ) -> Status
     requires empty { IfSome (K.contents sink.old) (λ c. c ≡ []) }
@@ -157,20 +157,18 @@ fn answer_to<R: Threads + Sync, S: Source, K: Sink, T: Text, G: Gate>(
         (K.tally sink.old).names (K.tally sink.new).names answer)) }
 {
     match read_words(words) {
-        Ok(request) => run_request(rt, alloc, &request, source, sink, text, gate, meter),
+        Ok(request) => run_request(host, &request, source, sink, text, meter),
         Err(Usage) => Status::Usage,
     }
 }
 
 // Does what is asked for.
 fn run_request<R: Threads + Sync, S: Source, K: Sink, T: Text, G: Gate>(
-    rt: &R,
-    alloc: Global,
+    host: &Host<'_, R, G>,
     request: &Request<'_>,
     source: &mut S,
     sink: &mut K,
     text: &mut T,
-    gate: &G,
     meter: &mut Meter,
 ) -> Status
     requires lawful { IsLawful request.now }
@@ -193,32 +191,24 @@ fn run_request<R: Threads + Sync, S: Source, K: Sink, T: Text, G: Gate>(
         (K.tally sink.old).names (K.tally sink.new).names answer)) }
 {
     match &request.job {
-        Job::Pack(options) => ended(run_pack(
-            rt, alloc, request, options, source, sink, gate, meter,
-        )),
-        Job::Unpack => ended(run_unpack(rt, alloc, request, source, sink, gate, meter)),
-        Job::Verify => verified(run_verify(rt, alloc, request, source, text, gate, meter)),
+        Job::Pack(options) => ended(run_pack(host, request, options, source, sink, meter)),
+        Job::Unpack => ended(run_unpack(host, request, source, sink, meter)),
+        Job::Verify => verified(run_verify(host, request, source, text, meter)),
         Job::List => ended(run_list(request, source, text, meter)),
-        Job::Cut { hdu, sieve } => ended(run_cut(
-            rt, alloc, request, *hdu, sieve, source, sink, gate, meter,
-        )),
-        Job::Drill { rows } => ended(run_drill(rt, alloc, request, *rows, text, gate, meter)),
-        Job::Retile(options) => ended(run_retile(
-            rt, alloc, request, options, source, sink, gate, meter,
-        )),
+        Job::Cut { hdu, sieve } => ended(run_cut(host, request, *hdu, sieve, source, sink, meter)),
+        Job::Drill { rows } => ended(run_drill(host, request, *rows, text, meter)),
+        Job::Retile(options) => ended(run_retile(host, request, options, source, sink, meter)),
     }
 }
 
 // Packs the file IN into OUT.
 #[tactic(auto, using(crate::proofs::Before::before_the_job))]
 fn run_pack<R: Threads + Sync, S: Source, K: Sink, G: Gate>(
-    rt: &R,
-    alloc: Global,
+    host: &Host<'_, R, G>,
     request: &Request<'_>,
     options: &PackOptions,
     source: &mut S,
     sink: &mut K,
-    gate: &G,
     meter: &mut Meter,
 ) -> Result<(), Stop>
     requires job { request.now.job ≡ Pack options.now }
@@ -237,17 +227,17 @@ fn run_pack<R: Threads + Sync, S: Source, K: Sink, G: Gate>(
 {
     // What is packed comes back.
     round_trip_law();
-    let (length, mut window) = begin(alloc, request, request.workers, source, meter)?;
+    let (length, mut window) = begin(host.alloc, request, request.workers, source, meter)?;
     let output = request.output;
     pack(
-        rt,
+        host.rt,
         source,
         length,
         output,
         sink,
         meter,
         &mut window,
-        gate,
+        host.gate,
         options,
     )
 }
@@ -255,12 +245,10 @@ fn run_pack<R: Threads + Sync, S: Source, K: Sink, G: Gate>(
 // Unpacks the file IN into OUT.
 #[tactic(auto, using(crate::proofs::Before::before_the_job))]
 fn run_unpack<R: Threads + Sync, S: Source, K: Sink, G: Gate>(
-    rt: &R,
-    alloc: Global,
+    host: &Host<'_, R, G>,
     request: &Request<'_>,
     source: &mut S,
     sink: &mut K,
-    gate: &G,
     meter: &mut Meter,
 ) -> Result<(), Stop>
     requires job { request.now.job ≡ Unpack }
@@ -279,22 +267,29 @@ fn run_unpack<R: Threads + Sync, S: Source, K: Sink, G: Gate>(
     // What was packed comes back, and a packed file stands for one file.
     round_trip_law();
     one_file_law();
-    let (length, mut window) = begin(alloc, request, request.workers, source, meter)?;
+    let (length, mut window) = begin(host.alloc, request, request.workers, source, meter)?;
     let output = request.output;
-    unpack(rt, source, length, output, sink, meter, &mut window, gate)
+    unpack(
+        host.rt,
+        source,
+        length,
+        output,
+        sink,
+        meter,
+        &mut window,
+        host.gate,
+    )
 }
 
 // Cuts the picks of a sieve out of the file IN into OUT.
 #[tactic(auto, using(crate::proofs::Before::before_the_job))]
 fn run_cut<R: Threads + Sync, S: Source, K: Sink, G: Gate>(
-    rt: &R,
-    alloc: Global,
+    host: &Host<'_, R, G>,
     request: &Request<'_>,
     hdu: Option<u32>,
     sieve: &Sieve,
     source: &mut S,
     sink: &mut K,
-    gate: &G,
     meter: &mut Meter,
 ) -> Result<(), Stop>
     requires job { request.now.job ≡ Cut hdu sieve.now }
@@ -313,17 +308,17 @@ fn run_cut<R: Threads + Sync, S: Source, K: Sink, G: Gate>(
 {
     // A cutout is a slice of what the packed file stands for.
     slice_law(sieve);
-    let (length, mut window) = begin(alloc, request, request.workers, source, meter)?;
+    let (length, mut window) = begin(host.alloc, request, request.workers, source, meter)?;
     let output = request.output;
     cut(
-        rt,
+        host.rt,
         source,
         length,
         output,
         sink,
         meter,
         &mut window,
-        gate,
+        host.gate,
         hdu,
         sieve,
     )
@@ -332,13 +327,11 @@ fn run_cut<R: Threads + Sync, S: Source, K: Sink, G: Gate>(
 // Packs anew what the file IN stands for, into OUT.
 #[tactic(auto, using(crate::proofs::Before::before_the_job))]
 fn run_retile<R: Threads + Sync, S: Source, K: Sink, G: Gate>(
-    rt: &R,
-    alloc: Global,
+    host: &Host<'_, R, G>,
     request: &Request<'_>,
     options: &PackOptions,
     source: &mut S,
     sink: &mut K,
-    gate: &G,
     meter: &mut Meter,
 ) -> Result<(), Stop>
     requires job { request.now.job ≡ Retile options.now }
@@ -358,12 +351,12 @@ fn run_retile<R: Threads + Sync, S: Source, K: Sink, G: Gate>(
     // With one limit both meters are as one, and what is packed anew stands for the same file.
     first_fault_law();
     retile_law();
-    let (length, mut window) = begin(alloc, request, request.workers, source, meter)?;
+    let (length, mut window) = begin(host.alloc, request, request.workers, source, meter)?;
     let output = request.output;
     // The buffers in which the packed file is decoded, under the same limit.
-    let mut view = Meter::new(alloc, meter.limit());
+    let mut view = Meter::new(host.alloc, meter.limit());
     retile(
-        rt,
+        host.rt,
         source,
         length,
         output,
@@ -371,7 +364,7 @@ fn run_retile<R: Threads + Sync, S: Source, K: Sink, G: Gate>(
         meter,
         &mut view,
         &mut window,
-        gate,
+        host.gate,
         options,
     )
 }
@@ -379,12 +372,10 @@ fn run_retile<R: Threads + Sync, S: Source, K: Sink, G: Gate>(
 // Verifies the file IN, with one worker, and if that is asked, compares it with what `pack` writes. Answers whether no
 // sum is wrong and, if it was compared, the file is strict.
 fn run_verify<R: Threads + Sync, S: Source, T: Text, G: Gate>(
-    rt: &R,
-    alloc: Global,
+    host: &Host<'_, R, G>,
     request: &Request<'_>,
     source: &mut S,
     text: &mut T,
-    gate: &G,
     meter: &mut Meter,
 ) -> Result<bool, Stop>
     requires job { request.now.job ≡ Verify }
@@ -404,25 +395,23 @@ fn run_verify<R: Threads + Sync, S: Source, T: Text, G: Gate>(
     ranges_law();
     // A lower limit may be too low to compare a file, and not to verify it: then the lines of `verify` come first.
     if request.strict && is_ample(meter.limit().min(request.memory)) {
-        return run_compared(rt, alloc, request, source, text, gate, meter);
+        return run_compared(host, request, source, text, meter);
     }
-    let (length, mut window, right) = verify_sums(rt, alloc, request, source, text, gate, meter)?;
+    let (length, mut window, right) = verify_sums(host, request, source, text, meter)?;
     if !request.strict {
         return Ok(right);
     }
-    let same = compare(rt, source, length, text, meter, &mut window, gate)?;
+    let same = compare(host, source, length, text, meter, &mut window)?;
     Ok(right & same)
 }
 
 // Verifies the file IN. Answers its length, the window, which is empty again, and whether no sum is wrong.
 #[tactic(auto, using(crate::proofs::Before::before_the_job))]
 fn verify_sums<R: Threads + Sync, S: Source, T: Text, G: Gate>(
-    rt: &R,
-    alloc: Global,
+    host: &Host<'_, R, G>,
     request: &Request<'_>,
     source: &mut S,
     text: &mut T,
-    gate: &G,
     meter: &mut Meter,
 ) -> Result<(u64, Window, bool), Stop>
     requires job { request.now.job ≡ Verify }
@@ -441,20 +430,19 @@ fn verify_sums<R: Threads + Sync, S: Source, T: Text, G: Gate>(
     ensures live { IfOk result (λ done. meter.new.live ≡ 0) }
     ensures held { S.held source.new ≡ S.held source.old }
 {
-    let (length, mut window) = begin(alloc, request, 1, source, meter)?;
-    let right = verify(rt, source, length, text, meter, &mut window, gate, false)?;
+    let (length, mut window) = begin(host.alloc, request, 1, source, meter)?;
+    let right = verify(host.rt, source, length, text, meter, &mut window, host.gate)?;
     Ok((length, window, right))
 }
 
 // Compares the file with what `pack` writes, and prints the line that says whether it is strict.
 fn compare<R: Threads + Sync, S: Source, T: Text, G: Gate>(
-    rt: &R,
+    host: &Host<'_, R, G>,
     source: &mut S,
     length: u64,
     text: &mut T,
     meter: &mut Meter,
     window: &mut Window,
-    gate: &G,
 ) -> Result<bool, Stop>
     requires attached { S.attached source.old ≡ Some length }
     requires nothing_live { meter.old.live ≡ 0 }
@@ -483,7 +471,7 @@ fn compare<R: Threads + Sync, S: Source, T: Text, G: Gate>(
     ensures told_ranges { StaysTold (S.ranges source.old) (S.ranges source.new) }
     ensures told_contents { StaysTold (T.contents text.old) (T.contents text.new) }
 {
-    let same = strict(rt, source, length, meter, window, gate)?;
+    let same = strict(host.rt, source, length, meter, window, host.gate)?;
     text.put(strict_line(same)).map_err(Stop::writing)?;
     Ok(same)
 }
@@ -512,12 +500,10 @@ fn run_list<S: Source, T: Text>(
 
 // Drills a file of so many rows, in memory: nothing is attached.
 fn run_drill<R: Threads + Sync, T: Text, G: Gate>(
-    rt: &R,
-    alloc: Global,
+    host: &Host<'_, R, G>,
     request: &Request<'_>,
     rows: u32,
     text: &mut T,
-    gate: &G,
     meter: &mut Meter,
 ) -> Result<(), Stop>
     requires job { request.now.job ≡ Drill rows }
@@ -531,7 +517,7 @@ fn run_drill<R: Threads + Sync, T: Text, G: Gate>(
 {
     let memory = request.memory;
     meter.narrow(memory);
-    drill(rt, alloc, rows, text, meter, gate)
+    drill(host.rt, host.alloc, rows, text, meter, host.gate)
 }
 
 /// What comes before each job that works on tiles: IN is attached, and there is an empty window for so many workers. Answers the
@@ -583,7 +569,7 @@ pub(crate) fn attach_by_name<S: Source>(source: &mut S, name: &str) -> Result<u6
     source.attach(name).map_err(Stop::reading)
 }
 
-/// Puts the line of the status, if it has one. If that fails, nothing else can be told.
+/// Puts the line of the status, if it has one. If that fails, nothing else can be reported.
 pub(crate) fn report<T: Text>(text: &mut T, status: &Status)
     ensures line { GotLine (status_line status.now) (T.contents text.old) (T.contents text.new) (T.tally text.old) (T.tally text.new) }
     ensures counts { CountsKept (T.tally text.old) (T.tally text.new) }

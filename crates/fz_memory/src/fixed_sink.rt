@@ -7,7 +7,7 @@ ghost use Rattle.fz_memory.specs.Memory.{without_faults};
 use fz_base::{Failed, MemSink, Sink};
 use std::alloc::Global;
 
-/// A sink over bytes in memory of which no call has a fault: it fails only for want of memory. It tells its contents.
+/// A sink over bytes in memory of which no call has a fault: it fails only for want of memory. It shows its contents.
 #[derive(Drop)]
 pub(crate) struct FixedSink {
     sink: MemSink,

@@ -75,21 +75,23 @@ returns-in_err-found-clause-promised g c = λ sink empty.
     let none : c.begin.new.meter.peak ≡ 0 = search rules in
     let opened : Tally = g.S.Source.tally c.begin.new.source in
     let tally : nameless opened ≡ nameless before = c.in_ok-length.ensures.cause.ok in
-    let after : Tally = g.S.Source.tally c.strict.new.source in
-    let mid : Ends = ends (g.S.Source.held c.strict.new.source) (g.S.Source.ranges c.strict.new.source) (nameless after) sink text c.strict.new.meter in
-    let compared : StrictSays told limit old mid c.strict.result = record {
-      right = rw held at c.strict.ensures.right;
-      first_fault = rw held at c.strict.ensures.first_fault;
-      cause = strict_from before opened after tally told limit c.strict.result (rw (held, most) at c.strict.ensures.cause);
-      live = c.strict.ensures.buffers.live;
-      limit_is = c.strict.ensures.buffers.limit ∙ most;
-      peak = rw (held, none) at c.strict.ensures.buffers.peak;
-      most = rw none at c.strict.ensures.buffers.most;
-      exact = rw (held, none) at c.strict.ensures.exact_peak;
-      held_is = c.strict.ensures.kept.held_is ∙ held;
-      touched = rw (held, ranges) at c.strict.ensures.touched;
-      told_ranges = rw ranges at c.strict.ensures.told;
-      source_counts = kept_from before opened after tally c.strict.ensures.kept.source_counts;
+    let after : Tally = g.S.Source.tally c.strict_decoded-answer.new.source in
+    let mid : Ends =
+    ends (g.S.Source.held c.strict_decoded-answer.new.source) (g.S.Source.ranges c.strict_decoded-answer.new.source) (nameless after) sink text
+    c.strict_decoded-answer.new.meter in
+    let compared : StrictSays told limit old mid c.strict_decoded-answer.result.0 = record {
+      right = rw held at c.strict_decoded-answer.ensures.right;
+      first_fault = rw held at c.strict_decoded-answer.ensures.first_fault;
+      cause = strict_from before opened after tally told limit c.strict_decoded-answer.result.0 (rw (held, most) at c.strict_decoded-answer.ensures.cause);
+      live = c.strict_decoded-answer.ensures.buffers.live;
+      limit_is = c.strict_decoded-answer.ensures.buffers.limit ∙ most;
+      peak = rw (held, none) at c.strict_decoded-answer.ensures.buffers.peak;
+      most = rw none at c.strict_decoded-answer.ensures.buffers.most;
+      exact = rw (held, none) at c.strict_decoded-answer.ensures.exact_peak;
+      held_is = c.strict_decoded-answer.ensures.kept.held_is ∙ held;
+      touched = rw (held, ranges) at c.strict_decoded-answer.ensures.touched;
+      told_ranges = rw ranges at c.strict_decoded-answer.ensures.told;
+      source_counts = kept_from before opened after tally c.strict_decoded-answer.ensures.kept.source_counts;
     } in
     let stop : Stop = c.in_err-found.field-0.0 in
     let stopped : c.from_residual-in_err-found.result ≡ Err stop = search rules in
@@ -105,7 +107,8 @@ returns-in_err-found-clause-promised g c = λ sink empty.
       told_ranges = compared.told_ranges;
       source_counts = compared.source_counts;
     } in
-    let why : StoppedByCoding (nameless before) (nameless after) stop = stop_of told (nameless before) (nameless after) limit c.strict.result stop c.requires.ample compared.cause (sym c.found_by.ensures ∙ is) in
+    let why : StoppedByCoding (nameless before) (nameless after) stop =
+    stop_of told (nameless before) (nameless after) limit c.strict_decoded-answer.result.0 stop c.requires.ample compared.cause (sym c.found_by.ensures ∙ is) in
     subst (λ (r : Result Bool Stop). IsPromised (asked_of c.args.request.now) old mid (done_of r)) (sym stopped)
     (subst (λ (a : Asked). IsPromised a old mid (Err stop)) (sym asks) (before_promised c.first_fault_law.ensures.only W memory input output old mid refl empty stop c.requires.ample says why))
 
@@ -130,56 +133,64 @@ returns-in_err-right-clause-promised g c = λ sink empty.
     let none : c.begin.new.meter.peak ≡ 0 = search rules in
     let opened : Tally = g.S.Source.tally c.begin.new.source in
     let tally : nameless opened ≡ nameless before = c.in_ok-length.ensures.cause.ok in
-    let after : Tally = g.S.Source.tally c.strict.new.source in
-    let mid : Ends = ends (g.S.Source.held c.strict.new.source) (g.S.Source.ranges c.strict.new.source) (nameless after) sink text c.strict.new.meter in
-    let compared : StrictSays told limit old mid c.strict.result = record {
-      right = rw held at c.strict.ensures.right;
-      first_fault = rw held at c.strict.ensures.first_fault;
-      cause = strict_from before opened after tally told limit c.strict.result (rw (held, most) at c.strict.ensures.cause);
-      live = c.strict.ensures.buffers.live;
-      limit_is = c.strict.ensures.buffers.limit ∙ most;
-      peak = rw (held, none) at c.strict.ensures.buffers.peak;
-      most = rw none at c.strict.ensures.buffers.most;
-      exact = rw (held, none) at c.strict.ensures.exact_peak;
-      held_is = c.strict.ensures.kept.held_is ∙ held;
-      touched = rw (held, ranges) at c.strict.ensures.touched;
-      told_ranges = rw ranges at c.strict.ensures.told;
-      source_counts = kept_from before opened after tally c.strict.ensures.kept.source_counts;
+    let after : Tally = g.S.Source.tally c.strict_decoded-answer.new.source in
+    let mid : Ends =
+    ends (g.S.Source.held c.strict_decoded-answer.new.source) (g.S.Source.ranges c.strict_decoded-answer.new.source) (nameless after) sink text
+    c.strict_decoded-answer.new.meter in
+    let compared : StrictSays told limit old mid c.strict_decoded-answer.result.0 = record {
+      right = rw held at c.strict_decoded-answer.ensures.right;
+      first_fault = rw held at c.strict_decoded-answer.ensures.first_fault;
+      cause = strict_from before opened after tally told limit c.strict_decoded-answer.result.0 (rw (held, most) at c.strict_decoded-answer.ensures.cause);
+      live = c.strict_decoded-answer.ensures.buffers.live;
+      limit_is = c.strict_decoded-answer.ensures.buffers.limit ∙ most;
+      peak = rw (held, none) at c.strict_decoded-answer.ensures.buffers.peak;
+      most = rw none at c.strict_decoded-answer.ensures.buffers.most;
+      exact = rw (held, none) at c.strict_decoded-answer.ensures.exact_peak;
+      held_is = c.strict_decoded-answer.ensures.kept.held_is ∙ held;
+      touched = rw (held, ranges) at c.strict_decoded-answer.ensures.touched;
+      told_ranges = rw ranges at c.strict_decoded-answer.ensures.told;
+      source_counts = kept_from before opened after tally c.strict_decoded-answer.ensures.kept.source_counts;
     } in
     let found : Result Bool Fault = c.in_ok-found.found in
     let is : c.found_by.result ≡ Ok found = search rules in
-    let finds : found_of c.strict.result ≡ Ok found = sym c.found_by.ensures ∙ is in
-    let there : g.S.Source.held c.strict.new.source ≡ told = c.strict.ensures.kept.held_is ∙ held in
-    let same : c.strict.new.meter.limit ≡ limit = c.strict.ensures.buffers.limit ∙ most in
-    let quiet : nameless after ≡ nameless before = ap nameless (found_quiet (g.S.Source.held c.begin.new.source) opened after c.begin.new.meter.limit c.strict.result found c.strict.ensures.cause finds) ∙ tally in
-    let last : Tally = g.S.Source.tally c.verify.new.source in
-    let lines : TextIs = text_is (g.T.Text.contents c.verify.new.text) (g.T.Text.tally c.verify.new.text) in
-    let new : Ends = ends (g.S.Source.held c.verify.new.source) (g.S.Source.ranges c.verify.new.source) (nameless last) sink lines c.verify.new.meter in
-    let says : VerifySays told limit old mid new c.verify.result = record {
-      lines = rw there at c.verify.ensures.lines;
-      first_fault = rw there at c.verify.ensures.first_fault;
-      answered = answers_from before after last quiet Verify told text.tally lines.tally limit 1 c.verify.result (rw (there, same) at c.verify.ensures.answered);
-      cause = cause_from before after last quiet Verify told text.tally lines.tally limit 1 c.verify.result (rw (there, same) at c.verify.ensures.cause);
-      silent = rw (there, same) at c.verify.ensures.silent;
-      live = c.verify.ensures.buffers.live;
-      limit_is = c.verify.ensures.buffers.limit ∙ same;
-      peak = rw there at c.verify.ensures.buffers.peak;
-      most = c.verify.ensures.buffers.most;
-      exact = rw there at c.verify.ensures.exact_peak;
-      held_is = c.verify.ensures.kept.held_is ∙ there;
-      touched = rw there at c.verify.ensures.touched;
-      told_ranges = c.verify.ensures.told_ranges;
-      told = c.verify.ensures.told_contents;
-      source_counts = kept_from before after last quiet c.verify.ensures.kept.source_counts;
-      text_counts = c.verify.ensures.kept.sink_counts;
+    let finds : found_of c.strict_decoded-answer.result.0 ≡ Ok found = sym c.found_by.ensures ∙ is in
+    let there : g.S.Source.held c.strict_decoded-answer.new.source ≡ told = c.strict_decoded-answer.ensures.kept.held_is ∙ held in
+    let same : c.strict_decoded-answer.new.meter.limit ≡ limit = c.strict_decoded-answer.ensures.buffers.limit ∙ most in
+    let quiet : nameless after ≡ nameless before =
+    ap nameless (found_quiet (g.S.Source.held c.begin.new.source) opened after c.begin.new.meter.limit c.strict_decoded-answer.result.0 found
+    c.strict_decoded-answer.ensures.cause finds) ∙ tally in
+    let last : Tally = g.S.Source.tally c.verify_decoded.new.source in
+    let lines : TextIs = text_is (g.T.Text.contents c.verify_decoded.new.text) (g.T.Text.tally c.verify_decoded.new.text) in
+    let new : Ends =
+    ends (g.S.Source.held c.verify_decoded.new.source) (g.S.Source.ranges c.verify_decoded.new.source) (nameless last) sink lines
+    c.verify_decoded.new.meter in
+    let says : VerifySays told limit old mid new c.verify_decoded.result = record {
+      lines = rw there at c.verify_decoded.ensures.lines;
+      first_fault = rw there at c.verify_decoded.ensures.first_fault;
+      answered = answers_from before after last quiet Verify told text.tally lines.tally limit 1 c.verify_decoded.result
+          (rw (there, same) at c.verify_decoded.ensures.answered);
+      cause = cause_from before after last quiet Verify told text.tally lines.tally limit 1 c.verify_decoded.result
+          (rw (there, same) at c.verify_decoded.ensures.cause);
+      silent = rw (there, same) at c.verify_decoded.ensures.silent;
+      live = c.verify_decoded.ensures.buffers.live;
+      limit_is = c.verify_decoded.ensures.buffers.limit ∙ same;
+      peak = rw there at c.verify_decoded.ensures.buffers.peak;
+      most = c.verify_decoded.ensures.buffers.most;
+      exact = rw there at c.verify_decoded.ensures.exact_peak;
+      held_is = c.verify_decoded.ensures.kept.held_is ∙ there;
+      touched = rw there at c.verify_decoded.ensures.touched;
+      told_ranges = c.verify_decoded.ensures.told_ranges;
+      told = c.verify_decoded.ensures.told_contents;
+      source_counts = kept_from before after last quiet c.verify_decoded.ensures.kept.source_counts;
+      text_counts = c.verify_decoded.ensures.kept.sink_counts;
     } in
     let stop : Stop = c.in_err-right.field-0.0 in
     let stopped : c.from_residual-in_err-right.result ≡ Err stop = search rules in
-    let ends_so : c.verify.result ≡ Err stop = search rules in
+    let ends_so : c.verify_decoded.result ≡ Err stop = search rules in
     let verified : VerifySays told limit old mid new (Err stop) = subst (λ (r : Result Bool Stop). VerifySays told limit old mid new r) ends_so says in
     subst (λ (r : Result Bool Stop). IsPromised (asked_of c.args.request.now) old new (done_of r)) (sym stopped)
     (subst (λ (a : Asked). IsPromised a old new (Err stop)) (sym asks) (stop_promised c.first_fault_law.ensures.only W memory input output old new refl empty Bool stop
-    (stopped_says c.ranges_law.ensures.join limit W old mid new c.requires.ample c.strict.result compared stop verified)))
+    (stopped_says c.ranges_law.ensures.join limit W old mid new c.requires.ample c.strict_decoded-answer.result.0 compared stop verified)))
 
 -- ---- and verified
 
@@ -202,51 +213,59 @@ returns-in_err-same-clause-promised g c = λ sink empty.
     let none : c.begin.new.meter.peak ≡ 0 = search rules in
     let opened : Tally = g.S.Source.tally c.begin.new.source in
     let tally : nameless opened ≡ nameless before = c.in_ok-length.ensures.cause.ok in
-    let after : Tally = g.S.Source.tally c.strict.new.source in
-    let mid : Ends = ends (g.S.Source.held c.strict.new.source) (g.S.Source.ranges c.strict.new.source) (nameless after) sink text c.strict.new.meter in
-    let compared : StrictSays told limit old mid c.strict.result = record {
-      right = rw held at c.strict.ensures.right;
-      first_fault = rw held at c.strict.ensures.first_fault;
-      cause = strict_from before opened after tally told limit c.strict.result (rw (held, most) at c.strict.ensures.cause);
-      live = c.strict.ensures.buffers.live;
-      limit_is = c.strict.ensures.buffers.limit ∙ most;
-      peak = rw (held, none) at c.strict.ensures.buffers.peak;
-      most = rw none at c.strict.ensures.buffers.most;
-      exact = rw (held, none) at c.strict.ensures.exact_peak;
-      held_is = c.strict.ensures.kept.held_is ∙ held;
-      touched = rw (held, ranges) at c.strict.ensures.touched;
-      told_ranges = rw ranges at c.strict.ensures.told;
-      source_counts = kept_from before opened after tally c.strict.ensures.kept.source_counts;
+    let after : Tally = g.S.Source.tally c.strict_decoded-answer.new.source in
+    let mid : Ends =
+    ends (g.S.Source.held c.strict_decoded-answer.new.source) (g.S.Source.ranges c.strict_decoded-answer.new.source) (nameless after) sink text
+    c.strict_decoded-answer.new.meter in
+    let compared : StrictSays told limit old mid c.strict_decoded-answer.result.0 = record {
+      right = rw held at c.strict_decoded-answer.ensures.right;
+      first_fault = rw held at c.strict_decoded-answer.ensures.first_fault;
+      cause = strict_from before opened after tally told limit c.strict_decoded-answer.result.0 (rw (held, most) at c.strict_decoded-answer.ensures.cause);
+      live = c.strict_decoded-answer.ensures.buffers.live;
+      limit_is = c.strict_decoded-answer.ensures.buffers.limit ∙ most;
+      peak = rw (held, none) at c.strict_decoded-answer.ensures.buffers.peak;
+      most = rw none at c.strict_decoded-answer.ensures.buffers.most;
+      exact = rw (held, none) at c.strict_decoded-answer.ensures.exact_peak;
+      held_is = c.strict_decoded-answer.ensures.kept.held_is ∙ held;
+      touched = rw (held, ranges) at c.strict_decoded-answer.ensures.touched;
+      told_ranges = rw ranges at c.strict_decoded-answer.ensures.told;
+      source_counts = kept_from before opened after tally c.strict_decoded-answer.ensures.kept.source_counts;
     } in
     let found : Result Bool Fault = c.in_ok-found.found in
     let is : c.found_by.result ≡ Ok found = search rules in
-    let finds : found_of c.strict.result ≡ Ok found = sym c.found_by.ensures ∙ is in
-    let there : g.S.Source.held c.strict.new.source ≡ told = c.strict.ensures.kept.held_is ∙ held in
-    let same : c.strict.new.meter.limit ≡ limit = c.strict.ensures.buffers.limit ∙ most in
-    let quiet : nameless after ≡ nameless before = ap nameless (found_quiet (g.S.Source.held c.begin.new.source) opened after c.begin.new.meter.limit c.strict.result found c.strict.ensures.cause finds) ∙ tally in
-    let last : Tally = g.S.Source.tally c.verify.new.source in
-    let lines : TextIs = text_is (g.T.Text.contents c.verify.new.text) (g.T.Text.tally c.verify.new.text) in
-    let new : Ends = ends (g.S.Source.held c.verify.new.source) (g.S.Source.ranges c.verify.new.source) (nameless last) sink lines c.verify.new.meter in
-    let says : VerifySays told limit old mid new c.verify.result = record {
-      lines = rw there at c.verify.ensures.lines;
-      first_fault = rw there at c.verify.ensures.first_fault;
-      answered = answers_from before after last quiet Verify told text.tally lines.tally limit 1 c.verify.result (rw (there, same) at c.verify.ensures.answered);
-      cause = cause_from before after last quiet Verify told text.tally lines.tally limit 1 c.verify.result (rw (there, same) at c.verify.ensures.cause);
-      silent = rw (there, same) at c.verify.ensures.silent;
-      live = c.verify.ensures.buffers.live;
-      limit_is = c.verify.ensures.buffers.limit ∙ same;
-      peak = rw there at c.verify.ensures.buffers.peak;
-      most = c.verify.ensures.buffers.most;
-      exact = rw there at c.verify.ensures.exact_peak;
-      held_is = c.verify.ensures.kept.held_is ∙ there;
-      touched = rw there at c.verify.ensures.touched;
-      told_ranges = c.verify.ensures.told_ranges;
-      told = c.verify.ensures.told_contents;
-      source_counts = kept_from before after last quiet c.verify.ensures.kept.source_counts;
-      text_counts = c.verify.ensures.kept.sink_counts;
+    let finds : found_of c.strict_decoded-answer.result.0 ≡ Ok found = sym c.found_by.ensures ∙ is in
+    let there : g.S.Source.held c.strict_decoded-answer.new.source ≡ told = c.strict_decoded-answer.ensures.kept.held_is ∙ held in
+    let same : c.strict_decoded-answer.new.meter.limit ≡ limit = c.strict_decoded-answer.ensures.buffers.limit ∙ most in
+    let quiet : nameless after ≡ nameless before =
+    ap nameless (found_quiet (g.S.Source.held c.begin.new.source) opened after c.begin.new.meter.limit c.strict_decoded-answer.result.0 found
+    c.strict_decoded-answer.ensures.cause finds) ∙ tally in
+    let last : Tally = g.S.Source.tally c.verify_decoded.new.source in
+    let lines : TextIs = text_is (g.T.Text.contents c.verify_decoded.new.text) (g.T.Text.tally c.verify_decoded.new.text) in
+    let new : Ends =
+    ends (g.S.Source.held c.verify_decoded.new.source) (g.S.Source.ranges c.verify_decoded.new.source) (nameless last) sink lines
+    c.verify_decoded.new.meter in
+    let says : VerifySays told limit old mid new c.verify_decoded.result = record {
+      lines = rw there at c.verify_decoded.ensures.lines;
+      first_fault = rw there at c.verify_decoded.ensures.first_fault;
+      answered = answers_from before after last quiet Verify told text.tally lines.tally limit 1 c.verify_decoded.result
+          (rw (there, same) at c.verify_decoded.ensures.answered);
+      cause = cause_from before after last quiet Verify told text.tally lines.tally limit 1 c.verify_decoded.result
+          (rw (there, same) at c.verify_decoded.ensures.cause);
+      silent = rw (there, same) at c.verify_decoded.ensures.silent;
+      live = c.verify_decoded.ensures.buffers.live;
+      limit_is = c.verify_decoded.ensures.buffers.limit ∙ same;
+      peak = rw there at c.verify_decoded.ensures.buffers.peak;
+      most = c.verify_decoded.ensures.buffers.most;
+      exact = rw there at c.verify_decoded.ensures.exact_peak;
+      held_is = c.verify_decoded.ensures.kept.held_is ∙ there;
+      touched = rw there at c.verify_decoded.ensures.touched;
+      told_ranges = c.verify_decoded.ensures.told_ranges;
+      told = c.verify_decoded.ensures.told_contents;
+      source_counts = kept_from before after last quiet c.verify_decoded.ensures.kept.source_counts;
+      text_counts = c.verify_decoded.ensures.kept.sink_counts;
     } in
     let right : Bool = c.in_ok-right.right in
-    let ends_so : c.verify.result ≡ Ok right = search rules in
+    let ends_so : c.verify_decoded.result ≡ Ok right = search rules in
     let verified : VerifySays told limit old mid new (Ok right) = subst (λ (r : Result Bool Stop). VerifySays told limit old mid new r) ends_so says in
     let stop : Stop = c.in_err-same.field-0.0 in
     let stopped : c.from_residual-in_err-same.result ≡ Err stop = search rules in
@@ -263,7 +282,9 @@ returns-in_err-same-clause-promised g c = λ sink empty.
       counts = c.in_err-same.ensures.counts;
     } in
     subst (λ (r : Result Bool Stop). IsPromised (asked_of c.args.request.now) old (at_last new line) (done_of r)) (sym stopped)
-    (subst (λ (a : Asked). IsPromised a old (at_last new line) (Err stop)) (sym asks) (last_promised c.first_fault_law.ensures.only c.ranges_law.ensures.join W memory input output old mid new line refl empty c.requires.ample c.strict.result compared found finds right c.in_ok-right.ensures.reported verified (Err stop) prints))
+    (subst (λ (a : Asked). IsPromised a old (at_last new line) (Err stop)) (sym asks)
+    (last_promised c.first_fault_law.ensures.only c.ranges_law.ensures.join W memory input output old mid new line refl empty c.requires.ample
+    c.strict_decoded-answer.result.0 compared found finds right c.in_ok-right.ensures.reported verified (Err stop) prints))
 
 pub returns-clause-promised : goal.returns-clause-promised
 returns-clause-promised g c = λ sink empty.
@@ -284,51 +305,59 @@ returns-clause-promised g c = λ sink empty.
     let none : c.begin.new.meter.peak ≡ 0 = search rules in
     let opened : Tally = g.S.Source.tally c.begin.new.source in
     let tally : nameless opened ≡ nameless before = c.in_ok-length.ensures.cause.ok in
-    let after : Tally = g.S.Source.tally c.strict.new.source in
-    let mid : Ends = ends (g.S.Source.held c.strict.new.source) (g.S.Source.ranges c.strict.new.source) (nameless after) sink text c.strict.new.meter in
-    let compared : StrictSays told limit old mid c.strict.result = record {
-      right = rw held at c.strict.ensures.right;
-      first_fault = rw held at c.strict.ensures.first_fault;
-      cause = strict_from before opened after tally told limit c.strict.result (rw (held, most) at c.strict.ensures.cause);
-      live = c.strict.ensures.buffers.live;
-      limit_is = c.strict.ensures.buffers.limit ∙ most;
-      peak = rw (held, none) at c.strict.ensures.buffers.peak;
-      most = rw none at c.strict.ensures.buffers.most;
-      exact = rw (held, none) at c.strict.ensures.exact_peak;
-      held_is = c.strict.ensures.kept.held_is ∙ held;
-      touched = rw (held, ranges) at c.strict.ensures.touched;
-      told_ranges = rw ranges at c.strict.ensures.told;
-      source_counts = kept_from before opened after tally c.strict.ensures.kept.source_counts;
+    let after : Tally = g.S.Source.tally c.strict_decoded-answer.new.source in
+    let mid : Ends =
+    ends (g.S.Source.held c.strict_decoded-answer.new.source) (g.S.Source.ranges c.strict_decoded-answer.new.source) (nameless after) sink text
+    c.strict_decoded-answer.new.meter in
+    let compared : StrictSays told limit old mid c.strict_decoded-answer.result.0 = record {
+      right = rw held at c.strict_decoded-answer.ensures.right;
+      first_fault = rw held at c.strict_decoded-answer.ensures.first_fault;
+      cause = strict_from before opened after tally told limit c.strict_decoded-answer.result.0 (rw (held, most) at c.strict_decoded-answer.ensures.cause);
+      live = c.strict_decoded-answer.ensures.buffers.live;
+      limit_is = c.strict_decoded-answer.ensures.buffers.limit ∙ most;
+      peak = rw (held, none) at c.strict_decoded-answer.ensures.buffers.peak;
+      most = rw none at c.strict_decoded-answer.ensures.buffers.most;
+      exact = rw (held, none) at c.strict_decoded-answer.ensures.exact_peak;
+      held_is = c.strict_decoded-answer.ensures.kept.held_is ∙ held;
+      touched = rw (held, ranges) at c.strict_decoded-answer.ensures.touched;
+      told_ranges = rw ranges at c.strict_decoded-answer.ensures.told;
+      source_counts = kept_from before opened after tally c.strict_decoded-answer.ensures.kept.source_counts;
     } in
     let found : Result Bool Fault = c.in_ok-found.found in
     let is : c.found_by.result ≡ Ok found = search rules in
-    let finds : found_of c.strict.result ≡ Ok found = sym c.found_by.ensures ∙ is in
-    let there : g.S.Source.held c.strict.new.source ≡ told = c.strict.ensures.kept.held_is ∙ held in
-    let same : c.strict.new.meter.limit ≡ limit = c.strict.ensures.buffers.limit ∙ most in
-    let quiet : nameless after ≡ nameless before = ap nameless (found_quiet (g.S.Source.held c.begin.new.source) opened after c.begin.new.meter.limit c.strict.result found c.strict.ensures.cause finds) ∙ tally in
-    let last : Tally = g.S.Source.tally c.verify.new.source in
-    let lines : TextIs = text_is (g.T.Text.contents c.verify.new.text) (g.T.Text.tally c.verify.new.text) in
-    let new : Ends = ends (g.S.Source.held c.verify.new.source) (g.S.Source.ranges c.verify.new.source) (nameless last) sink lines c.verify.new.meter in
-    let says : VerifySays told limit old mid new c.verify.result = record {
-      lines = rw there at c.verify.ensures.lines;
-      first_fault = rw there at c.verify.ensures.first_fault;
-      answered = answers_from before after last quiet Verify told text.tally lines.tally limit 1 c.verify.result (rw (there, same) at c.verify.ensures.answered);
-      cause = cause_from before after last quiet Verify told text.tally lines.tally limit 1 c.verify.result (rw (there, same) at c.verify.ensures.cause);
-      silent = rw (there, same) at c.verify.ensures.silent;
-      live = c.verify.ensures.buffers.live;
-      limit_is = c.verify.ensures.buffers.limit ∙ same;
-      peak = rw there at c.verify.ensures.buffers.peak;
-      most = c.verify.ensures.buffers.most;
-      exact = rw there at c.verify.ensures.exact_peak;
-      held_is = c.verify.ensures.kept.held_is ∙ there;
-      touched = rw there at c.verify.ensures.touched;
-      told_ranges = c.verify.ensures.told_ranges;
-      told = c.verify.ensures.told_contents;
-      source_counts = kept_from before after last quiet c.verify.ensures.kept.source_counts;
-      text_counts = c.verify.ensures.kept.sink_counts;
+    let finds : found_of c.strict_decoded-answer.result.0 ≡ Ok found = sym c.found_by.ensures ∙ is in
+    let there : g.S.Source.held c.strict_decoded-answer.new.source ≡ told = c.strict_decoded-answer.ensures.kept.held_is ∙ held in
+    let same : c.strict_decoded-answer.new.meter.limit ≡ limit = c.strict_decoded-answer.ensures.buffers.limit ∙ most in
+    let quiet : nameless after ≡ nameless before =
+    ap nameless (found_quiet (g.S.Source.held c.begin.new.source) opened after c.begin.new.meter.limit c.strict_decoded-answer.result.0 found
+    c.strict_decoded-answer.ensures.cause finds) ∙ tally in
+    let last : Tally = g.S.Source.tally c.verify_decoded.new.source in
+    let lines : TextIs = text_is (g.T.Text.contents c.verify_decoded.new.text) (g.T.Text.tally c.verify_decoded.new.text) in
+    let new : Ends =
+    ends (g.S.Source.held c.verify_decoded.new.source) (g.S.Source.ranges c.verify_decoded.new.source) (nameless last) sink lines
+    c.verify_decoded.new.meter in
+    let says : VerifySays told limit old mid new c.verify_decoded.result = record {
+      lines = rw there at c.verify_decoded.ensures.lines;
+      first_fault = rw there at c.verify_decoded.ensures.first_fault;
+      answered = answers_from before after last quiet Verify told text.tally lines.tally limit 1 c.verify_decoded.result
+          (rw (there, same) at c.verify_decoded.ensures.answered);
+      cause = cause_from before after last quiet Verify told text.tally lines.tally limit 1 c.verify_decoded.result
+          (rw (there, same) at c.verify_decoded.ensures.cause);
+      silent = rw (there, same) at c.verify_decoded.ensures.silent;
+      live = c.verify_decoded.ensures.buffers.live;
+      limit_is = c.verify_decoded.ensures.buffers.limit ∙ same;
+      peak = rw there at c.verify_decoded.ensures.buffers.peak;
+      most = c.verify_decoded.ensures.buffers.most;
+      exact = rw there at c.verify_decoded.ensures.exact_peak;
+      held_is = c.verify_decoded.ensures.kept.held_is ∙ there;
+      touched = rw there at c.verify_decoded.ensures.touched;
+      told_ranges = c.verify_decoded.ensures.told_ranges;
+      told = c.verify_decoded.ensures.told_contents;
+      source_counts = kept_from before after last quiet c.verify_decoded.ensures.kept.source_counts;
+      text_counts = c.verify_decoded.ensures.kept.sink_counts;
     } in
     let right : Bool = c.in_ok-right.right in
-    let ends_so : c.verify.result ≡ Ok right = search rules in
+    let ends_so : c.verify_decoded.result ≡ Ok right = search rules in
     let verified : VerifySays told limit old mid new (Ok right) = subst (λ (r : Result Bool Stop). VerifySays told limit old mid new r) ends_so says in
     let strict : Bool = c.in_ok-same.same in
     let line : TextIs = text_is (g.T.Text.contents c.print_found.new.text) (g.T.Text.tally c.print_found.new.text) in
@@ -343,14 +372,17 @@ returns-clause-promised g c = λ sink empty.
       told = c.in_ok-same.ensures.told;
       counts = c.in_ok-same.ensures.counts;
     } in
-    subst (λ (a : Asked). IsPromised a old (at_last new line) (Ok tt)) (sym asks) (last_promised c.first_fault_law.ensures.only c.ranges_law.ensures.join W memory input output old mid new line refl empty c.requires.ample c.strict.result compared found finds right c.in_ok-right.ensures.reported verified (Ok strict) prints)
+    subst (λ (a : Asked). IsPromised a old (at_last new line) (Ok tt)) (sym asks)
+    (last_promised c.first_fault_law.ensures.only c.ranges_law.ensures.join W memory input output old mid new line refl empty c.requires.ample
+    c.strict_decoded-answer.result.0 compared found finds right c.in_ok-right.ensures.reported verified (Ok strict) prints)
 
 pub returns-clause-right : goal.returns-clause-right
 returns-clause-right g c =
     let told : Option (List ℕ) = g.S.Source.held c.args.source.now in
     let held : g.S.Source.held c.begin.new.source ≡ told = c.begin.ensures.held in
-    let there : g.S.Source.held c.strict.new.source ≡ told = c.strict.ensures.kept.held_is ∙ held in
+    let there : g.S.Source.held c.strict_decoded-answer.new.source ≡ told = c.strict_decoded-answer.ensures.kept.held_is ∙ held in
     let found : Result Bool Fault = c.in_ok-found.found in
     let is : c.found_by.result ≡ Ok found = search rules in
     right_by true told c.in_ok-right.right c.in_ok-same.same refl (rw there at c.in_ok-right.ensures.right)
-    (strict_said told c.strict.result found c.in_ok-same.same (rw held at c.strict.ensures.right) (sym c.found_by.ensures ∙ is) c.in_ok-same.ensures.right)
+    (strict_said told c.strict_decoded-answer.result.0 found c.in_ok-same.same (rw held at c.strict_decoded-answer.ensures.right)
+    (sym c.found_by.ensures ∙ is) c.in_ok-same.ensures.right)
