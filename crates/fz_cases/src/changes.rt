@@ -3,10 +3,10 @@ use crate::files::{Hdu, file_of};
 use fz_card::CARD_LEN;
 use std::alloc::{AllocError, Global};
 
-/// Where the header of HDU 1 stands, after a primary of one block.
+/// Where the header of HDU 1 is, after a primary of one block.
 const TABLE_AT: usize = 2880;
 
-/// Where its data stand, after a header of one block.
+/// Where its data are, after a header of one block.
 const DATA_AT: usize = 5760;
 
 /// What is done to a file.
@@ -51,7 +51,7 @@ fn place(front: usize, index: usize, len: usize) -> usize {
     front.saturating_add(index.saturating_mul(len))
 }
 
-/// Puts bytes at a place, where the file has that.
+/// Puts bytes at a place, if the file has that.
 pub fn put(file: &mut [u8], at: usize, bytes: &[u8]) {
     if at <= file.len() && bytes.len() <= file.len() - at {
         file[at..at + bytes.len()].copy_from_slice(bytes);

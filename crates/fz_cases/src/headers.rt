@@ -396,7 +396,7 @@ pub const FLOAT_PRIMARY: [&str; 4] = [
     "NAXIS1  =                    1",
 ];
 
-/// A primary image alone, and an image between HDUs that are copied.
+/// Only a primary image, and an image between HDUs that are copied.
 pub static ONE_AND_MANY: [Case<'static>; 2] = [
     Case {
         options: &[],

@@ -1,11 +1,11 @@
-//! Objects that are there by one name alone: a call with another name is a fault. They tell
+//! Objects that are there by one name only: a call with another name is a fault. They show
 //! the names by which they were opened and made.
 ghost use Rattle.std.specs.Prelude.{ℕ, ◌≡◌, ◌≤◌, ◌<◌, ◌^◌, IsTrue, Some, None, [], false, replicate};
 ghost use Rattle.fz_base.specs.Counts.{Tally, unamended};
 
 use fz_base::{Failed, MemSink, Sink, Source};
 
-/// A source with a name, over another. It tells no bytes to contracts, as a real file does.
+/// A source with a name, over another. It shows no bytes to contracts, as a real file does.
 #[derive(Drop)]
 pub struct NamedSource<S: Source + Drop> {
     source: S,
@@ -127,7 +127,12 @@ impl Sink for NamedSink {
 
     ghost finished = { λ s. ⟦<MemSink as Sink>⟧.finished s.sink };
 
-    ghost tally = { λ s. record { faults = s.faults; wants = (⟦<MemSink as Sink>⟧.tally s.sink).wants; names = Some (replicate s.made s.name.now); amended = unamended } };
+    ghost tally = { λ s. record {
+      faults = s.faults;
+      wants = (⟦<MemSink as Sink>⟧.tally s.sink).wants;
+      names = Some (replicate s.made s.name.now);
+      amended = unamended;
+    } };
 
     fn create(&mut self, name: &str) -> Result<(), Failed> {
         if name != self.name || self.made == u64::MAX {

@@ -4,7 +4,7 @@ use crate::files::{fill_block, put_header};
 use crate::small::{EMPTY_PRIMARY, SMALL, SMALL_TABLE};
 use std::alloc::{AllocError, Global};
 
-/// Where the rows of the packed file stand, after an empty primary and a header of one block.
+/// Where the rows of the packed file are, after an empty primary and a header of one block.
 pub const ROWS_AT: usize = 5760;
 
 /// The image.

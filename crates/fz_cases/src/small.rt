@@ -110,7 +110,7 @@ pub static CASES: [Case<'static>; 5] = [
     },
 ];
 
-/// The primary that stands before the table of a primary image.
+/// The primary that is before the table of a primary image.
 pub const EMPTY_PRIMARY: [&str; 4] = [
     "SIMPLE  =                    T",
     "BITPIX  =                    8",

@@ -1,4 +1,4 @@
-//! What no clause says: that workers run side by side, what the gate is told, and worked values.
+//! What no clause says: that workers run side by side, what the gate is called with, and worked values.
 ghost use Rattle.std.specs.Prelude.{◌≡◌, ℕ, ◌+◌, ◌*◌, ◌^◌, ◌<◌, ◌≤◌, length, pos, replicate, slice_index_or, IfOk};
 ghost use Rattle.fz_pool.specs.declared.slot.Slot.{Slot};
 ghost use Rattle.fz_pool.specs.Slots.{IsForEncoding, IsForDecoding};
@@ -381,7 +381,7 @@ fn expect_halves(
     Ok(())
 }
 
-// The three calls came while the one for tile 10 was held; the tiles 10 to 13 were told; and one worker
+// The three calls came while the one for tile 10 was held; the tiles 10 to 13 were reported; and one worker
 // called once, the other three times.
 fn expect_came(rt: &impl Abort, gate: &Holding) {
     let came = gate.came.load(Ordering::SeqCst);

@@ -4,7 +4,9 @@ ghost use Rattle.fz_rice.specs.Numbers.{IsWidth, IsNumber};
 
 use crate::random::next_word;
 use fz_bits::Full;
-use fz_rice::{CodeFault, Coder, one_code_law, producer_law, reading_law, round_trip_law};
+use fz_rice::{
+    CodeFault, Coder, Mark, marks_law, one_code_law, producer_law, reading_law, round_trip_law,
+};
 use std::alloc::{AllocError, Global};
 use std::process::Abort;
 use std::test::Fail;
@@ -82,6 +84,7 @@ fn greatest_k(rt: HostRuntime) {
 
 #[test]
 fn laws() {
+    marks_law();
     one_code_law();
     producer_law();
     reading_law();
@@ -126,6 +129,29 @@ fn codes_that_are_cut(rt: HostRuntime) {
         [no_id, some_id, too_many, fewer],
         [unlawful, ended, unlawful, ended]
     );
+}
+
+/// Marks: after the start value, after a block of 32 equal numbers, whose id is 0, and after one more
+/// number, whose mapped difference is 4, in a block with id 2 (`k` is 1).
+#[test]
+fn codes_in_parts(rt: HostRuntime) {
+    let code = [0x00, 0x0a, 0x02, 0x20];
+    assert_eq!(rt;
+        Coder::<16>::first_mark(&code),
+        Ok(Mark { bit: 16, last: 10 })
+    );
+    assert_eq!(rt; Coder::<16>::first_mark(&code[..1]), Err(CodeFault::Ended));
+    let mut tens = [0i32; 32];
+    let next = Coder::<16>::decode_on(&code, Mark { bit: 16, last: 10 }, 32, &mut tens);
+    assert_eq!(rt; (next, tens), (Ok(Mark { bit: 20, last: 10 }), [10; 32]));
+    let mut one = [0i32; 1];
+    let next = Coder::<16>::decode_on(&code, Mark { bit: 20, last: 10 }, 32, &mut one);
+    assert_eq!(rt; (next, one), (Ok(Mark { bit: 28, last: 12 }), [12]));
+    // The same in the bytes from the third one on, and where these end in the second id's value.
+    let next = Coder::<16>::decode_on(&code[2..], Mark { bit: 4, last: 10 }, 32, &mut one);
+    assert_eq!(rt; (next, one), (Ok(Mark { bit: 12, last: 12 }), [12]));
+    let cut = Coder::<16>::decode_on(&code[2..3], Mark { bit: 4, last: 10 }, 32, &mut one);
+    assert_eq!(rt; cut, Err(CodeFault::Ended));
 }
 
 /// The number of `W` bits in which a word ends: unsigned at 8, else in two's complement.

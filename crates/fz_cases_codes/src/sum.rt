@@ -18,7 +18,7 @@ fn sum_of(at: u64, bytes: &[u8]) -> u32
     sum.value()
 }
 
-/// The sum of a list at this position that is cut after so many bytes, where what is after the cut is added first.
+/// The sum of a list at this position that is cut after so many bytes, if what is after the cut is added first.
 fn sum_from_behind(at: u32, bytes: &[u8], len: usize) -> u32
     requires { length bytes.now < 2 ^ 63 }
 {

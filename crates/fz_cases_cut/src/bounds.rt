@@ -18,7 +18,7 @@ static BOUNDS: [(&str, &str, u64); 3] = [
     ("--workers=4", "--memory=78080", 78_080),
 ];
 
-/// Asks that a box is cut from a file within a bound, where the words or the meter give it.
+/// Asks that a box is cut from a file within a bound, if the words or the meter give it.
 fn assert_within<R: Threads + Sync + AllocGlobal + Abort>(
     rt: &R,
     file: &[u8],

@@ -97,7 +97,7 @@ static OF_THE_GRID: [Cutting; 12] = [
         cards: &TWO_PIXELS,
         bytes: &[1, 5],
     },
-    // a step past the end picks the first pixel alone
+    // a step past the end picks only the first pixel
     Cutting {
         hdus: &GRID_PACKED,
         change: Change::Nothing,
@@ -136,7 +136,7 @@ static OF_THE_GRID: [Cutting; 12] = [
         cards: &TWO_PIXELS,
         bytes: &[8, 9],
     },
-    // between the picks stands tile 1, which is faulty
+    // between the picks is tile 1, which is faulty
     Cutting {
         hdus: &GRID_PACKED,
         change: Change::Table(&[], &[(24, &[0, 0, 0, 0])]),
@@ -359,7 +359,7 @@ static SECOND_ROW: Hdu<'static> = Hdu {
     bytes: &[0, 0, 0, 1, 0, 0, 0, 1],
 };
 
-/// Asks that this is cut out of the file; where an allocation of the run fails, its status alone is another.
+/// Asks that this is cut out of the file; if an allocation of the run fails, only its status is another.
 fn assert_cuts_in_memory<R: Threads + Sync + AllocGlobal + Abort>(
     rt: &R,
     packed: &[Hdu<'_>],

@@ -107,7 +107,7 @@ fn failing_writes<R: Threads + Sync + AllocGlobal + Abort>(
     Ok(CALLS)
 }
 
-/// Asks that the output is whole where this call of the sink fails, the last one.
+/// Asks that the output is whole if this call of the sink fails, the last one.
 fn assert_whole<R: Threads + Sync + AllocGlobal + Abort>(
     rt: &R,
     turn: &Turn,

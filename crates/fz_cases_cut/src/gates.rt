@@ -1,4 +1,4 @@
-//! That tiles are decoded through the window, by workers side by side, and those alone that hold a pick.
+//! That tiles are decoded through the window, by workers side by side, and only those that hold a pick.
 use fz_base::Gate;
 use fz_cases::files::file_of;
 use fz_cases::holding::Holding;

@@ -166,7 +166,7 @@ const REFERRED: [Hdu<'static>; 2] = [
     },
 ];
 
-/// Boxes of that file. Where the box begins after the first pixel of an axis and has no step there, the reference pixel is
+/// Boxes of that file. If the box begins after the first pixel of an axis and has no step there, the reference pixel is
 /// moved by as many pixels.
 static MOVED: [Cutting; 5] = [
     Cutting {
@@ -214,7 +214,7 @@ static MOVED: [Cutting; 5] = [
         ],
         bytes: &[2, 4, 7, 9, 12, 14],
     },
-    // both ends at once: below 0, and with an exponent; a comment is left away with the text that it stood after
+    // both ends at once: below 0, and with an exponent; a comment is left away with the text that it was after
     Cutting {
         hdus: &REFERRED,
         change: Change::Table(

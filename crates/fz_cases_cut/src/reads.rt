@@ -105,14 +105,14 @@ static READINGS: [Reading; 12] = [
         line: "",
         ranges: &[(0, 5871)],
     },
-    // tile 1 stands between the picks
+    // tile 1 is between the picks
     Reading {
         change: Change::Nothing,
         options: &["--box", "1:5:4,1:1"],
         line: "",
         ranges: &[(0, 5776), (5792, 5808), (5856, 5860), (5864, 5866)],
     },
-    // the one pick stands in tile 0
+    // the one pick is in tile 0
     Reading {
         change: Change::Nothing,
         options: &["--box", "1:5:9,1:3:3"],
@@ -146,7 +146,7 @@ static READINGS: [Reading; 12] = [
         line: "refused: 18 DescriptorRange hdu 1 row 3\n",
         ranges: &[(0, 5792), (5808, 5840), (5856, 5864), (5868, 5870)],
     },
-    // no row is read where a header is refused
+    // no row is read if a header is refused
     Reading {
         change: Change::Nothing,
         options: &["--box", "1:6,1:3"],

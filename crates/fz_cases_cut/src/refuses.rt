@@ -241,7 +241,7 @@ static OF_HEADERS: [Refusal; 14] = [
         options: &["--box", "1:1,1:1"],
         line: "refused: 1 NotFits hdu 0 card 0\n",
     },
-    // bytes after the HDUs are in the way where a later one is wanted
+    // bytes after the HDUs are in the way if a later one is wanted
     Refusal {
         hdus: &GRID_PACKED,
         change: Change::Length(8650),

@@ -24,7 +24,7 @@ const TWO_FAULTY: Change = Change::Table(&[], &[(56, &[0, 0, 0, 16]), (88, &[0, 
 
 /// Faults of rows, whose places are counted from the front of the data.
 static OF_ROWS: [Refusal; 13] = [
-    // of two faulty rows the lower is told
+    // of two faulty rows the lower is reported
     Refusal {
         hdus: &GRID_PACKED,
         change: TWO_FAULTY,
@@ -37,7 +37,7 @@ static OF_ROWS: [Refusal; 13] = [
         part: "--box=2:4,2:3",
         line: "refused: 18 DescriptorRange hdu 1 row 3\n",
     },
-    // of those alone that hold a pick
+    // only of those that hold a pick
     Refusal {
         hdus: &GRID_PACKED,
         change: TWO_FAULTY,
@@ -84,7 +84,7 @@ static OF_ROWS: [Refusal; 13] = [
         part: "--box=1:1,2:2",
         line: "refused: 18 DescriptorRange hdu 1 row 1\n",
     },
-    // the tile is decoded whole, wherever the pick stands
+    // the tile is decoded whole, wherever the pick is
     Refusal {
         hdus: &OTHER_PACKED,
         change: Change::Table(&[(12, "ZBITPIX =                    8")], &[]),

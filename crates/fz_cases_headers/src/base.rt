@@ -116,7 +116,7 @@ fn mem_source_fails_where_it_is_told_to(rt: HostRuntime) -> Result<(), Fail> {
     Ok(())
 }
 
-// Any source, of which its trait alone is known.
+// Any source, of which only its trait is known.
 fn attach<S: Source>(source: &mut S) -> Result<u64, Failed>
     ensures cause { HasCause (nameless (S.tally source.old)) (nameless (S.tally source.new)) result }
 {

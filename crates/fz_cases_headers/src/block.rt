@@ -158,7 +158,7 @@ fn places(rt: HostRuntime) {
     again_law();
 }
 
-/// A source of such a file, whose header was looked for, and read, where it has one block.
+/// A source of such a file, whose header was looked for, and read, if it has one block.
 fn looked_at(
     alloc: Global,
     len: u32,

@@ -138,7 +138,7 @@ pub(crate) fn options_for(codec: CodecWord, sums: bool) -> PackOptions
     }
 }
 
-/// What the packed header of the small file tells of its tiles.
+/// What the packed header of the small file says of its tiles.
 pub(crate) fn totals_for(sums: bool) -> Totals
     ensures { AreShort result }
 {
@@ -150,7 +150,7 @@ pub(crate) fn totals_for(sums: bool) -> Totals
     }
 }
 
-/// Writes the packed header of an image with this codec, and answers its length; 0 where the HDU is not
+/// Writes the packed header of an image with this codec, and answers its length; 0 if the HDU is not
 /// packable.
 pub(crate) fn pack_header(
     buf: &[u8],

@@ -81,7 +81,7 @@ fn long_headers_come_back(rt: HostRuntime) -> Result<(), Fail> {
     Ok(())
 }
 
-/// Cards after those of an image, and how they stand in its packed header.
+/// Cards after those of an image, and how they are in its packed header.
 static KEPT: [(&[u8], &[u8]); 14] = [
     (b"HISTORY = 'is not a value'", b"HISTORY = 'is not a value'"),
     (
@@ -264,7 +264,7 @@ fn is_within(shape: &Axes, region: &Region) -> bool
     true
 }
 
-/// Writes the header of a part of an image, and answers its length; 0 where the region is not one of the
+/// Writes the header of a part of an image, and answers its length; 0 if the region is not one of the
 /// image.
 fn cut_header(buf: &[u8], header: &Header, region: &Region, out: &mut [u8]) -> Result<usize, Fault>
     requires header { IsHeaderOf buf.now header.now }
@@ -360,7 +360,7 @@ fn headers_of_parts(rt: HostRuntime) -> Result<(), Fail> {
     };
     let wanted = file_of(&OTHER_PLAIN, &[(3, b"NAXIS1  =                    1")]);
     expect_part(&rt, alloc, &file_of(&OTHER, &[]), &region, &wanted)?;
-    // What holds for the whole extension alone is left out.
+    // What holds only for the whole extension is left out.
     let region = Region {
         n: 2,
         lo: [0, 1, 0, 0, 0, 0, 0, 0, 0],

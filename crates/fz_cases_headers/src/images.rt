@@ -57,7 +57,7 @@ static REFUSED: [(&[(usize, &[u8])], CodecWord, Place, Kind); 6] = [
         Place::Card(5),
         Kind::Duplicate,
     ),
-    // A reserved name comes before a name that stands twice, and that before the fill.
+    // A reserved name comes before a name that occurs twice, and that before the fill.
     (
         &[
             (5, b"BITPIX  =                   16"),
@@ -146,7 +146,7 @@ fn packed_header_of_the_small_file(rt: HostRuntime) -> Result<(), Fail> {
     Ok(())
 }
 
-/// The packed header of the small file where the codec has no parameters.
+/// The packed header of the small file if the codec has no parameters.
 static WITHOUT_PARAMETERS: [&[u8]; 21] = [
     b"XTENSION= 'BINTABLE'",
     b"BITPIX  =                    8",

@@ -6,7 +6,7 @@ use fz_block::{BLOCK_LEN, read_header};
 use fz_card::Name;
 use fz_table::{
     Column, Descriptor, Record, Row, Table, Tile, TileColumn, descriptor, find_record, first_named,
-    is_filled, range, read_record, record_of, row_in, write_row,
+    is_filled, range, read_record, read_rest, record_of, row_in, write_row,
 };
 use std::alloc::Global;
 use std::test::Fail;
@@ -545,6 +545,11 @@ fn records_of_a_file(rt: HostRuntime) -> Result<(), Fail> {
     assert_eq!(rt; Ok(first), whole(TileColumn::Coded, 74, 4));
     read_record(&mut source, &first, &mut code)?;
     assert!(rt; code[..5] == [2, 3, 4, 5, 0]);
+    if first.read < 2 {
+        return Err(Fail::new("the record has four bytes"));
+    }
+    read_rest(&mut source, &first, 1, &mut code)?;
+    assert!(rt; code[..5] == [3, 4, 5, 5, 0]);
     let apart = Table {
         coded: THREE.gzip,
         gzip: None,
@@ -575,6 +580,7 @@ fn records_of_a_file(rt: HostRuntime) -> Result<(), Fail> {
         (0, 16),
         (16, 8),
         (74, 4),
+        (75, 3),
         (40, 8),
         (24, 8),
         (24, 16),

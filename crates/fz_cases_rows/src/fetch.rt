@@ -13,9 +13,12 @@ use fz_base::{
     Failed, Fault, FreeGate, Kind, MemSink, MemSource, Meter, Place, Sink, Source, Stop,
 };
 use fz_block::{Axes, Header, Sort};
-use fz_fetch::{fetch_tiles, number_tiles, scatter_picks, scatter_tiles};
+use fz_fetch::{
+    Ahead, fetch_ahead, fetch_tiles, number_tiles, scatter_held, scatter_picks, scatter_tiles,
+};
 use fz_grid::{Grid, Sieve, shape_law};
 use fz_head::{PackedImage, Plan};
+use fz_job::{Held, write_pieces};
 use fz_parts::cutout_axes;
 use fz_pool::{Crew, Window, sizes_law};
 use fz_table::{Column, Table};
@@ -25,8 +28,8 @@ use std::process::Abort;
 use std::test::Fail;
 use std::thread::Threads;
 
-/// The header of HDU 1. A source that does not tell its bytes leaves open what stands in it.
-const HEADER: Header = Header {
+/// The header of HDU 1. A source that does not show its bytes leaves open what is in it.
+pub(crate) const HEADER: Header = Header {
     hdu: 1,
     start: 0,
     cards: 0,
@@ -143,10 +146,10 @@ static RICE: [u8; 40] = [
     0, 0, 0x19, 0x48, 0, 0, 0x19, 0x48,
 ];
 
-/// A source that another one reads for, and that does not tell its bytes: so no header need say the image.
+/// A source that another one reads for, and that does not show its bytes: so no header need say the image.
 #[derive(Drop)]
-struct Untold<S: Source + Drop> {
-    source: S,
+pub(crate) struct Untold<S: Source + Drop> {
+    pub(crate) source: S,
 }
 
 impl<S: Source + Drop> Source for Untold<S> {
@@ -174,7 +177,7 @@ impl<S: Source + Drop> Source for Untold<S> {
 }
 
 /// A source of these bytes, of which some are made others.
-fn source_of(
+pub(crate) fn source_of(
     alloc: Global,
     bytes: &[u8],
     others: &[(usize, u8)],
@@ -255,6 +258,47 @@ fn fetch<R: Threads + Sync>(
     fetch_tiles(&crew, source, &HEADER, image, tiles, &mut rows, window)
 }
 
+/// Fetches the first two tiles into the window, and then the next two, with what is wanted later.
+fn fetch_four<R: Threads + Sync>(
+    rt: &R,
+    source: &mut Untold<MemSource>,
+    image: &PackedImage,
+    window: &mut Window,
+) -> Result<(), Stop>
+    requires image { IsReadable image.now }
+    requires pixels { pixels_of image.now.plan 0 ≡ 4 }
+    requires some { 1 ≤ window.old.workers }
+    requires window { HasSlotsFor 4 window.old }
+    ensures workers { window.new.workers ≡ window.old.workers }
+    ensures window { HasSlotsFor 4 window.new }
+{
+    let length = source.attach("any").map_err(Stop::reading)?;
+    if length < image.table.heap_at + image.table.heap_len {
+        return Err(Stop::ReadFault);
+    }
+    let first = [0, 1];
+    if !are_tiles(image, &first) {
+        return Err(Stop::ReadFault);
+    }
+    let next = [2, 3];
+    if !are_tiles(image, &next) {
+        return Err(Stop::ReadFault);
+    }
+    let mut buf = [0; 4160];
+    let mut ahead = Ahead::none();
+    let crew = Crew {
+        rt,
+        gate: &FreeGate,
+        workers: window.workers(),
+    };
+    fetch_ahead(
+        &crew, source, &HEADER, image, &first, &mut buf, &mut ahead, window,
+    )?;
+    fetch_ahead(
+        &crew, source, &HEADER, image, &next, &mut buf, &mut ahead, window,
+    )
+}
+
 /// Row `row` of HDU 1 is refused.
 fn refused(row: u32, kind: Kind) -> Result<(), Stop> {
     Err(Stop::Refused(Fault {
@@ -284,7 +328,7 @@ fn made(alloc: Global) -> Result<MemSink, Failed>
 }
 
 /// The sieve has a pick along each axis of the array, and none after it.
-fn sifts(shape: &Axes, sieve: &Sieve) -> bool
+pub(crate) fn sifts(shape: &Axes, sieve: &Sieve) -> bool
     requires { shape.now.n ≤ 9 }
     ensures { IsTrue result → IsSieveOf shape.now sieve.now }
 {
@@ -306,7 +350,7 @@ fn sifts(shape: &Axes, sieve: &Sieve) -> bool
 }
 
 /// The tile has a pick.
-fn has_pick(plan: &Plan, sieve: &Sieve, tile: u32) -> bool
+pub(crate) fn has_pick(plan: &Plan, sieve: &Sieve, tile: u32) -> bool
     requires divided { IsDivided plan.now.shape plan.now.tile }
     requires sieve { IsSieveOf plan.now.shape sieve.now }
     ensures { IsTrue result → IsTrue (has_pixel (part_lengths (lengths_of plan.now.shape) (lengths_of plan.now.tile) sieve.now tile)) }
@@ -353,6 +397,28 @@ fn scatter(
     scatter_tiles(sink, 3, &image.plan, tiles, window)
 }
 
+/// Writes as `scatter` does, many pieces together, and answers how many bytes were held back before the last writing.
+fn scatter_together(
+    sink: &mut MemSink,
+    image: &PackedImage,
+    tiles: &[u32],
+    window: &mut Window,
+) -> Result<usize, Stop>
+    requires created { IsTrue (⟦<MemSink as Sink>⟧.created sink.old) }
+    requires image { IsReadable image.now }
+    requires few { len tiles.now ≤ 2 * window.old.workers }
+    requires small { pixels_of image.now.plan 0 ≡ 4 }
+    requires window { HasSlotsFor 4 window.old }
+    requires tiles { AreTilesOf image.now tiles.now }
+    requires pixels { (pixels : List (List ℤ)) × HaveTiles image.now.plan tiles.now window.old.slots pixels }
+{
+    let mut held = [0; 64];
+    let mut back = Held::none();
+    scatter_held(sink, 3, &image.plan, tiles, window, &mut held, &mut back)?;
+    write_pieces(sink, &held, &back)?;
+    Ok(back.count)
+}
+
 /// Writes picks of tiles of the window to the sink, after 3 bytes.
 fn cut(
     sink: &mut MemSink,
@@ -377,7 +443,7 @@ fn cut(
     if !have_picks(plan, sieve, tiles) {
         return Err(Stop::WriteFault);
     }
-    // This call tells that the cutout is no larger than an image.
+    // This call shows that the cutout is no larger than an image.
     let _cutout = cutout_axes(&plan.shape, sieve);
     scatter_picks(sink, 3, plan, sieve, tiles, window)
 }
@@ -419,6 +485,69 @@ fn tiles_are_fetched_and_written(rt: HostRuntime) -> Result<(), Fail> {
     scatter(&mut sink, &image, &tiles, &mut window)?;
     let written = [0, 0, 0, 1, 2, 3, 4, 5, 6, 7, 8, 9, 10, 11, 12, 13, 14, 15];
     assert_eq!(rt; sink.contents(), written.as_slice());
+    Ok(())
+}
+
+#[test]
+fn rows_and_records_are_read_before_they_are_wanted(rt: HostRuntime) -> Result<(), Fail> {
+    let alloc = rt.alloc();
+    let image = plain_image();
+    let mut source = source_of(alloc, &PLAIN, &[])?;
+    let mut window = filled(alloc, 1)?;
+    fetch_four(&rt, &mut source, &image, &mut window)?;
+    // All rows are read by one reading, and all records, which follow each other, by another.
+    assert_eq!(rt; source.source.reads(), [(0, 96), (96, 15)].as_slice());
+    expect_numbers(&rt, &window, 0, &[5, 10]);
+    expect_numbers(&rt, &window, 1, &[11, 12]);
+    Ok(())
+}
+
+#[test]
+fn records_that_do_not_follow_are_read_one_by_one(rt: HostRuntime) -> Result<(), Fail> {
+    let alloc = rt.alloc();
+    let image = plain_image();
+    // The record of row 1 begins a byte later, and ends in that of row 2.
+    let mut source = source_of(alloc, &PLAIN, &[(31, 5)])?;
+    let mut window = filled(alloc, 1)?;
+    fetch_four(&rt, &mut source, &image, &mut window)?;
+    let read = [(0, 96), (96, 4), (101, 4), (104, 7)];
+    assert_eq!(rt; source.source.reads(), read.as_slice());
+    expect_numbers(&rt, &window, 0, &[5, 10]);
+    expect_numbers(&rt, &window, 1, &[11, 12]);
+    Ok(())
+}
+
+#[test]
+fn neighbours_are_written_together(rt: HostRuntime) -> Result<(), Fail> {
+    let alloc = rt.alloc();
+    let image = rice_image();
+    let mut source = source_of(alloc, &RICE, &[])?;
+    let mut window = filled(alloc, 1)?;
+    let tiles = [0, 1];
+    fetch(&rt, &mut source, &image, &tiles, &mut window)?;
+    let mut sink = made(alloc)?;
+    let held = scatter_together(&mut sink, &image, &tiles, &mut window)?;
+    assert_eq!(rt; held, 16);
+    let wanted = [0, 0, 0, 0, 0, 0, 1, 0, 0, 0, 1, 0, 0, 0, 1, 0, 0, 0, 1];
+    assert_eq!(rt; sink.contents(), wanted.as_slice());
+    Ok(())
+}
+
+#[test]
+fn pieces_that_are_apart_are_written_in_order(rt: HostRuntime) -> Result<(), Fail> {
+    let alloc = rt.alloc();
+    let image = plain_image();
+    let mut source = source_of(alloc, &PLAIN, &[])?;
+    let mut window = filled(alloc, 3)?;
+    let mut tiles = [0; 6];
+    number_tiles(0, &mut tiles);
+    fetch(&rt, &mut source, &image, &tiles, &mut window)?;
+    let mut sink = made(alloc)?;
+    let held = scatter_together(&mut sink, &image, &tiles, &mut window)?;
+    // The last pixel of tile 2 is followed by the last line of the image.
+    assert_eq!(rt; held, 6);
+    let wanted = [0, 0, 0, 1, 2, 3, 4, 5, 6, 7, 8, 9, 10, 11, 12, 13, 14, 15];
+    assert_eq!(rt; sink.contents(), wanted.as_slice());
     Ok(())
 }
 
@@ -507,7 +636,7 @@ fn picks_of_two_bytes_are_gathered(rt: HostRuntime) -> Result<(), Fail> {
     Ok(())
 }
 
-/// What a fetch of the tiles answers, where some bytes of the table are others.
+/// What a fetch of the tiles answers, if some bytes of the table are others.
 fn fetch_of<R: Threads + Sync>(
     rt: &R,
     alloc: Global,

@@ -259,7 +259,7 @@ fn drawn(seed: &mut u64, end: u32) -> u32
     (*seed >> 33) as u32 % end
 }
 
-/// An array of `n` axes, fewer pixels along each where there are more axes.
+/// An array of `n` axes, fewer pixels along each if there are more axes.
 fn some_shape(seed: &mut u64, n: u32) -> Axes
     requires { n ≤ 9 }
 {

@@ -1,4 +1,4 @@
-//! What regions and sieves the calls take, as functions that tell it.
+//! What regions and sieves the calls take, as functions that decide it.
 ghost use Rattle.std.specs.Prelude.{IsTrue};
 ghost use Rattle.fz_grid.specs.Region.{IsShape, IsWithin};
 ghost use Rattle.fz_grid.specs.Sieve.{IsSieveOf};

@@ -2,7 +2,7 @@
 //! files that were written out by hand: what a job learns of their headers and takes for them, what is fetched of the rows of packed
 //! images, what is refused, and what is written.
 //!
-//! Reading order: `lawful`, `grid`, `parts`; `survey`, `fetch`.
+//! Reading order: `lawful`, `grid`, `parts`; `survey`, `fetch`, `marks`.
 #![tactic(auto)]
 
 #[cfg(test)]
@@ -11,6 +11,8 @@ mod fetch;
 mod grid;
 #[cfg(test)]
 mod lawful;
+#[cfg(test)]
+mod marks;
 #[cfg(test)]
 mod parts;
 #[cfg(test)]

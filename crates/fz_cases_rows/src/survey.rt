@@ -201,7 +201,7 @@ const TO_VERIFY: Wants = Wants {
     tile: Some(4),
 };
 
-/// What one that looks at headers alone wants.
+/// What one that looks only at headers wants.
 const TO_LIST: Wants = Wants {
     header_len: 2880,
     translates: false,

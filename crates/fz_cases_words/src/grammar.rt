@@ -102,7 +102,7 @@ fn values(rt: HostRuntime) -> Result<(), Fail> {
     Ok(())
 }
 
-/// An option stands once, and a box has to be given.
+/// An option is given once, and a box has to be given.
 #[test]
 fn repeats(rt: HostRuntime) -> Result<(), Fail> {
     static LINES: [(&str, &str); 10] = [
@@ -263,7 +263,7 @@ fn more_lists(rt: HostRuntime) -> Result<(), Fail> {
     Ok(())
 }
 
-/// A block is for the codec rice alone.
+/// A block is only for the codec rice.
 #[test]
 fn blocks(rt: HostRuntime) -> Result<(), Fail> {
     static LINES: [(&str, &str); 7] = [
@@ -357,7 +357,7 @@ fn packing(rt: HostRuntime) -> Result<(), Fail> {
     Ok(())
 }
 
-/// A request on the file `-` alone.
+/// A request on only the file `-`.
 fn on_file(job: Job, memory: u64) -> Request<'static> {
     Request {
         job,

@@ -48,7 +48,7 @@ fn first_word(rt: HostRuntime) -> Result<(), Fail> {
     Ok(())
 }
 
-/// Options and operands stand in any order.
+/// Options and operands are in any order.
 #[test]
 fn order(rt: HostRuntime) -> Result<(), Fail> {
     static LINES: [(&str, &str); 4] = [
@@ -81,7 +81,7 @@ fn forms_of_values(rt: HostRuntime) -> Result<(), Fail> {
     Ok(())
 }
 
-/// Each option stands at most once, and a box has to be given.
+/// Each option is given at most once, and a box has to be given.
 #[test]
 fn repeats(rt: HostRuntime) -> Result<(), Fail> {
     static LINES: [(&str, &str); 10] = [
@@ -260,7 +260,7 @@ fn two_operands(rt: HostRuntime) -> Result<(), Fail> {
     Ok(())
 }
 
-/// The same where there is one operand.
+/// The same if there is one operand.
 #[test]
 fn one_operand(rt: HostRuntime) -> Result<(), Fail> {
     static LINES: [(&str, &str); 8] = [
@@ -418,7 +418,7 @@ fn boxes(rt: HostRuntime) -> Result<(), Fail> {
     Ok(())
 }
 
-/// A block is for the codec rice alone.
+/// A block is only for the codec rice.
 #[test]
 fn codecs_of_a_block(rt: HostRuntime) -> Result<(), Fail> {
     static LINES: [(&str, &str); 5] = [

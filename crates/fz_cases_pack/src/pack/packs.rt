@@ -66,7 +66,7 @@ fn packs_headers_and_many_hdus(rt: HostRuntime) -> Result<(), Fail> {
     assert_cases_pack(&rt, &headers::CASES)
 }
 
-/// Asks that the file is packed so; where an allocation of the run fails, its status alone is another.
+/// Asks that the file is packed so; if an allocation of the run fails, only its status is another.
 fn assert_packs_in_memory<R: Threads + Sync + AllocGlobal + Abort>(
     rt: &R,
     case: &Case<'_>,

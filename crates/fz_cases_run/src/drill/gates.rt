@@ -1,4 +1,4 @@
-//! That the jobs ran, with the tiles of each: the lines follow from the number of rows, and do not tell it.
+//! That the jobs ran, with the tiles of each: the lines follow from the number of rows, and do not show it.
 use crate::drill::counting::Counting;
 use fz_app::Status;
 use fz_cases::runs::{FREE, outcome_of};

@@ -7,7 +7,7 @@ use std::test::Fail;
 pub(crate) const ONE: &str =
     "drill 1 plain 5760\nrice packed 8640 unpack same cut same\nplio packed 8640 unpack same cut same\nnone packed 8640 unpack same cut same\n";
 
-/// The lines of 16 rows: 8,192 bytes of pixels, and 8,448 bytes of rows and pixels where they are stored.
+/// The lines of 16 rows: 8,192 bytes of pixels, and 8,448 bytes of rows and pixels if they are stored.
 pub(crate) const SIXTEEN: &str =
     "drill 16 plain 11520\nrice packed 8640 unpack same cut same\nplio packed 8640 unpack same cut same\nnone packed 14400 unpack same cut same\n";
 

@@ -1,4 +1,4 @@
-//! What the gate is told, and that tiles that are held hold up no others of their half.
+//! What the gate is called with, and that tiles that are held hold up no others of their half.
 use fz_app::Status;
 use fz_base::Gate;
 use fz_cases::holding::Holding;

@@ -1,4 +1,4 @@
-//! Faulty rows in one half and in two: the lowest is told.
+//! Faulty rows in one half and in two: the lowest is reported.
 use fz_base::FreeGate;
 use fz_cases::changes::put;
 use fz_cases::rows::{ROWS_AT, packed_rows};

@@ -25,8 +25,8 @@ fn failing(call: u32, keep: Option<u32>) -> Conditions {
     }
 }
 
-/// Whether a run stops of which a call fails: it is done where there is no such call. Byte 0 comes after all others, so the sink
-/// begins with `S` only where the file is whole.
+/// Whether a run stops of which a call fails: it is done if there is no such call. Byte 0 comes after all others, so the sink
+/// begins with `S` only if the file is whole.
 fn assert_stopped<R: Threads + Sync + AllocGlobal + Abort>(
     rt: &R,
     command: &str,

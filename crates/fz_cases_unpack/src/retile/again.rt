@@ -58,7 +58,7 @@ fn packs_what_was_not_packed(rt: HostRuntime) -> Result<(), Fail> {
 /// What the file of another packer becomes: its three pixels as a code.
 static OTHER_AGAIN: [u8; 6] = [0x03, 0xe8, 0x1c, 0x08, 0, 0];
 
-// The table of another packer is made anew: the code of its one tile stands after its row.
+// The table of another packer is made anew: the code of its one tile is after its row.
 #[test]
 fn packs_anew_what_others_packed(rt: HostRuntime) -> Result<(), Fail> {
     let file = file_of(rt.alloc(), &standing::OTHER_PACKED)?;

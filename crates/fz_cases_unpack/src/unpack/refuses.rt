@@ -81,7 +81,7 @@ const NINE_LONG_AXES: [Hdu<'static>; 1] = [Hdu {
     bytes: &[],
 }];
 
-/// Faults of headers, and of what stands between HDUs.
+/// Faults of headers, and of what is between HDUs.
 static OF_HEADERS: [Refusal; 20] = [
     Refusal {
         hdus: &[SMALL_FILE],
@@ -206,7 +206,7 @@ static OF_HEADERS: [Refusal; 20] = [
 
 /// Faults of rows, whose places are counted from the front of the data.
 static OF_ROWS: [Refusal; 16] = [
-    // of two faulty rows the lower is told
+    // of two faulty rows the lower is reported
     Refusal {
         hdus: &GRID_PACKED,
         change: Change::Table(&[], &[(56, &[0, 0, 0, 16]), (88, &[0, 0, 0, 16])]),

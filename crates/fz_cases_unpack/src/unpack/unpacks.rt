@@ -85,7 +85,7 @@ fn headers_have_whole_blocks(rt: HostRuntime) -> Result<(), Fail> {
     Ok(())
 }
 
-// Only a sum can tell that a code was changed to another one.
+// Only a sum can show that a code was changed to another one.
 #[test]
 fn changed_code_is_other_pixels(rt: HostRuntime) -> Result<(), Fail> {
     let change = Change::Table(&[], &[(32, &[0x7f])]);

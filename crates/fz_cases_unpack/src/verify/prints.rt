@@ -49,7 +49,7 @@ const MANY: [Hdu<'static>; 3] = [
     },
 ];
 
-/// One pixel of 0, and the sum of its data where byte 4 of these is 1.
+/// One pixel of 0, and the sum of its data if byte 4 of these is 1.
 const ONE_PIXEL: Hdu<'static> = Hdu {
     cards: &[
         "SIMPLE  =                    T",

@@ -35,16 +35,16 @@ const WRONG_BEFORE: [Hdu<'static>; 2] = [
     },
 ];
 
-/// Faults of headers, and of rows, where the lines of the HDUs before stand.
+/// Faults of headers, and of rows, for which the lines of the HDUs before are printed.
 static REFUSALS: [Refusal; 10] = [
-    // of two faulty rows the lower is told
+    // of two faulty rows the lower is reported
     Refusal {
         command: "verify",
         hdus: &GRID_PACKED,
         change: Change::Table(&[], &[(56, &[0, 0, 0, 16]), (88, &[0, 0, 0, 16])]),
         lines: "HDU 0 datasum none checksum none tiles -\nrefused: 18 DescriptorRange hdu 1 row 3\n",
     },
-    // a faulty row is told, and not that a sum before it is wrong
+    // a faulty row is reported, and not that a sum before it is wrong
     Refusal {
         command: "verify",
         hdus: &WRONG_BEFORE,
