@@ -3,7 +3,6 @@
 one was not proved is checked with it as source. Verdicts in /work/base/build.log; output of each in crates/X/out/gcheck.log or check.log."""
 import subprocess,sys,os,time,threading
 from pathlib import Path
-sys.argv_=sys.argv
 TOP=Path(sys.argv[1]).resolve(); only=set(sys.argv[2:])
 G='/work/base/gcheck'
 deps={}
