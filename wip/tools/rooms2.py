@@ -1,5 +1,5 @@
 #!/usr/bin/env python3
-"""rooms2.py TOP [--commit] [--fmt] STEP..: further steps over rooms.py (checks)."""
+"""rooms2.py TOP [--commit] [--fmt] STEP..: further steps over rooms.py: views, retile, checks (see NEXT.md)."""
 import subprocess
 import sys
 from pathlib import Path
