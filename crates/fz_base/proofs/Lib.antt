@@ -1,4 +1,5 @@
 pub mod Amending
+pub mod Compared
 pub mod Logs
 pub mod Overwriting
 pub mod Ranges

@@ -3,6 +3,7 @@ pub mod Buffer
 pub mod Counts
 pub mod FirstByte
 pub mod JobBuffers
+pub mod Keeps
 pub mod Kind
 pub mod MemSink
 pub mod MemSource

@@ -1,10 +1,14 @@
 -- What the calls of a source answer and log. Held bytes and ranges are none if a source does not show them.
-use Rattle.std.specs.Prelude.{ℕ, ◌≡◌, ◌+◌, ◌<◌, ◌≤◌, ◌⊎◌, All, List, [], ◌∷◌, ◌++◌, length, take, drop, Option, Some, IfSome, Result, Ok, Err}
+use Rattle.std.specs.Prelude.{ℕ, ◌≡◌, ◌+◌, ◌<◌, ◌≤◌, ◌⊎◌, All, Bool, bytes_eq, List, [], ◌∷◌, ◌++◌, length, take, drop, Option, Some, IfSome, Result, Ok, Err}
 use Rattle.std.specs.Option.{option_map}
 
 -- the buffer has the held bytes from a place on
 abbrev pub Reads : Option (List ℕ) → ℕ → List ℕ → Type 0
 Reads held at buffer = IfSome held (λ bytes. buffer ≡ take (length buffer) (drop at bytes))
+
+-- the file has these bytes from a place on
+abbrev pub has_bytes : List ℕ → ℕ → List ℕ → Bool
+has_bytes file at bytes = bytes_eq (take (length bytes) (drop at file)) bytes
 
 -- the ranges read, with one more: where it starts, and its length
 abbrev pub logged : ℕ → ℕ → Option (List (ℕ × ℕ)) → Option (List (ℕ × ℕ))

@@ -2,13 +2,14 @@
 //!
 //! Reading order: `kind`, `fault`, `failure`; the traits `source`, `sink`, `store`, `text`, `gate`;
 //! `calls`, `placing` and the objects in memory `mem_source`, `fixed_source`, `mem_sink`, `mem_store`,
-//! `mem_text`; the adapters `file_source`, `file_sink`, `file_store`, `std_text`; `output`, `amends` and
-//! `laws`; `buffer` and `meter`.
+//! `mem_text`; the adapters `file_source`, `file_sink`, `file_store`, `std_text`; `output`, `amends`,
+//! `compare` and `laws`; `buffer` and `meter`.
 #![tactic(auto)]
 
 mod amends;
 mod buffer;
 mod calls;
+mod compare;
 mod failure;
 mod fault;
 mod file_sink;
@@ -33,6 +34,7 @@ mod text;
 
 pub use amends::amend_at;
 pub use buffer::{Bytes, Numbers};
+pub use compare::has_bytes;
 pub use failure::{Failed, NoMemory, Short, Stop};
 pub use fault::{Fault, Place};
 pub use file_sink::FileSink;

@@ -1,7 +1,8 @@
 //! How an output is written: its first byte last, so that what was cut short is no FITS file.
 ghost use Rattle.std.specs.Prelude.{ℕ, ◌≡◌, ◌+◌, ◌^◌, ◌≤◌, ◌<◌, true, IsTrue};
 ghost use Rattle.std.specs.Prelude.{take, drop, length as len, Some, IfSome, OnOk, OnErr};
-ghost use Rattle.fz_base.specs.FirstByte.{StaysShut, StopsSealing, StopsShut, with_first_byte};
+ghost use Rattle.fz_base.specs.FirstByte.{StopsSealing, StopsShut, with_first_byte};
+ghost use Rattle.fz_base.specs.Keeps.{SinkStays, SourceStays};
 ghost use Rattle.fz_base.specs.Sink.{written, MayWrite};
 ghost use Rattle.fz_base.specs.Source.{LogsWithin};
 ghost use Rattle.fz_base.specs.Stop.{ReadsAndWrites, Writes};
@@ -16,9 +17,7 @@ pub fn write_behind<K: Sink>(sink: &mut K, at: u64, bytes: &[u8]) -> Result<(), 
     requires behind { 0 < at }
     ensures written { OnOk result (K.contents sink.new ≡ written at bytes.now (K.contents sink.old)) }
     ensures partly { OnErr result (MayWrite at bytes.now (K.contents sink.old) (K.contents sink.new)) }
-    ensures shut { StaysShut (K.contents sink.old) (K.contents sink.new) }
-    ensures told { StaysTold (K.contents sink.old) (K.contents sink.new) }
-    ensures created { K.created sink.new ≡ K.created sink.old }
+    ensures sink { SinkStays K.created K.contents sink.old sink.new }
     ensures cause { Writes (K.tally sink.old) (K.tally sink.new) result }
 {
     if bytes.is_empty() {
@@ -44,12 +43,9 @@ pub fn copy<S: Source, K: Sink>(
     requires behind { 0 < to }
     ensures copied { OnOk result (IfSome (S.held source.old)
         (λ g. K.contents sink.new ≡ written to (take count (drop from g)) (K.contents sink.old))) }
-    ensures shut { StaysShut (K.contents sink.old) (K.contents sink.new) }
-    ensures told { StaysTold (K.contents sink.old) (K.contents sink.new) }
+    ensures sink { SinkStays K.created K.contents sink.old sink.new }
     ensures log { LogsWithin from (from + count) (S.ranges source.old) (S.ranges source.new) }
-    ensures held { S.held source.new ≡ S.held source.old }
-    ensures attached { S.attached source.new ≡ S.attached source.old }
-    ensures created { K.created sink.new ≡ K.created sink.old }
+    ensures source { SourceStays S.held S.attached S.ranges source.old source.new }
     ensures cause { ReadsAndWrites (S.tally source.old) (S.tally source.new) (K.tally sink.old) (K.tally sink.new) result }
 {
     let mut done = 0;
@@ -81,12 +77,9 @@ fn copy_piece<S: Source, K: Sink>(
     requires behind { 0 < to }
     ensures copied { OnOk result (IfSome (S.held source.old)
         (λ g. K.contents sink.new ≡ written to (take (len piece.old) (drop from g)) (K.contents sink.old))) }
-    ensures shut { StaysShut (K.contents sink.old) (K.contents sink.new) }
-    ensures told { StaysTold (K.contents sink.old) (K.contents sink.new) }
+    ensures sink { SinkStays K.created K.contents sink.old sink.new }
     ensures log { LogsWithin from (from + len piece.old) (S.ranges source.old) (S.ranges source.new) }
-    ensures held { S.held source.new ≡ S.held source.old }
-    ensures attached { S.attached source.new ≡ S.attached source.old }
-    ensures created { K.created sink.new ≡ K.created sink.old }
+    ensures source { SourceStays S.held S.attached S.ranges source.old source.new }
     ensures cause { ReadsAndWrites (S.tally source.old) (S.tally source.new) (K.tally sink.old) (K.tally sink.new) result }
 {
     source.read_at(from, piece).map_err(Stop::reading)?;

@@ -3,37 +3,8 @@
 
 ghost use Rattle.fz_bits.specs.Bits.{number_bits, bits_of, IsAhead};
 ghost use Rattle.std.specs.Int.Count.{count_leading_zeros};
-ghost use Rattle.std.specs.Prelude.{
-  ◌≡◌,
-  ℕ,
-  ◌+◌,
-  ◌-◌,
-  ◌*◌,
-  ◌/◌,
-  ◌%◌,
-  ◌^◌,
-  ◌<◌,
-  ◌≤◌,
-  ◌⊎◌,
-  ◌↔◌,
-  true,
-  false,
-  [],
-  ◌∷◌,
-  ◌++◌,
-  length,
-  take,
-  drop,
-  replicate,
-  slice_index,
-  ◌≢◌,
-  MatchOption,
-  IsTrue,
-  IsErr,
-  IfOk,
-  OnErr,
-  IsErrOf,
-};
+ghost use Rattle.std.specs.Prelude.{◌≡◌, ℕ, ◌+◌, ◌-◌, ◌*◌, ◌/◌, ◌%◌, ◌^◌, ◌<◌, ◌≤◌, ◌⊎◌, ◌↔◌, true, false, [], ◌∷◌, ◌++◌, length};
+ghost use Rattle.std.specs.Prelude.{take, drop, replicate, slice_index, ◌≢◌, MatchOption, IsTrue, IsErr, IfOk, OnErr, IsErrOf};
 
 use crate::fields::{behind, first};
 

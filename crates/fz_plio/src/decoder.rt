@@ -1,26 +1,7 @@
 //! Line lists read.
 
-ghost use Rattle.std.specs.Prelude.{
-  ◌≡◌,
-  ℕ,
-  ◌+◌,
-  ◌%◌,
-  ◌^◌,
-  ◌<◌,
-  ◌≤◌,
-  ◌↔◌,
-  ◌++◌,
-  take,
-  length,
-  replicate,
-  IfOk,
-  OnOk,
-  OnErr,
-  IsErr,
-  Some,
-  None,
-  MatchResult,
-};
+ghost use Rattle.std.specs.Prelude.{◌≡◌, ℕ, ◌+◌, ◌%◌, ◌^◌, ◌<◌, ◌≤◌, ◌↔◌, ◌++◌, take, length};
+ghost use Rattle.std.specs.Prelude.{replicate, IfOk, OnOk, OnErr, IsErr, Some, None, MatchResult};
 ghost use Rattle.fz_plio.specs.Words.{words};
 ghost use Rattle.fz_plio.specs.Instructions.{instructions};
 ghost use Rattle.fz_plio.specs.Meaning.{IsRefused, IsLineList, instructions_of, written};

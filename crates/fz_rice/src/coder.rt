@@ -1,29 +1,8 @@
 //! The two calls.
 #![tactic(auto)]
 
-ghost use Rattle.std.specs.Prelude.{
-  ◌≡◌,
-  ℕ,
-  ◌+◌,
-  ◌-◌,
-  ◌*◌,
-  ◌/◌,
-  ◌%◌,
-  ◌^◌,
-  ◌<◌,
-  ◌≤◌,
-  ◌↔◌,
-  ℤ,
-  List,
-  ◌++◌,
-  length,
-  take,
-  All,
-  IsOk,
-  IsErr,
-  IsErrOf,
-  IfOk,
-};
+ghost use Rattle.std.specs.Prelude.{◌≡◌, ℕ, ◌+◌, ◌-◌, ◌*◌, ◌/◌, ◌%◌, ◌^◌, ◌<◌, ◌≤◌, ◌↔◌, ℤ};
+ghost use Rattle.std.specs.Prelude.{List, ◌++◌, length, take, All, IsOk, IsErr, IsErrOf, IfOk};
 ghost use Rattle.fz_bits.specs.Bits.{bits_of};
 ghost use Rattle.fz_rice.specs.Numbers.{IsWidth, IsNumber};
 ghost use Rattle.fz_rice.specs.Producer.{rice_bytes};

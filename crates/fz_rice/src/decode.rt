@@ -5,19 +5,8 @@ ghost use Rattle.std.specs.Prelude.{◌≡◌, ℕ, ◌+◌, ◌-◌, ◌*◌, �
 ghost use Rattle.fz_bits.specs.Reader.{left};
 ghost use Rattle.fz_rice.specs.Numbers.{IsWidth};
 ghost use Rattle.fz_rice.specs.Code.{row};
-ghost use Rattle.fz_rice.specs.Reading.{
-  number_at,
-  zeros_at,
-  split_at,
-  many_at,
-  id_at,
-  block_at,
-  blocks_at,
-  number,
-  Reads,
-  ReadsNumbers,
-  bit_count,
-};
+ghost use Rattle.fz_rice.specs.Reading.{number_at, zeros_at, split_at, many_at, id_at, block_at};
+ghost use Rattle.fz_rice.specs.Reading.{blocks_at, number, Reads, ReadsNumbers, bit_count};
 
 use crate::coder::CodeFault;
 use crate::numbers::{greatest, id_len, next_residue, number, raw_id};

@@ -1,30 +1,8 @@
 //! Reading several values from one word.
 #![tactic(auto)]
 
-ghost use Rattle.std.specs.Prelude.{
-  ◌≡◌,
-  ℕ,
-  ◌+◌,
-  ◌-◌,
-  ◌*◌,
-  ◌/◌,
-  ◌%◌,
-  ◌^◌,
-  ◌<◌,
-  ◌≤◌,
-  min,
-  ℤ,
-  List,
-  [],
-  ◌∷◌,
-  ◌++◌,
-  true,
-  length,
-  take,
-  replicate,
-  IsNone,
-  IfSome,
-};
+ghost use Rattle.std.specs.Prelude.{◌≡◌, ℕ, ◌+◌, ◌-◌, ◌*◌, ◌/◌, ◌%◌, ◌^◌, ◌<◌, ◌≤◌, min, ℤ, List};
+ghost use Rattle.std.specs.Prelude.{[], ◌∷◌, ◌++◌, true, length, take, replicate, IsNone, IfSome};
 ghost use Rattle.fz_bits.specs.Bits.{number_bits};
 ghost use Rattle.fz_bits.specs.Reader.{left};
 ghost use Rattle.fz_rice.specs.Numbers.{IsWidth};

@@ -2,7 +2,6 @@
 use Rattle.std.proofs.Common.{◌≡◌, ℕ, ◌^◌, ◌<◌, ◌≢◌, Bool, true, false, cond, eqb, ltb, List, [], ◌∷◌, length, take, get_or, sym, refl, ap, ◌∙◌, subst, arith}
 use Rattle.std.specs.Prelude.{◌&&◌, Option, Some, None, IfSome, IfNone}
 use Rattle.std.specs.Char.{is_ascii_digit}
-use Rattle.std.specs.List.{list_all}
 use Rattle.std.specs.Option.{option_and_then, option_map}
 use Rattle.std.specs.Str.{all_ascii_digits}
 use Rattle.std.specs.Str.Parse.{IsNumeral, digits_value, without_leading_plus}
@@ -22,10 +21,6 @@ some-if false n v e = cc
 -- digits are the numerals of their value
 digits : IsNumeralModel (λ ds. all_ascii_digits ds ≡ true) (digits_value 10)
 digits = numerals_by_value (λ ds. all_ascii_digits ds ≡ true) tells_all_ascii_digits
-
-pub all-digits : (text : List ℕ) → list_all is_ascii_digit text ≡ all_ascii_digits text
-all-digits [] = refl
-all-digits (b ∷ bs) = ap (λ (rest : Bool). is_ascii_digit b && rest) (all-digits bs)
 
 -- digits begin with no sign
 first-digit : (text : List ℕ) → all_ascii_digits text ≡ true → get_or text 0 0 ≢ 43

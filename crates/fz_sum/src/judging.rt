@@ -6,16 +6,8 @@ ghost use Rattle.fz_card.specs.Reading.{text_of};
 ghost use Rattle.fz_card.specs.CardLists.{cards_in};
 ghost use Rattle.fz_sum.specs.Sums.{ones_sum};
 ghost use Rattle.fz_sum.specs.Texts.{sum_of_card as sum_said};
-ghost use Rattle.fz_sum.specs.Verdicts.{
-  IsDatasumVerdict,
-  IsChecksumVerdict,
-  IsVerdict,
-  verdict_of,
-  is_some_text,
-  is_sum as is_sum_of,
-  datasum_verdict as datasum_verdict_of,
-  checksum_verdict as checksum_verdict_of,
-};
+ghost use Rattle.fz_sum.specs.Verdicts.{IsDatasumVerdict, IsChecksumVerdict, IsVerdict, verdict_of, is_some_text, is_sum as is_sum_of};
+ghost use Rattle.fz_sum.specs.Verdicts.{datasum_verdict as datasum_verdict_of, checksum_verdict as checksum_verdict_of};
 ghost use Rattle.fz_sum.specs.declared.verdicts.Verdict.{Verdict};
 
 use crate::text::sum_of_card;

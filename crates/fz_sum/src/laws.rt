@@ -1,25 +1,6 @@
 //! Laws of sums, of their characters and of their cards.
-ghost use Rattle.std.specs.Prelude.{
-  ◌≡◌,
-  ℕ,
-  ◌+◌,
-  ◌*◌,
-  ◌-◌,
-  ◌%◌,
-  ◌<◌,
-  ◌≤◌,
-  ◌≢◌,
-  ◌^◌,
-  ◌↔◌,
-  IsTrue,
-  List,
-  ◌++◌,
-  length,
-  take,
-  drop,
-  replicate,
-  slice_index,
-};
+ghost use Rattle.std.specs.Prelude.{◌≡◌, ℕ, ◌+◌, ◌*◌, ◌-◌, ◌%◌, ◌<◌, ◌≤◌, ◌≢◌, ◌^◌, ◌↔◌, IsTrue};
+ghost use Rattle.std.specs.Prelude.{List, ◌++◌, length, take, drop, replicate, slice_index};
 ghost use Rattle.std.specs.Int.{w32, to_be_bytes};
 ghost use Rattle.std.specs.List.{concat, list_all};
 ghost use Rattle.std.specs.List.Sorted.{IsPermutation};

@@ -1,9 +1,10 @@
 //! The number that the text of a DATASUM card gives.
 ghost use Rattle.std.specs.Prelude.{◌≡◌, ℕ, IfSome, IfNone, length};
-ghost use Rattle.std.specs.Str.{all_ascii_digits};
 ghost use Rattle.fz_sum.specs.Texts.{GivesSum, CardGivesSum, sum_of_text, sum_of_card, sum_of_digits};
 
-use fz_card::{Card, FIELD_LEN, blanks_law, card_laws, whole_number, without_first_blanks};
+use fz_card::{
+    Card, FIELD_LEN, are_digits, blanks_law, card_laws, whole_number, without_first_blanks,
+};
 
 /// The sum that this text gives: after any blanks at its front, one or more digits that write a number of 32 bits
 /// (FITS 4.0, section 4.4.2.7). Any other text gives none.
@@ -37,10 +38,4 @@ fn sum_of_digits(digits: &[u8]) -> Option<u32>
     } else {
         None
     }
-}
-
-fn are_digits(text: &[u8]) -> bool
-    ensures { result ≡ all_ascii_digits text.now }
-{
-    text.iter().all(u8::is_ascii_digit)
 }

@@ -34,8 +34,8 @@ loop-done-preserved g c =
       log = logs_both (IsRangeBetween c.args.from (c.args.from + c.args.count)) (g.S.Source.ranges c.args.source.now) (g.S.Source.ranges c.loop-done.source) (g.S.Source.ranges c.copy_piece.new.source)
           c.loop-done.invariant.log
           (logs_within_wider from to c.args.from (c.args.from + c.args.count) (g.S.Source.ranges c.loop-done.source) (g.S.Source.ranges c.copy_piece.new.source) (omega arith) (omega arith) more);
-      shut = λ shut. c.in_ok-copy_piece.ensures.shut (c.loop-done.invariant.shut shut);
-      told = λ told. c.in_ok-copy_piece.ensures.told (c.loop-done.invariant.told told);
+      shut = λ shut. c.in_ok-copy_piece.ensures.sink.shut (c.loop-done.invariant.shut shut);
+      told = λ told. c.in_ok-copy_piece.ensures.sink.told (c.loop-done.invariant.told told);
       copied = written-piece held (g.K.Sink.contents c.args.sink.now) (g.K.Sink.contents c.loop-done.sink) (g.K.Sink.contents c.copy_piece.new.sink) c.args.from c.args.to c.loop-done.done c.min-piece.result
           (held-within held c.requires.within.0 (c.args.from + (c.loop-done.done + c.min-piece.result)) told (omega (arith, c.requires.within.2))) c.loop-done.invariant.copied piece;
     }
