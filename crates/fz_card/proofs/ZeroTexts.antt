@@ -246,7 +246,7 @@ zero-some text is =
     omega (arith, is.some, ap length is.parts, length-append is.sign (zeros is.whole ++ (is.point ++ (zeros is.fraction ++ is.exponent))), length-append (zeros is.whole) (is.point ++ (zeros is.fraction ++ is.exponent)), length-append is.point (zeros is.fraction ++ is.exponent), length-append (zeros is.fraction) is.exponent, length-zeros is.whole, length-zeros is.fraction)
 
 -- the digits of a text, one by one
-all-digits : (text : List ℕ) → list_all is_ascii_digit text ≡ all_ascii_digits text
+pub all-digits : (text : List ℕ) → list_all is_ascii_digit text ≡ all_ascii_digits text
 all-digits [] = refl
 all-digits (b ∷ bs) = ap (λ (rest : Bool). is_ascii_digit b && rest) (all-digits bs)
 

@@ -1,5 +1,6 @@
 //! Whether the value of a card is zero.
 ghost use Rattle.std.specs.Prelude.{◌≡◌, ◌↔◌, ℕ, List, Bool, Some, IfSome, IfNone};
+ghost use Rattle.std.specs.Str.{all_ascii_digits};
 ghost use Rattle.fz_card.specs.Value.{ZeroValue, HasValue};
 ghost use Rattle.fz_card.specs.Zeros.{skip_zeros, skip_point, is_numeral, is_exponent, is_zero_number, is_zero_text, zero_in};
 ghost use Rattle.fz_card.specs.Reading.{zero_of};
@@ -49,7 +50,8 @@ fn without_zeros(mut text: &[u8]) -> &[u8]
     text
 }
 
-fn without_point(text: &[u8]) -> &[u8]
+/// The text without a point at its front.
+pub fn without_point(text: &[u8]) -> &[u8]
     ensures { result.now ≡ skip_point text.now }
 {
     match text {
@@ -67,6 +69,13 @@ fn is_exponent(text: &[u8]) -> bool
         [b'E' | b'D', exponent @ ..] => is_numeral(without_sign(exponent)),
         _ => false,
     }
+}
+
+/// Whether the text is only digits.
+pub fn are_digits(text: &[u8]) -> bool
+    ensures { result ≡ all_ascii_digits text.now }
+{
+    text.iter().all(u8::is_ascii_digit)
 }
 
 fn is_numeral(digits: &[u8]) -> bool

@@ -1,6 +1,0 @@
--- By the bounds of a decimal and of its text.
-use Rattle.fz_wcs.proofs.ShiftedCards.{shifted_is_card}
-use Rattle.fz_wcs.proofs.shifting.shifted_card_law.Goals as goal
-
-pub returns : goal.returns
-returns c = shifted_is_card c.decimal_law.ensures c.made_cards_law.ensures

@@ -1,6 +1,0 @@
-use Rattle.std.proofs.Common.{arith}
-use Rattle.fz_wcs.proofs.NumberLemmas.{power-positive}
-use Rattle.fz_wcs.proofs.writing.decimal_line.Goals as goal
-
-pub nonzero_div-size : goal.nonzero_div-size
-nonzero_div-size c = omega (arith, c.power_of_ten.ensures.value, power-positive c.args.decimal.places)

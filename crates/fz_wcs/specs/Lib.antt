@@ -1,4 +1,0 @@
-pub mod Decimals
-pub mod Scans
-pub mod Reading
-pub mod Laws
