@@ -1,19 +1,21 @@
 -- A header that is read once more: what is said of one that the buffer has room for, and of one that it has not.
-use Rattle.std.proofs.Common.{◌≡◌, ℕ, ◌+◌, ◌*◌, ◌≤◌, ◌<◌, Bool, true, false, nat_lt, List, ◌∷◌, length, take, drop, Option, Some, None, IfSome, Result, Ok, Err, refl, sym, ◌∙◌, ap, subst, arith}
+use Rattle.std.proofs.Common.{◌≡◌, ℕ, ◌+◌, ◌*◌, ◌≤◌, ◌<◌, Bool, true, false, nat_lt, List, ◌∷◌, length, take, drop, Option, Some, None, IfSome, Result, Ok, Err, refl, sym, ◌∙◌, ap, arith}
 use Rattle.std.proofs.lemmas.Bool.Decides.{nat_tests}
-use Rattle.std.proofs.lemmas.List.{length-take, length-drop}
+use Rattle.std.proofs.lemmas.List.{length-take, length-take-le, length-drop}
 use Rattle.fz_base.specs.Refusal.{refusal, first_refusal}
+use Rattle.fz_base.specs.Source.{HoldsLength}
 use Rattle.fz_base.specs.Stop.{IsDefined}
 use Rattle.fz_base.specs.declared.fault.Fault.{Fault}
 use Rattle.fz_base.specs.declared.fault.Place.TheVariants.{Card}
 use Rattle.fz_base.specs.declared.kind.Kind.TheVariants.{BadCard}
 use Rattle.fz_base.specs.declared.failure.Stop.{Stop}
 use Rattle.fz_base.specs.declared.failure.Stop.TheVariants.{Refused, ReadFault, WriteFault, OverLimit, NoMemory}
-use Rattle.fz_block.specs.Again.{where_room, hdu_again_at}
+use Rattle.fz_block.specs.Again.{HasBlocks, where_room, hdu_again_at}
 use Rattle.fz_block.specs.Cards.{end_of}
 use Rattle.fz_block.specs.Checks.{header_room, block_checks, blocks_to_end, header_blocks_of, header_of, header_in, hdu_at}
 use Rattle.fz_block.specs.declared.header.Header.{Header}
 use Rattle.fz_block.proofs.HduLemmas.{answered, blocks_inside, is_answered, blocks_of}
+use Rattle.fz_block.proofs.Nexts.{at_header}
 use Rattle.fz_block.proofs.Refusals.{back_passed}
 
 -- its blocks were not found
@@ -34,11 +36,13 @@ in_room k start n room g blocks fits =
     let test : nat_lt room (2880 * n) ≡ false = grind (arith, nat_tests, fits) in
     ap (where_room room k start g) blocks ∙ (rw test refl)
 
-pub with_room : (held : Option (List ℕ)) (k start n room : ℕ) (answer : Result Header Stop) → IfSome held (λ g. header_blocks_of k start g ≡ Ok n) → 2880 * n ≤ room →
-    IfSome held (λ g. IsDefined (hdu_at k start g) answer) → IfSome held (λ g. IsDefined (hdu_again_at room k start g) answer)
-with_room None k start n room answer blocks fits e = tt
-with_room (Some g) k start n room answer blocks fits e =
-    subst (λ (r : Result Header Fault). IsDefined r answer) (sym (in_room k start n room g blocks fits)) e
+-- and its blocks were kept in it as they were found
+pub found_kept : (held : Option (List ℕ)) (len k start n room : ℕ) (buf : List ℕ) (answer : Result Header Fault) → HoldsLength held len → IfSome held (λ g. header_blocks_of k start g ≡ Ok n) →
+    length buf ≡ room → 2880 * n ≤ length buf → HasBlocks held start n buf → answer ≡ header_of k start len (take (2880 * n) buf) → IfSome held (λ g. hdu_again_at room k start g ≡ answer)
+found_kept None len k start n room buf answer told blocks long fits kept is = tt
+found_kept (Some g) len k start n room buf answer told blocks long fits kept is =
+    let size : length (take (2880 * n) buf) ≡ 2880 * n = length-take-le (2880 * n) buf fits in
+    in_room k start n room g blocks (omega (arith, fits, long)) ∙ at_header g (take (2880 * n) buf) len k start n answer told blocks size (kept fits) (sym is)
 
 -- the buffer has no room for it
 too_long : (k start n room : ℕ) (g : List ℕ) → header_blocks_of k start g ≡ Ok n → room < 2880 * n → hdu_again_at room k start g ≡ Err (refusal k (Card 0) BadCard)

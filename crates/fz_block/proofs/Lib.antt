@@ -10,6 +10,7 @@ pub mod Going
 pub mod Groups
 pub mod HduLemmas
 pub mod HeaderLemmas
+pub mod Kept
 pub mod MandatoryLemmas
 pub mod Named
 pub mod Nexts

@@ -1,7 +1,7 @@
 -- The next header of a file: what its two calls say together.
-use Rattle.std.proofs.Common.{◌≡◌, ℕ, ◌+◌, ◌*◌, ◌≤◌, ◌<◌, max, min, false, nat_lt, List, [], ◌∷◌, length, take, drop, Option, Some, None, IfSome, Result, Ok, Err, refl, sym, ◌∙◌, ap, arith}
+use Rattle.std.proofs.Common.{◌≡◌, ℕ, ◌+◌, ◌*◌, ◌≤◌, max, min, false, nat_lt, List, [], ◌∷◌, length, take, drop, Option, Some, None, IfSome, Result, Ok, Err, refl, sym, ◌∙◌, ap, arith}
 use Rattle.std.proofs.lemmas.Bool.Decides.{nat_tests}
-use Rattle.fz_base.specs.Source.{Reads, HoldsLength, LogsWithin, MayLog}
+use Rattle.fz_base.specs.Source.{Reads, HoldsLength, LogsWithin}
 use Rattle.fz_base.specs.Stop.{IsDefined, IfAnswered}
 use Rattle.fz_base.specs.Refusal.{first_refusal}
 use Rattle.fz_base.specs.Takings.{first_past, highest}
@@ -14,11 +14,7 @@ use Rattle.fz_block.specs.Takings.{header_taking}
 use Rattle.fz_block.specs.declared.header.Header.{Header}
 use Rattle.fz_block.proofs.HduLemmas.{answered}
 use Rattle.fz_block.proofs.Refusals.{front_passed}
-use Rattle.fz_block.proofs.Touched.{LogsBoth}
-
--- what the law of logs says of one read between two places
-abbrev pub LogsOne : Type 0
-LogsOne = (from to at count : ℕ) (old new : Option (List (ℕ × ℕ))) → 0 < count → from ≤ at → at + count ≤ to → MayLog at count old new → LogsWithin from to old new
+use Rattle.fz_block.proofs.Touched.{LogsBoth, LogsWider}
 
 -- the blocks were not found
 pub blocks_refuse : (held : Option (List ℕ)) (k start : ℕ) (stop : Stop) → IfSome held (λ g. IsDefined (header_blocks_of k start g) (Err stop)) →
@@ -32,7 +28,7 @@ blocks_refuse (Some g) k start (OverLimit live asked limit) e = tt
 blocks_refuse (Some g) k start NoMemory e = tt
 
 -- the header that was read is that of the file
-at_header : (g header : List ℕ) (len k start n : ℕ) (r : Result Header Fault) → length g ≡ len → header_blocks_of k start g ≡ Ok n → length header ≡ 2880 * n →
+pub at_header : (g header : List ℕ) (len k start n : ℕ) (r : Result Header Fault) → length g ≡ len → header_blocks_of k start g ≡ Ok n → length header ≡ 2880 * n →
     header ≡ take (length header) (drop start g) → header_of k start len header ≡ r → hdu_at k start g ≡ r
 unfolding hdu_at
 at_header g header len k start n r told blocks whole read e =
@@ -66,12 +62,12 @@ peak_given (Some g) old new live k start n blocks low =
     let most : highest (header_taking live (header_blocks_of k start g)) ≡ max (live + 2880 * n) 0 = ap (λ b. highest (header_taking live b)) blocks in
     omega (arith, most, low)
 
--- what was read to find the blocks, and then the header
-pub logs_next : LogsOne → LogsBoth → (len start n count : ℕ) (old mid new : Option (List (ℕ × ℕ))) → count ≡ 2880 * n → 0 < n → n ≤ 256 → start + 2880 * n ≤ len →
-    LogsWithin start (min len (start + 737280)) old mid → MayLog start count mid new → LogsWithin start (min len (start + 737280)) old new
-logs_next one both len start n count old mid new size some few within first second =
+-- what was read to find the blocks, and then of the header
+pub logs_next : LogsBoth → LogsWider → (len start n count : ℕ) (old mid new : Option (List (ℕ × ℕ))) → count ≡ 2880 * n → n ≤ 256 → start + 2880 * n ≤ len →
+    LogsWithin start (min len (start + 737280)) old mid → LogsWithin start (start + count) mid new → LogsWithin start (min len (start + 737280)) old new
+logs_next both wider len start n count old mid new size few within first second =
     both start (min len (start + 737280)) old mid new first
-    (one start (min len (start + 737280)) start count mid new (omega (arith, size, some)) (omega arith) (omega (arith, size, few, within)) second)
+    (wider start (start + count) start (min len (start + 737280)) mid new (omega arith) (omega (arith, size, few, within)) second)
 
 -- the blocks that were found are looked at
 found_parts : (k start n : ℕ) (g : List ℕ) → header_blocks_of k start g ≡ Ok n → (first_refusal (begin_checks k start g) ≡ None) × (blocks_to_end (end_of (header_room start g)) ≡ n)
@@ -93,11 +89,11 @@ touched_found k start n g is within =
     ap (λ r. blocks_looked_at r (end_of (header_room start g))) parts.0 in
     omega (arith, parts.1, many, same, within)
 
-pub touched_next : LogsOne → LogsBoth → (held : Option (List ℕ)) (len k start n count : ℕ) (old mid new : Option (List (ℕ × ℕ))) → HoldsLength held len → IfSome held (λ g. header_blocks_of k start g ≡ Ok n) →
-    count ≡ 2880 * n → 0 < n → start + 2880 * n ≤ len → IfSome held (λ g. LogsWithin start (header_touched k start g) old mid) → MayLog start count mid new →
+pub touched_next : LogsBoth → LogsWider → (held : Option (List ℕ)) (len k start n count : ℕ) (old mid new : Option (List (ℕ × ℕ))) → HoldsLength held len → IfSome held (λ g. header_blocks_of k start g ≡ Ok n) →
+    count ≡ 2880 * n → start + 2880 * n ≤ len → IfSome held (λ g. LogsWithin start (header_touched k start g) old mid) → LogsWithin start (start + count) mid new →
     IfSome held (λ g. LogsWithin start (header_touched k start g) old new)
-touched_next one both None len k start n count old mid new told blocks size some within first second = tt
-touched_next one both (Some g) len k start n count old mid new told blocks size some within first second =
+touched_next both wider None len k start n count old mid new told blocks size within first second = tt
+touched_next both wider (Some g) len k start n count old mid new told blocks size within first second =
     let most = touched_found k start n g blocks (omega (arith, told, within)) in
     both start (header_touched k start g) old mid new first
-    (one start (header_touched k start g) start count mid new (omega (arith, size, some)) (omega arith) (omega (arith, size, most)) second)
+    (wider start (start + count) start (header_touched k start g) mid new (omega arith) (omega (arith, size, most)) second)

@@ -1,11 +1,20 @@
 -- A header that is read once more, into a buffer that is there already (FITS 4.0, sections 3.3.1 and 4.4.1).
-use Rattle.std.specs.Prelude.{ℕ, ◌*◌, nat_lt, List, Result, Ok, Err, if◌then◌else◌}
+use Rattle.std.specs.Prelude.{ℕ, ◌≡◌, ◌+◌, ◌-◌, ◌*◌, ◌≤◌, nat_lt, List, length, take, Option, Result, Ok, Err, if◌then◌else◌}
 use Rattle.fz_base.specs.Refusal.{refusal}
+use Rattle.fz_base.specs.Source.{Reads}
 use Rattle.fz_base.specs.declared.fault.Fault.{Fault}
 use Rattle.fz_base.specs.declared.fault.Place.TheVariants.{Card}
 use Rattle.fz_base.specs.declared.kind.Kind.TheVariants.{BadCard}
 use Rattle.fz_block.specs.Checks.{header_blocks_of, hdu_at}
 use Rattle.fz_block.specs.declared.header.Header.{Header}
+
+-- so many blocks of the header that begins at this byte are at the front of a buffer, if it has room for them
+abbrev pub HasBlocks : Option (List ℕ) → ℕ → ℕ → List ℕ → Type 0
+HasBlocks held start n buf = 2880 * n ≤ length buf → Reads held start (take (2880 * n) buf)
+
+-- a buffer of one block is the last of so many blocks of the header that begins at this byte
+abbrev pub IsLastBlock : Option (List ℕ) → ℕ → ℕ → List ℕ → Type 0
+IsLastBlock held start n buf = length buf ≡ 2880 → Reads held (start + (2880 * n - 2880)) buf
 
 -- The header whose blocks were found, in a buffer of so many bytes. A longer one is another than was met before, for which the
 -- buffer was taken.

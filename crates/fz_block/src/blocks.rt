@@ -1,8 +1,10 @@
 //! The blocks of a header.
 ghost use Rattle.std.specs.Prelude.{◌≡◌, ◌⊎◌, ◌+◌, ◌*◌, ◌≤◌, ◌<◌, Ok, Some, min, take, drop, codes, bytes_eq, length as len, IfOk, IfErr, IfSome};
 ghost use Rattle.fz_base.specs.Counts.{HasCause};
+ghost use Rattle.fz_base.specs.Keeps.{SourceStays};
 ghost use Rattle.fz_base.specs.Stop.{ReadsOnly, IsDefined, IfRefused};
-ghost use Rattle.fz_base.specs.Source.{LogsWithin};
+ghost use Rattle.fz_base.specs.Source.{LogsWithin, Reads};
+ghost use Rattle.fz_block.specs.Again.{HasBlocks, IsLastBlock};
 ghost use Rattle.fz_block.specs.Checks.{IsBlockRefusal, header_blocks_of, header_touched};
 ghost use Rattle.fz_block.specs.Scan.{begin_says, block_says, next_block_says};
 
@@ -23,6 +25,9 @@ const MAX_BLOCKS: u32 = 256;
 /// Reads the header at `start` block by block, and answers the number of its blocks up to the one
 /// with END (FITS 4.0, sections 3.3.1 and 3.4.1).
 ///
+/// The blocks are read into the buffer, one after another, as long as it has room for them. Each of those that follow is read
+/// into its last 2,880 bytes.
+///
 /// Refused, in this order: this is the 65,537th HDU (Limit); bytes after an HDU do not begin with
 /// `XTENSION` (TrailingBytes); a block of the header passes the end of the file (Truncated); card 0 of
 /// HDU 0 is not SIMPLE with T (NotFits); 256 blocks have no END (LongHeader).
@@ -31,23 +36,24 @@ pub fn header_blocks<S: Source>(
     length: u64,
     hdu: u32,
     start: u64,
-    block: &mut [u8],
+    buf: &mut [u8],
 ) -> Result<u32, Stop>
     requires attached { S.attached source.old ≡ Some length }
-    requires block { len block.old ≡ 2880 }
+    requires room { 2880 ≤ len buf.old }
     requires within { (start < length) ⊎ ((hdu ≡ 0) × (start ≡ 0)) }
     ensures range { IfOk result (λ n. (0 < n) × (n ≤ 256) × (start + 2880 * n ≤ length)) }
     ensures exact { IfSome (S.held source.old) (λ g. IsDefined (header_blocks_of hdu start g) result) }
+    ensures kept { IfOk result (λ n. HasBlocks (S.held source.old) start n buf.new) }
+    ensures last { IfOk result (λ n. IsLastBlock (S.held source.old) start n buf.new) }
     ensures log { LogsWithin start (min length (start + 737280)) (S.ranges source.old) (S.ranges source.new) }
     ensures touched { IfSome (S.held source.old) (λ g. LogsWithin start (header_touched hdu start g) (S.ranges source.old) (S.ranges source.new)) }
     ensures refused { IfRefused result (λ x. (x.hdu ≡ hdu) × IsBlockRefusal x.kind) }
-    ensures held { S.held source.new ≡ S.held source.old }
-    ensures attached { S.attached source.new ≡ S.attached source.old }
+    ensures source { SourceStays S.held S.attached S.ranges source.old source.new }
     ensures cause { ReadsOnly (S.tally source.old) (S.tally source.new) result }
 {
     log_law();
     check_begin(source, length, hdu, start)?;
-    search_end(source, length, hdu, start, block)
+    search_end(source, length, hdu, start, buf)
 }
 
 // A header may begin here: this HDU is not one too many, and an extension begins with XTENSION.
@@ -57,8 +63,7 @@ fn check_begin<S: Source>(source: &mut S, length: u64, hdu: u32, start: u64) -> 
     ensures exact { IfSome (S.held source.old) (λ g. IsDefined (begin_says hdu start g) result) }
     ensures log { LogsWithin start (min length (start + 2880)) (S.ranges source.old) (S.ranges source.new) }
     ensures refused { IfRefused result (λ x. (x.hdu ≡ hdu) × IsBlockRefusal x.kind) }
-    ensures held { S.held source.new ≡ S.held source.old }
-    ensures attached { S.attached source.new ≡ S.attached source.old }
+    ensures source { SourceStays S.held S.attached S.ranges source.old source.new }
     ensures cause { ReadsOnly (S.tally source.old) (S.tally source.new) result }
 {
     if hdu >= MAX_HDUS {
@@ -84,24 +89,25 @@ fn search_end<S: Source>(
     length: u64,
     hdu: u32,
     start: u64,
-    block: &mut [u8],
+    buf: &mut [u8],
 ) -> Result<u32, Stop>
     requires attached { S.attached source.old ≡ Some length }
-    requires block { len block.old ≡ 2880 }
+    requires room { 2880 ≤ len buf.old }
     requires within { start ≤ length }
     requires begins { IfSome (S.held source.old) (λ g. begin_says hdu start g ≡ Ok tt) }
     ensures range { IfOk result (λ n. (0 < n) × (n ≤ 256) × (start + 2880 * n ≤ length)) }
     ensures exact { IfSome (S.held source.old) (λ g. IsDefined (header_blocks_of hdu start g) result) }
+    ensures kept { IfOk result (λ n. HasBlocks (S.held source.old) start n buf.new) }
+    ensures last { IfOk result (λ n. IsLastBlock (S.held source.old) start n buf.new) }
     ensures log { LogsWithin start (min length (start + 737280)) (S.ranges source.old) (S.ranges source.new) }
     ensures touched { IfSome (S.held source.old) (λ g. LogsWithin start (header_touched hdu start g) (S.ranges source.old) (S.ranges source.new)) }
     ensures refused { IfRefused result (λ x. (x.hdu ≡ hdu) × IsBlockRefusal x.kind) }
-    ensures held { S.held source.new ≡ S.held source.old }
-    ensures attached { S.attached source.new ≡ S.attached source.old }
+    ensures source { SourceStays S.held S.attached S.ranges source.old source.new }
     ensures cause { ReadsOnly (S.tally source.old) (S.tally source.new) result }
 {
     log_law();
     for b in 0..MAX_BLOCKS {
-        if has_end(source, length, hdu, start, b, block)? {
+        if has_end(source, length, hdu, start, b, buf)? {
             return Ok(b + 1);
         }
     }
@@ -115,8 +121,7 @@ fn begins_extension<S: Source>(source: &mut S, length: u64, start: u64) -> Resul
     requires within { start < length }
     ensures exact { IfOk result (λ b. IfSome (S.held source.old) (λ g. b ≡ bytes_eq (take 8 (drop start g)) (codes "XTENSION"))) }
     ensures log { LogsWithin start (min length (start + 2880)) (S.ranges source.old) (S.ranges source.new) }
-    ensures held { S.held source.new ≡ S.held source.old }
-    ensures attached { S.attached source.new ≡ S.attached source.old }
+    ensures source { SourceStays S.held S.attached S.ranges source.old source.new }
     ensures cause { HasCause (S.tally source.old) (S.tally source.new) result }
 {
     log_law();
@@ -128,8 +133,36 @@ fn begins_extension<S: Source>(source: &mut S, length: u64, start: u64) -> Resul
     Ok(first == Name::XTENSION.bytes)
 }
 
-// Reads block b of a header, and answers whether it has END.
+// Reads block b of a header to its place in the buffer, or to the end of one that has no room for it there, and answers
+// whether it has END.
 fn has_end<S: Source>(
+    source: &mut S,
+    length: u64,
+    hdu: u32,
+    start: u64,
+    b: u32,
+    buf: &mut [u8],
+) -> Result<bool, Stop>
+    requires attached { S.attached source.old ≡ Some length }
+    requires room { 2880 ≤ len buf.old }
+    requires within { start + 2880 * b ≤ length }
+    requires few { b < 256 }
+    ensures within { IfOk result (λ e. start + 2880 * (b + 1) ≤ length) }
+    ensures exact { IfSome (S.held source.old) (λ g. IsDefined (next_block_says hdu start b g) result) }
+    ensures len { len buf.new ≡ len buf.old }
+    ensures kept { IfOk result (λ e. HasBlocks (S.held source.old) start b buf.old → HasBlocks (S.held source.old) start (b + 1) buf.new) }
+    ensures last { IfOk result (λ e. IsLastBlock (S.held source.old) start (b + 1) buf.new) }
+    ensures log { LogsWithin (start + 2880 * b) (min length (start + 2880 * (b + 1))) (S.ranges source.old) (S.ranges source.new) }
+    ensures refused { IfRefused result (λ x. (x.hdu ≡ hdu) × IsBlockRefusal x.kind) }
+    ensures source { SourceStays S.held S.attached S.ranges source.old source.new }
+    ensures cause { ReadsOnly (S.tally source.old) (S.tally source.new) result }
+{
+    let at = (BLOCK_LEN * b as usize).min(buf.len() - BLOCK_LEN);
+    read_block(source, length, hdu, start, b, &mut buf[at..at + BLOCK_LEN])
+}
+
+// Reads block b of a header, and answers whether it has END.
+fn read_block<S: Source>(
     source: &mut S,
     length: u64,
     hdu: u32,
@@ -144,10 +177,10 @@ fn has_end<S: Source>(
     ensures within { IfOk result (λ e. start + 2880 * (b + 1) ≤ length) }
     ensures exact { IfSome (S.held source.old) (λ g. IsDefined (next_block_says hdu start b g) result) }
     ensures len { len block.new ≡ 2880 }
+    ensures read { IfOk result (λ e. Reads (S.held source.old) (start + 2880 * b) block.new) }
     ensures log { LogsWithin (start + 2880 * b) (min length (start + 2880 * (b + 1))) (S.ranges source.old) (S.ranges source.new) }
     ensures refused { IfRefused result (λ x. (x.hdu ≡ hdu) × IsBlockRefusal x.kind) }
-    ensures held { S.held source.new ≡ S.held source.old }
-    ensures attached { S.attached source.new ≡ S.attached source.old }
+    ensures source { SourceStays S.held S.attached S.ranges source.old source.new }
     ensures cause { ReadsOnly (S.tally source.old) (S.tally source.new) result }
 {
     log_law();

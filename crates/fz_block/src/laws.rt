@@ -1,30 +1,6 @@
 //! What the definitions of headers and of HDUs promise together.
-ghost use Rattle.std.specs.Prelude.{
-  ◌≡◌,
-  All,
-  Bool,
-  true,
-  false,
-  ℕ,
-  Some,
-  None,
-  ◌+◌,
-  ◌*◌,
-  ◌/◌,
-  ◌^◌,
-  ◌≤◌,
-  ◌<◌,
-  Ok,
-  List,
-  [],
-  ◌∷◌,
-  ◌++◌,
-  length,
-  take,
-  drop,
-  map,
-  codes,
-};
+ghost use Rattle.std.specs.Prelude.{◌≡◌, All, Bool, true, false, ℕ, Some, None, ◌+◌, ◌*◌, ◌/◌, ◌^◌, ◌≤◌};
+ghost use Rattle.std.specs.Prelude.{◌<◌, Ok, List, [], ◌∷◌, ◌++◌, length, take, drop, map, codes};
 ghost use Rattle.std.specs.List.{flat_map, position, range_with_len};
 ghost use Rattle.std.specs.Option.{option_map};
 ghost use Rattle.std.specs.Result.{result_map_both};
@@ -37,18 +13,8 @@ ghost use Rattle.fz_block.specs.Facts.{IsHeaderOf, begun_at, facts_as};
 ghost use Rattle.fz_block.specs.Hdus.{Hdu, hdu_bytes, IsHeader, IsHdu, AreHdusOf, IsCardBeforeEnd, HasBlankFill, cards_of, header_bytes, size_at};
 ghost use Rattle.fz_block.specs.Header.{whole_blocks_of, data_start_of, next_start_of};
 ghost use Rattle.fz_block.specs.Mandatory.{mandatory_checks};
-ghost use Rattle.fz_block.specs.Walk.{
-  hdu_of,
-  StandsAt,
-  PassesAt,
-  PassFrom,
-  facts_from,
-  AreHeadersBetween,
-  AreHeadersFrom,
-  stops,
-  RefusesNone,
-  stop_after,
-};
+ghost use Rattle.fz_block.specs.Walk.{hdu_of, StandsAt, PassesAt, PassFrom, facts_from, AreHeadersBetween};
+ghost use Rattle.fz_block.specs.Walk.{AreHeadersFrom, stops, RefusesNone, stop_after};
 ghost use Rattle.fz_block.specs.declared.header.Header.{Header};
 
 /// A header that is at its place in a file, with its data and their fill in the file, is the header

@@ -1,5 +1,6 @@
 //! The facts of a header, read and checked.
 ghost use Rattle.std.specs.Prelude.{ℕ, ◌≡◌, ◌+◌, ◌*◌, ◌-◌, ◌≤◌, ◌<◌, ◌^◌, true, false, Some, IsNone, take, min, codes, length as len, IfOk, IfSome};
+ghost use Rattle.fz_base.specs.Keeps.{SourceStays};
 ghost use Rattle.fz_base.specs.Stop.{ReadsOnly, IsDefined, IfAnswered};
 ghost use Rattle.fz_base.specs.Source.{Reads, logged, MayLog};
 ghost use Rattle.fz_base.specs.Refusal.{IsFirstOf};
@@ -27,11 +28,7 @@ const MAX_PLACE: u64 = 1 << 62;
 
 /// Reads the header that has so many blocks as the buffer, and answers its facts.
 ///
-/// Refused, in this order: a mandatory card is missing, is in another place or has no allowed value
-/// (BadCard); there are more than 9 axes, or an axis is longer than 2^31 - 1 (Limit); a primary has
-/// random groups (Groups); the data would end after byte 2^62 (Limit), or end after the file
-/// (Truncated). A source that gives other bytes than before, without END in the last block, is refused
-/// with BadCard at card 0.
+/// Refused as by `buffered_header`.
 pub fn read_header<S: Source>(
     source: &mut S,
     length: u64,
@@ -48,8 +45,7 @@ pub fn read_header<S: Source>(
     ensures within { IfOk result (λ h. (next_start_of h ≤ length) × (next_start_of h ≤ 2 ^ 62)) }
     ensures logged { IfAnswered result (S.ranges source.new ≡ logged start (len buf.old) (S.ranges source.old)) }
     ensures log { MayLog start (len buf.old) (S.ranges source.old) (S.ranges source.new) }
-    ensures held { S.held source.new ≡ S.held source.old }
-    ensures attached { S.attached source.new ≡ S.attached source.old }
+    ensures source { SourceStays S.held S.attached S.ranges source.old source.new }
     ensures cause { ReadsOnly (S.tally source.old) (S.tally source.new) result }
 {
     source.read_at(start, buf).map_err(Stop::reading)?;
@@ -59,7 +55,10 @@ pub fn read_header<S: Source>(
 /// The facts of the header of 1 to 256 blocks that is in the buffer, as that of this HDU, which begins
 /// at this byte of a file of this length.
 ///
-/// Refused as by `read_header`, in the same order.
+/// Refused, in this order: the first END is not in the last block (BadCard at card 0), so the source gave other
+/// bytes than before; a mandatory card is missing, is in another place or has no allowed value (BadCard); there are
+/// more than 9 axes, or an axis is longer than 2^31 - 1 (Limit); a primary has random groups (Groups); the data would
+/// end after byte 2^62 (Limit), or end after the file (Truncated).
 pub fn buffered_header(buf: &[u8], length: u64, hdu: u32, start: u64) -> Result<Header, Fault>
     requires blocks { (n : ℕ) × (0 < n) × (n ≤ 256) × (len buf.now ≡ 2880 * n) }
     requires within { start + len buf.now ≤ length }

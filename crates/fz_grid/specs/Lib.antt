@@ -1,7 +1,11 @@
 pub mod Arrays
+pub mod Cutout
+pub mod CutoutLaws
 pub mod Division
 pub mod Grid
 pub mod Laws
+pub mod Line
+pub mod LineWalks
 pub mod Nth
 pub mod Overlap
 pub mod Parts

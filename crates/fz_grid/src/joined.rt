@@ -1,13 +1,6 @@
 //! Along which axes the lines of a region are together in the array.
 ghost use Rattle.std.specs.Prelude.{◌≡◌, ◌≢◌, ℕ, ◌+◌, ◌-◌, ◌<◌, ◌≤◌, slice_index};
-ghost use Rattle.fz_grid.specs.Region.{
-  IsShape,
-  IsWithin,
-  lengths_of,
-  places_of,
-  region_corner,
-  region_lengths,
-};
+ghost use Rattle.fz_grid.specs.Region.{IsShape, IsWithin, lengths_of, places_of, region_corner, region_lengths};
 ghost use Rattle.fz_grid.specs.Arrays.{product};
 ghost use Rattle.fz_grid.specs.Runs.{AreRunsOf, EndWithin, total_length};
 ghost use Rattle.fz_grid.specs.Walks.{runs_left};

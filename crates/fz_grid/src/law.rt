@@ -1,27 +1,10 @@
 //! What the definitions of arrays, tiles and boxes promise.
 ghost use Rattle.std.specs.Prelude.{◌≡◌, ◌↔◌, ℕ, IsTrue, List, length};
-ghost use Rattle.fz_grid.specs.Laws.{
-  BoxesAreInOrder,
-  BoxesHaveTheirPixels,
-  CoordinatesAreInOneTile,
-  DividedArraysAreShapes,
-  DividedArraysHaveTiles,
-  FirstTilesAreLargest,
-  JoinedHasTheTiles,
-  JoinedIsArray,
-  NumbersAreInOneTile,
-  NumbersHavePlaces,
-  PlacesAreInside,
-  PlacesHaveCoordinates,
-  RegionsAreShapes,
-  TilesAreAtTheirPlaces,
-  TilesHaveAPixel,
-  TilesHaveAllPixels,
-  TilesHaveAtMostTheirLengths,
-  TilesHaveTheirPixels,
-  TilesLieInTheArray,
-  TilesMakeOneArray,
-};
+ghost use Rattle.fz_grid.specs.Laws.{BoxesAreInOrder, BoxesHaveTheirPixels, CoordinatesAreInOneTile, DividedArraysAreShapes};
+ghost use Rattle.fz_grid.specs.Laws.{DividedArraysHaveTiles, FirstTilesAreLargest, JoinedHasTheTiles, JoinedIsArray};
+ghost use Rattle.fz_grid.specs.Laws.{NumbersAreInOneTile, NumbersHavePlaces, PlacesAreInside, PlacesHaveCoordinates};
+ghost use Rattle.fz_grid.specs.Laws.{RegionsAreShapes, TilesAreAtTheirPlaces, TilesHaveAPixel, TilesHaveAllPixels};
+ghost use Rattle.fz_grid.specs.Laws.{TilesHaveAtMostTheirLengths, TilesHaveTheirPixels, TilesLieInTheArray, TilesMakeOneArray};
 ghost use Rattle.fz_grid.specs.Overlap.{IsInBox, common_corner, common_lengths, has_pixel};
 
 /// Coordinates below the lengths and numbers below how many places there are belong together, one to

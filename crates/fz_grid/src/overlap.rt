@@ -3,13 +3,7 @@ ghost use Rattle.std.specs.Prelude.{◌≡◌, ◌<◌, ◌↔◌, IfSome, IsSom
 ghost use Rattle.std.specs.List.{AllByRecursion};
 ghost use Rattle.fz_grid.specs.Grid.{tile_corner, tile_count};
 ghost use Rattle.fz_grid.specs.Overlap.{common_corner, has_pixel, overlapping_tiles, shared_lengths};
-ghost use Rattle.fz_grid.specs.Region.{
-  IsWithin,
-  IsZeroFrom,
-  lengths_of,
-  region_corner,
-  region_lengths,
-};
+ghost use Rattle.fz_grid.specs.Region.{IsWithin, IsZeroFrom, lengths_of, region_corner, region_lengths};
 ghost use Rattle.fz_grid.specs.Span.{first_tiles, touched_counts};
 ghost use Rattle.fz_grid.specs.Walks.{tiles_left};
 

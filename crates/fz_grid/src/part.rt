@@ -4,16 +4,7 @@ ghost use Rattle.fz_grid.specs.Grid.{moved};
 ghost use Rattle.fz_grid.specs.Overlap.{has_pixel};
 ghost use Rattle.fz_grid.specs.Parts.{IsPartAlong, IsPartOf};
 ghost use Rattle.fz_grid.specs.Region.{AreSameFrom, IsWithin, IsZeroFrom, region_corner, region_lengths};
-ghost use Rattle.fz_grid.specs.Sieve.{
-  IsSieveOf,
-  picks_before,
-  picks_in,
-  sieve_hi,
-  sieve_lengths,
-  sieve_lo,
-  sieve_step,
-  stepped,
-};
+ghost use Rattle.fz_grid.specs.Sieve.{IsSieveOf, picks_before, picks_in, sieve_hi, sieve_lengths, sieve_lo, sieve_step, stepped};
 
 use crate::sieve::pick_along;
 use crate::{Region, Sieve};

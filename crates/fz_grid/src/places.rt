@@ -2,14 +2,7 @@
 ghost use Rattle.std.specs.Prelude.{◌≡◌, ◌<◌, ◌≤◌, IfSome};
 ghost use Rattle.fz_grid.specs.Arrays.{product};
 ghost use Rattle.fz_grid.specs.Nth.{nth_place};
-ghost use Rattle.fz_grid.specs.Region.{
-  IsShape,
-  IsWithin,
-  lengths_of,
-  places_of,
-  region_corner,
-  region_lengths,
-};
+ghost use Rattle.fz_grid.specs.Region.{IsShape, IsWithin, lengths_of, places_of, region_corner, region_lengths};
 
 use crate::Region;
 use fz_block::Axes;

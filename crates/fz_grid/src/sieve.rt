@@ -86,17 +86,18 @@ impl Sieve {
 }
 
 /// How many picks an axis, which ends at `end`, has.
-fn picks_along(lo: u32, hi: u32, step: u32, end: u32) -> u32
+pub fn picks_along(lo: u32, hi: u32, step: u32, end: u32) -> u32
     requires ordered { lo ≤ hi }
     requires inside { hi < end }
     requires step { 1 ≤ step }
-    ensures { result ≡ pick_count lo hi step }
+    ensures count { result ≡ pick_count lo hi step }
+    ensures most { result ≤ end }
 {
     (hi - lo) / step + 1
 }
 
 /// The `k`-th pick of an axis.
-pub(crate) fn pick_along(lo: u32, hi: u32, step: u32, k: u32) -> u32
+pub fn pick_along(lo: u32, hi: u32, step: u32, k: u32) -> u32
     requires ordered { lo ≤ hi }
     requires inside { k < pick_count lo hi step }
     ensures pick { result ≡ lo + k * step }

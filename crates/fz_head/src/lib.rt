@@ -41,11 +41,11 @@ pub use law::{
     accepted_law, card_in_place_law, sizes_law, sum_cards_law, there_and_back_law, whole_cards_law,
 };
 pub use options::{CodecWord, PackOptions};
-pub use packable::{is_packable, is_packed};
-pub use packed::{codec_name, coded_letter, form_card, stored_letter, to_packed};
+pub use packable::{has_places, is_packable, is_packed};
+pub use packed::{codec_name, coded_letter, coded_unit, form_card, stored_letter, to_packed};
 pub use plain::{to_cut, to_plain};
 pub use plan::Plan;
-pub use planning::pack_plan;
+pub use planning::{pack_plan, parameter_count};
 pub use table_cards::table_check;
 pub use tile_kinds::tile_kind;
 pub use totals::Totals;

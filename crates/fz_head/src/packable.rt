@@ -44,8 +44,8 @@ fn has_array_alone(header: &Header) -> bool
     header.pcount == 0 && header.gcount == 1
 }
 
-// Whether each axis has a place.
-fn has_places(axes: &Axes) -> bool
+/// Whether each axis has a place.
+pub fn has_places(axes: &Axes) -> bool
     requires { axes.now.n ≤ 9 }
     ensures { result ≡ list_all (nat_le 1) (lengths_of axes.now) }
 {

@@ -11,6 +11,7 @@ ghost use Rattle.fz_head.specs.PackedHeader.{column_cards as column_cards_of, ti
 ghost use Rattle.fz_head.specs.PackedHeader.{parameter_cards as parameter_cards_of, sum_cards as sum_cards_of, descriptor_form};
 ghost use Rattle.fz_head.specs.PackedHeader.{coded_letter as coded_letter_of, stored_letter as stored_letter_of};
 ghost use Rattle.fz_head.specs.PackedHeader.{codec_name as codec_name_of, word_card, numbered_word_card};
+ghost use Rattle.fz_head.specs.PackedTable.{coded_unit as coded_unit_of};
 ghost use Rattle.fz_head.specs.Written.{Adds, card_list, first_cards};
 
 use crate::written::{finish, length_card, put, put_all};
@@ -130,6 +131,17 @@ pub fn coded_letter(codec: Codec) -> &'static str
     match codec {
         Codec::Rice { .. } | Codec::Plain => "B",
         Codec::Plio => "I",
+    }
+}
+
+/// The bytes of an element of a coded tile.
+pub fn coded_unit(codec: Codec) -> u32
+    ensures unit { result ≡ coded_unit_of codec }
+    ensures some { 0 < result }
+{
+    match codec {
+        Codec::Rice { .. } | Codec::Plain => 1,
+        Codec::Plio => 2,
     }
 }
 

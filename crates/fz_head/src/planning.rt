@@ -133,8 +133,8 @@ fn packed_count(header: &Header, plan: &Plan, sums: bool) -> u32
     14 + plan.shape.n + parameter_count(plan.codec) + header.cards + sum_count(sums)
 }
 
-// How many cards say the parameters of the codec.
-fn parameter_count(codec: Codec) -> u32
+/// How many cards say the parameters of the codec.
+pub fn parameter_count(codec: Codec) -> u32
     ensures count { result ≡ len (parameter_cards codec) }
     ensures few { result ≤ 4 }
 {

@@ -91,3 +91,8 @@ pub record AreHalves (whole first second : Pool) : Type 0 where
   pub workers : first.workers + second.workers ≡ whole.workers
   pub filled : IsFilled first
   pub others : IsFilled second
+
+-- a window keeps the sizes of its slots, and the number of workers
+pub record WindowStays (old new : Pool) : Type 0 where
+  pub sizes : slot_sizes new.slots ≡ slot_sizes old.slots
+  pub workers : new.workers ≡ old.workers

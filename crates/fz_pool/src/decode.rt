@@ -48,11 +48,8 @@ pub fn decode_window<R: Threads + Sync, G: Gate>(
     ensures kept { KeepsWindow result count window.old window.new }
     ensures none { count ≡ 0 → result ≡ Ok None }
 {
-    let crew = Crew {
-        rt,
-        gate,
-        workers: window.workers(),
-    };
+    let workers = window.workers();
+    let crew = Crew { rt, gate, workers };
     let start = Start::of(window.slot(0));
     let (answer, ()) = code_slots(
         &crew,

@@ -28,11 +28,8 @@ pub fn encode_window<R: Threads + Sync, G: Gate>(
     ensures kept { KeepsWindow result count window.old window.new }
     ensures none { count ≡ 0 → result ≡ Ok tt }
 {
-    let crew = Crew {
-        rt,
-        gate,
-        workers: window.workers(),
-    };
+    let workers = window.workers();
+    let crew = Crew { rt, gate, workers };
     let start = Start::of(window.slot(0));
     code_slots(
         &crew,

@@ -1,17 +1,8 @@
 //! Slots that a meter gives and takes back.
 ghost use Rattle.std.specs.Prelude.{◌≡◌, ◌⊎◌, ◌+◌, ◌*◌, ◌<◌, ◌≤◌, [], length, replicate, max, vec_capacity, IfOk, IfErr, OnOk};
 ghost use Rattle.fz_base.specs.Meter.{taken, handed_back};
-ghost use Rattle.fz_pool.specs.Window.{
-  no_job as empty_job,
-  fresh_slot,
-  fresh_bytes,
-  slot_size,
-  slot_bytes,
-  asked_for,
-  FillRefused,
-  SlotRefused,
-  tried,
-};
+ghost use Rattle.fz_pool.specs.Window.{no_job as empty_job, fresh_slot, fresh_bytes, slot_size};
+ghost use Rattle.fz_pool.specs.Window.{slot_bytes, asked_for, FillRefused, SlotRefused, tried};
 
 use crate::{Job, Slot};
 use fz_base::{Meter, Short};

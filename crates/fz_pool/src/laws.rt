@@ -1,20 +1,6 @@
 //! Laws for those who fill a window, have it coded and read it: no code runs.
-ghost use Rattle.fz_pool.specs.Laws.{
-  AreFresh,
-  AreAsMany,
-  IsAlike,
-  AsksForFresh,
-  AsksAlike,
-  PutsSlot,
-  ReadiesNext,
-  EncodesTiles,
-  TellsLength,
-  DecodesTiles,
-  HasNoFault,
-  IsOneLowest,
-  HalvesAlike,
-  BothAlike,
-};
+ghost use Rattle.fz_pool.specs.Laws.{AreFresh, AreAsMany, IsAlike, AsksForFresh, AsksAlike, PutsSlot, ReadiesNext, EncodesTiles};
+ghost use Rattle.fz_pool.specs.Laws.{TellsLength, DecodesTiles, HasNoFault, IsOneLowest, HalvesAlike, BothAlike};
 
 use fz_tile::{column_law, one_fault_law};
 

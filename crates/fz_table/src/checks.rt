@@ -5,17 +5,8 @@ ghost use Rattle.fz_base.specs.Refusal.{IsFirstOf};
 ghost use Rattle.fz_block.specs.Facts.{IsHeaderOf};
 ghost use Rattle.fz_block.specs.Header.{next_start_of};
 ghost use Rattle.fz_table.specs.Columns.{field_count, form_of, width_of, columns_len};
-ghost use Rattle.fz_table.specs.Tables.{
-  array_checks,
-  field_checks,
-  form_checks,
-  width_checks,
-  heap_checks,
-  heap_start_of,
-  row_len_of,
-  row_count_of,
-  rows_len_of,
-};
+ghost use Rattle.fz_table.specs.Tables.{array_checks, field_checks, form_checks, width_checks, heap_checks};
+ghost use Rattle.fz_table.specs.Tables.{heap_start_of, row_len_of, row_count_of, rows_len_of};
 
 use crate::cards::{bad_table, first_named, form_of, integer_at};
 use fz_base::Fault;

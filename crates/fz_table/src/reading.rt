@@ -1,19 +1,11 @@
 //! The reading of rows and records.
 ghost use Rattle.std.specs.Prelude.{ℕ, ◌≡◌, ◌+◌, ◌-◌, ◌*◌, ◌≤◌, ◌<◌, ◌^◌, length as len, take, drop, Some, IfOk, IfSome, IfNone, OnOk, OnErr};
+ghost use Rattle.fz_base.specs.Keeps.{SourceStays};
 ghost use Rattle.fz_base.specs.Stop.{ReadsOnly, IsDefined, IsRefused, IfAnswered, IfRefused};
 ghost use Rattle.fz_base.specs.Ranges.{Logs};
 ghost use Rattle.fz_base.specs.Source.{logged, MayLog};
-ghost use Rattle.fz_table.specs.Rows.{
-  descriptor_len,
-  descriptor_in,
-  row_at,
-  described_at,
-  descriptor_at,
-  descriptor_start,
-  IsTable,
-  IsRowOf,
-  StandsInRow,
-};
+ghost use Rattle.fz_table.specs.Rows.{descriptor_len, descriptor_in, row_at, described_at};
+ghost use Rattle.fz_table.specs.Rows.{descriptor_at, descriptor_start, IsTable, IsRowOf, StandsInRow};
 ghost use Rattle.fz_table.specs.Records.{record_at, record_of, record_bytes, StandsInHeap, IsOfRow};
 ghost use Rattle.fz_table.specs.declared.row.Row.{Row as RowSays};
 ghost use Rattle.fz_table.specs.Reads.{descriptor_ranges, follows, two_reads, row_reads, RowReadsLaw};
@@ -42,8 +34,7 @@ pub fn find_record<S: Source>(
     ensures within { IfOk result (StandsInHeap table.now tile.now) }
     ensures place { IfRefused result (IsOfRow hdu row) }
     ensures read { Logs (row_reads table.now row) result (S.ranges source.old) (S.ranges source.new) }
-    ensures held { S.held source.new ≡ S.held source.old }
-    ensures attached { S.attached source.new ≡ S.attached source.old }
+    ensures source { SourceStays S.held S.attached S.ranges source.old source.new }
     ensures cause { ReadsOnly (S.tally source.old) (S.tally source.new) result }
 {
     let says = read_row(source, table, row)?;
@@ -62,8 +53,7 @@ pub fn read_row<S: Source>(source: &mut S, table: &Table, row: u32) -> Result<Ro
     ensures exact { IfOk result (λ r. IfSome (S.held source.old) (λ g. r ≡ row_at g table.now row)) }
     ensures row { IfOk result (IsRowOf table.now) }
     ensures read { Logs (row_reads table.now row) result (S.ranges source.old) (S.ranges source.new) }
-    ensures held { S.held source.new ≡ S.held source.old }
-    ensures attached { S.attached source.new ≡ S.attached source.old }
+    ensures source { SourceStays S.held S.attached S.ranges source.old source.new }
     ensures cause { ReadsOnly (S.tally source.old) (S.tally source.new) result }
     ensures unrefused { ¬ (IsRefused result) }
 {
@@ -89,8 +79,7 @@ fn read_tile_columns<S: Source>(
         (p.0 ≡ described_at g table.now table.now.coded row) × (p.1 ≡ described_at g table.now table.now.stored row))) }
     ensures none { IfOk result (λ p. (IfNone table.now.coded (p.0.count ≡ 0)) × (IfNone table.now.stored (p.1.count ≡ 0))) }
     ensures read { Logs (two_reads table.now table.now.coded table.now.stored row) result (S.ranges source.old) (S.ranges source.new) }
-    ensures held { S.held source.new ≡ S.held source.old }
-    ensures attached { S.attached source.new ≡ S.attached source.old }
+    ensures source { SourceStays S.held S.attached S.ranges source.old source.new }
     ensures cause { ReadsOnly (S.tally source.old) (S.tally source.new) result }
     ensures unrefused { ¬ (IsRefused result) }
 {
@@ -115,8 +104,7 @@ fn read_if<S: Source>(
     ensures exact { IfOk result (λ d. IfSome (S.held source.old) (λ g. d ≡ described_at g table.now column row)) }
     ensures none { IfOk result (λ d. IfNone column (d.count ≡ 0)) }
     ensures read { Logs (descriptor_ranges table.now column row) result (S.ranges source.old) (S.ranges source.new) }
-    ensures held { S.held source.new ≡ S.held source.old }
-    ensures attached { S.attached source.new ≡ S.attached source.old }
+    ensures source { SourceStays S.held S.attached S.ranges source.old source.new }
     ensures cause { ReadsOnly (S.tally source.old) (S.tally source.new) result }
     ensures unrefused { ¬ (IsRefused result) }
 {
@@ -142,8 +130,7 @@ fn read_two<S: Source>(
     ensures exact { IfOk result (λ p. IfSome (S.held source.old) (λ g.
         (p.0 ≡ descriptor_at g table.now first.now row) × (p.1 ≡ descriptor_at g table.now second.now row))) }
     ensures read { Logs (two_reads table.now (Some first.now) (Some second.now) row) result (S.ranges source.old) (S.ranges source.new) }
-    ensures held { S.held source.new ≡ S.held source.old }
-    ensures attached { S.attached source.new ≡ S.attached source.old }
+    ensures source { SourceStays S.held S.attached S.ranges source.old source.new }
     ensures cause { ReadsOnly (S.tally source.old) (S.tally source.new) result }
     ensures unrefused { ¬ (IsRefused result) }
 {
@@ -188,8 +175,7 @@ fn read_pair<S: Source>(
     ensures failed { OnErr result
         (MayLog (descriptor_start table.now first.now row)
         (descriptor_len first.now.wide + descriptor_len second.now.wide) (S.ranges source.old) (S.ranges source.new)) }
-    ensures held { S.held source.new ≡ S.held source.old }
-    ensures attached { S.attached source.new ≡ S.attached source.old }
+    ensures source { SourceStays S.held S.attached S.ranges source.old source.new }
     ensures cause { ReadsOnly (S.tally source.old) (S.tally source.new) result }
     ensures unrefused { ¬ (IsRefused result) }
 {
@@ -225,8 +211,7 @@ pub fn read_record<S: Source>(source: &mut S, chosen: &Record, into: &mut [u8]) 
     ensures behind { drop chosen.now.read into.new ≡ drop chosen.now.read into.old }
     ensures read { OnOk result (S.ranges source.new ≡ logged chosen.now.start chosen.now.read (S.ranges source.old)) }
     ensures failed { OnErr result (MayLog chosen.now.start chosen.now.read (S.ranges source.old) (S.ranges source.new)) }
-    ensures held { S.held source.new ≡ S.held source.old }
-    ensures attached { S.attached source.new ≡ S.attached source.old }
+    ensures source { SourceStays S.held S.attached S.ranges source.old source.new }
     ensures cause { ReadsOnly (S.tally source.old) (S.tally source.new) result }
     ensures unrefused { ¬ (IsRefused result) }
 {
@@ -256,8 +241,7 @@ pub fn read_rest<S: Source>(
         (S.ranges source.new ≡ logged (chosen.now.start + skipped) (chosen.now.read - skipped) (S.ranges source.old)) }
     ensures failed { OnErr result
         (MayLog (chosen.now.start + skipped) (chosen.now.read - skipped) (S.ranges source.old) (S.ranges source.new)) }
-    ensures held { S.held source.new ≡ S.held source.old }
-    ensures attached { S.attached source.new ≡ S.attached source.old }
+    ensures source { SourceStays S.held S.attached S.ranges source.old source.new }
     ensures cause { ReadsOnly (S.tally source.old) (S.tally source.new) result }
     ensures unrefused { ¬ (IsRefused result) }
 {

@@ -1,19 +1,11 @@
 //! The descriptors in the rows, and the ranges of the heap.
 ghost use Rattle.std.specs.Prelude.{ℕ, Bool, List, ◌++◌, ◌≡◌, ◌+◌, ◌*◌, ◌≤◌, ◌<◌, ◌^◌, length as len, drop, Some, IfOk, IfSome, OnOk, OnErr};
+ghost use Rattle.fz_base.specs.Keeps.{SourceStays};
 ghost use Rattle.fz_base.specs.Stop.{ReadsOnly, IsRefused};
 ghost use Rattle.fz_base.specs.Source.{logged, MayLog};
 ghost use Rattle.fz_table.specs.declared.array.Descriptor.{Descriptor};
-ghost use Rattle.fz_table.specs.Rows.{
-  descriptor_len,
-  descriptor_in,
-  descriptor_start,
-  descriptor_at,
-  heap_range,
-  range_of,
-  descriptor_bytes,
-  packed_row,
-  FitsDescriptor,
-};
+ghost use Rattle.fz_table.specs.Rows.{descriptor_len, descriptor_in, descriptor_start, descriptor_at};
+ghost use Rattle.fz_table.specs.Rows.{heap_range, range_of, descriptor_bytes, packed_row, FitsDescriptor};
 
 use crate::{Column, Descriptor, Table};
 use byteorder::{BigEndian, ByteOrder};
@@ -44,8 +36,7 @@ pub fn descriptor<S: Source>(
     ensures failed { OnErr result
         (MayLog (descriptor_start table.now column.now row) (descriptor_len column.now.wide) (S.ranges source.old)
         (S.ranges source.new)) }
-    ensures held { S.held source.new ≡ S.held source.old }
-    ensures attached { S.attached source.new ≡ S.attached source.old }
+    ensures source { SourceStays S.held S.attached S.ranges source.old source.new }
     ensures cause { ReadsOnly (S.tally source.old) (S.tally source.new) result }
     ensures unrefused { ¬ (IsRefused result) }
 {

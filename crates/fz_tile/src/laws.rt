@@ -4,18 +4,8 @@ ghost use Rattle.fz_bits.specs.Numbers.{IsNumber};
 ghost use Rattle.fz_tile.specs.Codecs.{CanRead, CanWrite};
 ghost use Rattle.fz_tile.specs.Record.{IsRecord};
 ghost use Rattle.fz_tile.specs.TileCode.{tile_code};
-ghost use Rattle.fz_tile.specs.Laws.{
-  StandsUnrefused,
-  IsRefusedOnce,
-  FillsColumn,
-  HasPlainLen,
-  GivesBytesAgain,
-  GivesPixelsAgain,
-  StoresPixels,
-  SlicesBytes,
-  SlicesPixels,
-  SlicesPlaces,
-};
+ghost use Rattle.fz_tile.specs.Laws.{StandsUnrefused, IsRefusedOnce, FillsColumn, HasPlainLen, GivesBytesAgain};
+ghost use Rattle.fz_tile.specs.Laws.{GivesPixelsAgain, StoresPixels, SlicesBytes, SlicesPixels, SlicesPlaces};
 ghost use Rattle.fz_tile.specs.declared.codec.Codec.{Codec};
 ghost use Rattle.fz_tile.specs.declared.coded.Place2.{Place2};
 

@@ -135,28 +135,25 @@ pack_options_of line =
     with_some (workers_of line) (λ workers.
     Some (record { codec = codec; tile = tile; block = block; sums = sums; workers = workers }))))))
 
-abbrev pub pack_of : LineIs → Option Asked
-pack_of line =
-    with_some (pack_options_of line) (λ options.
+-- what a command asks for that reads IN and writes OUT: this job by so many workers
+abbrev pub written_by : Job → ℕ → LineIs → Option Asked
+written_by j workers line =
     with_some (memory_of line) (λ memory.
     with_some (names_in line.operands) (λ names.
-    Some (record { job = job.Pack options; workers = options.workers; strict = false; memory = memory; input = names.input; output = names.output }))))
+    Some (record { job = j; workers = workers; strict = false; memory = memory; input = names.input; output = names.output })))
+
+abbrev pub pack_of : LineIs → Option Asked
+pack_of line = with_some (pack_options_of line) (λ options. written_by (job.Pack options) options.workers line)
 
 abbrev pub unpack_of : LineIs → Option Asked
-unpack_of line =
-    with_some (workers_of line) (λ workers.
-    with_some (memory_of line) (λ memory.
-    with_some (names_in line.operands) (λ names.
-    Some (record { job = job.Unpack; workers = workers; strict = false; memory = memory; input = names.input; output = names.output }))))
+unpack_of line = with_some (workers_of line) (λ workers. written_by job.Unpack workers line)
 
 abbrev pub cut_of : LineIs → Option Asked
 cut_of line =
     with_some (hdu_of line) (λ hdu.
     with_some (box_of line) (λ sieve.
     with_some (workers_of line) (λ workers.
-    with_some (memory_of line) (λ memory.
-    with_some (names_in line.operands) (λ names.
-    Some (record { job = job.Cut hdu sieve; workers = workers; strict = false; memory = memory; input = names.input; output = names.output }))))))
+    written_by (job.Cut hdu sieve) workers line)))
 
 abbrev pub verify_of : LineIs → Option Asked
 verify_of line =
@@ -177,11 +174,7 @@ drill_of line =
     Some (record { job = job.Drill rows; workers = 1; strict = false; memory = 2 ^ 32; input = []; output = [] })))
 
 abbrev pub retile_of : LineIs → Option Asked
-retile_of line =
-    with_some (pack_options_of line) (λ options.
-    with_some (memory_of line) (λ memory.
-    with_some (names_in line.operands) (λ names.
-    Some (record { job = job.Retile options; workers = options.workers; strict = false; memory = memory; input = names.input; output = names.output }))))
+retile_of line = with_some (pack_options_of line) (λ options. written_by (job.Retile options) options.workers line)
 
 -- what the words after a command ask for; those of `patch` ask for no job
 abbrev pub asked_by : Command → LineIs → Option Asked

@@ -3,8 +3,9 @@ ghost use Rattle.std.specs.Prelude.{◌≡◌, ◌≤◌, IfOk};
 ghost use Rattle.std.specs.Option.{option_map};
 ghost use Rattle.std.specs.Result.{result_ok};
 ghost use Rattle.fz_head.specs.Planned.{AreOptions};
-ghost use Rattle.fz_words.specs.Jobs.{cut_of, drill_of, job_of, list_of, names_in, one_operand, pack_of, pack_options_of, retile_of, unpack_of, verify_of};
-ghost use Rattle.fz_words.specs.Lawful.{IsLawful};
+ghost use Rattle.fz_words.specs.Jobs.{cut_of, drill_of, job_of, list_of, names_in, one_operand, pack_of, pack_options_of};
+ghost use Rattle.fz_words.specs.Jobs.{retile_of, unpack_of, verify_of, written_by};
+ghost use Rattle.fz_words.specs.Lawful.{IsLawful, IsLawfulJob};
 ghost use Rattle.fz_words.specs.Parts.{texts_of};
 ghost use Rattle.fz_words.specs.Seen.{asked_in, seen_line, seen_names, seen_text};
 
@@ -71,16 +72,7 @@ fn pack_of<'a>(line: &Line<'a>) -> Result<Request<'a>, Usage>
     ensures lawful { IfOk result IsLawful }
 {
     let options = pack_options_of(line)?;
-    let memory = memory_of(line)?;
-    let (input, output) = names_of(line)?;
-    Ok(Request {
-        job: Job::Pack(options),
-        workers: options.workers,
-        strict: false,
-        memory,
-        input,
-        output,
-    })
+    request_of(line, Job::Pack(options), options.workers)
 }
 
 fn retile_of<'a>(line: &Line<'a>) -> Result<Request<'a>, Usage>
@@ -88,16 +80,7 @@ fn retile_of<'a>(line: &Line<'a>) -> Result<Request<'a>, Usage>
     ensures lawful { IfOk result IsLawful }
 {
     let options = pack_options_of(line)?;
-    let memory = memory_of(line)?;
-    let (input, output) = names_of(line)?;
-    Ok(Request {
-        job: Job::Retile(options),
-        workers: options.workers,
-        strict: false,
-        memory,
-        input,
-        output,
-    })
+    request_of(line, Job::Retile(options), options.workers)
 }
 
 fn pack_options_of(line: &Line<'_>) -> Result<PackOptions, Usage>
@@ -119,16 +102,7 @@ fn unpack_of<'a>(line: &Line<'a>) -> Result<Request<'a>, Usage>
     ensures lawful { IfOk result IsLawful }
 {
     let workers = workers_of(line)?;
-    let memory = memory_of(line)?;
-    let (input, output) = names_of(line)?;
-    Ok(Request {
-        job: Job::Unpack,
-        workers,
-        strict: false,
-        memory,
-        input,
-        output,
-    })
+    request_of(line, Job::Unpack, workers)
 }
 
 fn cut_of<'a>(line: &Line<'a>) -> Result<Request<'a>, Usage>
@@ -138,10 +112,20 @@ fn cut_of<'a>(line: &Line<'a>) -> Result<Request<'a>, Usage>
     let hdu = hdu_of(line)?;
     let sieve = box_of(line)?;
     let workers = workers_of(line)?;
+    request_of(line, Job::Cut { hdu, sieve }, workers)
+}
+
+// What a command asks for that reads IN and writes OUT: this job by so many workers.
+fn request_of<'a>(line: &Line<'a>, job: Job, workers: u32) -> Result<Request<'a>, Usage>
+    requires lawful { IsLawfulJob job workers }
+    requires workers { (1 ≤ workers) × (workers ≤ 64) }
+    ensures value { asked_in result ≡ written_by job workers (seen_line line.now) }
+    ensures lawful { IfOk result IsLawful }
+{
     let memory = memory_of(line)?;
     let (input, output) = names_of(line)?;
     Ok(Request {
-        job: Job::Cut { hdu, sieve },
+        job,
         workers,
         strict: false,
         memory,

@@ -1,10 +1,12 @@
 -- If the source shows its bytes, the search answers what the definition says.
-use Rattle.std.proofs.Common.{◌≡◌, ◌+◌, ◌*◌, min, ℕ, List, Option, Result, Ok, Err, refl, sym, subst, arith, rules, IfSome}
+use Rattle.std.proofs.Common.{◌≡◌, ◌+◌, ◌*◌, min, ℕ, List, Option, Result, Ok, Err, refl, sym, ◌∙◌, subst, arith, rules, IfSome}
 use Rattle.fz_base.specs.Source.{HoldsLength}
 use Rattle.fz_base.specs.Stop.{IsDefined}
 use Rattle.fz_base.specs.declared.failure.Stop.{Stop}
+use Rattle.fz_block.specs.Again.{HasBlocks, IsLastBlock}
 use Rattle.fz_block.specs.Checks.{header_blocks_of}
 use Rattle.fz_block.specs.Scan.{next_block_says}
+use Rattle.fz_block.proofs.Kept.{none_kept}
 use Rattle.fz_block.proofs.Search.{search_begins, search_stops, search_ends, search_goes_on, search_fails}
 use Rattle.fz_block.proofs.Touched.{logs_on, logs_of_header, touched_blocks}
 use Rattle.fz_block.proofs.blocks.search_end.Goals as goal
@@ -16,6 +18,8 @@ loop-b-init g c = record {
   tally = refl;
   log = c.log_law.ensures.none c.args.start (min c.args.length (c.args.start + 2880 * 0)) (g.S.Source.ranges c.args.source.now);
   within = omega (arith, c.requires.within);
+  long = refl;
+  kept = none_kept (g.S.Source.held c.args.source.now) c.args.start c.args.buf.now;
   searched = search_begins (g.S.Source.held c.args.source.now) c.args.length c.args.hdu c.args.start
       (g.met.S.Source.agrees c.args.source.now c.args.length c.requires.attached) c.requires.within;
 }
@@ -38,11 +42,25 @@ returns-then-branch-clause-exact g c =
     search_ends (g.S.Source.held c.args.source.now) c.args.hdu c.args.start c.loop-b.b c.in_ok-has_end.field-0 c.if-branch.true c.requires.begins
     c.loop-b.invariant.searched (omega arith) says
 
+pub returns-then-branch-clause-kept : goal.returns-then-branch-clause-kept
+returns-then-branch-clause-kept g c =
+    let more : HasBlocks (g.S.Source.held c.args.source.now) c.args.start c.loop-b.b c.loop-b.buf → HasBlocks (g.S.Source.held c.args.source.now) c.args.start (c.loop-b.b + 1) c.has_end.new.buf =
+    subst (λ (h : Option (List ℕ)). HasBlocks h c.args.start c.loop-b.b c.loop-b.buf → HasBlocks h c.args.start (c.loop-b.b + 1) c.has_end.new.buf)
+    c.loop-b.invariant.held c.in_ok-has_end.ensures.kept in
+    more c.loop-b.invariant.kept
+
+pub returns-then-branch-clause-last : goal.returns-then-branch-clause-last
+returns-then-branch-clause-last g c =
+    subst (λ (h : Option (List ℕ)). IsLastBlock h c.args.start (c.loop-b.b + 1) c.has_end.new.buf) c.loop-b.invariant.held c.in_ok-has_end.ensures.last
+
 pub loop-b-preserved : goal.loop-b-preserved
 loop-b-preserved g c =
     let says : IfSome (g.S.Source.held c.args.source.now) (λ f. next_block_says c.args.hdu c.args.start c.loop-b.b f ≡ Ok c.in_ok-has_end.field-0) =
     subst (λ (h : Option (List ℕ)). IfSome h (λ f. next_block_says c.args.hdu c.args.start c.loop-b.b f ≡ Ok c.in_ok-has_end.field-0))
     c.loop-b.invariant.held c.in_ok-has_end.ensures.exact in
+    let more : HasBlocks (g.S.Source.held c.args.source.now) c.args.start c.loop-b.b c.loop-b.buf → HasBlocks (g.S.Source.held c.args.source.now) c.args.start (c.loop-b.b + 1) c.has_end.new.buf =
+    subst (λ (h : Option (List ℕ)). HasBlocks h c.args.start c.loop-b.b c.loop-b.buf → HasBlocks h c.args.start (c.loop-b.b + 1) c.has_end.new.buf)
+    c.loop-b.invariant.held c.in_ok-has_end.ensures.kept in
     record {
       held = search rules;
       attached = search rules;
@@ -50,6 +68,8 @@ loop-b-preserved g c =
       log = logs_on c.log_law.ensures.both c.log_law.ensures.wider c.args.length c.args.start c.loop-b.b (g.S.Source.ranges c.args.source.now) (g.S.Source.ranges c.loop-b.source) (g.S.Source.ranges c.has_end.new.source)
           c.loop-b.invariant.log c.in_ok-has_end.ensures.log;
       within = search rules;
+      long = c.has_end.ensures.len ∙ c.loop-b.invariant.long;
+      kept = more c.loop-b.invariant.kept;
       searched = search_goes_on (g.S.Source.held c.args.source.now) c.args.hdu c.args.start c.loop-b.b c.in_ok-has_end.field-0 c.if-branch.false
           c.loop-b.invariant.searched says;
     }

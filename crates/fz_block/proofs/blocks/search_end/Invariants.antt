@@ -1,6 +1,7 @@
--- The source is as at the start, but for the blocks that were read, and none of the blocks so far has END.
-use Rattle.std.proofs.Common.{◌≡◌, ◌+◌, ◌*◌, ◌≤◌, min, IfSome}
+-- The source is as at the start, but for the blocks that were read, which are in the buffer as far as it has room. None of them has END.
+use Rattle.std.proofs.Common.{◌≡◌, ◌+◌, ◌*◌, ◌≤◌, min, length, IfSome}
 use Rattle.fz_base.specs.Source.{LogsWithin}
+use Rattle.fz_block.specs.Again.{HasBlocks}
 use Rattle.fz_block.specs.Scan.{Searched}
 use Rattle.fz_block.proofs.blocks.search_end.Given as goal
 
@@ -11,5 +12,7 @@ invariant-loop-b g l = record {
   tally : g.S.Source.tally l.source ≡ g.S.Source.tally l.fn.source;
   log : LogsWithin l.start (min l.length (l.start + 2880 * l.b)) (g.S.Source.ranges l.fn.source) (g.S.Source.ranges l.source);
   within : l.start + 2880 * l.b ≤ l.length;
+  long : length l.buf ≡ length l.fn.buf;
+  kept : HasBlocks (g.S.Source.held l.fn.source) l.start l.b l.buf;
   searched : IfSome (g.S.Source.held l.fn.source) (Searched l.hdu l.start l.b);
 }

@@ -1,4 +1,0 @@
-pub mod Cutout
-pub mod Laws
-pub mod Line
-pub mod Walk
