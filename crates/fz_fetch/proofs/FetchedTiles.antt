@@ -30,8 +30,8 @@ use Rattle.fz_pool.specs.Slots.{HasFault, bits_of_pixel, places_of, record_of}
 use Rattle.fz_pool.specs.Window.{fresh_slot}
 use Rattle.fz_pool.specs.declared.slot.Job.{Job}
 use Rattle.fz_pool.specs.declared.slot.Slot.{Slot}
-use Rattle.fz_fetch.specs.Fetched.{AreFetched, HasTile, IsOfRowAmong, RowsGive, TellsRowFault, fetched_ranges}
-use Rattle.fz_fetch.specs.Images.{IsSaid}
+use Rattle.fz_fetch.specs.Fetched.{AreFetched, HasTile, IsOfRowAmong, RowsGive, TellsRowFault}
+use Rattle.fz_job.specs.Images.{fetched_ranges, IsSaid}
 use Rattle.fz_fetch.specs.Loaded.{AreLoaded, IsRecordIn, IsRefusedIn, tiles_ranges}
 use Rattle.fz_fetch.specs.Tiles.{decoding_job}
 use Rattle.fz_fetch.proofs.Faults.{first_fault_at}

@@ -1,6 +1,5 @@
 -- Tiles that were fetched: the first slots have their pixels, or one of them is refused (FITS 4.0, section 10.1.3).
 use Rattle.std.specs.Prelude.{ℕ, ◌≡◌, ◌<◌, ℤ, List, length, map, take, slice_index, slice_index_or, Option, Some, IfSome, Result}
-use Rattle.std.specs.List.{flat_map}
 use Rattle.fz_base.specs.Stop.{IfRefused}
 use Rattle.fz_base.specs.declared.failure.Stop.{Stop}
 use Rattle.fz_base.specs.declared.fault.Fault.{Fault}
@@ -8,7 +7,6 @@ use Rattle.fz_block.specs.declared.header.Header.{Header}
 use Rattle.fz_table.specs.Records.{IsOfRow}
 use Rattle.fz_tile.specs.Pixels.{HoldPixels, place_count}
 use Rattle.fz_head.specs.declared.plan.Plan.{Plan}
-use Rattle.fz_files.specs.Cutout.{ranges_of_row}
 use Rattle.fz_files.specs.FirstFault.{IsFirstRowFault, image_row}
 use Rattle.fz_files.specs.Packed.{pixel_bits}
 use Rattle.fz_files.specs.Restored.{RowStandsFor, pixels_of}
@@ -51,7 +49,3 @@ IsOfRowAmong hdu tiles x = (i : ℕ) × (i < length tiles) × IsOfRow hdu (slice
 -- the first fault of the rows of these tiles is that of the answer Refused
 abbrev pub TellsRowFault : {X : Type 0} → Option (List ℕ) → Header → List ℕ → Result X Stop → Type 0
 TellsRowFault held h tiles result = IfRefused result (λ x. IfSome held (λ file. IsFirstRowFault file (map (image_row h) tiles) (Some x)))
-
--- the ranges of the file that the fetching of tiles touches
-abbrev pub fetched_ranges : List ℕ → Header → List ℕ → List (ℕ × ℕ)
-fetched_ranges file h tiles = flat_map (ranges_of_row file) (map (image_row h) tiles)

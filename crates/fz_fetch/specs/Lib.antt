@@ -1,13 +1,7 @@
 pub mod Ahead
-pub mod Decoded
+pub mod Decoding
 pub mod Fetched
-pub mod Images
-pub mod Laws
 pub mod Loaded
-pub mod Marks
-pub mod Parts
-pub mod Pieces
 pub mod Rows
-pub mod Scattered
 pub mod Stops
 pub mod Tiles

@@ -1,5 +1,5 @@
 -- Tiles whose records were read into the slots of a window (FITS 4.0, sections 7.3.5 and 10.1.3).
-use Rattle.std.specs.Prelude.{ℕ, ◌≡◌, ◌<◌, ◌≤◌, List, length, slice_index, slice_index_or, Option, Some, None, IfSome, Ok, Err}
+use Rattle.std.specs.Prelude.{ℕ, ◌≡◌, ◌*◌, ◌<◌, ◌≤◌, List, length, slice_index, slice_index_or, Option, Some, None, IfSome, Ok, Err}
 use Rattle.std.specs.List.{flat_map}
 use Rattle.fz_base.specs.declared.fault.Fault.{Fault}
 use Rattle.fz_table.specs.Reads.{tile_ranges}
@@ -8,9 +8,22 @@ use Rattle.fz_table.specs.declared.record.Record.{Record}
 use Rattle.fz_head.specs.declared.job_checks.PackedImage.{PackedImage}
 use Rattle.fz_files.specs.Restored.{tile_of}
 use Rattle.fz_pool.specs.Slots.{IsForDecoding, record_of}
+use Rattle.fz_pool.specs.Window.{Pool}
 use Rattle.fz_pool.specs.declared.slot.Slot.{Slot}
+use Rattle.fz_job.specs.Images.{AreTilesOf, HaveRoom, IsReadable}
+use Rattle.fz_fetch.specs.Rows.{StandsWithin}
 use Rattle.fz_fetch.specs.Tiles.{decoding_job}
 use Rattle.fz_fetch.specs.declared.loading.Loaded.{Loaded}
+
+-- the records of these tiles of an image can be read into the first slots of a window: what is attached holds its table, and each of them
+-- has a slot with room for it
+pub record CanLoad (attached : Option ℕ) (image : PackedImage) (tiles : List ℕ) (w : Pool) : Type 0 where
+  pub readable : IsReadable image
+  pub within : StandsWithin attached image.table
+  pub known : AreTilesOf image tiles
+  pub few : length tiles ≤ 128
+  pub room : HaveRoom image w
+  pub near : length tiles ≤ 2 * w.workers
 
 -- no check refuses the row of tile t, and this is its record
 abbrev pub IsRecordIn : List ℕ → ℕ → PackedImage → ℕ → Record → Type 0

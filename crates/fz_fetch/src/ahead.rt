@@ -1,6 +1,7 @@
 //! Rows of an image that are read before they are wanted: many by one reading.
 ghost use Rattle.std.specs.Prelude.{ℕ, ◌≡◌, ◌+◌, ◌^◌, ◌<◌, ◌≤◌, IsTrue, true, List, Option, length as len, IfOk, IfSome, OnOk};
 ghost use Rattle.std.specs.List.{range_with_len};
+ghost use Rattle.fz_base.specs.Keeps.{SourceStays};
 ghost use Rattle.fz_base.specs.Ranges.{LogsIn};
 ghost use Rattle.fz_base.specs.Stop.{IsRefused, ReadsOnly};
 ghost use Rattle.fz_table.specs.Reads.{is_filled as is_filled_table};
@@ -79,8 +80,7 @@ pub(crate) fn row_ahead<S: Source>(
     ensures ahead { IsAhead (S.held source.new) table.now buf.new ahead.new }
     ensures len { len buf.new ≡ len buf.old }
     ensures read { LogsIn (rows_ranges table.now (range_with_len 0 table.now.rows)) (S.ranges source.old) (S.ranges source.new) }
-    ensures held { S.held source.new ≡ S.held source.old }
-    ensures attached { S.attached source.new ≡ S.attached source.old }
+    ensures source { SourceStays S.held S.attached S.ranges source.old source.new }
     ensures cause { ReadsOnly (S.tally source.old) (S.tally source.new) result }
     ensures unrefused { ¬ (IsRefused result) }
 {
@@ -114,8 +114,7 @@ fn read_rows_on<S: Source>(
     ensures ahead { IsAhead (S.held source.new) table.now buf.new ahead.new }
     ensures len { len buf.new ≡ len buf.old }
     ensures read { LogsIn (rows_ranges table.now (range_with_len 0 table.now.rows)) (S.ranges source.old) (S.ranges source.new) }
-    ensures held { S.held source.new ≡ S.held source.old }
-    ensures attached { S.attached source.new ≡ S.attached source.old }
+    ensures source { SourceStays S.held S.attached S.ranges source.old source.new }
     ensures cause { ReadsOnly (S.tally source.old) (S.tally source.new) result }
     ensures unrefused { ¬ (IsRefused result) }
 {

@@ -1,19 +1,19 @@
 //! A round of tiles: their rows and records are read, and then decoded.
 ghost use Rattle.std.specs.Prelude.{◌≡◌, ◌*◌, ◌≤◌, length as len, IfSome, OnOk};
+ghost use Rattle.fz_base.specs.Keeps.{SourceStays};
 ghost use Rattle.fz_base.specs.Ranges.{LogsIn};
 ghost use Rattle.fz_base.specs.Refusal.{refusal};
 ghost use Rattle.fz_base.specs.Stop.{IfRefused};
-ghost use Rattle.fz_base.specs.Told.{StaysTold};
 ghost use Rattle.fz_base.specs.declared.failure.Stop.TheVariants.{Refused};
 ghost use Rattle.fz_base.specs.declared.fault.Place.TheVariants.{Row as AtRow};
 ghost use Rattle.fz_head.specs.TileKinds.{kind_of_tile};
 ghost use Rattle.fz_pool.specs.Calls.{AreSameFrom};
-ghost use Rattle.fz_pool.specs.Window.{slot_sizes};
 ghost use Rattle.fz_fetch.specs.Ahead.{IsAhead, image_tiles};
-ghost use Rattle.fz_fetch.specs.Fetched.{AreFetched, IsOfRowAmong, TellsRowFault, fetched_ranges};
-ghost use Rattle.fz_fetch.specs.Images.{AreTilesOf, HaveRoom, IsReadable, IsSaid};
+ghost use Rattle.fz_fetch.specs.Fetched.{AreFetched, IsOfRowAmong, TellsRowFault};
+ghost use Rattle.fz_job.specs.Images.{fetched_ranges, AreTilesOf, HaveRoom, IsReadable, IsSaid};
 ghost use Rattle.fz_fetch.specs.Rows.{StandsWithin};
 ghost use Rattle.fz_fetch.specs.Stops.{Fetches};
+ghost use Rattle.fz_pool.specs.Window.{WindowStays};
 
 use crate::ahead::Ahead;
 use crate::loading::load_round;
@@ -54,13 +54,10 @@ pub fn fetch_tiles<R: Threads + Sync, S: Source, G: Gate>(
     ensures row { IfRefused result (IsOfRowAmong header.now.hdu tiles.now) }
     ensures fault { TellsRowFault (S.held source.old) header.now tiles.now result }
     ensures read { IfSome (S.held source.old) (λ g. LogsIn (fetched_ranges g header.now tiles.now) (S.ranges source.old) (S.ranges source.new)) }
-    ensures told_ranges { StaysTold (S.ranges source.old) (S.ranges source.new) }
+    ensures source { SourceStays S.held S.attached S.ranges source.old source.new }
     ensures rows { len rows.new ≡ len rows.old }
     ensures others { AreSameFrom (len tiles.now) window.old.slots window.new.slots }
-    ensures sizes { slot_sizes window.new.slots ≡ slot_sizes window.old.slots }
-    ensures workers { window.new.workers ≡ window.old.workers }
-    ensures held { S.held source.new ≡ S.held source.old }
-    ensures attached { S.attached source.new ≡ S.attached source.old }
+    ensures window { WindowStays window.old window.new }
     ensures cause { Fetches (S.tally source.old) (S.tally source.new) result }
 {
     round_law();
@@ -104,12 +101,9 @@ pub fn fetch_ahead<R: Threads + Sync, S: Source, G: Gate>(
     ensures buffer { len buf.new ≡ len buf.old }
     ensures read { IfSome (S.held source.old)
         (λ g. LogsIn (fetched_ranges g header.now (image_tiles image.now)) (S.ranges source.old) (S.ranges source.new)) }
-    ensures told_ranges { StaysTold (S.ranges source.old) (S.ranges source.new) }
+    ensures source { SourceStays S.held S.attached S.ranges source.old source.new }
     ensures others { AreSameFrom (len tiles.now) window.old.slots window.new.slots }
-    ensures sizes { slot_sizes window.new.slots ≡ slot_sizes window.old.slots }
-    ensures workers { window.new.workers ≡ window.old.workers }
-    ensures held { S.held source.new ≡ S.held source.old }
-    ensures attached { S.attached source.new ≡ S.attached source.old }
+    ensures window { WindowStays window.old window.new }
     ensures cause { Fetches (S.tally source.old) (S.tally source.new) result }
 {
     round_law();
@@ -151,13 +145,10 @@ pub fn fetch_beside<R: Threads + Sync, S: Source, G: Gate, J: FnMut() -> B, B>(
     ensures row { IfRefused result.0 (IsOfRowAmong header.now.hdu tiles.now) }
     ensures fault { TellsRowFault (S.held source.old) header.now tiles.now result.0 }
     ensures read { IfSome (S.held source.old) (λ g. LogsIn (fetched_ranges g header.now tiles.now) (S.ranges source.old) (S.ranges source.new)) }
-    ensures told_ranges { StaysTold (S.ranges source.old) (S.ranges source.new) }
+    ensures source { SourceStays S.held S.attached S.ranges source.old source.new }
     ensures rows { len rows.new ≡ len rows.old }
     ensures others { AreSameFrom (len tiles.now) window.old.slots window.new.slots }
-    ensures sizes { slot_sizes window.new.slots ≡ slot_sizes window.old.slots }
-    ensures workers { window.new.workers ≡ window.old.workers }
-    ensures held { S.held source.new ≡ S.held source.old }
-    ensures attached { S.attached source.new ≡ S.attached source.old }
+    ensures window { WindowStays window.old window.new }
     ensures cause { Fetches (S.tally source.old) (S.tally source.new) result.0 }
     ensures job { J.step job.old result.1 job.new }
 {
@@ -181,7 +172,7 @@ pub fn fetch_beside<R: Threads + Sync, S: Source, G: Gate, J: FnMut() -> B, B>(
 }
 
 /// The record of this row stands for no pixels.
-pub(crate) fn faulty(hdu: u32, row: u32, fault: TileFault) -> Stop
+pub fn faulty(hdu: u32, row: u32, fault: TileFault) -> Stop
     ensures { result ≡ Refused (refusal hdu (AtRow row) (kind_of_tile fault)) }
 {
     Stop::Refused(Fault {

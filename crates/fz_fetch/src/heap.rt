@@ -1,21 +1,21 @@
 //! Records of an image that are read before they are wanted: those that are one after another in the heap by one reading.
 ghost use Rattle.std.specs.Prelude.{ℕ, ◌≡◌, ◌⊎◌, ◌+◌, ◌-◌, ◌^◌, ◌<◌, ◌≤◌, List, Option, Some, take, drop, length as len, IfSome, OnOk};
+ghost use Rattle.fz_base.specs.Keeps.{SourceStays};
 ghost use Rattle.fz_base.specs.Ranges.{LiesIn, LogsIn};
 ghost use Rattle.fz_base.specs.Source.{MayLog};
 ghost use Rattle.fz_base.specs.Stop.{IsRefused, ReadsOnly};
-ghost use Rattle.fz_base.specs.Told.{StaysTold};
 ghost use Rattle.fz_table.specs.Reads.{tile_ranges};
 ghost use Rattle.fz_table.specs.Records.{StandsInHeap, record_bytes};
 ghost use Rattle.fz_table.specs.declared.table.Table.{Table as TableOf};
 ghost use Rattle.fz_files.specs.Packed.{tiles_in};
 ghost use Rattle.fz_files.specs.Restored.{tile_of};
 ghost use Rattle.fz_fetch.specs.Ahead.{AreOfRows, IsAhead, all_ranges};
-ghost use Rattle.fz_fetch.specs.Images.{IsReadable};
+ghost use Rattle.fz_job.specs.Images.{IsReadable};
 ghost use Rattle.fz_fetch.specs.Loaded.{IsRecordIn};
 ghost use Rattle.fz_fetch.specs.Rows.{StandsWithin};
 
 use crate::ahead::{Ahead, ROWS_LEN, row_here};
-use crate::tiles::known_tile;
+use crate::tiles::{PackedTile, known_tile};
 use fz_base::{Source, Stop, log_law, ranges_law};
 use fz_head::PackedImage;
 use fz_table::{Record, read_record, record_of};
@@ -24,29 +24,25 @@ use fz_table::{Record, read_record, record_of};
 /// of the next tiles, as far as they follow it in the heap.
 pub(crate) fn record_ahead<S: Source>(
     source: &mut S,
-    hdu: u32,
-    image: &PackedImage,
-    tile: u32,
+    tile: PackedTile<'_>,
     found: &Record,
     buf: &mut [u8],
     ahead: &mut Ahead,
     code: &mut [u8],
 ) -> Result<(), Stop>
-    requires image { IsReadable image.now }
-    requires within { StandsWithin (S.attached source.old) image.now.table }
-    requires tile { tile < tiles_in image.now.plan }
-    requires found { StandsInHeap image.now.table (tile_of image.now.plan tile) found.now }
-    requires told { IfSome (S.held source.old) (λ g. IsRecordIn g hdu image.now tile found.now) }
+    requires image { IsReadable tile.image.now }
+    requires within { StandsWithin (S.attached source.old) tile.image.now.table }
+    requires tile { tile.number < tiles_in tile.image.now.plan }
+    requires found { StandsInHeap tile.image.now.table (tile_of tile.image.now.plan tile.number) found.now }
+    requires told { IfSome (S.held source.old) (λ g. IsRecordIn g tile.hdu tile.image.now tile.number found.now) }
     requires room { found.now.read ≤ len code.old }
-    requires ahead { IsAhead (S.held source.old) image.now.table buf.old ahead.old }
+    requires ahead { IsAhead (S.held source.old) tile.image.now.table buf.old ahead.old }
     ensures bytes { OnOk result (IfSome (S.held source.old) (λ g. take found.now.read code.new ≡ record_bytes g found.now)) }
     ensures code { len code.new ≡ len code.old }
-    ensures ahead { IsAhead (S.held source.new) image.now.table buf.new ahead.new }
+    ensures ahead { IsAhead (S.held source.new) tile.entry.image.now.table buf.new ahead.new }
     ensures len { len buf.new ≡ len buf.old }
-    ensures read { IfSome (S.held source.old) (λ g. LogsIn (all_ranges g hdu image.now) (S.ranges source.old) (S.ranges source.new)) }
-    ensures told_ranges { StaysTold (S.ranges source.old) (S.ranges source.new) }
-    ensures held { S.held source.new ≡ S.held source.old }
-    ensures attached { S.attached source.new ≡ S.attached source.old }
+    ensures read { IfSome (S.held source.old) (λ g. LogsIn (all_ranges g tile.entry.hdu tile.entry.image.now) (S.ranges source.old) (S.ranges source.new)) }
+    ensures source { SourceStays S.held S.attached S.ranges source.old source.new }
     ensures cause { ReadsOnly (S.tally source.old) (S.tally source.new) result }
     ensures unrefused { ¬ (IsRefused result) }
 {
@@ -56,7 +52,7 @@ pub(crate) fn record_ahead<S: Source>(
         take_record(found, buf, ahead, code);
         return Ok(());
     }
-    let run = run_len(hdu, image, tile, found, buf, ahead);
+    let run = run_len(tile.hdu, tile.image, tile.number, found, buf, ahead);
     if run == found.read {
         return read_record(source, found, code);
     }

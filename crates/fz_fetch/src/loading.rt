@@ -1,8 +1,8 @@
 //! The records of a round, read into the slots of the window.
 ghost use Rattle.std.specs.Prelude.{◌≡◌, ◌+◌, ◌*◌, ◌<◌, ◌≤◌, ◌^◌, min, [], ◌∷◌, length as len, IfErr, IfOk, IfSome, OnOk};
+ghost use Rattle.fz_base.specs.Keeps.{SourceStays};
 ghost use Rattle.fz_base.specs.Ranges.{LogsIn};
 ghost use Rattle.fz_base.specs.Stop.{IfRefused, IsRefused, ReadsOnly};
-ghost use Rattle.fz_base.specs.Told.{StaysTold};
 ghost use Rattle.fz_base.specs.declared.failure.Stop.TheVariants.{Refused};
 ghost use Rattle.fz_table.specs.Reads.{tile_ranges};
 ghost use Rattle.fz_table.specs.Records.{IsOfRow, StandsInHeap, record_bytes};
@@ -11,10 +11,10 @@ ghost use Rattle.fz_files.specs.Packed.{tiles_in};
 ghost use Rattle.fz_files.specs.Restored.{pixels_of, tile_of};
 ghost use Rattle.fz_pool.specs.Calls.{AreSameFrom};
 ghost use Rattle.fz_pool.specs.Slots.{IsForDecoding, record_of as record_in_slot};
-ghost use Rattle.fz_pool.specs.Window.{IsPut, slot_size, slot_sizes};
+ghost use Rattle.fz_pool.specs.Window.{IsPut, slot_size, WindowStays};
 ghost use Rattle.fz_pool.specs.declared.slot.Slot.{Slot as SlotOf};
-ghost use Rattle.fz_fetch.specs.Images.{AreTilesOf, HasSlotFor, HaveRoom, IsReadable};
-ghost use Rattle.fz_fetch.specs.Loaded.{IsLoaded, IsRefusedIn, LoadsTiles, tiles_ranges};
+ghost use Rattle.fz_job.specs.Images.{HasSlotFor, HaveRoom, IsReadable};
+ghost use Rattle.fz_fetch.specs.Loaded.{CanLoad, IsLoaded, IsRefusedIn, LoadsTiles, tiles_ranges};
 ghost use Rattle.fz_fetch.specs.Rows.{HasRow, HasRowsOf, StandsWithin};
 ghost use Rattle.fz_fetch.specs.Tiles.{decoding_job};
 
@@ -42,22 +42,14 @@ pub(crate) fn load_round<S: Source>(
     rows: &mut [u8],
     window: &mut Window,
 ) -> Result<Loaded, Stop>
-    requires image { IsReadable image.now }
-    requires within { StandsWithin (S.attached source.old) image.now.table }
-    requires tiles { AreTilesOf image.now tiles.now }
-    requires few { len tiles.now ≤ 128 }
+    requires round { CanLoad (S.attached source.old) image.now tiles.now window.old }
     requires rows { 4096 ≤ len rows.old }
-    requires window { HaveRoom image.now window.old }
-    requires near { len tiles.now ≤ 2 * window.old.workers }
     ensures loaded { IfOk result (LoadsTiles (S.held source.old) hdu image.now tiles.now window.new.slots) }
     ensures others { AreSameFrom (len tiles.now) window.old.slots window.new.slots }
     ensures read { IfSome (S.held source.old) (λ g. LogsIn (tiles_ranges g hdu image.now tiles.now) (S.ranges source.old) (S.ranges source.new)) }
-    ensures told_ranges { StaysTold (S.ranges source.old) (S.ranges source.new) }
+    ensures source { SourceStays S.held S.attached S.ranges source.old source.new }
     ensures rows { len rows.new ≡ len rows.old }
-    ensures sizes { slot_sizes window.new.slots ≡ slot_sizes window.old.slots }
-    ensures workers { window.new.workers ≡ window.old.workers }
-    ensures held { S.held source.new ≡ S.held source.old }
-    ensures attached { S.attached source.new ≡ S.attached source.old }
+    ensures window { WindowStays window.old window.new }
     ensures cause { ReadsOnly (S.tally source.old) (S.tally source.new) result }
     ensures unrefused { ¬ (IsRefused result) }
 {
@@ -80,21 +72,13 @@ fn load_tiles<S: Source>(
     rows: Option<&[u8]>,
     window: &mut Window,
 ) -> Result<Loaded, Stop>
-    requires image { IsReadable image.now }
-    requires within { StandsWithin (S.attached source.old) image.now.table }
-    requires tiles { AreTilesOf image.now tiles.now }
-    requires few { len tiles.now ≤ 128 }
+    requires round { CanLoad (S.attached source.old) image.now tiles.now window.old }
     requires rows { IfSome rows (λ r. HasRowsOf (S.held source.old) image.now.table r.now tiles.now) }
-    requires window { HaveRoom image.now window.old }
-    requires near { len tiles.now ≤ 2 * window.old.workers }
     ensures loaded { IfOk result (LoadsTiles (S.held source.old) hdu image.now tiles.now window.new.slots) }
     ensures others { AreSameFrom (len tiles.now) window.old.slots window.new.slots }
     ensures read { IfSome (S.held source.old) (λ g. LogsIn (tiles_ranges g hdu image.now tiles.now) (S.ranges source.old) (S.ranges source.new)) }
-    ensures told_ranges { StaysTold (S.ranges source.old) (S.ranges source.new) }
-    ensures sizes { slot_sizes window.new.slots ≡ slot_sizes window.old.slots }
-    ensures workers { window.new.workers ≡ window.old.workers }
-    ensures held { S.held source.new ≡ S.held source.old }
-    ensures attached { S.attached source.new ≡ S.attached source.old }
+    ensures source { SourceStays S.held S.attached S.ranges source.old source.new }
+    ensures window { WindowStays window.old window.new }
     ensures cause { ReadsOnly (S.tally source.old) (S.tally source.new) result }
     ensures unrefused { ¬ (IsRefused result) }
 {
@@ -152,11 +136,8 @@ fn load_next<S: Source>(
     ensures same { IsRefused result → window.new ≡ window.old }
     ensures read { IfSome (S.held source.old) (λ g. LogsIn (tile_ranges g hdu image.now.table tile (tile_of image.now.plan tile))
         (S.ranges source.old) (S.ranges source.new)) }
-    ensures told_ranges { StaysTold (S.ranges source.old) (S.ranges source.new) }
-    ensures sizes { slot_sizes window.new.slots ≡ slot_sizes window.old.slots }
-    ensures workers { window.new.workers ≡ window.old.workers }
-    ensures held { S.held source.new ≡ S.held source.old }
-    ensures attached { S.attached source.new ≡ S.attached source.old }
+    ensures source { SourceStays S.held S.attached S.ranges source.old source.new }
+    ensures window { WindowStays window.old window.new }
     ensures cause { ReadsOnly (S.tally source.old) (S.tally source.new) result }
 {
     sizes_law();
@@ -199,8 +180,7 @@ fn load_slot<S: Source>(
     ensures bytes { OnOk result (IfSome (S.held source.old) (λ g. record_in_slot slot.new ≡ record_bytes g found.now)) }
     ensures read { LogsIn ((found.now.start, found.now.read) ∷ []) (S.ranges source.old) (S.ranges source.new) }
     ensures size { slot_size slot.new ≡ slot_size slot.old }
-    ensures held { S.held source.new ≡ S.held source.old }
-    ensures attached { S.attached source.new ≡ S.attached source.old }
+    ensures source { SourceStays S.held S.attached S.ranges source.old source.new }
     ensures cause { ReadsOnly (S.tally source.old) (S.tally source.new) result }
     ensures unrefused { ¬ (IsRefused result) }
 {

@@ -1,5 +1,6 @@
 //! The rows of a round.
 ghost use Rattle.std.specs.Prelude.{◌≡◌, ◌+◌, ◌*◌, ◌<◌, ◌≤◌, IsTrue, true, length as len, Some, None, IfOk, IfSome, OnOk, slice_index};
+ghost use Rattle.fz_base.specs.Keeps.{SourceStays};
 ghost use Rattle.fz_base.specs.Ranges.{LogsIn};
 ghost use Rattle.fz_base.specs.Source.{Reads};
 ghost use Rattle.fz_base.specs.Stop.{IsRefused, ReadsOnly};
@@ -65,8 +66,7 @@ pub(crate) fn read_rows<S: Source>(
     ensures rows { OnOk result (HasRowsOf (S.held source.old) table.now rows.new tiles.now) }
     ensures read { LogsIn (rows_ranges table.now tiles.now) (S.ranges source.old) (S.ranges source.new) }
     ensures len { len rows.new ≡ len rows.old }
-    ensures held { S.held source.new ≡ S.held source.old }
-    ensures attached { S.attached source.new ≡ S.attached source.old }
+    ensures source { SourceStays S.held S.attached S.ranges source.old source.new }
     ensures cause { ReadsOnly (S.tally source.old) (S.tally source.new) result }
     ensures unrefused { ¬ (IsRefused result) }
 {
@@ -88,7 +88,7 @@ fn row_at(table: &Table, row: u32) -> u64
 }
 
 /// What the row of a tile says: that with this index of the rows that were read together, or otherwise it is read by itself.
-pub(crate) fn row_of<S: Source>(
+pub fn row_of<S: Source>(
     source: &mut S,
     table: &Table,
     rows: Option<&[u8]>,
@@ -102,8 +102,7 @@ pub(crate) fn row_of<S: Source>(
     ensures exact { IfOk result (λ says. IfSome (S.held source.old) (λ g. says ≡ row_at g table.now tile)) }
     ensures row { IfOk result (IsRowOf table.now) }
     ensures read { LogsIn (row_ranges table.now tile) (S.ranges source.old) (S.ranges source.new) }
-    ensures held { S.held source.new ≡ S.held source.old }
-    ensures attached { S.attached source.new ≡ S.attached source.old }
+    ensures source { SourceStays S.held S.attached S.ranges source.old source.new }
     ensures cause { ReadsOnly (S.tally source.old) (S.tally source.new) result }
     ensures unrefused { ¬ (IsRefused result) }
 {

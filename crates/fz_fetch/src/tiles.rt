@@ -8,13 +8,24 @@ ghost use Rattle.fz_files.specs.Restored.{is_plain_codec, pixels_of, place_in as
 ghost use Rattle.fz_fetch.specs.Tiles.{decoding_job};
 
 use fz_grid::{Grid, place_law};
-use fz_head::Plan;
+use fz_head::{PackedImage, Plan};
 use fz_pool::Job;
 use fz_table::{Record, Tile, TileColumn};
 use fz_tile::{Codec, Place2, plain_len};
 
 /// The most tiles of a round: two for each of 64 workers.
 pub const MOST_TILES: usize = 128;
+
+/// A tile of a packed image, and so a row of its table.
+#[derive(Clone, Copy)]
+pub(crate) struct PackedTile<'i> {
+    /// The number of the HDU.
+    pub(crate) hdu: u32,
+    /// The image.
+    pub(crate) image: &'i PackedImage,
+    /// The number of the tile, from 0.
+    pub(crate) number: u32,
+}
 
 /// Numbers tiles from this one on.
 pub fn number_tiles(first: u32, tiles: &mut [u32])
@@ -27,7 +38,7 @@ pub fn number_tiles(first: u32, tiles: &mut [u32])
 }
 
 /// What is known of a tile before its row is read.
-pub(crate) fn known_tile(plan: &Plan, tile: u32) -> Tile
+pub fn known_tile(plan: &Plan, tile: u32) -> Tile
     requires divided { IsDivided plan.now.shape plan.now.tile }
     requires size { IsBitpix plan.now.bitpix }
     requires tile { tile < tiles_in plan.now }
@@ -45,7 +56,7 @@ pub(crate) fn known_tile(plan: &Plan, tile: u32) -> Tile
 }
 
 /// How many pixels a tile has.
-pub(crate) fn tile_pixels(plan: &Plan, tile: u32) -> u32
+pub fn tile_pixels(plan: &Plan, tile: u32) -> u32
     requires divided { IsDivided plan.now.shape plan.now.tile }
     requires tile { tile < tiles_in plan.now }
     ensures pixels { result ≡ pixels_of plan.now tile }
@@ -88,7 +99,7 @@ pub(crate) fn job_of(plan: &Plan, tile: u32, pixels: u32, found: &Record) -> Job
 }
 
 /// The place of a tile whose record was found in this column.
-pub(crate) fn place_in(column: TileColumn) -> Place2
+pub fn place_in(column: TileColumn) -> Place2
     ensures { result ≡ place_in_column column }
 {
     match column {

@@ -21,7 +21,7 @@ use Rattle.fz_grid.specs.Arrays.{NumberArray}
 use Rattle.fz_grid.specs.Grid.{tile}
 use Rattle.fz_grid.specs.Region.{lengths_of}
 use Rattle.fz_grid.specs.declared.sieve.Sieve.{Sieve}
-use Rattle.fz_parts.specs.Cutout.{picked_numbers}
+use Rattle.fz_grid.specs.Cutout.{picked_numbers}
 use Rattle.fz_table.specs.Columns.{first_named, columns_len, column_called}
 use Rattle.fz_table.specs.Forms.{elements_len, form_in}
 use Rattle.fz_table.specs.Reads.{tile_ranges}

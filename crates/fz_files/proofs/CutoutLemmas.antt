@@ -7,8 +7,8 @@ use Rattle.fz_card.specs.Naming.{number_behind, plain_name, is_dropped}
 use Rattle.fz_card.specs.Quoted.{quoted}
 use Rattle.fz_card.specs.Reading.{integer_of, text_of}
 use Rattle.fz_card.specs.Tables.{renamings, packed_names, own_names}
-use Rattle.fz_wcs.specs.Reading.{decimal_of, shifted}
-use Rattle.fz_wcs.specs.Scans.{decimal_in}
+use Rattle.fz_card.specs.DecimalReading.{decimal_of, shifted}
+use Rattle.fz_card.specs.DecimalScans.{decimal_in}
 use Rattle.fz_head.specs.PlainHeader.{cutout_header}
 use Rattle.fz_files.specs.declared.job.Job.TheVariants.{Cut}
 use Rattle.fz_files.specs.CutFile.{table_facts, box_sieve, box_numbers, box_file, reference_cards, moved_cards, second_sieve, kept_cards, mixed_cards, third_sieve, unmixed_cards}

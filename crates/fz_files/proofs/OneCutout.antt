@@ -7,8 +7,8 @@ use Rattle.fz_grid.specs.Grid.{tile}
 use Rattle.fz_grid.specs.Region.{lengths_of}
 use Rattle.fz_grid.specs.Sieve.{picked_tiles, sieve_hi, sieve_lo, sieve_step}
 use Rattle.fz_grid.specs.declared.sieve.Sieve.{Sieve}
-use Rattle.fz_parts.specs.Cutout.{Sifts}
-use Rattle.fz_parts.specs.Laws.{PickedTilesMakeOneCutout}
+use Rattle.fz_grid.specs.Cutout.{Sifts}
+use Rattle.fz_grid.specs.CutoutLaws.{PickedTilesMakeOneCutout}
 use Rattle.fz_head.specs.declared.plan.Plan.{Plan}
 use Rattle.fz_files.specs.declared.job.Job.TheVariants.{Cut}
 use Rattle.fz_files.specs.Cutout.{AreCutFrom}

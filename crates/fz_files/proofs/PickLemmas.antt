@@ -19,8 +19,8 @@ use Rattle.fz_grid.specs.declared.sieve.Sieve.{Sieve}
 use Rattle.fz_head.specs.JobChecks.{axis_inside, box_checks, cut_checks, cut_hdu_checks, image_checks, is_after_empty, packed_card_checks}
 use Rattle.fz_head.specs.PackedPlan.{numbered_in, plan_of_cards, said_axes, size_of}
 use Rattle.fz_head.specs.PlainHeader.{axis_count}
-use Rattle.fz_parts.specs.Cutout.{Sifts}
-use Rattle.fz_parts.specs.Laws.{PickedTilesMakeOneCutout}
+use Rattle.fz_grid.specs.Cutout.{Sifts}
+use Rattle.fz_grid.specs.CutoutLaws.{PickedTilesMakeOneCutout}
 use Rattle.fz_files.specs.declared.job.Job.TheVariants.{Cut}
 use Rattle.fz_files.specs.CutoutBytes.{IsCutout}
 use Rattle.fz_files.specs.Picks.{HasNinePlaces, HasPicks}

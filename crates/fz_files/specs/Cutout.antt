@@ -8,7 +8,7 @@ use Rattle.fz_grid.specs.Arrays.{NumberArray, IsArray}
 use Rattle.fz_grid.specs.Grid.{tile}
 use Rattle.fz_grid.specs.Region.{lengths_of}
 use Rattle.fz_grid.specs.declared.sieve.Sieve.{Sieve}
-use Rattle.fz_parts.specs.Cutout.{picked_numbers}
+use Rattle.fz_grid.specs.Cutout.{picked_numbers}
 use Rattle.fz_table.specs.Reads.{tile_ranges}
 use Rattle.fz_files.specs.declared.job.Job.{Job}
 use Rattle.fz_files.specs.declared.job.Job.TheVariants.{Cut}

@@ -4,7 +4,7 @@ use Rattle.std.specs.Prelude.{ℕ, zero, suc, ◌≡◌, ◌==◌, ◌-◌, ℤ,
 use Rattle.std.specs.Prelude.{slice_index, codes, Option, Some, None, unwrap_or, if◌then◌else◌}
 use Rattle.fz_card.specs.Layout.{card_name}
 use Rattle.fz_card.specs.Naming.{number_behind, up_to}
-use Rattle.fz_wcs.specs.Reading.{shifted}
+use Rattle.fz_card.specs.DecimalReading.{shifted}
 use Rattle.fz_block.specs.Hdus.{cards_of, header_bytes}
 use Rattle.fz_block.specs.declared.header.Header.{Header}
 use Rattle.fz_grid.specs.Sieve.{sieve_lengths}

@@ -15,7 +15,7 @@ use Rattle.fz_block.specs.Walk.{PassesAt, hdu_of}
 use Rattle.fz_block.specs.declared.header.Header.{Header}
 use Rattle.fz_grid.specs.Region.{lengths_of}
 use Rattle.fz_grid.specs.declared.sieve.Sieve.{Sieve}
-use Rattle.fz_parts.specs.Cutout.{Sifts}
+use Rattle.fz_grid.specs.Cutout.{Sifts}
 use Rattle.fz_table.specs.Tables.{table_checks}
 use Rattle.fz_tile.specs.Plain.{AreBytes}
 use Rattle.fz_tile.specs.TileCode.{TileCode}

@@ -1,5 +1,5 @@
 -- How many cards the header of a table has.
-use Rattle.std.proofs.Common.{◌≡◌, ℕ, suc, ◌+◌, ◌-◌, ◌*◌, List, [], ◌++◌, length, map, codes, All, refl, sym, ap, ◌∙◌, slice_index, arith}
+use Rattle.std.proofs.Common.{◌≡◌, ℕ, suc, ◌+◌, ◌-◌, ◌*◌, List, [], ◌++◌, length, map, codes, All, refl, slice_index, arith}
 use Rattle.std.specs.List.{range_with_len}
 use Rattle.std.proofs.lemmas.List.{length-append, length-map}
 use Rattle.std.proofs.lemmas.List.FromFn.{length-map-range_with_len}
@@ -32,9 +32,3 @@ pub packed_size : (cards : List (List ℕ)) (p : Plan) (s : Totals) → HaveByte
     length (header_bytes (packed_header cards p s)) ≡ whole_blocks_of (80 * (length (packed_header cards p s) + 1))
 unfolding packed_header
 packed_size cards p s law all = (law (packed_with cards p s (sum_cards s.sums)) all).2
-
--- the headers of two tables of one image are as long
-pub same_size : (cards : List (List ℕ)) (p : Plan) (s t : Totals) → HaveBytes → All IsCardBeforeEnd (packed_with cards p s (sum_cards s.sums)) → All IsCardBeforeEnd (packed_with cards p t (sum_cards t.sums)) →
-    length (packed_header cards p s) ≡ length (packed_header cards p t) → length (header_bytes (packed_header cards p s)) ≡ length (header_bytes (packed_header cards p t))
-same_size cards p s t law first second same =
-    packed_size cards p s law first ∙ ap (λ n. whole_blocks_of (80 * (n + 1))) same ∙ sym (packed_size cards p t law second)

@@ -15,12 +15,7 @@ use Rattle.fz_image.specs.Progress.{tiles_written, with_heap}
 use Rattle.fz_image.specs.declared.layout.Layout.{Layout}
 use Rattle.fz_image.specs.declared.progress.Progress.{Progress}
 use Rattle.fz_image.proofs.Codes.{heap_more, rows_len}
-use Rattle.fz_image.proofs.Progresses.{WritesApart, WritesNext, no_write}
-
--- with none that are held back
-pub none_held : (end n : ℕ) (held : List ℕ) (contents : Option (List ℕ)) → n ≡ 0 → caught_up end n held contents ≡ contents
-none_held end n held contents none =
-    ap (λ k. written (end - k) (take k held) contents) none ∙ no_write (end - 0) contents
+use Rattle.fz_image.proofs.Progresses.{WritesApart, WritesNext}
 
 -- a write of the bytes of one tile more
 pub held_step : (l : Layout) (w p p' : Progress) (cs es : List TileCode) (e : TileCode) (code : List ℕ) (end n m : ℕ) (held held' : List ℕ) (before now now' : Option (List ℕ)) → WritesNext → p ≡ with_heap l w cs → es ≡ cs ++ e ∷ [] →

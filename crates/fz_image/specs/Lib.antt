@@ -5,4 +5,4 @@ pub mod Layout
 pub mod Progress
 pub mod Strips
 pub mod Tiles
-pub mod Turns
+pub mod Working

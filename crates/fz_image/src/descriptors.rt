@@ -1,15 +1,15 @@
 //! The rows of tiles.
 ghost use Rattle.std.specs.Prelude.{◌≡◌, ◌+◌, ◌*◌, ◌<◌, ◌≤◌, length as len};
 ghost use Rattle.fz_files.specs.Packed.{coded_count as coded_count_of, row_of, rows_from, stored_count as stored_count_of};
-ghost use Rattle.fz_head.specs.PackedTable.{coded_unit as coded_unit_of};
 ghost use Rattle.fz_pool.specs.Round.{coded_tile, coded_tiles};
 ghost use Rattle.fz_image.specs.Layout.{IsLayout, pixel_bytes_of};
 ghost use Rattle.fz_image.specs.Progress.{AreNext};
 
 use crate::layout::Layout;
+use fz_head::coded_unit;
 use fz_pool::{Slot, Window};
 use fz_table::{Descriptor, write_row};
-use fz_tile::{Codec, Place2};
+use fz_tile::Place2;
 
 /// How many elements a tile has in the column of codes: bytes, or the words of a line list.
 pub(crate) fn coded_count(layout: &Layout, slot: &Slot) -> u64
@@ -31,17 +31,6 @@ pub(crate) fn stored_count(layout: &Layout, slot: &Slot) -> u64
     match slot.job.place {
         Place2::Coded => 0,
         Place2::Stored => u64::from(slot.job.len / layout.pixel_len),
-    }
-}
-
-// The bytes of an element of a coded tile.
-fn coded_unit(codec: Codec) -> u32
-    ensures unit { result ≡ coded_unit_of codec }
-    ensures some { 0 < result }
-{
-    match codec {
-        Codec::Rice { .. } | Codec::Plain => 1,
-        Codec::Plio => 2,
     }
 }
 

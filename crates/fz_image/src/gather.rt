@@ -1,56 +1,69 @@
 //! The pixels of a tile, read from the image.
 ghost use Rattle.std.specs.Prelude.{ℕ, ◌≡◌, ◌+◌, ◌*◌, ◌<◌, ◌≤◌, ◌^◌, ◌++◌, Some, take, drop, length as len, OnOk, IfSome};
+ghost use Rattle.fz_base.specs.Keeps.{SourceStays};
 ghost use Rattle.fz_base.specs.Source.{LogsWithin};
 ghost use Rattle.fz_base.specs.Stop.{OnlyReads};
-ghost use Rattle.fz_base.specs.Told.{StaysTold};
 ghost use Rattle.fz_grid.specs.Arrays.{product};
 ghost use Rattle.fz_grid.specs.Region.{IsShape, IsWithin, lengths_of, places_of, region_corner, region_lengths};
+ghost use Rattle.fz_image.specs.Layout.{HasPixels, ReadsPixels, pixel_bytes_of};
 ghost use Rattle.fz_image.specs.Strips.{HasStrips};
 ghost use Rattle.fz_image.specs.Tiles.{AreBelow, pixels_at_places};
 
+use crate::layout::Layout;
 use crate::strips::Strips;
 use fz_base::{Source, Stop, log_law};
-use fz_block::Axes;
 use fz_grid::{Region, runs};
+
+/// Some bytes of the file, and the part of a buffer that they go to.
+#[derive(Clone, Copy, Debug)]
+pub(crate) struct Part {
+    /// The byte of the file at which they begin.
+    pub(crate) from: u64,
+    /// The place of the buffer at which they begin.
+    pub(crate) at: u64,
+    /// How many they are.
+    pub(crate) count: u64,
+}
 
 /// Reads the bytes of the pixels of a region of an image, axis 1 fastest: each run of neighbouring pixels at
 /// once, if the strips do not have it.
 pub(crate) fn read_region<S: Source>(
     source: &mut S,
-    pixels_at: u64,
-    pixel_len: u32,
-    shape: &Axes,
+    layout: &Layout,
     region: &Region,
     strips: &Strips,
     ahead: &[u8],
     into: &mut [u8],
 ) -> Result<(), Stop>
-    requires within { (n : ℕ) × (S.attached source.old ≡ Some n) × (pixels_at + pixel_len * product (lengths_of shape.now) ≤ n) }
-    requires near { pixels_at + pixel_len * product (lengths_of shape.now) < 2 ^ 63 }
-    requires pixel { 0 < pixel_len }
-    requires shape { IsShape shape.now }
-    requires region { IsWithin shape.now region.now }
+    requires within { HasPixels (S.attached source.old) layout.now }
+    requires near { layout.now.pixels_at + pixel_bytes_of layout.now < 2 ^ 63 }
+    requires pixel { 0 < layout.now.pixel_len }
+    requires shape { IsShape layout.now.plan.shape }
+    requires region { IsWithin layout.now.plan.shape region.now }
     requires strips { HasStrips (S.held source.old) strips.now ahead.now }
-    requires room { len into.old ≡ pixel_len * product (region_lengths region.now) }
+    requires room { len into.old ≡ layout.now.pixel_len * product (region_lengths region.now) }
     ensures pixels { OnOk result (IfSome (S.held source.old)
-        (λ g. into.new ≡ pixels_at_places pixel_len (drop pixels_at g)
-        (places_of (lengths_of shape.now) (region_corner region.now) (region_lengths region.now)))) }
-    ensures below { AreBelow (product (lengths_of shape.now))
-        (places_of (lengths_of shape.now) (region_corner region.now) (region_lengths region.now)) }
+        (λ g. into.new ≡ pixels_at_places layout.now.pixel_len (drop layout.now.pixels_at g)
+        (places_of (lengths_of layout.now.plan.shape) (region_corner region.now) (region_lengths region.now)))) }
+    ensures below { AreBelow (product (lengths_of layout.now.plan.shape))
+        (places_of (lengths_of layout.now.plan.shape) (region_corner region.now) (region_lengths region.now)) }
     ensures len { len into.new ≡ len into.old }
-    ensures held { S.held source.new ≡ S.held source.old }
-    ensures log { LogsWithin pixels_at (pixels_at + pixel_len * product (lengths_of shape.now)) (S.ranges source.old) (S.ranges source.new) }
-    ensures told_ranges { StaysTold (S.ranges source.old) (S.ranges source.new) }
-    ensures attached { S.attached source.new ≡ S.attached source.old }
+    ensures source { SourceStays S.held S.attached S.ranges source.old source.new }
+    ensures log { ReadsPixels layout.now (S.ranges source.old) (S.ranges source.new) }
     ensures cause { OnlyReads (S.tally source.old) (S.tally source.new) result }
 {
     log_law();
     let mut line = 0u64;
     let mut done = 0u64;
-    for (first, count) in runs(shape, region) {
-        let len = u64::from(pixel_len) * count;
-        let from = pixels_at + u64::from(pixel_len) * first;
-        get_part(source, from, strips, line, ahead, into, done, len)?;
+    for (first, count) in runs(&layout.plan.shape, region) {
+        let len = u64::from(layout.pixel_len) * count;
+        let from = layout.pixels_at + u64::from(layout.pixel_len) * first;
+        let part = Part {
+            from,
+            at: done,
+            count: len,
+        };
+        get_part(source, part, strips, line, ahead, into)?;
         line = line.saturating_add(1);
         done += len;
     }
@@ -60,33 +73,30 @@ pub(crate) fn read_region<S: Source>(
 // Puts bytes from this place of the source on into a part of a buffer: those of the strip of this number, if it has them.
 fn get_part<S: Source>(
     source: &mut S,
-    from: u64,
+    part: Part,
     strips: &Strips,
     line: u64,
     ahead: &[u8],
     into: &mut [u8],
-    at: u64,
-    count: u64,
 ) -> Result<(), Stop>
-    requires within { (n : ℕ) × (S.attached source.old ≡ Some n) × (from + count ≤ n) }
-    requires some { 0 < count }
+    requires within { (n : ℕ) × (S.attached source.old ≡ Some n) × (part.from + part.count ≤ n) }
+    requires some { 0 < part.count }
     requires strips { HasStrips (S.held source.old) strips.now ahead.now }
-    requires room { at + count ≤ len into.old }
-    ensures part { OnOk result (IfSome (S.held source.old) (λ g. take (at + count) into.new ≡ take at into.old ++ take count (drop from g))) }
+    requires room { part.at + part.count ≤ len into.old }
+    ensures part { OnOk result (IfSome (S.held source.old)
+        (λ g. take (part.at + part.count) into.new ≡ take part.at into.old ++ take part.count (drop part.from g))) }
     ensures len { len into.new ≡ len into.old }
-    ensures held { S.held source.new ≡ S.held source.old }
-    ensures log { LogsWithin from (from + count) (S.ranges source.old) (S.ranges source.new) }
-    ensures told_ranges { StaysTold (S.ranges source.old) (S.ranges source.new) }
-    ensures attached { S.attached source.new ≡ S.attached source.old }
+    ensures source { SourceStays S.held S.attached S.ranges source.old source.new }
+    ensures log { LogsWithin part.from (part.from + part.count) (S.ranges source.old) (S.ranges source.new) }
     ensures cause { OnlyReads (S.tally source.old) (S.tally source.new) result }
 {
     log_law();
-    match strips.place_of(line, from, count) {
+    match strips.place_of(line, part.from, part.count) {
         Some(place) => {
-            copy_part(ahead, place, into, at, count);
+            copy_part(ahead, place, into, part.at, part.count);
             Ok(())
         }
-        None => read_part(source, from, into, at, count),
+        None => read_part(source, part, into),
     }
 }
 
@@ -102,25 +112,18 @@ fn copy_part(bytes: &[u8], place: u64, into: &mut [u8], at: u64, count: u64)
 }
 
 /// Reads bytes from this place of the source on into a part of a buffer.
-pub(crate) fn read_part<S: Source>(
-    source: &mut S,
-    from: u64,
-    into: &mut [u8],
-    at: u64,
-    count: u64,
-) -> Result<(), Stop>
-    requires within { (n : ℕ) × (S.attached source.old ≡ Some n) × (from + count ≤ n) }
-    requires some { 0 < count }
-    requires room { at + count ≤ len into.old }
-    ensures part { OnOk result (IfSome (S.held source.old) (λ g. take (at + count) into.new ≡ take at into.old ++ take count (drop from g))) }
+pub(crate) fn read_part<S: Source>(source: &mut S, part: Part, into: &mut [u8]) -> Result<(), Stop>
+    requires within { (n : ℕ) × (S.attached source.old ≡ Some n) × (part.from + part.count ≤ n) }
+    requires some { 0 < part.count }
+    requires room { part.at + part.count ≤ len into.old }
+    ensures part { OnOk result (IfSome (S.held source.old)
+        (λ g. take (part.at + part.count) into.new ≡ take part.at into.old ++ take part.count (drop part.from g))) }
     ensures len { len into.new ≡ len into.old }
-    ensures held { S.held source.new ≡ S.held source.old }
-    ensures log { LogsWithin from (from + count) (S.ranges source.old) (S.ranges source.new) }
-    ensures told_ranges { StaysTold (S.ranges source.old) (S.ranges source.new) }
-    ensures attached { S.attached source.new ≡ S.attached source.old }
+    ensures source { SourceStays S.held S.attached S.ranges source.old source.new }
+    ensures log { LogsWithin part.from (part.from + part.count) (S.ranges source.old) (S.ranges source.new) }
     ensures cause { OnlyReads (S.tally source.old) (S.tally source.new) result }
 {
     log_law();
-    let part = &mut into[at as usize..(at + count) as usize];
-    source.read_at(from, part).map_err(Stop::reading)
+    let bytes = &mut into[part.at as usize..(part.at + part.count) as usize];
+    source.read_at(part.from, bytes).map_err(Stop::reading)
 }

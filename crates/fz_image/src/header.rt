@@ -6,7 +6,7 @@ ghost use Rattle.fz_block.specs.Facts.{IsHeaderOf};
 ghost use Rattle.fz_block.specs.Hdus.{cards_of, header_bytes};
 ghost use Rattle.fz_files.specs.Packed.{packed_data, table_header, with_sums};
 ghost use Rattle.fz_head.specs.Conditions.{AreShort, IsPackPlan};
-ghost use Rattle.fz_head.specs.PackedHeader.{packed_header, packed_with, parameter_cards};
+ghost use Rattle.fz_head.specs.PackedHeader.{packed_header, packed_with};
 ghost use Rattle.fz_head.specs.declared.totals.Totals.{Totals};
 ghost use Rattle.fz_sum.specs.Cards.{with_card};
 ghost use Rattle.fz_tile.specs.TileCode.{TileCode};
@@ -19,9 +19,10 @@ ghost use Rattle.fz_image.specs.declared.layout.Layout.{Layout as LayoutOf};
 use crate::progress::Progress;
 use fz_block::{Header, cards_law};
 use fz_card::{CARD_LEN, Card};
-use fz_head::{Plan, card_in_place_law, sizes_law, sum_cards_law, to_packed, whole_cards_law};
+use fz_head::{
+    Plan, card_in_place_law, parameter_count, sizes_law, sum_cards_law, to_packed, whole_cards_law,
+};
 use fz_sum::{Sum, checksum_card, datasum_card, sum_law};
-use fz_tile::Codec;
 
 /// Makes the header of a table that was written, and answers its length in bytes.
 pub fn make_header(
@@ -70,17 +71,6 @@ fn cards_before_sums(header: &Header, plan: &Plan) -> u32
     ensures { (cards : List (List ℕ)) (s : Totals) → len cards ≡ header.now.cards → result ≡ len (packed_with cards plan.now s []) }
 {
     14 + plan.shape.n + parameter_count(plan.codec) + header.cards
-}
-
-// How many cards the parameters of the codec have.
-fn parameter_count(codec: Codec) -> u32
-    ensures count { result ≡ len (parameter_cards codec) }
-    ensures few { result ≤ 4 }
-{
-    match codec {
-        Codec::Rice { .. } => 4,
-        Codec::Plio | Codec::Plain => 0,
-    }
 }
 
 // Puts the sum of the data into its card, and then the characters of the sum of the HDU into the next one.

@@ -1,15 +1,14 @@
 //! The tiles of a round, read into the slots of the window.
 ghost use Rattle.std.specs.Prelude.{◌≡◌, ◌+◌, ◌*◌, ◌/◌, ◌<◌, ◌≤◌, ◌^◌, unsigned_abs, take, length as len, OnOk};
-ghost use Rattle.fz_base.specs.Stop.{OnlyReads};
-ghost use Rattle.fz_base.specs.Told.{StaysTold};
-ghost use Rattle.fz_pool.specs.Window.{IsPut, slot_size, slot_sizes};
+ghost use Rattle.fz_pool.specs.Window.{IsPut, slot_size, WindowStays};
 ghost use Rattle.fz_pool.specs.declared.slot.Slot.{Slot as SlotOf};
 ghost use Rattle.fz_tile.specs.Pixels.{HoldPixels, IsBitpix, place_count as place_count_of};
 ghost use Rattle.fz_tile.specs.Plain.{stored_pixels};
 ghost use Rattle.fz_tile.specs.declared.coded.Place2.TheVariants.{Stored};
-ghost use Rattle.fz_image.specs.Layout.{HasPixels, IsLayout, ReadsPixels};
+ghost use Rattle.fz_image.specs.Layout.{IsLayout};
 ghost use Rattle.fz_image.specs.Strips.{HasStrips};
 ghost use Rattle.fz_image.specs.Tiles.{AreLoaded, HasRoom, HaveRoom, HoldTile, IsLoaded, pixels_of};
+ghost use Rattle.fz_image.specs.Working.{CanLoad, StaysLoading};
 
 use crate::gather::read_region;
 use crate::layout::Layout;
@@ -21,7 +20,7 @@ use fz_tile::{Place2, read_plain};
 
 /// Reads so many tiles, from the first on, into the first slots of the window. What the strips have is not read again,
 /// and lines of later tiles may be read with those of a tile.
-pub(crate) fn load_round<S: Source>(
+pub fn load_round<S: Source>(
     source: &mut S,
     layout: &Layout,
     first: u32,
@@ -30,8 +29,7 @@ pub(crate) fn load_round<S: Source>(
     strips: &mut Strips,
     ahead: &mut [u8],
 ) -> Result<(), Stop>
-    requires layout { IsLayout layout.now }
-    requires pixels { HasPixels (S.attached source.old) layout.now }
+    requires can { CanLoad (S.attached source.old) layout.now }
     requires tiles { first + count ≤ layout.now.tiles }
     requires window { HaveRoom layout.now window.old }
     requires near { count ≤ 2 * window.old.workers }
@@ -39,13 +37,8 @@ pub(crate) fn load_round<S: Source>(
     ensures loaded { OnOk result (AreLoaded layout.now (S.held source.old) first count window.new) }
     ensures strips { HasStrips (S.held source.new) strips.new ahead.new }
     ensures ahead { len ahead.new ≡ len ahead.old }
-    ensures sizes { slot_sizes window.new.slots ≡ slot_sizes window.old.slots }
-    ensures workers { window.new.workers ≡ window.old.workers }
-    ensures held { S.held source.new ≡ S.held source.old }
-    ensures log { ReadsPixels layout.now (S.ranges source.old) (S.ranges source.new) }
-    ensures told_ranges { StaysTold (S.ranges source.old) (S.ranges source.new) }
-    ensures attached { S.attached source.new ≡ S.attached source.old }
-    ensures cause { OnlyReads (S.tally source.old) (S.tally source.new) result }
+    ensures window { WindowStays window.old window.new }
+    ensures stays { StaysLoading S.held S.attached S.ranges S.tally layout.now source.old source.new result }
 {
     log_law();
     put_law();
@@ -65,8 +58,7 @@ fn load_next<S: Source>(
     strips: &mut Strips,
     ahead: &mut [u8],
 ) -> Result<(), Stop>
-    requires layout { IsLayout layout.now }
-    requires pixels { HasPixels (S.attached source.old) layout.now }
+    requires can { CanLoad (S.attached source.old) layout.now }
     requires tile { tile < layout.now.tiles }
     requires window { HaveRoom layout.now window.old }
     requires near { i < 2 * window.old.workers }
@@ -74,13 +66,8 @@ fn load_next<S: Source>(
     ensures put { OnOk result ((x : SlotOf) × IsPut window.old i x window.new × IsLoaded layout.now (S.held source.old) tile x) }
     ensures strips { HasStrips (S.held source.new) strips.new ahead.new }
     ensures ahead { len ahead.new ≡ len ahead.old }
-    ensures sizes { slot_sizes window.new.slots ≡ slot_sizes window.old.slots }
-    ensures workers { window.new.workers ≡ window.old.workers }
-    ensures held { S.held source.new ≡ S.held source.old }
-    ensures log { ReadsPixels layout.now (S.ranges source.old) (S.ranges source.new) }
-    ensures told_ranges { StaysTold (S.ranges source.old) (S.ranges source.new) }
-    ensures attached { S.attached source.new ≡ S.attached source.old }
-    ensures cause { OnlyReads (S.tally source.old) (S.tally source.new) result }
+    ensures window { WindowStays window.old window.new }
+    ensures stays { StaysLoading S.held S.attached S.ranges S.tally layout.now source.old source.new result }
 {
     sizes_law();
     put_law();
@@ -96,8 +83,7 @@ fn load_slot<S: Source>(
     strips: &mut Strips,
     ahead: &mut [u8],
 ) -> Result<(), Stop>
-    requires layout { IsLayout layout.now }
-    requires pixels { HasPixels (S.attached source.old) layout.now }
+    requires can { CanLoad (S.attached source.old) layout.now }
     requires tile { tile < layout.now.tiles }
     requires room { HasRoom layout.now (slot_size slot.old) }
     requires strips { HasStrips (S.held source.old) strips.old ahead.old }
@@ -105,11 +91,7 @@ fn load_slot<S: Source>(
     ensures strips { HasStrips (S.held source.new) strips.new ahead.new }
     ensures ahead { len ahead.new ≡ len ahead.old }
     ensures size { slot_size slot.new ≡ slot_size slot.old }
-    ensures held { S.held source.new ≡ S.held source.old }
-    ensures log { ReadsPixels layout.now (S.ranges source.old) (S.ranges source.new) }
-    ensures told_ranges { StaysTold (S.ranges source.old) (S.ranges source.new) }
-    ensures attached { S.attached source.new ≡ S.attached source.old }
-    ensures cause { OnlyReads (S.tally source.old) (S.tally source.new) result }
+    ensures stays { StaysLoading S.held S.attached S.ranges S.tally layout.now source.old source.new result }
 {
     slot.job = job_of(layout, tile, tile_pixels(layout, tile));
     let numbers = slot.numbers.as_mut_slice();
@@ -134,8 +116,7 @@ fn load_tile<S: Source>(
     strips: &mut Strips,
     ahead: &mut [u8],
 ) -> Result<(), Stop>
-    requires layout { IsLayout layout.now }
-    requires pixels { HasPixels (S.attached source.old) layout.now }
+    requires can { CanLoad (S.attached source.old) layout.now }
     requires tile { tile < layout.now.tiles }
     requires numbers { 2 * pixels_of layout.now tile ≤ len numbers.old }
     requires code { 8 * pixels_of layout.now tile ≤ len code.old }
@@ -145,11 +126,7 @@ fn load_tile<S: Source>(
     ensures ahead { len ahead.new ≡ len ahead.old }
     ensures numbers { len numbers.new ≡ len numbers.old }
     ensures code { len code.new ≡ len code.old }
-    ensures held { S.held source.new ≡ S.held source.old }
-    ensures log { ReadsPixels layout.now (S.ranges source.old) (S.ranges source.new) }
-    ensures told_ranges { StaysTold (S.ranges source.old) (S.ranges source.new) }
-    ensures attached { S.attached source.new ≡ S.attached source.old }
-    ensures cause { OnlyReads (S.tally source.old) (S.tally source.new) result }
+    ensures stays { StaysLoading S.held S.attached S.ranges S.tally layout.now source.old source.new result }
 {
     log_law();
     place_law();
@@ -158,16 +135,7 @@ fn load_tile<S: Source>(
     let pixels = tile_pixels(layout, tile);
     look_ahead(source, layout, &region, strips, ahead)?;
     let bytes = &mut code[..layout.pixel_len as usize * pixels as usize];
-    read_region(
-        source,
-        layout.pixels_at,
-        layout.pixel_len,
-        &layout.plan.shape,
-        &region,
-        strips,
-        ahead,
-        bytes,
-    )?;
+    read_region(source, layout, &region, strips, ahead, bytes)?;
     read_front(layout.plan.bitpix, pixels, bytes, numbers);
     Ok(())
 }

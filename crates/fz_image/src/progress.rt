@@ -25,6 +25,28 @@ pub struct Progress {
     pub sum: Sum,
 }
 
+/// What was written of a table, if the last bytes of its heap that are held back are counted.
+#[derive(Drop)]
+pub struct Underway {
+    /// What was written, with the bytes that are held back.
+    pub progress: Progress,
+    /// How many bytes are held back.
+    pub held_back: usize,
+}
+
+impl Underway {
+    /// Nothing was written, and no bytes are held back.
+    pub fn new() -> Underway
+        ensures progress { result.progress ≡ no_progress }
+        ensures none { result.held_back ≡ 0 }
+    {
+        Underway {
+            progress: Progress::new(),
+            held_back: 0,
+        }
+    }
+}
+
 impl Progress {
     /// Nothing was written.
     pub fn new() -> Progress

@@ -1,12 +1,12 @@
 //! Lines of an image that are read before they are wanted, together with those of the tiles before them.
 ghost use Rattle.std.specs.Prelude.{ℕ, ◌≡◌, ◌+◌, ◌-◌, ◌≤◌, List, Option, length as len, IfSome, OnOk};
+ghost use Rattle.fz_base.specs.Keeps.{SourceStays};
 ghost use Rattle.fz_base.specs.Stop.{OnlyReads};
-ghost use Rattle.fz_base.specs.Told.{StaysTold};
 ghost use Rattle.fz_grid.specs.Region.{IsShape, IsWithin, axes_of};
 ghost use Rattle.fz_image.specs.Layout.{HasPixels, IsLayout, ReadsPixels};
 ghost use Rattle.fz_image.specs.Strips.{AreOfImage, HasStrips, IsInStrip, no_strips, strip_at};
 
-use crate::gather::read_part;
+use crate::gather::{Part, read_part};
 use crate::layout::Layout;
 use fz_base::{Source, Stop, log_law};
 use fz_grid::{Region, index};
@@ -16,20 +16,20 @@ const LONG: u64 = 4096;
 
 /// Strips of an image that a buffer has, one after another. Each has so many bytes of the file.
 #[derive(Clone, Copy, Debug)]
-pub(crate) struct Strips {
+pub struct Strips {
     /// The byte of the file at which the first begins.
-    pub(crate) at: u64,
+    pub at: u64,
     /// How far the beginnings of neighbours are apart.
-    pub(crate) apart: u64,
+    pub apart: u64,
     /// The bytes of each.
-    pub(crate) len: u64,
+    pub len: u64,
     /// How many there are.
-    pub(crate) count: u64,
+    pub count: u64,
 }
 
 impl Strips {
     /// No strips.
-    pub(crate) fn none() -> Strips
+    pub fn none() -> Strips
         ensures nothing { result ≡ no_strips }
         ensures strips { (held : Option (List ℕ)) (bytes : List ℕ) → HasStrips held result bytes }
     {
@@ -42,7 +42,7 @@ impl Strips {
     }
 
     /// Where so many bytes of the file, from this one on, are among those of all strips, if strip `i` has them.
-    pub(crate) fn place_of(&self, i: u64, from: u64, count: u64) -> Option<u64>
+    pub fn place_of(&self, i: u64, from: u64, count: u64) -> Option<u64>
         ensures { IfSome result (IsInStrip self.now i from count) }
     {
         if i >= self.count {
@@ -81,7 +81,7 @@ impl Strips {
 
 /// Reads the lines of a tile with this region together with those of the tiles that follow it, as many as there is room
 /// for, if they are short and were not read.
-pub(crate) fn look_ahead<S: Source>(
+pub fn look_ahead<S: Source>(
     source: &mut S,
     layout: &Layout,
     region: &Region,
@@ -96,10 +96,8 @@ pub(crate) fn look_ahead<S: Source>(
     requires strips { HasStrips (S.held source.old) strips.old ahead.old }
     ensures strips { HasStrips (S.held source.new) strips.new ahead.new }
     ensures ahead { len ahead.new ≡ len ahead.old }
-    ensures held { S.held source.new ≡ S.held source.old }
+    ensures source { SourceStays S.held S.attached S.ranges source.old source.new }
     ensures log { ReadsPixels layout.now (S.ranges source.old) (S.ranges source.new) }
-    ensures told_ranges { StaysTold (S.ranges source.old) (S.ranges source.new) }
-    ensures attached { S.attached source.new ≡ S.attached source.old }
     ensures cause { OnlyReads (S.tally source.old) (S.tally source.new) result }
 {
     log_law();
@@ -227,17 +225,20 @@ fn read_strips<S: Source>(
     requires strips { AreOfImage layout.now (len ahead.old) strips.now }
     ensures strips { OnOk result (HasStrips (S.held source.new) strips.now ahead.new) }
     ensures ahead { len ahead.new ≡ len ahead.old }
-    ensures held { S.held source.new ≡ S.held source.old }
+    ensures source { SourceStays S.held S.attached S.ranges source.old source.new }
     ensures log { ReadsPixels layout.now (S.ranges source.old) (S.ranges source.new) }
-    ensures told_ranges { StaysTold (S.ranges source.old) (S.ranges source.new) }
-    ensures attached { S.attached source.new ≡ S.attached source.old }
     ensures cause { OnlyReads (S.tally source.old) (S.tally source.new) result }
 {
     log_law();
     for i in 0..strips.count {
         let from = strips.at + strips.apart * i;
         let to = strips.len * i;
-        read_part(source, from, ahead, to, strips.len)?;
+        let part = Part {
+            from,
+            at: to,
+            count: strips.len,
+        };
+        read_part(source, part, ahead)?;
     }
     Ok(())
 }

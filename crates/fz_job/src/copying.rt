@@ -1,11 +1,10 @@
 //! What a job copies, and what it leaves for last.
 ghost use Rattle.std.specs.Prelude.{ℕ, ◌≡◌, ◌+◌, ◌*◌, ◌≤◌, ◌<◌, ◌^◌, IsTrue, Some, if◌then◌else◌, ◌==◌, length as len, IfOk, IfSome};
+ghost use Rattle.fz_base.specs.Keeps.{SinkStays, SourceStays};
 ghost use Rattle.fz_base.specs.Source.{LogsWithin, Reads};
 ghost use Rattle.fz_base.specs.Stop.{ReadsAndWrites};
-ghost use Rattle.fz_base.specs.Told.{StaysTold};
 ghost use Rattle.fz_block.specs.Header.{data_start_of, next_start_of};
 ghost use Rattle.fz_job.specs.Behind.{HoldsCopy};
-ghost use Rattle.fz_job.specs.Keeps.{SinkStays, SourceStays};
 
 use fz_base::{Sink, Source, Stop, copy, log_law, output_law, write_behind};
 use fz_block::{Header, data_start, next_start};
@@ -34,11 +33,9 @@ pub fn copy_hdu<S: Source, K: Sink>(
         (λ g. HoldsCopy header.now g at end (K.contents sink.old) (K.contents sink.new))) }
     ensures end { IfOk result (λ end. (at < end) × (end + header.now.start ≡ at + next_start_of header.now)) }
     ensures len { len buffer.new ≡ len buffer.old }
-    ensures source { SourceStays (S.held source.old) (S.held source.new) (S.attached source.old) (S.attached source.new) }
-    ensures sink { SinkStays (K.created sink.old) (K.created sink.new) (K.contents sink.old) (K.contents sink.new) }
+    ensures source { SourceStays S.held S.attached S.ranges source.old source.new }
+    ensures sink { SinkStays K.created K.contents sink.old sink.new }
     ensures log { LogsWithin (data_start_of header.now) (next_start_of header.now) (S.ranges source.old) (S.ranges source.new) }
-    ensures told_ranges { StaysTold (S.ranges source.old) (S.ranges source.new) }
-    ensures told_contents { StaysTold (K.contents sink.old) (K.contents sink.new) }
     ensures cause { ReadsAndWrites (S.tally source.old) (S.tally source.new) (K.tally sink.old) (K.tally sink.new) result }
 {
     log_law();

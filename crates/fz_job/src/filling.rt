@@ -1,9 +1,8 @@
 //! The fill after data.
 ghost use Rattle.std.specs.Prelude.{◌≡◌, ◌+◌, ◌-◌, ◌≤◌, ◌<◌, ◌^◌, IsTrue, replicate, length as len, IfOk, OnOk};
-ghost use Rattle.fz_base.specs.FirstByte.{StaysShut};
+ghost use Rattle.fz_base.specs.Keeps.{SinkStays};
 ghost use Rattle.fz_base.specs.Sink.{written};
 ghost use Rattle.fz_base.specs.Stop.{Writes};
-ghost use Rattle.fz_base.specs.Told.{StaysTold};
 ghost use Rattle.fz_block.specs.Header.{whole_blocks_of};
 
 use fz_base::{Sink, Stop, write_behind};
@@ -24,10 +23,8 @@ pub fn write_fill<K: Sink>(
     ensures filled { OnOk result (K.contents sink.new ≡ written (data_at + data_len)
         (replicate (whole_blocks_of data_len - data_len) 0) (K.contents sink.old)) }
     ensures end { IfOk result (λ end. end ≡ data_at + whole_blocks_of data_len) }
-    ensures shut { StaysShut (K.contents sink.old) (K.contents sink.new) }
-    ensures told_contents { StaysTold (K.contents sink.old) (K.contents sink.new) }
+    ensures sink { SinkStays K.created K.contents sink.old sink.new }
     ensures len { len zeros.new ≡ len zeros.old }
-    ensures created { K.created sink.new ≡ K.created sink.old }
     ensures cause { Writes (K.tally sink.old) (K.tally sink.new) result }
 {
     let filled = data_len.div_ceil(BLOCK_LEN as u64) * BLOCK_LEN as u64;

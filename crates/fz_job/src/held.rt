@@ -1,9 +1,8 @@
 //! Bytes that are held back, so that many short pieces are one write.
 ghost use Rattle.std.specs.Prelude.{ℕ, ◌≡◌, ◌+◌, ◌^◌, ◌<◌, ◌≤◌, IsTrue, List, Option, length as len, OnOk};
-ghost use Rattle.fz_base.specs.FirstByte.{StaysShut};
+ghost use Rattle.fz_base.specs.Keeps.{SinkStays};
 ghost use Rattle.fz_base.specs.Sink.{written};
 ghost use Rattle.fz_base.specs.Stop.{Writes};
-ghost use Rattle.fz_base.specs.Told.{StaysTold};
 ghost use Rattle.fz_job.specs.Held.{IsHeld, caught_up, nothing_held, settled};
 
 use fz_base::{Sink, Stop, output_law, write_behind};
@@ -45,9 +44,7 @@ pub fn hold_piece<K: Sink>(
         (settled back.old held.old (K.contents sink.old))) }
     ensures kept { OnOk result (IsHeld back.new held.new) }
     ensures len { len held.new ≡ len held.old }
-    ensures shut { StaysShut (K.contents sink.old) (K.contents sink.new) }
-    ensures told { StaysTold (K.contents sink.old) (K.contents sink.new) }
-    ensures created { K.created sink.new ≡ K.created sink.old }
+    ensures sink { SinkStays K.created K.contents sink.old sink.new }
     ensures cause { Writes (K.tally sink.old) (K.tally sink.new) result }
 {
     if at == back.end {
@@ -74,9 +71,7 @@ fn hold_next<K: Sink>(
         (settled back.old held.old (K.contents sink.old))) }
     ensures kept { OnOk result (IsHeld back.new held.new) }
     ensures len { len held.new ≡ len held.old }
-    ensures shut { StaysShut (K.contents sink.old) (K.contents sink.new) }
-    ensures told { StaysTold (K.contents sink.old) (K.contents sink.new) }
-    ensures created { K.created sink.new ≡ K.created sink.old }
+    ensures sink { SinkStays K.created K.contents sink.old sink.new }
     ensures cause { Writes (K.tally sink.old) (K.tally sink.new) result }
 {
     hold_back(sink, at, bytes, held, &mut back.count)?;
@@ -89,9 +84,7 @@ pub fn write_pieces<K: Sink>(sink: &mut K, held: &[u8], back: &Held) -> Result<(
     requires created { IsTrue (K.created sink.old) }
     requires held { IsHeld back.now held.now }
     ensures written { OnOk result (K.contents sink.new ≡ settled back.now held.now (K.contents sink.old)) }
-    ensures shut { StaysShut (K.contents sink.old) (K.contents sink.new) }
-    ensures told { StaysTold (K.contents sink.old) (K.contents sink.new) }
-    ensures created { K.created sink.new ≡ K.created sink.old }
+    ensures sink { SinkStays K.created K.contents sink.old sink.new }
     ensures cause { Writes (K.tally sink.old) (K.tally sink.new) result }
 {
     write_held(sink, back.end, held, back.count)
@@ -114,65 +107,15 @@ pub fn hold_back<K: Sink>(
     ensures within { OnOk result (count.new ≤ len held.new) }
     ensures few { OnOk result (count.new ≤ count.old + len bytes.now) }
     ensures len { len held.new ≡ len held.old }
-    ensures shut { StaysShut (K.contents sink.old) (K.contents sink.new) }
-    ensures told { StaysTold (K.contents sink.old) (K.contents sink.new) }
-    ensures created { K.created sink.new ≡ K.created sink.old }
+    ensures sink { SinkStays K.created K.contents sink.old sink.new }
     ensures cause { Writes (K.tally sink.old) (K.tally sink.new) result }
 {
-    if bytes.len() > held.len() - *count {
-        return write_first(sink, at, bytes, held, count);
+    if bytes.len() <= held.len() - *count {
+        keep(bytes, held, count);
+        return Ok(());
     }
-    keep(bytes, held, count);
-    Ok(())
-}
-
-// The same if there is no room for the bytes: those that are held back are written.
-fn write_first<K: Sink>(
-    sink: &mut K,
-    at: u64,
-    bytes: &[u8],
-    held: &mut [u8],
-    count: &mut usize,
-) -> Result<(), Stop>
-    requires created { IsTrue (K.created sink.old) }
-    requires within { count.old ≤ len held.old }
-    requires behind { count.old < at }
-    ensures written { OnOk result (caught_up (at + len bytes.now) count.new held.new (K.contents sink.new) ≡ written at bytes.now
-        (caught_up at count.old held.old (K.contents sink.old))) }
-    ensures within { OnOk result (count.new ≤ len held.new) }
-    ensures few { OnOk result (count.new ≤ len bytes.now) }
-    ensures len { len held.new ≡ len held.old }
-    ensures shut { StaysShut (K.contents sink.old) (K.contents sink.new) }
-    ensures told { StaysTold (K.contents sink.old) (K.contents sink.new) }
-    ensures created { K.created sink.new ≡ K.created sink.old }
-    ensures cause { Writes (K.tally sink.old) (K.tally sink.new) result }
-{
     write_held(sink, at, held, *count)?;
     *count = 0;
-    begin(sink, at, bytes, held, count)
-}
-
-// The same if none are held back.
-fn begin<K: Sink>(
-    sink: &mut K,
-    at: u64,
-    bytes: &[u8],
-    held: &mut [u8],
-    count: &mut usize,
-) -> Result<(), Stop>
-    requires created { IsTrue (K.created sink.old) }
-    requires none { count.old ≡ 0 }
-    requires behind { 0 < at }
-    ensures written { OnOk result (caught_up (at + len bytes.now) count.new held.new (K.contents sink.new) ≡ written at bytes.now
-        (K.contents sink.old)) }
-    ensures within { OnOk result (count.new ≤ len held.new) }
-    ensures few { OnOk result (count.new ≤ len bytes.now) }
-    ensures len { len held.new ≡ len held.old }
-    ensures shut { StaysShut (K.contents sink.old) (K.contents sink.new) }
-    ensures told { StaysTold (K.contents sink.old) (K.contents sink.new) }
-    ensures created { K.created sink.new ≡ K.created sink.old }
-    ensures cause { Writes (K.tally sink.old) (K.tally sink.new) result }
-{
     if bytes.len() > held.len() / 2 {
         return write_behind(sink, at, bytes);
     }
@@ -201,9 +144,7 @@ pub fn write_held<K: Sink>(sink: &mut K, end: u64, held: &[u8], count: usize) ->
     requires within { count ≤ len held.now }
     requires behind { count < end }
     ensures written { OnOk result (K.contents sink.new ≡ caught_up end count held.now (K.contents sink.old)) }
-    ensures shut { StaysShut (K.contents sink.old) (K.contents sink.new) }
-    ensures told { StaysTold (K.contents sink.old) (K.contents sink.new) }
-    ensures created { K.created sink.new ≡ K.created sink.old }
+    ensures sink { SinkStays K.created K.contents sink.old sink.new }
     ensures cause { Writes (K.tally sink.old) (K.tally sink.new) result }
 {
     write_behind(sink, end - count as u64, &held[..count])

@@ -69,7 +69,7 @@ returns-clause-ahead g c =
     let whole : length c.read_rows.new.rows ≡ n = omega (arith, c.read_rows.ensures.len, near, c.requires.ahead.room, length-take {A = ℕ}) in
     let a = c.args.ahead.now in
     let now : List ℕ = c.read_rows.new.rows ++ drop n c.args.buf.now in
-    subst (λ (h : Option (List ℕ)). IsAhead h t now (record a { first = c.args.first; count = count })) (sym c.in_ok-read_rows.ensures.held)
+    subst (λ (h : Option (List ℕ)). IsAhead h t now (record a { first = c.args.first; count = count })) (sym c.in_ok-read_rows.ensures.source.held_is)
     (rows_found held t c.args.buf.now c.read_rows.new.rows n c.args.ahead.now c.number_tiles.new.tiles c.args.first count c.requires.ahead size few near whole
     are c.in_ok-read_rows.ensures.rows)
 
@@ -88,7 +88,7 @@ returns-in_err-read_rows-clause-ahead g c =
     let whole : length c.read_rows.new.rows ≡ n = omega (arith, c.read_rows.ensures.len, near, c.requires.ahead.room, length-take {A = ℕ}) in
     let a = c.args.ahead.now in
     let now : List ℕ = c.read_rows.new.rows ++ drop n c.args.buf.now in
-    subst (λ (h : Option (List ℕ)). IsAhead h t now (record a { count = 0 })) (sym c.in_err-read_rows.ensures.held)
+    subst (λ (h : Option (List ℕ)). IsAhead h t now (record a { count = 0 })) (sym c.in_err-read_rows.ensures.source.held_is)
     (rows_lost held t c.args.buf.now c.read_rows.new.rows n c.args.ahead.now c.requires.ahead near whole)
 
 -- ---- what is read

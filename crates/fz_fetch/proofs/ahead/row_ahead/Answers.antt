@@ -13,7 +13,7 @@ use Rattle.fz_fetch.proofs.ahead.row_ahead.Goals as goal
 
 pub returns-then-not-is_filled-clause-ahead : goal.returns-then-not-is_filled-clause-ahead
 returns-then-not-is_filled-clause-ahead g c =
-    subst (λ (h : Option (List ℕ)). IsAhead h c.args.table.now c.args.buf.now c.args.ahead.now) (sym c.read_row.ensures.held) c.requires.ahead
+    subst (λ (h : Option (List ℕ)). IsAhead h c.args.table.now c.args.buf.now c.args.ahead.now) (sym c.read_row.ensures.source.held_is) c.requires.ahead
 
 pub returns-then-not-is_filled-clause-read : goal.returns-then-not-is_filled-clause-read
 returns-then-not-is_filled-clause-read g c =
@@ -46,5 +46,5 @@ row_here-requires-2-clause-here g c = let here = c.in_ok-read_rows_on.ensures.he
 
 pub returns-clause-exact : goal.returns-clause-exact
 returns-clause-exact g c =
-    subst (λ (h : Option (List ℕ)). IfSome h (λ file. c.row_here-2.result ≡ row_at file c.args.table.now c.args.tile)) c.in_ok-read_rows_on.ensures.held
+    subst (λ (h : Option (List ℕ)). IfSome h (λ file. c.row_here-2.result ≡ row_at file c.args.table.now c.args.tile)) c.in_ok-read_rows_on.ensures.source.held_is
     (c.row_here-2.ensures.told (g.S.Source.held c.read_rows_on.new.source) c.in_ok-read_rows_on.ensures.ahead)

@@ -37,7 +37,7 @@ returns-clause-put g c =
         ready = ready;
         job = job;
         told = told_record (g.S.Source.held c.args.source.now) (g.S.Source.held c.row_of.new.source) c.args.hdu c.args.tile c.args.image.now.table c.in_ok-says.says c.known_tile-known.result
-            (tile_of c.args.image.now.plan c.args.tile) c.in_ok-found.found _ c.row_of.ensures.held c.known_tile-known.ensures.known c.in_ok-says.ensures.exact (sym c.record_of.ensures.exact ∙ came) bytes;
+            (tile_of c.args.image.now.plan c.args.tile) c.in_ok-found.found _ c.row_of.ensures.source.held_is c.known_tile-known.ensures.known c.in_ok-says.ensures.exact (sym c.record_of.ensures.exact ∙ came) bytes;
       },
     ))
 

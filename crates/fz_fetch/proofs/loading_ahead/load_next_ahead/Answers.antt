@@ -17,34 +17,34 @@ row_ahead-requires-clause-tile g c = omega (arith, c.requires.image.rows, c.requ
 
 pub returns-in_err-says-clause-read : goal.returns-in_err-says-clause-read
 returns-in_err-says-clause-read g c =
-    rows_alone (g.S.Source.held c.args.source.now) c.args.hdu c.args.image.now (image_tiles c.args.image.now)
+    rows_alone (g.S.Source.held c.args.source.now) c.args.tile.hdu c.args.tile.image.now (image_tiles c.args.tile.image.now)
     (g.S.Source.ranges c.args.source.now) _ c.row_ahead.ensures.read
 
 pub returns-in_err-found-clause-read : goal.returns-in_err-found-clause-read
 returns-in_err-found-clause-read g c =
-    rows_alone (g.S.Source.held c.args.source.now) c.args.hdu c.args.image.now (image_tiles c.args.image.now)
+    rows_alone (g.S.Source.held c.args.source.now) c.args.tile.hdu c.args.tile.image.now (image_tiles c.args.tile.image.now)
     (g.S.Source.ranges c.args.source.now) _ c.row_ahead.ensures.read
 
 pub returns-clause-read : goal.returns-clause-read
 returns-clause-read g c =
-    rows_then_tiles c.ranges_law.ensures.join (g.S.Source.held c.args.source.now) (g.S.Source.held c.row_ahead.new.source) c.args.hdu c.args.image.now
-    (image_tiles c.args.image.now)
+    rows_then_tiles c.ranges_law.ensures.join (g.S.Source.held c.args.source.now) (g.S.Source.held c.row_ahead.new.source) c.args.tile.hdu c.args.tile.image.now
+    (image_tiles c.args.tile.image.now)
     (g.S.Source.ranges c.args.source.now) (g.S.Source.ranges c.row_ahead.new.source) (g.S.Source.ranges c.load_slot_ahead.new.source)
-    c.row_ahead.ensures.held c.row_ahead.ensures.read c.load_slot_ahead.ensures.read
+    c.row_ahead.ensures.source.held_is c.row_ahead.ensures.read c.load_slot_ahead.ensures.read
 
 -- ---- the record
 
 pub load_slot_ahead-requires-clause-read : goal.load_slot_ahead-requires-clause-read
 load_slot_ahead-requires-clause-read g c =
     let came : c.record_of.result ≡ Ok c.in_ok-found.found = search rules in
-    read_is c.args.hdu c.args.tile c.args.image.now.table c.in_ok-says.says c.known_tile-known.result c.in_ok-found.found (sym c.record_of.ensures.exact ∙ came)
+    read_is c.args.tile.hdu c.args.tile.number c.args.tile.image.now.table c.in_ok-says.says c.known_tile-known.result c.in_ok-found.found (sym c.record_of.ensures.exact ∙ came)
 
 pub load_slot_ahead-requires-clause-told : goal.load_slot_ahead-requires-clause-told
 load_slot_ahead-requires-clause-told g c =
     let came : c.record_of.result ≡ Ok c.in_ok-found.found = search rules in
-    record_known (g.S.Source.held c.args.source.now) (g.S.Source.held c.row_ahead.new.source) c.args.hdu c.args.tile c.args.image.now.table c.in_ok-says.says
+    record_known (g.S.Source.held c.args.source.now) (g.S.Source.held c.row_ahead.new.source) c.args.tile.hdu c.args.tile.number c.args.tile.image.now.table c.in_ok-says.says
     c.known_tile-known.result
-    (tile_of c.args.image.now.plan c.args.tile) c.in_ok-found.found c.row_ahead.ensures.held c.known_tile-known.ensures.known c.in_ok-says.ensures.exact
+    (tile_of c.args.tile.image.now.plan c.args.tile.number) c.in_ok-found.found c.row_ahead.ensures.source.held_is c.known_tile-known.ensures.known c.in_ok-says.ensures.exact
     (sym c.record_of.ensures.exact ∙ came)
 
 pub load_slot_ahead-requires-clause-room : goal.load_slot_ahead-requires-clause-room
@@ -69,9 +69,9 @@ returns-clause-put g c =
         found = c.in_ok-found.found;
         ready = ready;
         job = job;
-        told = told_record (g.S.Source.held c.args.source.now) (g.S.Source.held c.row_ahead.new.source) c.args.hdu c.args.tile c.args.image.now.table
+        told = told_record (g.S.Source.held c.args.source.now) (g.S.Source.held c.row_ahead.new.source) c.args.tile.hdu c.args.tile.number c.args.tile.image.now.table
             c.in_ok-says.says c.known_tile-known.result
-            (tile_of c.args.image.now.plan c.args.tile) c.in_ok-found.found _ c.row_ahead.ensures.held c.known_tile-known.ensures.known
+            (tile_of c.args.tile.image.now.plan c.args.tile.number) c.in_ok-found.found _ c.row_ahead.ensures.source.held_is c.known_tile-known.ensures.known
             c.in_ok-says.ensures.exact (sym c.record_of.ensures.exact ∙ came) bytes;
       },
     ))

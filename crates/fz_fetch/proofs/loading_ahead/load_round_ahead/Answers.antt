@@ -22,6 +22,11 @@ loop-i-init g c = record {
   loaded = λ k d low. absurd (omega (arith, low));
 }
 
+pub load_next_ahead-requires-clause-tile : goal.load_next_ahead-requires-clause-tile
+load_next_ahead-requires-clause-tile g c =
+    let near : c.loop-i.i < length c.args.tiles.now = search rules in
+    c.requires.round.known c.loop-i.i near
+
 pub load_next_ahead-requires-clause-ahead : goal.load_next_ahead-requires-clause-ahead
 load_next_ahead-requires-clause-ahead g c =
     subst (λ (h : Option (List ℕ)). IsAhead h c.args.image.now.table c.loop-i.buf c.loop-i.ahead) (sym c.loop-i.invariant.held) c.loop-i.invariant.ahead
@@ -43,18 +48,18 @@ loop-i-preserved g c =
     let held : Option (List ℕ) = g.S.Source.held c.args.source.now in
     let tiles : List ℕ = c.args.tiles.now in
     let put = c.in-Ok.ensures.put in
-    let same : g.S.Source.held c.load_next_ahead.new.source ≡ held = c.load_next_ahead.ensures.held ∙ c.loop-i.invariant.held in
+    let same : g.S.Source.held c.load_next_ahead.new.source ≡ held = c.load_next_ahead.ensures.source.held_is ∙ c.loop-i.invariant.held in
     let now : IsLoaded held c.args.hdu c.args.image.now (slice_index tiles c.loop-i.i) put.0 =
     subst (λ (h : Option (List ℕ)). IsLoaded h c.args.hdu c.args.image.now (slice_index tiles c.loop-i.i) put.0) c.loop-i.invariant.held put.2 in
     record {
       held = search rules;
       attached = search rules;
       counts = search rules;
-      sizes = c.load_next_ahead.ensures.sizes ∙ c.loop-i.invariant.sizes;
-      workers = c.load_next_ahead.ensures.workers ∙ c.loop-i.invariant.workers;
+      sizes = c.load_next_ahead.ensures.window.sizes ∙ c.loop-i.invariant.sizes;
+      workers = c.load_next_ahead.ensures.window.workers ∙ c.loop-i.invariant.workers;
       others = same_then c.loop-i.i (c.loop-i.i + 1) (c.loop-i.i + 1) c.args.window.now.slots c.loop-i.window.slots c.load_next_ahead.new.window.slots
           (omega arith) (omega arith) c.loop-i.invariant.others c.load_next_ahead.ensures.others;
-      told_ranges = λ told. c.load_next_ahead.ensures.told_ranges (c.loop-i.invariant.told_ranges told);
+      told_ranges = λ told. c.load_next_ahead.ensures.source.told (c.loop-i.invariant.told_ranges told);
       read = join_all c.ranges_law.ensures.join held (g.S.Source.held c.loop-i.source) c.args.hdu c.args.image.now
           (g.S.Source.ranges c.args.source.now) (g.S.Source.ranges c.loop-i.source) (g.S.Source.ranges c.load_next_ahead.new.source) c.loop-i.invariant.held
           c.loop-i.invariant.read c.load_next_ahead.ensures.read;

@@ -14,11 +14,11 @@ invariant-loop-first g l = record {
   held : g.S.Source.held l.source ≡ g.S.Source.held l.fn.source;
   attached : g.S.Source.attached l.source ≡ g.S.Source.attached l.fn.source;
   told_ranges : StaysTold (g.S.Source.ranges l.fn.source) (g.S.Source.ranges l.source);
-  log : LogsWithin l.pixels_at (l.pixels_at + l.pixel_len * product (lengths_of l.shape)) (g.S.Source.ranges l.fn.source) (g.S.Source.ranges l.source);
+  log : LogsWithin l.layout.pixels_at (l.layout.pixels_at + l.layout.pixel_len * product (lengths_of l.layout.plan.shape)) (g.S.Source.ranges l.fn.source) (g.S.Source.ranges l.source);
   reads : g.S.Source.tally l.source ≡ g.S.Source.tally l.fn.source;
   long : length l.into ≡ length l.fn.into;
   apart : AreApart (runs_left l.first-iterator);
-  inside : EndWithin (product (lengths_of l.shape)) (runs_left l.first-iterator);
-  left : l.done + l.pixel_len * total_length (runs_left l.first-iterator) ≡ length l.fn.into;
-  pixels : ReadUntil l.pixel_len l.pixels_at (places_of (lengths_of l.shape) (region_corner l.region) (region_lengths l.region)) (g.S.Source.held l.fn.source) l.into l.done (runs_left l.first-iterator);
+  inside : EndWithin (product (lengths_of l.layout.plan.shape)) (runs_left l.first-iterator);
+  left : l.done + l.layout.pixel_len * total_length (runs_left l.first-iterator) ≡ length l.fn.into;
+  pixels : ReadUntil l.layout.pixel_len l.layout.pixels_at (places_of (lengths_of l.layout.plan.shape) (region_corner l.region) (region_lengths l.region)) (g.S.Source.held l.fn.source) l.into l.done (runs_left l.first-iterator);
 }

@@ -16,9 +16,9 @@ invariant-loop-i g l = record {
   writes : g.K.Sink.tally l.sink ≡ g.K.Sink.tally l.fn.sink;
   shut : StaysShut (g.K.Sink.contents l.fn.sink) (g.K.Sink.contents l.sink);
   told_contents : StaysTold (g.K.Sink.contents l.fn.sink) (g.K.Sink.contents l.sink);
-  progress : l.progress ≡ with_heap l.layout l.fn.progress (coded_tiles l.i l.window.slots);
-  contents : heap_caught_up l.layout l.progress l.count l.held (g.K.Sink.contents l.sink)
-      ≡ written (heap_at_of l.layout + l.fn.progress.heap) (heap_of (coded_tiles l.i l.window.slots)) (heap_caught_up l.layout l.fn.progress l.fn.count l.fn.held (g.K.Sink.contents l.fn.sink));
-  last : AreLast l.count l.held l.progress;
+  progress : l.underway.progress ≡ with_heap l.layout l.fn.underway.progress (coded_tiles l.i l.window.slots);
+  contents : heap_caught_up l.layout l.underway.progress l.underway.held_back l.held (g.K.Sink.contents l.sink)
+      ≡ written (heap_at_of l.layout + l.fn.underway.progress.heap) (heap_of (coded_tiles l.i l.window.slots)) (heap_caught_up l.layout l.fn.underway.progress l.fn.underway.held_back l.fn.held (g.K.Sink.contents l.fn.sink));
+  last : AreLast l.underway.held_back l.held l.underway.progress;
   room : length l.held ≡ length l.fn.held;
 }

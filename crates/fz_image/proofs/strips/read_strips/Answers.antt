@@ -65,7 +65,7 @@ loop-i-preserved g c =
     record {
       held = search rules;
       attached = search rules;
-      told_ranges = λ told. c.in_ok-read_part.ensures.told_ranges (c.loop-i.invariant.told_ranges told);
+      told_ranges = λ told. c.in_ok-read_part.ensures.source.told (c.loop-i.invariant.told_ranges told);
       log = c.log_law.ensures.both l.pixels_at end (g.S.Source.ranges c.args.source.now) mid new c.loop-i.invariant.log
           (c.log_law.ensures.wider (strip_at s i) (strip_at s i + s.len) l.pixels_at end mid new (omega (arith, c.requires.strips.low))
           (c.requires.strips.high i near) c.in_ok-read_part.ensures.log);

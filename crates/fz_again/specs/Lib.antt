@@ -1,4 +1,0 @@
-pub mod Again
-pub mod Hdus
-pub mod Headers
-pub mod Known

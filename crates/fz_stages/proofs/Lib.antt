@@ -1,6 +1,0 @@
-pub mod Back
-pub mod Behind
-pub mod Jobs
-pub mod Look
-pub mod Takings
-pub mod Work
