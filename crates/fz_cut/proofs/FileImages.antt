@@ -13,7 +13,7 @@ use Rattle.fz_head.specs.PackedPlan.{plan_of_cards}
 use Rattle.fz_head.specs.declared.job_checks.PackedImage.{PackedImage}
 use Rattle.fz_files.specs.CutoutBytes.{cutout_cards}
 use Rattle.fz_files.specs.Restored.{header_in}
-use Rattle.fz_fetch.specs.Images.{IsSaid}
+use Rattle.fz_job.specs.Images.{IsSaid}
 use Rattle.fz_cut.specs.Again.{IsAgain, header_at_front}
 use Rattle.fz_cut.specs.declared.again.Again.{Again}
 use Rattle.fz_cut.proofs.Standing.{answer}

@@ -16,11 +16,11 @@ use Rattle.fz_files.specs.Cutout.{touched}
 use Rattle.fz_files.specs.CutoutBytes.{IsCutout}
 use Rattle.fz_files.specs.Walks.{box_of, header_fault}
 use Rattle.fz_files.specs.declared.job.Job.TheVariants.{Cut}
-use Rattle.fz_survey.specs.Surveys.{cut_surveyed}
-use Rattle.fz_survey.specs.declared.survey.Survey.{Survey}
+use Rattle.fz_job.specs.Surveys.{cut_surveyed}
+use Rattle.fz_job.specs.declared.survey.Survey.{Survey}
 use Rattle.fz_cut.specs.Output.{HoldsCutout}
 use Rattle.fz_job.specs.Clauses.{ComesLate, IfOverLimit, IsShutOrWhole, StaysUnmade, TellsFirstFault}
-use Rattle.fz_stages.specs.Stages.{HasLargest}
+use Rattle.fz_job.specs.Stages.{HasLargest}
 use Rattle.fz_cut.specs.Known.{IsKnown, SurveysKnow}
 use Rattle.fz_cut.specs.Written.{FinishesSeen, IsPart, IsShutOrPart, work_ranges}
 use Rattle.fz_cut.specs.Again.{WasSeen}

@@ -6,7 +6,7 @@ use Rattle.std.proofs.lemmas.List.Sums.{sum_by-cons}
 use Rattle.fz_base.specs.Buffer.{refilled}
 use Rattle.fz_pool.specs.Laws.{AreFresh}
 use Rattle.fz_pool.specs.Window.{Pool, slot_sizes}
-use Rattle.fz_survey.specs.Workspace.{window_for}
+use Rattle.fz_job.specs.Workspace.{window_for}
 
 -- the sum of one
 pub sum_one : (n : ℕ) → sum (n ∷ []) ≡ n

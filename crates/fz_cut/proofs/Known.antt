@@ -21,10 +21,10 @@ use Rattle.fz_files.specs.Buffers.{header_len, plans_behind}
 use Rattle.fz_files.specs.Restored.{header_in, pixels_of, plan_in}
 use Rattle.fz_files.specs.Walks.{box_of, fault_of_walk, found_headers, header_fault, headers_for, job_walk, last_of, missing_of, reached_by, reached_from}
 use Rattle.fz_files.specs.declared.job.Job.TheVariants.{Cut}
-use Rattle.fz_survey.specs.Judges.{judge_of}
-use Rattle.fz_survey.specs.Surveys.{by_stop, cut_surveyed, header_len as header_len_seen, headers_seen, packed_tile, stopped_at, survey_of, tile_pixels as tile_seen, unless_missing}
-use Rattle.fz_survey.specs.declared.checks.JobChecks.TheVariants.{Cut as CutChecks}
-use Rattle.fz_survey.specs.declared.survey.Survey.{Survey}
+use Rattle.fz_job.specs.Judges.{judge_of}
+use Rattle.fz_job.specs.Surveys.{by_stop, cut_surveyed, header_len as header_len_seen, headers_seen, packed_tile, stopped_at, survey_of, tile_pixels as tile_seen, unless_missing}
+use Rattle.fz_job.specs.declared.checks.JobChecks.TheVariants.{Cut as CutChecks}
+use Rattle.fz_job.specs.declared.survey.Survey.{Survey}
 use Rattle.fz_cut.specs.Again.{WasSeen}
 use Rattle.fz_cut.specs.Known.{IsKnown}
 use Rattle.fz_cut.proofs.Walks.{AreFound, BlocksLaw, FactsLaw, HasLast, has_last, last_is, longest_is, or_parts, place_of, stopped_last, stops_last, stops_none, walk_met}

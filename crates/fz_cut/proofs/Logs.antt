@@ -5,9 +5,9 @@ use Rattle.std.specs.Option.{option_map}
 use Rattle.fz_base.specs.Ranges.{LiesIn, LogsIn, LogsJoinLaw}
 use Rattle.fz_base.specs.Source.{LogsOnly}
 use Rattle.fz_grid.specs.declared.sieve.Sieve.{Sieve}
-use Rattle.fz_survey.specs.Reads.{IsWithinOne}
-use Rattle.fz_survey.specs.Surveys.{survey_places}
-use Rattle.fz_survey.specs.declared.checks.JobChecks.TheVariants.{Cut as CutChecks}
+use Rattle.fz_job.specs.SurveyReads.{IsWithinOne}
+use Rattle.fz_job.specs.Surveys.{survey_places}
+use Rattle.fz_job.specs.declared.checks.JobChecks.TheVariants.{Cut as CutChecks}
 use Rattle.fz_files.specs.Cutout.{touched}
 use Rattle.fz_files.specs.Walks.{box_of}
 use Rattle.fz_cut.specs.Laws.{LooksAreTouched}

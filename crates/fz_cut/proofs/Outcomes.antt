@@ -15,11 +15,11 @@ use Rattle.fz_grid.specs.declared.sieve.Sieve.{Sieve}
 use Rattle.fz_files.specs.Walks.{box_of, header_fault}
 use Rattle.fz_files.specs.declared.job.Job.{Job}
 use Rattle.fz_files.specs.declared.job.Job.TheVariants.{Cut}
-use Rattle.fz_survey.specs.Surveys.{cut_surveyed}
-use Rattle.fz_survey.specs.declared.survey.Survey.{Survey}
+use Rattle.fz_job.specs.Surveys.{cut_surveyed}
+use Rattle.fz_job.specs.declared.survey.Survey.{Survey}
 use Rattle.fz_job.specs.Clauses.{ComesLate, IfOverLimit, IsShutOrWhole, StaysUnmade, TellsFirstFault}
 use Rattle.fz_job.specs.Keeps.{StoppedRewriting}
-use Rattle.fz_stages.specs.Stages.{TellsHeaderFault}
+use Rattle.fz_job.specs.Stages.{TellsHeaderFault}
 use Rattle.fz_cut.specs.Known.{SurveysRefuse}
 use Rattle.fz_cut.specs.Written.{FinishesSeen, IsShutOrPart}
 

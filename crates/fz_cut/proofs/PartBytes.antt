@@ -8,8 +8,8 @@ use Rattle.fz_block.specs.declared.header.Header.{Header}
 use Rattle.fz_grid.specs.Arrays.{NumberArray, product}
 use Rattle.fz_grid.specs.Sieve.{sieve_lengths}
 use Rattle.fz_grid.specs.declared.sieve.Sieve.{Sieve}
-use Rattle.fz_parts.specs.Cutout.{picked_numbers}
-use Rattle.fz_parts.specs.Laws.{CutoutsAreWhole}
+use Rattle.fz_grid.specs.Cutout.{picked_numbers}
+use Rattle.fz_grid.specs.CutoutLaws.{CutoutsAreWhole}
 use Rattle.fz_tile.specs.Laws.{HasPlainLen}
 use Rattle.fz_tile.specs.Pixels.{IsBitpix}
 use Rattle.fz_tile.specs.Plain.{plain_bytes}
@@ -18,7 +18,7 @@ use Rattle.fz_head.specs.declared.plan.Plan.{Plan}
 use Rattle.fz_files.specs.CutoutBytes.{cutout_cards}
 use Rattle.fz_files.specs.Packed.{pixel_bits, zero_filled}
 use Rattle.fz_files.specs.Restored.{header_in, plan_in}
-use Rattle.fz_fetch.specs.Images.{IsSaid}
+use Rattle.fz_job.specs.Images.{IsSaid}
 use Rattle.fz_cut.specs.Part.{HoldsPart}
 use Rattle.fz_cut.specs.Picks.{HoldsPicks}
 

@@ -12,16 +12,16 @@ use Rattle.fz_grid.specs.Overlap.{has_pixel}
 use Rattle.fz_grid.specs.Region.{lengths_of}
 use Rattle.fz_grid.specs.Sieve.{picked_tiles, sieve_hi, sieve_lo, sieve_step, tile_picks}
 use Rattle.fz_grid.specs.declared.sieve.Sieve.{Sieve}
-use Rattle.fz_parts.specs.Cutout.{part_lengths}
+use Rattle.fz_grid.specs.Cutout.{part_lengths}
 use Rattle.fz_head.specs.declared.job_checks.PackedImage.{PackedImage}
 use Rattle.fz_head.specs.declared.plan.Plan.{Plan}
 use Rattle.fz_files.specs.Cutout.{ranges_of_row}
 use Rattle.fz_files.specs.FirstFault.{ImageRow, IsFirstRowFault, image_row, picked_tiles_of}
 use Rattle.fz_files.specs.Packed.{tiles_in}
-use Rattle.fz_fetch.specs.Fetched.{RowsGive, fetched_ranges}
-use Rattle.fz_fetch.specs.Images.{IsSaid}
-use Rattle.fz_fetch.specs.Laws.{JoinsRoundsOfParts}
-use Rattle.fz_fetch.specs.Scattered.{parts_written}
+use Rattle.fz_fetch.specs.Fetched.{RowsGive}
+use Rattle.fz_job.specs.Images.{fetched_ranges, IsSaid}
+use Rattle.fz_pixels.specs.Laws.{JoinsRoundsOfParts}
+use Rattle.fz_pixels.specs.Scattered.{parts_written}
 use Rattle.fz_cut.specs.Part.{IsPickFault}
 use Rattle.fz_cut.specs.Picks.{AreWrittenParts, picked_ranges}
 use Rattle.fz_cut.proofs.Logs.{nothing, wider}

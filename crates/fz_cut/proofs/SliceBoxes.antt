@@ -20,7 +20,7 @@ use Rattle.fz_head.specs.Packable.{is_packed, is_table}
 use Rattle.fz_head.specs.PackedPlan.{numbered_in, plan_of_cards, said_axes, size_of}
 use Rattle.fz_head.specs.PlainHeader.{axis_count}
 use Rattle.fz_head.specs.TableChecks.{compressed_table, repeated_table_names}
-use Rattle.fz_parts.specs.Cutout.{Sifts}
+use Rattle.fz_grid.specs.Cutout.{Sifts}
 use Rattle.fz_files.specs.Walks.{box_of}
 use Rattle.fz_files.specs.Picks.{HasPicks}
 use Rattle.fz_cut.proofs.Standing.{back_passed}

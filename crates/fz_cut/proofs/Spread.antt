@@ -15,7 +15,7 @@ use Rattle.fz_grid.specs.Region.{IsDivided, lengths_of}
 use Rattle.fz_grid.specs.Sieve.{sieve_hi, sieve_lo, sieve_step, tile_picks}
 use Rattle.fz_grid.specs.Whole.{AreTiles, joined}
 use Rattle.fz_grid.specs.declared.sieve.Sieve.{Sieve}
-use Rattle.fz_parts.specs.Cutout.{Sifts}
+use Rattle.fz_grid.specs.Cutout.{Sifts}
 use Rattle.fz_tile.specs.Pixels.{IsBitpix}
 use Rattle.fz_head.specs.declared.job_checks.PackedImage.{PackedImage}
 use Rattle.fz_head.specs.declared.plan.Plan.{Plan}
@@ -23,9 +23,9 @@ use Rattle.fz_files.specs.FirstFault.{picked_tiles_of}
 use Rattle.fz_files.specs.Packed.{tiles_in}
 use Rattle.fz_files.specs.Restored.{RowStandsFor, pixels_of, plan_in}
 use Rattle.fz_fetch.specs.Fetched.{RowsGive}
-use Rattle.fz_fetch.specs.Images.{IsSaid}
-use Rattle.fz_fetch.specs.Laws.{PartsMakeTheBytes}
-use Rattle.fz_fetch.specs.Scattered.{parts_written}
+use Rattle.fz_job.specs.Images.{IsSaid}
+use Rattle.fz_pixels.specs.Laws.{PartsMakeTheBytes}
+use Rattle.fz_pixels.specs.Scattered.{parts_written}
 use Rattle.fz_cut.specs.Picks.{AreWrittenParts, HoldsPicks}
 use Rattle.fz_cut.proofs.Rounds.{AreDone, IsTileWithPick}
 

@@ -13,10 +13,10 @@ use Rattle.fz_files.specs.Cutout.{header_range, ranges_of_row, rows_touched, tou
 use Rattle.fz_files.specs.FirstFault.{picked_rows}
 use Rattle.fz_files.specs.Walks.{box_of, fault_of_walk, found_headers, header_fault, job_walk, last_of, reached_from}
 use Rattle.fz_files.specs.declared.job.Job.TheVariants.{Cut}
-use Rattle.fz_survey.specs.Reads.{IsWithinOne}
-use Rattle.fz_survey.specs.Surveys.{survey_places}
-use Rattle.fz_survey.specs.declared.checks.JobChecks.TheVariants.{Cut as CutChecks}
-use Rattle.fz_survey.specs.declared.survey.Survey.{Survey}
+use Rattle.fz_job.specs.SurveyReads.{IsWithinOne}
+use Rattle.fz_job.specs.Surveys.{survey_places}
+use Rattle.fz_job.specs.declared.checks.JobChecks.TheVariants.{Cut as CutChecks}
+use Rattle.fz_job.specs.declared.survey.Survey.{Survey}
 use Rattle.fz_cut.specs.Picks.{picked_ranges}
 use Rattle.fz_cut.specs.Known.{IsKnown}
 use Rattle.fz_cut.specs.Written.{work_ranges}

@@ -12,9 +12,9 @@ use Rattle.fz_block.specs.declared.header.Header.{Header}
 use Rattle.fz_files.specs.Buffers.{found_len, header_len}
 use Rattle.fz_files.specs.Cutout.{header_range}
 use Rattle.fz_files.specs.Walks.{Reached, last_of, reached_after, reached_behind, reached_from}
-use Rattle.fz_survey.specs.Judges.{judge_of}
-use Rattle.fz_survey.specs.Surveys.{header_len as header_len_seen, hdu_places, places_from, stopped_at}
-use Rattle.fz_survey.specs.declared.checks.JobChecks.TheVariants.{Cut as CutChecks}
+use Rattle.fz_job.specs.Judges.{judge_of}
+use Rattle.fz_job.specs.Surveys.{header_len as header_len_seen, hdu_places, places_from, stopped_at}
+use Rattle.fz_job.specs.declared.checks.JobChecks.TheVariants.{Cut as CutChecks}
 use Rattle.fz_grid.specs.declared.region.Region.{Region}
 use Rattle.fz_head.specs.Greatest.{greatest}
 

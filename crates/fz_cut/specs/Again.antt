@@ -12,7 +12,7 @@ use Rattle.fz_head.specs.Conditions.{IsPackedPlan}
 use Rattle.fz_head.specs.JobChecks.{image_to_cut, is_after_empty}
 use Rattle.fz_head.specs.declared.job_checks.PackedImage.{PackedImage}
 use Rattle.fz_files.specs.Restored.{header_in, pixels_of}
-use Rattle.fz_fetch.specs.Images.{IsReadable}
+use Rattle.fz_job.specs.Images.{IsReadable}
 use Rattle.fz_cut.specs.declared.again.Again.{Again}
 
 -- the bytes of a header at the front of a buffer

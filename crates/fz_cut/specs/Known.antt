@@ -3,8 +3,8 @@ use Rattle.std.specs.Prelude.{ℕ, ◌≡◌, List, [], ◌∷◌, Option, Some,
 use Rattle.fz_base.specs.declared.fault.Fault.{Fault}
 use Rattle.fz_block.specs.declared.header.Header.{Header}
 use Rattle.fz_grid.specs.declared.sieve.Sieve.{Sieve}
-use Rattle.fz_survey.specs.Surveys.{cut_surveyed}
-use Rattle.fz_survey.specs.declared.survey.Survey.{Survey}
+use Rattle.fz_job.specs.Surveys.{cut_surveyed}
+use Rattle.fz_job.specs.declared.survey.Survey.{Survey}
 use Rattle.fz_files.specs.Buffers.{largest_tile, longest_header}
 use Rattle.fz_files.specs.Walks.{box_of, header_fault, headers_for, last_of}
 use Rattle.fz_files.specs.declared.job.Job.TheVariants.{Cut}

@@ -3,10 +3,10 @@ use Rattle.std.specs.Prelude.{ℕ, ◌≡◌, ◌+◌, ◌≤◌, ◌<◌, List,
 use Rattle.fz_block.specs.declared.header.Header.{Header}
 use Rattle.fz_base.specs.Ranges.{LiesIn}
 use Rattle.fz_grid.specs.declared.sieve.Sieve.{Sieve}
-use Rattle.fz_survey.specs.Surveys.{survey_places}
-use Rattle.fz_survey.specs.Reads.{IsWithinOne}
-use Rattle.fz_survey.specs.declared.checks.JobChecks.TheVariants.{Cut as CutChecks}
-use Rattle.fz_survey.specs.declared.survey.Survey.{Survey}
+use Rattle.fz_job.specs.Surveys.{survey_places}
+use Rattle.fz_job.specs.SurveyReads.{IsWithinOne}
+use Rattle.fz_job.specs.declared.checks.JobChecks.TheVariants.{Cut as CutChecks}
+use Rattle.fz_job.specs.declared.survey.Survey.{Survey}
 use Rattle.fz_files.specs.Cutout.{touched}
 use Rattle.fz_files.specs.Walks.{box_of}
 use Rattle.fz_cut.specs.Part.{IsPartOf}

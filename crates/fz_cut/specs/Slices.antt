@@ -4,7 +4,7 @@ use Rattle.fz_block.specs.Hdus.{cards_of, header_bytes}
 use Rattle.fz_block.specs.declared.header.Header.{Header}
 use Rattle.fz_grid.specs.Arrays.{NumberArray}
 use Rattle.fz_grid.specs.declared.sieve.Sieve.{Sieve}
-use Rattle.fz_parts.specs.Cutout.{picked_numbers}
+use Rattle.fz_grid.specs.Cutout.{picked_numbers}
 use Rattle.fz_tile.specs.Plain.{plain_bytes}
 use Rattle.fz_files.specs.CutoutBytes.{IsCutout, cutout_cards}
 use Rattle.fz_files.specs.Packed.{pixel_bits, zero_filled}

@@ -1,9 +1,9 @@
 //! The header of the HDU that is cut from, read once more.
 ghost use Rattle.std.specs.Prelude.{◌≡◌, ◌<◌, ◌≤◌, nat_lt, Some, length as len, IfOk, IfSome};
+ghost use Rattle.fz_base.specs.Keeps.{SourceStays};
 ghost use Rattle.fz_base.specs.Refusal.{refusal};
 ghost use Rattle.fz_base.specs.Source.{LogsWithin};
 ghost use Rattle.fz_base.specs.Stop.{IfRefused, ReadsOnly};
-ghost use Rattle.fz_base.specs.Told.{StaysTold};
 ghost use Rattle.fz_base.specs.declared.failure.Stop.TheVariants.{Refused};
 ghost use Rattle.fz_base.specs.declared.fault.Place.TheVariants.{Card as AtCard};
 ghost use Rattle.fz_base.specs.declared.kind.Kind.TheVariants.{BadCard};
@@ -12,7 +12,6 @@ ghost use Rattle.fz_files.specs.Restored.{pixels_of};
 ghost use Rattle.fz_grid.specs.Region.{IsDivided};
 ghost use Rattle.fz_head.specs.JobChecks.{IsBox};
 ghost use Rattle.fz_job.specs.Clauses.{IsChanged};
-ghost use Rattle.fz_job.specs.Keeps.{SourceStays};
 ghost use Rattle.fz_cut.specs.Again.{IsAgain, ReadsAsSeen};
 
 use fz_base::{Fault, Kind, Place, Source, Stop, log_law};
@@ -37,52 +36,19 @@ pub(crate) fn read_again<S: Source>(
     from: &Header,
     region: &Region,
     tile: u32,
-    block: &mut [u8],
     buf: &mut [u8],
 ) -> Result<Again, Stop>
     requires attached { S.attached source.old ≡ Some length }
     requires region { IsBox region.now }
-    requires block { len block.old ≡ 2880 }
+    requires room { 2880 ≤ len buf.old }
     ensures again { IfOk result (IsAgain (S.held source.old) length region.now buf.new) }
     ensures small { IfOk result (λ a. pixels_of a.image.plan 0 ≤ tile) }
     ensures as_seen { IfSome (S.held source.old) (λ g. ReadsAsSeen g region.now (len buf.old) tile from.now result) }
     ensures refused { IfRefused result IsChanged }
     ensures touched { IfSome (S.held source.old) (λ g. LogsWithin from.now.start (header_touched from.now.hdu from.now.start g)
         (S.ranges source.old) (S.ranges source.new)) }
-    ensures block { len block.new ≡ 2880 }
     ensures buf { len buf.new ≡ len buf.old }
-    ensures source { SourceStays (S.held source.old) (S.held source.new) (S.attached source.old) (S.attached source.new) }
-    ensures told { StaysTold (S.ranges source.old) (S.ranges source.new) }
-    ensures cause { ReadsOnly (S.tally source.old) (S.tally source.new) result }
-{
-    match read_image(source, length, from, region, tile, block, buf) {
-        Err(Stop::Refused(_)) => Err(changed(from.hdu)),
-        answer => answer,
-    }
-}
-
-// The same, refused as the header is that was read.
-fn read_image<S: Source>(
-    source: &mut S,
-    length: u64,
-    from: &Header,
-    region: &Region,
-    tile: u32,
-    block: &mut [u8],
-    buf: &mut [u8],
-) -> Result<Again, Stop>
-    requires attached { S.attached source.old ≡ Some length }
-    requires region { IsBox region.now }
-    requires block { len block.old ≡ 2880 }
-    ensures again { IfOk result (IsAgain (S.held source.old) length region.now buf.new) }
-    ensures small { IfOk result (λ a. pixels_of a.image.plan 0 ≤ tile) }
-    ensures as_seen { IfSome (S.held source.old) (λ g. ReadsAsSeen g region.now (len buf.old) tile from.now result) }
-    ensures touched { IfSome (S.held source.old) (λ g. LogsWithin from.now.start (header_touched from.now.hdu from.now.start g)
-        (S.ranges source.old) (S.ranges source.new)) }
-    ensures block { len block.new ≡ 2880 }
-    ensures buf { len buf.new ≡ len buf.old }
-    ensures source { SourceStays (S.held source.old) (S.held source.new) (S.attached source.old) (S.attached source.new) }
-    ensures told { StaysTold (S.ranges source.old) (S.ranges source.new) }
+    ensures source { SourceStays S.held S.attached S.ranges source.old source.new }
     ensures cause { ReadsOnly (S.tally source.old) (S.tally source.new) result }
 {
     again_law();
@@ -90,10 +56,17 @@ fn read_image<S: Source>(
     if from.start >= length {
         return Err(changed(from.hdu));
     }
-    let header = header_again(source, length, from.hdu, from.start, block, buf)?;
+    let header = match header_again(source, length, from.hdu, from.start, buf) {
+        Ok(header) => header,
+        Err(Stop::Refused(_)) => return Err(changed(from.hdu)),
+        Err(stop) => return Err(stop),
+    };
     let buf = &buf[..BLOCK_LEN * header.blocks as usize];
     // Where a packed primary may be was looked at before.
-    let image = image_to_cut(buf, &header, true, region).map_err(Stop::Refused)?;
+    let image = match image_to_cut(buf, &header, true, region) {
+        Ok(image) => image,
+        Err(_) => return Err(changed(from.hdu)),
+    };
     if is_larger(&image, tile) {
         return Err(changed(from.hdu));
     }

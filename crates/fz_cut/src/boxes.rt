@@ -17,12 +17,9 @@ pub(crate) fn box_of(sieve: &Sieve) -> Region
     for i in 0..sieve.n as usize {
         len[i] = sieve.hi[i] - sieve.lo[i] + 1;
     }
+    let n = sieve.n;
     let lo = sieve.lo;
-    Region {
-        n: sieve.n,
-        lo,
-        len,
-    }
+    Region { n, lo, len }
 }
 
 /// The part of a sieve as a region: its corner, and as many places along each axis as there are picks.
@@ -32,12 +29,9 @@ pub(crate) fn picked_region(sieve: &Sieve) -> Region
 {
     let lengths = sieve.lengths();
     let len = lengths.len;
+    let n = sieve.n;
     let lo = sieve.lo;
-    Region {
-        n: sieve.n,
-        lo,
-        len,
-    }
+    Region { n, lo, len }
 }
 
 /// The tables of a sieve have a place for each of 9 axes.

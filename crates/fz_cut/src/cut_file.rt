@@ -2,34 +2,33 @@
 ghost use Rattle.std.specs.Prelude.{◌≡◌, ◌+◌, ◌<◌, ◌≤◌, max, true, None, Some, [], length as len, sum, OnOk, IfSome, IsSome};
 ghost use Rattle.fz_base.specs.Ranges.{LogsIn};
 ghost use Rattle.fz_base.specs.Counts.{nameless};
+ghost use Rattle.fz_base.specs.Keeps.{SourceStays};
 ghost use Rattle.fz_base.specs.Names.{NamesOnce};
 ghost use Rattle.fz_base.specs.Stop.{IfRefused, TellsLimit};
 ghost use Rattle.fz_base.specs.Takings.{TellsFirstPast, first_past, highest, piled};
 ghost use Rattle.fz_base.specs.Told.{StaysTold};
 ghost use Rattle.fz_pool.specs.Window.{IsEmpty};
-ghost use Rattle.fz_survey.specs.Workspace.{wanted_buffers};
+ghost use Rattle.fz_job.specs.Workspace.{wanted_buffers};
 ghost use Rattle.fz_files.specs.Buffers.{job_bound, job_takings};
 ghost use Rattle.fz_files.specs.Cutout.{touched};
 ghost use Rattle.fz_files.specs.Walks.{box_of};
 ghost use Rattle.fz_files.specs.declared.job.Job.TheVariants.{Cut};
 ghost use Rattle.fz_job.specs.Clauses.{Answers, ComesLate, HasJobCause, IfOverLimit, IsShutOrWhole, IsUnmade, KeepsBuffers};
 ghost use Rattle.fz_job.specs.Clauses.{KeepsSource, StaysUnmade, TellsFirstFault, greatest_bound};
-ghost use Rattle.fz_job.specs.Keeps.{SourceStays};
 ghost use Rattle.fz_cut.specs.Again.{WasSeen};
 ghost use Rattle.fz_files.specs.Picks.{HasPicks};
 ghost use Rattle.fz_cut.specs.Output.{HoldsCutout};
-ghost use Rattle.fz_stages.specs.Stages.{Works, later_takings, wants_for};
+ghost use Rattle.fz_job.specs.Stages.{Works, later_takings, wants_for};
 ghost use Rattle.fz_cut.specs.Written.{FinishesSeen, IsShutOrPart, work_ranges};
 
 use crate::boxes::box_of;
-use crate::file::write_file;
+use crate::file::{Cutting, Found, write_file};
 use crate::law::{known_law, touched_law};
 use fz_base::{Gate, Meter, Sink, Source, Stop, ranges_law};
-use fz_block::{BLOCK_LEN, Header};
+use fz_block::BLOCK_LEN;
 use fz_grid::Sieve;
+use fz_job::{Wants, Workspace, stages_law, survey_to_cut};
 use fz_pool::{Crew, Window, sizes_law};
-use fz_stages::stages_law;
-use fz_survey::{Survey, Wants, Workspace, survey_to_cut};
 use std::thread::Threads;
 
 /// Cuts the picks of a sieve out of a packed image of the file that is attached to the source: of the HDU of this
@@ -86,156 +85,132 @@ pub fn cut<R: Threads + Sync, S: Source, K: Sink, G: Gate>(
 {
     // How the promises of the job follow from its stages.
     stages_law::<()>();
-    let crew = Crew {
-        rt,
-        gate,
-        workers: window.workers(),
-    };
-    let mut block = meter.bytes(BLOCK_LEN as u64)?;
-    let answer = with_block(
-        &crew,
-        source,
+    let workers = window.workers();
+    let crew = Crew { rt, gate, workers };
+    let asked = Cutting {
+        crew,
         length,
         name,
-        sink,
-        meter,
-        window,
         hdu,
-        sieve,
-        block.as_mut_slice(),
-    );
+        sieve: *sieve,
+    };
+    let mut block = meter.bytes(BLOCK_LEN as u64)?;
+    let answer = with_block(&asked, source, sink, meter, window, block.as_mut_slice());
     meter.give_bytes(block);
     answer
 }
 
 // Looks at the headers, and then works.
 fn with_block<R: Threads + Sync, S: Source, K: Sink, G: Gate>(
-    crew: &Crew<'_, R, G>,
+    asked: &Cutting<'_, '_, R, G>,
     source: &mut S,
-    length: u64,
-    name: &str,
     sink: &mut K,
     meter: &mut Meter,
     window: &mut Window,
-    hdu: Option<u32>,
-    sieve: &Sieve,
     block: &mut [u8],
 ) -> Result<(), Stop>
-    requires attached { S.attached source.old ≡ Some length }
+    requires attached { S.attached source.old ≡ Some asked.now.length }
     requires empty { IfSome (K.contents sink.old) (λ c. c ≡ []) }
     requires one_block { meter.old.live ≡ 2880 }
     requires window { IsEmpty window.old }
-    requires sieve { HasPicks sieve.now }
+    requires sieve { HasPicks asked.now.sieve }
     requires block { len block.old ≡ 2880 }
-    ensures output { OnOk result (HoldsCutout hdu sieve.now (S.held source.old) (K.contents sink.new)) }
+    ensures output { OnOk result (HoldsCutout asked.now.hdu asked.now.sieve (S.held source.old) (K.contents sink.new)) }
     ensures finished { OnOk result (K.finished sink.new ≡ true) }
-    ensures first_fault { TellsFirstFault (Cut hdu sieve.now) (S.held source.old) result }
-    ensures touched { IfSome (S.held source.old) (λ g. LogsIn (touched hdu sieve.now g) (S.ranges source.old) (S.ranges source.new)) }
-    ensures first_byte { IsShutOrWhole (K.contents sink.new) (HoldsCutout hdu sieve.now (S.held source.old) (K.contents sink.new)) result }
-    ensures unmade { StaysUnmade (Cut hdu sieve.now) (S.held source.old) meter.old.limit (λ g. later_takings (Cut hdu sieve.now) g window.old.workers)
+    ensures first_fault { TellsFirstFault (Cut asked.now.hdu asked.now.sieve) (S.held source.old) result }
+    ensures touched { IfSome (S.held source.old) (λ g. LogsIn (touched asked.now.hdu asked.now.sieve g) (S.ranges source.old) (S.ranges source.new)) }
+    ensures first_byte { IsShutOrWhole (K.contents sink.new) (HoldsCutout asked.now.hdu asked.now.sieve (S.held source.old) (K.contents sink.new)) result }
+    ensures unmade { StaysUnmade (Cut asked.now.hdu asked.now.sieve) (S.held source.old) meter.old.limit
+        (λ g. later_takings (Cut asked.now.hdu asked.now.sieve) g window.old.workers)
         ((K.created sink.new ≡ K.created sink.old) × (K.contents sink.new ≡ K.contents sink.old)) result }
     ensures first_past { IfSome (S.held source.old) (λ g. TellsFirstPast meter.old.limit
-        (later_takings (Cut hdu sieve.now) g window.old.workers) result) }
-    ensures peak { IfSome (S.held source.old) (λ g. meter.new.peak ≤ max meter.old.peak (job_bound (Cut hdu sieve.now) g window.old.workers)) }
+        (later_takings (Cut asked.now.hdu asked.now.sieve) g window.old.workers) result) }
+    ensures peak { IfSome (S.held source.old)
+        (λ g. meter.new.peak ≤ max meter.old.peak (job_bound (Cut asked.now.hdu asked.now.sieve) g window.old.workers)) }
     ensures exact_peak { OnOk result (IfSome (S.held source.old)
-        (λ g. meter.new.peak ≡ max meter.old.peak (highest (later_takings (Cut hdu sieve.now) g window.old.workers)))) }
-    ensures most { TellsLimit meter.old.limit (greatest_bound (Cut hdu sieve.now) window.old.workers) result }
-    ensures peak_most { meter.new.peak ≤ max meter.old.peak (greatest_bound (Cut hdu sieve.now) window.old.workers) }
+        (λ g. meter.new.peak ≡ max meter.old.peak (highest (later_takings (Cut asked.now.hdu asked.now.sieve) g window.old.workers)))) }
+    ensures most { TellsLimit meter.old.limit (greatest_bound (Cut asked.now.hdu asked.now.sieve) window.old.workers) result }
+    ensures peak_most { meter.new.peak ≤ max meter.old.peak (greatest_bound (Cut asked.now.hdu asked.now.sieve) window.old.workers) }
     ensures live { meter.new.live ≡ meter.old.live }
     ensures limit { meter.new.limit ≡ meter.old.limit }
     ensures emptied { window.new ≡ record { slots = []; workers = window.old.workers } }
-    ensures source { SourceStays (S.held source.old) (S.held source.new) (S.attached source.old) (S.attached source.new) }
-    ensures told_ranges { StaysTold (S.ranges source.old) (S.ranges source.new) }
+    ensures source { SourceStays S.held S.attached S.ranges source.old source.new }
     ensures told_contents { StaysTold (K.contents sink.old) (K.contents sink.new) }
     ensures cause { Works (S.tally source.old) (S.tally source.new) (nameless (K.tally sink.old)) (nameless (K.tally sink.new))
         meter.old.limit result }
-    ensures names { NamesOnce name.now (K.tally sink.old).names (K.tally sink.new).names result }
+    ensures names { NamesOnce asked.now.name.now (K.tally sink.old).names (K.tally sink.new).names result }
 {
     // What the survey says of the file, what is read of it, and what follows for the job.
     known_law();
     touched_law();
     ranges_law();
     stages_law::<()>();
-    let region = box_of(sieve);
-    let survey = survey_to_cut(source, length, meter, block, hdu, &region)?;
+    let region = box_of(&asked.sieve);
+    let survey = survey_to_cut(source, asked.length, meter, block, asked.hdu, &region)?;
     let Some(from) = &survey.stopped else {
         // A survey for a cut ends at the HDU that is cut from, or it is refused.
         unreachable!()
     };
-    work(
-        crew, source, length, name, sink, meter, window, &survey, from, sieve, block,
-    )
+    let found = Found {
+        survey,
+        from: *from,
+    };
+    work(asked, source, sink, meter, window, &found)
 }
 
 // Takes all buffers, writes the cutout, and hands the buffers back.
 fn work<R: Threads + Sync, S: Source, K: Sink, G: Gate>(
-    crew: &Crew<'_, R, G>,
+    asked: &Cutting<'_, '_, R, G>,
     source: &mut S,
-    length: u64,
-    name: &str,
     sink: &mut K,
     meter: &mut Meter,
     window: &mut Window,
-    survey: &Survey,
-    from: &Header,
-    sieve: &Sieve,
-    block: &mut [u8],
+    found: &Found,
 ) -> Result<(), Stop>
-    requires attached { S.attached source.old ≡ Some length }
+    requires attached { S.attached source.old ≡ Some asked.now.length }
     requires empty { IfSome (K.contents sink.old) (λ c. c ≡ []) }
     requires window { IsEmpty window.old }
-    requires sieve { HasPicks sieve.now }
-    requires block { len block.old ≡ 2880 }
-    ensures written { IfSome (S.held source.old) (λ g. FinishesSeen g sieve.now survey.now.header_len survey.now.tile from.now
+    requires sieve { HasPicks asked.now.sieve }
+    requires long { 2880 ≤ found.now.survey.header_len }
+    ensures written { IfSome (S.held source.old) (λ g. FinishesSeen g asked.now.sieve found.now.survey.header_len found.now.survey.tile found.now.from
         (K.contents sink.new) result) }
     ensures finished { OnOk result (K.finished sink.new ≡ true) }
-    ensures shut { IsShutOrPart (S.held source.old) sieve.now survey.now.header_len survey.now.tile from.now (K.contents sink.new) result }
-    ensures touched { IfSome (S.held source.old) (λ g. WasSeen g (box_of sieve.now) survey.now.header_len survey.now.tile from.now
-        → LogsIn (work_ranges g sieve.now from.now) (S.ranges source.old) (S.ranges source.new)) }
+    ensures shut { IsShutOrPart (S.held source.old) asked.now.sieve found.now.survey.header_len found.now.survey.tile found.now.from
+        (K.contents sink.new) result }
+    ensures touched { IfSome (S.held source.old)
+        (λ g. WasSeen g (box_of asked.now.sieve) found.now.survey.header_len found.now.survey.tile found.now.from
+        → LogsIn (work_ranges g asked.now.sieve found.now.from) (S.ranges source.old) (S.ranges source.new)) }
     ensures unmade { IfOverLimit result ((K.created sink.new ≡ K.created sink.old) × (K.contents sink.new ≡ K.contents sink.old)) }
     // The number of the HDU has no part in what is wanted.
     ensures first_past { TellsFirstPast meter.old.limit
-        (piled meter.old.live (wanted_buffers (wants_for (Cut None sieve.now) survey.now) window.old.workers)) result }
+        (piled meter.old.live (wanted_buffers (wants_for (Cut None asked.now.sieve) found.now.survey) window.old.workers)) result }
     ensures past { IsSome (first_past meter.old.limit (piled meter.old.live
-        (wanted_buffers (wants_for (Cut None sieve.now) survey.now) window.old.workers)))
+        (wanted_buffers (wants_for (Cut None asked.now.sieve) found.now.survey) window.old.workers)))
         → (K.created sink.new ≡ K.created sink.old) × (K.contents sink.new ≡ K.contents sink.old) }
     ensures peak { meter.new.peak ≤ max meter.old.peak (meter.old.live + sum
-        (wanted_buffers (wants_for (Cut None sieve.now) survey.now) window.old.workers)) }
+        (wanted_buffers (wants_for (Cut None asked.now.sieve) found.now.survey) window.old.workers)) }
     ensures exact_peak { OnOk result (meter.new.peak ≡ max meter.old.peak
-        (meter.old.live + sum (wanted_buffers (wants_for (Cut None sieve.now) survey.now) window.old.workers))) }
+        (meter.old.live + sum (wanted_buffers (wants_for (Cut None asked.now.sieve) found.now.survey) window.old.workers))) }
     ensures live { meter.new.live ≡ meter.old.live }
     ensures limit { meter.new.limit ≡ meter.old.limit }
     ensures emptied { window.new ≡ record { slots = []; workers = window.old.workers } }
-    ensures source { SourceStays (S.held source.old) (S.held source.new) (S.attached source.old) (S.attached source.new) }
-    ensures late { IfRefused result (ComesLate (Cut None sieve.now)) }
-    ensures told_ranges { StaysTold (S.ranges source.old) (S.ranges source.new) }
+    ensures source { SourceStays S.held S.attached S.ranges source.old source.new }
+    ensures late { IfRefused result (ComesLate (Cut None asked.now.sieve)) }
     ensures told_contents { StaysTold (K.contents sink.old) (K.contents sink.new) }
     ensures cause { Works (S.tally source.old) (S.tally source.new) (nameless (K.tally sink.old)) (nameless (K.tally sink.new))
         meter.old.limit result }
-    ensures names { NamesOnce name.now (K.tally sink.old).names (K.tally sink.new).names result }
+    ensures names { NamesOnce asked.now.name.now (K.tally sink.old).names (K.tally sink.new).names result }
 {
     // How long the slots are that were filled, and that what was taken comes back.
     sizes_law();
     stages_law::<()>();
     let wants = Wants {
-        header_len: survey.header_len,
+        header_len: found.survey.header_len,
         translates: true,
-        tile: Some(survey.tile),
+        tile: Some(found.survey.tile),
     };
     let mut space = Workspace::take(meter, window, &wants)?;
-    let answer = write_file(
-        crew,
-        source,
-        length,
-        name,
-        sink,
-        window,
-        from,
-        survey.tile,
-        sieve,
-        &mut space,
-        block,
-    );
+    let answer = write_file(asked, source, sink, window, found, &mut space);
     space.give_back(meter, window);
     answer
 }

@@ -2,6 +2,7 @@
 ghost use Rattle.std.specs.Prelude.{ℕ, ◌≡◌, ◌+◌, ◌*◌, ◌/◌, ◌^◌, ◌<◌, ◌≤◌, true, [], IsTrue, None, Some, length as len, IfOk, IfSome, OnOk};
 ghost use Rattle.fz_base.specs.Ranges.{LogsIn};
 ghost use Rattle.fz_base.specs.Counts.{nameless};
+ghost use Rattle.fz_base.specs.Keeps.{SinkStays, SourceStays};
 ghost use Rattle.fz_base.specs.Names.{NamesOnce};
 ghost use Rattle.fz_base.specs.Stop.{IfRefused, Writes};
 ghost use Rattle.fz_base.specs.Told.{StaysTold};
@@ -16,12 +17,12 @@ ghost use Rattle.fz_grid.specs.Arrays.{product};
 ghost use Rattle.fz_grid.specs.Region.{IsDivided, IsWithin};
 ghost use Rattle.fz_grid.specs.Sieve.{IsSieveOf, sieve_lengths};
 ghost use Rattle.fz_head.specs.Conditions.{IsPackedPlan};
-ghost use Rattle.fz_pool.specs.Window.{HasSlotsFor};
-ghost use Rattle.fz_survey.specs.Workspace.{SpaceStays};
+ghost use Rattle.fz_pool.specs.Window.{HasSlotsFor, WindowStays};
+ghost use Rattle.fz_job.specs.Workspace.{SpaceStays};
 ghost use Rattle.fz_tile.specs.Pixels.{IsBitpix};
 ghost use Rattle.fz_job.specs.Behind.{HoldsBytes};
 ghost use Rattle.fz_job.specs.Clauses.{ComesLate, IsOfSomeRow};
-ghost use Rattle.fz_job.specs.Keeps.{Rewrites, SinkStays, SourceStays, WindowStays};
+ghost use Rattle.fz_job.specs.Keeps.{Rewrites};
 ghost use Rattle.fz_cut.specs.Again.{IsAgain, WasSeen};
 ghost use Rattle.fz_files.specs.Picks.{HasPicks};
 ghost use Rattle.fz_cut.specs.Part.{HoldsPart, IsPickFault};
@@ -32,108 +33,129 @@ use crate::again::{Again, read_again};
 use crate::boxes::{box_of, tables_law};
 use crate::law::parts_law;
 use crate::part_header::make_header;
-use crate::picks::write_picks;
+use crate::picks::{Picking, write_picks};
 use fz_base::{Gate, Sink, Source, Stop, output_law, ranges_law, seal, write_behind};
 use fz_block::{BLOCK_LEN, Header};
-use fz_grid::{Sieve, shape_law, volume};
+use fz_grid::{Sieve, cutout_axes, cutout_law, shape_law, volume};
 use fz_head::PackedImage;
-use fz_job::write_fill;
-use fz_parts::{cutout_axes, cutout_law};
+use fz_job::{Survey, Workspace, write_fill};
 use fz_pool::{Crew, Window};
-use fz_survey::Workspace;
 use fz_tile::{plain_law, plain_len};
 use std::thread::Threads;
 
+/// What is cut out, and by whom.
+#[derive(Drop)]
+pub(crate) struct Cutting<'a, 'n, R, G> {
+    /// Who works.
+    pub(crate) crew: Crew<'a, R, G>,
+    /// The length of the file.
+    pub(crate) length: u64,
+    /// The name of the sink.
+    pub(crate) name: &'n str,
+    /// The number of the HDU that is cut from, or none for the first packed one.
+    pub(crate) hdu: Option<u32>,
+    /// The picks.
+    pub(crate) sieve: Sieve,
+}
+
+/// What the first look found.
+#[derive(Clone, Copy, Debug)]
+pub(crate) struct Found {
+    /// What it learnt of the file.
+    pub(crate) survey: Survey,
+    /// The header of the HDU that is cut from.
+    pub(crate) from: Header,
+}
+
 /// Reads the header of the HDU once more, makes the sink, writes the cutout, its byte 0 last, and finishes.
 pub(crate) fn write_file<R: Threads + Sync, S: Source, K: Sink, G: Gate>(
-    crew: &Crew<'_, R, G>,
+    asked: &Cutting<'_, '_, R, G>,
     source: &mut S,
-    length: u64,
-    name: &str,
     sink: &mut K,
     window: &mut Window,
-    from: &Header,
-    tile: u32,
-    sieve: &Sieve,
+    found: &Found,
     space: &mut Workspace,
-    block: &mut [u8],
 ) -> Result<(), Stop>
-    requires attached { S.attached source.old ≡ Some length }
+    requires attached { S.attached source.old ≡ Some asked.now.length }
     requires empty { IfSome (K.contents sink.old) (λ c. c ≡ []) }
-    requires sieve { HasPicks sieve.now }
-    requires window { HasSlotsFor tile window.old }
+    requires sieve { HasPicks asked.now.sieve }
+    requires window { HasSlotsFor found.now.survey.tile window.old }
     requires translated { len space.old.header + 2880 ≤ len space.old.translated }
     requires copy { 4096 ≤ len space.old.copy }
-    requires block { len block.old ≡ 2880 }
-    ensures written { IfSome (S.held source.old) (λ g. FinishesSeen g sieve.now (len space.old.header) tile from.now (K.contents sink.new) result) }
+    requires long { 2880 ≤ len space.old.header }
+    ensures written { IfSome (S.held source.old) (λ g. FinishesSeen g asked.now.sieve (len space.old.header) found.now.survey.tile found.now.from
+        (K.contents sink.new) result) }
     ensures finished { OnOk result (K.finished sink.new ≡ true) }
-    ensures shut { IsShutOrPart (S.held source.old) sieve.now (len space.old.header) tile from.now (K.contents sink.new) result }
-    ensures touched { IfSome (S.held source.old) (λ g. WasSeen g (box_of sieve.now) (len space.old.header) tile from.now
-        → LogsIn (work_ranges g sieve.now from.now) (S.ranges source.old) (S.ranges source.new)) }
-    ensures block { len block.new ≡ 2880 }
+    ensures shut { IsShutOrPart (S.held source.old) asked.now.sieve (len space.old.header) found.now.survey.tile found.now.from
+        (K.contents sink.new) result }
+    ensures touched { IfSome (S.held source.old)
+        (λ g. WasSeen g (box_of asked.now.sieve) (len space.old.header) found.now.survey.tile found.now.from
+        → LogsIn (work_ranges g asked.now.sieve found.now.from) (S.ranges source.old) (S.ranges source.new)) }
     ensures space { SpaceStays space.old space.new }
     ensures window { WindowStays window.old window.new }
-    ensures source { SourceStays (S.held source.old) (S.held source.new) (S.attached source.old) (S.attached source.new) }
-    ensures late { IfRefused result (ComesLate (Cut None sieve.now)) }
-    ensures told_ranges { StaysTold (S.ranges source.old) (S.ranges source.new) }
+    ensures source { SourceStays S.held S.attached S.ranges source.old source.new }
+    ensures late { IfRefused result (ComesLate (Cut None asked.now.sieve)) }
     ensures told_contents { StaysTold (K.contents sink.old) (K.contents sink.new) }
     ensures cause { Rewrites (S.tally source.old) (S.tally source.new) (nameless (K.tally sink.old)) (nameless (K.tally sink.new)) result }
-    ensures names { NamesOnce name.now (K.tally sink.old).names (K.tally sink.new).names result }
+    ensures names { NamesOnce asked.now.name.now (K.tally sink.old).names (K.tally sink.new).names result }
 {
     parts_law();
     output_law();
     ranges_law();
-    let region = box_of(sieve);
+    let region = box_of(&asked.sieve);
     let buf = space.header.as_mut_slice();
-    let again = read_again(source, length, from, &region, tile, block, buf)?;
-    sink.create(name).map_err(Stop::writing)?;
-    write_cutout(crew, source, sink, window, &again, sieve, space)?;
+    let tile = found.survey.tile;
+    let again = read_again(source, asked.length, &found.from, &region, tile, buf)?;
+    sink.create(asked.name).map_err(Stop::writing)?;
+    write_cutout(asked, source, sink, window, &again, space)?;
     seal(sink)
 }
 
 // Writes the cutout, without byte 0.
 fn write_cutout<R: Threads + Sync, S: Source, K: Sink, G: Gate>(
-    crew: &Crew<'_, R, G>,
+    asked: &Cutting<'_, '_, R, G>,
     source: &mut S,
     sink: &mut K,
     window: &mut Window,
     again: &Again,
-    sieve: &Sieve,
     space: &mut Workspace,
 ) -> Result<(), Stop>
     requires again { (n : ℕ) × (n < 2 ^ 64) × (S.attached source.old ≡ Some n)
-        × IsAgain (S.held source.old) n (box_of sieve.now) space.old.header again.now }
-    requires sieve { HasPicks sieve.now }
+        × IsAgain (S.held source.old) n (box_of asked.now.sieve) space.old.header again.now }
+    requires sieve { HasPicks asked.now.sieve }
     requires created { IsTrue (K.created sink.old) }
     requires window { HasSlotsFor (pixels_of again.now.image.plan 0) window.old }
     requires translated { len space.old.header + 2880 ≤ len space.old.translated }
     requires copy { 4096 ≤ len space.old.copy }
     ensures part { OnOk result (IfSome (S.held source.old)
-        (λ g. HoldsPart g again.now.header sieve.now (K.contents sink.old) (K.contents sink.new))) }
-    ensures fault { IfRefused result (λ x. IfSome (S.held source.old) (λ g. IsPickFault g again.now.header sieve.now x)) }
-    ensures touched { IfSome (S.held source.old) (λ g. LogsIn (picked_ranges g again.now.header sieve.now) (S.ranges source.old)
+        (λ g. HoldsPart g again.now.header asked.now.sieve (K.contents sink.old) (K.contents sink.new))) }
+    ensures fault { IfRefused result (λ x. IfSome (S.held source.old) (λ g. IsPickFault g again.now.header asked.now.sieve x)) }
+    ensures touched { IfSome (S.held source.old) (λ g. LogsIn (picked_ranges g again.now.header asked.now.sieve) (S.ranges source.old)
         (S.ranges source.new)) }
     ensures space { SpaceStays space.old space.new }
     ensures window { WindowStays window.old window.new }
-    ensures source { SourceStays (S.held source.old) (S.held source.new) (S.attached source.old) (S.attached source.new) }
-    ensures sink { SinkStays (K.created sink.old) (K.created sink.new) (K.contents sink.old) (K.contents sink.new) }
+    ensures source { SourceStays S.held S.attached S.ranges source.old source.new }
+    ensures sink { SinkStays K.created K.contents sink.old sink.new }
     ensures row { IfRefused result IsOfSomeRow }
-    ensures told_ranges { StaysTold (S.ranges source.old) (S.ranges source.new) }
-    ensures told_contents { StaysTold (K.contents sink.old) (K.contents sink.new) }
     ensures cause { Rewrites (S.tally source.old) (S.tally source.new) (K.tally sink.old) (K.tally sink.new) result }
 {
     output_law();
     plain_law();
     cutout_law();
+    let sieve = &asked.sieve;
     tables_law(sieve);
     let Again { header, image } = again;
     let packed = &space.header.as_slice()[..BLOCK_LEN * header.blocks as usize];
     let made = space.translated.as_mut_slice();
     let data_at = write_header(sink, packed, header, image, sieve, made)?;
     let copy = space.copy.as_mut_slice();
-    write_picks(
-        crew, source, sink, window, header, image, sieve, data_at, copy,
-    )?;
+    let picking = Picking {
+        header: *header,
+        image: *image,
+        sieve: *sieve,
+        data_at,
+    };
+    write_picks(&asked.crew, source, sink, window, &picking, copy)?;
     write_fill(sink, data_at, data_len(image, sieve), copy)?;
     Ok(())
 }
@@ -157,8 +179,7 @@ fn write_header<K: Sink>(
         (K.contents sink.old) (K.contents sink.new)) }
     ensures end { IfOk result (λ end. (0 < end) × (end ≤ 2 ^ 20)) }
     ensures len { len made.new ≡ len made.old }
-    ensures sink { SinkStays (K.created sink.old) (K.created sink.new) (K.contents sink.old) (K.contents sink.new) }
-    ensures told { StaysTold (K.contents sink.old) (K.contents sink.new) }
+    ensures sink { SinkStays K.created K.contents sink.old sink.new }
     ensures cause { Writes (K.tally sink.old) (K.tally sink.new) result }
 {
     let len = make_header(packed, header, image, sieve, made);

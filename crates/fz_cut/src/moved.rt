@@ -9,9 +9,8 @@ ghost use Rattle.fz_files.specs.Picks.{HasPicks};
 ghost use Rattle.fz_cut.specs.Moved.{AreCards};
 
 use fz_block::card;
-use fz_card::{CARD_LEN, Card, Name, number_behind, numbers_law};
+use fz_card::{CARD_LEN, Card, Name, number_behind, numbers_law, shift};
 use fz_grid::Sieve;
-use fz_wcs::shift;
 
 /// Moves the reference pixels of the cards of a header by the corner of the part: the first pixel of the part was that
 /// of the corner.

@@ -1,27 +1,20 @@
 -- The cards of the images of `drill`: what they say, and how they stand in the header.
 use Rattle.std.specs.Prelude.{Option, Some, None, IsSome, unwrap_or, slice_index_or}
-use Rattle.std.proofs.Common.{◌≡◌, ℕ, ◌+◌, ◌*◌, ◌^◌, ◌<◌, true, false, All, pos, List, [], ◌∷◌, ◌++◌, length, map, codes, bytes_eq, refl, sym, ap, ◌∙◌, arith}
+use Rattle.std.proofs.Common.{◌≡◌, ℕ, ◌+◌, ◌^◌, ◌<◌, true, false, All, pos, List, [], ◌∷◌, ◌++◌, length, map, codes, bytes_eq, refl, sym, ap, ◌∙◌, arith}
 use Rattle.std.proofs.lemmas.Fmt.{decimal_digit}
 use Rattle.std.proofs.lemmas.List.{length-map}
 use Rattle.std.proofs.lemmas.List.Elements.{All-cons, All-nil}
 use Rattle.std.proofs.lemmas.List.FromFn.{length-range_with_len}
 use Rattle.std.specs.List.{range_with_len}
 use Rattle.fz_card.specs.Layout.{card_name, padded}
-use Rattle.fz_card.specs.Laws.{CardLaws, MadeCardLaws}
+use Rattle.fz_card.specs.Laws.{MadeCardLaws}
 use Rattle.fz_card.specs.Made.{numbered_name}
 use Rattle.fz_card.specs.Reading.{integer_of, logical_of}
 use Rattle.fz_block.specs.Cards.{card_at, end_of, is_named}
 use Rattle.fz_block.specs.Hdus.{HasBlankFill, IsCardBeforeEnd, IsHeader, cards_of, header_bytes}
-use Rattle.fz_block.specs.Header.{whole_blocks_of}
 use Rattle.fz_head.specs.PackedHeader.{flag_card, number_card, numbered_number_card}
 use Rattle.fz_drill.specs.Files.{image_cards}
-
--- what is taken of the laws of cards and headers
-pub record HeaderLaws : Type 0 where
-  pub cards : CardLaws
-  pub listed : (cards : List (List ℕ)) → All IsCardBeforeEnd cards → cards_of (header_bytes cards) ≡ cards
-  pub header : (cards : List (List ℕ)) → All IsCardBeforeEnd cards →
-      IsHeader (header_bytes cards) × HasBlankFill (header_bytes cards) × (length (header_bytes cards) ≡ whole_blocks_of (80 * (length cards + 1)))
+use Rattle.fz_drill.specs.Taken.{HeaderLaws}
 
 -- NAXIS1 and NAXIS2 as names
 pub axis_name : (i : ℕ) → i < 10 → numbered_name (codes "NAXIS") i ≡ padded (codes "NAXIS" ++ (48 + i) ∷ [])

@@ -10,7 +10,7 @@ use Rattle.fz_grid.specs.Grid.{box_coordinates}
 use Rattle.fz_grid.specs.Region.{lengths_of}
 use Rattle.fz_grid.specs.Sieve.{sieve_hi, sieve_lo, sieve_step, stepped}
 use Rattle.fz_grid.specs.declared.sieve.Sieve.{Sieve}
-use Rattle.fz_parts.specs.Cutout.{Sifts, picked_numbers}
+use Rattle.fz_grid.specs.Cutout.{Sifts, picked_numbers}
 use Rattle.fz_tile.specs.Laws.{SlicesBytes}
 use Rattle.fz_tile.specs.Plain.{AreBytes, plain_bytes}
 use Rattle.fz_head.specs.PackedHeader.{packed_with}
@@ -28,10 +28,11 @@ use Rattle.fz_files.specs.Packed.{pixel_bits, zero_filled}
 use Rattle.fz_files.specs.Restored.{IsImageOf, StandsForAs, header_in, image_bytes, plan_in}
 use Rattle.fz_drill.specs.Files.{image_cards, image_file, image_pixels, part_file}
 use Rattle.fz_drill.specs.Jobs.{Cuts}
+use Rattle.fz_drill.specs.Taken.{PackedLaws}
 use Rattle.fz_drill.proofs.Cards.{ReadsAs}
 use Rattle.fz_drill.proofs.Cutting.{of_table, bound, last_is, picked_stand, sound}
 use Rattle.fz_drill.proofs.Packable.{names_none}
-use Rattle.fz_drill.proofs.PackedFile.{PackedLaws, heap_short, plan_there, table_packed, table_there}
+use Rattle.fz_drill.proofs.PackedFile.{heap_short, plan_there, table_packed, table_there}
 use Rattle.fz_drill.proofs.PartHeader.{cut_cards}
 use Rattle.fz_drill.proofs.PartPixels.{part_same}
 use Rattle.fz_drill.proofs.Pixels.{plain_count}

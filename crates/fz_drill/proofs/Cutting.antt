@@ -44,7 +44,8 @@ use Rattle.fz_files.specs.Restored.{RowsStandFor, plan_in}
 use Rattle.fz_files.specs.Walks.{box_of, fault_of_walk, found_headers, header_fault, headers_for, job_walk, last_of, reached_by}
 use Rattle.fz_files.specs.declared.job.Job.{Job}
 use Rattle.fz_files.specs.declared.job.Job.TheVariants.{Cut}
-use Rattle.fz_drill.proofs.PackedFile.{PackedLaws, accepted_here, behind_empty, first_blocks, first_unpacked, found_first, found_table, images_none, more_behind, plan_there, table_blocks, table_facts, table_packed, table_there}
+use Rattle.fz_drill.specs.Taken.{PackedLaws}
+use Rattle.fz_drill.proofs.PackedFile.{accepted_here, behind_empty, first_blocks, first_unpacked, found_first, found_table, images_none, more_behind, plan_there, table_blocks, table_facts, table_packed, table_there}
 use Rattle.fz_drill.proofs.Packing.{tile_is}
 use Rattle.fz_drill.proofs.PlainHeader.{both_none, cons_none, image_facts}
 use Rattle.fz_drill.proofs.Table.{plan, table, totals}

@@ -35,9 +35,10 @@ use Rattle.fz_head.specs.declared.plan.Plan.{Plan}
 use Rattle.fz_tile.specs.Plain.{plain_bytes}
 use Rattle.fz_files.specs.Drill.{drill_options}
 use Rattle.fz_drill.specs.Files.{image_cards, image_pixels}
+use Rattle.fz_drill.specs.Taken.{FileLaws}
 use Rattle.fz_drill.proofs.Cards.{axis_named, simple_named, word_named}
 use Rattle.fz_drill.proofs.Pixels.{plain_count}
-use Rattle.fz_drill.proofs.PlainFile.{FileLaws, back, hdu_is, plain_data, plain_header_of, reads}
+use Rattle.fz_drill.proofs.PlainFile.{back, hdu_is, plain_data, plain_header_of, reads}
 use Rattle.fz_drill.proofs.PlainHeader.{both_none, cons_none, image_facts, size_is}
 
 -- ---- the first of a list, if any

@@ -5,9 +5,9 @@ use Rattle.std.proofs.Common.{◌≡◌, ℕ, ◌+◌, ◌-◌, ◌*◌, ◌/◌
 use Rattle.std.proofs.lemmas.List.{length-append}
 use Rattle.fz_base.specs.Refusal.{first_refusal}
 use Rattle.fz_base.specs.declared.fault.Fault.{Fault}
-use Rattle.fz_block.specs.Checks.{hdu_at, hdu_end, header_blocks_of, header_of, headers_of, unless_refused}
-use Rattle.fz_block.specs.Facts.{begun_at, facts_of}
-use Rattle.fz_block.specs.Hdus.{Hdu, cards_of, hdu_bytes, header_bytes, size_at}
+use Rattle.fz_block.specs.Checks.{hdu_at, header_blocks_of, headers_of, unless_refused}
+use Rattle.fz_block.specs.Facts.{facts_of}
+use Rattle.fz_block.specs.Hdus.{Hdu, cards_of, hdu_bytes, header_bytes}
 use Rattle.fz_block.specs.Header.{next_start_of}
 use Rattle.fz_block.specs.Walk.{AreHeadersFrom, PassFrom, facts_from, hdu_of}
 use Rattle.fz_block.specs.declared.header.Header.{Header}
@@ -28,28 +28,15 @@ use Rattle.fz_head.specs.declared.options.PackOptions.{PackOptions}
 use Rattle.fz_head.specs.declared.plan.Plan.{Plan}
 use Rattle.fz_head.specs.declared.totals.Totals.{Totals}
 use Rattle.fz_files.specs.Drill.{drill_file, drill_options, drill_packed}
-use Rattle.fz_files.specs.Laws.{TablesPass, table_hdu}
+use Rattle.fz_files.specs.Laws.{table_hdu}
 use Rattle.fz_files.specs.Packed.{heap_of, packed_from, packed_hdu, packed_image, packed_table, rows_from}
 use Rattle.fz_files.specs.Restored.{is_image, plan_in}
+use Rattle.fz_drill.specs.Taken.{PackedLaws, TableLaws}
 use Rattle.fz_drill.proofs.EmptyPrimary.{empty_facts, empty_hdu, empty_is, empty_len, empty_passes}
 use Rattle.fz_drill.proofs.Packable.{packable}
 use Rattle.fz_drill.proofs.PlainFile.{plain_data, plain_header_of, reads}
 use Rattle.fz_drill.proofs.PlainHeader.{both_none, facts_are, image_facts}
-use Rattle.fz_drill.proofs.Table.{TableLaws, accepted_at, es, here, plan, table, table_block, taken, totals}
-
--- what is taken of the laws of walks and of tables in files
-pub record PackedLaws : Type 0 where
-  pub tables : TableLaws
-  pub passes : TablesPass
-  pub started :
-      (k start len : ℕ) (header : List ℕ) (h : Header) (start' len' : ℕ) → header_of k start len header ≡ Ok h → hdu_end k start' header ≤ len' → hdu_end k start' header ≤ 2 ^ 62 →
-      header_of k start' len' header ≡ Ok (begun_at start' h)
-  pub walk : (most : ℕ) (file : List ℕ) (hs : List Hdu) → flat_map hdu_bytes hs ≡ file → 0 < length hs → length hs ≤ most → PassFrom 0 0 (length file) hs →
-      (headers_of most file ≡ Ok (facts_from 0 0 hs)) × (map (hdu_of file) (facts_from 0 0 hs) ≡ hs)
-  pub headers : (most : ℕ) (file : List ℕ) (hs : List Header) → headers_of most file ≡ Ok hs → (0 < length hs) × (length hs ≤ most) × AreHeadersFrom 0 0 file hs
-  pub found : (most : ℕ) (file : List ℕ) (hs : List Header) → headers_of most file ≡ Ok hs → All (λ h. hdu_at h.hdu h.start file ≡ Ok h) hs
-  pub blocks : (k start : ℕ) (file : List ℕ) (h : Header) → hdu_at k start file ≡ Ok h → header_blocks_of k start file ≡ Ok h.blocks
-  pub axes : (file : List ℕ) (h : Header) → hdu_at 0 0 file ≡ Ok h → h.axes.n ≡ size_at file 2
+use Rattle.fz_drill.proofs.Table.{accepted_at, es, here, plan, table, table_block, taken, totals}
 
 -- ---- answers
 

@@ -29,11 +29,12 @@ use Rattle.fz_head.specs.declared.options.PackOptions.{PackOptions}
 use Rattle.fz_head.specs.declared.plan.Plan.{Plan}
 use Rattle.fz_files.specs.Drill.{drill_file, drill_packed}
 use Rattle.fz_files.specs.Packed.{array_of, coded_count, described, heap_of, is_coded, pixel_bits, row_of, rows_from, stored_count, tile_codes, tiles_in}
+use Rattle.fz_drill.specs.Taken.{FileLaws, PackedLaws, TableLaws}
 use Rattle.fz_drill.proofs.EmptyPrimary.{empty_hdu, empty_len}
-use Rattle.fz_drill.proofs.PackedFile.{PackedLaws, parts}
+use Rattle.fz_drill.proofs.PackedFile.{parts}
 use Rattle.fz_drill.proofs.Pixels.{filled_count}
-use Rattle.fz_drill.proofs.PlainFile.{FileLaws, data_count, drill_is, file_count}
-use Rattle.fz_drill.proofs.Table.{TableLaws, es, from, o, plan, source, table, table_block, taken}
+use Rattle.fz_drill.proofs.PlainFile.{data_count, drill_is, file_count}
+use Rattle.fz_drill.proofs.Table.{es, from, o, plan, source, table, table_block, taken}
 
 -- ---- rows and heap
 

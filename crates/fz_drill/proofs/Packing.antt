@@ -20,8 +20,9 @@ use Rattle.fz_files.specs.Packed.{packed_file}
 use Rattle.fz_files.specs.Walks.{fault_of_walk, found_headers, header_fault, job_walk, reached_by}
 use Rattle.fz_files.specs.declared.job.Job.TheVariants.{Pack}
 use Rattle.fz_drill.specs.Jobs.{Packs}
+use Rattle.fz_drill.specs.Taken.{FileLaws}
 use Rattle.fz_drill.proofs.Packable.{judged_so, packable}
-use Rattle.fz_drill.proofs.PlainFile.{FileLaws, blocks_at, drill_is, found_at, hdus_are, next_is}
+use Rattle.fz_drill.proofs.PlainFile.{blocks_at, drill_is, found_at, hdus_are, next_is}
 use Rattle.fz_drill.proofs.PlainHeader.{image_facts}
 use Rattle.fz_drill.proofs.Walks.{reach_end, walk_end}
 

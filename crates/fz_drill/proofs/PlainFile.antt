@@ -2,26 +2,19 @@
 use Rattle.std.specs.Prelude.{Ok}
 use Rattle.std.proofs.Common.{◌≡◌, ℕ, ◌+◌, ◌*◌, ◌/◌, ◌≤◌, List, [], ◌∷◌, ◌++◌, append-nil, length, take, drop, refl, sym, ap, ◌∙◌, arith}
 use Rattle.std.proofs.lemmas.List.{drop-append-le, drop_all, length-append, take-append-le, take_all}
-use Rattle.fz_block.specs.Checks.{hdu_at, hdu_end, header_blocks_of, header_of}
+use Rattle.fz_block.specs.Checks.{hdu_at, hdu_end, header_blocks_of}
 use Rattle.fz_block.specs.Hdus.{AreHdusOf, header_bytes}
 use Rattle.fz_block.specs.Header.{next_start_of, whole_blocks_of}
 use Rattle.fz_block.specs.Walk.{StandsAt, hdu_of}
 use Rattle.fz_block.specs.declared.header.Header.{Header}
-use Rattle.fz_tile.specs.Laws.{HasPlainLen}
 use Rattle.fz_tile.specs.Plain.{plain_bytes}
 use Rattle.fz_files.specs.Drill.{drill_file, drill_hdu}
 use Rattle.fz_files.specs.Packed.{zero_filled}
 use Rattle.fz_drill.specs.Files.{image_cards, image_file, image_pixels}
-use Rattle.fz_drill.proofs.Cards.{HeaderLaws, ReadsAs, reads_as}
+use Rattle.fz_drill.specs.Taken.{FileLaws}
+use Rattle.fz_drill.proofs.Cards.{ReadsAs, reads_as}
 use Rattle.fz_drill.proofs.Pixels.{filled_count, plain_count}
 use Rattle.fz_drill.proofs.PlainHeader.{begins, data_len_is, header_is, image_facts, size_is}
-
--- what is taken of the laws of HDUs
-pub record FileLaws : Type 0 where
-  pub header : HeaderLaws
-  pub plain_len : HasPlainLen
-  pub blocks : (k start : ℕ) (file header : List ℕ) → StandsAt k start file header → header_blocks_of k start file ≡ Ok (length header / 2880)
-  pub found : (k start : ℕ) (file header : List ℕ) → StandsAt k start file header → hdu_at k start file ≡ header_of k start (length file) header
 
 -- the bytes in front of others, and those after them
 pub front : (n : ℕ) (xs ys : List ℕ) → length xs ≡ n → take n (xs ++ ys) ≡ xs

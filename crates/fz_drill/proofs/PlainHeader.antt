@@ -17,7 +17,8 @@ use Rattle.fz_block.specs.Mandatory.{axis_checks, is_bitpix, is_size, mandatory_
 use Rattle.fz_block.specs.Walk.{begins_hdu}
 use Rattle.fz_block.specs.declared.header.Header.{Header}
 use Rattle.fz_block.specs.declared.header.Sort.TheVariants.{Primary}
-use Rattle.fz_drill.proofs.Cards.{HeaderLaws, ReadsAs, axis_name, axis_named, axis_says, simple_named, simple_says, word_named, word_says}
+use Rattle.fz_drill.specs.Taken.{HeaderLaws}
+use Rattle.fz_drill.proofs.Cards.{ReadsAs, axis_name, axis_named, axis_says, simple_named, simple_says, word_named, word_says}
 
 -- its facts
 abbrev pub image_facts : ℕ → ℕ → Header

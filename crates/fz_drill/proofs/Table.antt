@@ -30,8 +30,9 @@ use Rattle.fz_files.specs.Drill.{drill_file, drill_options}
 use Rattle.fz_files.specs.Laws.{IsTaken, codes_from, table_hdu, totals_from}
 use Rattle.fz_files.specs.Packed.{coded_count, heap_of, is_coded, packed_image, packed_table, stored_count}
 use Rattle.fz_drill.specs.Files.{image_cards}
+use Rattle.fz_drill.specs.Taken.{TableLaws}
 use Rattle.fz_drill.proofs.Packable.{cards_none, none_refused, packable}
-use Rattle.fz_drill.proofs.PlainFile.{FileLaws, data_count, drill_is, hdu_is, plain_data, plain_header_of, reads}
+use Rattle.fz_drill.proofs.PlainFile.{data_count, drill_is, hdu_is, plain_data, plain_header_of, reads}
 use Rattle.fz_drill.proofs.PlainHeader.{begins, image_facts, is_header}
 
 -- ---- no count is more than the heap
@@ -60,14 +61,6 @@ greatest_within count (e ∷ es) each =
     omega arith
 
 -- ---- the table
-
--- what is taken of the laws of packed headers
-pub record TableLaws : Type 0 where
-  pub files : FileLaws
-  pub accepted :
-      (header : List ℕ) (h : Header) (p : Plan) (s : Totals) (sums : List (List ℕ)) (k start : ℕ) (bytes : List ℕ) → IsPacking header h p s sums →
-      bytes ≡ header_bytes (packed_with (cards_of header) p s sums) → IsAccepted p s bytes (facts_of (suc k) start bytes)
-  pub whole : (header : List ℕ) (h : Header) (p : Plan) (s : Totals) (sums : List (List ℕ)) → IsPacking header h p s sums → All IsCardBeforeEnd (packed_with (cards_of header) p s sums)
 
 table_bytes : (o : PackOptions) (file : List ℕ) (h : Header) → packed_image o.sums (pack_plan_of o h) (hdu_of file h) ≡ hdu_bytes (table_hdu o file h)
 unfolding packed_table

@@ -22,9 +22,10 @@ use Rattle.fz_files.specs.Restored.{is_image, plan_in}
 use Rattle.fz_files.specs.StandsFor.{StandsFor}
 use Rattle.fz_files.specs.Walks.{fault_of_walk, found_headers, header_fault, job_walk, reached_by}
 use Rattle.fz_files.specs.declared.job.Job.TheVariants.{Unpack}
-use Rattle.fz_round_trip.specs.RoundTrip.{ComesBack}
+use Rattle.fz_laws.specs.RoundTrip.{ComesBack}
 use Rattle.fz_drill.specs.Jobs.{Packs, Unpacks}
-use Rattle.fz_drill.proofs.PackedFile.{PackedLaws, ends_there, first_blocks, first_says, first_unpacked, found_first, found_table, more_behind, plan_there, table_blocks, table_facts, table_packed, table_says}
+use Rattle.fz_drill.specs.Taken.{PackedLaws}
+use Rattle.fz_drill.proofs.PackedFile.{ends_there, first_blocks, first_says, first_unpacked, found_first, found_table, more_behind, plan_there, table_blocks, table_facts, table_packed, table_says}
 use Rattle.fz_drill.proofs.Packing.{tile_is}
 use Rattle.fz_drill.proofs.PlainFile.{drill_is, hdus_are}
 use Rattle.fz_drill.proofs.Table.{plan}

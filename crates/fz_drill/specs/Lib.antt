@@ -5,3 +5,4 @@ pub mod Jobs
 pub mod Lengths
 pub mod Outcomes
 pub mod Said
+pub mod Taken

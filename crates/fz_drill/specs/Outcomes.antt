@@ -8,7 +8,7 @@ use Rattle.fz_base.specs.declared.failure.Stop.TheVariants.{Refused, ReadFault, 
 use Rattle.fz_head.specs.declared.options.CodecWord.{CodecWord}
 use Rattle.fz_head.specs.declared.options.CodecWord.TheVariants as word
 use Rattle.fz_files.specs.Drill.{drill_file, drill_packed}
-use Rattle.fz_pool.specs.Window.{Pool}
+use Rattle.fz_pool.specs.Window.{IsEmpty, Pool}
 use Rattle.fz_drill.specs.Bound.{drill_bound}
 use Rattle.fz_drill.specs.declared.outcome.Outcome.{Outcome}
 use Rattle.fz_drill.specs.declared.outcome.Outcomes.{Outcomes}
@@ -43,6 +43,12 @@ pub record AreOutcomes (rows : ℕ) (all : Outcomes) : Type 0 where
   pub rice : IsOutcome rows word.Rice all.rice
   pub plio : IsOutcome rows word.Plio all.plio
   pub none : IsOutcome rows word.None all.none
+
+-- nothing is live, and the window is empty, with four workers
+pub record IsReady (meter : Gauge) (window : Pool) : Type 0 where
+  pub live : meter.live ≡ 0
+  pub empty : IsEmpty window
+  pub workers : window.workers ≡ 4
 
 -- nothing is live, the limit stays, the peak is at most that before or the bound, and the window is empty with as many workers
 pub record KeepsAll (rows : ℕ) (old new : Gauge) (window window' : Pool) : Type 0 where

@@ -1,11 +1,10 @@
 //! Each codec in turn.
 ghost use Rattle.std.specs.Prelude.{◌≡◌, ◌++◌, max, IfOk, OnOk};
 ghost use Rattle.fz_base.specs.Takings.{highest};
-ghost use Rattle.fz_pool.specs.Window.{IsEmpty};
 ghost use Rattle.fz_files.specs.Buffers.{drill_takings};
 ghost use Rattle.fz_drill.specs.Bound.{takings_of};
 ghost use Rattle.fz_drill.specs.Files.{IsRows};
-ghost use Rattle.fz_drill.specs.Outcomes.{AreOutcomes, BlockDecides, IsOutcome, KeepsAll, Stops};
+ghost use Rattle.fz_drill.specs.Outcomes.{AreOutcomes, BlockDecides, IsOutcome, IsReady, KeepsAll, Stops};
 
 use crate::files::{Files, make_files, no_memory};
 use crate::outcome::{Outcome, Outcomes};
@@ -26,9 +25,7 @@ pub(crate) fn try_codecs<R: Threads + Sync, G: Gate>(
     gate: &G,
 ) -> Result<Outcomes, Stop>
     requires rows { IsRows rows }
-    requires nothing_live { meter.old.live ≡ 0 }
-    requires window { IsEmpty window.old }
-    requires workers { window.old.workers ≡ 4 }
+    requires ready { IsReady meter.old window.old }
     ensures outcomes { IfOk result (AreOutcomes rows) }
     ensures stops { Stops rows (takings_of rows) meter.old.limit result }
     ensures block { BlockDecides meter.old.limit result }
@@ -59,9 +56,7 @@ fn try_codec<R: Threads + Sync, G: Gate>(
     window: &mut Window,
     gate: &G,
 ) -> Result<Outcome, Stop>
-    requires nothing_live { meter.old.live ≡ 0 }
-    requires window { IsEmpty window.old }
-    requires workers { window.old.workers ≡ 4 }
+    requires ready { IsReady meter.old window.old }
     ensures outcome { IfOk result (IsOutcome files.now.rows codec) }
     ensures stops { Stops files.now.rows (drill_takings files.now.rows codec) meter.old.limit result }
     ensures block { BlockDecides meter.old.limit result }

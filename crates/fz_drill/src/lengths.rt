@@ -1,13 +1,11 @@
 //! How long the files of `drill` are, and that its jobs stay within its bound: no code runs.
 ghost use Rattle.fz_drill.specs.Lengths.{DrillsAreBounded, PackedFilesAreShort, PlainFilesAreLong, StoredFilesAreLong};
 
-use crate::law::{cuts_law, packs_law, unpacks_law};
-use fz_block::{cards_law, found_law, hdu_at_law, hdu_list_law, passing_law, start_law};
-use fz_card::card_laws;
-use fz_files::{buffers_law, table_law};
+use crate::law::{cuts_law, packed_laws, packs_law, unpacks_law};
+use fz_files::buffers_law;
 use fz_grid::{shape_law, tile_pixels_law, tiles_law};
-use fz_head::{accepted_law, image_to_pack_law, whole_cards_law};
-use fz_tile::{column_law, plain_law};
+use fz_head::image_to_pack_law;
+use fz_tile::column_law;
 
 /// How long the file of so many rows is; that a packed one is no longer than if all its pixels are stored, as they are
 /// without a codec.
@@ -16,22 +14,12 @@ pub fn lengths_law()
     ensures packed { PackedFilesAreShort }
     ensures stored { StoredFilesAreLong }
 {
-    accepted_law();
-    card_laws();
-    cards_law();
     column_law();
-    found_law();
-    hdu_at_law();
-    hdu_list_law();
     image_to_pack_law();
-    passing_law();
-    plain_law();
+    packed_laws();
     shape_law();
-    start_law();
-    table_law();
     tile_pixels_law();
     tiles_law();
-    whole_cards_law();
 }
 
 /// No taking of `drill` passes its bound.

@@ -1,13 +1,12 @@
 //! The three jobs, on files in memory.
 ghost use Rattle.std.specs.Prelude.{◌≡◌, max, true, None, IfOk, OnOk};
 ghost use Rattle.fz_base.specs.Takings.{highest};
-ghost use Rattle.fz_pool.specs.Window.{IsEmpty};
 ghost use Rattle.fz_files.specs.Buffers.{file_takings};
 ghost use Rattle.fz_files.specs.Drill.{drill_file, drill_options, drill_packed, drill_sieve};
 ghost use Rattle.fz_files.specs.declared.job.Job.TheVariants.{Cut, Pack, Unpack};
 ghost use Rattle.fz_head.specs.declared.options.CodecWord.{CodecWord};
 ghost use Rattle.fz_drill.specs.Files.{IsRows};
-ghost use Rattle.fz_drill.specs.Outcomes.{BlockDecides, KeepsAll, Stops, in_memory};
+ghost use Rattle.fz_drill.specs.Outcomes.{BlockDecides, IsReady, KeepsAll, Stops, in_memory};
 
 use crate::files::{Files, bytes_law, no_memory, source_of};
 use crate::law::{cuts_law, packs_law, unpacks_law};
@@ -39,9 +38,7 @@ pub(crate) fn packed_by<R: Threads + Sync, G: Gate>(
     window: &mut Window,
     gate: &G,
 ) -> Result<Vec<u8>, Stop>
-    requires nothing_live { meter.old.live ≡ 0 }
-    requires window { IsEmpty window.old }
-    requires workers { window.old.workers ≡ 4 }
+    requires ready { IsReady meter.old window.old }
     ensures packed { IfOk result (λ packed. packed.items ≡ drill_packed files.now.rows codec) }
     ensures stops { Stops files.now.rows (file_takings (Pack (drill_options codec)) (drill_file files.now.rows) 4) meter.old.limit result }
     ensures block { BlockDecides meter.old.limit result }
@@ -63,16 +60,10 @@ pub(crate) fn packed_by<R: Threads + Sync, G: Gate>(
     };
     let (mut source, length) = source_of(alloc, &files.plain)?;
     let mut sink = MemSink::new(alloc, Vec::new(alloc), 0);
+    let source = &mut source;
+    let sink = &mut sink;
     match pack(
-        rt,
-        &mut source,
-        length,
-        NO_NAME,
-        &mut sink,
-        meter,
-        window,
-        gate,
-        &options,
+        rt, source, length, NO_NAME, sink, meter, window, gate, &options,
     ) {
         Ok(()) => sink.contents().to_vec(alloc).map_err(no_memory),
         Err(stop) => Err(in_memory(stop)),
@@ -90,9 +81,7 @@ pub(crate) fn unpacks_to_file<R: Threads + Sync, G: Gate>(
     gate: &G,
 ) -> Result<bool, Stop>
     requires packed { (codec : CodecWord) × (packed.now ≡ drill_packed files.now.rows codec) }
-    requires nothing_live { meter.old.live ≡ 0 }
-    requires window { IsEmpty window.old }
-    requires workers { window.old.workers ≡ 4 }
+    requires ready { IsReady meter.old window.old }
     ensures same { IfOk result (λ same. same ≡ true) }
     ensures stops { Stops files.now.rows (file_takings Unpack packed.now 4) meter.old.limit result }
     ensures kept { KeepsAll files.now.rows meter.old meter.new window.old window.new }
@@ -106,16 +95,9 @@ pub(crate) fn unpacks_to_file<R: Threads + Sync, G: Gate>(
     takings_law();
     let (mut source, length) = source_of(alloc, packed)?;
     let mut sink = MemSink::new(alloc, Vec::new(alloc), 0);
-    match unpack(
-        rt,
-        &mut source,
-        length,
-        NO_NAME,
-        &mut sink,
-        meter,
-        window,
-        gate,
-    ) {
+    let source = &mut source;
+    let sink = &mut sink;
+    match unpack(rt, source, length, NO_NAME, sink, meter, window, gate) {
         Ok(()) => Ok(sink.contents() == files.plain.as_slice()),
         Err(stop) => Err(in_memory(stop)),
     }
@@ -132,9 +114,7 @@ pub(crate) fn cuts_to_part<R: Threads + Sync, G: Gate>(
     gate: &G,
 ) -> Result<bool, Stop>
     requires packed { (codec : CodecWord) × (packed.now ≡ drill_packed files.now.rows codec) }
-    requires nothing_live { meter.old.live ≡ 0 }
-    requires window { IsEmpty window.old }
-    requires workers { window.old.workers ≡ 4 }
+    requires ready { IsReady meter.old window.old }
     ensures same { IfOk result (λ same. same ≡ true) }
     ensures stops { Stops files.now.rows (file_takings (Cut None (drill_sieve files.now.rows)) packed.now 4) meter.old.limit result }
     ensures kept { KeepsAll files.now.rows meter.old meter.new window.old window.new }
@@ -150,17 +130,10 @@ pub(crate) fn cuts_to_part<R: Threads + Sync, G: Gate>(
     let sieve = sieve_of(files.rows);
     let (mut source, length) = source_of(alloc, packed)?;
     let mut sink = MemSink::new(alloc, Vec::new(alloc), 0);
+    let source = &mut source;
+    let sink = &mut sink;
     match cut(
-        rt,
-        &mut source,
-        length,
-        NO_NAME,
-        &mut sink,
-        meter,
-        window,
-        gate,
-        None,
-        &sieve,
+        rt, source, length, NO_NAME, sink, meter, window, gate, None, &sieve,
     ) {
         Ok(()) => Ok(sink.contents() == files.part.as_slice()),
         Err(stop) => Err(in_memory(stop)),

@@ -14,12 +14,12 @@ use Rattle.fz_files.specs.FirstFault.{IsFaultBehind, IsFirstFault}
 use Rattle.fz_files.specs.Packed.{IsPackedFile}
 use Rattle.fz_files.specs.Walks.{header_fault}
 use Rattle.fz_files.specs.declared.job.Job.TheVariants.{Pack}
-use Rattle.fz_survey.specs.Surveys.{surveyed}
-use Rattle.fz_survey.specs.declared.checks.JobChecks.TheVariants.{Pack as PackChecks}
-use Rattle.fz_survey.specs.declared.survey.Survey.{Survey}
+use Rattle.fz_job.specs.Surveys.{surveyed}
+use Rattle.fz_job.specs.declared.checks.JobChecks.TheVariants.{Pack as PackChecks}
+use Rattle.fz_job.specs.declared.survey.Survey.{Survey}
 use Rattle.fz_pack.specs.Output.{HoldsPacked}
 use Rattle.fz_job.specs.Clauses.{IfOverLimit, IsChanged, IsShutOrWhole, StaysUnmade, TellsFirstFault}
-use Rattle.fz_stages.specs.Stages.{HasLargest}
+use Rattle.fz_job.specs.Stages.{HasLargest}
 use Rattle.fz_pack.specs.Known.{IsKnown, SurveysKnow}
 use Rattle.fz_pack.specs.Written.{ArePacked, AreShutOrWhole, FinishesSeen, IsList}
 use Rattle.fz_pack.proofs.Outcomes.{refused_weaker}

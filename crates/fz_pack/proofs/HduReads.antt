@@ -21,10 +21,10 @@ use Rattle.fz_files.specs.Laws.{ReachedAreFound, place_of}
 use Rattle.fz_files.specs.Reads.{header_ranges}
 use Rattle.fz_files.specs.Walks.{Reached, header_fault, headers_for, reached_after, reached_behind, reached_by, reached_from}
 use Rattle.fz_files.specs.declared.job.Job.TheVariants.{Pack}
-use Rattle.fz_survey.specs.Reads.{IsWithinOne}
-use Rattle.fz_survey.specs.Surveys.{fill_places_in, hdu_places, places_from, survey_places}
-use Rattle.fz_survey.specs.declared.checks.JobChecks.TheVariants.{Pack as PackChecks}
-use Rattle.fz_survey.specs.declared.survey.Survey.{Survey}
+use Rattle.fz_job.specs.SurveyReads.{IsWithinOne}
+use Rattle.fz_job.specs.Surveys.{fill_places_in, hdu_places, places_from, survey_places}
+use Rattle.fz_job.specs.declared.checks.JobChecks.TheVariants.{Pack as PackChecks}
+use Rattle.fz_job.specs.declared.survey.Survey.{Survey}
 use Rattle.fz_pack.specs.Again.{ReadsAsSeen, WereSeen}
 use Rattle.fz_pack.specs.Behind.{AreWritten, IsUnderway}
 use Rattle.fz_pack.specs.Known.{IsKnown, SurveysKnow}

@@ -14,10 +14,10 @@ use Rattle.fz_head.specs.declared.options.PackOptions.{PackOptions}
 use Rattle.fz_files.specs.Buffers.{header_len, largest_tile, longest_header, plans_behind}
 use Rattle.fz_files.specs.Walks.{fault_of_walk, found_headers, header_fault, headers_for, job_walk, reached_by, reached_from}
 use Rattle.fz_files.specs.declared.job.Job.TheVariants.{Pack}
-use Rattle.fz_survey.specs.Judges.{judge_of}
-use Rattle.fz_survey.specs.Surveys.{header_len as header_len_seen, headers_seen, survey_of, surveyed, tile_pixels as tile_seen}
-use Rattle.fz_survey.specs.declared.checks.JobChecks.TheVariants.{Pack as PackChecks}
-use Rattle.fz_survey.specs.declared.survey.Survey.{Survey}
+use Rattle.fz_job.specs.Judges.{judge_of}
+use Rattle.fz_job.specs.Surveys.{header_len as header_len_seen, headers_seen, survey_of, surveyed, tile_pixels as tile_seen}
+use Rattle.fz_job.specs.declared.checks.JobChecks.TheVariants.{Pack as PackChecks}
+use Rattle.fz_job.specs.declared.survey.Survey.{Survey}
 use Rattle.fz_pack.specs.Known.{IsKnown}
 use Rattle.fz_pack.specs.Written.{IsList}
 use Rattle.fz_pack.proofs.Walked.{AreMet, AreSound, BlocksLaw, PlacesLaw, largest_is, longest_is, never_stops, walk_met, walk_sound, were_seen}

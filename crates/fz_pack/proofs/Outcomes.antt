@@ -14,12 +14,12 @@ use Rattle.fz_head.specs.declared.options.PackOptions.{PackOptions}
 use Rattle.fz_files.specs.Walks.{header_fault}
 use Rattle.fz_files.specs.declared.job.Job.{Job}
 use Rattle.fz_files.specs.declared.job.Job.TheVariants.{Pack}
-use Rattle.fz_survey.specs.Surveys.{surveyed}
-use Rattle.fz_survey.specs.declared.checks.JobChecks.TheVariants.{Pack as PackChecks}
-use Rattle.fz_survey.specs.declared.survey.Survey.{Survey}
+use Rattle.fz_job.specs.Surveys.{surveyed}
+use Rattle.fz_job.specs.declared.checks.JobChecks.TheVariants.{Pack as PackChecks}
+use Rattle.fz_job.specs.declared.survey.Survey.{Survey}
 use Rattle.fz_job.specs.Clauses.{ComesLate, IfOverLimit, IsShutOrWhole, StaysUnmade, TellsFirstFault}
 use Rattle.fz_job.specs.Keeps.{StoppedRewriting}
-use Rattle.fz_stages.specs.Stages.{TellsHeaderFault}
+use Rattle.fz_job.specs.Stages.{TellsHeaderFault}
 use Rattle.fz_pack.specs.Known.{SurveysRefuse}
 use Rattle.fz_pack.specs.Written.{AreShutOrWhole, FinishesSeen}
 

@@ -23,7 +23,7 @@ use Rattle.fz_head.specs.Packable.{is_packable}
 use Rattle.fz_head.specs.Planned.{pack_plan_of}
 use Rattle.fz_head.specs.declared.options.PackOptions.{PackOptions}
 use Rattle.fz_files.specs.Packed.{packed_file, packed_from, packed_hdu, packed_image}
-use Rattle.fz_survey.specs.declared.survey.Survey.{Survey}
+use Rattle.fz_job.specs.declared.survey.Survey.{Survey}
 use Rattle.fz_pack.specs.Again.{WereSeen}
 use Rattle.fz_job.specs.Behind.{written_behind}
 use Rattle.fz_pack.specs.Behind.{RewritesSeen}

@@ -18,8 +18,8 @@ use Rattle.fz_head.specs.Planned.{pack_plan_of}
 use Rattle.fz_head.specs.declared.options.PackOptions.{PackOptions}
 use Rattle.fz_files.specs.Buffers.{found_len, header_len}
 use Rattle.fz_files.specs.Walks.{Reached, reached_after, reached_behind, reached_from}
-use Rattle.fz_survey.specs.Surveys.{tile_pixels as tile_seen, header_len as header_len_seen}
-use Rattle.fz_survey.specs.declared.checks.JobChecks.TheVariants.{Pack as PackChecks}
+use Rattle.fz_job.specs.Surveys.{tile_pixels as tile_seen, header_len as header_len_seen}
+use Rattle.fz_job.specs.declared.checks.JobChecks.TheVariants.{Pack as PackChecks}
 use Rattle.fz_pack.specs.Again.{WasSeen, WereSeen}
 use Rattle.fz_pack.proofs.Plans.{largest_within, passed_checks}
 use Rattle.fz_head.specs.WorkBuffers.{pixels_of_tile}

@@ -5,9 +5,9 @@ use Rattle.fz_block.specs.Hdus.{AreHdusOf}
 use Rattle.fz_block.specs.Walk.{hdu_of}
 use Rattle.fz_block.specs.declared.header.Header.{Header}
 use Rattle.fz_head.specs.declared.options.PackOptions.{PackOptions}
-use Rattle.fz_survey.specs.Surveys.{surveyed}
-use Rattle.fz_survey.specs.declared.checks.JobChecks.TheVariants.{Pack as PackChecks}
-use Rattle.fz_survey.specs.declared.survey.Survey.{Survey}
+use Rattle.fz_job.specs.Surveys.{surveyed}
+use Rattle.fz_job.specs.declared.checks.JobChecks.TheVariants.{Pack as PackChecks}
+use Rattle.fz_job.specs.declared.survey.Survey.{Survey}
 use Rattle.fz_files.specs.Buffers.{largest_tile, longest_header}
 use Rattle.fz_files.specs.Walks.{header_fault, headers_for}
 use Rattle.fz_files.specs.declared.job.Job.TheVariants.{Pack}

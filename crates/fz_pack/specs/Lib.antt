@@ -3,4 +3,5 @@ pub mod Behind
 pub mod Known
 pub mod Output
 pub mod Reads
+pub mod Turns
 pub mod Written

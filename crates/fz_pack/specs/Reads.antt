@@ -7,10 +7,10 @@ use Rattle.fz_files.specs.Cutout.{header_range}
 use Rattle.fz_files.specs.Laws.{place_of}
 use Rattle.fz_files.specs.declared.job.Job.TheVariants.{Pack}
 use Rattle.fz_head.specs.declared.options.PackOptions.{PackOptions}
-use Rattle.fz_survey.specs.Reads.{IsWithinOne}
-use Rattle.fz_survey.specs.Surveys.{survey_places}
-use Rattle.fz_survey.specs.declared.checks.JobChecks.TheVariants.{Pack as PackChecks}
-use Rattle.fz_survey.specs.declared.survey.Survey.{Survey}
+use Rattle.fz_job.specs.SurveyReads.{IsWithinOne}
+use Rattle.fz_job.specs.Surveys.{survey_places}
+use Rattle.fz_job.specs.declared.checks.JobChecks.TheVariants.{Pack as PackChecks}
+use Rattle.fz_job.specs.declared.survey.Survey.{Survey}
 use Rattle.fz_pack.specs.Known.{IsKnown}
 use Rattle.fz_files.specs.Touched.{data_touched, hdus_touched, touched_by}
 use Rattle.fz_pack.specs.Written.{IsList}

@@ -8,7 +8,7 @@ use Rattle.fz_block.specs.Walk.{hdu_of}
 use Rattle.fz_block.specs.declared.header.Header.{Header}
 use Rattle.fz_head.specs.declared.options.PackOptions.{PackOptions}
 use Rattle.fz_files.specs.Packed.{packed_file}
-use Rattle.fz_survey.specs.declared.survey.Survey.{Survey}
+use Rattle.fz_job.specs.declared.survey.Survey.{Survey}
 use Rattle.fz_pack.specs.Again.{WereSeen}
 
 -- the headers of the file, which were seen at the first look

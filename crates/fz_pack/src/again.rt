@@ -1,9 +1,9 @@
 //! The header of an HDU, read once more.
 ghost use Rattle.std.specs.Prelude.{◌≡◌, ◌⊎◌, ◌+◌, ◌*◌, ◌^◌, ◌≤◌, ◌<◌, ◌||◌, nat_lt, true, Bool, Some, codes, length as len, IfOk, IfSome};
+ghost use Rattle.fz_base.specs.Keeps.{SourceStays};
 ghost use Rattle.fz_base.specs.Refusal.{refusal};
 ghost use Rattle.fz_base.specs.Source.{LogsWithin};
 ghost use Rattle.fz_base.specs.Stop.{IfRefused, ReadsOnly};
-ghost use Rattle.fz_base.specs.Told.{StaysTold};
 ghost use Rattle.fz_base.specs.declared.failure.Stop.TheVariants.{Refused};
 ghost use Rattle.fz_base.specs.declared.fault.Place.TheVariants.{Card as AtCard};
 ghost use Rattle.fz_base.specs.declared.kind.Kind.TheVariants.{BadCard};
@@ -13,13 +13,13 @@ ghost use Rattle.fz_grid.specs.Region.{IsDivided};
 ghost use Rattle.fz_head.specs.Planned.{AreOptions};
 ghost use Rattle.fz_job.specs.Clauses.{IsChanged};
 ghost use Rattle.fz_pack.specs.Again.{IsAgain, ReadsAsSeen, is_larger as is_larger_of, largest_of};
-ghost use Rattle.fz_job.specs.Keeps.{SourceStays};
 
+use crate::file::Packing;
 use fz_base::{Fault, Kind, Place, Source, Stop, log_law};
 use fz_block::{BLOCK_LEN, Header, again_law, card, header_again};
 use fz_card::Name;
 use fz_grid::Grid;
-use fz_head::{PackOptions, Plan, plan_to_pack};
+use fz_head::{Plan, plan_to_pack};
 
 /// An HDU whose header was read once more, and how it is packed, if it is.
 #[derive(Clone, Copy, Debug)]
@@ -32,69 +32,40 @@ pub(crate) struct Again {
 /// at most so many pixels.
 ///
 /// Refused: only if the source gives other bytes than before, and then with BadCard at card 0 of the HDU.
-pub(crate) fn read_again<S: Source>(
+pub(crate) fn read_again<R, S: Source, G>(
+    asked: &Packing<'_, '_, R, G>,
     source: &mut S,
-    length: u64,
     hdu: u32,
     start: u64,
-    options: &PackOptions,
     tile: u32,
-    block: &mut [u8],
     buf: &mut [u8],
 ) -> Result<Again, Stop>
-    requires attached { S.attached source.old ≡ Some length }
-    requires within { (start < length) ⊎ ((hdu ≡ 0) × (start ≡ 0)) }
-    requires block { len block.old ≡ 2880 }
-    requires options { AreOptions options.now }
-    ensures again { IfOk result (IsAgain options.now (S.held source.old) length buf.new) }
+    requires attached { S.attached source.old ≡ Some asked.now.length }
+    requires within { (start < asked.now.length) ⊎ ((hdu ≡ 0) × (start ≡ 0)) }
+    requires room { 2880 ≤ len buf.old }
+    requires options { AreOptions asked.now.options }
+    ensures again { IfOk result (IsAgain asked.now.options (S.held source.old) asked.now.length buf.new) }
     ensures place { IfOk result (λ a. (a.header.hdu ≡ hdu) × (a.header.start ≡ start)) }
     ensures small { IfOk result (λ a. IfSome a.plan (λ p. largest_of p ≤ tile)) }
-    ensures as_seen { IfSome (S.held source.old) (λ g. ReadsAsSeen options.now g hdu start (len buf.old) tile result) }
+    ensures as_seen { IfSome (S.held source.old) (λ g. ReadsAsSeen asked.now.options g hdu start (len buf.old) tile result) }
     ensures refused { IfRefused result IsChanged }
-    ensures block { len block.new ≡ 2880 }
     ensures buf { len buf.new ≡ len buf.old }
-    ensures source { SourceStays (S.held source.old) (S.held source.new) (S.attached source.old) (S.attached source.new) }
+    ensures source { SourceStays S.held S.attached S.ranges source.old source.new }
     ensures read { IfSome (S.held source.old) (λ g. LogsWithin start (header_touched hdu start g) (S.ranges source.old) (S.ranges source.new)) }
-    ensures told { StaysTold (S.ranges source.old) (S.ranges source.new) }
-    ensures cause { ReadsOnly (S.tally source.old) (S.tally source.new) result }
-{
-    match read_planned(source, length, hdu, start, options, tile, block, buf) {
-        Err(Stop::Refused(_)) => Err(changed(hdu)),
-        answer => answer,
-    }
-}
-
-// The same, refused as the header is that was read.
-fn read_planned<S: Source>(
-    source: &mut S,
-    length: u64,
-    hdu: u32,
-    start: u64,
-    options: &PackOptions,
-    tile: u32,
-    block: &mut [u8],
-    buf: &mut [u8],
-) -> Result<Again, Stop>
-    requires attached { S.attached source.old ≡ Some length }
-    requires within { (start < length) ⊎ ((hdu ≡ 0) × (start ≡ 0)) }
-    requires block { len block.old ≡ 2880 }
-    requires options { AreOptions options.now }
-    ensures again { IfOk result (IsAgain options.now (S.held source.old) length buf.new) }
-    ensures place { IfOk result (λ a. (a.header.hdu ≡ hdu) × (a.header.start ≡ start)) }
-    ensures small { IfOk result (λ a. IfSome a.plan (λ p. largest_of p ≤ tile)) }
-    ensures as_seen { IfSome (S.held source.old) (λ g. ReadsAsSeen options.now g hdu start (len buf.old) tile result) }
-    ensures block { len block.new ≡ 2880 }
-    ensures buf { len buf.new ≡ len buf.old }
-    ensures source { SourceStays (S.held source.old) (S.held source.new) (S.attached source.old) (S.attached source.new) }
-    ensures read { IfSome (S.held source.old) (λ g. LogsWithin start (header_touched hdu start g) (S.ranges source.old) (S.ranges source.new)) }
-    ensures told { StaysTold (S.ranges source.old) (S.ranges source.new) }
     ensures cause { ReadsOnly (S.tally source.old) (S.tally source.new) result }
 {
     again_law();
     log_law();
-    let header = header_again(source, length, hdu, start, block, buf)?;
+    let header = match header_again(source, asked.length, hdu, start, buf) {
+        Ok(header) => header,
+        Err(Stop::Refused(_)) => return Err(changed(hdu)),
+        Err(stop) => return Err(stop),
+    };
     let buf = &buf[..BLOCK_LEN * header.blocks as usize];
-    let plan = plan_to_pack(buf, &header, options).map_err(Stop::Refused)?;
+    let plan = match plan_to_pack(buf, &header, &asked.options) {
+        Ok(plan) => plan,
+        Err(_) => return Err(changed(hdu)),
+    };
     if is_larger(&plan, tile) || !begins_file(hdu, buf) {
         return Err(changed(hdu));
     }

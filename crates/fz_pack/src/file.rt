@@ -3,8 +3,9 @@ ghost use Rattle.std.specs.Prelude.{◌≡◌, ◌⊎◌, ◌+◌, ◌*◌, ◌�
 ghost use Rattle.fz_base.specs.FirstByte.{IsShut, with_first_byte};
 ghost use Rattle.fz_base.specs.Sink.{emptied};
 ghost use Rattle.fz_head.specs.Planned.{AreOptions};
-ghost use Rattle.fz_pool.specs.Window.{slot_sizes};
+ghost use Rattle.fz_pool.specs.Window.{slot_sizes, WindowStays};
 ghost use Rattle.fz_base.specs.Counts.{nameless};
+ghost use Rattle.fz_base.specs.Keeps.{SinkStays, SourceStays};
 ghost use Rattle.fz_base.specs.Names.{NamesOnce};
 ghost use Rattle.fz_base.specs.Stop.{IfRefused};
 ghost use Rattle.fz_base.specs.Told.{StaysTold};
@@ -12,16 +13,16 @@ ghost use Rattle.fz_job.specs.Clauses.{IsChanged};
 ghost use Rattle.fz_pack.specs.Behind.{RewritesSeen};
 ghost use Rattle.fz_pack.specs.Reads.{ReadsHdus};
 ghost use Rattle.fz_pack.specs.Written.{AreShutOrWhole, FinishesSeen};
-ghost use Rattle.fz_survey.specs.Workspace.{SpaceStays};
-ghost use Rattle.fz_job.specs.Keeps.{Rewrites, SinkStays, SourceStays, WindowStays};
+ghost use Rattle.fz_job.specs.Workspace.{SpaceStays};
+ghost use Rattle.fz_job.specs.Keeps.{Rewrites};
 
 use crate::again::{changed, read_again};
 use crate::hdu::write_hdu;
 use fz_base::{Gate, Sink, Source, Stop, output_law, ranges_law, seal};
 use fz_block::{hdu_at_law, next_start};
 use fz_head::PackOptions;
+use fz_job::{Survey, Workspace};
 use fz_pool::{Crew, Window};
-use fz_survey::{Survey, Workspace};
 use std::thread::Threads;
 
 /// What is packed, how, and by whom: who works, the length of the file, the name of the sink, and the options.
@@ -53,16 +54,16 @@ pub(crate) fn write_file<R: Threads + Sync, S: Source, K: Sink, G: Gate>(
     requires translated { len space.old.header + 2880 ≤ len space.old.translated }
     requires copy { 4096 ≤ len space.old.copy }
     requires block { len block.old ≡ 2880 }
+    requires long { 2880 ≤ survey.now.header_len }
     ensures written { IfSome (S.held source.old) (λ g. FinishesSeen asked.now.options g survey.now (K.contents sink.new) result) }
     ensures finished { OnOk result (K.finished sink.new ≡ true) }
     ensures shut { AreShutOrWhole asked.now.options survey.now (S.held source.old) (K.contents sink.new) result }
     ensures block { len block.new ≡ 2880 }
     ensures space { SpaceStays space.old space.new }
     ensures window { WindowStays window.old window.new }
-    ensures source { SourceStays (S.held source.old) (S.held source.new) (S.attached source.old) (S.attached source.new) }
+    ensures source { SourceStays S.held S.attached S.ranges source.old source.new }
     ensures changed { IfRefused result IsChanged }
     ensures read { IfSome (S.held source.old) (λ g. ReadsHdus asked.now.options g survey.now (S.ranges source.old) (S.ranges source.new)) }
-    ensures told_ranges { StaysTold (S.ranges source.old) (S.ranges source.new) }
     ensures told_contents { StaysTold (K.contents sink.old) (K.contents sink.new) }
     ensures cause { Rewrites (S.tally source.old) (S.tally source.new) (nameless (K.tally sink.old)) (nameless (K.tally sink.new)) result }
     ensures names { NamesOnce asked.now.name.now (K.tally sink.old).names (K.tally sink.new).names result }
@@ -92,17 +93,16 @@ fn write_hdus<R: Threads + Sync, S: Source, K: Sink, G: Gate>(
     requires translated { len space.old.header + 2880 ≤ len space.old.translated }
     requires copy { 4096 ≤ len space.old.copy }
     requires block { len block.old ≡ 2880 }
+    requires long { 2880 ≤ survey.now.header_len }
     ensures written { IfSome (S.held source.old) (λ g. RewritesSeen asked.now.options g survey.now.header_len survey.now.tile
         survey.now.hdus (K.contents sink.old) (K.contents sink.new) result) }
     ensures block { len block.new ≡ 2880 }
     ensures space { SpaceStays space.old space.new }
     ensures window { WindowStays window.old window.new }
-    ensures source { SourceStays (S.held source.old) (S.held source.new) (S.attached source.old) (S.attached source.new) }
-    ensures sink { SinkStays (K.created sink.old) (K.created sink.new) (K.contents sink.old) (K.contents sink.new) }
+    ensures source { SourceStays S.held S.attached S.ranges source.old source.new }
+    ensures sink { SinkStays K.created K.contents sink.old sink.new }
     ensures changed { IfRefused result IsChanged }
     ensures read { IfSome (S.held source.old) (λ g. ReadsHdus asked.now.options g survey.now (S.ranges source.old) (S.ranges source.new)) }
-    ensures told_ranges { StaysTold (S.ranges source.old) (S.ranges source.new) }
-    ensures told_contents { StaysTold (K.contents sink.old) (K.contents sink.new) }
     ensures cause { Rewrites (S.tally source.old) (S.tally source.new) (K.tally sink.old) (K.tally sink.new) result }
 {
     hdu_at_law();
@@ -113,27 +113,8 @@ fn write_hdus<R: Threads + Sync, S: Source, K: Sink, G: Gate>(
     let mut at = 0;
     for hdu in 0..survey.hdus {
         let buf = space.header.as_mut_slice();
-        let again = read_again(
-            source,
-            length,
-            hdu,
-            start,
-            &asked.options,
-            survey.tile,
-            block,
-            buf,
-        )?;
-        at = write_hdu(
-            &asked.crew,
-            source,
-            sink,
-            window,
-            &asked.options,
-            &again,
-            at,
-            space,
-            block,
-        )?;
+        let again = read_again(asked, source, hdu, start, survey.tile, buf)?;
+        at = write_hdu(asked, source, sink, window, &again, at, space, block)?;
         start = next_start(&again.header);
         // An HDU ends the file exactly if it is the last.
         if (start == length) != (hdu + 1 == survey.hdus) {

@@ -1,6 +1,7 @@
 //! The job: look at all headers, take all buffers, and then write.
 ghost use Rattle.std.specs.Prelude.{◌≡◌, ◌+◌, ◌<◌, ◌≤◌, max, true, Some, [], length as len, sum, OnOk, IfSome, IsSome};
 ghost use Rattle.fz_base.specs.Counts.{nameless};
+ghost use Rattle.fz_base.specs.Keeps.{SourceStays};
 ghost use Rattle.fz_base.specs.Names.{NamesOnce};
 ghost use Rattle.fz_base.specs.Ranges.{LogsIn};
 ghost use Rattle.fz_base.specs.Stop.{IfRefused, TellsLimit};
@@ -8,14 +9,13 @@ ghost use Rattle.fz_base.specs.Told.{StaysTold};
 ghost use Rattle.fz_base.specs.Takings.{TellsFirstPast, first_past, highest, piled};
 ghost use Rattle.fz_head.specs.Planned.{AreOptions};
 ghost use Rattle.fz_pool.specs.Window.{IsEmpty};
-ghost use Rattle.fz_survey.specs.Workspace.{wanted_buffers};
+ghost use Rattle.fz_job.specs.Workspace.{wanted_buffers};
 ghost use Rattle.fz_files.specs.Buffers.{job_bound, job_takings};
 ghost use Rattle.fz_files.specs.declared.job.Job.TheVariants.{Pack};
 ghost use Rattle.fz_pack.specs.Output.{HoldsPacked};
 ghost use Rattle.fz_job.specs.Clauses.{Answers, HasJobCause, IfOverLimit, IsChanged, IsShutOrWhole, IsUnmade, KeepsBuffers};
 ghost use Rattle.fz_job.specs.Clauses.{KeepsSource, StaysUnmade, TellsFirstFault, greatest_bound};
-ghost use Rattle.fz_job.specs.Keeps.{SourceStays};
-ghost use Rattle.fz_stages.specs.Stages.{Works, later_takings, wants_for};
+ghost use Rattle.fz_job.specs.Stages.{Works, later_takings, wants_for};
 ghost use Rattle.fz_pack.specs.Reads.{ReadsHdus};
 ghost use Rattle.fz_files.specs.Touched.{touched_by};
 ghost use Rattle.fz_pack.specs.Written.{AreShutOrWhole, FinishesSeen};
@@ -25,9 +25,8 @@ use crate::law::{known_law, touched_law};
 use fz_base::{Gate, Meter, Sink, Source, Stop, ranges_law};
 use fz_block::BLOCK_LEN;
 use fz_head::PackOptions;
+use fz_job::{Survey, Wants, Workspace, stages_law, survey_to_pack};
 use fz_pool::{Crew, Window, sizes_law};
-use fz_stages::stages_law;
-use fz_survey::{Survey, Wants, Workspace, survey_to_pack};
 use std::thread::Threads;
 
 /// Packs the file that is attached to the source into the sink, which it makes by this name.
@@ -81,11 +80,8 @@ pub fn pack<R: Threads + Sync, S: Source, K: Sink, G: Gate>(
 {
     // How the promises of the job follow from its stages.
     stages_law::<()>();
-    let crew = Crew {
-        rt,
-        gate,
-        workers: window.workers(),
-    };
+    let workers = window.workers();
+    let crew = Crew { rt, gate, workers };
     let asked = Packing {
         crew,
         length,
@@ -130,9 +126,8 @@ fn with_block<R: Threads + Sync, S: Source, K: Sink, G: Gate>(
     ensures live { meter.new.live ≡ meter.old.live }
     ensures limit { meter.new.limit ≡ meter.old.limit }
     ensures emptied { window.new ≡ record { slots = []; workers = window.old.workers } }
-    ensures source { SourceStays (S.held source.old) (S.held source.new) (S.attached source.old) (S.attached source.new) }
+    ensures source { SourceStays S.held S.attached S.ranges source.old source.new }
     ensures touched { IfSome (S.held source.old) (λ g. LogsIn (touched_by (Pack asked.now.options) g) (S.ranges source.old) (S.ranges source.new)) }
-    ensures told_ranges { StaysTold (S.ranges source.old) (S.ranges source.new) }
     ensures told_contents { StaysTold (K.contents sink.old) (K.contents sink.new) }
     ensures cause { Works (S.tally source.old) (S.tally source.new) (nameless (K.tally sink.old)) (nameless (K.tally sink.new))
         meter.old.limit result }
@@ -163,6 +158,7 @@ fn work<R: Threads + Sync, S: Source, K: Sink, G: Gate>(
     requires options { AreOptions asked.now.options }
     requires some { 0 < survey.now.hdus }
     requires few { survey.now.hdus ≤ 65535 }
+    requires long { 2880 ≤ survey.now.header_len }
     requires block { len block.old ≡ 2880 }
     ensures written { IfSome (S.held source.old) (λ g. FinishesSeen asked.now.options g survey.now (K.contents sink.new) result) }
     ensures finished { OnOk result (K.finished sink.new ≡ true) }
@@ -180,10 +176,9 @@ fn work<R: Threads + Sync, S: Source, K: Sink, G: Gate>(
     ensures live { meter.new.live ≡ meter.old.live }
     ensures limit { meter.new.limit ≡ meter.old.limit }
     ensures emptied { window.new ≡ record { slots = []; workers = window.old.workers } }
-    ensures source { SourceStays (S.held source.old) (S.held source.new) (S.attached source.old) (S.attached source.new) }
+    ensures source { SourceStays S.held S.attached S.ranges source.old source.new }
     ensures changed { IfRefused result IsChanged }
     ensures read { IfSome (S.held source.old) (λ g. ReadsHdus asked.now.options g survey.now (S.ranges source.old) (S.ranges source.new)) }
-    ensures told_ranges { StaysTold (S.ranges source.old) (S.ranges source.new) }
     ensures told_contents { StaysTold (K.contents sink.old) (K.contents sink.new) }
     ensures cause { Works (S.tally source.old) (S.tally source.new) (nameless (K.tally sink.old)) (nameless (K.tally sink.new))
         meter.old.limit result }

@@ -8,12 +8,15 @@ use Rattle.fz_base.specs.declared.failure.Stop.{Stop}
 use Rattle.fz_block.specs.declared.header.Header.{Header}
 use Rattle.fz_files.specs.Restored.{is_packed_primary, standing}
 use Rattle.fz_head.specs.JobChecks.{is_after_empty}
-use Rattle.fz_again.specs.Again.{IsAgain, ReadsAsSeen, WereSeen, was_primary_image}
-use Rattle.fz_again.specs.declared.again.ReadHdu.{ReadHdu}
+use Rattle.fz_job.specs.declared.survey.Survey.{Survey}
+use Rattle.fz_job.specs.Again.{IsAgain, ReadsAsSeen, WereSeen, was_primary_image}
+use Rattle.fz_job.specs.declared.again.ReadHdu.{ReadHdu}
 use Rattle.fz_unpack.specs.Behind.{AreWritten, IsUnderway, RestoresSeen, SaysBehind}
-use Rattle.fz_unpack.specs.First.{FindsFirst, behind_primary, first_of, the_primary}
+use Rattle.fz_unpack.specs.First.{behind_primary, first_at, first_of, the_primary}
+use Rattle.fz_unpack.specs.Laws.{PrimariesAreBehind}
 use Rattle.fz_unpack.specs.declared.first.First.{First}
 use Rattle.fz_unpack.proofs.Images.{primary_is}
+use Rattle.fz_unpack.proofs.Standing.{first_is}
 use Rattle.fz_unpack.proofs.Underway.{no_more, none_left}
 
 -- ---- the HDU after the primary
@@ -27,10 +30,10 @@ second_in h [] = h
 second_in h (j ∷ hs) = first_in h hs
 
 -- the first of some headers, before which there is none
-first_is : (k h : Header) (hs done rest : List Header) → k ∷ hs ≡ done ++ h ∷ rest → length hs ≡ length rest → k ≡ h
+same_first : (k h : Header) (hs done rest : List Header) → k ∷ hs ≡ done ++ h ∷ rest → length hs ≡ length rest → k ≡ h
 unfolding first_in
-first_is k h hs [] rest parts count = ap (first_in h) parts
-first_is k h hs (d ∷ done) rest parts count = absurd (omega (arith, ap length parts, length-append (d ∷ done) (h ∷ rest), count))
+same_first k h hs [] rest parts count = ap (first_in h) parts
+same_first k h hs (d ∷ done) rest parts count = absurd (omega (arith, ap length parts, length-append (d ∷ done) (h ∷ rest), count))
 
 -- the second of some headers, before which there is one
 second_is : (j k h : Header) (hs done rest : List Header) → j ∷ k ∷ hs ≡ done ++ h ∷ rest → length hs ≡ length rest → k ≡ h
@@ -41,7 +44,7 @@ second_is j k h hs (d ∷ e ∷ done) rest parts count = absurd (omega (arith, a
 
 -- the second of the HDUs is the next one, if it is number 1
 next_is : (b : Bool) (j k h : Header) (hs done rest : List Header) → (if b then k ∷ hs else j ∷ k ∷ hs) ≡ done ++ h ∷ rest → length hs ≡ length rest → k ≡ h
-next_is true j k h hs done rest parts count = first_is k h hs done rest parts count
+next_is true j k h hs done rest parts count = same_first k h hs done rest parts count
 next_is false j k h hs done rest parts count = second_is j k h hs done rest parts count
 
 -- the first that stands for something is HDU 1 if this is a packed primary
@@ -105,49 +108,49 @@ not_at_end x y k n most last more = apart_by (x == y) x y refl most (λ ends. om
 
 -- ---- what the loop finds otherwise was not seen
 
-module _ (header_len tile hdus : ℕ) (before : Option (List ℕ)) where
+module _ (s : Survey) (before : Option (List ℕ)) where
   -- an HDU after an empty primary is what it was
-  pub primary_as_seen : 0 < hdus → (X : Type 0) (held : Option (List ℕ)) (stop : Stop) (k start at : ℕ) (flag : Bool) (mid now : Option (List ℕ)) (f : First) (n : ℕ) (buf : List ℕ) (a : ReadHdu) → k < hdus →
-      IfSome held (IsUnderway header_len tile hdus k start at flag before mid) → IfSome held (λ g. FindsFirst g header_len tile (Ok f)) →
-      IfSome held (λ g. ReadsAsSeen g k start flag header_len tile (Ok a)) → IsAgain held n buf a → ((flag ≡ true → was_primary_image a.image ≡ (f.hdu == 1)) → ⊥) →
-      IfSome held (λ g. RestoresSeen {X = X} g header_len tile hdus before now (Err stop))
-  primary_as_seen some X None stop k start at flag mid now f n buf a few was found again usable never = tt
-  primary_as_seen some X (Some g) stop k start at flag mid now f n buf a few was found again usable never = record {
-    restored = λ hs seen count. tt;
-    first_fault = λ hs seen count.
-        let w = was hs seen count in
-        absurd (never (primary_by g header_len tile before hs k start at flag mid f n buf a w w.rest refl (omega (arith, few, count)) (found hs seen (omega (arith, some, count))).1 again usable));
+  pub primary_as_seen : PrimariesAreBehind → (X : Type 0) (held : Option (List ℕ)) (stop : Stop) (k start at : ℕ) (flag : Bool) (mid now : Option (List ℕ)) (f : First) (n : ℕ) (buf : List ℕ) (a : ReadHdu) → k < s.hdus →
+      IfSome held (IsUnderway s k start at flag before mid) → f ≡ first_at s.packed_primary →
+      IfSome held (λ g. ReadsAsSeen g k start flag s.header_len s.tile (Ok a)) → IsAgain held n buf a → ((flag ≡ true → was_primary_image a.image ≡ (f.hdu == 1)) → ⊥) →
+      IfSome held (λ g. RestoresSeen {X = X} g s before now (Err stop))
+  primary_as_seen law X None stop k start at flag mid now f n buf a few was found again usable never = tt
+  primary_as_seen law X (Some g) stop k start at flag mid now f n buf a few was found again usable never = record {
+    restored = λ hs list. tt;
+    first_fault = λ hs list.
+        let w = was hs list in
+        absurd (never (primary_by g s.header_len s.tile before hs k start at flag mid f n buf a w w.rest refl (omega (arith, few, list.count)) (found ∙ first_is law g s hs list) again usable));
   }
 
   -- the HDUs are as many as were seen
-  pub first_as_seen : 0 < hdus → (X : Type 0) (held : Option (List ℕ)) (stop : Stop) (now : Option (List ℕ)) (f : First) → hdus ≤ f.hdu → IfSome held (λ g. FindsFirst g header_len tile (Ok f)) →
-      IfSome held (λ g. RestoresSeen {X = X} g header_len tile hdus before now (Err stop))
-  first_as_seen some X None stop now f past found = tt
-  first_as_seen some X (Some g) stop now f past found = record {
-    restored = λ hs seen count. tt;
-    first_fault = λ hs seen count.
-        let is : f ≡ first_of g hs = (found hs seen (omega (arith, some, count))).1 in
-        let there : (first_of g hs).hdu < length hs = first_there g hs (omega (arith, some, count)) in
-        absurd (omega (arith, there, count, past, ap (λ (e : First). e.hdu) is));
+  pub first_as_seen : PrimariesAreBehind → 0 < s.hdus → (X : Type 0) (held : Option (List ℕ)) (stop : Stop) (now : Option (List ℕ)) (f : First) → s.hdus ≤ f.hdu → f ≡ first_at s.packed_primary →
+      IfSome held (λ g. RestoresSeen {X = X} g s before now (Err stop))
+  first_as_seen law some X None stop now f past found = tt
+  first_as_seen law some X (Some g) stop now f past found = record {
+    restored = λ hs list. tt;
+    first_fault = λ hs list.
+        let is : f ≡ first_of g hs = (found ∙ first_is law g s hs list) in
+        let there : (first_of g hs).hdu < length hs = first_there g hs (omega (arith, some, list.count)) in
+        absurd (omega (arith, there, list.count, past, ap (λ (e : First). e.hdu) is));
   }
 
   -- an HDU ends the file if it is the last, and no other does
-  last_by : (g : List ℕ) (n : ℕ) → n ≡ length g → (hs : List Header) (k start at : ℕ) (flag : Bool) (mid : Option (List ℕ)) (w : AreWritten g header_len tile hs k start at flag before mid) → length hs ≡ hdus → (start ≡ n) ↔ (k ≡ hdus)
+  last_by : (g : List ℕ) (n : ℕ) → n ≡ length g → (hs : List Header) (k start at : ℕ) (flag : Bool) (mid : Option (List ℕ)) (w : AreWritten g s.header_len s.tile hs k start at flag before mid) → length hs ≡ s.hdus → (start ≡ n) ↔ (k ≡ s.hdus)
   last_by g n long hs k start at flag mid w count = (
     (λ ends.
-        let none : w.rest ≡ [] = no_more header_len tile hdus before g k w.rest (subst (λ m. WereSeen g header_len tile k m w.rest) (ends ∙ long) w.seen) in
+        let none : w.rest ≡ [] = no_more s before g k w.rest (subst (λ m. WereSeen g s.header_len s.tile k m w.rest) (ends ∙ long) w.seen) in
         omega (arith, w.count, ap length none, count)),
     (λ last.
         let none : w.rest ≡ [] = none_left (length hs) k w.rest w.count (omega (arith, last, count)) in
-        subst (λ l. WereSeen g header_len tile k start l) none w.seen ∙ sym long),
+        subst (λ l. WereSeen g s.header_len s.tile k start l) none w.seen ∙ sym long),
   )
 
   pub last_as_seen : (X : Type 0) (held : Option (List ℕ)) (stop : Stop) (n k start at : ℕ) (flag : Bool) (now : Option (List ℕ)) → HoldsLength held n →
-      IfSome held (IsUnderway header_len tile hdus k start at flag before now) → (((start ≡ n) ↔ (k ≡ hdus)) → ⊥) → IfSome held (λ g. RestoresSeen {X = X} g header_len tile hdus before now (Err stop))
+      IfSome held (IsUnderway s k start at flag before now) → (((start ≡ n) ↔ (k ≡ s.hdus)) → ⊥) → IfSome held (λ g. RestoresSeen {X = X} g s before now (Err stop))
   last_as_seen X None stop n k start at flag now told was never = tt
   last_as_seen X (Some g) stop n k start at flag now told was never = record {
-    restored = λ hs seen count. tt;
-    first_fault = λ hs seen count.
-        let w = was hs seen count in
-        absurd (never (last_by g n (sym told) hs k start at flag now w count));
+    restored = λ hs list. tt;
+    first_fault = λ hs list.
+        let w = was hs list in
+        absurd (never (last_by g n (sym told) hs k start at flag now w list.count));
   }

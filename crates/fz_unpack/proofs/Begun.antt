@@ -10,7 +10,7 @@ use Rattle.fz_block.specs.Header.{next_start_of}
 use Rattle.fz_block.specs.declared.header.Header.{Header}
 use Rattle.fz_head.specs.JobChecks.{is_after_empty}
 use Rattle.fz_files.specs.Restored.{header_in, is_packed_primary, standing}
-use Rattle.fz_again.specs.Again.{WasSeen, WereSeen, is_empty_primary}
+use Rattle.fz_job.specs.Again.{WasSeen, WereSeen, is_empty_primary}
 use Rattle.fz_unpack.specs.Behind.{SaysBehind}
 use Rattle.fz_unpack.specs.First.{behind_primary, first_of, the_primary}
 use Rattle.fz_unpack.specs.declared.first.First.{First}

@@ -13,13 +13,13 @@ use Rattle.fz_files.specs.Restored.{HdusStandFor, standing}
 use Rattle.fz_files.specs.StandsFor.{StandsFor}
 use Rattle.fz_files.specs.Walks.{header_fault}
 use Rattle.fz_files.specs.declared.job.Job.TheVariants.{Unpack}
-use Rattle.fz_survey.specs.Surveys.{surveyed}
-use Rattle.fz_survey.specs.declared.checks.JobChecks.TheVariants.{Unpack as UnpackChecks}
-use Rattle.fz_survey.specs.declared.survey.Survey.{Survey}
+use Rattle.fz_job.specs.Surveys.{surveyed}
+use Rattle.fz_job.specs.declared.checks.JobChecks.TheVariants.{Unpack as UnpackChecks}
+use Rattle.fz_job.specs.declared.survey.Survey.{Survey}
 use Rattle.fz_unpack.specs.Output.{HoldsRestored}
 use Rattle.fz_job.specs.Clauses.{ComesLate, IfOverLimit, IsShutOrWhole, StaysUnmade, TellsFirstFault}
-use Rattle.fz_stages.specs.Stages.{HasLargest}
-use Rattle.fz_again.specs.Known.{IsKnown, IsList, SurveysKnow}
+use Rattle.fz_job.specs.Stages.{HasLargest}
+use Rattle.fz_job.specs.Known.{IsKnown, IsList, SurveysKnow}
 use Rattle.fz_unpack.specs.Written.{AreRestored, AreShutOrWhole, FinishesSeen}
 use Rattle.fz_unpack.proofs.Outcomes.{refused_weaker}
 use Rattle.fz_unpack.proofs.Rows.{rows_sound}

@@ -3,7 +3,7 @@ use Rattle.std.proofs.Common.{◌≡◌, ℕ, ◌+◌, ◌<◌, ◌≤◌, Bool,
 use Rattle.std.specs.Prelude.{Option, Some, None, IfSome, Ok}
 use Rattle.std.specs.Option.{option_map}
 use Rattle.fz_base.specs.Ranges.{LiesIn, LogsIn, LogsJoinLaw}
-use Rattle.fz_base.specs.Source.{HoldsLength, LogsOnly, LogsWithin}
+use Rattle.fz_base.specs.Source.{LogsOnly, LogsWithin}
 use Rattle.fz_block.specs.Checks.{header_touched}
 use Rattle.fz_block.specs.Header.{data_start_of, next_start_of}
 use Rattle.fz_block.specs.declared.header.Header.{Header}
@@ -12,20 +12,18 @@ use Rattle.fz_files.specs.Reads.{header_ranges}
 use Rattle.fz_files.specs.Restored.{is_packed_primary, standing}
 use Rattle.fz_files.specs.Walks.{header_fault}
 use Rattle.fz_files.specs.declared.job.Job.TheVariants.{Unpack}
-use Rattle.fz_fetch.specs.Fetched.{fetched_ranges}
-use Rattle.fz_fetch.specs.Images.{AreTilesOf, IsSaid}
-use Rattle.fz_survey.specs.Reads.{IsWithinOne}
-use Rattle.fz_survey.specs.Surveys.{survey_places}
-use Rattle.fz_survey.specs.declared.checks.JobChecks.TheVariants.{Unpack as UnpackChecks}
-use Rattle.fz_survey.specs.declared.survey.Survey.{Survey}
-use Rattle.fz_again.specs.Again.{IsAgain, ReadsAsSeen, WasSeen, WereSeen}
-use Rattle.fz_again.specs.Hdus.{DataAreOfHdus, HeaderIsOfHdus, KnownAreTouched, ReadsHdus, TilesAreOfImage, UnpacksWithin, ranges_of_hdus}
-use Rattle.fz_again.specs.Headers.{LooksReadHeaders}
-use Rattle.fz_again.specs.Known.{IsKnown, IsList, SurveysKnow}
+use Rattle.fz_job.specs.Images.{fetched_ranges, AreTilesOf, IsSaid}
+use Rattle.fz_job.specs.SurveyReads.{IsWithinOne}
+use Rattle.fz_job.specs.Surveys.{survey_places}
+use Rattle.fz_job.specs.declared.checks.JobChecks.TheVariants.{Unpack as UnpackChecks}
+use Rattle.fz_job.specs.declared.survey.Survey.{Survey}
+use Rattle.fz_job.specs.Again.{IsAgain, ReadsAsSeen, WasSeen, WereSeen}
+use Rattle.fz_job.specs.Hdus.{DataAreOfHdus, HeaderIsOfHdus, KnownAreTouched, ReadsHdus, TilesAreOfImage, UnpacksWithin, ranges_of_hdus}
+use Rattle.fz_job.specs.Headers.{LooksReadHeaders}
+use Rattle.fz_job.specs.Known.{IsKnown, SurveysKnow}
 use Rattle.fz_files.specs.Touched.{all_data_touched, data_touched, image_ranges, touched_by}
-use Rattle.fz_again.specs.declared.again.ReadHdu.{ReadHdu}
+use Rattle.fz_job.specs.declared.again.ReadHdu.{ReadHdu}
 use Rattle.fz_unpack.specs.Behind.{AreWritten, IsUnderway, SaysBehind}
-use Rattle.fz_unpack.proofs.Begun.{none_behind_it}
 use Rattle.fz_unpack.proofs.Finished.{Knows}
 use Rattle.fz_unpack.proofs.Images.{packed_again, stays}
 
@@ -66,7 +64,7 @@ pub copy_read : UnpacksWithin → (held : Option (List ℕ)) (n : ℕ) (buf : Li
 copy_read law None n buf a w none old new reads = tt
 copy_read law (Some g) n buf a w none old new reads = law.rest g a.header old new (stays (Some g) n buf a w g refl none) reads
 
--- ---- the headers of one and then of the next
+-- ---- the header of one
 
 -- the header of one of some HDUs, of which number and place are known
 header_there : HeaderIsOfHdus Unpack → (g : List ℕ) (header_len tile k start : ℕ) (before after : List Header) (h : Header) (old new : Option (List (ℕ × ℕ))) → WasSeen g k start header_len tile h →
@@ -95,34 +93,6 @@ module _ (s : Survey) (old : Option (List (ℕ × ℕ))) where
   no_hdu None = tt
   no_hdu (Some g) = λ hs list. nothing (ranges_of_hdus Unpack g hs) old
 
-  -- the header of the primary
-  pub first_header : HeaderIsOfHdus Unpack → 0 < s.hdus → (held : Option (List ℕ)) (new : Option (List (ℕ × ℕ))) → IfSome held (λ g. LogsWithin 0 (header_touched 0 0 g) old new) → IfSome held (λ g. ReadsHdus Unpack g s old new)
-  first_header law some None new one = tt
-  first_header law some (Some g) new one = by_hdus
-    where
-      by_hdus : (hs : List Header) → IsList g s hs → LogsIn (ranges_of_hdus Unpack g hs) old new
-      by_hdus [] list = absurd (omega (arith, some, list.count))
-      by_hdus (h ∷ hs) list = header_there law g s.header_len s.tile 0 0 [] hs h old new list.seen.0 one
-
-  -- and of the HDU after it
-  pub second_header : HeaderIsOfHdus Unpack → LogsJoinLaw → 0 < s.hdus → (held : Option (List ℕ)) (a : ReadHdu) (start n : ℕ) (mid new : Option (List (ℕ × ℕ))) → start ≡ next_start_of a.header → (start ≡ n → ⊥) → HoldsLength held n →
-      IfSome held (λ g. ReadsAsSeen g 0 0 false s.header_len s.tile (Ok a)) → IfSome held (λ g. LogsWithin start (header_touched 1 start g) mid new) →
-      IfSome held (λ g. ReadsHdus Unpack g s old mid) → IfSome held (λ g. ReadsHdus Unpack g s old new)
-  second_header law join some None a start n mid new is more told again one reads = tt
-  second_header law join some (Some g) a start n mid new is more told again one reads = by_hdus
-    where
-      by_hdus : (hs : List Header) → IsList g s hs → LogsIn (ranges_of_hdus Unpack g hs) old new
-      by_hdus [] list = absurd (omega (arith, some, list.count))
-      by_hdus (h ∷ []) list =
-          let same : a.header ≡ h = (again h list.seen.0 (none_behind_it g s.header_len s.tile h 0 list.seen.0)).1 in
-          let ends : start ≡ n = is ∙ ap next_start_of same ∙ list.seen.1 ∙ told in
-          absurd (more ends)
-      by_hdus (h ∷ j ∷ hs) list =
-          let same : a.header ≡ h = (again h list.seen.0 (none_behind_it g s.header_len s.tile h 0 list.seen.0)).1 in
-          let place : next_start_of h ≡ start = sym (is ∙ ap next_start_of same) in
-          let seen : WasSeen g 1 start s.header_len s.tile j = subst (λ m. WasSeen g 1 m s.header_len s.tile j) place list.seen.1.0 in
-          join (ranges_of_hdus Unpack g (h ∷ j ∷ hs)) old mid new (reads (h ∷ j ∷ hs) list) (header_there law g s.header_len s.tile 1 start (h ∷ []) hs j mid new seen one)
-
   module _ (join : LogsJoinLaw) (k start at : ℕ) (flag : Bool) (before now : Option (List ℕ)) (few : k < s.hdus) (mid new : Option (List (ℕ × ℕ))) where
     -- the header of the next one
     next_header : HeaderIsOfHdus Unpack → (g : List ℕ) (hs : List Header) (w : AreWritten g s.header_len s.tile hs k start at flag before now) (rest : List Header) → w.rest ≡ rest → k < length hs →
@@ -133,11 +103,11 @@ module _ (s : Survey) (old : Option (List (ℕ × ℕ))) where
         let there : IsSplit hs h rest = split g hs w.done rest h (w.parts ∙ ap (λ l. w.done ++ l) is) in
         subst (λ (l : List Header). LogsIn (ranges_of_hdus Unpack g l) mid new) (sym there.parts) (header_there law g s.header_len s.tile k start there.before rest h mid new seen.0 one)
 
-    pub one_header : HeaderIsOfHdus Unpack → (held : Option (List ℕ)) → IfSome held (IsUnderway s.header_len s.tile s.hdus k start at flag before now) → IfSome held (λ g. LogsWithin start (header_touched k start g) mid new) →
+    pub one_header : HeaderIsOfHdus Unpack → (held : Option (List ℕ)) → IfSome held (IsUnderway s k start at flag before now) → IfSome held (λ g. LogsWithin start (header_touched k start g) mid new) →
         IfSome held (λ g. ReadsHdus Unpack g s old mid) → IfSome held (λ g. ReadsHdus Unpack g s old new)
     one_header law None was one reads = tt
     one_header law (Some g) was one reads = λ hs list.
-        let w = was hs list.seen list.count in
+        let w = was hs list in
         join (ranges_of_hdus Unpack g hs) old mid new (reads hs list) (next_header law g hs w w.rest refl (omega (arith, few, list.count)) one)
 
     -- its rows or its data
@@ -152,11 +122,11 @@ module _ (s : Survey) (old : Option (List (ℕ × ℕ))) where
         subst (λ (l : List Header). LogsIn (ranges_of_hdus Unpack g l) mid new) (sym there.parts)
         (law g there.before rest h mid new (subst (λ (j : Header). LogsIn (data_touched Unpack g j) mid new) same one))
 
-    pub one_hdu : DataAreOfHdus Unpack → (held : Option (List ℕ)) (a : ReadHdu) → IfSome held (IsUnderway s.header_len s.tile s.hdus k start at flag before now) → IfSome held (λ g. ReadsAsSeen g k start flag s.header_len s.tile (Ok a)) →
+    pub one_hdu : DataAreOfHdus Unpack → (held : Option (List ℕ)) (a : ReadHdu) → IfSome held (IsUnderway s k start at flag before now) → IfSome held (λ g. ReadsAsSeen g k start flag s.header_len s.tile (Ok a)) →
         IfSome held (λ g. LogsIn (data_touched Unpack g a.header) mid new) → IfSome held (λ g. ReadsHdus Unpack g s old mid) → IfSome held (λ g. ReadsHdus Unpack g s old new)
     one_hdu law None a was again one reads = tt
     one_hdu law (Some g) a was again one reads = λ hs list.
-        let w = was hs list.seen list.count in
+        let w = was hs list in
         join (ranges_of_hdus Unpack g hs) old mid new (reads hs list) (next_data law g hs a w w.rest refl (omega (arith, few, list.count)) again one)
 
 -- ---- the first look, and what follows it

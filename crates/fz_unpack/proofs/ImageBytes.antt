@@ -20,7 +20,7 @@ use Rattle.fz_head.specs.declared.plan.Plan.{Plan}
 use Rattle.fz_files.specs.FirstFault.{IsFirstRowFault, rows_of}
 use Rattle.fz_files.specs.Packed.{pixel_bits, zero_filled}
 use Rattle.fz_files.specs.Restored.{header_in, is_image, plan_in}
-use Rattle.fz_fetch.specs.Images.{IsSaid}
+use Rattle.fz_job.specs.Images.{IsSaid}
 use Rattle.fz_job.specs.Behind.{written_behind}
 use Rattle.fz_unpack.specs.Behind.{HoldsImage, IsHduFault}
 use Rattle.fz_unpack.specs.Images.{HoldsPixels}

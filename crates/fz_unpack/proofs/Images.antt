@@ -15,11 +15,11 @@ use Rattle.fz_head.specs.PackedPlan.{plan_of_cards}
 use Rattle.fz_head.specs.PlainHeader.{plain_header, was_primary}
 use Rattle.fz_head.specs.declared.job_checks.PackedImage.{PackedImage}
 use Rattle.fz_files.specs.Restored.{StandsForAs, header_in, is_image, is_packed_primary}
-use Rattle.fz_fetch.specs.Images.{IsSaid}
-use Rattle.fz_again.specs.Again.{IsAgain, header_at_front, was_primary_image}
+use Rattle.fz_job.specs.Images.{IsSaid}
+use Rattle.fz_job.specs.Again.{IsAgain, header_at_front, was_primary_image}
 use Rattle.fz_job.specs.Behind.{HoldsCopy}
 use Rattle.fz_unpack.specs.Behind.{HoldsHdu, HoldsImage}
-use Rattle.fz_again.specs.declared.again.ReadHdu.{ReadHdu}
+use Rattle.fz_job.specs.declared.again.ReadHdu.{ReadHdu}
 
 -- ---- what the checks answer
 

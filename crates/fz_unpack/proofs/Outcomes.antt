@@ -13,13 +13,13 @@ use Rattle.fz_base.specs.declared.failure.Stop.TheVariants.{Refused, ReadFault, 
 use Rattle.fz_files.specs.Walks.{header_fault}
 use Rattle.fz_files.specs.declared.job.Job.{Job}
 use Rattle.fz_files.specs.declared.job.Job.TheVariants.{Unpack}
-use Rattle.fz_survey.specs.Surveys.{surveyed}
-use Rattle.fz_survey.specs.declared.checks.JobChecks.TheVariants.{Unpack as UnpackChecks}
-use Rattle.fz_survey.specs.declared.survey.Survey.{Survey}
+use Rattle.fz_job.specs.Surveys.{surveyed}
+use Rattle.fz_job.specs.declared.checks.JobChecks.TheVariants.{Unpack as UnpackChecks}
+use Rattle.fz_job.specs.declared.survey.Survey.{Survey}
 use Rattle.fz_job.specs.Clauses.{ComesLate, IfOverLimit, IsShutOrWhole, StaysUnmade, TellsFirstFault}
 use Rattle.fz_job.specs.Keeps.{StoppedRewriting}
-use Rattle.fz_stages.specs.Stages.{TellsHeaderFault}
-use Rattle.fz_again.specs.Known.{SurveysRefuse}
+use Rattle.fz_job.specs.Stages.{TellsHeaderFault}
+use Rattle.fz_job.specs.Known.{SurveysRefuse}
 use Rattle.fz_unpack.specs.Written.{AreShutOrWhole, FinishesSeen}
 
 -- ---- facts that hold whatever the answer

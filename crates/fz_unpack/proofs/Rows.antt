@@ -11,7 +11,7 @@ use Rattle.fz_head.specs.Packable.{is_packed, is_table}
 use Rattle.fz_files.specs.FirstFault.{ImageRow, IsFirstRowFault, IsRowSound, all_rows, image_row, rows_of}
 use Rattle.fz_files.specs.Packed.{tiles_in}
 use Rattle.fz_files.specs.Restored.{HduStandsFor, HdusStandFor, RowsStandFor, StandsForAs, header_in, is_image, is_packed_primary, plan_in, standing}
-use Rattle.fz_again.specs.Again.{WasSeen, WereSeen}
+use Rattle.fz_job.specs.Again.{WasSeen, WereSeen}
 use Rattle.fz_unpack.specs.Behind.{IsHduFault}
 
 -- ---- lists of rows

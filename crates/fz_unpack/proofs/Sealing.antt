@@ -23,12 +23,12 @@ use Rattle.fz_head.specs.PlainHeader.{plain_header, was_primary}
 use Rattle.fz_files.specs.FirstFault.{IsFirstRowFault, all_rows}
 use Rattle.fz_files.specs.Packed.{pixel_bits, zero_filled}
 use Rattle.fz_files.specs.Restored.{HdusStandFor, StandsForAs, header_in, is_image, is_packed_primary, plan_in, standing}
-use Rattle.fz_survey.specs.declared.survey.Survey.{Survey}
-use Rattle.fz_again.specs.Again.{WasSeen, WereSeen}
+use Rattle.fz_job.specs.declared.survey.Survey.{Survey}
+use Rattle.fz_job.specs.Again.{WasSeen, WereSeen}
 use Rattle.fz_job.specs.Behind.{written_behind}
 use Rattle.fz_unpack.specs.Behind.{HoldsHdus, RestoresSeen}
 use Rattle.fz_unpack.specs.Laws.{PrimariesBegin}
-use Rattle.fz_again.specs.Known.{IsList}
+use Rattle.fz_job.specs.Known.{IsList}
 use Rattle.fz_unpack.specs.Written.{AreRestored, AreShutOrWhole, FinishesSeen}
 use Rattle.fz_unpack.proofs.Rows.{primary_plain}
 
@@ -105,11 +105,11 @@ sealed_whole law whole begins (Some c) made mid now empty behind last =
     subst (λ (c : Option (List ℕ)). IfSome c (λ bytes. bytes ≡ whole)) (sym is) refl
 
 module _ (primary : PrimariesBegin) (s : Survey) (old made mid now : Option (List ℕ)) where
-  restored_now : SealedLaw → 0 < s.hdus → (g : List ℕ) → ((hs : List Header) → WereSeen g s.header_len s.tile 0 0 hs → length hs ≡ s.hdus → HoldsHdus g hs made mid) →
+  restored_now : SealedLaw → 0 < s.hdus → (g : List ℕ) → ((hs : List Header) → IsList g s hs → HoldsHdus g hs made mid) →
       made ≡ emptied old → now ≡ with_first_byte mid → (hs : List Header) → IsList g s hs → AreRestored g hs now
   restored_now law some g behind empty last hs is =
       let more : 0 < length hs = omega (arith, some, is.count) in
-      let holds : HoldsHdus g hs made mid = behind hs is.seen is.count in
+      let holds : HoldsHdus g hs made mid = behind hs is in
       record {
         bytes = holds.bytes;
         stand = holds.stand;
@@ -124,11 +124,11 @@ module _ (primary : PrimariesBegin) (s : Survey) (old made mid now : Option (Lis
   never_refused X before after NoMemory why P = tt
 
   pub sealed_finishes : {X Y : Type 0} (y : Y) (result : Result X Stop) (before after : Tally) (held : Option (List ℕ)) → SealedLaw → 0 < s.hdus → made ≡ emptied old →
-      IfSome held (λ g. RestoresSeen {X = Y} g s.header_len s.tile s.hdus made mid (Ok y)) → OnOk result (now ≡ with_first_byte mid) → IfErr result (StoppedByWrite before after) →
+      IfSome held (λ g. RestoresSeen {X = Y} g s made mid (Ok y)) → OnOk result (now ≡ with_first_byte mid) → IfErr result (StoppedByWrite before after) →
       IfSome held (λ g. FinishesSeen g s now result)
   sealed_finishes {X = X} y result before after None law some empty rewrites last why = tt
   sealed_finishes {X = X} y (Ok x) before after (Some g) law some empty rewrites last why = record {
-    restored = λ hs is. restored_now law some g (λ ks seen count. rewrites.restored ks seen count) empty last hs is;
+    restored = λ hs is. restored_now law some g rewrites.restored empty last hs is;
     first_fault = λ hs is. tt;
   }
   sealed_finishes {X = X} y (Err stop) before after (Some g) law some empty rewrites last why = record {
@@ -145,19 +145,19 @@ module _ (primary : PrimariesBegin) (s : Survey) (old made mid now : Option (Lis
   by_write X before after (OverLimit live asked limit) why = absurd why
   by_write X before after NoMemory why = inr refl
 
-  whole_now : {Y : Type 0} (y : Y) (held : Option (List ℕ)) → SealedLaw → 0 < s.hdus → made ≡ emptied old → IfSome held (λ g. RestoresSeen {X = Y} g s.header_len s.tile s.hdus made mid (Ok y)) →
+  whole_now : {Y : Type 0} (y : Y) (held : Option (List ℕ)) → SealedLaw → 0 < s.hdus → made ≡ emptied old → IfSome held (λ g. RestoresSeen {X = Y} g s made mid (Ok y)) →
       now ≡ with_first_byte mid → IfSome held (λ g. (hs : List Header) → IsList g s hs → AreRestored g hs now)
   whole_now y None law some empty rewrites last = tt
-  whole_now y (Some g) law some empty rewrites last = restored_now law some g (λ ks seen count. rewrites.restored ks seen count) empty last
+  whole_now y (Some g) law some empty rewrites last = restored_now law some g rewrites.restored empty last
 
   by_stop : (X : Type 0) {Y : Type 0} (y : Y) (stop : Stop) (before after : Tally) (held : Option (List ℕ)) → SealedLaw → 0 < s.hdus → made ≡ emptied old → IsShut mid →
-      IfSome held (λ g. RestoresSeen {X = Y} g s.header_len s.tile s.hdus made mid (Ok y)) → StoppedByWrite before after stop → StopsShut mid now → AreShutOrWhole {X = X} s held now (Err stop)
+      IfSome held (λ g. RestoresSeen {X = Y} g s made mid (Ok y)) → StoppedByWrite before after stop → StopsShut mid now → AreShutOrWhole {X = X} s held now (Err stop)
   by_stop X y stop before after held law some empty shut rewrites why (inl stays) = inl (stays shut)
   by_stop X y stop before after held law some empty shut rewrites why (inr last) =
       inr (whole_now y held law some empty rewrites last, by_write X before after stop why)
 
   pub sealed_or_shut : {X Y : Type 0} (y : Y) (result : Result X Stop) (before after : Tally) (held : Option (List ℕ)) → SealedLaw → 0 < s.hdus → made ≡ emptied old → IsShut mid →
-      IfSome held (λ g. RestoresSeen {X = Y} g s.header_len s.tile s.hdus made mid (Ok y)) → IfErr result (StoppedByWrite before after) → OnErr result (StopsShut mid now) →
+      IfSome held (λ g. RestoresSeen {X = Y} g s made mid (Ok y)) → IfErr result (StoppedByWrite before after) → OnErr result (StopsShut mid now) →
       AreShutOrWhole s held now result
   sealed_or_shut {X = X} y (Ok x) before after held law some empty shut rewrites why stops = tt
   sealed_or_shut {X = X} y (Err stop) before after held law some empty shut rewrites why stops = by_stop X y stop before after held law some empty shut rewrites why stops

@@ -18,10 +18,10 @@ use Rattle.fz_files.specs.Packed.{tiles_in}
 use Rattle.fz_files.specs.Restored.{RowStandsFor, plan_in}
 use Rattle.fz_pool.specs.declared.slot.Slot.{Slot}
 use Rattle.fz_fetch.specs.Fetched.{AreFetched, HaveTiles, RowsGive}
-use Rattle.fz_fetch.specs.Images.{AreTilesOf, IsSaid}
-use Rattle.fz_fetch.specs.Laws.{JoinsRounds, TilesMakeTheBytes}
-use Rattle.fz_fetch.specs.Scattered.{tiles_written}
-use Rattle.fz_unpack.specs.Images.{AreWrittenTiles, HoldsPixels}
+use Rattle.fz_job.specs.Images.{AreTilesOf, IsSaid}
+use Rattle.fz_pixels.specs.Laws.{JoinsRounds, TilesMakeTheBytes}
+use Rattle.fz_pixels.specs.Scattered.{tiles_written}
+use Rattle.fz_unpack.specs.Images.{AreWrittenTiles, CanRestore, HoldsPixels}
 use Rattle.fz_unpack.proofs.Rows.{fault_before, fault_behind}
 
 -- ---- numbers of tiles
@@ -50,6 +50,13 @@ pub tiles_of_image : (image : PackedImage) (first count : ℕ) (tiles : List ℕ
 tiles_of_image image first count tiles are few =
     subst (AreTilesOf image) (sym are)
     (λ i low. let near : i < count = omega (arith, low, length-range_with_len first count) in let is = number_at first count i near in omega (arith, is, near, few))
+
+-- of a source that is as it was the image can still be restored
+pub restorable_still : (h : Header) (image : PackedImage) (at tiles : ℕ) (held held' : Option (List ℕ)) (attached attached' : Option ℕ) → held' ≡ held → attached' ≡ attached →
+    CanRestore held attached h image at tiles → CanRestore held' attached' h image at tiles
+restorable_still h image at tiles held held' attached attached' same there can =
+    subst (λ (l : Option (List ℕ)). CanRestore l attached' h image at tiles) (sym same)
+    (subst (λ (a : Option ℕ). CanRestore held a h image at tiles) (sym there) can)
 
 -- ---- rows
 

@@ -11,7 +11,7 @@ use Rattle.fz_files.specs.Packed.{tiles_in}
 use Rattle.fz_pool.specs.Laws.{HalvesAlike}
 use Rattle.fz_pool.specs.Window.{AreHalves, IsFilled, Pool, slot_size}
 use Rattle.fz_fetch.specs.Fetched.{RowsGive}
-use Rattle.fz_fetch.specs.Images.{HaveRoom, IsSaid}
+use Rattle.fz_job.specs.Images.{HaveRoom, IsSaid}
 use Rattle.fz_unpack.specs.Images.{AreWrittenTiles}
 use Rattle.fz_unpack.specs.Turns.{AreAlike, HaveRooms, StandFetched}
 use Rattle.fz_unpack.proofs.Rows.{fault_behind}

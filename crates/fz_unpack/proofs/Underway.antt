@@ -17,15 +17,19 @@ use Rattle.fz_block.specs.Header.{next_start_of}
 use Rattle.fz_block.specs.declared.header.Header.{Header}
 use Rattle.fz_files.specs.FirstFault.{IsFirstRowFault, all_rows}
 use Rattle.fz_files.specs.Restored.{HduStandsFor, HdusStandFor, standing}
-use Rattle.fz_again.specs.Again.{ReadsAsSeen, WereSeen, is_empty_primary}
+use Rattle.fz_job.specs.declared.survey.Survey.{Survey}
+use Rattle.fz_job.specs.Again.{ReadsAsSeen, WereSeen, is_empty_primary}
+use Rattle.fz_job.specs.Known.{IsList}
 use Rattle.fz_job.specs.Behind.{written_behind}
 use Rattle.fz_unpack.specs.Behind.{AreWritten, HoldsHdu, HoldsHdus, IsHduFault, IsUnderway, RestoresSeen, SaysBehind}
-use Rattle.fz_unpack.specs.First.{FindsFirst}
-use Rattle.fz_again.specs.declared.again.ReadHdu.{ReadHdu}
+use Rattle.fz_unpack.specs.First.{first_at}
+use Rattle.fz_unpack.specs.Laws.{PrimariesAreBehind}
+use Rattle.fz_job.specs.declared.again.ReadHdu.{ReadHdu}
 use Rattle.fz_unpack.specs.declared.first.First.{First}
 use Rattle.fz_unpack.proofs.Begun.{Begins, begins_with, next_flag}
 use Rattle.fz_unpack.proofs.Hdus.{AreOneWrite, both_behind, none_behind}
 use Rattle.fz_unpack.proofs.Rows.{fault_among}
+use Rattle.fz_unpack.proofs.Standing.{first_is}
 
 -- ---- one more HDU that stands for something
 
@@ -82,12 +86,12 @@ not_refused X Y NoMemory never P = tt
 
 -- ---- the loop over the HDUs
 
-module _ (header_len tile hdus : ℕ) (before : Option (List ℕ)) where
+module _ (s : Survey) (before : Option (List ℕ)) where
   -- nothing is written before the first HDU that stands for something
-  pub none_written : 0 < hdus → (held : Option (List ℕ)) (f : First) → IfSome held (λ g. FindsFirst g header_len tile (Ok f)) → IfSome held (IsUnderway header_len tile hdus f.hdu f.start 0 f.after_empty before before)
-  none_written some None f found = tt
-  none_written some (Some g) f found = λ hs seen count.
-      let b : Begins g header_len tile hs f = begins_with g header_len tile hs f seen (found hs seen (omega (arith, some, count))).1 in
+  pub none_written : PrimariesAreBehind → (held : Option (List ℕ)) (f : First) → f ≡ first_at s.packed_primary → IfSome held (IsUnderway s f.hdu f.start 0 f.after_empty before before)
+  none_written law None f is = tt
+  none_written law (Some g) f is = λ hs list.
+      let b : Begins g s.header_len s.tile hs f = begins_with g s.header_len s.tile hs f list.seen (is ∙ first_is law g s hs list) in
       record {
         done = [];
         rest = standing g hs;
@@ -102,24 +106,24 @@ module _ (header_len tile hdus : ℕ) (before : Option (List ℕ)) where
         first = b.first;
       }
 
-  one_more : AreOneWrite → (g : List ℕ) (hs : List Header) (k start at end : ℕ) (flag flag' : Bool) (mid now : Option (List ℕ)) (a : ReadHdu) (w : AreWritten g header_len tile hs k start at flag before mid) → (rest : List Header) → w.rest ≡ rest → k < length hs →
-      ReadsAsSeen g k start flag header_len tile (Ok a) → HoldsHdu a.header g at end mid now → flag' ≡ is_empty_primary a.header →
-      AreWritten g header_len tile hs (k + 1) (next_start_of a.header) end flag' before now
+  one_more : AreOneWrite → (g : List ℕ) (hs : List Header) (k start at end : ℕ) (flag flag' : Bool) (mid now : Option (List ℕ)) (a : ReadHdu) (w : AreWritten g s.header_len s.tile hs k start at flag before mid) → (rest : List Header) → w.rest ≡ rest → k < length hs →
+      ReadsAsSeen g k start flag s.header_len s.tile (Ok a) → HoldsHdu a.header g at end mid now → flag' ≡ is_empty_primary a.header →
+      AreWritten g s.header_len s.tile hs (k + 1) (next_start_of a.header) end flag' before now
   one_more next g hs k start at end flag flag' mid now a w [] is few again holds says = absurd (omega (arith, w.count, ap length is, few))
   one_more next g hs k start at end flag flag' mid now a w (h ∷ rest) is few again holds says =
-      let seen : WereSeen g header_len tile k start (h ∷ rest) = subst (λ l. WereSeen g header_len tile k start l) is w.seen in
+      let seen : WereSeen g s.header_len s.tile k start (h ∷ rest) = subst (λ l. WereSeen g s.header_len s.tile k start l) is w.seen in
       let behind : SaysBehind g flag (h ∷ rest) = subst (λ l. SaysBehind g flag l) is w.flag in
       let same : a.header ≡ h = (again h seen.0 behind).1 in
       let stands : HduStandsFor g h holds.bytes = subst (λ (j : Header). HduStandsFor g j holds.bytes) same holds.stands in
-      let later : WereSeen g header_len tile (suc k) (next_start_of a.header) rest = subst (λ (j : Header). WereSeen g header_len tile (suc k) (next_start_of j) rest) (sym same) seen.1 in
+      let later : WereSeen g s.header_len s.tile (suc k) (next_start_of a.header) rest = subst (λ (j : Header). WereSeen g s.header_len s.tile (suc k) (next_start_of j) rest) (sym same) seen.1 in
       let long : length (w.bytes ++ holds.bytes) ≡ length w.bytes + length holds.bytes = length-append w.bytes holds.bytes in
       record {
         done = w.done ++ h ∷ [];
         rest = rest;
         parts = w.parts ∙ ap (λ l. w.done ++ l) is ∙ sym (append_assoc w.done (h ∷ []) rest);
         count = omega (arith, w.count, ap length is);
-        seen = subst (λ n. WereSeen g header_len tile n (next_start_of a.header) rest) (sym (add-one k)) later;
-        flag = subst (λ b. SaysBehind g b rest) (sym (says ∙ ap is_empty_primary same)) (next_flag g header_len tile k start h rest (next_start_of a.header) seen.0 w.first later);
+        seen = subst (λ n. WereSeen g s.header_len s.tile n (next_start_of a.header) rest) (sym (add-one k)) later;
+        flag = subst (λ b. SaysBehind g b rest) (sym (says ∙ ap is_empty_primary same)) (next_flag g s.header_len s.tile k start h rest (next_start_of a.header) seen.0 w.first later);
         bytes = w.bytes ++ holds.bytes;
         stand = stand_more g w.done h w.bytes holds.bytes w.stand stands;
         contents = holds.holds.contents ∙ ap (λ n. written_behind n holds.bytes mid) w.place
@@ -128,86 +132,78 @@ module _ (header_len tile hdus : ℕ) (before : Option (List ℕ)) where
         first = λ e. absurd (omega (arith, e));
       }
 
-  pub more_written : AreOneWrite → (held : Option (List ℕ)) (k start at end : ℕ) (flag flag' : Bool) (mid now : Option (List ℕ)) (a : ReadHdu) → k < hdus →
-      IfSome held (IsUnderway header_len tile hdus k start at flag before mid) → IfSome held (λ g. ReadsAsSeen g k start flag header_len tile (Ok a)) →
-      IfSome held (λ g. HoldsHdu a.header g at end mid now) → flag' ≡ is_empty_primary a.header → IfSome held (IsUnderway header_len tile hdus (k + 1) (next_start_of a.header) end flag' before now)
+  pub more_written : AreOneWrite → (held : Option (List ℕ)) (k start at end : ℕ) (flag flag' : Bool) (mid now : Option (List ℕ)) (a : ReadHdu) → k < s.hdus →
+      IfSome held (IsUnderway s k start at flag before mid) → IfSome held (λ g. ReadsAsSeen g k start flag s.header_len s.tile (Ok a)) →
+      IfSome held (λ g. HoldsHdu a.header g at end mid now) → flag' ≡ is_empty_primary a.header → IfSome held (IsUnderway s (k + 1) (next_start_of a.header) end flag' before now)
   more_written next None k start at end flag flag' mid now a few was again holds says = tt
-  more_written next (Some g) k start at end flag flag' mid now a few was again holds says = λ hs seen count.
-      let w = was hs seen count in
-      one_more next g hs k start at end flag flag' mid now a w w.rest refl (omega (arith, few, count)) again holds says
+  more_written next (Some g) k start at end flag flag' mid now a few was again holds says = λ hs list.
+      let w = was hs list in
+      one_more next g hs k start at end flag flag' mid now a w w.rest refl (omega (arith, few, list.count)) again holds says
 
   -- all are written
   whole_file : {X : Type 0} (x : X) (g : List ℕ) (now : Option (List ℕ)) →
-      ((hs : List Header) → WereSeen g header_len tile 0 0 hs → length hs ≡ hdus → HoldsHdus g hs before now) → RestoresSeen g header_len tile hdus before now (Ok x)
-  whole_file x g now all = record { restored = all; first_fault = λ hs seen count. tt }
+      ((hs : List Header) → IsList g s hs → HoldsHdus g hs before now) → RestoresSeen g s before now (Ok x)
+  whole_file x g now all = record { restored = all; first_fault = λ hs list. tt }
 
-  written_all : (g : List ℕ) (hs : List Header) (k start at : ℕ) (flag : Bool) (now : Option (List ℕ)) (w : AreWritten g header_len tile hs k start at flag before now) → w.rest ≡ [] → HoldsHdus g hs before now
+  written_all : (g : List ℕ) (hs : List Header) (k start at : ℕ) (flag : Bool) (now : Option (List ℕ)) (w : AreWritten g s.header_len s.tile hs k start at flag before now) → w.rest ≡ [] → HoldsHdus g hs before now
   written_all g hs k start at flag now w none = record {
     bytes = w.bytes;
     stand = subst (λ (l : List Header). HdusStandFor g l w.bytes) (sym (all_done (standing g hs) w.done w.rest w.parts none)) w.stand;
     contents = w.contents;
   }
 
-  pub no_more : (g : List ℕ) (k : ℕ) (rest : List Header) → WereSeen g header_len tile k (length g) rest → rest ≡ []
+  pub no_more : (g : List ℕ) (k : ℕ) (rest : List Header) → WereSeen g s.header_len s.tile k (length g) rest → rest ≡ []
   no_more g k [] seen = refl
   no_more g k (h ∷ rest) seen = absurd (none_there k g h seen.0.found)
 
-  pub ends_with_last : {X : Type 0} (x : X) (held : Option (List ℕ)) (k start at : ℕ) (flag : Bool) (now : Option (List ℕ)) → hdus ≤ k →
-      IfSome held (IsUnderway header_len tile hdus k start at flag before now) → IfSome held (λ g. RestoresSeen g header_len tile hdus before now (Ok x))
+  pub ends_with_last : {X : Type 0} (x : X) (held : Option (List ℕ)) (k start at : ℕ) (flag : Bool) (now : Option (List ℕ)) → s.hdus ≤ k →
+      IfSome held (IsUnderway s k start at flag before now) → IfSome held (λ g. RestoresSeen g s before now (Ok x))
   ends_with_last x None k start at flag now last was = tt
   ends_with_last x (Some g) k start at flag now last was =
-      let all : (hs : List Header) → WereSeen g header_len tile 0 0 hs → length hs ≡ hdus → HoldsHdus g hs before now = λ hs seen count.
-      let w = was hs seen count in
-      written_all g hs k start at flag now w (none_left (length hs) k w.rest w.count (omega (arith, count, last))) in
+      let all : (hs : List Header) → IsList g s hs → HoldsHdus g hs before now = λ hs list.
+      let w = was hs list in
+      written_all g hs k start at flag now w (none_left (length hs) k w.rest w.count (omega (arith, list.count, last))) in
       whole_file x g now all
 
   -- the next was refused only if it was not seen
-  next_seen : (g : List ℕ) (hs : List Header) (k start at : ℕ) (flag : Bool) (mid : Option (List ℕ)) (stop : Stop) (w : AreWritten g header_len tile hs k start at flag before mid) (rest : List Header) → w.rest ≡ rest → k < length hs →
-      ReadsAsSeen g k start flag header_len tile (Err stop) → IfRefused {X = ReadHdu} (Err stop) (λ x. ⊥)
+  next_seen : (g : List ℕ) (hs : List Header) (k start at : ℕ) (flag : Bool) (mid : Option (List ℕ)) (stop : Stop) (w : AreWritten g s.header_len s.tile hs k start at flag before mid) (rest : List Header) → w.rest ≡ rest → k < length hs →
+      ReadsAsSeen g k start flag s.header_len s.tile (Err stop) → IfRefused {X = ReadHdu} (Err stop) (λ x. ⊥)
   next_seen g hs k start at flag mid stop w [] is few again = absurd (omega (arith, w.count, ap length is, few))
   next_seen g hs k start at flag mid stop w (h ∷ rest) is few again =
-      let seen : WereSeen g header_len tile k start (h ∷ rest) = subst (λ l. WereSeen g header_len tile k start l) is w.seen in
+      let seen : WereSeen g s.header_len s.tile k start (h ∷ rest) = subst (λ l. WereSeen g s.header_len s.tile k start l) is w.seen in
       (again h seen.0 (subst (λ l. SaysBehind g flag l) is w.flag)).0
 
-  pub stops_reading : (X : Type 0) (held : Option (List ℕ)) (stop : Stop) (k start at : ℕ) (flag : Bool) (mid now : Option (List ℕ)) → k < hdus →
-      IfSome held (IsUnderway header_len tile hdus k start at flag before mid) → IfSome held (λ g. ReadsAsSeen g k start flag header_len tile (Err stop)) →
-      IfSome held (λ g. RestoresSeen {X = X} g header_len tile hdus before now (Err stop))
+  pub stops_reading : (X : Type 0) (held : Option (List ℕ)) (stop : Stop) (k start at : ℕ) (flag : Bool) (mid now : Option (List ℕ)) → k < s.hdus →
+      IfSome held (IsUnderway s k start at flag before mid) → IfSome held (λ g. ReadsAsSeen g k start flag s.header_len s.tile (Err stop)) →
+      IfSome held (λ g. RestoresSeen {X = X} g s before now (Err stop))
   stops_reading X None stop k start at flag mid now few was again = tt
   stops_reading X (Some g) stop k start at flag mid now few was again = record {
-    restored = λ hs seen count. tt;
-    first_fault = λ hs seen count.
-        let w = was hs seen count in
-        not_refused ReadHdu X stop (next_seen g hs k start at flag mid stop w w.rest refl (omega (arith, few, count)) again) (λ x. IsFirstRowFault g (all_rows g hs) (Some x));
-  }
-
-  -- the search for the first was refused only if the HDUs were not seen
-  pub stops_searching : 0 < hdus → (X : Type 0) (held : Option (List ℕ)) (stop : Stop) (now : Option (List ℕ)) → IfSome held (λ g. FindsFirst g header_len tile (Err stop)) → IfSome held (λ g. RestoresSeen {X = X} g header_len tile hdus before now (Err stop))
-  stops_searching some X None stop now found = tt
-  stops_searching some X (Some g) stop now found = record {
-    restored = λ hs seen count. tt;
-    first_fault = λ hs seen count. not_refused First X stop (found hs seen (omega (arith, some, count))).0 (λ x. IsFirstRowFault g (all_rows g hs) (Some x));
+    restored = λ hs list. tt;
+    first_fault = λ hs list.
+        let w = was hs list in
+        not_refused ReadHdu X stop (next_seen g hs k start at flag mid stop w w.rest refl (omega (arith, few, list.count)) again) (λ x. IsFirstRowFault g (all_rows g hs) (Some x));
   }
 
   -- the first faulty row is refused
-  faulty_row : (g : List ℕ) (hs : List Header) (k start at : ℕ) (flag : Bool) (mid : Option (List ℕ)) (a : ReadHdu) (x : Fault) → WereSeen g header_len tile 0 0 hs → (w : AreWritten g header_len tile hs k start at flag before mid) (rest : List Header) → w.rest ≡ rest → k < length hs →
-      ReadsAsSeen g k start flag header_len tile (Ok a) → IsHduFault g a.header x → IsFirstRowFault g (all_rows g hs) (Some x)
+  faulty_row : (g : List ℕ) (hs : List Header) (k start at : ℕ) (flag : Bool) (mid : Option (List ℕ)) (a : ReadHdu) (x : Fault) → WereSeen g s.header_len s.tile 0 0 hs → (w : AreWritten g s.header_len s.tile hs k start at flag before mid) (rest : List Header) → w.rest ≡ rest → k < length hs →
+      ReadsAsSeen g k start flag s.header_len s.tile (Ok a) → IsHduFault g a.header x → IsFirstRowFault g (all_rows g hs) (Some x)
   faulty_row g hs k start at flag mid a x were w [] is few again fault = absurd (omega (arith, w.count, ap length is, few))
   faulty_row g hs k start at flag mid a x were w (h ∷ rest) is few again fault =
-      let seen : WereSeen g header_len tile k start (h ∷ rest) = subst (λ l. WereSeen g header_len tile k start l) is w.seen in
+      let seen : WereSeen g s.header_len s.tile k start (h ∷ rest) = subst (λ l. WereSeen g s.header_len s.tile k start l) is w.seen in
       let same : a.header ≡ h = (again h seen.0 (subst (λ l. SaysBehind g flag l) is w.flag)).1 in
-      fault_among g header_len tile hs w.done rest h w.bytes x were (w.parts ∙ ap (λ l. w.done ++ l) is) w.stand (subst (λ (j : Header). IsHduFault g j x) same fault)
+      fault_among g s.header_len s.tile hs w.done rest h w.bytes x were (w.parts ∙ ap (λ l. w.done ++ l) is) w.stand (subst (λ (j : Header). IsHduFault g j x) same fault)
 
-  pub stops_writing : (X : Type 0) (held : Option (List ℕ)) (stop : Stop) (k start at : ℕ) (flag : Bool) (mid now : Option (List ℕ)) (a : ReadHdu) → k < hdus →
-      IfSome held (IsUnderway header_len tile hdus k start at flag before mid) → IfSome held (λ g. ReadsAsSeen g k start flag header_len tile (Ok a)) →
-      IfRefused {X = ℕ} (Err stop) (λ x. IfSome held (λ g. IsHduFault g a.header x)) → IfSome held (λ g. RestoresSeen {X = X} g header_len tile hdus before now (Err stop))
+  pub stops_writing : (X : Type 0) (held : Option (List ℕ)) (stop : Stop) (k start at : ℕ) (flag : Bool) (mid now : Option (List ℕ)) (a : ReadHdu) → k < s.hdus →
+      IfSome held (IsUnderway s k start at flag before mid) → IfSome held (λ g. ReadsAsSeen g k start flag s.header_len s.tile (Ok a)) →
+      IfRefused {X = ℕ} (Err stop) (λ x. IfSome held (λ g. IsHduFault g a.header x)) → IfSome held (λ g. RestoresSeen {X = X} g s before now (Err stop))
   stops_writing X None stop k start at flag mid now a few was again fault = tt
   stops_writing X (Some g) (Refused x) k start at flag mid now a few was again fault = record {
-    restored = λ hs seen count. tt;
-    first_fault = λ hs seen count.
-        let w = was hs seen count in
-        faulty_row g hs k start at flag mid a x seen w w.rest refl (omega (arith, few, count)) again fault;
+    restored = λ hs list. tt;
+    first_fault = λ hs list.
+        let w = was hs list in
+        faulty_row g hs k start at flag mid a x list.seen w w.rest refl (omega (arith, few, list.count)) again fault;
   }
-  stops_writing X (Some g) ReadFault k start at flag mid now a few was again fault = record { restored = λ hs seen count. tt; first_fault = λ hs seen count. tt }
-  stops_writing X (Some g) WriteFault k start at flag mid now a few was again fault = record { restored = λ hs seen count. tt; first_fault = λ hs seen count. tt }
-  stops_writing X (Some g) (OverLimit live asked limit) k start at flag mid now a few was again fault = record { restored = λ hs seen count. tt; first_fault = λ hs seen count. tt }
-  stops_writing X (Some g) NoMemory k start at flag mid now a few was again fault = record { restored = λ hs seen count. tt; first_fault = λ hs seen count. tt }
+  stops_writing X (Some g) ReadFault k start at flag mid now a few was again fault = record { restored = λ hs list. tt; first_fault = λ hs list. tt }
+  stops_writing X (Some g) WriteFault k start at flag mid now a few was again fault = record { restored = λ hs list. tt; first_fault = λ hs list. tt }
+  stops_writing X (Some g) (OverLimit live asked limit) k start at flag mid now a few was again fault = record { restored = λ hs list. tt; first_fault = λ hs list. tt }
+  stops_writing X (Some g) NoMemory k start at flag mid now a few was again fault = record { restored = λ hs list. tt; first_fault = λ hs list. tt }

@@ -9,7 +9,9 @@ use Rattle.fz_head.specs.JobChecks.{is_after_empty}
 use Rattle.fz_files.specs.FirstFault.{IsFirstRowFault, all_rows}
 use Rattle.fz_files.specs.Restored.{HduStandsFor, HdusStandFor, IsImageOf, standing}
 use Rattle.fz_job.specs.Behind.{HoldsBytes, written_behind}
-use Rattle.fz_again.specs.Again.{WereSeen}
+use Rattle.fz_job.specs.declared.survey.Survey.{Survey}
+use Rattle.fz_job.specs.Again.{WereSeen}
+use Rattle.fz_job.specs.Known.{IsList}
 
 -- the image of a packed HDU was written
 pub record HoldsImage (h : Header) (file : List ℕ) (at end : ℕ) (before now : Option (List ℕ)) : Type 0 where
@@ -39,10 +41,9 @@ pub record HoldsHdus (file : List ℕ) (hs : List Header) (before now : Option (
   pub contents : now ≡ written_behind 0 bytes before
 
 -- The restored file of a file whose HDUs were seen was written; or its first faulty row is refused, and no HDU that was seen.
-pub record RestoresSeen {X : Type 0} (file : List ℕ) (header_len tile hdus : ℕ) (before now : Option (List ℕ)) (result : Result X Stop) : Type 0 where
-  pub restored : (hs : List Header) → WereSeen file header_len tile 0 0 hs → length hs ≡ hdus → OnOk result (HoldsHdus file hs before now)
-  pub first_fault : (hs : List Header) → WereSeen file header_len tile 0 0 hs → length hs ≡ hdus
-      → IfRefused result (λ x. IsFirstRowFault file (all_rows file hs) (Some x))
+pub record RestoresSeen {X : Type 0} (file : List ℕ) (s : Survey) (before now : Option (List ℕ)) (result : Result X Stop) : Type 0 where
+  pub restored : (hs : List Header) → IsList file s hs → OnOk result (HoldsHdus file hs before now)
+  pub first_fault : (hs : List Header) → IsList file s hs → IfRefused result (λ x. IsFirstRowFault file (all_rows file hs) (Some x))
 
 -- the flag says of the first of some HDUs whether it is HDU 1 after a primary with NAXIS 0
 abbrev pub SaysBehind : List ℕ → Bool → List Header → Type 0
@@ -65,7 +66,7 @@ pub record AreWritten
   pub place : at ≡ length bytes
   pub first : k ≡ 0 → start ≡ 0
 
--- the same of a file with so many HDUs, if they were seen
-abbrev pub IsUnderway : ℕ → ℕ → ℕ → ℕ → ℕ → ℕ → Bool → Option (List ℕ) → Option (List ℕ) → List ℕ → Type 0
-IsUnderway header_len tile hdus k start at after_empty before now file =
-    (hs : List Header) → WereSeen file header_len tile 0 0 hs → length hs ≡ hdus → AreWritten file header_len tile hs k start at after_empty before now
+-- the same of a file whose HDUs were seen
+abbrev pub IsUnderway : Survey → ℕ → ℕ → ℕ → Bool → Option (List ℕ) → Option (List ℕ) → List ℕ → Type 0
+IsUnderway s k start at after_empty before now file =
+    (hs : List Header) → IsList file s hs → AreWritten file s.header_len s.tile hs k start at after_empty before now

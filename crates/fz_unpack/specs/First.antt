@@ -1,18 +1,10 @@
 -- The first HDU that stands for something: the primary, or the packed primary after it (FITS 4.0, section 10.1).
-use Rattle.std.specs.Prelude.{ℕ, ◌≡◌, ◌⊎◌, ◌^◌, ◌<◌, ◌≤◌, false, List, [], ◌∷◌, length, Result, Ok, Err, ⊤, if◌then◌else◌}
-use Rattle.fz_base.specs.Stop.{IfRefused}
-use Rattle.fz_base.specs.declared.failure.Stop.{Stop}
+use Rattle.std.specs.Prelude.{ℕ, true, false, List, [], ◌∷◌, Option, Some, None, if◌then◌else◌}
 use Rattle.fz_block.specs.Header.{next_start_of}
 use Rattle.fz_block.specs.declared.header.Header.{Header}
 use Rattle.fz_files.specs.Restored.{is_packed_primary}
-use Rattle.fz_again.specs.Again.{WereSeen, is_empty_primary}
+use Rattle.fz_job.specs.Again.{is_empty_primary}
 use Rattle.fz_unpack.specs.declared.first.First.{First}
-
--- it begins within so many bytes
-pub record BeginsWithin (len : ℕ) (f : First) : Type 0 where
-  pub place : (f.start < len) ⊎ ((f.hdu ≡ 0) × (f.start ≡ 0))
-  pub few : f.hdu < 2
-  pub near : f.start ≤ 2 ^ 62
 
 -- the primary, which follows no HDU
 abbrev pub the_primary : First
@@ -28,11 +20,7 @@ first_of file [] = the_primary
 first_of file (h ∷ []) = the_primary
 first_of file (h ∷ k ∷ hs) = if is_packed_primary file k then behind_primary h else the_primary
 
-abbrev pub IsFirst : First → Result First Stop → Type 0
-IsFirst f (Ok found) = found ≡ f
-IsFirst f (Err stop) = ⊤
-
--- it is that of HDUs that were seen, which are not refused
-abbrev pub FindsFirst : List ℕ → ℕ → ℕ → Result First Stop → Type 0
-FindsFirst file header_len tile result =
-    (hs : List Header) → WereSeen file header_len tile 0 0 hs → 0 < length hs → IfRefused result (λ x. ⊥) × IsFirst (first_of file hs) result
+-- that of a file in which a packed primary begins at this byte, or none does
+abbrev pub first_at : Option ℕ → First
+first_at None = the_primary
+first_at (Some start) = record { hdu = 1; start = start; after_empty = true }

@@ -14,7 +14,7 @@ use Rattle.fz_files.specs.Packed.{pixel_bits, tiles_in}
 use Rattle.fz_files.specs.Restored.{pixels_of}
 use Rattle.fz_pool.specs.Window.{HasSlotsFor, Pool, slot_sizes}
 use Rattle.fz_fetch.specs.Fetched.{AreFetched, HaveTiles}
-use Rattle.fz_fetch.specs.Scattered.{tiles_written}
+use Rattle.fz_pixels.specs.Scattered.{tiles_written}
 
 -- the slots of a window are all of these lengths
 abbrev pub AreAlike : ℕ × ℕ → Pool → Type 0

@@ -7,8 +7,8 @@ use Rattle.fz_base.specs.declared.failure.Stop.TheVariants.{WriteFault, NoMemory
 use Rattle.fz_block.specs.declared.header.Header.{Header}
 use Rattle.fz_files.specs.FirstFault.{IsFirstRowFault, all_rows}
 use Rattle.fz_files.specs.Restored.{HdusStandFor, standing}
-use Rattle.fz_survey.specs.declared.survey.Survey.{Survey}
-use Rattle.fz_again.specs.Known.{IsList}
+use Rattle.fz_job.specs.declared.survey.Survey.{Survey}
+use Rattle.fz_job.specs.Known.{IsList}
 
 -- the HDUs stand for some bytes, and shown contents are these
 pub record AreRestored (file : List ℕ) (hs : List Header) (contents : Option (List ℕ)) : Type 0 where

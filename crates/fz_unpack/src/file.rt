@@ -1,28 +1,28 @@
 //! The restored file, HDU by HDU.
 
-ghost use Rattle.std.specs.Prelude.{◌≡◌, ◌+◌, ◌*◌, ◌≤◌, ◌<◌, true, [], IsTrue, Some, length as len, replicate, IfSome, OnOk};
+ghost use Rattle.std.specs.Prelude.{◌≡◌, ◌+◌, ◌*◌, ◌^◌, ◌≤◌, ◌<◌, true, [], IsTrue, Some, length as len, replicate, IfSome, OnOk};
 ghost use Rattle.fz_base.specs.Counts.{nameless};
 ghost use Rattle.fz_base.specs.Names.{NamesOnce};
 ghost use Rattle.fz_base.specs.Stop.{IfRefused};
 ghost use Rattle.fz_base.specs.Told.{StaysTold};
 ghost use Rattle.fz_files.specs.declared.job.Job.TheVariants.{Unpack};
-ghost use Rattle.fz_pool.specs.Window.{slot_sizes};
-ghost use Rattle.fz_again.specs.Hdus.{ReadsHdus};
+ghost use Rattle.fz_pool.specs.Window.{slot_sizes, WindowStays};
+ghost use Rattle.fz_job.specs.Hdus.{ReadsHdus};
+ghost use Rattle.fz_base.specs.Keeps.{SinkStays, SourceStays};
 ghost use Rattle.fz_unpack.specs.Behind.{RestoresSeen};
 ghost use Rattle.fz_job.specs.Clauses.{ComesLate};
-ghost use Rattle.fz_survey.specs.Workspace.{SpaceStays};
-ghost use Rattle.fz_job.specs.Keeps.{Rewrites, SinkStays, SourceStays, WindowStays};
+ghost use Rattle.fz_job.specs.Workspace.{SpaceStays};
+ghost use Rattle.fz_job.specs.Keeps.{Rewrites};
 ghost use Rattle.fz_unpack.specs.Written.{AreShutOrWhole, FinishesSeen};
 
 use crate::first::first_standing;
 use crate::hdu::write_hdu;
 use crate::law::primary_law;
-use crate::seen::{changed, is_last_as_seen, is_primary_as_found};
-use fz_again::{hdus_law, read_again};
+use crate::seen::{is_last_as_seen, is_primary_as_found};
 use fz_base::{Gate, Sink, Source, Stop, output_law, ranges_law, seal};
 use fz_block::next_start;
+use fz_job::{Begun, Survey, Workspace, changed, hdus_law, read_again};
 use fz_pool::{Crew, Window};
-use fz_survey::{Survey, Workspace};
 use std::thread::Threads;
 
 /// What is unpacked, and by whom: who works, the length of the packed file, and the name of the sink.
@@ -41,7 +41,6 @@ pub(crate) fn write_file<R: Threads + Sync, S: Source, K: Sink, G: Gate>(
     window: &mut Window,
     survey: &Survey,
     space: &mut Workspace,
-    block: &mut [u8],
 ) -> Result<(), Stop>
     requires attached { S.attached source.old ≡ Some asked.now.length }
     requires empty { IfSome (K.contents sink.old) (λ c. c ≡ []) }
@@ -51,17 +50,16 @@ pub(crate) fn write_file<R: Threads + Sync, S: Source, K: Sink, G: Gate>(
     requires header { len space.old.header ≡ survey.now.header_len }
     requires translated { len space.old.header + 2880 ≤ len space.old.translated }
     requires copy { 4096 ≤ len space.old.copy }
-    requires block { len block.old ≡ 2880 }
+    requires long { 2880 ≤ survey.now.header_len }
+    requires primary { IfSome survey.now.packed_primary (λ start. (start < asked.now.length) × (start ≤ 2 ^ 62)) }
     ensures written { IfSome (S.held source.old) (λ g. FinishesSeen g survey.now (K.contents sink.new) result) }
     ensures finished { OnOk result (K.finished sink.new ≡ true) }
     ensures shut { AreShutOrWhole survey.now (S.held source.old) (K.contents sink.new) result }
-    ensures block { len block.new ≡ 2880 }
     ensures space { SpaceStays space.old space.new }
     ensures window { WindowStays window.old window.new }
-    ensures source { SourceStays (S.held source.old) (S.held source.new) (S.attached source.old) (S.attached source.new) }
+    ensures source { SourceStays S.held S.attached S.ranges source.old source.new }
     ensures late { IfRefused result (ComesLate Unpack) }
     ensures read { IfSome (S.held source.old) (λ g. ReadsHdus Unpack g survey.now (S.ranges source.old) (S.ranges source.new)) }
-    ensures told_ranges { StaysTold (S.ranges source.old) (S.ranges source.new) }
     ensures told_contents { StaysTold (K.contents sink.old) (K.contents sink.new) }
     ensures cause { Rewrites (S.tally source.old) (S.tally source.new) (nameless (K.tally sink.old)) (nameless (K.tally sink.new)) result }
     ensures names { NamesOnce asked.now.name.now (K.tally sink.old).names (K.tally sink.new).names result }
@@ -69,7 +67,7 @@ pub(crate) fn write_file<R: Threads + Sync, S: Source, K: Sink, G: Gate>(
     output_law();
     primary_law();
     sink.create(asked.name).map_err(Stop::writing)?;
-    write_hdus(asked, source, sink, window, survey, space, block)?;
+    write_hdus(asked, source, sink, window, survey, space)?;
     seal(sink)
 }
 
@@ -83,7 +81,6 @@ fn write_hdus<R: Threads + Sync, S: Source, K: Sink, G: Gate>(
     window: &mut Window,
     survey: &Survey,
     space: &mut Workspace,
-    block: &mut [u8],
 ) -> Result<(), Stop>
     requires attached { S.attached source.old ≡ Some asked.now.length }
     requires created { IsTrue (K.created sink.old) }
@@ -93,25 +90,24 @@ fn write_hdus<R: Threads + Sync, S: Source, K: Sink, G: Gate>(
     requires header { len space.old.header ≡ survey.now.header_len }
     requires translated { len space.old.header + 2880 ≤ len space.old.translated }
     requires copy { 4096 ≤ len space.old.copy }
-    requires block { len block.old ≡ 2880 }
-    ensures written { IfSome (S.held source.old) (λ g. RestoresSeen g survey.now.header_len survey.now.tile survey.now.hdus
-        (K.contents sink.old) (K.contents sink.new) result) }
-    ensures block { len block.new ≡ 2880 }
+    requires long { 2880 ≤ survey.now.header_len }
+    requires primary { IfSome survey.now.packed_primary (λ start. (start < asked.now.length) × (start ≤ 2 ^ 62)) }
+    ensures written { IfSome (S.held source.old) (λ g. RestoresSeen g survey.now (K.contents sink.old) (K.contents sink.new) result) }
     ensures space { SpaceStays space.old space.new }
     ensures window { WindowStays window.old window.new }
-    ensures source { SourceStays (S.held source.old) (S.held source.new) (S.attached source.old) (S.attached source.new) }
-    ensures sink { SinkStays (K.created sink.old) (K.created sink.new) (K.contents sink.old) (K.contents sink.new) }
+    ensures source { SourceStays S.held S.attached S.ranges source.old source.new }
+    ensures sink { SinkStays K.created K.contents sink.old sink.new }
     ensures late { IfRefused result (ComesLate Unpack) }
     ensures read { IfSome (S.held source.old) (λ g. ReadsHdus Unpack g survey.now (S.ranges source.old) (S.ranges source.new)) }
-    ensures told_ranges { StaysTold (S.ranges source.old) (S.ranges source.new) }
-    ensures told_contents { StaysTold (K.contents sink.old) (K.contents sink.new) }
     ensures cause { Rewrites (S.tally source.old) (S.tally source.new) (K.tally sink.old) (K.tally sink.new) result }
 {
     hdus_law();
     output_law();
+    primary_law();
     ranges_law();
     let length = asked.length;
-    let first = first_standing(source, length, survey, space.header.as_mut_slice(), block)?;
+    let first = first_standing(survey);
+    // Never so: a survey with a packed primary has two HDUs.
     if first.hdu >= survey.hdus {
         return Err(changed(first.hdu));
     }
@@ -120,16 +116,12 @@ fn write_hdus<R: Threads + Sync, S: Source, K: Sink, G: Gate>(
     let mut at = 0;
     for hdu in first.hdu..survey.hdus {
         let buf = space.header.as_mut_slice();
-        let again = read_again(
-            source,
-            length,
+        let begun = Begun {
             hdu,
             start,
             after_empty,
-            survey.tile,
-            block,
-            buf,
-        )?;
+        };
+        let again = read_again(source, length, begun, survey.tile, buf)?;
         if !is_primary_as_found(&first, after_empty, &again) {
             return Err(changed(hdu));
         }

@@ -3,24 +3,22 @@
 ghost use Rattle.std.specs.Prelude.{ℕ, ◌≡◌, ◌+◌, ◌^◌, ◌≤◌, ◌<◌, IsTrue, Some, length as len, IfOk, IfSome};
 ghost use Rattle.fz_base.specs.Ranges.{LogsIn};
 ghost use Rattle.fz_base.specs.Stop.{IfRefused};
-ghost use Rattle.fz_base.specs.Told.{StaysTold};
 ghost use Rattle.fz_files.specs.Restored.{pixels_of};
 ghost use Rattle.fz_files.specs.declared.job.Job.TheVariants.{Unpack};
-ghost use Rattle.fz_pool.specs.Window.{HasSlotsFor};
-ghost use Rattle.fz_again.specs.Again.{IsAgain};
+ghost use Rattle.fz_pool.specs.Window.{HasSlotsFor, WindowStays};
+ghost use Rattle.fz_job.specs.Again.{IsAgain};
+ghost use Rattle.fz_base.specs.Keeps.{SinkStays, SourceStays};
 ghost use Rattle.fz_files.specs.Touched.{data_touched};
 ghost use Rattle.fz_unpack.specs.Behind.{EndsNear, HoldsHdu, IsHduFault};
 ghost use Rattle.fz_job.specs.Clauses.{IsOfSomeRow};
-ghost use Rattle.fz_survey.specs.Workspace.{SpaceStays};
-ghost use Rattle.fz_job.specs.Keeps.{Rewrites, SinkStays, SourceStays, WindowStays};
+ghost use Rattle.fz_job.specs.Workspace.{SpaceStays};
+ghost use Rattle.fz_job.specs.Keeps.{Rewrites};
 
 use crate::image::write_image;
-use fz_again::{ReadHdu, hdus_law};
 use fz_base::{Gate, Sink, Source, Stop};
 use fz_block::BLOCK_LEN;
-use fz_job::copy_hdu;
+use fz_job::{ReadHdu, Workspace, copy_hdu, hdus_law};
 use fz_pool::{Crew, Window};
-use fz_survey::Workspace;
 use std::thread::Threads;
 
 /// Writes what an HDU stands for, whose header is in the workspace, from this byte of the sink on, but not byte 0 of
@@ -46,12 +44,10 @@ pub(crate) fn write_hdu<R: Threads + Sync, S: Source, K: Sink, G: Gate>(
     ensures end { IfOk result (EndsNear again.now.header at) }
     ensures space { SpaceStays space.old space.new }
     ensures window { WindowStays window.old window.new }
-    ensures source { SourceStays (S.held source.old) (S.held source.new) (S.attached source.old) (S.attached source.new) }
-    ensures sink { SinkStays (K.created sink.old) (K.created sink.new) (K.contents sink.old) (K.contents sink.new) }
+    ensures source { SourceStays S.held S.attached S.ranges source.old source.new }
+    ensures sink { SinkStays K.created K.contents sink.old sink.new }
     ensures row { IfRefused result IsOfSomeRow }
     ensures read { IfSome (S.held source.old) (λ g. LogsIn (data_touched Unpack g again.now.header) (S.ranges source.old) (S.ranges source.new)) }
-    ensures told_ranges { StaysTold (S.ranges source.old) (S.ranges source.new) }
-    ensures told_contents { StaysTold (K.contents sink.old) (K.contents sink.new) }
     ensures cause { Rewrites (S.tally source.old) (S.tally source.new) (K.tally sink.old) (K.tally sink.new) result }
 {
     hdus_law();

@@ -5,7 +5,6 @@ ghost use Rattle.std.specs.List.{range_with_len};
 ghost use Rattle.fz_base.specs.Sink.{written};
 ghost use Rattle.fz_base.specs.Ranges.{LogsIn};
 ghost use Rattle.fz_base.specs.Stop.{IfRefused, Writes};
-ghost use Rattle.fz_base.specs.Told.{StaysTold};
 ghost use Rattle.fz_block.specs.Facts.{IsHeaderOf};
 ghost use Rattle.fz_block.specs.Hdus.{cards_of, header_bytes};
 ghost use Rattle.fz_grid.specs.Arrays.{product};
@@ -14,36 +13,47 @@ ghost use Rattle.fz_tile.specs.Pixels.{IsBitpix};
 ghost use Rattle.fz_head.specs.Conditions.{IsPackedPlan};
 ghost use Rattle.fz_head.specs.PlainHeader.{plain_header};
 ghost use Rattle.fz_files.specs.FirstFault.{IsFirstRowFault, image_row, rows_of};
-ghost use Rattle.fz_files.specs.Packed.{pixel_bits, tiles_in};
+ghost use Rattle.fz_files.specs.Packed.{pixel_bits};
 ghost use Rattle.fz_files.specs.Restored.{pixels_of};
-ghost use Rattle.fz_pool.specs.Window.{HasSlotsFor};
+ghost use Rattle.fz_pool.specs.Window.{HasSlotsFor, WindowStays};
 ghost use Rattle.fz_fetch.specs.Ahead.{IsAhead};
-ghost use Rattle.fz_fetch.specs.Images.{HaveRoom, IsReadable, IsSaid};
-ghost use Rattle.fz_fetch.specs.Rows.{StandsWithin};
-ghost use Rattle.fz_again.specs.Again.{IsAgain};
+ghost use Rattle.fz_job.specs.Images.{HaveRoom};
+ghost use Rattle.fz_job.specs.Again.{IsAgain};
+ghost use Rattle.fz_base.specs.Keeps.{SinkStays, SourceStays};
 ghost use Rattle.fz_files.specs.Touched.{image_ranges};
 ghost use Rattle.fz_job.specs.Behind.{HoldsBytes, written_behind};
 ghost use Rattle.fz_job.specs.Held.{IsHeld, settled};
 ghost use Rattle.fz_unpack.specs.Behind.{HoldsImage, IsHduFault};
 ghost use Rattle.fz_job.specs.Clauses.{IsOfSomeRow};
-ghost use Rattle.fz_unpack.specs.Images.{AreWrittenTiles, HoldsPixels};
-ghost use Rattle.fz_survey.specs.Workspace.{SpaceStays};
-ghost use Rattle.fz_job.specs.Keeps.{Rewrites, SinkStays, SourceStays, WindowStays};
+ghost use Rattle.fz_unpack.specs.Images.{AreWrittenTiles, CanRestore, HoldsPixels, StaysRestoring};
+ghost use Rattle.fz_job.specs.Workspace.{SpaceStays};
+ghost use Rattle.fz_job.specs.Keeps.{Rewrites};
 
+use crate::restore::Restoring;
 use crate::turns::write_by_turns;
-use fz_again::hdus_law;
 use fz_base::{Gate, Sink, Source, Stop, output_law, ranges_law, write_behind};
 use fz_block::{BLOCK_LEN, Header};
-use fz_fetch::{
-    Ahead, MOST_TILES, ROWS_LEN, fetch_ahead, number_tiles, scatter_held, scattered_law,
-};
+use fz_fetch::{Ahead, MOST_TILES, ROWS_LEN, fetch_ahead, number_tiles};
 use fz_grid::{Grid, shape_law, tiles_law, volume};
 use fz_head::{PackedImage, Plan, to_plain};
-use fz_job::{Held, left_for_last, write_fill, write_pieces};
+use fz_job::{Held, Workspace, hdus_law, left_for_last, write_fill, write_pieces};
+use fz_pixels::{scatter_held, scattered_law};
 use fz_pool::{BY_TURNS, Crew, Window};
-use fz_survey::Workspace;
 use fz_tile::{plain_law, plain_len};
 use std::thread::Threads;
+
+/// A round of tiles: which, what was read before it is wanted, and what is held back.
+#[derive(Clone, Copy)]
+pub(crate) struct Round {
+    /// The first tile.
+    pub(crate) first: u32,
+    /// So many tiles.
+    pub(crate) count: u32,
+    /// What the buffer of rows has.
+    pub(crate) ahead: Ahead,
+    /// What the buffer of pixels has.
+    pub(crate) back: Held,
+}
 
 /// Writes the image of a packed HDU, whose header is in the workspace, from this byte of the sink on, but not byte 0 of
 /// the file, and answers the byte after it.
@@ -70,12 +80,10 @@ pub(crate) fn write_image<R: Threads + Sync, S: Source, K: Sink, G: Gate>(
     ensures end { IfOk result (λ end. (at < end) × (end ≤ at + 2 ^ 45)) }
     ensures space { SpaceStays space.old space.new }
     ensures window { WindowStays window.old window.new }
-    ensures source { SourceStays (S.held source.old) (S.held source.new) (S.attached source.old) (S.attached source.new) }
-    ensures sink { SinkStays (K.created sink.old) (K.created sink.new) (K.contents sink.old) (K.contents sink.new) }
+    ensures source { SourceStays S.held S.attached S.ranges source.old source.new }
+    ensures sink { SinkStays K.created K.contents sink.old sink.new }
     ensures row { IfRefused result IsOfSomeRow }
     ensures read { IfSome (S.held source.old) (λ g. LogsIn (image_ranges g header.now) (S.ranges source.old) (S.ranges source.new)) }
-    ensures told_ranges { StaysTold (S.ranges source.old) (S.ranges source.new) }
-    ensures told_contents { StaysTold (K.contents sink.old) (K.contents sink.new) }
     ensures cause { Rewrites (S.tally source.old) (S.tally source.new) (K.tally sink.old) (K.tally sink.new) result }
 {
     output_law();
@@ -84,7 +92,15 @@ pub(crate) fn write_image<R: Threads + Sync, S: Source, K: Sink, G: Gate>(
     let made = space.translated.as_mut_slice();
     let data_at = write_plain_header(sink, at, buf, header, &image.plan, made)?;
     let copy = space.copy.as_mut_slice();
-    write_tiles(crew, source, sink, window, header, image, data_at, copy)?;
+    let tiles = Grid::new(image.plan.shape, image.plan.tile).tile_count();
+    let asked = Restoring {
+        crew,
+        header: *header,
+        image: *image,
+        data_at,
+        tiles,
+    };
+    write_tiles(&asked, source, sink, window, copy)?;
     write_fill(sink, data_at, data_len(image), copy)
 }
 
@@ -107,8 +123,7 @@ fn write_plain_header<K: Sink>(
         (K.contents sink.new)) }
     ensures end { IfOk result (λ end. (at < end) × (end ≤ at + 2 ^ 20)) }
     ensures len { len made.new ≡ len made.old }
-    ensures sink { SinkStays (K.created sink.old) (K.created sink.new) (K.contents sink.old) (K.contents sink.new) }
-    ensures told { StaysTold (K.contents sink.old) (K.contents sink.new) }
+    ensures sink { SinkStays K.created K.contents sink.old sink.new }
     ensures cause { Writes (K.tally sink.old) (K.tally sink.new) result }
 {
     let len = to_plain(buf, header, plan, made);
@@ -122,8 +137,7 @@ fn write_header<K: Sink>(sink: &mut K, at: u64, header: &[u8]) -> Result<(), Sto
     requires near { at + 1 < 2 ^ 64 }
     requires some { 0 < len header.now }
     ensures written { OnOk result (K.contents sink.new ≡ written_behind at header.now (K.contents sink.old)) }
-    ensures sink { SinkStays (K.created sink.old) (K.created sink.new) (K.contents sink.old) (K.contents sink.new) }
-    ensures told { StaysTold (K.contents sink.old) (K.contents sink.new) }
+    ensures sink { SinkStays K.created K.contents sink.old sink.new }
     ensures cause { Writes (K.tally sink.old) (K.tally sink.new) result }
 {
     let skipped = left_for_last(at);
@@ -142,195 +156,161 @@ fn data_len(image: &PackedImage) -> u64
 
 // Writes the pixels of all tiles, round by round or by turns.
 fn write_tiles<R: Threads + Sync, S: Source, K: Sink, G: Gate>(
-    crew: &Crew<'_, R, G>,
+    asked: &Restoring<'_, '_, R, G>,
     source: &mut S,
     sink: &mut K,
     window: &mut Window,
-    header: &Header,
-    image: &PackedImage,
-    data_at: u64,
     rows: &mut [u8],
 ) -> Result<(), Stop>
-    requires image { IsReadable image.now }
-    requires within { StandsWithin (S.attached source.old) image.now.table }
-    requires said { IfSome (S.held source.old) (λ g. IsSaid g header.now image.now) }
-    requires data { (0 < data_at) × (data_at + 2 ^ 43 ≤ 2 ^ 63) }
+    requires image { CanRestore (S.held source.old) (S.attached source.old) asked.now.header asked.now.image asked.now.data_at asked.now.tiles }
     requires created { IsTrue (K.created sink.old) }
-    requires window { HaveRoom image.now window.old }
+    requires window { HaveRoom asked.now.image window.old }
     requires rows { 4096 ≤ len rows.old }
-    ensures pixels { OnOk result (IfSome (S.held source.old) (λ g. HoldsPixels g header.now data_at (K.contents sink.old) (K.contents sink.new))) }
-    ensures fault { IfRefused result (λ x. IfSome (S.held source.old) (λ g. IsFirstRowFault g (rows_of g header.now) (Some x))) }
+    ensures pixels { OnOk result (IfSome (S.held source.old)
+        (λ g. HoldsPixels g asked.now.header asked.now.data_at (K.contents sink.old) (K.contents sink.new))) }
+    ensures fault { IfRefused result (λ x. IfSome (S.held source.old) (λ g. IsFirstRowFault g (rows_of g asked.now.header) (Some x))) }
     ensures rows { len rows.new ≡ len rows.old }
     ensures window { WindowStays window.old window.new }
-    ensures source { SourceStays (S.held source.old) (S.held source.new) (S.attached source.old) (S.attached source.new) }
-    ensures sink { SinkStays (K.created sink.old) (K.created sink.new) (K.contents sink.old) (K.contents sink.new) }
-    ensures row { IfRefused result IsOfSomeRow }
-    ensures read { IfSome (S.held source.old) (λ g. LogsIn (image_ranges g header.now) (S.ranges source.old) (S.ranges source.new)) }
-    ensures told_ranges { StaysTold (S.ranges source.old) (S.ranges source.new) }
-    ensures told_contents { StaysTold (K.contents sink.old) (K.contents sink.new) }
-    ensures cause { Rewrites (S.tally source.old) (S.tally source.new) (K.tally sink.old) (K.tally sink.new) result }
+    ensures stays { StaysRestoring S.held S.attached S.ranges S.tally K.created K.contents K.tally
+        asked.now.header source.old source.new sink.old sink.new result }
 {
     scattered_law();
     shape_law();
     tiles_law();
-    let tiles = Grid::new(image.plan.shape, image.plan.tile).tile_count();
+    let tiles = asked.tiles;
     if window.workers() >= BY_TURNS && tiles > 2 * window.workers() {
-        return write_by_turns(
-            crew, source, sink, window, header, image, data_at, tiles, rows,
-        );
+        return write_by_turns(asked, source, sink, window, rows);
     }
-    write_gathered(
-        crew, source, sink, window, header, image, data_at, tiles, rows,
-    )
+    write_gathered(asked, source, sink, window, rows)
 }
 
 // The same round by round: what is short is read and written together with its neighbours. The copy buffer has rows, then
 // records, and then pixels that are held back.
 fn write_gathered<R: Threads + Sync, S: Source, K: Sink, G: Gate>(
-    crew: &Crew<'_, R, G>,
+    asked: &Restoring<'_, '_, R, G>,
     source: &mut S,
     sink: &mut K,
     window: &mut Window,
-    header: &Header,
-    image: &PackedImage,
-    data_at: u64,
-    tiles: u32,
     copy: &mut [u8],
 ) -> Result<(), Stop>
-    requires image { IsReadable image.now }
-    requires within { StandsWithin (S.attached source.old) image.now.table }
-    requires said { IfSome (S.held source.old) (λ g. IsSaid g header.now image.now) }
-    requires tiles { tiles ≡ tiles_in image.now.plan }
-    requires data { (0 < data_at) × (data_at + 2 ^ 43 ≤ 2 ^ 63) }
+    requires image { CanRestore (S.held source.old) (S.attached source.old) asked.now.header asked.now.image asked.now.data_at asked.now.tiles }
     requires created { IsTrue (K.created sink.old) }
-    requires window { HaveRoom image.now window.old }
+    requires window { HaveRoom asked.now.image window.old }
     requires copy { 4096 ≤ len copy.old }
     ensures pixels { OnOk result (IfSome (S.held source.old)
-        (λ g. AreWrittenTiles g header.now image.now.plan data_at (range_with_len 0 tiles) (K.contents sink.old)
+        (λ g. AreWrittenTiles g asked.now.header asked.now.image.plan asked.now.data_at (range_with_len 0 asked.now.tiles) (K.contents sink.old)
         (K.contents sink.new))) }
-    ensures fault { IfRefused result (λ x. IfSome (S.held source.old) (λ g. IsFirstRowFault g (rows_of g header.now) (Some x))) }
+    ensures fault { IfRefused result (λ x. IfSome (S.held source.old) (λ g. IsFirstRowFault g (rows_of g asked.now.header) (Some x))) }
     ensures copy { len copy.new ≡ len copy.old }
     ensures window { WindowStays window.old window.new }
-    ensures source { SourceStays (S.held source.old) (S.held source.new) (S.attached source.old) (S.attached source.new) }
-    ensures sink { SinkStays (K.created sink.old) (K.created sink.new) (K.contents sink.old) (K.contents sink.new) }
-    ensures row { IfRefused result IsOfSomeRow }
-    ensures read { IfSome (S.held source.old) (λ g. LogsIn (image_ranges g header.now) (S.ranges source.old) (S.ranges source.new)) }
-    ensures told_ranges { StaysTold (S.ranges source.old) (S.ranges source.new) }
-    ensures told_contents { StaysTold (K.contents sink.old) (K.contents sink.new) }
-    ensures cause { Rewrites (S.tally source.old) (S.tally source.new) (K.tally sink.old) (K.tally sink.new) result }
+    ensures stays { StaysRestoring S.held S.attached S.ranges S.tally K.created K.contents K.tally
+        asked.now.header source.old source.new sink.old sink.new result }
 {
     let half = ROWS_LEN + (copy.len() - ROWS_LEN) / 2;
     let (buf, held) = copy.split_at_mut(half);
     let mut back = Held::none();
-    write_rounds(
-        crew, source, sink, window, header, image, data_at, tiles, buf, held, &mut back,
-    )?;
+    write_rounds(asked, source, sink, window, buf, held, &mut back)?;
     write_pieces(sink, held, &back)
 }
 
 // The same, but the last pixels may be held back.
 fn write_rounds<R: Threads + Sync, S: Source, K: Sink, G: Gate>(
-    crew: &Crew<'_, R, G>,
+    asked: &Restoring<'_, '_, R, G>,
     source: &mut S,
     sink: &mut K,
     window: &mut Window,
-    header: &Header,
-    image: &PackedImage,
-    data_at: u64,
-    tiles: u32,
     buf: &mut [u8],
     held: &mut [u8],
     back: &mut Held,
 ) -> Result<(), Stop>
-    requires image { IsReadable image.now }
-    requires within { StandsWithin (S.attached source.old) image.now.table }
-    requires said { IfSome (S.held source.old) (λ g. IsSaid g header.now image.now) }
-    requires tiles { tiles ≡ tiles_in image.now.plan }
-    requires data { (0 < data_at) × (data_at + 2 ^ 43 ≤ 2 ^ 63) }
+    requires image { CanRestore (S.held source.old) (S.attached source.old) asked.now.header asked.now.image asked.now.data_at asked.now.tiles }
     requires created { IsTrue (K.created sink.old) }
-    requires window { HaveRoom image.now window.old }
+    requires window { HaveRoom asked.now.image window.old }
     requires buffer { 4096 ≤ len buf.old }
     requires held { IsHeld back.old held.old }
     ensures pixels { OnOk result (IfSome (S.held source.old)
-        (λ g. AreWrittenTiles g header.now image.now.plan data_at (range_with_len 0 tiles) (settled back.old held.old (K.contents sink.old))
-        (settled back.new held.new (K.contents sink.new)))) }
+        (λ g. AreWrittenTiles g asked.now.header asked.now.image.plan asked.now.data_at (range_with_len 0 asked.now.tiles)
+        (settled back.old held.old (K.contents sink.old)) (settled back.new held.new (K.contents sink.new)))) }
     ensures kept { OnOk result (IsHeld back.new held.new) }
-    ensures fault { IfRefused result (λ x. IfSome (S.held source.old) (λ g. IsFirstRowFault g (rows_of g header.now) (Some x))) }
+    ensures fault { IfRefused result (λ x. IfSome (S.held source.old) (λ g. IsFirstRowFault g (rows_of g asked.now.header) (Some x))) }
     ensures buffer { len buf.new ≡ len buf.old }
     ensures room { len held.new ≡ len held.old }
     ensures window { WindowStays window.old window.new }
-    ensures source { SourceStays (S.held source.old) (S.held source.new) (S.attached source.old) (S.attached source.new) }
-    ensures sink { SinkStays (K.created sink.old) (K.created sink.new) (K.contents sink.old) (K.contents sink.new) }
-    ensures row { IfRefused result IsOfSomeRow }
-    ensures read { IfSome (S.held source.old) (λ g. LogsIn (image_ranges g header.now) (S.ranges source.old) (S.ranges source.new)) }
-    ensures told_ranges { StaysTold (S.ranges source.old) (S.ranges source.new) }
-    ensures told_contents { StaysTold (K.contents sink.old) (K.contents sink.new) }
-    ensures cause { Rewrites (S.tally source.old) (S.tally source.new) (K.tally sink.old) (K.tally sink.new) result }
+    ensures stays { StaysRestoring S.held S.attached S.ranges S.tally K.created K.contents K.tally
+        asked.now.header source.old source.new sink.old sink.new result }
 {
     ranges_law();
     scattered_law();
     let mut ahead = Ahead::none();
     let mut first = 0;
-    while first < tiles {
-        let count = (2 * window.workers()).min(tiles - first);
-        write_round(
-            crew, source, sink, window, header, image, data_at, first, count, buf, &mut ahead,
-            held, back,
-        )?;
+    while first < asked.tiles {
+        let count = (2 * window.workers()).min(asked.tiles - first);
+        let mut round = Round {
+            first,
+            count,
+            ahead,
+            back: *back,
+        };
+        write_round(asked, source, sink, window, buf, held, &mut round)?;
+        ahead = round.ahead;
+        *back = round.back;
         first += count;
     }
     Ok(())
 }
 
-// Writes the pixels of so many tiles, from the first on, now or later.
+// Writes the pixels of the tiles of a round, now or later.
 fn write_round<R: Threads + Sync, S: Source, K: Sink, G: Gate>(
-    crew: &Crew<'_, R, G>,
+    asked: &Restoring<'_, '_, R, G>,
     source: &mut S,
     sink: &mut K,
     window: &mut Window,
-    header: &Header,
-    image: &PackedImage,
-    data_at: u64,
-    first: u32,
-    count: u32,
     buf: &mut [u8],
-    ahead: &mut Ahead,
     held: &mut [u8],
-    back: &mut Held,
+    round: &mut Round,
 ) -> Result<(), Stop>
-    requires image { IsReadable image.now }
-    requires within { StandsWithin (S.attached source.old) image.now.table }
-    requires said { IfSome (S.held source.old) (λ g. IsSaid g header.now image.now) }
-    requires tiles { first + count ≤ tiles_in image.now.plan }
-    requires near { count ≤ 2 * window.old.workers }
-    requires few { count ≤ 128 }
-    requires data { (0 < data_at) × (data_at + 2 ^ 43 ≤ 2 ^ 63) }
+    requires image { CanRestore (S.held source.old) (S.attached source.old) asked.now.header asked.now.image asked.now.data_at asked.now.tiles }
+    requires tiles { round.old.first + round.old.count ≤ asked.now.tiles }
+    requires near { round.old.count ≤ 2 * window.old.workers }
+    requires few { round.old.count ≤ 128 }
     requires created { IsTrue (K.created sink.old) }
-    requires window { HaveRoom image.now window.old }
-    requires ahead { IsAhead (S.held source.old) image.now.table buf.old ahead.old }
-    requires held { IsHeld back.old held.old }
+    requires window { HaveRoom asked.now.image window.old }
+    requires ahead { IsAhead (S.held source.old) asked.now.image.table buf.old round.old.ahead }
+    requires held { IsHeld round.old.back held.old }
     ensures pixels { OnOk result (IfSome (S.held source.old)
-        (λ g. AreWrittenTiles g header.now image.now.plan data_at (range_with_len first count)
-        (settled back.old held.old (K.contents sink.old)) (settled back.new held.new (K.contents sink.new)))) }
-    ensures kept { OnOk result (IsHeld back.new held.new) }
+        (λ g. AreWrittenTiles g asked.now.header asked.now.image.plan asked.now.data_at (range_with_len round.old.first round.old.count)
+        (settled round.old.back held.old (K.contents sink.old)) (settled round.new.back held.new (K.contents sink.new)))) }
+    ensures kept { OnOk result (IsHeld round.new.back held.new) }
     ensures fault { IfRefused result (λ x. IfSome (S.held source.old)
-        (λ g. IsFirstRowFault g (map (image_row header.now) (range_with_len first count)) (Some x))) }
-    ensures ahead { IsAhead (S.held source.new) image.now.table buf.new ahead.new }
+        (λ g. IsFirstRowFault g (map (image_row asked.now.header) (range_with_len round.old.first round.old.count)) (Some x))) }
+    ensures ahead { IsAhead (S.held source.new) asked.now.image.table buf.new round.new.ahead }
     ensures buffer { len buf.new ≡ len buf.old }
     ensures room { len held.new ≡ len held.old }
     ensures window { WindowStays window.old window.new }
-    ensures source { SourceStays (S.held source.old) (S.held source.new) (S.attached source.old) (S.attached source.new) }
-    ensures sink { SinkStays (K.created sink.old) (K.created sink.new) (K.contents sink.old) (K.contents sink.new) }
-    ensures row { IfRefused result IsOfSomeRow }
-    ensures read { IfSome (S.held source.old) (λ g. LogsIn (image_ranges g header.now) (S.ranges source.old) (S.ranges source.new)) }
-    ensures told_ranges { StaysTold (S.ranges source.old) (S.ranges source.new) }
-    ensures told_contents { StaysTold (K.contents sink.old) (K.contents sink.new) }
-    ensures cause { Rewrites (S.tally source.old) (S.tally source.new) (K.tally sink.old) (K.tally sink.new) result }
+    ensures stays { StaysRestoring S.held S.attached S.ranges S.tally K.created K.contents K.tally
+        asked.now.header source.old source.new sink.old sink.new result }
 {
     hdus_law();
     let mut numbers = [0; MOST_TILES];
-    let tiles = &mut numbers[..count as usize];
-    number_tiles(first, tiles);
-    fetch_ahead(crew, source, header, image, tiles, buf, ahead, window)?;
-    scatter_held(sink, data_at, &image.plan, tiles, window, held, back)
+    let tiles = &mut numbers[..round.count as usize];
+    number_tiles(round.first, tiles);
+    fetch_ahead(
+        asked.crew,
+        source,
+        &asked.header,
+        &asked.image,
+        tiles,
+        buf,
+        &mut round.ahead,
+        window,
+    )?;
+    scatter_held(
+        sink,
+        asked.data_at,
+        &asked.image.plan,
+        tiles,
+        window,
+        held,
+        &mut round.back,
+    )
 }

@@ -1,15 +1,10 @@
 //! What the second reading of the headers has to find as the first look did: else another program changed the file.
 
 ghost use Rattle.std.specs.Prelude.{◌≡◌, ◌+◌, ◌<◌, ◌≤◌, ◌^◌, ◌==◌, ◌↔◌, true, IsTrue};
-ghost use Rattle.fz_again.specs.Again.{was_primary_image};
-ghost use Rattle.fz_base.specs.Refusal.{refusal};
-ghost use Rattle.fz_base.specs.declared.failure.Stop.TheVariants.{Refused};
-ghost use Rattle.fz_base.specs.declared.fault.Place.TheVariants.{Card as AtCard};
-ghost use Rattle.fz_base.specs.declared.kind.Kind.TheVariants.{BadCard};
+ghost use Rattle.fz_job.specs.Again.{was_primary_image};
 
 use crate::first::First;
-use fz_again::ReadHdu;
-use fz_base::{Fault, Kind, Place, Stop};
+use fz_job::ReadHdu;
 
 /// Whether the HDU after an empty primary is a packed primary exactly if the first HDU that stands for something is HDU 1
 /// (FITS 4.0, section 10.1.2).
@@ -36,15 +31,4 @@ pub(crate) fn is_last_as_seen(hdu: u32, hdus: u32, next: u64, length: u64) -> bo
     } else {
         hdu + 1 != hdus
     }
-}
-
-/// The source gave other bytes than before.
-pub(crate) fn changed(hdu: u32) -> Stop
-    ensures { result ≡ Refused (refusal hdu (AtCard 0) BadCard) }
-{
-    Stop::Refused(Fault {
-        hdu,
-        at: Place::Card(0),
-        kind: Kind::BadCard,
-    })
 }

@@ -1,5 +1,5 @@
 //! The job: look at all headers, take all buffers, and then write.
-ghost use Rattle.std.specs.Prelude.{◌≡◌, ◌+◌, ◌<◌, ◌≤◌, max, true, Some, [], length as len, sum, OnOk, IfSome, IsSome};
+ghost use Rattle.std.specs.Prelude.{◌≡◌, ◌+◌, ◌^◌, ◌<◌, ◌≤◌, max, true, Some, [], length as len, sum, OnOk, IfSome, IsSome};
 ghost use Rattle.fz_base.specs.Counts.{nameless};
 ghost use Rattle.fz_base.specs.Names.{NamesOnce};
 ghost use Rattle.fz_base.specs.Ranges.{LogsIn};
@@ -7,25 +7,25 @@ ghost use Rattle.fz_base.specs.Stop.{IfRefused, TellsLimit};
 ghost use Rattle.fz_base.specs.Told.{StaysTold};
 ghost use Rattle.fz_base.specs.Takings.{TellsFirstPast, first_past, highest, piled};
 ghost use Rattle.fz_pool.specs.Window.{IsEmpty};
-ghost use Rattle.fz_survey.specs.Workspace.{wanted_buffers};
+ghost use Rattle.fz_job.specs.Workspace.{wanted_buffers};
 ghost use Rattle.fz_files.specs.Buffers.{job_bound, job_takings};
 ghost use Rattle.fz_files.specs.declared.job.Job.TheVariants.{Unpack};
-ghost use Rattle.fz_again.specs.Hdus.{ReadsHdus};
+ghost use Rattle.fz_job.specs.Hdus.{ReadsHdus};
+ghost use Rattle.fz_base.specs.Keeps.{SourceStays};
 ghost use Rattle.fz_files.specs.Touched.{touched_by};
 ghost use Rattle.fz_unpack.specs.Output.{HoldsRestored};
 ghost use Rattle.fz_job.specs.Clauses.{Answers, ComesLate, HasJobCause, IfOverLimit, IsShutOrWhole, IsUnmade, KeepsBuffers};
 ghost use Rattle.fz_job.specs.Clauses.{KeepsSource, StaysUnmade, TellsFirstFault, greatest_bound};
-ghost use Rattle.fz_job.specs.Keeps.{SourceStays};
-ghost use Rattle.fz_stages.specs.Stages.{Works, later_takings, wants_for};
+ghost use Rattle.fz_job.specs.Stages.{Works, later_takings, wants_for};
 ghost use Rattle.fz_unpack.specs.Written.{AreShutOrWhole, FinishesSeen};
 
 use crate::file::{Unpacking, write_file};
-use fz_again::{hdus_law, headers_law, known_law};
 use fz_base::{Gate, Meter, Sink, Source, Stop, ranges_law};
 use fz_block::BLOCK_LEN;
+use fz_job::{
+    Survey, Wants, Workspace, hdus_law, headers_law, known_law, stages_law, survey_to_unpack,
+};
 use fz_pool::{Crew, Window, sizes_law};
-use fz_stages::stages_law;
-use fz_survey::{Survey, Wants, Workspace, survey_to_unpack};
 use std::thread::Threads;
 
 /// Unpacks the file that is attached to the source into the sink, which it makes by this name: the sink then holds the
@@ -33,8 +33,8 @@ use std::thread::Threads;
 ///
 /// All checks of headers come first, then all buffers are taken, and only then the sink is made; its byte 0 is
 /// written last. Refused: as `survey_to_unpack` refuses the file; the lowest faulty row of the first packed image that
-/// has one, as `fetch_tiles` refuses it. Of a source that gives other bytes at the second reading also an HDU that is
-/// no longer the one that was looked at.
+/// has one, as `fetch_tiles` refuses it; and, if the source gives other bytes at the second reading, an HDU that is no
+/// longer the one that was looked at. HDU 0 is not read again if HDU 1 is a packed primary.
 pub fn unpack<R: Threads + Sync, S: Source, K: Sink, G: Gate>(
     rt: &R,
     source: &mut S,
@@ -79,11 +79,8 @@ pub fn unpack<R: Threads + Sync, S: Source, K: Sink, G: Gate>(
 {
     // How the promises of the job follow from its stages.
     stages_law::<()>();
-    let crew = Crew {
-        rt,
-        gate,
-        workers: window.workers(),
-    };
+    let workers = window.workers();
+    let crew = Crew { rt, gate, workers };
     let asked = Unpacking { crew, length, name };
     let mut block = meter.bytes(BLOCK_LEN as u64)?;
     let answer = with_block(&asked, source, sink, meter, window, block.as_mut_slice());
@@ -120,9 +117,8 @@ fn with_block<R: Threads + Sync, S: Source, K: Sink, G: Gate>(
     ensures live { meter.new.live ≡ meter.old.live }
     ensures limit { meter.new.limit ≡ meter.old.limit }
     ensures emptied { window.new ≡ record { slots = []; workers = window.old.workers } }
-    ensures source { SourceStays (S.held source.old) (S.held source.new) (S.attached source.old) (S.attached source.new) }
+    ensures source { SourceStays S.held S.attached S.ranges source.old source.new }
     ensures touched { IfSome (S.held source.old) (λ g. LogsIn (touched_by Unpack g) (S.ranges source.old) (S.ranges source.new)) }
-    ensures told_ranges { StaysTold (S.ranges source.old) (S.ranges source.new) }
     ensures told_contents { StaysTold (K.contents sink.old) (K.contents sink.new) }
     ensures cause { Works (S.tally source.old) (S.tally source.new) (nameless (K.tally sink.old)) (nameless (K.tally sink.new))
         meter.old.limit result }
@@ -135,7 +131,7 @@ fn with_block<R: Threads + Sync, S: Source, K: Sink, G: Gate>(
     ranges_law();
     stages_law::<()>();
     let survey = survey_to_unpack(source, asked.length, meter, block)?;
-    work(asked, source, sink, meter, window, &survey, block)
+    work(asked, source, sink, meter, window, &survey)
 }
 
 // Takes all buffers, writes the restored file, and hands the buffers back.
@@ -146,14 +142,14 @@ fn work<R: Threads + Sync, S: Source, K: Sink, G: Gate>(
     meter: &mut Meter,
     window: &mut Window,
     survey: &Survey,
-    block: &mut [u8],
 ) -> Result<(), Stop>
     requires attached { S.attached source.old ≡ Some asked.now.length }
     requires empty { IfSome (K.contents sink.old) (λ c. c ≡ []) }
     requires window { IsEmpty window.old }
     requires some { 0 < survey.now.hdus }
     requires few { survey.now.hdus ≤ 65536 }
-    requires block { len block.old ≡ 2880 }
+    requires long { 2880 ≤ survey.now.header_len }
+    requires primary { IfSome survey.now.packed_primary (λ start. (start < asked.now.length) × (start ≤ 2 ^ 62)) }
     ensures written { IfSome (S.held source.old) (λ g. FinishesSeen g survey.now (K.contents sink.new) result) }
     ensures finished { OnOk result (K.finished sink.new ≡ true) }
     ensures shut { AreShutOrWhole survey.now (S.held source.old) (K.contents sink.new) result }
@@ -168,10 +164,9 @@ fn work<R: Threads + Sync, S: Source, K: Sink, G: Gate>(
     ensures live { meter.new.live ≡ meter.old.live }
     ensures limit { meter.new.limit ≡ meter.old.limit }
     ensures emptied { window.new ≡ record { slots = []; workers = window.old.workers } }
-    ensures source { SourceStays (S.held source.old) (S.held source.new) (S.attached source.old) (S.attached source.new) }
+    ensures source { SourceStays S.held S.attached S.ranges source.old source.new }
     ensures late { IfRefused result (ComesLate Unpack) }
     ensures read { IfSome (S.held source.old) (λ g. ReadsHdus Unpack g survey.now (S.ranges source.old) (S.ranges source.new)) }
-    ensures told_ranges { StaysTold (S.ranges source.old) (S.ranges source.new) }
     ensures told_contents { StaysTold (K.contents sink.old) (K.contents sink.new) }
     ensures cause { Works (S.tally source.old) (S.tally source.new) (nameless (K.tally sink.old)) (nameless (K.tally sink.new))
         meter.old.limit result }
@@ -186,7 +181,7 @@ fn work<R: Threads + Sync, S: Source, K: Sink, G: Gate>(
         tile: Some(survey.tile),
     };
     let mut space = Workspace::take(meter, window, &wants)?;
-    let answer = write_file(asked, source, sink, window, survey, &mut space, block);
+    let answer = write_file(asked, source, sink, window, survey, &mut space);
     space.give_back(meter, window);
     answer
 }

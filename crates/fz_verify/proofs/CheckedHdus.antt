@@ -17,12 +17,12 @@ use Rattle.fz_block.specs.Header.{next_start_of}
 use Rattle.fz_block.specs.declared.header.Header.{Header}
 use Rattle.fz_files.specs.FirstFault.{IsFirstRowFault, all_rows}
 use Rattle.fz_files.specs.Lines.{before_fault, has_wrong_sum, verify_line}
-use Rattle.fz_survey.specs.declared.survey.Survey.{Survey}
-use Rattle.fz_again.specs.Again.{ReadsAsSeen, WereSeen, is_empty_primary}
-use Rattle.fz_again.specs.Known.{IsList}
+use Rattle.fz_job.specs.declared.survey.Survey.{Survey}
+use Rattle.fz_job.specs.Again.{ReadsAsSeen, WereSeen, is_empty_primary}
+use Rattle.fz_job.specs.Known.{IsList}
 use Rattle.fz_verify.specs.Printed.{AreChecked, AreRowsSound, AreVerified, ChecksHdu, GotBefore, GotLineFront, GotSome, GotVerified, IsChecking, IsPart, VerifiesSeen, verify_lines}
 use Rattle.fz_verify.specs.Rows.{IsHduFault, IsHduSound, SoundRowsAreNotRefused}
-use Rattle.fz_again.specs.declared.again.ReadHdu.{ReadHdu}
+use Rattle.fz_job.specs.declared.again.ReadHdu.{ReadHdu}
 use Rattle.fz_verify.proofs.Parts.{all_by_count, never_changed, never_refused, none_done, one_done}
 use Rattle.fz_verify.proofs.Rows.{Numbered, fault_among, fault_later, front_kept, hdu_number, none_kept, numbered, numbers_behind, sound_among, sound_joined}
 use Rattle.fz_verify.proofs.Texts.{appended_none, front_all, front_behind, front_wider, got_both}

@@ -11,16 +11,16 @@ use Rattle.fz_base.specs.declared.failure.Stop.{Stop}
 use Rattle.fz_base.specs.declared.failure.Stop.TheVariants.{Refused, ReadFault, WriteFault, OverLimit, NoMemory}
 use Rattle.fz_block.specs.declared.header.Header.{Header}
 use Rattle.fz_head.specs.declared.job_checks.PackedImage.{PackedImage}
-use Rattle.fz_fetch.specs.Images.{IsSaid}
+use Rattle.fz_job.specs.Images.{IsSaid}
 use Rattle.fz_files.specs.FirstFault.{IsFirstRowFault, rows_of}
 use Rattle.fz_files.specs.Lines.{has_wrong_sum, is_wrong, verify_line}
 use Rattle.fz_files.specs.Restored.{is_image}
-use Rattle.fz_again.specs.Again.{IsAgain}
+use Rattle.fz_job.specs.Again.{IsAgain}
 use Rattle.fz_verify.specs.Lines.{verdicts_text}
 use Rattle.fz_verify.specs.Printed.{ChecksHdu}
 use Rattle.fz_verify.specs.Rows.{IsHduFault, IsHduSound}
 use Rattle.fz_verify.specs.Sums.{AreVerdictsOn, are_right}
-use Rattle.fz_again.specs.declared.again.ReadHdu.{ReadHdu}
+use Rattle.fz_job.specs.declared.again.ReadHdu.{ReadHdu}
 use Rattle.fz_verify.specs.declared.sums.Verdicts.{Verdicts}
 use Rattle.fz_verify.proofs.Said.{image_said, none_said, verify_text}
 

@@ -16,8 +16,8 @@ use Rattle.fz_block.specs.Mandatory.{axis_checks, bitpix_check, count_checks, ex
 use Rattle.fz_block.specs.declared.header.Header.{Header}
 use Rattle.fz_grid.specs.Region.{IsDivided}
 use Rattle.fz_head.specs.declared.job_checks.PackedImage.{PackedImage}
-use Rattle.fz_again.specs.Again.{IsAgain, IsUsable, header_at_front}
-use Rattle.fz_again.specs.declared.again.ReadHdu.{ReadHdu}
+use Rattle.fz_job.specs.Again.{IsAgain, IsUsable, header_at_front}
+use Rattle.fz_job.specs.declared.again.ReadHdu.{ReadHdu}
 use Rattle.fz_verify.proofs.Flags.{axes_are}
 
 behind_none : (xs ys : List (Bool × Fault)) → first_refusal (xs ++ ys) ≡ None → first_refusal ys ≡ None

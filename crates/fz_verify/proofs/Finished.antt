@@ -17,14 +17,14 @@ use Rattle.fz_files.specs.Lines.{before_fault, has_wrong_sum, lines_behind, repo
 use Rattle.fz_files.specs.Walks.{header_fault}
 use Rattle.fz_files.specs.declared.job.Job.{Job}
 use Rattle.fz_files.specs.declared.job.Job.TheVariants.{Verify, List as ListHdus}
-use Rattle.fz_survey.specs.Surveys.{surveyed}
-use Rattle.fz_survey.specs.declared.checks.JobChecks.TheVariants.{Unpack as UnpackChecks}
-use Rattle.fz_survey.specs.declared.survey.Survey.{Survey}
+use Rattle.fz_job.specs.Surveys.{surveyed}
+use Rattle.fz_job.specs.declared.checks.JobChecks.TheVariants.{Unpack as UnpackChecks}
+use Rattle.fz_job.specs.declared.survey.Survey.{Survey}
 use Rattle.fz_job.specs.Clauses.{ComesLate, IfOverLimit, StaysUnmade, TellsFirstFault}
 use Rattle.fz_verify.specs.Clauses.{GotFront, IsRightAsSaid, PrintsLines}
 use Rattle.fz_verify.specs.Printed.{AreRowsSound, GotSome, GotVerified, ListsSeen, VerifiesSeen, list_lines, verify_lines}
-use Rattle.fz_again.specs.Known.{IsKnown, SurveysKnow}
-use Rattle.fz_stages.specs.Stages.{HasLargest}
+use Rattle.fz_job.specs.Known.{IsKnown, SurveysKnow}
+use Rattle.fz_job.specs.Stages.{HasLargest}
 use Rattle.fz_verify.proofs.Outcomes.{refused_weaker}
 
 -- the first look knows this of the file

@@ -10,14 +10,13 @@ use Rattle.fz_head.specs.declared.job_checks.PackedImage.{PackedImage}
 use Rattle.fz_files.specs.Reads.{header_ranges}
 use Rattle.fz_files.specs.Walks.{header_fault}
 use Rattle.fz_files.specs.declared.job.Job.TheVariants.{Verify}
-use Rattle.fz_fetch.specs.Fetched.{fetched_ranges}
-use Rattle.fz_fetch.specs.Images.{AreTilesOf, IsSaid}
-use Rattle.fz_survey.specs.declared.survey.Survey.{Survey}
-use Rattle.fz_again.specs.Again.{IsAgain, ReadsAsSeen, WasSeen}
-use Rattle.fz_again.specs.Hdus.{DataAreOfHdus, HeaderIsOfHdus, KnownAreTouched, ReadsHdus, TilesAreOfImage, VerifiesWithin, ranges_of_hdus}
-use Rattle.fz_again.specs.Known.{IsKnown, SurveysKnow}
+use Rattle.fz_job.specs.Images.{fetched_ranges, AreTilesOf, IsSaid}
+use Rattle.fz_job.specs.declared.survey.Survey.{Survey}
+use Rattle.fz_job.specs.Again.{IsAgain, ReadsAsSeen, WasSeen}
+use Rattle.fz_job.specs.Hdus.{DataAreOfHdus, HeaderIsOfHdus, KnownAreTouched, ReadsHdus, TilesAreOfImage, VerifiesWithin, ranges_of_hdus}
+use Rattle.fz_job.specs.Known.{IsKnown, SurveysKnow}
 use Rattle.fz_files.specs.Touched.{all_data_touched, data_touched, image_ranges, touched_by}
-use Rattle.fz_again.specs.declared.again.ReadHdu.{ReadHdu}
+use Rattle.fz_job.specs.declared.again.ReadHdu.{ReadHdu}
 use Rattle.fz_verify.specs.Printed.{IsChecking}
 use Rattle.fz_verify.proofs.Finished.{Knows}
 use Rattle.fz_verify.proofs.HeaderReads.{nothing}

@@ -8,13 +8,13 @@ use Rattle.fz_block.specs.Checks.{header_touched}
 use Rattle.fz_block.specs.declared.header.Header.{Header}
 use Rattle.fz_files.specs.Reads.{header_ranges}
 use Rattle.fz_files.specs.declared.job.Job.{Job}
-use Rattle.fz_survey.specs.Reads.{IsWithinOne}
-use Rattle.fz_survey.specs.Surveys.{survey_places}
-use Rattle.fz_survey.specs.declared.checks.JobChecks.TheVariants.{Unpack as UnpackChecks}
-use Rattle.fz_survey.specs.declared.survey.Survey.{Survey}
-use Rattle.fz_again.specs.Again.{WasSeen}
-use Rattle.fz_again.specs.Headers.{HeadersAreSeen, LooksReadHeaders, ranges_of_headers}
-use Rattle.fz_again.specs.Known.{IsKnown, SurveysKnow}
+use Rattle.fz_job.specs.SurveyReads.{IsWithinOne}
+use Rattle.fz_job.specs.Surveys.{survey_places}
+use Rattle.fz_job.specs.declared.checks.JobChecks.TheVariants.{Unpack as UnpackChecks}
+use Rattle.fz_job.specs.declared.survey.Survey.{Survey}
+use Rattle.fz_job.specs.Again.{WasSeen}
+use Rattle.fz_job.specs.Headers.{HeadersAreSeen, LooksReadHeaders, ranges_of_headers}
+use Rattle.fz_job.specs.Known.{IsKnown, SurveysKnow}
 use Rattle.fz_verify.specs.Printed.{IsListing}
 use Rattle.fz_verify.specs.Reads.{ReadsHeaders}
 use Rattle.fz_verify.proofs.Finished.{Knows}

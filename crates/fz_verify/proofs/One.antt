@@ -8,11 +8,11 @@ use Rattle.fz_base.specs.Stop.{stop_of_short}
 use Rattle.fz_base.specs.Takings.{TellsFirstPast, first_past, piled}
 use Rattle.fz_base.specs.declared.failure.Short.{Short}
 use Rattle.fz_base.specs.declared.failure.Short.TheVariants.{NoMemory as NoRoom, OverLimit as PastLimit}
-use Rattle.fz_survey.specs.Workspace.{wanted_buffers}
-use Rattle.fz_survey.specs.declared.survey.Survey.{Survey}
+use Rattle.fz_job.specs.Workspace.{wanted_buffers}
+use Rattle.fz_job.specs.declared.survey.Survey.{Survey}
 use Rattle.fz_verify.specs.Printed.{ListsSeen, list_lines}
 use Rattle.fz_files.specs.declared.job.Job.TheVariants.{List as ListHdus}
-use Rattle.fz_stages.specs.Stages.{Works, wants_for}
+use Rattle.fz_job.specs.Stages.{Works, wants_for}
 use Rattle.fz_verify.proofs.Held.{sum_one}
 use Rattle.fz_verify.proofs.Outcomes.{always, kept_same}
 use Rattle.fz_verify.proofs.Texts.{front_none}

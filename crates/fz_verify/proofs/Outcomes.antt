@@ -14,16 +14,15 @@ use Rattle.fz_block.specs.declared.header.Header.{Header}
 use Rattle.fz_files.specs.Lines.{before_fault, lines_behind, report_lines}
 use Rattle.fz_files.specs.Walks.{header_fault}
 use Rattle.fz_files.specs.declared.job.Job.{Job}
-use Rattle.fz_survey.specs.Surveys.{surveyed}
-use Rattle.fz_survey.specs.declared.checks.JobChecks.TheVariants.{Unpack as UnpackChecks}
-use Rattle.fz_survey.specs.declared.survey.Survey.{Survey}
+use Rattle.fz_job.specs.Surveys.{surveyed}
+use Rattle.fz_job.specs.declared.checks.JobChecks.TheVariants.{Unpack as UnpackChecks}
+use Rattle.fz_job.specs.declared.survey.Survey.{Survey}
 use Rattle.fz_job.specs.Clauses.{ComesLate, IfOverLimit, StaysUnmade, TellsFirstFault}
 use Rattle.fz_job.specs.Keeps.{StoppedRewriting}
 use Rattle.fz_verify.specs.Clauses.{GotFront, GotLines, PrintsLines}
-use Rattle.fz_again.specs.Known.{IsList}
+use Rattle.fz_job.specs.Known.{IsList, SurveysRefuse}
 use Rattle.fz_verify.specs.Printed.{GotSome, VerifiesSeen, verify_lines}
-use Rattle.fz_again.specs.Known.{SurveysRefuse}
-use Rattle.fz_stages.specs.Stages.{TellsHeaderFault}
+use Rattle.fz_job.specs.Stages.{TellsHeaderFault}
 use Rattle.fz_verify.proofs.Texts.{appended_none, front_none}
 
 -- ---- facts that hold whatever the answer

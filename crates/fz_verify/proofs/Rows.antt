@@ -22,7 +22,7 @@ use Rattle.fz_table.specs.declared.table.Table.{Table}
 use Rattle.fz_files.specs.FirstFault.{ImageRow, IsFirstRowFault, IsRowFault, IsRowSound, all_rows, image_row, rows_of}
 use Rattle.fz_files.specs.Packed.{tiles_in}
 use Rattle.fz_files.specs.Restored.{header_in, image_table, is_image, plan_in, tile_of}
-use Rattle.fz_again.specs.Again.{WasSeen, WereSeen}
+use Rattle.fz_job.specs.Again.{WasSeen, WereSeen}
 use Rattle.fz_verify.specs.Rows.{IsHduFault, IsHduSound, SoundRowsAreNotRefused}
 
 -- ---- lists of rows

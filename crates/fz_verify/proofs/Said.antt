@@ -11,14 +11,14 @@ use Rattle.fz_block.specs.declared.header.Header.{Header}
 use Rattle.fz_head.specs.JobChecks.{image_in, image_to_unpack, unpack_checks}
 use Rattle.fz_head.specs.Packable.{is_packed}
 use Rattle.fz_head.specs.declared.job_checks.PackedImage.{PackedImage}
-use Rattle.fz_fetch.specs.Images.{IsSaid}
+use Rattle.fz_job.specs.Images.{IsSaid}
 use Rattle.fz_files.specs.Lines.{list_line, other_text, packed_text, sizes_text, tiles_text, verdict_word, verify_line}
 use Rattle.fz_files.specs.Packed.{tiles_in}
 use Rattle.fz_files.specs.Restored.{header_in, is_image, plan_in}
-use Rattle.fz_again.specs.Again.{IsAgain, header_at_front}
+use Rattle.fz_job.specs.Again.{IsAgain, header_at_front}
 use Rattle.fz_verify.specs.Lines.{hdu_text, listed_text, tiles_said, verdicts_text}
 use Rattle.fz_verify.specs.Sums.{AreVerdictsOn}
-use Rattle.fz_again.specs.declared.again.ReadHdu.{ReadHdu}
+use Rattle.fz_job.specs.declared.again.ReadHdu.{ReadHdu}
 use Rattle.fz_verify.specs.declared.sums.Verdicts.{Verdicts}
 
 -- ---- what the checks answer

@@ -5,3 +5,4 @@ pub mod Reads
 pub mod Reported
 pub mod Rows
 pub mod Sums
+pub mod Verified

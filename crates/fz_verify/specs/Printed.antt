@@ -9,9 +9,9 @@ use Rattle.fz_block.specs.declared.header.Header.{Header}
 use Rattle.fz_head.specs.JobChecks.{is_after_empty}
 use Rattle.fz_files.specs.FirstFault.{IsFirstRowFault, all_rows}
 use Rattle.fz_files.specs.Lines.{before_fault, has_wrong_sum, list_line, verify_line}
-use Rattle.fz_survey.specs.declared.survey.Survey.{Survey}
-use Rattle.fz_again.specs.Again.{WereSeen}
-use Rattle.fz_again.specs.Known.{IsList}
+use Rattle.fz_job.specs.declared.survey.Survey.{Survey}
+use Rattle.fz_job.specs.Again.{WereSeen}
+use Rattle.fz_job.specs.Known.{IsList}
 use Rattle.fz_verify.specs.Rows.{IsHduFault, IsHduSound}
 
 -- the lines of HDUs

@@ -2,9 +2,9 @@
 use Rattle.std.specs.Prelude.{ℕ, List, Option}
 use Rattle.fz_base.specs.Ranges.{LogsIn}
 use Rattle.fz_block.specs.declared.header.Header.{Header}
-use Rattle.fz_survey.specs.declared.survey.Survey.{Survey}
-use Rattle.fz_again.specs.Headers.{ranges_of_headers}
-use Rattle.fz_again.specs.Known.{IsList}
+use Rattle.fz_job.specs.declared.survey.Survey.{Survey}
+use Rattle.fz_job.specs.Headers.{ranges_of_headers}
+use Rattle.fz_job.specs.Known.{IsList}
 
 -- their headers and nothing else
 abbrev pub ReadsHeaders : List ℕ → Survey → Option (List (ℕ × ℕ)) → Option (List (ℕ × ℕ)) → Type 0

@@ -5,26 +5,25 @@ ghost use Rattle.fz_base.specs.Stop.{IfRefused};
 ghost use Rattle.fz_base.specs.Told.{StaysTold};
 ghost use Rattle.fz_files.specs.Restored.{pixels_of};
 ghost use Rattle.fz_files.specs.declared.job.Job.TheVariants.{Verify};
-ghost use Rattle.fz_pool.specs.Window.{HasSlotsFor, slot_sizes};
-ghost use Rattle.fz_survey.specs.Workspace.{SpaceStays};
+ghost use Rattle.fz_pool.specs.Window.{HasSlotsFor, slot_sizes, WindowStays};
+ghost use Rattle.fz_job.specs.Workspace.{SpaceStays};
 ghost use Rattle.fz_job.specs.Clauses.{ComesLate, IsOfSomeRow};
-ghost use Rattle.fz_job.specs.Keeps.{Rewrites, SourceStays, WindowStays};
-ghost use Rattle.fz_again.specs.Again.{IsAgain};
-ghost use Rattle.fz_again.specs.Hdus.{ReadsHdus};
+ghost use Rattle.fz_job.specs.Keeps.{Rewrites};
+ghost use Rattle.fz_job.specs.Again.{IsAgain};
+ghost use Rattle.fz_job.specs.Hdus.{ReadsHdus};
+ghost use Rattle.fz_base.specs.Keeps.{SourceStays};
 ghost use Rattle.fz_files.specs.Touched.{data_touched};
 ghost use Rattle.fz_verify.specs.Reported.{Grew, Reports, ReportsFrom};
 ghost use Rattle.fz_verify.specs.Printed.{AreRowsSound, ChecksHdu, VerifiesSeen};
 ghost use Rattle.fz_verify.specs.Rows.{IsHduSound};
 
-use crate::changed::changed;
 use crate::hdu::verify_hdu;
 use crate::law::none_refused_law;
 use crate::lines::{print, verify_line};
-use fz_again::{ReadHdu, hdus_law, read_again};
 use fz_base::{Gate, Source, Stop, Text, ranges_law};
 use fz_block::next_start;
+use fz_job::{Begun, ReadHdu, Survey, Workspace, changed, hdus_law, read_again};
 use fz_pool::{Crew, Window};
-use fz_survey::{Survey, Workspace};
 use std::thread::Threads;
 
 /// What is verified, and by whom: who works, the length of the file, and whether all its tiles were decoded before, without a
@@ -45,7 +44,6 @@ pub(crate) fn verify_hdus<R: Threads + Sync, S: Source, T: Text, G: Gate>(
     window: &mut Window,
     survey: &Survey,
     space: &mut Workspace,
-    block: &mut [u8],
 ) -> Result<bool, Stop>
     requires attached { S.attached source.old ≡ Some asked.now.length }
     requires some { 0 < survey.now.hdus }
@@ -53,18 +51,16 @@ pub(crate) fn verify_hdus<R: Threads + Sync, S: Source, T: Text, G: Gate>(
     requires window { slot_sizes window.old.slots ≡ replicate (2 * window.old.workers) (2 * survey.now.tile, 8 * survey.now.tile + 64) }
     requires header { len space.old.header ≡ survey.now.header_len }
     requires copy { 4096 ≤ len space.old.copy }
-    requires block { len block.old ≡ 2880 }
+    requires long { 2880 ≤ survey.now.header_len }
     requires sound { asked.now.decoded ≡ true → IfSome (S.held source.old) (AreRowsSound survey.now) }
     ensures verified { IfSome (S.held source.old) (λ g. VerifiesSeen g survey.now (T.contents text.old) (T.contents text.new) result) }
     ensures reported { IfOk result (Reports (T.contents text.old) (T.contents text.new)) }
     ensures grown { Grew (T.contents text.old) (T.contents text.new) }
     ensures late { IfRefused result (ComesLate Verify) }
-    ensures block { len block.new ≡ 2880 }
     ensures space { SpaceStays space.old space.new }
     ensures window { WindowStays window.old window.new }
-    ensures source { SourceStays (S.held source.old) (S.held source.new) (S.attached source.old) (S.attached source.new) }
+    ensures source { SourceStays S.held S.attached S.ranges source.old source.new }
     ensures read { IfSome (S.held source.old) (λ g. ReadsHdus Verify g survey.now (S.ranges source.old) (S.ranges source.new)) }
-    ensures told_ranges { StaysTold (S.ranges source.old) (S.ranges source.new) }
     ensures told_contents { StaysTold (T.contents text.old) (T.contents text.new) }
     ensures cause { Rewrites (S.tally source.old) (S.tally source.new) (T.tally text.old) (T.tally text.new) result }
 {
@@ -77,16 +73,12 @@ pub(crate) fn verify_hdus<R: Threads + Sync, S: Source, T: Text, G: Gate>(
     let mut right = true;
     for hdu in 0..survey.hdus {
         let buf = space.header.as_mut_slice();
-        let again = read_again(
-            source,
-            length,
+        let begun = Begun {
             hdu,
             start,
             after_empty,
-            survey.tile,
-            block,
-            buf,
-        )?;
+        };
+        let again = read_again(source, length, begun, survey.tile, buf)?;
         let sound = print_verified(
             &asked.crew,
             source,
@@ -127,9 +119,8 @@ fn print_verified<R: Threads + Sync, S: Source, T: Text, G: Gate>(
     ensures row { IfRefused result IsOfSomeRow }
     ensures space { SpaceStays space.old space.new }
     ensures window { WindowStays window.old window.new }
-    ensures source { SourceStays (S.held source.old) (S.held source.new) (S.attached source.old) (S.attached source.new) }
+    ensures source { SourceStays S.held S.attached S.ranges source.old source.new }
     ensures read { IfSome (S.held source.old) (λ g. LogsIn (data_touched Verify g again.now.header) (S.ranges source.old) (S.ranges source.new)) }
-    ensures told_ranges { StaysTold (S.ranges source.old) (S.ranges source.new) }
     ensures told_contents { StaysTold (T.contents text.old) (T.contents text.new) }
     ensures cause { Rewrites (S.tally source.old) (S.tally source.new) (T.tally text.old) (T.tally text.new) result }
 {

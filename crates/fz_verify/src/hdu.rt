@@ -2,25 +2,24 @@
 ghost use Rattle.std.specs.Prelude.{ℕ, ◌≡◌, ◌<◌, ◌≤◌, ◌^◌, true, Some, length as len, List, IfOk, IfSome, OnOk};
 ghost use Rattle.fz_base.specs.Ranges.{LogsIn};
 ghost use Rattle.fz_base.specs.Stop.{IfRefused};
-ghost use Rattle.fz_base.specs.Told.{StaysTold};
 ghost use Rattle.fz_files.specs.Restored.{pixels_of};
 ghost use Rattle.fz_files.specs.declared.job.Job.TheVariants.{Verify};
 ghost use Rattle.fz_fetch.specs.Stops.{Fetches};
-ghost use Rattle.fz_pool.specs.Window.{HasSlotsFor};
-ghost use Rattle.fz_survey.specs.Workspace.{SpaceStays};
+ghost use Rattle.fz_pool.specs.Window.{HasSlotsFor, WindowStays};
+ghost use Rattle.fz_job.specs.Workspace.{SpaceStays};
 ghost use Rattle.fz_job.specs.Clauses.{IsOfSomeRow};
-ghost use Rattle.fz_job.specs.Keeps.{SourceStays, WindowStays};
-ghost use Rattle.fz_again.specs.Again.{IsAgain};
+ghost use Rattle.fz_job.specs.Again.{IsAgain};
+ghost use Rattle.fz_base.specs.Keeps.{SourceStays};
 ghost use Rattle.fz_files.specs.Touched.{data_touched};
 ghost use Rattle.fz_verify.specs.Rows.{IsHduFault, IsHduSound};
 ghost use Rattle.fz_verify.specs.Sums.{AreVerdictsOn};
 
 use crate::sums::{Verdicts, judge_sums};
-use fz_again::{ReadHdu, decode_tiles, hdus_law};
 use fz_base::{Gate, Source, Stop, ranges_law};
 use fz_block::BLOCK_LEN;
+use fz_fetch::decode_tiles;
+use fz_job::{ReadHdu, Workspace, hdus_law};
 use fz_pool::{Crew, Window};
-use fz_survey::Workspace;
 use std::thread::Threads;
 
 /// Decodes the tiles of an HDU, whose header is in the workspace, if it is packed and they were not decoded before, and
@@ -42,9 +41,8 @@ pub(crate) fn verify_hdu<R: Threads + Sync, S: Source, G: Gate>(
     ensures row { IfRefused result IsOfSomeRow }
     ensures space { SpaceStays space.old space.new }
     ensures window { WindowStays window.old window.new }
-    ensures source { SourceStays (S.held source.old) (S.held source.new) (S.attached source.old) (S.attached source.new) }
+    ensures source { SourceStays S.held S.attached S.ranges source.old source.new }
     ensures read { IfSome (S.held source.old) (λ g. LogsIn (data_touched Verify g again.now.header) (S.ranges source.old) (S.ranges source.new)) }
-    ensures told { StaysTold (S.ranges source.old) (S.ranges source.new) }
     ensures cause { Fetches (S.tally source.old) (S.tally source.new) result }
 {
     hdus_law();
@@ -73,9 +71,8 @@ fn decode_hdu<R: Threads + Sync, S: Source, G: Gate>(
     ensures row { IfRefused result IsOfSomeRow }
     ensures rows { len rows.new ≡ len rows.old }
     ensures window { WindowStays window.old window.new }
-    ensures source { SourceStays (S.held source.old) (S.held source.new) (S.attached source.old) (S.attached source.new) }
+    ensures source { SourceStays S.held S.attached S.ranges source.old source.new }
     ensures read { IfSome (S.held source.old) (λ g. LogsIn (data_touched Verify g again.now.header) (S.ranges source.old) (S.ranges source.new)) }
-    ensures told { StaysTold (S.ranges source.old) (S.ranges source.new) }
     ensures cause { Fetches (S.tally source.old) (S.tally source.new) result }
 {
     hdus_law();

@@ -1,9 +1,8 @@
 //! Verifies a file, decoding every tile and judging the checksums of every HDU, and lists its HDUs: one line for each.
 //!
-//! Reading order: `verify_file`, `list_file`, `law`, `checking`, `listing`, `changed`, `hdu`, `sums`, `lines`.
+//! Reading order: `verify_file`, `list_file`, `law`, `checking`, `listing`, `hdu`, `sums`, `lines`.
 #![tactic(auto)]
 
-mod changed;
 mod checking;
 mod hdu;
 mod law;

@@ -1,5 +1,6 @@
 //! The job `list`: look at all headers, take a buffer for the longest, and print.
 ghost use Rattle.std.specs.Prelude.{◌≡◌, ◌+◌, ◌<◌, ◌≤◌, max, Some, length as len, sum, IfSome, IsSome, OnOk};
+ghost use Rattle.fz_base.specs.Keeps.{SourceStays};
 ghost use Rattle.fz_base.specs.Ranges.{LogsIn};
 ghost use Rattle.fz_base.specs.Stop.{IfRefused, TellsLimit};
 ghost use Rattle.fz_base.specs.Takings.{TellsFirstPast, first_past, highest, piled};
@@ -7,22 +8,18 @@ ghost use Rattle.fz_base.specs.Told.{StaysTold};
 ghost use Rattle.fz_files.specs.Buffers.{job_bound, job_takings};
 ghost use Rattle.fz_files.specs.Reads.{header_ranges};
 ghost use Rattle.fz_files.specs.declared.job.Job.TheVariants.{List as ListHdus};
-ghost use Rattle.fz_survey.specs.Workspace.{wanted_buffers};
-ghost use Rattle.fz_job.specs.Clauses.{Answers, HasJobCause, IfOverLimit, IsChanged, IsUnmade, KeepsSource, StaysUnmade};
-ghost use Rattle.fz_job.specs.Clauses.{TellsFirstFault, greatest_bound};
-ghost use Rattle.fz_job.specs.Keeps.{SourceStays};
+ghost use Rattle.fz_job.specs.Workspace.{wanted_buffers};
+ghost use Rattle.fz_job.specs.Clauses.{Answers, HasJobCause, IfOverLimit, IsChanged, IsUnmade, KeepsSource, StaysUnmade, TellsFirstFault, greatest_bound};
 ghost use Rattle.fz_verify.specs.Clauses.{KeepsMeter, PrintsLines};
 ghost use Rattle.fz_verify.specs.Printed.{ListsSeen};
 ghost use Rattle.fz_verify.specs.Reported.{Grew};
 ghost use Rattle.fz_verify.specs.Reads.{ReadsHeaders};
-ghost use Rattle.fz_stages.specs.Stages.{Works, later_takings, wants_for};
+ghost use Rattle.fz_job.specs.Stages.{Works, later_takings, wants_for};
 
 use crate::listing::list_hdus;
-use fz_again::{headers_law, known_law};
 use fz_base::{Meter, Source, Stop, Text, ranges_law};
 use fz_block::BLOCK_LEN;
-use fz_stages::stages_law;
-use fz_survey::{Survey, survey_to_unpack};
+use fz_job::{Survey, headers_law, known_law, stages_law, survey_to_unpack};
 
 /// Prints what each HDU of the file is that is attached to the source, a line for each.
 ///
@@ -92,8 +89,7 @@ fn list_with_block<S: Source, T: Text>(
     ensures peak_most { meter.new.peak ≤ max meter.old.peak (greatest_bound ListHdus 1) }
     ensures live { meter.new.live ≡ meter.old.live }
     ensures limit { meter.new.limit ≡ meter.old.limit }
-    ensures source { SourceStays (S.held source.old) (S.held source.new) (S.attached source.old) (S.attached source.new) }
-    ensures told_ranges { StaysTold (S.ranges source.old) (S.ranges source.new) }
+    ensures source { SourceStays S.held S.attached S.ranges source.old source.new }
     ensures told_contents { StaysTold (T.contents text.old) (T.contents text.new) }
     ensures cause { Works (S.tally source.old) (S.tally source.new) (T.tally text.old) (T.tally text.new) meter.old.limit result }
     ensures touched { IfSome (S.held source.old) (λ g. LogsIn (header_ranges ListHdus g) (S.ranges source.old) (S.ranges source.new)) }
@@ -104,7 +100,7 @@ fn list_with_block<S: Source, T: Text>(
     ranges_law();
     stages_law::<()>();
     let survey = survey_to_unpack(source, length, meter, block)?;
-    list_seen(source, length, text, meter, &survey, block)
+    list_seen(source, length, text, meter, &survey)
 }
 
 // Takes a buffer for the longest header, prints, and hands the buffer back.
@@ -114,12 +110,11 @@ fn list_seen<S: Source, T: Text>(
     text: &mut T,
     meter: &mut Meter,
     survey: &Survey,
-    block: &mut [u8],
 ) -> Result<(), Stop>
     requires attached { S.attached source.old ≡ Some length }
     requires some { 0 < survey.now.hdus }
     requires few { survey.now.hdus ≤ 65536 }
-    requires block { len block.old ≡ 2880 }
+    requires long { 2880 ≤ survey.now.header_len }
     ensures listed { IfSome (S.held source.old) (λ g. ListsSeen g survey.now (T.contents text.old) (T.contents text.new) result) }
     ensures grown { Grew (T.contents text.old) (T.contents text.new) }
     ensures silent { IfOverLimit result ((T.contents text.new ≡ T.contents text.old) × (T.tally text.new ≡ T.tally text.old)) }
@@ -132,15 +127,14 @@ fn list_seen<S: Source, T: Text>(
     ensures limit { meter.new.limit ≡ meter.old.limit }
     ensures changed { IfRefused result IsChanged }
     ensures read { IfSome (S.held source.old) (λ g. ReadsHeaders g survey.now (S.ranges source.old) (S.ranges source.new)) }
-    ensures source { SourceStays (S.held source.old) (S.held source.new) (S.attached source.old) (S.attached source.new) }
-    ensures told_ranges { StaysTold (S.ranges source.old) (S.ranges source.new) }
+    ensures source { SourceStays S.held S.attached S.ranges source.old source.new }
     ensures told_contents { StaysTold (T.contents text.old) (T.contents text.new) }
     ensures cause { Works (S.tally source.old) (S.tally source.new) (T.tally text.old) (T.tally text.new) meter.old.limit result }
 {
     // How the promises of the job follow from its stages.
     stages_law::<()>();
     let mut header = meter.bytes(u64::from(survey.header_len))?;
-    let answer = list_hdus(source, length, text, survey, block, header.as_mut_slice());
+    let answer = list_hdus(source, length, text, survey, header.as_mut_slice());
     meter.give_bytes(header);
     answer
 }

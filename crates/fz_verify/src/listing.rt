@@ -4,19 +4,18 @@ ghost use Rattle.fz_base.specs.Sink.{MayAppend, appended};
 ghost use Rattle.fz_base.specs.Stop.{IfRefused, Writes};
 ghost use Rattle.fz_base.specs.Told.{StaysTold};
 ghost use Rattle.fz_job.specs.Clauses.{IsChanged};
-ghost use Rattle.fz_job.specs.Keeps.{Rewrites, SourceStays};
-ghost use Rattle.fz_again.specs.Again.{IsAgain};
+ghost use Rattle.fz_job.specs.Keeps.{Rewrites};
+ghost use Rattle.fz_job.specs.Again.{IsAgain};
+ghost use Rattle.fz_base.specs.Keeps.{SourceStays};
 ghost use Rattle.fz_verify.specs.Lines.{listed_text};
 ghost use Rattle.fz_verify.specs.Printed.{ListsSeen};
 ghost use Rattle.fz_verify.specs.Reported.{Grew};
 ghost use Rattle.fz_verify.specs.Reads.{ReadsHeaders};
 
-use crate::changed::changed;
 use crate::lines::{list_line, print};
-use fz_again::{ReadHdu, read_again};
 use fz_base::{Source, Stop, Text, ranges_law};
 use fz_block::next_start;
-use fz_survey::Survey;
+use fz_job::{Begun, ReadHdu, Survey, changed, read_again};
 
 /// Prints the line of each HDU. `buf` has room for the longest header.
 pub(crate) fn list_hdus<S: Source, T: Text>(
@@ -24,22 +23,19 @@ pub(crate) fn list_hdus<S: Source, T: Text>(
     length: u64,
     text: &mut T,
     survey: &Survey,
-    block: &mut [u8],
     buf: &mut [u8],
 ) -> Result<(), Stop>
     requires attached { S.attached source.old ≡ Some length }
     requires some { 0 < survey.now.hdus }
     requires few { survey.now.hdus ≤ 65536 }
-    requires block { len block.old ≡ 2880 }
+    requires long { 2880 ≤ survey.now.header_len }
     requires buf { len buf.old ≡ survey.now.header_len }
     ensures listed { IfSome (S.held source.old) (λ g. ListsSeen g survey.now (T.contents text.old) (T.contents text.new) result) }
     ensures grown { Grew (T.contents text.old) (T.contents text.new) }
     ensures changed { IfRefused result IsChanged }
     ensures read { IfSome (S.held source.old) (λ g. ReadsHeaders g survey.now (S.ranges source.old) (S.ranges source.new)) }
-    ensures block { len block.new ≡ 2880 }
     ensures buf { len buf.new ≡ len buf.old }
-    ensures source { SourceStays (S.held source.old) (S.held source.new) (S.attached source.old) (S.attached source.new) }
-    ensures told_ranges { StaysTold (S.ranges source.old) (S.ranges source.new) }
+    ensures source { SourceStays S.held S.attached S.ranges source.old source.new }
     ensures told_contents { StaysTold (T.contents text.old) (T.contents text.new) }
     ensures cause { Rewrites (S.tally source.old) (S.tally source.new) (T.tally text.old) (T.tally text.new) result }
 {
@@ -47,16 +43,12 @@ pub(crate) fn list_hdus<S: Source, T: Text>(
     let mut start = 0;
     let mut after_empty = false;
     for hdu in 0..survey.hdus {
-        let again = read_again(
-            source,
-            length,
+        let begun = Begun {
             hdu,
             start,
             after_empty,
-            survey.tile,
-            block,
-            buf,
-        )?;
+        };
+        let again = read_again(source, length, begun, survey.tile, buf)?;
         print_listed(text, &again)?;
         start = next_start(&again.header);
         // An HDU ends the file exactly if it is the last.

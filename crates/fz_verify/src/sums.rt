@@ -1,13 +1,12 @@
 //! The sums of an HDU.
 ghost use Rattle.std.specs.Prelude.{ℕ, ◌≡◌, ◌+◌, ◌*◌, ◌<◌, ◌≤◌, ◌^◌, Some, length as len, IfOk, IfSome, OnOk};
+ghost use Rattle.fz_base.specs.Keeps.{SourceStays};
 ghost use Rattle.fz_base.specs.Source.{LogsWithin, Reads};
 ghost use Rattle.fz_base.specs.Stop.{OnlyReads};
-ghost use Rattle.fz_base.specs.Told.{StaysTold};
 ghost use Rattle.fz_block.specs.Facts.{IsHeaderOf};
 ghost use Rattle.fz_block.specs.Header.{data_start_of, next_start_of};
 ghost use Rattle.fz_block.specs.Walk.{hdu_of};
 ghost use Rattle.fz_sum.specs.Pieces.{nothing};
-ghost use Rattle.fz_job.specs.Keeps.{SourceStays};
 ghost use Rattle.fz_files.specs.Lines.{is_wrong as is_wrong_verdict};
 ghost use Rattle.fz_verify.specs.Sums.{AreVerdictsOn, HasAdded};
 
@@ -58,9 +57,8 @@ pub(crate) fn judge_sums<S: Source>(
     requires copy { 0 < len copy.old }
     ensures verdicts { IfOk result (λ v. IfSome (S.held source.old) (λ g. AreVerdictsOn g header.now v)) }
     ensures copy { len copy.new ≡ len copy.old }
-    ensures source { SourceStays (S.held source.old) (S.held source.new) (S.attached source.old) (S.attached source.new) }
+    ensures source { SourceStays S.held S.attached S.ranges source.old source.new }
     ensures read { LogsWithin (data_start_of header.now) (next_start_of header.now) (S.ranges source.old) (S.ranges source.new) }
-    ensures told { StaysTold (S.ranges source.old) (S.ranges source.new) }
     ensures cause { OnlyReads (S.tally source.old) (S.tally source.new) result }
 {
     sum_law();
@@ -87,9 +85,8 @@ fn add_data<S: Source>(
     ensures added { OnOk result (IfSome (S.held source.old) (λ g. HasAdded (hdu_of g header.now).payload sum.new)) }
     ensures few { OnOk result (sum.new.count ≤ 2 ^ 62) }
     ensures copy { len copy.new ≡ len copy.old }
-    ensures source { SourceStays (S.held source.old) (S.held source.new) (S.attached source.old) (S.attached source.new) }
+    ensures source { SourceStays S.held S.attached S.ranges source.old source.new }
     ensures read { LogsWithin (data_start_of header.now) (next_start_of header.now) (S.ranges source.old) (S.ranges source.new) }
-    ensures told { StaysTold (S.ranges source.old) (S.ranges source.new) }
     ensures cause { OnlyReads (S.tally source.old) (S.tally source.new) result }
 {
     log_law();

@@ -8,25 +8,26 @@ ghost use Rattle.fz_files.specs.Buffers.{job_bound, job_takings};
 ghost use Rattle.fz_files.specs.FirstFault.{IsFirstFault};
 ghost use Rattle.fz_files.specs.declared.job.Job.TheVariants.{Verify};
 ghost use Rattle.fz_pool.specs.Window.{IsEmpty};
-ghost use Rattle.fz_survey.specs.Workspace.{wanted_buffers};
-ghost use Rattle.fz_again.specs.Hdus.{ReadsHdus};
+ghost use Rattle.fz_job.specs.Workspace.{wanted_buffers};
+ghost use Rattle.fz_job.specs.Hdus.{ReadsHdus};
+ghost use Rattle.fz_base.specs.Keeps.{SourceStays};
 ghost use Rattle.fz_files.specs.Touched.{touched_by};
 ghost use Rattle.fz_job.specs.Clauses.{Answers, ComesLate, HasJobCause, IfOverLimit, IsUnmade, KeepsBuffers, KeepsSource};
 ghost use Rattle.fz_job.specs.Clauses.{StaysUnmade, TellsFirstFault, greatest_bound};
-ghost use Rattle.fz_job.specs.Keeps.{SourceStays};
 ghost use Rattle.fz_verify.specs.Clauses.{IsRightAsSaid, PrintsLines};
 ghost use Rattle.fz_verify.specs.Reported.{Grew, Reports};
 ghost use Rattle.fz_verify.specs.Printed.{AreRowsSound, VerifiesSeen};
-ghost use Rattle.fz_stages.specs.Stages.{Works, later_takings, wants_for};
+ghost use Rattle.fz_verify.specs.Verified.{Verifies};
+ghost use Rattle.fz_job.specs.Stages.{Works, later_takings, wants_for};
 
 use crate::checking::{Verifying, verify_hdus};
-use fz_again::{hdus_law, headers_law, known_law};
 use fz_base::{Gate, Meter, Source, Stop, Text, ranges_law};
 use fz_block::BLOCK_LEN;
+use fz_job::{
+    Survey, Wants, Workspace, hdus_law, headers_law, known_law, stages_law, survey_to_unpack,
+};
 use fz_pool::{Crew, Window, sizes_law};
-use fz_stages::stages_law;
 use fz_strict::Decoded;
-use fz_survey::{Survey, Wants, Workspace, survey_to_unpack};
 use std::thread::Threads;
 
 /// Verifies the file that is attached to the source: decodes every tile of its packed images, and prints for each HDU a
@@ -77,20 +78,21 @@ pub fn verify<R: Threads + Sync, S: Source, T: Text, G: Gate>(
     ensures told_ranges { StaysTold (S.ranges source.old) (S.ranges source.new) }
     ensures told_contents { StaysTold (T.contents text.old) (T.contents text.new) }
 {
+    let workers = window.workers();
+    let crew = Crew { rt, gate, workers };
     let decoded: Option<Decoded<S>> = None;
-    verify_decoded(rt, source, length, text, meter, window, gate, &decoded)
+    verify_decoded(crew, source, length, text, meter, window, &decoded)
 }
 
 /// The same of a file of which all tiles may have been decoded before, without a fault: if `strict_decoded` says so of this
-/// very source, as it is now, they are not decoded again.
+/// very source, as it is now, they are not decoded again. The crew has as many workers as the window.
 pub fn verify_decoded<R: Threads + Sync, S: Source, T: Text, G: Gate>(
-    rt: &R,
+    crew: Crew<'_, R, G>,
     source: &mut S,
     length: u64,
     text: &mut T,
     meter: &mut Meter,
     window: &mut Window,
-    gate: &G,
     decoded: &Option<Decoded<S>>,
 ) -> Result<bool, Stop>
     requires attached { S.attached source.old ≡ Some length }
@@ -99,42 +101,12 @@ pub fn verify_decoded<R: Threads + Sync, S: Source, T: Text, G: Gate>(
     requires one_worker { window.old.workers ≡ 1 }
     requires of { IfSome decoded.now (λ d. d.of.value ≡ source.old) }
     requires sound { IsSome decoded.now → IfSome (S.held source.old) (λ g. IsFirstFault Verify g None) }
-
-    ensures lines { PrintsLines Verify (S.held source.old) (T.contents text.old) (T.contents text.new) result }
-    ensures right { IfOk result (λ right. IfSome (S.held source.old) (IsRightAsSaid right)) }
-    // Of every source: the answer says what the lines say, and nothing that was printed is taken back.
-    ensures reported { IfOk result (Reports (T.contents text.old) (T.contents text.new)) }
-    ensures grown { Grew (T.contents text.old) (T.contents text.new) }
-    ensures first_fault { TellsFirstFault Verify (S.held source.old) result }
-    // If no count of faults rose and the limit is at least the bound, only the first fault decides.
-    ensures answered { Answers Verify (S.held source.old) (S.tally source.old) (S.tally source.new) (T.tally text.old)
-        (T.tally text.new) meter.old.limit 1 result }
-    ensures cause { HasJobCause Verify (S.held source.old) (S.tally source.old) (S.tally source.new) (T.tally text.old)
-        (T.tally text.new) meter.old.limit 1 result }
-    // Nothing is printed if a header is refused.
-    ensures silent { IsUnmade Verify (S.held source.old) meter.old.limit 1
-        ((T.contents text.new ≡ T.contents text.old) × (T.tally text.new ≡ T.tally text.old)) result }
-    ensures buffers { KeepsBuffers Verify (S.held source.old) meter.old meter.new window.old window.new }
-    // Every byte that is read, whatever the answer, is of a header that the checks come to, or, if no header is
-    // rejected, of a row or a record of a packed image, or of the data of an HDU, of which the sums are made.
-    ensures touched { IfSome (S.held source.old) (λ g. LogsIn (touched_by Verify g) (S.ranges source.old) (S.ranges source.new)) }
-    // After a job that is done the peak is exactly the greatest sum of its takings, for so many workers.
-    ensures exact_peak { OnOk result (IfSome (S.held source.old) (λ g. meter.new.peak ≡ max meter.old.peak (highest (job_takings Verify g 1)))) }
-    // The first block is taken before anything is read.
-    ensures unread { meter.old.limit < 2880 → S.ranges source.new ≡ S.ranges source.old }
-    ensures kept { KeepsSource (S.held source.old) (S.held source.new) (S.attached source.old) (S.attached source.new)
-        (S.tally source.old) (S.tally source.new) (T.tally text.old) (T.tally text.new) }
-    ensures told_ranges { StaysTold (S.ranges source.old) (S.ranges source.new) }
-    ensures told_contents { StaysTold (T.contents text.old) (T.contents text.new) }
+    ensures { Verifies S.held S.attached S.ranges S.tally T.contents T.tally source.old source.new text.old text.new
+        meter.old meter.new window.old window.new result }
 {
     // How the promises of the job follow from its stages.
     stages_law::<bool>();
     let skip = decoded.is_some();
-    let crew = Crew {
-        rt,
-        gate,
-        workers: window.workers(),
-    };
     let asked = Verifying {
         crew,
         length,
@@ -176,9 +148,8 @@ fn verify_with_block<R: Threads + Sync, S: Source, T: Text, G: Gate>(
     ensures live { meter.new.live ≡ meter.old.live }
     ensures limit { meter.new.limit ≡ meter.old.limit }
     ensures emptied { window.new ≡ record { slots = []; workers = window.old.workers } }
-    ensures source { SourceStays (S.held source.old) (S.held source.new) (S.attached source.old) (S.attached source.new) }
+    ensures source { SourceStays S.held S.attached S.ranges source.old source.new }
     ensures touched { IfSome (S.held source.old) (λ g. LogsIn (touched_by Verify g) (S.ranges source.old) (S.ranges source.new)) }
-    ensures told_ranges { StaysTold (S.ranges source.old) (S.ranges source.new) }
     ensures told_contents { StaysTold (T.contents text.old) (T.contents text.new) }
     ensures cause { Works (S.tally source.old) (S.tally source.new) (T.tally text.old) (T.tally text.new) meter.old.limit result }
 {
@@ -189,7 +160,7 @@ fn verify_with_block<R: Threads + Sync, S: Source, T: Text, G: Gate>(
     ranges_law();
     stages_law::<bool>();
     let survey = survey_to_unpack(source, asked.length, meter, block)?;
-    verify_seen(asked, source, text, meter, window, &survey, block)
+    verify_seen(asked, source, text, meter, window, &survey)
 }
 
 // Takes all buffers, verifies the HDUs, and hands the buffers back.
@@ -200,13 +171,12 @@ fn verify_seen<R: Threads + Sync, S: Source, T: Text, G: Gate>(
     meter: &mut Meter,
     window: &mut Window,
     survey: &Survey,
-    block: &mut [u8],
 ) -> Result<bool, Stop>
     requires attached { S.attached source.old ≡ Some asked.now.length }
     requires window { IsEmpty window.old }
     requires some { 0 < survey.now.hdus }
     requires few { survey.now.hdus ≤ 65536 }
-    requires block { len block.old ≡ 2880 }
+    requires long { 2880 ≤ survey.now.header_len }
     requires sound { asked.now.decoded ≡ true → IfSome (S.held source.old) (AreRowsSound survey.now) }
     ensures verified { IfSome (S.held source.old) (λ g. VerifiesSeen g survey.now (T.contents text.old) (T.contents text.new) result) }
     ensures reported { IfOk result (Reports (T.contents text.old) (T.contents text.new)) }
@@ -223,9 +193,8 @@ fn verify_seen<R: Threads + Sync, S: Source, T: Text, G: Gate>(
     ensures limit { meter.new.limit ≡ meter.old.limit }
     ensures emptied { window.new ≡ record { slots = []; workers = window.old.workers } }
     ensures late { IfRefused result (ComesLate Verify) }
-    ensures source { SourceStays (S.held source.old) (S.held source.new) (S.attached source.old) (S.attached source.new) }
+    ensures source { SourceStays S.held S.attached S.ranges source.old source.new }
     ensures read { IfSome (S.held source.old) (λ g. ReadsHdus Verify g survey.now (S.ranges source.old) (S.ranges source.new)) }
-    ensures told_ranges { StaysTold (S.ranges source.old) (S.ranges source.new) }
     ensures told_contents { StaysTold (T.contents text.old) (T.contents text.new) }
     ensures cause { Works (S.tally source.old) (S.tally source.new) (T.tally text.old) (T.tally text.new) meter.old.limit result }
 {
@@ -238,7 +207,7 @@ fn verify_seen<R: Threads + Sync, S: Source, T: Text, G: Gate>(
         tile: Some(survey.tile),
     };
     let mut space = Workspace::take(meter, window, &wants)?;
-    let answer = verify_hdus(asked, source, text, window, survey, &mut space, block);
+    let answer = verify_hdus(asked, source, text, window, survey, &mut space);
     space.give_back(meter, window);
     answer
 }

@@ -11,7 +11,7 @@ use Rattle.fz_base.specs.declared.failure.Stop.{Stop}
 use Rattle.fz_files.specs.Buffers.{job_bound, job_takings}
 use Rattle.fz_files.specs.declared.job.Job.TheVariants.{Cut}
 use Rattle.fz_job.specs.Clauses.{HasJobCause, StaysUnmade, TellsFirstFault, greatest_bound}
-use Rattle.fz_stages.specs.Stages.{Works, later_takings}
+use Rattle.fz_job.specs.Stages.{Works, later_takings}
 use Rattle.fz_cut.proofs.Held.{refilled_len}
 use Rattle.fz_cut.proofs.Outcomes.{all_unmade, kept_same, ok_weaker, peak_stays, short_untold, untouched_shut, untouched_unmade}
 use Rattle.fz_cut.proofs.cut_file.cut.Goals as goal

@@ -5,9 +5,9 @@ use Rattle.fz_base.specs.Stop.{stop_of_short}
 use Rattle.fz_base.specs.Takings.{TellsFirstPast, first_past, piled}
 use Rattle.fz_base.specs.declared.failure.Stop.{Stop}
 use Rattle.fz_pool.specs.Window.{HasSlotsFor, Pool}
-use Rattle.fz_survey.specs.Workspace.{held_bytes, wanted_buffers}
-use Rattle.fz_survey.specs.declared.workspace.Wants.{Wants}
-use Rattle.fz_stages.specs.Stages.{Works, wants_for}
+use Rattle.fz_job.specs.Workspace.{held_bytes, wanted_buffers}
+use Rattle.fz_job.specs.declared.workspace.Wants.{Wants}
+use Rattle.fz_job.specs.Stages.{Works, wants_for}
 use Rattle.fz_base.specs.Ranges.{LogsIn}
 use Rattle.fz_files.specs.Walks.{box_of}
 use Rattle.fz_files.specs.declared.job.Job.TheVariants.{Cut}
@@ -22,17 +22,17 @@ pub returns-in_err-space-clause-written : goal.returns-in_err-space-clause-writt
 returns-in_err-space-clause-written g c =
     let held : Option (List ℕ) = g.S.Source.held c.args.source.now in
     let stopped : c.from_residual.result ≡ Err (stop_of_short c.in_err-space.field-0.0) = search rules in
-    subst (λ (r : Result (Unit {0}) Stop). IfSome held (λ file. FinishesSeen file c.args.sieve.now c.args.survey.now.header_len c.args.survey.now.tile c.args.from.now (g.K.Sink.contents c.args.sink.now) r)) (sym stopped)
-    (short_unwritten (Unit {0}) c.args.sieve.now held c.args.survey.now.header_len c.args.survey.now.tile c.args.from.now (g.K.Sink.contents c.args.sink.now) c.in_err-space.field-0.0)
+    subst (λ (r : Result (Unit {0}) Stop). IfSome held (λ file. FinishesSeen file c.args.asked.now.sieve c.args.found.now.survey.header_len c.args.found.now.survey.tile c.args.found.now.from (g.K.Sink.contents c.args.sink.now) r)) (sym stopped)
+    (short_unwritten (Unit {0}) c.args.asked.now.sieve held c.args.found.now.survey.header_len c.args.found.now.survey.tile c.args.found.now.from (g.K.Sink.contents c.args.sink.now) c.in_err-space.field-0.0)
 
 pub returns-in_err-space-clause-shut : goal.returns-in_err-space-clause-shut
 returns-in_err-space-clause-shut g c =
-    short_shut c.args.sieve.now (g.S.Source.held c.args.source.now) c.args.survey.now.header_len c.args.survey.now.tile c.args.from.now (g.K.Sink.contents c.args.sink.now) c.from_residual.result c.requires.empty
+    short_shut c.args.asked.now.sieve (g.S.Source.held c.args.source.now) c.args.found.now.survey.header_len c.args.found.now.survey.tile c.args.found.now.from (g.K.Sink.contents c.args.sink.now) c.from_residual.result c.requires.empty
 
 pub returns-in_err-space-clause-touched : goal.returns-in_err-space-clause-touched
 returns-in_err-space-clause-touched g c =
-    unread (g.S.Source.held c.args.source.now) (λ file. WasSeen file (box_of c.args.sieve.now) c.args.survey.now.header_len c.args.survey.now.tile c.args.from.now)
-    (λ file. work_ranges file c.args.sieve.now c.args.from.now) (g.S.Source.ranges c.args.source.now)
+    unread (g.S.Source.held c.args.source.now) (λ file. WasSeen file (box_of c.args.asked.now.sieve) c.args.found.now.survey.header_len c.args.found.now.survey.tile c.args.found.now.from)
+    (λ file. work_ranges file c.args.asked.now.sieve c.args.found.now.from) (g.S.Source.ranges c.args.source.now)
 
 pub returns-in_err-space-clause-unmade : goal.returns-in_err-space-clause-unmade
 returns-in_err-space-clause-unmade g c = if_over c.from_residual.result _ (refl, refl)
@@ -40,7 +40,7 @@ returns-in_err-space-clause-unmade g c = if_over c.from_residual.result _ (refl,
 pub returns-in_err-space-clause-first_past : goal.returns-in_err-space-clause-first_past
 returns-in_err-space-clause-first_past g c =
     let meter = c.args.meter.now in
-    let ts : List (ℕ × ℕ) = piled meter.live (wanted_buffers (wants_for (Cut None c.args.sieve.now) c.args.survey.now) c.args.window.now.workers) in
+    let ts : List (ℕ × ℕ) = piled meter.live (wanted_buffers (wants_for (Cut None c.args.asked.now.sieve) c.args.found.now.survey) c.args.window.now.workers) in
     let stopped : c.from_residual.result ≡ Err (stop_of_short c.in_err-space.field-0.0) = search rules in
     subst (λ (r : Result (Unit {0}) Stop). TellsFirstPast meter.limit ts r) (sym stopped) (c.stages_law.ensures.work.short_past meter.limit ts c.in_err-space.field-0.0 c.in_err-space.ensures.takings.first_past)
 
@@ -57,21 +57,26 @@ returns-in_err-space-clause-emptied g c =
 
 pub write_file-answer-requires-clause-window : goal.write_file-answer-requires-clause-window
 write_file-answer-requires-clause-window g c κs within =
-    let tile : ℕ = c.args.survey.now.tile in
+    let tile : ℕ = c.args.found.now.survey.tile in
     let same : tile ≤ tile = omega arith in
     let room : HasSlotsFor tile c.take.new.window = (tile, filled_sizes c.sizes_law.ensures.fresh c.args.window.now.workers tile c.take.new.window c.in_ok-space.ensures.filled, same) in
     room
 
 pub write_file-answer-requires-clause-translated : goal.write_file-answer-requires-clause-translated
 write_file-answer-requires-clause-translated g c =
-    let one = sum_one (c.args.survey.now.header_len + 2880) in
+    let one = sum_one (c.args.found.now.survey.header_len + 2880) in
     let made = c.in_ok-space.ensures.lengths.translated in
     let read = c.in_ok-space.ensures.lengths.header in
     omega (arith, one, made, read)
 
+pub write_file-answer-requires-clause-long : goal.write_file-answer-requires-clause-long
+write_file-answer-requires-clause-long g c =
+    let read = c.in_ok-space.ensures.lengths.header in
+    omega (arith, read, c.requires.long)
+
 pub give_back-requires : goal.give_back-requires
 give_back-requires g c =
-    let wants : Wants = wants_for (Cut None c.args.sieve.now) c.args.survey.now in
+    let wants : Wants = wants_for (Cut None c.args.asked.now.sieve) c.args.found.now.survey in
     let held = c.stages_law.ensures.back.kept wants c.in_ok-space.space c.write_file-answer.new.space c.args.window.now.workers c.take.new.window c.write_file-answer.new.window
     c.in_ok-space.ensures.lengths c.write_file-answer.ensures.space c.in_ok-space.ensures.filled c.write_file-answer.ensures.window in
     let live = ap (λ m. m.live) c.in_ok-space.ensures.takings.all.1 in
@@ -79,21 +84,21 @@ give_back-requires g c =
 
 pub returns-clause-written : goal.returns-clause-written
 returns-clause-written g c =
-    let s = c.args.survey.now in
+    let s = c.args.found.now.survey in
     let held : Option (List ℕ) = g.S.Source.held c.args.source.now in
-    subst (λ n. IfSome held (λ file. FinishesSeen file c.args.sieve.now n s.tile c.args.from.now (g.K.Sink.contents c.write_file-answer.new.sink) c.write_file-answer.result)) c.in_ok-space.ensures.lengths.header c.write_file-answer.ensures.written
+    subst (λ n. IfSome held (λ file. FinishesSeen file c.args.asked.now.sieve n s.tile c.args.found.now.from (g.K.Sink.contents c.write_file-answer.new.sink) c.write_file-answer.result)) c.in_ok-space.ensures.lengths.header c.write_file-answer.ensures.written
 
 pub returns-clause-shut : goal.returns-clause-shut
 returns-clause-shut g c =
-    let s = c.args.survey.now in
+    let s = c.args.found.now.survey in
     let held : Option (List ℕ) = g.S.Source.held c.args.source.now in
-    subst (λ n. IsShutOrPart held c.args.sieve.now n s.tile c.args.from.now (g.K.Sink.contents c.write_file-answer.new.sink) c.write_file-answer.result) c.in_ok-space.ensures.lengths.header c.write_file-answer.ensures.shut
+    subst (λ n. IsShutOrPart held c.args.asked.now.sieve n s.tile c.args.found.now.from (g.K.Sink.contents c.write_file-answer.new.sink) c.write_file-answer.result) c.in_ok-space.ensures.lengths.header c.write_file-answer.ensures.shut
 
 pub returns-clause-touched : goal.returns-clause-touched
 returns-clause-touched g c =
-    let s = c.args.survey.now in
+    let s = c.args.found.now.survey in
     let held : Option (List ℕ) = g.S.Source.held c.args.source.now in
-    subst (λ n. IfSome held (λ file. WasSeen file (box_of c.args.sieve.now) n s.tile c.args.from.now → LogsIn (work_ranges file c.args.sieve.now c.args.from.now) (g.S.Source.ranges c.args.source.now) (g.S.Source.ranges c.write_file-answer.new.source)))
+    subst (λ n. IfSome held (λ file. WasSeen file (box_of c.args.asked.now.sieve) n s.tile c.args.found.now.from → LogsIn (work_ranges file c.args.asked.now.sieve c.args.found.now.from) (g.S.Source.ranges c.args.source.now) (g.S.Source.ranges c.write_file-answer.new.source)))
     c.in_ok-space.ensures.lengths.header c.write_file-answer.ensures.touched
 
 pub returns-clause-unmade : goal.returns-clause-unmade
@@ -102,12 +107,12 @@ returns-clause-unmade g c =
 
 pub returns-clause-first_past : goal.returns-clause-first_past
 returns-clause-first_past g c =
-    c.stages_law.ensures.work.past _ _ _ _ c.args.meter.now.limit (piled c.args.meter.now.live (wanted_buffers (wants_for (Cut None c.args.sieve.now) c.args.survey.now) c.args.window.now.workers)) c.write_file-answer.result
+    c.stages_law.ensures.work.past _ _ _ _ c.args.meter.now.limit (piled c.args.meter.now.live (wanted_buffers (wants_for (Cut None c.args.asked.now.sieve) c.args.found.now.survey) c.args.window.now.workers)) c.write_file-answer.result
     c.write_file-answer.ensures.cause.stop c.in_ok-space.ensures.takings.first_past
 
 pub returns-clause-peak : goal.returns-clause-peak
 returns-clause-peak g c =
-    let wants : Wants = wants_for (Cut None c.args.sieve.now) c.args.survey.now in
+    let wants : Wants = wants_for (Cut None c.args.asked.now.sieve) c.args.found.now.survey in
     let held = c.stages_law.ensures.back.kept wants c.in_ok-space.space c.write_file-answer.new.space c.args.window.now.workers c.take.new.window c.write_file-answer.new.window
     c.in_ok-space.ensures.lengths c.write_file-answer.ensures.space c.in_ok-space.ensures.filled c.write_file-answer.ensures.window in
     let reached = (c.stages_law.ensures.back.given c.args.meter.now c.take.new.meter c.give_back.new.meter (sum (wanted_buffers wants c.args.window.now.workers)) (held_bytes c.write_file-answer.new.space c.write_file-answer.new.window)
@@ -116,7 +121,7 @@ returns-clause-peak g c =
 
 pub returns-clause-exact_peak : goal.returns-clause-exact_peak
 returns-clause-exact_peak g c =
-    let wants : Wants = wants_for (Cut None c.args.sieve.now) c.args.survey.now in
+    let wants : Wants = wants_for (Cut None c.args.asked.now.sieve) c.args.found.now.survey in
     let held = c.stages_law.ensures.back.kept wants c.in_ok-space.space c.write_file-answer.new.space c.args.window.now.workers c.take.new.window c.write_file-answer.new.window
     c.in_ok-space.ensures.lengths c.write_file-answer.ensures.space c.in_ok-space.ensures.filled c.write_file-answer.ensures.window in
     ok_always c.write_file-answer.result _
@@ -125,7 +130,7 @@ returns-clause-exact_peak g c =
 
 pub returns-clause-live : goal.returns-clause-live
 returns-clause-live g c =
-    let wants : Wants = wants_for (Cut None c.args.sieve.now) c.args.survey.now in
+    let wants : Wants = wants_for (Cut None c.args.asked.now.sieve) c.args.found.now.survey in
     let held = c.stages_law.ensures.back.kept wants c.in_ok-space.space c.write_file-answer.new.space c.args.window.now.workers c.take.new.window c.write_file-answer.new.window
     c.in_ok-space.ensures.lengths c.write_file-answer.ensures.space c.in_ok-space.ensures.filled c.write_file-answer.ensures.window in
     (c.stages_law.ensures.back.given c.args.meter.now c.take.new.meter c.give_back.new.meter (sum (wanted_buffers wants c.args.window.now.workers)) (held_bytes c.write_file-answer.new.space c.write_file-answer.new.window)
@@ -133,7 +138,7 @@ returns-clause-live g c =
 
 pub returns-clause-limit : goal.returns-clause-limit
 returns-clause-limit g c =
-    let wants : Wants = wants_for (Cut None c.args.sieve.now) c.args.survey.now in
+    let wants : Wants = wants_for (Cut None c.args.asked.now.sieve) c.args.found.now.survey in
     let held = c.stages_law.ensures.back.kept wants c.in_ok-space.space c.write_file-answer.new.space c.args.window.now.workers c.take.new.window c.write_file-answer.new.window
     c.in_ok-space.ensures.lengths c.write_file-answer.ensures.space c.in_ok-space.ensures.filled c.write_file-answer.ensures.window in
     (c.stages_law.ensures.back.given c.args.meter.now c.take.new.meter c.give_back.new.meter (sum (wanted_buffers wants c.args.window.now.workers)) (held_bytes c.write_file-answer.new.space c.write_file-answer.new.window)
@@ -151,4 +156,4 @@ pub returns-in_err-space-clause-past : goal.returns-in_err-space-clause-past
 returns-in_err-space-clause-past g c = λ some. (refl, refl)
 
 pub returns-clause-past : goal.returns-clause-past
-returns-clause-past g c = none_passed _ (first_past c.args.meter.now.limit (piled c.args.meter.now.live (wanted_buffers (wants_for (Cut None c.args.sieve.now) c.args.survey.now) c.args.window.now.workers))) c.in_ok-space.ensures.takings.first_past
+returns-clause-past g c = none_passed _ (first_past c.args.meter.now.limit (piled c.args.meter.now.live (wanted_buffers (wants_for (Cut None c.args.asked.now.sieve) c.args.found.now.survey) c.args.window.now.workers))) c.in_ok-space.ensures.takings.first_past

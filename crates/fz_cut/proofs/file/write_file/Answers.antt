@@ -1,5 +1,5 @@
 -- The sink is made, the part is written after byte 0, and then byte 0.
-use Rattle.std.proofs.Common.{◌≡◌, ℕ, ◌<◌, ◌^◌, length, List, Option, Some, IfSome, Result, Ok, Err, sym, subst, rules}
+use Rattle.std.proofs.Common.{◌≡◌, ℕ, ◌<◌, ◌^◌, length, List, Option, Some, IfSome, Result, Ok, Err, sym, subst, arith, rules}
 use Rattle.fz_base.specs.FirstByte.{IsShut}
 use Rattle.fz_base.specs.Ranges.{LogsIn}
 use Rattle.fz_base.specs.Sink.{emptied}
@@ -18,22 +18,22 @@ pub write_cutout-requires-clause-again : goal.write_cutout-requires-clause-again
 write_cutout-requires-clause-again g c κs within =
     let held : Option (List ℕ) = g.S.Source.held c.args.source.now in
     let stays : g.S.Source.held c.read_again.new.source ≡ held = search rules in
-    let attached : g.S.Source.attached c.read_again.new.source ≡ Some c.args.length = search rules in
-    let few : c.args.length < 2 ^ 64 = search rules in (
-      c.args.length,
+    let attached : g.S.Source.attached c.read_again.new.source ≡ Some c.args.asked.now.length = search rules in
+    let few : c.args.asked.now.length < 2 ^ 64 = omega (arith, g.met.S.Source.near c.args.source.now c.args.asked.now.length c.requires.attached) in (
+      c.args.asked.now.length,
       few,
       attached,
-      again_of held (g.S.Source.held c.read_again.new.source) c.args.length c.args.sieve.now c.box_of-region.result c.args.space.now.header c.as_mut_slice-buf.result.now c.read_again.new.buf c.in_ok-again.again
+      again_of held (g.S.Source.held c.read_again.new.source) c.args.asked.now.length c.args.asked.now.sieve c.box_of-region.result c.args.space.now.header c.as_mut_slice-buf.result.now c.read_again.new.buf c.in_ok-again.again
           stays c.box_of-region.ensures.exact c.as_mut_slice-buf.ensures.value c.in_ok-again.ensures.buf c.in_ok-again.ensures.again,
     )
 
 pub returns-clause-written : goal.returns-clause-written
 returns-clause-written g c =
     let held : Option (List ℕ) = g.S.Source.held c.args.source.now in
-    let sieve = c.args.sieve.now in
-    let from = c.args.from.now in
+    let sieve = c.args.asked.now.sieve in
+    let from = c.args.found.now.from in
     let most : ℕ = length c.args.space.now.header in
-    let tile : ℕ = c.args.tile in
+    let tile : ℕ = c.args.found.now.survey.tile in
     let old : Option (List ℕ) = g.K.Sink.contents c.args.sink.now in
     let made : Option (List ℕ) = g.K.Sink.contents c.create.new.self in
     let mid : Option (List ℕ) = g.K.Sink.contents c.write_cutout.new.sink in
@@ -47,10 +47,10 @@ returns-clause-written g c =
 pub returns-clause-shut : goal.returns-clause-shut
 returns-clause-shut g c =
     let held : Option (List ℕ) = g.S.Source.held c.args.source.now in
-    let sieve = c.args.sieve.now in
-    let from = c.args.from.now in
+    let sieve = c.args.asked.now.sieve in
+    let from = c.args.found.now.from in
     let most : ℕ = length c.args.space.now.header in
-    let tile : ℕ = c.args.tile in
+    let tile : ℕ = c.args.found.now.survey.tile in
     let old : Option (List ℕ) = g.K.Sink.contents c.args.sink.now in
     let made : Option (List ℕ) = g.K.Sink.contents c.create.new.self in
     let mid : Option (List ℕ) = g.K.Sink.contents c.write_cutout.new.sink in
@@ -65,10 +65,10 @@ returns-clause-shut g c =
 pub returns-in_err-again-clause-written : goal.returns-in_err-again-clause-written
 returns-in_err-again-clause-written g c =
     let held : Option (List ℕ) = g.S.Source.held c.args.source.now in
-    let sieve = c.args.sieve.now in
-    let from = c.args.from.now in
+    let sieve = c.args.asked.now.sieve in
+    let from = c.args.found.now.from in
     let most : ℕ = length c.args.space.now.header in
-    let tile : ℕ = c.args.tile in
+    let tile : ℕ = c.args.found.now.survey.tile in
     let now : Option (List ℕ) = g.K.Sink.contents c.args.sink.now in
     let stop : Stop = c.in_err-again.field-0.0 in
     let stopped : c.from_residual.result ≡ Err stop = search rules in
@@ -79,22 +79,22 @@ returns-in_err-again-clause-written g c =
 
 pub returns-in_err-again-clause-touched : goal.returns-in_err-again-clause-touched
 returns-in_err-again-clause-touched g c =
-    only_header c.args.sieve.now (length c.args.space.now.header) c.args.tile c.args.from.now c.ranges_law.ensures.within (g.S.Source.held c.args.source.now)
+    only_header c.args.asked.now.sieve (length c.args.space.now.header) c.args.found.now.survey.tile c.args.found.now.from c.ranges_law.ensures.within (g.S.Source.held c.args.source.now)
     (g.S.Source.ranges c.args.source.now) (g.S.Source.ranges c.read_again.new.source) c.in_err-again.ensures.touched
 
 pub returns-in_err-map_err-clause-touched : goal.returns-in_err-map_err-clause-touched
 returns-in_err-map_err-clause-touched g c =
-    only_header c.args.sieve.now (length c.args.space.now.header) c.args.tile c.args.from.now c.ranges_law.ensures.within (g.S.Source.held c.args.source.now)
+    only_header c.args.asked.now.sieve (length c.args.space.now.header) c.args.found.now.survey.tile c.args.found.now.from c.ranges_law.ensures.within (g.S.Source.held c.args.source.now)
     (g.S.Source.ranges c.args.source.now) (g.S.Source.ranges c.read_again.new.source) c.in_ok-again.ensures.touched
 
 pub returns-in_err-write_cutout-clause-written : goal.returns-in_err-write_cutout-clause-written
 returns-in_err-write_cutout-clause-written g c =
     let held : Option (List ℕ) = g.S.Source.held c.args.source.now in
     let same : g.S.Source.held c.read_again.new.source ≡ held = search rules in
-    let sieve = c.args.sieve.now in
-    let from = c.args.from.now in
+    let sieve = c.args.asked.now.sieve in
+    let from = c.args.found.now.from in
     let most : ℕ = length c.args.space.now.header in
-    let tile : ℕ = c.args.tile in
+    let tile : ℕ = c.args.found.now.survey.tile in
     let a = c.in_ok-again.again in
     let now : Option (List ℕ) = g.K.Sink.contents c.write_cutout.new.sink in
     let stop : Stop = c.in_err-write_cutout.field-0.0 in
@@ -109,10 +109,10 @@ pub returns-in_err-write_cutout-clause-touched : goal.returns-in_err-write_cutou
 returns-in_err-write_cutout-clause-touched g c =
     let held : Option (List ℕ) = g.S.Source.held c.args.source.now in
     let same : g.S.Source.held c.read_again.new.source ≡ held = search rules in
-    let sieve = c.args.sieve.now in
-    let from = c.args.from.now in
+    let sieve = c.args.asked.now.sieve in
+    let from = c.args.found.now.from in
     let most : ℕ = length c.args.space.now.header in
-    let tile : ℕ = c.args.tile in
+    let tile : ℕ = c.args.found.now.survey.tile in
     let a = c.in_ok-again.again in
     let mid : Option (List (ℕ × ℕ)) = g.S.Source.ranges c.read_again.new.source in
     let new : Option (List (ℕ × ℕ)) = g.S.Source.ranges c.write_cutout.new.source in
@@ -125,10 +125,10 @@ pub returns-clause-touched : goal.returns-clause-touched
 returns-clause-touched g c =
     let held : Option (List ℕ) = g.S.Source.held c.args.source.now in
     let same : g.S.Source.held c.read_again.new.source ≡ held = search rules in
-    let sieve = c.args.sieve.now in
-    let from = c.args.from.now in
+    let sieve = c.args.asked.now.sieve in
+    let from = c.args.found.now.from in
     let most : ℕ = length c.args.space.now.header in
-    let tile : ℕ = c.args.tile in
+    let tile : ℕ = c.args.found.now.survey.tile in
     let a = c.in_ok-again.again in
     let mid : Option (List (ℕ × ℕ)) = g.S.Source.ranges c.read_again.new.source in
     let new : Option (List (ℕ × ℕ)) = g.S.Source.ranges c.write_cutout.new.source in

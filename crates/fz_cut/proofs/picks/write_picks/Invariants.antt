@@ -7,9 +7,9 @@ use Rattle.fz_base.specs.Ranges.{LogsIn}
 use Rattle.fz_base.specs.Told.{StaysTold}
 use Rattle.fz_grid.specs.SieveWalks.{sieve_tiles_left}
 use Rattle.fz_files.specs.FirstFault.{picked_tiles_of}
-use Rattle.fz_job.specs.Keeps.{WindowStays}
 use Rattle.fz_cut.specs.Picks.{picked_ranges}
 use Rattle.fz_cut.proofs.Rounds.{AreDone, IsTileWithPick}
+use Rattle.fz_pool.specs.Window.{WindowStays}
 use Rattle.fz_cut.proofs.picks.write_picks.Given as goal
 
 abbrev pub invariant-loop-tile : goal.invariant-loop-tile
@@ -26,7 +26,7 @@ invariant-loop-tile g l = record {
   rows : length l.rows ≡ length l.fn.rows;
   table : length l.tiles ≡ 128;
   few : l.count ≤ l.most;
-  picked : AllByRecursion (IsTileWithPick l.image.plan l.sieve) (picked_tiles_of l.image.plan l.sieve);
-  logs : IfSome (g.S.Source.held l.fn.source) (λ file. LogsIn (picked_ranges file l.header l.sieve) (g.S.Source.ranges l.fn.source) (g.S.Source.ranges l.source));
-  done : AreDone (g.S.Source.held l.fn.source) l.header l.image.plan l.sieve l.data_at (take l.count l.tiles) (sieve_tiles_left l.tile-iterator) (g.K.Sink.contents l.fn.sink) (g.K.Sink.contents l.sink);
+  picked : AllByRecursion (IsTileWithPick l.picking.image.plan l.picking.sieve) (picked_tiles_of l.picking.image.plan l.picking.sieve);
+  logs : IfSome (g.S.Source.held l.fn.source) (λ file. LogsIn (picked_ranges file l.picking.header l.picking.sieve) (g.S.Source.ranges l.fn.source) (g.S.Source.ranges l.source));
+  done : AreDone (g.S.Source.held l.fn.source) l.picking.header l.picking.image.plan l.picking.sieve l.picking.data_at (take l.count l.tiles) (sieve_tiles_left l.tile-iterator) (g.K.Sink.contents l.fn.sink) (g.K.Sink.contents l.sink);
 }

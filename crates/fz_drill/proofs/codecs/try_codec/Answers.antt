@@ -1,5 +1,5 @@
 -- One job after another.
-use Rattle.std.proofs.Common.{◌≡◌, ℕ, max, List, ◌++◌, sym, ◌∙◌, subst, rules}
+use Rattle.std.proofs.Common.{◌≡◌, ℕ, max, List, ◌++◌, sym, ap, ◌∙◌, subst, rules}
 use Rattle.std.specs.Prelude.{None, Err}
 use Rattle.fz_base.specs.Takings.{highest}
 use Rattle.fz_base.specs.declared.failure.Stop.{Stop}
@@ -8,6 +8,7 @@ use Rattle.fz_files.specs.Drill.{drill_file, drill_options, drill_packed, drill_
 use Rattle.fz_files.specs.declared.job.Job.TheVariants.{Cut, Pack, Unpack}
 use Rattle.fz_drill.specs.Outcomes.{Stops}
 use Rattle.fz_drill.proofs.Takings.{at_limit, of_file, peak_of_three, stops_first, stops_later, stops_none}
+use Rattle.fz_pool.specs.Window.{IsEmpty, Pool}
 use Rattle.fz_drill.proofs.codecs.try_codec.Goals as goal
 
 pub returns-in_err-packed-clause-stops : goal.returns-in_err-packed-clause-stops
@@ -76,3 +77,24 @@ returns-clause-exact_peak g c =
     let third : c.cuts_to_part.new.meter.peak ≡ max c.unpacks_to_file.new.meter.peak (highest (file_takings (Cut None (drill_sieve rows)) packed 4)) =
     subst (λ f. c.cuts_to_part.new.meter.peak ≡ max c.unpacks_to_file.new.meter.peak (highest (file_takings (Cut None (drill_sieve rows)) f 4))) again c.in_ok-cut.ensures.exact_peak in
     peak_of_three (file_takings (Pack (drill_options c.args.codec)) (drill_file rows) 4) (file_takings Unpack packed 4) (file_takings (Cut None (drill_sieve rows)) packed 4) _ _ _ _ c.in_ok-packed.ensures.exact_peak second third
+
+-- ---- each job leaves what the next one asks for
+
+pub unpacks_to_file-requires-clause-ready : goal.unpacks_to_file-requires-clause-ready
+unpacks_to_file-requires-clause-ready g c = λ lifetimes lives.
+    let kept = c.in_ok-packed.ensures.kept in
+    record {
+      live = kept.live;
+      empty = subst IsEmpty (sym kept.window_is) c.requires.ready.empty;
+      workers = ap (λ (w : Pool). w.workers) kept.window_is ∙ c.requires.ready.workers;
+    }
+
+pub cuts_to_part-requires-clause-ready : goal.cuts_to_part-requires-clause-ready
+cuts_to_part-requires-clause-ready g c = λ lifetimes lives.
+    let kept = c.in_ok-unpacked.ensures.kept in
+    let same : c.unpacks_to_file.new.window ≡ c.args.window.now = kept.window_is ∙ c.in_ok-packed.ensures.kept.window_is in
+    record {
+      live = kept.live;
+      empty = subst IsEmpty (sym same) c.requires.ready.empty;
+      workers = ap (λ (w : Pool). w.workers) same ∙ c.requires.ready.workers;
+    }

@@ -9,6 +9,7 @@ use Rattle.fz_files.specs.Drill.{drill_file}
 use Rattle.fz_drill.specs.Bound.{takings_of}
 use Rattle.fz_drill.specs.Outcomes.{IsOutcome, Stops}
 use Rattle.fz_drill.proofs.Takings.{at_limit, of_rows, peak_of_three, stops_first, stops_later, stops_none}
+use Rattle.fz_pool.specs.Window.{IsEmpty, Pool}
 use Rattle.fz_drill.proofs.codecs.try_codecs.Goals as goal
 
 pub returns-clause-outcomes : goal.returns-clause-outcomes
@@ -81,3 +82,24 @@ returns-clause-exact_peak g c =
     let third : c.try_codec-3.new.meter.peak ≡ max c.try_codec-2.new.meter.peak (highest (drill_takings rows word.None)) =
     subst (λ n. c.try_codec-3.new.meter.peak ≡ max c.try_codec-2.new.meter.peak (highest (drill_takings n word.None))) same c.in_ok-none.ensures.exact_peak in
     peak_of_three (drill_takings rows word.Rice) (drill_takings rows word.Plio) (drill_takings rows word.None) _ _ _ _ first second third
+
+-- ---- each codec leaves what the next one asks for
+
+pub try_codec-requires-2-clause-ready : goal.try_codec-requires-2-clause-ready
+try_codec-requires-2-clause-ready g c = λ lifetimes lives.
+    let kept = c.in_ok-rice.ensures.kept in
+    record {
+      live = kept.live;
+      empty = subst IsEmpty (sym kept.window_is) c.requires.ready.empty;
+      workers = ap (λ (w : Pool). w.workers) kept.window_is ∙ c.requires.ready.workers;
+    }
+
+pub try_codec-requires-3-clause-ready : goal.try_codec-requires-3-clause-ready
+try_codec-requires-3-clause-ready g c = λ lifetimes lives.
+    let kept = c.in_ok-plio.ensures.kept in
+    let same : c.try_codec-2.new.window ≡ c.args.window.now = kept.window_is ∙ c.in_ok-rice.ensures.kept.window_is in
+    record {
+      live = kept.live;
+      empty = subst IsEmpty (sym same) c.requires.ready.empty;
+      workers = ap (λ (w : Pool). w.workers) same ∙ c.requires.ready.workers;
+    }

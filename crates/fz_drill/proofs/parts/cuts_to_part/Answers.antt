@@ -30,4 +30,4 @@ returns-clause-stops g c =
     subst (λ v. Stops {X = Bool} rows (file_takings (Cut None v) file 4) c.args.meter.now.limit (Err c.in_memory.result)) drills
     (subst (λ s. Stops {X = Bool} rows (file_takings (Cut None sieve) file 4) c.args.meter.now.limit (Err s)) (sym c.in_memory.ensures)
     (stops_from c.takings_law.ensures.within c.buffers_law.ensures.bounded c.one_first_fault_law.ensures (Cut None sieve) file rows c.args.meter.now.limit (subst (λ v. IsSafe (Cut None v) file rows) (sym drills) safe) _
-    c.in_ok-source.source.bytes.items c.args.window.now.workers c.in-Err.stop held c.requires.workers c.in-Err.ensures.first_fault c.in-Err.ensures.cause))
+    c.in_ok-source.source.bytes.items c.args.window.now.workers c.in-Err.stop held c.requires.ready.workers c.in-Err.ensures.first_fault c.in-Err.ensures.cause))

@@ -26,4 +26,4 @@ returns-clause-stops g c =
     let held : c.in_ok-source.source.bytes.items ≡ file = cc in
     subst (λ s. Stops rows (file_takings Unpack file 4) c.args.meter.now.limit (Err s)) (sym c.in_memory.ensures)
     (stops_from c.takings_law.ensures.within c.buffers_law.ensures.bounded c.one_first_fault_law.ensures Unpack file rows c.args.meter.now.limit safe _ c.in_ok-source.source.bytes.items c.args.window.now.workers c.in-Err.stop held
-    c.requires.workers c.in-Err.ensures.first_fault c.in-Err.ensures.cause)
+    c.requires.ready.workers c.in-Err.ensures.first_fault c.in-Err.ensures.cause)

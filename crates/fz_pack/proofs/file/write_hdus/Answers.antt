@@ -134,8 +134,8 @@ loop-hdu-preserved g c =
       writes = search rules;
       created = search rules;
       shut = λ shut. c.in_ok-at.ensures.sink.shut (old.shut shut);
-      told_ranges = λ told. c.in_ok-at.ensures.told_ranges (c.in_ok-again.ensures.told (old.told_ranges told));
-      told_contents = λ told. c.in_ok-at.ensures.told_contents (old.told_contents told);
+      told_ranges = λ told. c.in_ok-at.ensures.source.told (c.in_ok-again.ensures.source.told (old.told_ranges told));
+      told_contents = λ told. c.in_ok-at.ensures.sink.told (old.told_contents told);
       read = one_hdu o s zero c.ranges_law.ensures.within c.ranges_law.ensures.join k start c.loop-hdu.at before mid few two three held a old.written seen c.in_ok-at.ensures.log header;
       space = record {
         header = omega (arith, c.in_ok-at.ensures.space.header, old.space.header, c.in_ok-again.ensures.buf, length-take {A = ℕ}, length-append {A = ℕ}, length-drop {A = ℕ});

@@ -4,8 +4,8 @@ use Rattle.fz_base.specs.FirstByte.{StaysShut}
 use Rattle.fz_base.specs.Told.{StaysTold}
 use Rattle.fz_pack.specs.Behind.{IsUnderway}
 use Rattle.fz_pack.specs.Reads.{ReadsHdus}
-use Rattle.fz_survey.specs.Workspace.{SpaceStays}
-use Rattle.fz_job.specs.Keeps.{WindowStays}
+use Rattle.fz_pool.specs.Window.{WindowStays}
+use Rattle.fz_job.specs.Workspace.{SpaceStays}
 use Rattle.fz_pack.proofs.file.write_hdus.Given as goal
 
 abbrev pub invariant-loop-hdu : goal.invariant-loop-hdu

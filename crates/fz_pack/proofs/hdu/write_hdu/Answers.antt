@@ -11,17 +11,17 @@ use Rattle.fz_pack.proofs.hdu.write_hdu.Goals as goal
 pub write_before-requires-clause-first : goal.write_before-requires-clause-first
 write_before-requires-clause-first g c = λ primary.
     c.requires.first.0
-    (primary_first c.args.options.now (g.S.Source.held c.args.source.now) c.requires.again.0 c.args.space.now.header c.args.again.now c.requires.again.2 c.in-Some.plan c.in-Some.is primary)
+    (primary_first c.args.asked.now.options (g.S.Source.held c.args.source.now) c.requires.again.0 c.args.space.now.header c.args.again.now c.requires.again.2 c.in-Some.plan c.in-Some.is primary)
 
 pub write_table-requires-clause-at : goal.write_table-requires-clause-at
 write_table-requires-clause-at g c κs within =
-    let later = primary_only c.args.options.now (g.S.Source.held c.args.source.now) c.requires.again.0 c.args.space.now.header c.args.again.now c.requires.again.2 c.in-Some.plan c.in-Some.is in
+    let later = primary_only c.args.asked.now.options (g.S.Source.held c.args.source.now) c.requires.again.0 c.args.space.now.header c.args.again.now c.requires.again.2 c.in-Some.plan c.in-Some.is in
     let short = c.in_ok-at-in-Some.ensures.short in
     (behind_first c.in-Some.plan.primary c.args.again.now.header.hdu c.args.at c.in_ok-at-in-Some.at short.2 later c.requires.first.1 short.0, omega (arith, short.1, c.requires.near))
 
 pub returns-in_ok-at-in-Some-clause-written : goal.returns-in_ok-at-in-Some-clause-written
 returns-in_ok-at-in-Some-clause-written g c =
-    let o = c.args.options.now in
+    let o = c.args.asked.now.options in
     let held : Option (List ℕ) = g.S.Source.held c.args.source.now in
     let a = c.args.again.now in
     let p = c.in-Some.plan in
@@ -43,7 +43,7 @@ pub returns-in_ok-at-in-Some-clause-end : goal.returns-in_ok-at-in-Some-clause-e
 returns-in_ok-at-in-Some-clause-end g c =
     let h = c.args.again.now.header in
     let mid = c.in_ok-at-in-Some.at in
-    let later = primary_only c.args.options.now (g.S.Source.held c.args.source.now) c.requires.again.0 c.args.space.now.header c.args.again.now c.requires.again.2 c.in-Some.plan c.in-Some.is in
+    let later = primary_only c.args.asked.now.options (g.S.Source.held c.args.source.now) c.requires.again.0 c.args.space.now.header c.args.again.now c.requires.again.2 c.in-Some.plan c.in-Some.is in
     let short = c.in_ok-at-in-Some.ensures.short in
     let some : 0 < mid = behind_first c.in-Some.plan.primary h.hdu c.args.at mid short.2 later c.requires.first.1 short.0 in
     IfOk-weaker c.write_table.result (λ end. (mid ≤ end) × (end ≤ mid + 2 ^ 45)) (EndsNear h c.args.at)
@@ -52,7 +52,7 @@ returns-in_ok-at-in-Some-clause-end g c =
 
 pub returns-in-None-clause-written : goal.returns-in-None-clause-written
 returns-in-None-clause-written g c =
-    let o = c.args.options.now in
+    let o = c.args.asked.now.options in
     let held : Option (List ℕ) = g.S.Source.held c.args.source.now in
     let a = c.args.again.now in
     let at = c.args.at in

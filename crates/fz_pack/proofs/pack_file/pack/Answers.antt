@@ -11,7 +11,7 @@ use Rattle.fz_base.specs.declared.failure.Stop.{Stop}
 use Rattle.fz_files.specs.Buffers.{job_bound, job_takings}
 use Rattle.fz_files.specs.declared.job.Job.TheVariants.{Pack}
 use Rattle.fz_job.specs.Clauses.{HasJobCause, StaysUnmade, TellsFirstFault, greatest_bound}
-use Rattle.fz_stages.specs.Stages.{Works, later_takings}
+use Rattle.fz_job.specs.Stages.{Works, later_takings}
 use Rattle.fz_pack.proofs.Held.{refilled_len}
 use Rattle.fz_files.specs.Touched.{touched_by}
 use Rattle.fz_pack.proofs.HduReads.{unread}

@@ -5,12 +5,12 @@ use Rattle.fz_base.specs.Counts.{nameless}
 use Rattle.fz_base.specs.Takings.{TellsFirstPast, first_past, highest, piled}
 use Rattle.fz_base.specs.declared.failure.Stop.{Stop}
 use Rattle.fz_files.specs.declared.job.Job.TheVariants.{Pack}
-use Rattle.fz_survey.specs.Surveys.{survey_takings}
-use Rattle.fz_survey.specs.Workspace.{wanted_buffers}
-use Rattle.fz_survey.specs.declared.checks.JobChecks.TheVariants.{Pack as PackChecks}
+use Rattle.fz_job.specs.Surveys.{survey_takings}
+use Rattle.fz_job.specs.Workspace.{wanted_buffers}
+use Rattle.fz_job.specs.declared.checks.JobChecks.TheVariants.{Pack as PackChecks}
 use Rattle.fz_base.specs.Stop.{TellsLimit}
 use Rattle.fz_job.specs.Clauses.{TellsFirstFault, greatest_bound}
-use Rattle.fz_stages.specs.Stages.{Works, later_takings, wants_for}
+use Rattle.fz_job.specs.Stages.{Works, later_takings, wants_for}
 use Rattle.fz_pack.specs.Written.{AreShutOrWhole, FinishesSeen}
 use Rattle.fz_pack.proofs.Finished.{Knows, learnt, work_faulty, work_output, work_shut, work_unmade}
 use Rattle.fz_pack.specs.Reads.{ReadsHdus}

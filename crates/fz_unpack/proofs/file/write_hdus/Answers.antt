@@ -1,5 +1,5 @@
 -- One HDU after another.
-use Rattle.std.proofs.Common.{◌≡◌, ◌==◌, true, ℕ, ◌+◌, ◌<◌, ◌≤◌, ◌^◌, ◌↔◌, Bool, List, length, Option, IfSome, Result, Ok, Err, refl, sym, ap, ◌∙◌, subst, inl, arith, rules}
+use Rattle.std.proofs.Common.{◌≡◌, ◌==◌, true, ℕ, ◌+◌, ◌<◌, ◌≤◌, ◌^◌, ◌↔◌, ◌⊎◌, Bool, List, length, Option, IfSome, Result, Ok, Err, refl, sym, ap, ◌∙◌, subst, inl, arith, rules}
 use Rattle.std.proofs.lemmas.List.{length-append, length-drop, length-take}
 use Rattle.fz_base.specs.Ranges.{LogsIn}
 use Rattle.fz_base.specs.Source.{HoldsLength, LogsWithin}
@@ -8,50 +8,42 @@ use Rattle.fz_base.specs.declared.failure.Stop.{Stop}
 use Rattle.fz_block.specs.Checks.{header_touched}
 use Rattle.fz_block.specs.Header.{next_start_of}
 use Rattle.fz_files.specs.declared.job.Job.TheVariants.{Unpack}
-use Rattle.fz_again.specs.Again.{IsAgain, ReadsAsSeen, is_empty_primary, was_primary_image}
-use Rattle.fz_again.specs.Hdus.{ReadsHdus}
+use Rattle.fz_job.specs.Again.{IsAgain, ReadsAsSeen, is_empty_primary, was_primary_image}
+use Rattle.fz_job.specs.Hdus.{ReadsHdus}
 use Rattle.fz_files.specs.Touched.{data_touched}
 use Rattle.fz_unpack.specs.Behind.{HoldsHdu, IsHduFault, IsUnderway, RestoresSeen}
-use Rattle.fz_unpack.proofs.HduReads.{one_hdu, one_header}
-use Rattle.fz_unpack.proofs.Underway.{more_written, none_written, stops_reading, stops_searching, stops_writing}
+use Rattle.fz_unpack.specs.declared.first.First.{First}
+use Rattle.fz_unpack.proofs.HduReads.{no_hdu, one_hdu, one_header}
+use Rattle.fz_unpack.proofs.Standing.{first_place}
+use Rattle.fz_unpack.proofs.Underway.{more_written, none_written, stops_reading, stops_writing}
 use Rattle.fz_unpack.proofs.AsSeen.{first_as_seen, last_as_seen, not_at_end, primary_as_seen, told_false}
 use Rattle.fz_unpack.proofs.file.write_hdus.Goals as goal
-
-pub returns-in_err-first-clause-written : goal.returns-in_err-first-clause-written
-returns-in_err-first-clause-written g c =
-    let s = c.args.survey.now in
-    let held : Option (List ℕ) = g.S.Source.held c.args.source.now in
-    let before : Option (List ℕ) = g.K.Sink.contents c.args.sink.now in
-    let stopped : c.from_residual.result ≡ Err c.in_err-first.field-0.0 = search rules in
-    subst (λ (r : Result (Unit {0}) Stop). IfSome held (λ f. RestoresSeen f s.header_len s.tile s.hdus before before r)) (sym stopped)
-    (stops_searching s.header_len s.tile s.hdus before c.requires.some (Unit {0}) held c.in_err-first.field-0.0 before c.in_err-first.ensures.first)
 
 pub loop-hdu-init : goal.loop-hdu-init
 loop-hdu-init g c =
     let s = c.args.survey.now in
     let held : Option (List ℕ) = g.S.Source.held c.args.source.now in
     let before : Option (List ℕ) = g.K.Sink.contents c.args.sink.now in
+    let first : First = c.first_standing-first.result in
+    let place : ((first.start < c.args.asked.now.length) ⊎ ((first.hdu ≡ 0) × (first.start ≡ 0))) × (first.start ≤ 2 ^ 62) =
+    subst (λ (f : First). ((f.start < c.args.asked.now.length) ⊎ ((f.hdu ≡ 0) × (f.start ≡ 0))) × (f.start ≤ 2 ^ 62)) (sym c.first_standing-first.ensures)
+    (first_place c.args.asked.now.length s.packed_primary c.requires.primary) in
     record {
-      held = c.in_ok-first.ensures.source.held_is;
-      attached = c.in_ok-first.ensures.source.attached_is;
-      reads = c.in_ok-first.ensures.cause.ok;
+      held = refl;
+      attached = refl;
+      reads = refl;
       writes = refl;
       created = refl;
       shut = λ shut. shut;
-      told_ranges = c.in_ok-first.ensures.told;
+      told_ranges = λ told. told;
       told_contents = λ told. told;
-      read = c.in_ok-first.ensures.read;
-      space = record {
-        header = omega (arith, c.in_ok-first.ensures.buf, length-take {A = ℕ}, length-append {A = ℕ}, length-drop {A = ℕ});
-        translated = refl;
-        copy = refl;
-      };
+      read = no_hdu s (g.S.Source.ranges c.args.source.now) held;
+      space = record { header = refl; translated = refl; copy = refl };
       window = record { sizes = refl; workers = refl };
-      block = c.in_ok-first.ensures.block;
-      within = λ more. c.in_ok-first.ensures.within.place;
-      early = c.in_ok-first.ensures.within.near;
+      within = λ more. place.0;
+      early = place.1;
       near = omega arith;
-      written = none_written s.header_len s.tile s.hdus before c.requires.some held c.in_ok-first.first c.in_ok-first.ensures.first;
+      written = none_written s before c.primary_law.ensures.behind held first c.first_standing-first.ensures;
     }
 
 pub returns-in_err-again-clause-written : goal.returns-in_err-again-clause-written
@@ -65,13 +57,13 @@ returns-in_err-again-clause-written g c =
     let old = c.loop-hdu.invariant in
     let few : k < s.hdus = omega arith in
     let now : Option (List ℕ) = g.K.Sink.contents c.loop-hdu.sink in
-    let stopped : c.from_residual-in_err-again.result ≡ Err c.in_err-again.field-0.0 = search rules in
+    let stopped : c.from_residual.result ≡ Err c.in_err-again.field-0.0 = search rules in
     let long : length c.as_mut_slice-buf.result.now ≡ s.header_len = ap length c.as_mut_slice-buf.ensures.value ∙ old.space.header ∙ c.requires.header in
     let seen : IfSome held (λ f. ReadsAsSeen f k start flag s.header_len s.tile (Err c.in_err-again.field-0.0)) =
     subst (λ n. IfSome held (λ f. ReadsAsSeen f k start flag n s.tile (Err c.in_err-again.field-0.0))) long
     (subst (λ (h : Option (List ℕ)). IfSome h (λ f. ReadsAsSeen f k start flag (length c.as_mut_slice-buf.result.now) s.tile (Err c.in_err-again.field-0.0))) old.held c.in_err-again.ensures.as_seen) in
-    subst (λ (r : Result (Unit {0}) Stop). IfSome held (λ f. RestoresSeen f s.header_len s.tile s.hdus before now r)) (sym stopped)
-    (stops_reading s.header_len s.tile s.hdus before (Unit {0}) held c.in_err-again.field-0.0 k start c.loop-hdu.at flag now now few old.written seen)
+    subst (λ (r : Result (Unit {0}) Stop). IfSome held (λ f. RestoresSeen f s before now r)) (sym stopped)
+    (stops_reading s before (Unit {0}) held c.in_err-again.field-0.0 k start c.loop-hdu.at flag now now few old.written seen)
 
 pub returns-in_err-at-clause-written : goal.returns-in_err-at-clause-written
 returns-in_err-at-clause-written g c =
@@ -94,16 +86,16 @@ returns-in_err-at-clause-written g c =
     (subst (λ (h : Option (List ℕ)). IfSome h (λ f. ReadsAsSeen f k start flag (length c.as_mut_slice-buf.result.now) s.tile (Ok a))) old.held c.in_ok-again.ensures.as_seen) in
     let fault : IfRefused {X = ℕ} (Err c.in_err-at.field-0.0) (λ x. IfSome held (λ f. IsHduFault f a.header x)) =
     subst (λ (h : Option (List ℕ)). IfRefused {X = ℕ} (Err c.in_err-at.field-0.0) (λ x. IfSome h (λ f. IsHduFault f a.header x))) (c.in_ok-again.ensures.source.held_is ∙ old.held) c.in_err-at.ensures.fault in
-    subst (λ (r : Result (Unit {0}) Stop). IfSome held (λ f. RestoresSeen f s.header_len s.tile s.hdus before now r)) (sym stopped)
-    (stops_writing s.header_len s.tile s.hdus before (Unit {0}) held c.in_err-at.field-0.0 k start at flag mid now a few old.written seen fault)
+    subst (λ (r : Result (Unit {0}) Stop). IfSome held (λ f. RestoresSeen f s before now r)) (sym stopped)
+    (stops_writing s before (Unit {0}) held c.in_err-at.field-0.0 k start at flag mid now a few old.written seen fault)
 
 pub returns-then-first-survey-clause-written : goal.returns-then-first-survey-clause-written
 returns-then-first-survey-clause-written g c =
     let s = c.args.survey.now in
     let held : Option (List ℕ) = g.S.Source.held c.args.source.now in
     let before : Option (List ℕ) = g.K.Sink.contents c.args.sink.now in
-    let past : s.hdus ≤ c.in_ok-first.first.hdu = omega arith in
-    first_as_seen s.header_len s.tile s.hdus before c.requires.some (Unit {0}) held c.changed.result before c.in_ok-first.first past c.in_ok-first.ensures.first
+    let past : s.hdus ≤ c.first_standing-first.result.hdu = omega arith in
+    first_as_seen s before c.primary_law.ensures.behind c.requires.some (Unit {0}) held c.changed.result before c.first_standing-first.result past c.first_standing-first.ensures
 
 pub returns-then-not-is_primary_as_found-clause-written : goal.returns-then-not-is_primary_as_found-clause-written
 returns-then-not-is_primary_as_found-clause-written g c =
@@ -123,9 +115,9 @@ returns-then-not-is_primary_as_found-clause-written g c =
     subst (λ n. IfSome held (λ f. ReadsAsSeen f k start flag n s.tile (Ok a))) long
     (subst (λ (h : Option (List ℕ)). IfSome h (λ f. ReadsAsSeen f k start flag (length c.as_mut_slice-buf.result.now) s.tile (Ok a))) old.held c.in_ok-again.ensures.as_seen) in
     let usable : IsAgain held c.args.asked.now.length buf a = subst (λ (h : Option (List ℕ)). IsAgain h c.args.asked.now.length buf a) old.held c.in_ok-again.ensures.again in
-    let never : (flag ≡ true → was_primary_image a.image ≡ (c.in_ok-first.first.hdu == 1)) → ⊥ = λ so. told_false c.is_primary_as_found.result (search rules) (c.is_primary_as_found.ensures.exact.1 so) in
-    primary_as_seen s.header_len s.tile s.hdus before c.requires.some (Unit {0}) held c.changed-then-not-is_primary_as_found.result k start c.loop-hdu.at flag mid mid c.in_ok-first.first c.args.asked.now.length buf a few
-    old.written c.in_ok-first.ensures.first seen usable never
+    let never : (flag ≡ true → was_primary_image a.image ≡ (c.first_standing-first.result.hdu == 1)) → ⊥ = λ so. told_false c.is_primary_as_found.result (search rules) (c.is_primary_as_found.ensures.exact.1 so) in
+    primary_as_seen s before c.primary_law.ensures.behind (Unit {0}) held c.changed-then-not-is_primary_as_found.result k start c.loop-hdu.at flag mid mid c.first_standing-first.result c.args.asked.now.length buf a few
+    old.written c.first_standing-first.ensures seen usable never
 
 pub returns-then-not-is_last_as_seen-clause-written : goal.returns-then-not-is_last_as_seen-clause-written
 returns-then-not-is_last_as_seen-clause-written g c =
@@ -148,13 +140,13 @@ returns-then-not-is_last_as_seen-clause-written g c =
     (subst (λ (h : Option (List ℕ)). IfSome h (λ f. ReadsAsSeen f k start flag (length c.as_mut_slice-buf.result.now) s.tile (Ok a))) old.held c.in_ok-again.ensures.as_seen) in
     let holds : IfSome held (λ f. HoldsHdu a.header f at end mid now) =
     subst (λ (h : Option (List ℕ)). IfSome h (λ f. HoldsHdu a.header f at end mid now)) (c.in_ok-again.ensures.source.held_is ∙ old.held) c.in_ok-at.ensures.written in
-    let more : IfSome held (IsUnderway s.header_len s.tile s.hdus (k + 1) (next_start_of a.header) end (is_empty_primary a.header) before now) =
-    more_written s.header_len s.tile s.hdus before c.output_law.ensures.next held k start at end flag (is_empty_primary a.header) mid now a few old.written seen holds refl in
+    let more : IfSome held (IsUnderway s (k + 1) (next_start_of a.header) end (is_empty_primary a.header) before now) =
+    more_written s before c.output_law.ensures.next held k start at end flag (is_empty_primary a.header) mid now a few old.written seen holds refl in
     let told : HoldsLength held c.args.asked.now.length = g.met.S.Source.agrees c.args.source.now c.args.asked.now.length c.requires.attached in
     let next : c.next_start-start.result ≡ next_start_of a.header = c.next_start-start.ensures in
     let never : ((next_start_of a.header ≡ c.args.asked.now.length) ↔ (k + 1 ≡ s.hdus)) → ⊥ =
     λ so. told_false c.is_last_as_seen.result (search rules) (c.is_last_as_seen.ensures.exact.1 (subst (λ n. (n ≡ c.args.asked.now.length) ↔ (k + 1 ≡ s.hdus)) (sym next) so)) in
-    last_as_seen s.header_len s.tile s.hdus before (Unit {0}) held c.changed-then-not-is_last_as_seen.result c.args.asked.now.length (k + 1) (next_start_of a.header) end (is_empty_primary a.header) now told more never
+    last_as_seen s before (Unit {0}) held c.changed-then-not-is_last_as_seen.result c.args.asked.now.length (k + 1) (next_start_of a.header) end (is_empty_primary a.header) now told more never
 
 pub loop-hdu-preserved : goal.loop-hdu-preserved
 loop-hdu-preserved g c =
@@ -177,8 +169,8 @@ loop-hdu-preserved g c =
     (subst (λ (h : Option (List ℕ)). IfSome h (λ f. ReadsAsSeen f k start flag (length c.as_mut_slice-buf.result.now) s.tile (Ok a))) old.held c.in_ok-again.ensures.as_seen) in
     let holds : IfSome held (λ f. HoldsHdu a.header f at end mid now) =
     subst (λ (h : Option (List ℕ)). IfSome h (λ f. HoldsHdu a.header f at end mid now)) (c.in_ok-again.ensures.source.held_is ∙ old.held) c.in_ok-at.ensures.written in
-    let more : IfSome held (IsUnderway s.header_len s.tile s.hdus (k + 1) (next_start_of a.header) end (is_empty_primary a.header) before now) =
-    more_written s.header_len s.tile s.hdus before c.output_law.ensures.next held k start at end flag (is_empty_primary a.header) mid now a few old.written seen holds refl in
+    let more : IfSome held (IsUnderway s (k + 1) (next_start_of a.header) end (is_empty_primary a.header) before now) =
+    more_written s before c.output_law.ensures.next held k start at end flag (is_empty_primary a.header) mid now a few old.written seen holds refl in
     let place : a.header.start ≡ start = c.in_ok-again.ensures.place.1 in
     let next : c.next_start-start.result ≡ next_start_of a.header = c.next_start-start.ensures in
     let says : c.is_empty_primary-after_empty.result ≡ is_empty_primary a.header = c.is_empty_primary-after_empty.ensures in
@@ -201,8 +193,8 @@ loop-hdu-preserved g c =
       writes = search rules;
       created = search rules;
       shut = λ shut. c.in_ok-at.ensures.sink.shut (old.shut shut);
-      told_ranges = λ told. c.in_ok-at.ensures.told_ranges (c.in_ok-again.ensures.told (old.told_ranges told));
-      told_contents = λ told. c.in_ok-at.ensures.told_contents (old.told_contents told);
+      told_ranges = λ told. c.in_ok-at.ensures.source.told (c.in_ok-again.ensures.source.told (old.told_ranges told));
+      told_contents = λ told. c.in_ok-at.ensures.sink.told (old.told_contents told);
       read = one_hdu s zero c.ranges_law.ensures.join k start c.loop-hdu.at flag before mid few two three (c.hdus_law.ensures.payload Unpack) held a old.written seen body header;
       space = record {
         header = omega (arith, c.in_ok-at.ensures.space.header, old.space.header, c.in_ok-again.ensures.buf, length-take {A = ℕ}, length-append {A = ℕ}, length-drop {A = ℕ});
@@ -210,19 +202,15 @@ loop-hdu-preserved g c =
         copy = c.in_ok-at.ensures.space.copy ∙ old.space.copy;
       };
       window = record { sizes = c.in_ok-at.ensures.window.sizes ∙ old.window.sizes; workers = c.in_ok-at.ensures.window.workers ∙ old.window.workers };
-      block = c.in_ok-again.ensures.block;
       within = λ more. inl (not_at_end c.next_start-start.result c.args.asked.now.length (k + 1) s.hdus (omega (arith, next, inside)) last more);
       early = omega (arith, next, early);
       near = omega (arith, next, near, place, old.near);
-      written = subst (λ b. IfSome held (IsUnderway s.header_len s.tile s.hdus (k + 1) c.next_start-start.result end b before now)) (sym says)
-          (subst (λ n. IfSome held (IsUnderway s.header_len s.tile s.hdus (k + 1) n end (is_empty_primary a.header) before now)) (sym next) more);
+      written = subst (λ b. IfSome held (IsUnderway s (k + 1) c.next_start-start.result end b before now)) (sym says)
+          (subst (λ n. IfSome held (IsUnderway s (k + 1) n end (is_empty_primary a.header) before now)) (sym next) more);
     }
 
-pub returns-in_err-first-clause-read : goal.returns-in_err-first-clause-read
-returns-in_err-first-clause-read g c = c.in_err-first.ensures.read
-
 pub returns-then-first-survey-clause-read : goal.returns-then-first-survey-clause-read
-returns-then-first-survey-clause-read g c = c.in_ok-first.ensures.read
+returns-then-first-survey-clause-read g c = no_hdu c.args.survey.now (g.S.Source.ranges c.args.source.now) (g.S.Source.held c.args.source.now)
 
 pub returns-in_err-again-clause-read : goal.returns-in_err-again-clause-read
 returns-in_err-again-clause-read g c =

@@ -3,10 +3,10 @@ use Rattle.std.proofs.Common.{◌≡◌, ◌+◌, ◌*◌, ◌^◌, ◌<◌, ◌
 use Rattle.fz_base.specs.FirstByte.{StaysShut}
 use Rattle.fz_base.specs.Told.{StaysTold}
 use Rattle.fz_files.specs.declared.job.Job.TheVariants.{Unpack}
-use Rattle.fz_again.specs.Hdus.{ReadsHdus}
+use Rattle.fz_job.specs.Hdus.{ReadsHdus}
+use Rattle.fz_pool.specs.Window.{WindowStays}
 use Rattle.fz_unpack.specs.Behind.{IsUnderway}
-use Rattle.fz_survey.specs.Workspace.{SpaceStays}
-use Rattle.fz_job.specs.Keeps.{WindowStays}
+use Rattle.fz_job.specs.Workspace.{SpaceStays}
 use Rattle.fz_unpack.proofs.file.write_hdus.Given as goal
 
 abbrev pub invariant-loop-hdu : goal.invariant-loop-hdu
@@ -22,9 +22,8 @@ invariant-loop-hdu g l = record {
   read : IfSome (g.S.Source.held l.fn.source) (λ f. ReadsHdus Unpack f l.survey (g.S.Source.ranges l.fn.source) (g.S.Source.ranges l.source));
   space : SpaceStays l.fn.space l.space;
   window : WindowStays l.fn.window l.window;
-  block : length l.block ≡ 2880;
   within : l.hdu < l.survey.hdus → (l.start < l.length) ⊎ ((l.hdu ≡ 0) × (l.start ≡ 0));
   early : l.start ≤ 2 ^ 62;
   near : l.at ≤ l.start + l.hdu * 2 ^ 46;
-  written : IfSome (g.S.Source.held l.fn.source) (IsUnderway l.survey.header_len l.survey.tile l.survey.hdus l.hdu l.start l.at l.after_empty (g.K.Sink.contents l.fn.sink) (g.K.Sink.contents l.sink));
+  written : IfSome (g.S.Source.held l.fn.source) (IsUnderway l.survey l.hdu l.start l.at l.after_empty (g.K.Sink.contents l.fn.sink) (g.K.Sink.contents l.sink));
 }

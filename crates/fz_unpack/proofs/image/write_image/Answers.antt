@@ -1,8 +1,10 @@
 -- The image is its header, its pixels and the fill.
-use Rattle.std.proofs.Common.{◌≡◌, ℕ, ◌*◌, List, take, Option, IfSome, Result, Err, refl, sym, subst, rules}
+use Rattle.std.proofs.Common.{◌≡◌, ℕ, ◌*◌, List, take, Option, IfSome, Result, Err, refl, sym, ◌∙◌, subst, arith, rules}
 use Rattle.fz_base.specs.Stop.{IfRefused}
 use Rattle.fz_base.specs.declared.failure.Stop.{Stop}
 use Rattle.fz_block.specs.Hdus.{cards_of, header_bytes}
+use Rattle.fz_grid.specs.Grid.{tile_count}
+use Rattle.fz_grid.specs.Region.{lengths_of}
 use Rattle.fz_head.specs.PlainHeader.{plain_header}
 use Rattle.fz_job.specs.Behind.{HoldsBytes}
 use Rattle.fz_unpack.specs.Behind.{IsHduFault}
@@ -13,8 +15,17 @@ use Rattle.fz_unpack.proofs.Images.{header_again, packed_again, said_again}
 use Rattle.fz_unpack.proofs.Outcomes.{stop_weaker}
 use Rattle.fz_unpack.proofs.image.write_image.Goals as goal
 
-pub write_tiles-requires-clause-said : goal.write_tiles-requires-clause-said
-write_tiles-requires-clause-said g c κs within = said_again (g.S.Source.held c.args.source.now) c.requires.again.0 c.args.space.now.header c.args.header.now c.args.image.now c.requires.again.3
+pub write_tiles-requires-clause-image : goal.write_tiles-requires-clause-image
+write_tiles-requires-clause-image g c κs within =
+    let again = c.requires.again.3 in
+    record {
+      readable = again.usable.readable;
+      within = (c.requires.again.0, c.requires.again.1, c.requires.again.2, again.usable.inside);
+      said = said_again (g.S.Source.held c.args.source.now) c.requires.again.0 c.args.space.now.header c.args.header.now c.args.image.now again;
+      all = c.tile_count-tiles.ensures.count ∙ (λ i. tile_count (lengths_of (c.new.ensures.shape i)) (lengths_of (c.new.ensures.tile i)));
+      behind = omega (arith, c.in_ok-data_at.ensures.end.0);
+      near = omega (arith, c.in_ok-data_at.ensures.end.1, c.requires.near);
+    }
 
 pub returns-in_err-write_tiles-clause-fault : goal.returns-in_err-write_tiles-clause-fault
 returns-in_err-write_tiles-clause-fault g c =

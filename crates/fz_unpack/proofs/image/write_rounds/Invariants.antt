@@ -7,7 +7,7 @@ use Rattle.fz_base.specs.Told.{StaysTold}
 use Rattle.fz_files.specs.Touched.{image_ranges}
 use Rattle.fz_fetch.specs.Ahead.{IsAhead}
 use Rattle.fz_job.specs.Held.{IsHeld, settled}
-use Rattle.fz_job.specs.Keeps.{WindowStays}
+use Rattle.fz_pool.specs.Window.{WindowStays}
 use Rattle.fz_unpack.specs.Images.{AreWrittenTiles}
 use Rattle.fz_unpack.proofs.image.write_rounds.Given as goal
 
@@ -21,16 +21,16 @@ invariant-loop-first g l = record {
   shut : StaysShut (g.K.Sink.contents l.fn.sink) (g.K.Sink.contents l.sink);
   told_ranges : StaysTold (g.S.Source.ranges l.fn.source) (g.S.Source.ranges l.source);
   told_contents : StaysTold (g.K.Sink.contents l.fn.sink) (g.K.Sink.contents l.sink);
-  read : IfSome (g.S.Source.held l.fn.source) (λ file. LogsIn (image_ranges file l.header) (g.S.Source.ranges l.fn.source) (g.S.Source.ranges l.source));
+  read : IfSome (g.S.Source.held l.fn.source) (λ file. LogsIn (image_ranges file l.asked.header) (g.S.Source.ranges l.fn.source) (g.S.Source.ranges l.source));
   window : WindowStays l.fn.window l.window;
   buffer : length l.buf ≡ length l.fn.buf;
   room : length l.held ≡ length l.fn.held;
   kept : IsHeld l.back l.held;
-  ahead : IsAhead (g.S.Source.held l.fn.source) l.image.table l.buf l.ahead;
-  within : l.first ≤ l.tiles;
-  written : IfSome (g.S.Source.held l.fn.source) (λ file. AreWrittenTiles file l.header l.image.plan l.data_at (range_with_len 0 l.first)
+  ahead : IsAhead (g.S.Source.held l.fn.source) l.asked.image.table l.buf l.ahead;
+  within : l.first ≤ l.asked.tiles;
+  written : IfSome (g.S.Source.held l.fn.source) (λ file. AreWrittenTiles file l.asked.header l.asked.image.plan l.asked.data_at (range_with_len 0 l.first)
       (settled l.fn.back l.fn.held (g.K.Sink.contents l.fn.sink)) (settled l.back l.held (g.K.Sink.contents l.sink)));
 }
 
 abbrev pub decreases-loop-first : goal.decreases-loop-first
-decreases-loop-first g l = l.tiles - l.first
+decreases-loop-first g l = l.asked.tiles - l.first

@@ -20,12 +20,12 @@ fetch_and_scatter-requires-clause-tiles g c κs within =
     let few : count ≤ 128 = omega (arith, c.min-count.ensures, c.workers.ensures.some) in
     let are : c.number_tiles-2.new.tiles ≡ range_with_len next count =
     numbered next count _ c.number_tiles-2.new.tiles c.number_tiles-2.ensures (omega (arith, few, length-take {A = ℕ}, length-replicate {A = ℕ})) in
-    tiles_of_image c.args.image.now next count c.number_tiles-2.new.tiles are (omega (arith, c.min-count.ensures, c.requires.stand.within, c.requires.tiles))
+    tiles_of_image c.args.asked.now.image next count c.number_tiles-2.new.tiles are (omega (arith, c.min-count.ensures, c.requires.stand.within, c.requires.image.all))
 
 pub fetch_and_scatter-requires-clause-can_scatter : goal.fetch_and_scatter-requires-clause-can_scatter
 fetch_and_scatter-requires-clause-can_scatter g c κs within =
     let turn = c.args.turn.now in
-    let image = c.args.image.now in
+    let image = c.args.asked.now.image in
     let stand = c.requires.stand in
     let few : turn.decoded ≤ 128 = omega (arith, stand.few, c.workers-others.ensures.some, c.workers-others.ensures.value) in
     let are : c.number_tiles.new.tiles ≡ range_with_len turn.written turn.decoded =
@@ -33,20 +33,20 @@ fetch_and_scatter-requires-clause-can_scatter g c κs within =
     let long : length c.number_tiles.new.tiles ≡ turn.decoded = subst (λ (ts : List ℕ). length ts ≡ turn.decoded) (sym are) (length-range_with_len turn.written turn.decoded) in
     record {
       created_is = c.requires.created;
-      behind = c.requires.data.0;
+      behind = c.requires.image.behind;
       near = search rules;
-      divided = c.requires.image.divided;
-      size = c.requires.image.codec.size;
+      divided = c.requires.image.readable.divided;
+      size = c.requires.image.readable.codec.size;
       few = omega (arith, long, stand.few);
       window = (c.requires.rooms.0, c.requires.rooms.2, c.requires.rooms.3);
-      are = tiles_of_image image turn.written turn.decoded c.number_tiles.new.tiles are (omega (arith, stand.within, c.requires.tiles));
+      are = tiles_of_image image turn.written turn.decoded c.number_tiles.new.tiles are (omega (arith, stand.within, c.requires.image.all));
       pixels = (stand.fetched.pixels, subst (λ (ts : List ℕ). HaveTiles image.plan ts c.args.second.now.slots stand.fetched.pixels) (sym are) stand.fetched.have);
     }
 
 pub returns-in_err-fetch_and_scatter-clause-fault : goal.returns-in_err-fetch_and_scatter-clause-fault
 returns-in_err-fetch_and_scatter-clause-fault g c =
     let held : Option (List ℕ) = g.S.Source.held c.args.source.now in
-    let h = c.args.header.now in
+    let h = c.args.asked.now.header in
     let turn = c.args.turn.now in
     let first : ℕ = turn.written in
     let next : ℕ = turn.written + turn.decoded in
@@ -58,6 +58,18 @@ returns-in_err-fetch_and_scatter-clause-fault g c =
     let stopped : c.from_residual.result ≡ Err stop = search rules in
     let fault : IfRefused {X = Unit {0}} (Err stop) (λ x. IfSome held (λ file. IsFirstRowFault file (map (image_row h) (range_with_len next count)) (Some x))) =
     subst (λ (ts : List ℕ). IfRefused {X = Unit {0}} (Err stop) (λ x. IfSome held (λ file. IsFirstRowFault file (map (image_row h) ts) (Some x)))) are c.in_err-fetch_and_scatter.ensures.fault in
-    subst (λ (r : Result (Unit {0}) Stop). IfRefused r (λ x. IfSome held (λ file. (more : ℕ) × (first + more ≤ c.args.tiles) × IsFirstRowFault file (map (image_row h) (range_with_len first more)) (Some x)))) (sym stopped)
+    subst (λ (r : Result (Unit {0}) Stop). IfRefused r (λ x. IfSome held (λ file. (more : ℕ) × (first + more ≤ c.args.asked.now.tiles) × IsFirstRowFault file (map (image_row h) (range_with_len first more)) (Some x)))) (sym stopped)
     (stop_weaker (Unit {0}) (Unit {0}) stop
-    (λ x is. fault_in_turn held h c.args.image.now.plan turn.written turn.decoded count c.args.tiles c.args.second.now x c.requires.stand (omega (arith, c.min-count.ensures, c.requires.stand.within)) is) fault)
+    (λ x is. fault_in_turn held h c.args.asked.now.image.plan turn.written turn.decoded count c.args.asked.now.tiles c.args.second.now x c.requires.stand (omega (arith, c.min-count.ensures, c.requires.stand.within)) is) fault)
+
+-- ---- what stays
+
+pub returns-in_err-fetch_and_scatter-clause-stays : goal.returns-in_err-fetch_and_scatter-clause-stays
+returns-in_err-fetch_and_scatter-clause-stays g c =
+    let done = c.in_err-fetch_and_scatter.ensures in
+    record { source = done.source; sink = record { created_is = done.scattered.created_is; shut = done.scattered.shut; told = done.scattered.told }; row = search rules; read = done.read; cause = search rules }
+
+pub returns-clause-stays : goal.returns-clause-stays
+returns-clause-stays g c =
+    let done = c.in_ok-fetch_and_scatter.ensures in
+    record { source = done.source; sink = record { created_is = done.scattered.created_is; shut = done.scattered.shut; told = done.scattered.told }; row = tt; read = done.read; cause = search rules }

@@ -19,14 +19,14 @@ invariant-loop-turn g l = record {
   shut : StaysShut (g.K.Sink.contents l.fn.sink) (g.K.Sink.contents l.sink);
   told_ranges : StaysTold (g.S.Source.ranges l.fn.source) (g.S.Source.ranges l.source);
   told_contents : StaysTold (g.K.Sink.contents l.fn.sink) (g.K.Sink.contents l.sink);
-  read : IfSome (g.S.Source.held l.fn.source) (λ file. LogsIn (image_ranges file l.header) (g.S.Source.ranges l.fn.source) (g.S.Source.ranges l.source));
-  rooms : HaveRooms l.image l.first l.second;
+  read : IfSome (g.S.Source.held l.fn.source) (λ file. LogsIn (image_ranges file l.asked.header) (g.S.Source.ranges l.fn.source) (g.S.Source.ranges l.source));
+  rooms : HaveRooms l.asked.image l.first l.second;
   windows : (size : ℕ × ℕ) → AreAlike size l.fn.first → AreAlike size l.fn.second → AreAlike size l.first × AreAlike size l.second;
   workers : l.first.workers + l.second.workers ≡ l.fn.first.workers + l.fn.second.workers;
   rows : length l.rows ≡ length l.fn.rows;
-  stand : StandFetched (g.S.Source.held l.fn.source) l.header l.image.plan l.turn.written l.turn.decoded l.tiles l.second;
-  written : IfSome (g.S.Source.held l.fn.source) (λ file. AreWrittenTiles file l.header l.image.plan l.data_at (range_with_len 0 l.turn.written) (g.K.Sink.contents l.fn.sink) (g.K.Sink.contents l.sink));
+  stand : StandFetched (g.S.Source.held l.fn.source) l.asked.header l.asked.image.plan l.turn.written l.turn.decoded l.asked.tiles l.second;
+  written : IfSome (g.S.Source.held l.fn.source) (λ file. AreWrittenTiles file l.asked.header l.asked.image.plan l.asked.data_at (range_with_len 0 l.turn.written) (g.K.Sink.contents l.fn.sink) (g.K.Sink.contents l.sink));
 }
 
 abbrev pub decreases-loop-turn : goal.decreases-loop-turn
-decreases-loop-turn g l = 2 * l.tiles - (2 * l.turn.written + l.turn.decoded)
+decreases-loop-turn g l = 2 * l.asked.tiles - (2 * l.turn.written + l.turn.decoded)

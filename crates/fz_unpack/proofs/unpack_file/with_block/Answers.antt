@@ -5,15 +5,15 @@ use Rattle.fz_base.specs.Counts.{nameless}
 use Rattle.fz_base.specs.Takings.{TellsFirstPast, first_past, highest, piled}
 use Rattle.fz_base.specs.declared.failure.Stop.{Stop}
 use Rattle.fz_files.specs.declared.job.Job.TheVariants.{Unpack}
-use Rattle.fz_survey.specs.Surveys.{survey_takings}
-use Rattle.fz_survey.specs.Workspace.{wanted_buffers}
-use Rattle.fz_survey.specs.declared.checks.JobChecks.TheVariants.{Unpack as UnpackChecks}
+use Rattle.fz_job.specs.Surveys.{survey_takings}
+use Rattle.fz_job.specs.Workspace.{wanted_buffers}
+use Rattle.fz_job.specs.declared.checks.JobChecks.TheVariants.{Unpack as UnpackChecks}
 use Rattle.fz_base.specs.Stop.{TellsLimit}
 use Rattle.fz_job.specs.Clauses.{TellsFirstFault, greatest_bound}
-use Rattle.fz_stages.specs.Stages.{Works, later_takings, wants_for}
+use Rattle.fz_job.specs.Stages.{Works, later_takings, wants_for}
 use Rattle.fz_unpack.specs.Written.{AreShutOrWhole, FinishesSeen}
 use Rattle.fz_unpack.proofs.Finished.{Knows, learnt, work_faulty, work_output, work_shut, work_unmade}
-use Rattle.fz_again.specs.Hdus.{ReadsHdus}
+use Rattle.fz_job.specs.Hdus.{ReadsHdus}
 use Rattle.fz_unpack.proofs.HduReads.{all_read, look_read}
 use Rattle.fz_unpack.proofs.Outcomes.{look_refused, ok_weaker, past_at, past_by, untouched_shut, untouched_unmade}
 use Rattle.fz_unpack.proofs.unpack_file.with_block.Goals as goal

@@ -9,8 +9,8 @@ use Rattle.fz_base.specs.declared.failure.Stop.{Stop}
 use Rattle.fz_block.specs.Checks.{header_touched}
 use Rattle.fz_block.specs.Header.{next_start_of}
 use Rattle.fz_files.specs.declared.job.Job.TheVariants.{Verify}
-use Rattle.fz_again.specs.Again.{ReadsAsSeen, is_empty_primary}
-use Rattle.fz_again.specs.Hdus.{ReadsHdus}
+use Rattle.fz_job.specs.Again.{ReadsAsSeen, is_empty_primary}
+use Rattle.fz_job.specs.Hdus.{ReadsHdus}
 use Rattle.fz_files.specs.Touched.{data_touched}
 use Rattle.fz_verify.specs.Printed.{ChecksHdu, IsChecking, VerifiesSeen}
 use Rattle.fz_verify.specs.Rows.{IsHduSound}
@@ -29,7 +29,6 @@ loop-hdu-init g c = record {
   prints = refl;
   told_ranges = λ told. told;
   told_contents = λ told. told;
-  block = c.requires.block;
   space = record { header = refl; translated = refl; copy = refl };
   window = record { sizes = refl; workers = refl };
   within = λ more. inr (refl, refl);
@@ -151,9 +150,8 @@ loop-hdu-preserved g c =
       attached = search rules;
       reads = search rules;
       prints = search rules;
-      told_ranges = λ told. c.in_ok-sound.ensures.told_ranges (c.in_ok-again.ensures.told (old.told_ranges told));
+      told_ranges = λ told. c.in_ok-sound.ensures.source.told (c.in_ok-again.ensures.source.told (old.told_ranges told));
       told_contents = λ told. c.in_ok-sound.ensures.told_contents (old.told_contents told);
-      block = c.in_ok-again.ensures.block;
       space = record {
         header = omega (arith, c.in_ok-sound.ensures.space.header, old.space.header, c.in_ok-again.ensures.buf, length-take {A = ℕ}, length-append {A = ℕ}, length-drop {A = ℕ});
         translated = c.in_ok-sound.ensures.space.translated ∙ old.space.translated;

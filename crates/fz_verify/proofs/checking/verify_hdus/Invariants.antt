@@ -1,10 +1,10 @@
 -- The HDUs so far are verified; the source, the buffers and the counts are as at the start.
 use Rattle.std.proofs.Common.{◌≡◌, ◌^◌, ◌<◌, ◌≤◌, ◌⊎◌, length, IfSome}
 use Rattle.fz_base.specs.Told.{StaysTold}
-use Rattle.fz_survey.specs.Workspace.{SpaceStays}
-use Rattle.fz_job.specs.Keeps.{WindowStays}
-use Rattle.fz_again.specs.Hdus.{ReadsHdus}
+use Rattle.fz_job.specs.Workspace.{SpaceStays}
+use Rattle.fz_job.specs.Hdus.{ReadsHdus}
 use Rattle.fz_files.specs.declared.job.Job.TheVariants.{Verify}
+use Rattle.fz_pool.specs.Window.{WindowStays}
 use Rattle.fz_verify.specs.Printed.{IsChecking}
 use Rattle.fz_verify.specs.Reported.{ReportsFrom}
 use Rattle.fz_verify.proofs.checking.verify_hdus.Given as goal
@@ -17,7 +17,6 @@ invariant-loop-hdu g l = record {
   prints : g.T.Text.tally l.text ≡ g.T.Text.tally l.fn.text;
   told_ranges : StaysTold (g.S.Source.ranges l.fn.source) (g.S.Source.ranges l.source);
   told_contents : StaysTold (g.T.Text.contents l.fn.text) (g.T.Text.contents l.text);
-  block : length l.block ≡ 2880;
   space : SpaceStays l.fn.space l.space;
   window : WindowStays l.fn.window l.window;
   within : l.hdu < l.survey.hdus → (l.start < l.length) ⊎ ((l.hdu ≡ 0) × (l.start ≡ 0));

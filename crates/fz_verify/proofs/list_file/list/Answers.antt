@@ -13,7 +13,7 @@ use Rattle.fz_files.specs.Reads.{header_ranges}
 use Rattle.fz_files.specs.declared.job.Job.TheVariants.{List as ListHdus}
 use Rattle.fz_job.specs.Clauses.{HasJobCause, StaysUnmade, TellsFirstFault, greatest_bound}
 use Rattle.fz_verify.specs.Clauses.{PrintsLines}
-use Rattle.fz_stages.specs.Stages.{Works, later_takings}
+use Rattle.fz_job.specs.Stages.{Works, later_takings}
 use Rattle.fz_verify.proofs.Held.{refilled_len}
 use Rattle.fz_verify.proofs.Outcomes.{kept_same, peak_stays, short_unprinted, short_untold, untouched_silent, all_unmade, ok_weaker}
 use Rattle.fz_verify.proofs.HeaderReads.{unread}

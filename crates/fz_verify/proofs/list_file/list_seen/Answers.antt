@@ -5,10 +5,10 @@ use Rattle.fz_base.specs.Meter.{Gauge}
 use Rattle.fz_base.specs.Stop.{stop_of_short}
 use Rattle.fz_base.specs.Takings.{TellsFirstPast, first_past, piled}
 use Rattle.fz_base.specs.declared.failure.Stop.{Stop}
-use Rattle.fz_survey.specs.Workspace.{wanted_buffers}
+use Rattle.fz_job.specs.Workspace.{wanted_buffers}
 use Rattle.fz_verify.specs.Printed.{ListsSeen}
 use Rattle.fz_files.specs.declared.job.Job.TheVariants.{List as ListHdus}
-use Rattle.fz_stages.specs.Stages.{Works, wants_for}
+use Rattle.fz_job.specs.Stages.{Works, wants_for}
 use Rattle.fz_verify.proofs.Held.{refilled_len}
 use Rattle.fz_verify.proofs.Outcomes.{if_over, none_passed, ok_always, rewrite_over}
 use Rattle.fz_verify.proofs.One.{one_given, one_short_takes, one_works, short_listed, sum_of_one}

@@ -8,7 +8,7 @@ use Rattle.fz_base.specs.declared.failure.Stop.{Stop}
 use Rattle.fz_block.specs.Checks.{header_touched}
 use Rattle.fz_block.specs.Header.{next_start_of}
 use Rattle.fz_files.specs.Lines.{list_line}
-use Rattle.fz_again.specs.Again.{ReadsAsSeen, is_empty_primary}
+use Rattle.fz_job.specs.Again.{ReadsAsSeen, is_empty_primary}
 use Rattle.fz_verify.specs.Printed.{IsListing, ListsSeen}
 use Rattle.fz_verify.proofs.ListedHdus.{more_listed, none_listed, stops_changed, stops_printing, stops_reading}
 use Rattle.fz_verify.proofs.Ends.{not_at_end}
@@ -25,7 +25,6 @@ loop-hdu-init g c = record {
   prints = refl;
   told_ranges = λ told. told;
   told_contents = λ told. told;
-  block = c.requires.block;
   buf = refl;
   within = λ more. inr (refl, refl);
   early = omega arith;
@@ -139,9 +138,8 @@ loop-hdu-preserved g c =
       attached = search rules;
       reads = search rules;
       prints = search rules;
-      told_ranges = λ told. c.in_ok-again.ensures.told (old.told_ranges told);
+      told_ranges = λ told. c.in_ok-again.ensures.source.told (old.told_ranges told);
       told_contents = λ told. c.in_ok-print_listed.ensures.told (old.told_contents told);
-      block = c.in_ok-again.ensures.block;
       buf = c.in_ok-again.ensures.buf ∙ old.buf;
       within = λ left. inl (not_at_end c.next_start-start.result c.args.length (k + 1) s.hdus c.if-start-length.false left (omega (arith, next, inside)));
       early = omega (arith, next, early);

@@ -14,7 +14,6 @@ invariant-loop-hdu g l = record {
   prints : g.T.Text.tally l.text ≡ g.T.Text.tally l.fn.text;
   told_ranges : StaysTold (g.S.Source.ranges l.fn.source) (g.S.Source.ranges l.source);
   told_contents : StaysTold (g.T.Text.contents l.fn.text) (g.T.Text.contents l.text);
-  block : length l.block ≡ 2880;
   buf : length l.buf ≡ length l.fn.buf;
   within : l.hdu < l.survey.hdus → (l.start < l.length) ⊎ ((l.hdu ≡ 0) × (l.start ≡ 0));
   early : l.start ≤ 2 ^ 62;

@@ -1,5 +1,5 @@
 -- The header was read, so its line can be made.
-use Rattle.fz_again.specs.Again.{header_at_front}
+use Rattle.fz_job.specs.Again.{header_at_front}
 use Rattle.fz_verify.proofs.Few.{again_divided, few_axes}
 use Rattle.fz_verify.proofs.listing.print_listed.Goals as goal
 

@@ -4,10 +4,10 @@ use Rattle.fz_base.specs.Stop.{stop_of_short}
 use Rattle.fz_base.specs.Takings.{TellsFirstPast, first_past, piled}
 use Rattle.fz_base.specs.declared.failure.Stop.{Stop}
 use Rattle.fz_pool.specs.Window.{Pool}
-use Rattle.fz_survey.specs.Workspace.{held_bytes, wanted_buffers}
-use Rattle.fz_survey.specs.declared.workspace.Wants.{Wants}
+use Rattle.fz_job.specs.Workspace.{held_bytes, wanted_buffers}
+use Rattle.fz_job.specs.declared.workspace.Wants.{Wants}
 use Rattle.fz_files.specs.declared.job.Job.TheVariants.{Verify}
-use Rattle.fz_stages.specs.Stages.{Works, wants_for}
+use Rattle.fz_job.specs.Stages.{Works, wants_for}
 use Rattle.fz_verify.specs.Printed.{VerifiesSeen}
 use Rattle.fz_verify.proofs.Outcomes.{if_over, rewrite_over, short_verified, none_passed, ok_always}
 use Rattle.fz_verify.proofs.HduReads.{no_hdu}

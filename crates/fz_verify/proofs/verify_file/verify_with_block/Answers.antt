@@ -5,16 +5,16 @@ use Rattle.fz_base.specs.Stop.{TellsLimit}
 use Rattle.fz_base.specs.Takings.{TellsFirstPast, first_past, highest, piled}
 use Rattle.fz_base.specs.declared.failure.Stop.{Stop}
 use Rattle.fz_files.specs.declared.job.Job.TheVariants.{Verify}
-use Rattle.fz_survey.specs.Surveys.{survey_takings}
-use Rattle.fz_survey.specs.Workspace.{wanted_buffers}
-use Rattle.fz_survey.specs.declared.checks.JobChecks.TheVariants.{Unpack as UnpackChecks}
+use Rattle.fz_job.specs.Surveys.{survey_takings}
+use Rattle.fz_job.specs.Workspace.{wanted_buffers}
+use Rattle.fz_job.specs.declared.checks.JobChecks.TheVariants.{Unpack as UnpackChecks}
 use Rattle.fz_job.specs.Clauses.{TellsFirstFault, greatest_bound}
 use Rattle.fz_verify.specs.Clauses.{PrintsLines}
 use Rattle.fz_verify.specs.Printed.{AreRowsSound, VerifiesSeen}
-use Rattle.fz_stages.specs.Stages.{Works, later_takings, wants_for}
+use Rattle.fz_job.specs.Stages.{Works, later_takings, wants_for}
 use Rattle.fz_verify.proofs.Finished.{Knows, rows_sound, verify_faulty, verify_learnt, verify_prints, verify_right, work_silent}
 use Rattle.fz_verify.proofs.Outcomes.{look_refused, look_unprinted, untouched_silent, ok_weaker, past_by, past_at}
-use Rattle.fz_again.specs.Hdus.{ReadsHdus}
+use Rattle.fz_job.specs.Hdus.{ReadsHdus}
 use Rattle.fz_verify.proofs.HduReads.{all_read, headers_read}
 use Rattle.fz_verify.proofs.HeaderReads.{look_reads}
 use Rattle.fz_verify.proofs.Reports.{grew_not}

@@ -1,0 +1,12 @@
+pub mod BytesThere
+pub mod HeapsCompared
+pub mod JobsSet
+pub mod OneHdu
+pub mod Pieces
+pub mod ReadRanges
+pub mod Rounds
+pub mod RoundsCompared
+pub mod RowsAndHeap
+pub mod RowsCompared
+pub mod Sizes
+pub mod TablesCompared
