@@ -10,7 +10,7 @@ use Rattle.fz_files.specs.PlainFault.{plain_fault, too_long}
 use Rattle.fz_files.specs.RestoredFile.{restored}
 use Rattle.fz_files.specs.Walks.{header_fault}
 use Rattle.fz_files.specs.declared.job.Job.TheVariants.{Pack, Retile}
-use Rattle.fz_round_trip.specs.RoundTrip.{ComesBack, RestoredAreBytes, StandsForNoOther}
+use Rattle.fz_laws.specs.RoundTrip.{ComesBack, RestoredAreBytes, StandsForNoOther}
 use Rattle.fz_retile.specs.Laws.{StandsForTheSame}
 
 -- the file that is packed anew has no fault of its headers

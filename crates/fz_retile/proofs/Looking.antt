@@ -15,7 +15,7 @@ use Rattle.fz_files.specs.FirstFault.{IsFirstFault}
 use Rattle.fz_files.specs.Retiled.{plain_of}
 use Rattle.fz_files.specs.Touched.{touched_by}
 use Rattle.fz_files.specs.declared.job.Job.TheVariants.{Retile, Unpack}
-use Rattle.fz_round_trip.specs.RoundTrip.{HasNoOtherFault}
+use Rattle.fz_laws.specs.RoundTrip.{HasNoOtherFault}
 use Rattle.fz_job.specs.Clauses.{ComesLate, IfOverLimit, TellsFirstFault, greatest_bound}
 use Rattle.fz_pool.specs.Window.{Pool}
 use Rattle.fz_view.specs.Looked.{IsLookFault, buffers_of}

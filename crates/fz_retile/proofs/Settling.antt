@@ -13,7 +13,7 @@ use Rattle.fz_files.specs.FirstFault.{IsFirstFault}
 use Rattle.fz_files.specs.RestoredFile.{restored}
 use Rattle.fz_files.specs.Retiled.{plain_of}
 use Rattle.fz_files.specs.declared.job.Job.TheVariants.{Pack, Retile, Unpack}
-use Rattle.fz_round_trip.specs.RoundTrip.{StandsForRestored}
+use Rattle.fz_laws.specs.RoundTrip.{StandsForRestored}
 use Rattle.fz_job.specs.Clauses.{HasJobCause, IsAnswer, IsShutOrWhole, TellsFirstFault}
 use Rattle.fz_pack.specs.Output.{HoldsPacked}
 use Rattle.fz_view.specs.Looked.{IsLooked}

@@ -24,10 +24,18 @@ use fz_view::{Origin, Pinned, PlainView};
 use std::marker::PhantomData;
 use std::thread::Threads;
 
-/// The name of what the job makes.
+/// How the file is packed, and by whom: what starts threads, what each worker passes before a tile, the name of what the job
+/// makes, and the options.
 #[derive(Drop)]
-pub(crate) struct Named<'n> {
+pub(crate) struct Packing<'a, 'n, R, G> {
+    /// What starts threads.
+    pub(crate) rt: &'a R,
+    /// What each worker passes before a tile.
+    pub(crate) gate: &'a G,
+    /// The name of what the job makes.
     pub(crate) name: &'n str,
+    /// How it is packed.
+    pub(crate) options: PackOptions,
 }
 
 /// The view and the sink, after the file was packed.
@@ -42,14 +50,11 @@ pub(crate) struct Ended<'a, 'k, S: Source, K: Sink> {
 /// A reading that failed after a call of the sink had is reported as want of memory: `pack` ends at the first call that fails,
 /// so that no source and no sink of this program bring it about.
 pub(crate) fn in_view<'a, 'k, L: Origin, M: Watch, R: Threads + Sync, S: Source, K: Sink, G: Gate>(
-    rt: &R,
+    asked: &Packing<'_, '_, R, G>,
     view: PlainView<'a, S>,
-    named: &Named<'_>,
     sink: Lent<'k, K>,
     meter: &mut Meter,
     window: &mut Window,
-    gate: &G,
-    options: &PackOptions,
     answer: &mut Result<(), Stop>,
 ) -> Ended<'a, 'k, S, K>
     requires name { view.inner.ghost_name ≡ L.name }
@@ -64,7 +69,7 @@ pub(crate) fn in_view<'a, 'k, L: Origin, M: Watch, R: Threads + Sync, S: Source,
     requires empty { IfSome (K.contents sink.inner.now) (λ c. c ≡ []) }
     requires nothing_live { meter.old.live ≡ 0 }
     requires window { IsEmpty window.old }
-    requires options { AreOptions options.now }
+    requires options { AreOptions asked.now.options }
     ensures name { result.view.inner.ghost_name ≡ view.entry.inner.ghost_name }
     ensures sink_name { result.lent.inner.ghost_name ≡ sink.entry.inner.ghost_name }
     ensures tally { S.tally result.view.start.value ≡ S.tally view.entry.start.value }
@@ -72,25 +77,25 @@ pub(crate) fn in_view<'a, 'k, L: Origin, M: Watch, R: Threads + Sync, S: Source,
     ensures held { S.held result.view.inner.now ≡ S.held view.entry.inner.now }
     ensures file { result.view.length ≡ view.entry.length }
     ensures space { buffers_of result.view.space ≡ buffers_of view.entry.space }
-    ensures output { OnOk answer.new (HoldsPacked options.now (restored_from (S.held view.entry.inner.now)) (K.contents result.lent.inner.now)) }
+    ensures output { OnOk answer.new (HoldsPacked asked.now.options (restored_from (S.held view.entry.inner.now)) (K.contents result.lent.inner.now)) }
     ensures finished { OnOk answer.new (K.finished result.lent.inner.now ≡ true) }
-    ensures first_fault { TellsFirstFault (Pack options.now) (restored_from (S.held view.entry.inner.now)) answer.new }
-    ensures answered { Answers (Pack options.now) (restored_from (S.held view.entry.inner.now))
+    ensures first_fault { TellsFirstFault (Pack asked.now.options) (restored_from (S.held view.entry.inner.now)) answer.new }
+    ensures answered { Answers (Pack asked.now.options) (restored_from (S.held view.entry.inner.now))
         (with_more (S.tally view.entry.inner.now) view.entry.more) (with_more (S.tally result.view.inner.now) result.view.more)
         (nameless (K.tally sink.entry.inner.now)) (nameless (K.tally result.lent.inner.now)) meter.old.limit window.old.workers answer.new }
-    ensures cause { HasJobCause (Pack options.now) (restored_from (S.held view.entry.inner.now))
+    ensures cause { HasJobCause (Pack asked.now.options) (restored_from (S.held view.entry.inner.now))
         (with_more (S.tally view.entry.inner.now) view.entry.more) (with_more (S.tally result.view.inner.now) result.view.more)
         (nameless (K.tally sink.entry.inner.now)) (nameless (K.tally result.lent.inner.now)) meter.old.limit window.old.workers answer.new }
     ensures unwritten { IsErrOf answer.new ReadFault → nameless (K.tally result.lent.inner.now) ≡ nameless (K.tally sink.entry.inner.now) }
     ensures sink_counts { CountsKept (nameless (K.tally sink.entry.inner.now)) (nameless (K.tally result.lent.inner.now)) }
-    ensures names { NamesOnce named.now.name.now (K.tally sink.entry.inner.now).names (K.tally result.lent.inner.now).names answer.new }
+    ensures names { NamesOnce asked.now.name.now (K.tally sink.entry.inner.now).names (K.tally result.lent.inner.now).names answer.new }
     ensures first_byte { IsShutOrWhole (K.contents result.lent.inner.now)
-        (HoldsPacked options.now (restored_from (S.held view.entry.inner.now)) (K.contents result.lent.inner.now)) answer.new }
-    ensures unmade { IsUnmade (Pack options.now) (restored_from (S.held view.entry.inner.now)) meter.old.limit window.old.workers
+        (HoldsPacked asked.now.options (restored_from (S.held view.entry.inner.now)) (K.contents result.lent.inner.now)) answer.new }
+    ensures unmade { IsUnmade (Pack asked.now.options) (restored_from (S.held view.entry.inner.now)) meter.old.limit window.old.workers
         ((K.created result.lent.inner.now ≡ K.created sink.entry.inner.now) × (K.contents result.lent.inner.now ≡ K.contents sink.entry.inner.now)) answer.new }
-    ensures buffers { KeepsBuffers (Pack options.now) (restored_from (S.held view.entry.inner.now)) meter.old meter.new window.old window.new }
+    ensures buffers { KeepsBuffers (Pack asked.now.options) (restored_from (S.held view.entry.inner.now)) meter.old meter.new window.old window.new }
     ensures exact_peak { OnOk answer.new (IfSome (restored_from (S.held view.entry.inner.now))
-        (λ u. meter.new.peak ≡ max meter.old.peak (highest (job_takings (Pack options.now) u window.old.workers)))) }
+        (λ u. meter.new.peak ≡ max meter.old.peak (highest (job_takings (Pack asked.now.options) u window.old.workers)))) }
     ensures told_contents { StaysTold (K.contents sink.entry.inner.now) (K.contents result.lent.inner.now) }
 {
     let length = view.length();
@@ -104,15 +109,15 @@ pub(crate) fn in_view<'a, 'k, L: Origin, M: Watch, R: Threads + Sync, S: Source,
         of: PhantomData,
     };
     let answered = pack(
-        rt,
+        asked.rt,
         &mut pinned,
         length,
-        named.name,
+        asked.name,
         &mut watched,
         meter,
         window,
-        gate,
-        options,
+        asked.gate,
+        &asked.options,
     );
     let WatchedSink {
         lent,

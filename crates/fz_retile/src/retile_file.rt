@@ -11,16 +11,15 @@ ghost use Rattle.fz_files.specs.Buffers.{file_takings, own_takings};
 ghost use Rattle.fz_files.specs.Touched.{touched_by};
 ghost use Rattle.fz_files.specs.declared.job.Job.TheVariants.{Retile, Unpack};
 ghost use Rattle.fz_job.specs.Clauses.{IsShutOrWhole, KeepsSource, TellsFirstFault};
-ghost use Rattle.fz_retile.specs.Retiles.{AnswersBoth, HasRetileCause, HoldsRetiled, KeepsPacking, KeepsView};
-ghost use Rattle.fz_retile.specs.Retiles.{StaysUnmadeBoth, failed_of, late_of, settled_of};
+ghost use Rattle.fz_retile.specs.Retiles.{AnswersBoth, HasRetileCause, HoldsRetiled, KeepsPacking, KeepsView, StaysUnmadeBoth, failed_of, late_of, settled_of};
 
-use crate::pinning::{Ended, Named, in_view};
+use crate::pinning::{Ended, Packing, in_view};
 use crate::watched::Lent;
 use fz_base::{Failed, Fault, Gate, Meter, Sink, Source, Stop, takings_law};
 use fz_files::buffers_law;
 use fz_head::PackOptions;
+use fz_laws::{first_fault_law, restored_law};
 use fz_pool::Window;
-use fz_round_trip::{first_fault_law, restored_law};
 use fz_view::{PlainView, look};
 use std::marker::Brand;
 use std::snapshot::Snapshot;
@@ -91,18 +90,20 @@ pub fn retile<R: Threads + Sync, S: Source, K: Sink, G: Gate>(
     let start = Snapshot::of(&*source);
     let looked = look(rt, source, length, view, window, gate)?;
     let plain = PlainView::new(source, start, length, looked, options.tile);
-    let named = Named { name };
+    let asked = Packing {
+        rt,
+        gate,
+        name,
+        options: *options,
+    };
     let lent = Lent { inner: sink };
     let mut answer = Err(Stop::ReadFault);
     let ended = in_view::<Brand, Brand, R, S, K, G>(
-        rt,
+        &asked,
         plain,
-        &named,
         lent,
         meter,
         window,
-        gate,
-        options,
         &mut answer,
     );
     let Ended { view: plain, lent } = ended;

@@ -18,7 +18,7 @@ use Rattle.fz_files.specs.declared.job.Job.TheVariants.{Unpack}
 use Rattle.fz_strict.specs.FoundOptions.{block_of, codec_found, found_options, images_in}
 use Rattle.fz_strict.specs.Laws.{FoundOptionsAreAllowed}
 use Rattle.fz_strict.proofs.HeadersRead.{IsRead, PackedImages, are_read}
-use Rattle.fz_strict.proofs.Same.{WalkLaws}
+use Rattle.fz_strict.specs.Taken.{WalkLaws}
 use Rattle.fz_strict.proofs.TilesFound.{HasShortTile, axes_again, divided_short, found_is_tile}
 
 -- a plan whose tile and block a call takes

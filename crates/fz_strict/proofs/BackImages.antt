@@ -24,9 +24,9 @@ use Rattle.fz_image.specs.Layout.{IsLayout, IsPlan, layout_of}
 use Rattle.fz_image.specs.declared.layout.Layout.{Layout}
 use Rattle.fz_image.specs.declared.progress.Progress.{Progress}
 use Rattle.fz_tile.specs.Codecs.{CanWrite}
-use Rattle.fz_again.specs.Again.{IsAgain}
+use Rattle.fz_job.specs.Again.{IsAgain}
 use Rattle.fz_strict.specs.Backs.{ComparesRest, ImagesAreCompared, IsBack, IsImageAt, Restores, bytes_back}
-use Rattle.fz_strict.specs.Compared.{ComparesTable}
+use Rattle.fz_compare.specs.Compared.{ComparesTable}
 use Rattle.fz_strict.specs.Origins.{IsOrigin, IsRestored, with_hdu}
 use Rattle.fz_strict.specs.SameImages.{ComparesImage, origin_before}
 use Rattle.fz_strict.specs.declared.image.Restored.{Restored}

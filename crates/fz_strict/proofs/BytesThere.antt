@@ -1,11 +1,11 @@
 -- Bytes of the file at a place, joined of two parts.
-use Rattle.std.proofs.Common.{◌≡◌, ℕ, ◌+◌, ◌<◌, ◌≤◌, List, [], ◌++◌, length, take, drop, refl, sym, ap, ◌∙◌, subst, arith}
+use Rattle.std.proofs.Common.{◌≡◌, ℕ, ◌+◌, ◌<◌, ◌≤◌, List, ◌++◌, length, take, drop, refl, sym, ap, ◌∙◌, arith}
 use Rattle.std.specs.Prelude.{true, bytes_eq, nat_le}
 use Rattle.std.proofs.Math.Seq.{drop-append_seam, take-add}
-use Rattle.std.proofs.lemmas.Bool.{le-leb, leb-true}
+use Rattle.std.proofs.lemmas.Bool.{le-leb}
 use Rattle.std.proofs.lemmas.List.{drop-drop, drop-take, length-append, take-take, take_at}
 use Rattle.std.proofs.lemmas.Slice.Eq.{bytes_eq-Decides}
-use Rattle.fz_strict.specs.Compared.{has_bytes}
+use Rattle.fz_compare.specs.Compared.{has_bytes}
 use Rattle.fz_strict.proofs.Pieces.{both, first, second}
 
 -- the bytes stand at a place
@@ -15,9 +15,6 @@ IsThere file at bytes = take (length bytes) (drop at file) ≡ bytes
 module _ (file : List ℕ) (at end : ℕ) (bytes : List ℕ) where
   pub has_there : has_bytes file at end bytes ≡ true → IsThere file at bytes
   has_there has = (bytes_eq-Decides (take (length bytes) (drop at file)) bytes).0 (second (nat_le (at + length bytes) end) (bytes_eq (take (length bytes) (drop at file)) bytes) has)
-
-  pub has_within : has_bytes file at end bytes ≡ true → at + length bytes ≤ end
-  has_within has = leb-true (at + length bytes) end (first (nat_le (at + length bytes) end) (bytes_eq (take (length bytes) (drop at file)) bytes) has)
 
   pub has_both : IsThere file at bytes → at + length bytes ≤ end → has_bytes file at end bytes ≡ true
   has_both there within =
@@ -46,26 +43,7 @@ module _ (file : List ℕ) (at end : ℕ) (a b : List ℕ) where
       let whole : take (length a + length b) (drop at file) ≡ a ++ b = ap (λ n. take n (drop at file)) (sym len) ∙ all in
       ap (take (length b)) (sym behind) ∙ sym (drop-take (length a) (length b) (drop at file)) ∙ ap (drop (length a)) whole ∙ drop-append_seam a b
 
-  pub has_joined : IsThere file at a → has_bytes file (at + length a) end b ≡ true → has_bytes file at end (a ++ b) ≡ true
-  has_joined one two =
-      has_both file at end (a ++ b) (there_joined one (has_there file (at + length a) end b two)) (omega (arith, len, has_within file (at + length a) end b two))
-
-  pub has_front : has_bytes file at end (a ++ b) ≡ true → has_bytes file at end a ≡ true
-  has_front all = has_both file at end a (there_front (has_there file at end (a ++ b) all)) (omega (arith, len, has_within file at end (a ++ b) all))
-
-  pub has_back : has_bytes file at end (a ++ b) ≡ true → has_bytes file (at + length a) end b ≡ true
-  has_back all = has_both file (at + length a) end b (there_back (has_there file at end (a ++ b) all)) (omega (arith, len, has_within file at end (a ++ b) all))
-
 -- the bytes of the first i of some parts stand there, and before an end if there are any
 pub record HasFirst (i : ℕ) (file : List ℕ) (at end : ℕ) (bytes : List ℕ) : Type 0 where
   pub there : IsThere file at bytes
   pub has : 0 < i → has_bytes file at end bytes ≡ true
-
-pub none_first : (file : List ℕ) (at end : ℕ) (bytes : List ℕ) → bytes ≡ [] → HasFirst 0 file at end bytes
-none_first file at end bytes none = record { there = subst (IsThere file at) (sym none) refl; has = λ some. absurd (omega (arith, some)) }
-
-pub more_first : (i j : ℕ) (file : List ℕ) (at end next : ℕ) (a b all : List ℕ) → all ≡ a ++ b → next ≡ at + length a → HasFirst i file at end a → has_bytes file next end b ≡ true → HasFirst j file at end all
-more_first i j file at end next a b all joined place before more =
-    let there : has_bytes file (at + length a) end b ≡ true = subst (λ n. has_bytes file n end b ≡ true) place more in
-    let now : has_bytes file at end all ≡ true = subst (λ l. has_bytes file at end l ≡ true) (sym joined) (has_joined file at end a b before.there there) in
-    record { there = has_there file at end all now; has = λ some. now }

@@ -14,13 +14,12 @@ use Rattle.fz_files.specs.FirstFault.{IsFirstFault, IsFirstRowFault, all_rows}
 use Rattle.fz_files.specs.declared.job.Job.TheVariants.{Unpack}
 use Rattle.fz_head.specs.Planned.{AreOptions}
 use Rattle.fz_head.specs.declared.options.PackOptions.{PackOptions}
-use Rattle.fz_round_trip.specs.RoundTrip.{HasRestoredFile}
-use Rattle.fz_survey.specs.declared.survey.Survey.{Survey}
-use Rattle.fz_again.specs.Again.{ReadsAsSeen, WereSeen, is_empty_primary}
-use Rattle.fz_again.specs.Known.{IsKnown}
-use Rattle.fz_again.specs.declared.again.ReadHdu.{ReadHdu}
+use Rattle.fz_laws.specs.RoundTrip.{HasRestoredFile, RestoredAreBytes}
+use Rattle.fz_job.specs.declared.survey.Survey.{Survey}
+use Rattle.fz_job.specs.Again.{ReadsAsSeen, WereSeen, is_empty_primary}
+use Rattle.fz_job.specs.Known.{IsKnown}
+use Rattle.fz_job.specs.declared.again.ReadHdu.{ReadHdu}
 use Rattle.fz_strict.specs.Laws.{HdusAreDecided, HdusStandForOne}
-use Rattle.fz_round_trip.specs.RoundTrip.{RestoredAreBytes}
 use Rattle.fz_strict.specs.Origins.{IsOrigin, no_origin}
 use Rattle.fz_strict.specs.Rows.{ComparesSeen, IsCompared, IsHduFault, IsHduSound}
 use Rattle.fz_strict.specs.SameHdus.{IsDecided, StandsForOne}

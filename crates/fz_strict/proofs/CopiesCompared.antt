@@ -13,8 +13,8 @@ use Rattle.fz_head.specs.JobChecks.{plan_to_pack}
 use Rattle.fz_head.specs.declared.job_checks.PackedImage.{PackedImage}
 use Rattle.fz_head.specs.declared.options.PackOptions.{PackOptions}
 use Rattle.fz_head.specs.declared.plan.Plan.{Plan}
-use Rattle.fz_again.specs.Again.{IsAgain, header_at_front}
-use Rattle.fz_again.specs.declared.again.ReadHdu.{ReadHdu}
+use Rattle.fz_job.specs.Again.{IsAgain, header_at_front}
+use Rattle.fz_job.specs.declared.again.ReadHdu.{ReadHdu}
 use Rattle.fz_strict.specs.Origins.{IsOrigin, if_copied, with_copied, with_hdu}
 use Rattle.fz_strict.specs.SameImages.{ComparesCopy, ComparesHdu, ComparesImage}
 use Rattle.fz_strict.specs.declared.origin.Origin.{Origin}

@@ -32,7 +32,7 @@ use Rattle.fz_image.specs.declared.progress.Progress.{Progress}
 use Rattle.fz_tile.specs.Plain.{plain_bytes}
 use Rattle.fz_tile.specs.TileCode.{TileCode}
 use Rattle.fz_strict.specs.Backs.{ComparesRest, ImagesAreCompared, IsBack, IsImageAt, Restores, bytes_back, with_frame}
-use Rattle.fz_strict.specs.Compared.{ComparesCodes, ComparesTable, HasCodes, begins_right, has_bytes, has_empty_primary, has_fill, has_frame, has_header}
+use Rattle.fz_compare.specs.Compared.{ComparesCodes, ComparesTable, HasCodes, begins_right, has_bytes, has_empty_primary, has_fill, has_frame, has_header}
 use Rattle.fz_strict.specs.Origins.{IsOrigin, IsRestored, no_origin, restored_bytes, with_hdu}
 use Rattle.fz_strict.specs.SameHdus.{ComesBackAs, header_again, plain_image, table_again}
 use Rattle.fz_strict.specs.SameImages.{ComparesFrom, HasHeaderBefore, IsSameAfter, front_before, origin_before}

@@ -21,8 +21,8 @@ use Rattle.fz_files.specs.Packed.{before_table, packed_file, packed_from, packed
 use Rattle.fz_files.specs.Restored.{HduStandsFor, StandsForAs, is_packed_primary, plan_in, standing}
 use Rattle.fz_files.specs.Walks.{headers_for}
 use Rattle.fz_files.specs.declared.job.Job.TheVariants.{Unpack}
-use Rattle.fz_round_trip.specs.PackedHdus.{Become, Becomes, BecomesAs}
-use Rattle.fz_round_trip.specs.RoundTrip.{IsPacked}
+use Rattle.fz_laws.specs.PackedHdus.{Become, Becomes, BecomesAs}
+use Rattle.fz_laws.specs.RoundTrip.{IsPacked}
 use Rattle.fz_strict.specs.SameHdus.{AreSame, HasSameHdus, IsSame, front_of, plan_again}
 use Rattle.fz_strict.specs.Strict.{IsStrictBy}
 use Rattle.fz_strict.proofs.Ends.{passes_ends}

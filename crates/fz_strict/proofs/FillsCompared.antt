@@ -5,7 +5,7 @@ use Rattle.std.proofs.lemmas.List.{take-replicate}
 use Rattle.fz_block.specs.Header.{whole_blocks_of}
 use Rattle.fz_image.specs.Layout.{heap_at_of, rows_len_of}
 use Rattle.fz_image.specs.declared.layout.Layout.{Layout}
-use Rattle.fz_strict.specs.Compared.{has_bytes, has_fill}
+use Rattle.fz_compare.specs.Compared.{has_bytes, has_fill}
 use Rattle.fz_strict.proofs.Pieces.{is_false}
 use Rattle.fz_strict.proofs.SumNames.{and_none, and_second}
 

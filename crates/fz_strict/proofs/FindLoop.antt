@@ -11,10 +11,10 @@ use Rattle.fz_block.specs.declared.header.Header.{Header}
 use Rattle.fz_files.specs.Restored.{is_image}
 use Rattle.fz_head.specs.Planned.{IsTile}
 use Rattle.fz_head.specs.declared.options.PackOptions.{PackOptions}
-use Rattle.fz_survey.specs.declared.survey.Survey.{Survey}
-use Rattle.fz_again.specs.Again.{IsAgain, ReadsAsSeen, header_at_front, is_empty_primary}
-use Rattle.fz_again.specs.Known.{IsList}
-use Rattle.fz_again.specs.declared.again.ReadHdu.{ReadHdu}
+use Rattle.fz_job.specs.declared.survey.Survey.{Survey}
+use Rattle.fz_job.specs.Again.{IsAgain, ReadsAsSeen, header_at_front, is_empty_primary}
+use Rattle.fz_job.specs.Known.{IsList}
+use Rattle.fz_job.specs.declared.again.ReadHdu.{ReadHdu}
 use Rattle.fz_strict.specs.FoundOptions.{options_of}
 use Rattle.fz_strict.specs.Gathered.{AreOptionsOf, FindsOptions, IsFound, nothing_found, options_found, with_cards}
 use Rattle.fz_strict.specs.declared.options.Found.{Found}

@@ -11,8 +11,8 @@ use Rattle.fz_files.specs.Restored.{is_image}
 use Rattle.fz_files.specs.declared.job.Job.TheVariants.{Unpack, Verify}
 use Rattle.fz_head.specs.declared.options.PackOptions.{PackOptions}
 use Rattle.fz_job.specs.Clauses.{ComesLate, IsChanged}
-use Rattle.fz_again.specs.Known.{IsKnown}
-use Rattle.fz_survey.specs.declared.survey.Survey.{Survey}
+use Rattle.fz_job.specs.Known.{IsKnown}
+use Rattle.fz_job.specs.declared.survey.Survey.{Survey}
 use Rattle.fz_strict.specs.FoundOptions.{found_options, options_of}
 use Rattle.fz_strict.specs.Gathered.{FindsOptions}
 use Rattle.fz_strict.specs.Rows.{ComparesFound, ComparesSeen, IsCompared}

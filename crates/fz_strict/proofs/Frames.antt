@@ -1,17 +1,36 @@
 -- All but the rows and the heap of a table is what `pack` writes.
-use Rattle.std.proofs.Common.{◌≡◌, ℕ, ◌+◌, List, length, ap, ◌∙◌, arith}
+use Rattle.std.proofs.Common.{◌≡◌, ℕ, ◌+◌, ◌==◌, List, length, sym, ap, ◌∙◌, arith}
+use Rattle.std.proofs.lemmas.Bool.Decides.{Decides-eqb}
 use Rattle.std.specs.Prelude.{Bool, true, false, ◌&&◌, Option, Some, None, IfSome}
 use Rattle.fz_block.specs.Hdus.{header_bytes}
 use Rattle.fz_block.specs.Header.{next_start_of}
 use Rattle.fz_block.specs.declared.header.Header.{Header}
 use Rattle.fz_files.specs.Packed.{heap_of, packed_data, table_header, with_sums}
+use Rattle.fz_head.specs.EmptyPrimary.{empty_primary}
 use Rattle.fz_image.specs.Progress.{no_progress, with_tiles}
 use Rattle.fz_image.specs.Tiles.{AreCodesFrom}
 use Rattle.fz_image.specs.declared.layout.Layout.{Layout}
 use Rattle.fz_image.specs.declared.progress.Progress.{Progress}
 use Rattle.fz_tile.specs.TileCode.{TileCode}
-use Rattle.fz_strict.specs.Compared.{begins_right, has_fill, has_frame, has_header}
+use Rattle.fz_compare.specs.Compared.{begins_right, has_bytes, has_fill, has_frame, has_header}
+use Rattle.fz_strict.proofs.Pieces.{is_false}
 use Rattle.fz_strict.proofs.SumNames.{and_none, and_second, and_third}
+
+-- the table of a primary does not begin behind a primary without data
+pub begins_elsewhere : (primary : Bool) (h : Header) (held : Option (List ℕ)) → primary ≡ true → (h.start ≡ 2880 → ⊥) → IfSome held (λ g. false ≡ begins_right primary g h)
+begins_elsewhere false h held is never = absurd cc
+begins_elsewhere true h None is never = tt
+begins_elsewhere true h (Some g) is never =
+    and_none (h.start == 2880) (has_bytes g 0 h.start (header_bytes empty_primary)) (is_false (h.start == 2880) (λ there. never ((Decides-eqb h.start 2880).0 there)))
+
+-- it does, and these are its bytes
+pub begin_compared : (primary : Bool) (h : Header) (made : List ℕ) (answer : Bool) → primary ≡ true → h.start ≡ 2880 → made ≡ header_bytes empty_primary → (held : Option (List ℕ)) →
+    IfSome held (λ g. answer ≡ has_bytes g 0 h.start made) → IfSome held (λ g. answer ≡ begins_right primary g h)
+begin_compared false h made answer is there bytes held same = absurd cc
+begin_compared true h made answer is there bytes None same = tt
+begin_compared true h made answer is there bytes (Some g) same =
+    same ∙ ap (has_bytes g 0 h.start) bytes
+    ∙ and_second (h.start == 2880) (has_bytes g 0 h.start (header_bytes empty_primary)) (sym ((Decides-eqb h.start 2880).1 there))
 
 -- what is asked of the frame of a table of which this was written
 abbrev pub FrameIs : Header → Layout → Bool → List (List ℕ) → Progress → Bool → List ℕ → Type 0

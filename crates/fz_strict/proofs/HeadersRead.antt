@@ -19,7 +19,8 @@ use Rattle.fz_files.specs.declared.job.Job.TheVariants.{Unpack}
 use Rattle.fz_strict.specs.FoundOptions.{images_in}
 use Rattle.fz_strict.proofs.Ends.{pass_ends}
 use Rattle.fz_strict.proofs.Images.{standing_images}
-use Rattle.fz_strict.proofs.Same.{WalkLaws, found_walk, no_header_fault}
+use Rattle.fz_strict.specs.Taken.{WalkLaws}
+use Rattle.fz_strict.proofs.Same.{found_walk, no_header_fault}
 
 pub one_answer : (r : Result (List Header) Fault) (xs ys : List Header) → r ≡ Ok xs → r ≡ Ok ys → xs ≡ ys
 one_answer r xs ys first second = cc

@@ -19,7 +19,7 @@ use Rattle.fz_head.specs.declared.options.PackOptions.{PackOptions}
 use Rattle.fz_head.specs.declared.plan.Plan.{Plan}
 use Rattle.fz_files.specs.Laws.{IsTableOf, TablesAreAccepted, table_hdu, totals_from}
 use Rattle.fz_files.specs.Restored.{header_in, is_image, is_packed_primary, plan_in, standing}
-use Rattle.fz_round_trip.specs.PackedHdus.{Become, BecomesAs, TablesHaveSums}
+use Rattle.fz_laws.specs.PackedHdus.{Become, BecomesAs, TablesHaveSums}
 use Rattle.fz_strict.specs.FoundOptions.{has_sums, sums_found, sums_in}
 use Rattle.fz_strict.proofs.TilesFound.{Among}
 

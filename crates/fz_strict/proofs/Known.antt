@@ -20,10 +20,10 @@ use Rattle.fz_files.specs.FirstFault.{IsFirstFault, IsFirstRowFault, IsFaultBehi
 use Rattle.fz_files.specs.Restored.{HdusStandFor, RowsStandFor, StandsForAs, header_in, is_image, is_packed_primary, plan_in, standing}
 use Rattle.fz_files.specs.Walks.{headers_for}
 use Rattle.fz_files.specs.declared.job.Job.TheVariants.{Unpack}
-use Rattle.fz_round_trip.specs.RoundTrip.{HasRestoredFile}
-use Rattle.fz_survey.specs.declared.survey.Survey.{Survey}
-use Rattle.fz_again.specs.Again.{WasSeen, WereSeen}
-use Rattle.fz_again.specs.Known.{IsKnown}
+use Rattle.fz_laws.specs.RoundTrip.{HasRestoredFile}
+use Rattle.fz_job.specs.declared.survey.Survey.{Survey}
+use Rattle.fz_job.specs.Again.{WasSeen, WereSeen}
+use Rattle.fz_job.specs.Known.{IsKnown}
 use Rattle.fz_strict.specs.Laws.{HdusAreDecided, HdusStandForOne}
 use Rattle.fz_strict.specs.SameHdus.{IsDecided, StandsForOne}
 use Rattle.fz_strict.proofs.Flags.{naxis_is}

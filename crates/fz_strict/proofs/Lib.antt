@@ -18,9 +18,7 @@ pub mod Fronts
 pub mod Gathering
 pub mod Greatest
 pub mod HeadersRead
-pub mod HeapsCompared
 pub mod Images
-pub mod JobsSet
 pub mod Joined
 pub mod Known
 pub mod Layouts
@@ -32,14 +30,11 @@ pub mod Parts
 pub mod Pieces
 pub mod PlainTiles
 pub mod PlansMade
+pub mod Promises
 pub mod ReadHdus
 pub mod ReadRanges
-pub mod Promises
 pub mod Restored
-pub mod Rounds
-pub mod RoundsCompared
 pub mod RowsAndHeap
-pub mod RowsCompared
 pub mod Said
 pub mod Same
 pub mod Sizes
@@ -49,7 +44,6 @@ pub mod Steps
 pub mod SumNames
 pub mod TableBytes
 pub mod TableHeaders
-pub mod TablesCompared
 pub mod Takings
 pub mod TilesFound
 pub mod Whole

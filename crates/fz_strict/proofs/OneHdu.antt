@@ -30,7 +30,7 @@ use Rattle.fz_files.specs.declared.job.Job.TheVariants.{Unpack}
 use Rattle.fz_strict.specs.Laws.{HdusStandForOne}
 use Rattle.fz_strict.specs.SameHdus.{IsPlainAs, StandsForOne, plain_image}
 use Rattle.fz_strict.proofs.HeadersRead.{IsRead, PackedImages, are_read}
-use Rattle.fz_strict.proofs.Same.{WalkLaws}
+use Rattle.fz_strict.specs.Taken.{WalkLaws}
 use Rattle.fz_strict.proofs.Split.{one_split}
 
 -- what is taken of the laws of cards

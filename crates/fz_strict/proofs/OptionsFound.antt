@@ -13,15 +13,16 @@ use Rattle.fz_head.specs.declared.plan.Plan.{Plan}
 use Rattle.fz_files.specs.Restored.{plan_in, standing}
 use Rattle.fz_files.specs.Walks.{headers_for}
 use Rattle.fz_files.specs.declared.job.Job.TheVariants.{Unpack}
-use Rattle.fz_round_trip.specs.PackedHdus.{Become, HdusBecome}
-use Rattle.fz_round_trip.specs.RoundTrip.{IsPacked}
+use Rattle.fz_laws.specs.PackedHdus.{Become, HdusBecome}
+use Rattle.fz_laws.specs.RoundTrip.{IsPacked}
 use Rattle.fz_strict.specs.FoundOptions.{block_of, codec_found, found_options, images_in, sums_found, sums_in, tile_found, word_of}
 use Rattle.fz_strict.specs.Laws.{FoundOptionsAreAllowed, FoundOptionsDo}
 use Rattle.fz_strict.specs.Strict.{IsStrictBy}
 use Rattle.fz_strict.proofs.Codecs.{asked_again, found_codec}
 use Rattle.fz_strict.proofs.HeadersRead.{is_walked}
 use Rattle.fz_strict.proofs.Images.{TableLaws, each_among, filter_among, plans, sums, sums_are}
-use Rattle.fz_strict.proofs.Same.{AreSameFor, IsFound, MakeTheSame, WalkLaws, is_found, same_file, same_taken}
+use Rattle.fz_strict.specs.Taken.{WalkLaws}
+use Rattle.fz_strict.proofs.Same.{AreSameFor, IsFound, MakeTheSame, is_found, same_file, same_taken}
 use Rattle.fz_strict.proofs.TilesFound.{Among, both_true, found_tile, tile_by}
 
 -- all laws

@@ -16,9 +16,9 @@ use Rattle.fz_base.specs.declared.failure.Short.TheVariants.{NoMemory as NoRoom,
 use Rattle.fz_base.specs.declared.failure.Stop.{Stop}
 use Rattle.fz_base.specs.declared.failure.Stop.TheVariants.{Refused, ReadFault, WriteFault, OverLimit, NoMemory}
 use Rattle.fz_fetch.specs.Stops.{Fetches, StoppedFetching}
-use Rattle.fz_survey.specs.Takes.{TellsTheLimit}
-use Rattle.fz_survey.specs.declared.survey.Survey.{Survey}
-use Rattle.fz_survey.specs.declared.workspace.Workspace.{Workspace}
+use Rattle.fz_job.specs.Takes.{TellsTheLimit}
+use Rattle.fz_job.specs.declared.survey.Survey.{Survey}
+use Rattle.fz_job.specs.declared.workspace.Workspace.{Workspace}
 use Rattle.fz_strict.specs.Rows.{ComparesFound, ComparesSeen}
 
 -- ---- facts that hold whatever the answer

@@ -43,7 +43,7 @@ use Rattle.fz_strict.proofs.Ends.{behind_none, first_false, passes_ends}
 use Rattle.fz_strict.proofs.Fill.{FillLaws, HasPixels, pixels_len}
 use Rattle.fz_strict.proofs.HeadersRead.{IsRead, answer_none, are_read}
 use Rattle.fz_strict.proofs.OneHdu.{ImageLaws, bits_are, one_of, restored_header}
-use Rattle.fz_strict.proofs.Same.{WalkLaws}
+use Rattle.fz_strict.specs.Taken.{WalkLaws}
 use Rattle.fz_strict.proofs.TilesFound.{both_true}
 use Rattle.fz_strict.proofs.Whole.{is_planned, plan_ok}
 

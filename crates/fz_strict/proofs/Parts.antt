@@ -14,10 +14,10 @@ use Rattle.fz_block.specs.Checks.{block_checks, blocks_to_end, header_room, hdu_
 use Rattle.fz_block.specs.Header.{next_start_of}
 use Rattle.fz_block.specs.declared.header.Header.{Header}
 use Rattle.fz_head.specs.JobChecks.{is_after_empty}
-use Rattle.fz_survey.specs.declared.survey.Survey.{Survey}
-use Rattle.fz_again.specs.Again.{ReadsAsSeen, WasSeen, WereSeen, is_empty_primary}
-use Rattle.fz_again.specs.Known.{IsList}
-use Rattle.fz_again.specs.declared.again.ReadHdu.{ReadHdu}
+use Rattle.fz_job.specs.declared.survey.Survey.{Survey}
+use Rattle.fz_job.specs.Again.{ReadsAsSeen, WasSeen, WereSeen, is_empty_primary}
+use Rattle.fz_job.specs.Known.{IsList}
+use Rattle.fz_job.specs.declared.again.ReadHdu.{ReadHdu}
 use Rattle.fz_strict.proofs.Flags.{SaysBehind, first_flag, next_flag}
 
 -- ---- no HDU begins where the file ends

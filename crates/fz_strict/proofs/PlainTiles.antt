@@ -21,7 +21,7 @@ use Rattle.fz_tile.specs.Codecs.{CanWrite}
 use Rattle.fz_tile.specs.Laws.{FillsColumn}
 use Rattle.fz_tile.specs.Pixels.{IsBitpix}
 use Rattle.fz_tile.specs.TileCode.{AreElements, tile_code}
-use Rattle.fz_strict.specs.Compared.{RowsStandForTiles}
+use Rattle.fz_compare.specs.Compared.{RowsStandForTiles}
 use Rattle.fz_strict.specs.SameHdus.{plain_image}
 use Rattle.fz_strict.proofs.Packs.{PixelLaws, array_is}
 

@@ -15,14 +15,14 @@ use Rattle.fz_files.specs.Laws.{VerifyRefusesAsUnpack}
 use Rattle.fz_files.specs.Walks.{header_fault}
 use Rattle.fz_files.specs.declared.job.Job.TheVariants.{Unpack, Verify}
 use Rattle.fz_job.specs.Clauses.{IsAnswer, TellsFirstFault, greatest_bound}
-use Rattle.fz_again.specs.Known.{IsKnown, SurveysKnow, SurveysRefuse}
-use Rattle.fz_stages.specs.Ends.{PeaksStayWithin}
-use Rattle.fz_stages.specs.Stages.{HasLargest}
-use Rattle.fz_survey.specs.Laws.{UnpackLooksOver}
-use Rattle.fz_survey.specs.Surveys.{survey_takings, surveyed}
-use Rattle.fz_survey.specs.Workspace.{BoundGrows, PassesWithinAll}
-use Rattle.fz_survey.specs.declared.checks.JobChecks.TheVariants.{Unpack as UnpackChecks}
-use Rattle.fz_survey.specs.declared.survey.Survey.{Survey}
+use Rattle.fz_job.specs.Known.{IsKnown, SurveysKnow, SurveysRefuse}
+use Rattle.fz_job.specs.Ends.{PeaksStayWithin}
+use Rattle.fz_job.specs.Stages.{HasLargest}
+use Rattle.fz_job.specs.SurveyLaws.{UnpackLooksOver}
+use Rattle.fz_job.specs.Surveys.{survey_takings, surveyed}
+use Rattle.fz_job.specs.Workspace.{BoundGrows, PassesWithinAll}
+use Rattle.fz_job.specs.declared.checks.JobChecks.TheVariants.{Unpack as UnpackChecks}
+use Rattle.fz_job.specs.declared.survey.Survey.{Survey}
 use Rattle.fz_strict.specs.Clauses.{AnswersStrict, HasStrictCause, IsStrictAsSaid, look_takings, strict_buffers, strict_takings}
 use Rattle.fz_strict.specs.Laws.{FoundOptionsDoForEach}
 use Rattle.fz_strict.specs.Rows.{ComparesFound, IsCompared}

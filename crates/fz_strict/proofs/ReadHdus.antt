@@ -10,16 +10,16 @@ use Rattle.fz_files.specs.Touched.{all_data_touched, touched_by}
 use Rattle.fz_files.specs.Walks.{header_fault, headers_for, job_walk}
 use Rattle.fz_files.specs.declared.job.Job.TheVariants.{Unpack, Verify}
 use Rattle.fz_head.specs.declared.options.PackOptions.{PackOptions}
-use Rattle.fz_survey.specs.Reads.{IsWithinOne}
-use Rattle.fz_survey.specs.Surveys.{survey_places}
-use Rattle.fz_survey.specs.declared.checks.JobChecks.TheVariants.{Unpack as UnpackChecks}
-use Rattle.fz_survey.specs.declared.survey.Survey.{Survey}
-use Rattle.fz_again.specs.Again.{ReadsAsSeen}
-use Rattle.fz_again.specs.Hdus.{HeaderIsOfHdus, KnownAreTouched, ReadsHdus, ranges_of_hdus}
-use Rattle.fz_again.specs.Headers.{LooksReadHeaders}
-use Rattle.fz_again.specs.Known.{IsKnown, SurveysKnow}
-use Rattle.fz_again.specs.declared.again.ReadHdu.{ReadHdu}
-use Rattle.fz_strict.specs.Reads.{ReadsKnown, hdu_ranges}
+use Rattle.fz_job.specs.SurveyReads.{IsWithinOne}
+use Rattle.fz_job.specs.Surveys.{survey_places}
+use Rattle.fz_job.specs.declared.checks.JobChecks.TheVariants.{Unpack as UnpackChecks}
+use Rattle.fz_job.specs.declared.survey.Survey.{Survey}
+use Rattle.fz_job.specs.Again.{ReadsAsSeen}
+use Rattle.fz_job.specs.Hdus.{HeaderIsOfHdus, KnownAreTouched, ReadsHdus, ranges_of_hdus}
+use Rattle.fz_job.specs.Headers.{LooksReadHeaders}
+use Rattle.fz_job.specs.Known.{IsKnown, SurveysKnow}
+use Rattle.fz_job.specs.declared.again.ReadHdu.{ReadHdu}
+use Rattle.fz_compare.specs.Reads.{ReadsKnown, hdu_ranges}
 use Rattle.fz_strict.specs.declared.options.Found.{Found}
 use Rattle.fz_strict.specs.declared.origin.Origin.{Origin}
 use Rattle.fz_strict.proofs.CompareLoop.{IsComparing}

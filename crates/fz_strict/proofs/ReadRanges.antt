@@ -1,12 +1,12 @@
 -- What is read of one HDU that is compared lies in what `verify` reads of the file (FITS 4.0, sections 3.1, 7.3.5 and 10.1).
-use Rattle.std.proofs.Common.{◌≡◌, ℕ, suc, ◌+◌, ◌-◌, ◌*◌, ◌<◌, ◌≤◌, ◌⊎◌, ◌&&◌, Bool, true, false, List, [], ◌∷◌, ◌++◌, append-nil, length, map, inl, inr, refl, sym, ap, ◌∙◌, subst, arith}
-use Rattle.std.specs.Prelude.{Option, Some, None, IfSome, Result, Ok, Err, OnOk, OnErr, is_none, min, nat_le, if◌then◌else◌}
+use Rattle.std.proofs.Common.{◌≡◌, ℕ, suc, ◌+◌, ◌-◌, ◌*◌, ◌<◌, ◌≤◌, ◌⊎◌, ◌&&◌, Bool, true, false, List, [], ◌∷◌, ◌++◌, append-nil, length, inl, inr, refl, sym, ap, ◌∙◌, subst, arith}
+use Rattle.std.specs.Prelude.{Option, Some, None, IfSome, Ok, is_none, nat_le, if◌then◌else◌}
 use Rattle.std.specs.List.{flat_map}
 use Rattle.std.specs.Option.{option_map}
 use Rattle.std.proofs.lemmas.Bool.{cases_lt}
 use Rattle.fz_base.specs.Ranges.{LiesIn, LogsIn, LogsJoinLaw, LogsWithinLaw}
 use Rattle.fz_base.specs.Refusal.{first_refusal, refusal}
-use Rattle.fz_base.specs.Source.{LogsWithin, MayLog, logged}
+use Rattle.fz_base.specs.Source.{LogsWithin}
 use Rattle.fz_base.specs.declared.fault.Fault.{Fault}
 use Rattle.fz_base.specs.declared.fault.Place.TheVariants.{Byte}
 use Rattle.fz_base.specs.declared.kind.Kind.TheVariants.{LongHeader, Truncated}
@@ -18,32 +18,15 @@ use Rattle.fz_head.specs.declared.job_checks.PackedImage.{PackedImage}
 use Rattle.fz_files.specs.Touched.{data_range, data_touched, image_ranges, packed_ranges}
 use Rattle.fz_files.specs.Restored.{is_image}
 use Rattle.fz_files.specs.declared.job.Job.TheVariants.{Verify}
-use Rattle.fz_survey.specs.declared.survey.Survey.{Survey}
-use Rattle.fz_again.specs.Again.{IsAgain, ReadsAsSeen, WasSeen, WereSeen}
-use Rattle.fz_again.specs.Hdus.{HeaderIsOfHdus, ranges_of_hdus}
-use Rattle.fz_again.specs.Headers.{ranges_of_headers}
-use Rattle.fz_again.specs.Known.{IsList}
-use Rattle.fz_again.specs.declared.again.ReadHdu.{ReadHdu}
-use Rattle.fz_strict.specs.Reads.{hdu_ranges, table_ranges}
+use Rattle.fz_job.specs.declared.survey.Survey.{Survey}
+use Rattle.fz_job.specs.Again.{IsAgain, ReadsAsSeen, WasSeen, WereSeen}
+use Rattle.fz_job.specs.Hdus.{HeaderIsOfHdus, ranges_of_hdus}
+use Rattle.fz_job.specs.Headers.{ranges_of_headers}
+use Rattle.fz_job.specs.Known.{IsList}
+use Rattle.fz_job.specs.declared.again.ReadHdu.{ReadHdu}
+use Rattle.fz_compare.specs.Reads.{hdu_ranges, table_ranges}
 use Rattle.fz_strict.proofs.Parts.{IsPart, next, next_seen, read_same}
 use Rattle.fz_strict.proofs.Said.{image_said}
-
--- ---- between two places
-
-abbrev pub JoinsReads : Type 0
-JoinsReads = (from to : ℕ) (old mid new : Option (List (ℕ × ℕ))) → LogsWithin from to old mid → LogsWithin from to mid new → LogsWithin from to old new
-
-abbrev pub WidensReads : Type 0
-WidensReads = (from to from' to' : ℕ) (old new : Option (List (ℕ × ℕ))) → from' ≤ from → to ≤ to' → LogsWithin from to old new → LogsWithin from' to' old new
-
--- what one read logs, whatever it answers
-pub read_logs : {T E : Type 0} (result : Result T E) (at count : ℕ) (old new : Option (List (ℕ × ℕ))) → OnOk result (new ≡ logged at count old) → OnErr result (MayLog at count old new) → MayLog at count old new
-read_logs (Ok x) at count old new ok err = inr ok
-read_logs (Err e) at count old new ok err = err
-
--- what is read before a byte, and then from a place up to it
-pub then_read : JoinsReads → WidensReads → (at end to : ℕ) (old mid new : Option (List (ℕ × ℕ))) → end ≤ to → LogsWithin 0 to old mid → LogsWithin at end mid new → LogsWithin 0 to old new
-then_read both wider at end to old mid new within first later = both 0 to old mid new first (wider at end 0 to mid new (omega arith) within later)
 
 -- ---- in some ranges
 
@@ -78,10 +61,6 @@ lies_behind [] back byte is = is
 lies_behind ((start, count) ∷ front) back byte is = inr (lies_behind front back byte is)
 
 -- ---- a packed image
-
-pub rows_read : (held : Option (List ℕ)) (h : Header) (old new : Option (List (ℕ × ℕ))) → IfSome held (λ g. LogsIn (image_ranges g h) old new) → IfSome held (λ g. LogsIn (table_ranges g h) old new)
-rows_read None h old new reads = tt
-rows_read (Some g) h old new reads = wider (image_ranges g h) (table_ranges g h) old new (λ byte is. inr is) reads
 
 -- bytes of the file up to its end
 pub bytes_read : LogsWithinLaw → (held : Option (List ℕ)) (h : Header) (end : ℕ) (old new : Option (List (ℕ × ℕ))) → end ≡ next_start_of h → LogsWithin 0 end old new → IfSome held (λ g. LogsIn (table_ranges g h) old new)

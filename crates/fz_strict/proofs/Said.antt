@@ -11,11 +11,11 @@ use Rattle.fz_block.specs.declared.header.Header.{Header}
 use Rattle.fz_head.specs.JobChecks.{image_in, image_to_unpack, unpack_checks}
 use Rattle.fz_head.specs.Packable.{is_packed}
 use Rattle.fz_head.specs.declared.job_checks.PackedImage.{PackedImage}
-use Rattle.fz_fetch.specs.Images.{IsSaid}
+use Rattle.fz_job.specs.Images.{IsSaid}
 use Rattle.fz_files.specs.FirstFault.{ImageRow, IsFirstRowFault, all_rows, rows_of}
 use Rattle.fz_files.specs.Restored.{header_in, is_image}
-use Rattle.fz_again.specs.Again.{IsAgain, header_at_front}
-use Rattle.fz_again.specs.declared.again.ReadHdu.{ReadHdu}
+use Rattle.fz_job.specs.Again.{IsAgain, header_at_front}
+use Rattle.fz_job.specs.declared.again.ReadHdu.{ReadHdu}
 use Rattle.fz_strict.specs.Rows.{IsHduFault, IsHduSound}
 use Rattle.fz_strict.proofs.Gathering.{IsImageRead}
 

@@ -3,11 +3,11 @@ use Rattle.std.proofs.Common.{◌≡◌, ℕ, suc, ◌<◌, ◌≤◌, ◌||◌,
 use Rattle.std.specs.List.{AllByRecursion}
 use Rattle.fz_base.specs.Refusal.{first_refusal}
 use Rattle.fz_base.specs.declared.fault.Fault.{Fault}
-use Rattle.fz_block.specs.Checks.{Judge, headers_of, unless_refused, walk_of}
+use Rattle.fz_block.specs.Checks.{headers_of, unless_refused, walk_of}
 use Rattle.fz_block.specs.Facts.{IsHeaderOf}
-use Rattle.fz_block.specs.Hdus.{AreHdusOf, Hdu, cards_of, hdu_bytes}
+use Rattle.fz_block.specs.Hdus.{Hdu, cards_of, hdu_bytes}
 use Rattle.fz_block.specs.Header.{next_start_of}
-use Rattle.fz_block.specs.Walk.{AreHeadersBetween, PassFrom, RefusesNone, hdu_of, is_stop, stops}
+use Rattle.fz_block.specs.Walk.{AreHeadersBetween, RefusesNone, hdu_of, is_stop, stops}
 use Rattle.fz_block.specs.declared.header.Header.{Header}
 use Rattle.fz_head.specs.JobChecks.{already_packed, data_fill, fill_in, pack_hdu_checks}
 use Rattle.fz_head.specs.Judges.{pack_judge}
@@ -16,26 +16,12 @@ use Rattle.fz_head.specs.Packable.{is_packable}
 use Rattle.fz_head.specs.Planned.{AreOptions, pack_plan_of}
 use Rattle.fz_head.specs.declared.options.PackOptions.{PackOptions}
 use Rattle.fz_files.specs.FirstFault.{IsFaultBehind, IsFirstFault}
-use Rattle.fz_files.specs.Laws.{HdusArePacked}
 use Rattle.fz_files.specs.Packed.{IsPackedFile, before_table, packed_file, packed_from, packed_hdu, packed_image}
 use Rattle.fz_files.specs.StandsFor.{IsProfileFile}
 use Rattle.fz_files.specs.Walks.{fault_of_walk, found_headers, header_fault, headers_for, job_walk}
 use Rattle.fz_files.specs.declared.job.Job.{Job}
 use Rattle.fz_files.specs.declared.job.Job.TheVariants.{Pack}
-
--- what is taken of the laws of walks and of packed HDUs
-pub record WalkLaws : Type 0 where
-  pub headers :
-      (judge : Judge) (most : ℕ) (file : List ℕ) (hs : List Header) → walk_of judge most file ≡ Ok hs →
-      (0 < length hs) × (length hs ≤ most) × RefusesNone judge hs × ((end : ℕ) × (end ≤ length file) × AreHeadersBetween 0 0 end file hs)
-  pub whole : (judge : Judge) (most : ℕ) (file : List ℕ) (hs : List Header) → walk_of judge most file ≡ Ok hs → stops judge hs ≡ false →
-      headers_of most file ≡ Ok hs
-  pub pass : (judge : Judge) (most : ℕ) (file : List ℕ) (hs : List Header) → walk_of judge most file ≡ Ok hs → PassFrom 0 0 (length file) (map (hdu_of file) hs)
-  pub parts : (most : ℕ) (file : List ℕ) (hs : List Header) → headers_of most file ≡ Ok hs → AreHdusOf file (map (hdu_of file) hs)
-  pub converse : (most : ℕ) (file : List ℕ) (hs : List Header) (ks : List Hdu) → headers_of most file ≡ Ok hs → AreHdusOf file ks → ks ≡ map (hdu_of file) hs
-  pub judged : (judge : Judge) (most : ℕ) (file : List ℕ) (hs : List Header) → headers_of most file ≡ Ok hs → RefusesNone judge hs → stops judge hs ≡ false →
-      walk_of judge most file ≡ Ok hs
-  pub packed : HdusArePacked
+use Rattle.fz_strict.specs.Taken.{WalkLaws}
 
 -- ---- the headers that a job finds
 

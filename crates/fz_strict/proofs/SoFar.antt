@@ -17,8 +17,8 @@ use Rattle.fz_files.specs.StandsFor.{StandsFor}
 use Rattle.fz_files.specs.Walks.{headers_for}
 use Rattle.fz_files.specs.declared.job.Job.TheVariants.{Unpack}
 use Rattle.fz_tile.specs.Plain.{AreBytes}
-use Rattle.fz_again.specs.Again.{WereSeen}
-use Rattle.fz_round_trip.specs.RoundTrip.{RestoredAreBytes}
+use Rattle.fz_job.specs.Again.{WereSeen}
+use Rattle.fz_laws.specs.RoundTrip.{RestoredAreBytes}
 use Rattle.fz_strict.specs.Origins.{no_origin}
 use Rattle.fz_strict.specs.SameHdus.{AreSame, HasSameHdus, IsDecided, StandsForOne, front_of}
 use Rattle.fz_strict.specs.SameImages.{ComparesFrom, ComparesHdu, front_before, origin_before}

@@ -13,7 +13,7 @@ use Rattle.fz_image.specs.Layout.{heap_at_of, rows_len_of}
 use Rattle.fz_image.specs.Progress.{no_progress}
 use Rattle.fz_image.specs.declared.layout.Layout.{Layout}
 use Rattle.fz_tile.specs.TileCode.{TileCode}
-use Rattle.fz_strict.specs.Compared.{HasCodes, has_bytes, has_fill, has_header}
+use Rattle.fz_compare.specs.Compared.{HasCodes, has_bytes, has_fill, has_header}
 use Rattle.fz_strict.proofs.BytesThere.{IsThere, has_both, has_there, there_back, there_front, there_joined}
 use Rattle.fz_strict.proofs.Pieces.{both, first, second}
 use Rattle.fz_strict.proofs.RowsAndHeap.{rows_len}

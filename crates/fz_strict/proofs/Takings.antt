@@ -11,10 +11,10 @@ use Rattle.fz_base.specs.declared.failure.Stop.TheVariants.{Refused, ReadFault, 
 use Rattle.fz_files.specs.Buffers.{header_takings, job_bound, largest_tile, longest_header}
 use Rattle.fz_files.specs.Walks.{header_fault}
 use Rattle.fz_files.specs.declared.job.Job.TheVariants.{Verify}
-use Rattle.fz_stages.specs.Stages.{HasLargest}
-use Rattle.fz_survey.specs.Laws.{UnpackLooksOver}
-use Rattle.fz_survey.specs.Surveys.{survey_takings}
-use Rattle.fz_survey.specs.declared.checks.JobChecks.TheVariants.{Unpack as UnpackChecks}
+use Rattle.fz_job.specs.Stages.{HasLargest}
+use Rattle.fz_job.specs.SurveyLaws.{UnpackLooksOver}
+use Rattle.fz_job.specs.Surveys.{survey_takings}
+use Rattle.fz_job.specs.declared.checks.JobChecks.TheVariants.{Unpack as UnpackChecks}
 use Rattle.fz_strict.specs.Clauses.{later_takings, look_takings, strict_buffers, strict_takings}
 
 -- ---- lists of takings

@@ -21,7 +21,7 @@ use Rattle.fz_files.specs.Restored.{is_image}
 use Rattle.fz_files.specs.StandsFor.{IsProfileFile}
 use Rattle.fz_files.specs.Walks.{fault_of_walk, found_headers, header_fault, headers_for, job_walk}
 use Rattle.fz_files.specs.declared.job.Job.TheVariants.{Unpack}
-use Rattle.fz_round_trip.specs.RoundTrip.{PackCopies, UnpackCopies}
+use Rattle.fz_laws.specs.RoundTrip.{PackCopies, UnpackCopies}
 use Rattle.fz_strict.specs.Strict.{IsStrict}
 use Rattle.fz_strict.specs.Worked.{bare_file}
 use Rattle.fz_strict.proofs.Images.{first_plain}

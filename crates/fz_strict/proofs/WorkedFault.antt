@@ -36,7 +36,7 @@ use Rattle.fz_files.specs.Walks.{fault_of_walk, found_headers, header_fault, hea
 use Rattle.fz_files.specs.declared.job.Job.TheVariants.{Unpack}
 use Rattle.fz_files.specs.Decided.{fault_after, first_fault}
 use Rattle.fz_files.specs.RowPixels.{fault_or, first_row_fault, row_pixels}
-use Rattle.fz_round_trip.specs.RoundTrip.{HasFirstFault, StandsForRestored}
+use Rattle.fz_laws.specs.RoundTrip.{HasFirstFault, StandsForRestored}
 use Rattle.fz_strict.specs.Worked.{filled_file}
 use Rattle.fz_strict.proofs.Images.{first_plain}
 use Rattle.fz_strict.proofs.Whole.{both_none}

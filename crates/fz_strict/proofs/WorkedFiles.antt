@@ -30,10 +30,11 @@ use Rattle.fz_files.specs.StandsFor.{IsProfileFile, StandsFor}
 use Rattle.fz_files.specs.SumFile.{sum_file, sum_options}
 use Rattle.fz_files.specs.Walks.{headers_for}
 use Rattle.fz_files.specs.declared.job.Job.TheVariants.{Unpack}
-use Rattle.fz_round_trip.specs.RoundTrip.{ComesBack, UnpackCopies}
+use Rattle.fz_laws.specs.RoundTrip.{ComesBack, UnpackCopies}
 use Rattle.fz_strict.specs.Strict.{IsStrict}
 use Rattle.fz_strict.proofs.Images.{first_plain}
-use Rattle.fz_strict.proofs.Same.{WalkLaws, sound_by}
+use Rattle.fz_strict.specs.Taken.{WalkLaws}
+use Rattle.fz_strict.proofs.Same.{sound_by}
 use Rattle.fz_strict.proofs.WorkedHeaders.{PassingWalk, headers_in}
 
 -- ---- the image in tiles

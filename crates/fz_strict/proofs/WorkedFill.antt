@@ -39,13 +39,13 @@ use Rattle.fz_files.specs.declared.job.Job.TheVariants.{Unpack}
 use Rattle.fz_files.specs.RowPixels.{for_row}
 use Rattle.fz_files.specs.RecordPixels.{record_pixels}
 use Rattle.fz_files.specs.RestoredFile.{image_array, pixels_or_none, restored, restored_hdu, tile_pixels}
-use Rattle.fz_round_trip.specs.RoundTrip.{HasOnePackedFile, StandsForNoOther}
+use Rattle.fz_laws.specs.RoundTrip.{HasOnePackedFile, StandsForNoOther}
 use Rattle.fz_strict.specs.FoundOptions.{block_of as block_found, codec_found, found_options, has_sums, images_in, options_of, sums_in, tile_found, word_of}
 use Rattle.fz_strict.specs.Laws.{FoundOptionsDo}
 use Rattle.fz_strict.specs.Strict.{IsStrict, IsStrictBy}
 use Rattle.fz_strict.specs.Worked.{filled_file}
 use Rattle.fz_strict.proofs.Images.{first_plain}
-use Rattle.fz_strict.proofs.Same.{WalkLaws}
+use Rattle.fz_strict.specs.Taken.{WalkLaws}
 use Rattle.fz_strict.proofs.WorkedHeaders.{PassingWalk, headers_in, images_behind}
 use Rattle.fz_strict.proofs.WorkedSums.{empty_hdu, empty_header, empty_payload, found_by, second_same}
 

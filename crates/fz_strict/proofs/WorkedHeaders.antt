@@ -14,7 +14,8 @@ use Rattle.fz_files.specs.declared.job.Job.TheVariants.{Unpack}
 use Rattle.fz_strict.specs.FoundOptions.{found_options, images_agree, images_in, is_image_by, is_plan_by, is_same_flag, options_of, sums_in}
 use Rattle.fz_files.specs.Restored.{plan_in}
 use Rattle.fz_strict.proofs.HeadersRead.{never_stops, one_answer, unpack_headers, unpack_walk}
-use Rattle.fz_strict.proofs.Same.{WalkLaws, no_header_fault}
+use Rattle.fz_strict.specs.Taken.{WalkLaws}
+use Rattle.fz_strict.proofs.Same.{no_header_fault}
 
 -- what is taken of the law of HDUs that pass
 abbrev pub PassingWalk : Type 0

@@ -26,7 +26,7 @@ use Rattle.fz_strict.specs.Laws.{StrictImagesAgree}
 use Rattle.fz_strict.specs.Strict.{IsStrict}
 use Rattle.fz_strict.specs.Worked.{some_sums_file}
 use Rattle.fz_strict.proofs.Images.{first_plain}
-use Rattle.fz_strict.proofs.Same.{WalkLaws}
+use Rattle.fz_strict.specs.Taken.{WalkLaws}
 use Rattle.fz_strict.proofs.WorkedHeaders.{PassingWalk, both_behind, headers_in, images_behind, sums_differ}
 
 -- ---- the HDUs

@@ -16,7 +16,7 @@ use Rattle.fz_image.specs.Progress.{no_progress, with_tiles}
 use Rattle.fz_image.specs.Tiles.{AreCodesFrom}
 use Rattle.fz_image.specs.declared.progress.Progress.{Progress}
 use Rattle.fz_tile.specs.TileCode.{TileCode}
-use Rattle.fz_strict.specs.Compared.{ComparesTable, has_frame}
+use Rattle.fz_compare.specs.Compared.{ComparesTable, has_frame}
 use Rattle.fz_strict.specs.Origins.{IsOrigin, IsRestored, restored_bytes, with_hdu}
 use Rattle.fz_strict.specs.SameImages.{ComparesImage, origin_before}
 use Rattle.fz_strict.specs.declared.image.Restored.{Restored}

@@ -13,10 +13,10 @@ use Rattle.fz_files.specs.Walks.{header_fault}
 use Rattle.fz_files.specs.declared.job.Job.TheVariants.{Verify}
 use Rattle.fz_head.specs.WorkBuffers.{work_buffers}
 use Rattle.fz_job.specs.Clauses.{ComesLate, IsAnswer, greatest_bound}
-use Rattle.fz_survey.specs.Surveys.{survey_takings}
-use Rattle.fz_survey.specs.declared.checks.JobChecks.TheVariants.{Unpack as UnpackChecks}
-use Rattle.fz_survey.specs.declared.survey.Survey.{Survey}
-use Rattle.fz_survey.specs.declared.workspace.Wants.{Wants}
+use Rattle.fz_job.specs.Surveys.{survey_takings}
+use Rattle.fz_job.specs.declared.checks.JobChecks.TheVariants.{Unpack as UnpackChecks}
+use Rattle.fz_job.specs.declared.survey.Survey.{Survey}
+use Rattle.fz_job.specs.declared.workspace.Wants.{Wants}
 use Rattle.fz_strict.specs.Strict.{IsStrict}
 
 -- the answer is true if and only if the file is strict

@@ -7,7 +7,7 @@ use Rattle.fz_base.specs.declared.failure.Stop.{Stop}
 use Rattle.fz_base.specs.declared.failure.Stop.TheVariants.{Refused, ReadFault, WriteFault, OverLimit, NoMemory}
 use Rattle.fz_block.specs.declared.axes.Axes.{Axes}
 use Rattle.fz_block.specs.declared.header.Header.{Header}
-use Rattle.fz_again.specs.Known.{IsList}
+use Rattle.fz_job.specs.Known.{IsList}
 use Rattle.fz_files.specs.Restored.{is_image}
 use Rattle.fz_tile.specs.Codecs.{ReadsCodes}
 use Rattle.fz_tile.specs.declared.codec.Codec.{Codec}
@@ -16,7 +16,7 @@ use Rattle.fz_head.specs.Planned.{IsTile}
 use Rattle.fz_head.specs.declared.job_checks.PackedImage.{PackedImage}
 use Rattle.fz_head.specs.declared.options.PackOptions.{PackOptions}
 use Rattle.fz_head.specs.declared.plan.Plan.{Plan}
-use Rattle.fz_survey.specs.declared.survey.Survey.{Survey}
+use Rattle.fz_job.specs.declared.survey.Survey.{Survey}
 use Rattle.fz_strict.specs.FoundOptions.{block_of, has_sums, options_of, word_of}
 use Rattle.fz_strict.specs.declared.options.Found.{Found}
 

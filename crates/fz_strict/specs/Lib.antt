@@ -1,13 +1,12 @@
 pub mod Backs
 pub mod Clauses
-pub mod Compared
 pub mod FoundOptions
 pub mod Gathered
 pub mod Laws
 pub mod Origins
-pub mod Reads
 pub mod Rows
 pub mod SameHdus
 pub mod SameImages
 pub mod Strict
+pub mod Taken
 pub mod Worked

@@ -3,62 +3,67 @@ ghost use Rattle.std.specs.Prelude.{ℕ, ◌≡◌, ◌+◌, ◌*◌, ◌<◌, �
 ghost use Rattle.fz_base.specs.Ranges.{LogsIn};
 ghost use Rattle.fz_base.specs.Source.{HoldsLength};
 ghost use Rattle.fz_base.specs.Stop.{IfRefused};
-ghost use Rattle.fz_base.specs.Told.{StaysTold};
-ghost use Rattle.fz_again.specs.Again.{IsAgain};
+ghost use Rattle.fz_job.specs.Again.{IsAgain};
+ghost use Rattle.fz_base.specs.Keeps.{SourceStays};
 ghost use Rattle.fz_fetch.specs.Stops.{Fetches};
 ghost use Rattle.fz_files.specs.Restored.{pixels_of};
 ghost use Rattle.fz_files.specs.declared.job.Job.TheVariants.{Verify};
 ghost use Rattle.fz_head.specs.Planned.{AreOptions};
 ghost use Rattle.fz_job.specs.Clauses.{ComesLate, IsOfSomeRow};
-ghost use Rattle.fz_job.specs.Keeps.{SourceStays, WindowStays};
-ghost use Rattle.fz_pool.specs.Window.{HasSlotsFor, slot_sizes};
-ghost use Rattle.fz_survey.specs.Workspace.{SpaceStays};
+ghost use Rattle.fz_pool.specs.Window.{HasSlotsFor, slot_sizes, WindowStays};
+ghost use Rattle.fz_job.specs.Workspace.{SpaceStays};
 ghost use Rattle.fz_strict.specs.Origins.{IsOrigin};
-ghost use Rattle.fz_strict.specs.Reads.{ReadsKnown, hdu_ranges};
+ghost use Rattle.fz_compare.specs.Reads.{ReadsKnown, hdu_ranges};
 ghost use Rattle.fz_strict.specs.Rows.{ComparesSeen, IsHduFault, IsHduSound};
 ghost use Rattle.fz_strict.specs.SameImages.{ComparesCopy, ComparesHdu};
 
 use crate::image::compare_image;
 use crate::laws::one_hdu_law;
 use crate::origin::Origin;
-use crate::reread::read_front;
-use fz_again::{ReadHdu, hdus_law};
 use fz_base::{Gate, Source, Stop, ranges_law};
 use fz_block::{BLOCK_LEN, hdu_at_law, next_start};
+use fz_fetch::ImageIn;
 use fz_head::{PackOptions, packed_primary_law};
+use fz_job::{Begun, ReadHdu, Survey, Workspace, hdus_law, read_front};
+use fz_laws::restored_file_law;
 use fz_pool::{Crew, Window};
-use fz_round_trip::restored_file_law;
-use fz_survey::{Survey, Workspace};
 use std::thread::Threads;
+
+/// What is compared, by which options, and by whom: who works, the length of the file, what the look says of it, and the
+/// options by which `pack` may have written it.
+#[derive(Drop)]
+pub(crate) struct Comparing<'a, R, G> {
+    pub(crate) crew: Crew<'a, R, G>,
+    pub(crate) length: u64,
+    pub(crate) survey: Survey,
+    pub(crate) options: PackOptions,
+}
 
 /// Whether the file is what `pack` writes by these options for the file that it stands for. All tiles are decoded,
 /// whatever was found before.
 pub(crate) fn compare_hdus<R: Threads + Sync, S: Source, G: Gate>(
-    crew: &Crew<'_, R, G>,
+    asked: &Comparing<'_, R, G>,
     source: &mut S,
-    length: u64,
     window: &mut Window,
-    survey: &Survey,
-    options: &PackOptions,
     plain: &mut [u8],
     space: &mut Workspace,
 ) -> Result<bool, Stop>
-    requires attached { S.attached source.old ≡ Some length }
-    requires some { 0 < survey.now.hdus }
-    requires few { survey.now.hdus ≤ 65536 }
-    requires options { AreOptions options.now }
-    requires window { slot_sizes window.old.slots ≡ replicate (2 * window.old.workers) (2 * survey.now.tile, 8 * survey.now.tile + 64) }
-    requires header { len space.old.header ≡ survey.now.header_len + 2880 }
-    requires plain { len plain.old ≡ survey.now.header_len + 2880 }
+    requires attached { S.attached source.old ≡ Some asked.now.length }
+    requires some { 0 < asked.now.survey.hdus }
+    requires few { asked.now.survey.hdus ≤ 65536 }
+    requires options { AreOptions asked.now.options }
+    requires window { slot_sizes window.old.slots ≡ replicate (2 * window.old.workers) (2 * asked.now.survey.tile, 8 * asked.now.survey.tile + 64) }
+    requires long { 2880 ≤ asked.now.survey.header_len }
+    requires header { len space.old.header ≡ asked.now.survey.header_len + 2880 }
+    requires plain { len plain.old ≡ asked.now.survey.header_len + 2880 }
     requires copy { 4096 + 2880 ≤ len space.old.copy }
-    ensures compared { IfSome (S.held source.old) (λ g. ComparesSeen options.now g survey.now result) }
+    ensures compared { IfSome (S.held source.old) (λ g. ComparesSeen asked.now.options g asked.now.survey result) }
     ensures late { IfRefused result (ComesLate Verify) }
     ensures plain { len plain.new ≡ len plain.old }
     ensures space { SpaceStays space.old space.new }
     ensures window { WindowStays window.old window.new }
-    ensures source { SourceStays (S.held source.old) (S.held source.new) (S.attached source.old) (S.attached source.new) }
-    ensures read { IfSome (S.held source.old) (λ g. ReadsKnown g survey.now (S.ranges source.old) (S.ranges source.new)) }
-    ensures told { StaysTold (S.ranges source.old) (S.ranges source.new) }
+    ensures source { SourceStays S.held S.attached S.ranges source.old source.new }
+    ensures read { IfSome (S.held source.old) (λ g. ReadsKnown g asked.now.survey (S.ranges source.old) (S.ranges source.new)) }
     ensures cause { Fetches (S.tally source.old) (S.tally source.new) result }
 {
     hdu_at_law();
@@ -67,21 +72,19 @@ pub(crate) fn compare_hdus<R: Threads + Sync, S: Source, G: Gate>(
     packed_primary_law();
     ranges_law();
     restored_file_law();
+    let length = asked.length;
     let mut start = 0;
     let mut after_empty = false;
     let mut origin = Some(Origin::none());
-    for hdu in 0..survey.hdus {
-        let again = read_front(
-            source,
-            length,
+    for hdu in 0..asked.survey.hdus {
+        let begun = Begun {
             hdu,
             start,
             after_empty,
-            survey,
-            space.copy.as_mut_slice(),
-            space.header.as_mut_slice(),
-        )?;
-        let now = compare_hdu(crew, source, window, options, &again, &origin, plain, space)?;
+        };
+        let header = space.header.as_mut_slice();
+        let again = read_front(source, length, begun, &asked.survey, header)?;
+        let now = compare_hdu(asked, source, window, &again, &origin, plain, space)?;
         origin = now;
         start = next_start(&again.header);
         if start == length {
@@ -94,43 +97,40 @@ pub(crate) fn compare_hdus<R: Threads + Sync, S: Source, G: Gate>(
 
 // Compares an HDU, whose header is in the workspace.
 fn compare_hdu<R: Threads + Sync, S: Source, G: Gate>(
-    crew: &Crew<'_, R, G>,
+    asked: &Comparing<'_, R, G>,
     source: &mut S,
     window: &mut Window,
-    options: &PackOptions,
     again: &ReadHdu,
     origin: &Option<Origin>,
     plain: &mut [u8],
     space: &mut Workspace,
 ) -> Result<Option<Origin>, Stop>
     requires again { (n : ℕ) × (n < 2 ^ 64) × (S.attached source.old ≡ Some n) × IsAgain (S.held source.old) n space.old.header again.now }
-    requires options { AreOptions options.now }
+    requires options { AreOptions asked.now.options }
     requires origin { IfSome origin.now IsOrigin }
     requires window { IfSome again.now.image (λ i. HasSlotsFor (pixels_of i.plan 0) window.old) }
     requires plain { len space.old.header ≤ len plain.old }
     requires room { 2880 * again.now.header.blocks + 2880 ≤ len space.old.header }
     requires copy { 4096 + 2880 ≤ len space.old.copy }
     ensures origin { IfOk result (λ o. IfSome o IsOrigin) }
-    ensures compared { IfOk result (λ now. IfSome (S.held source.old) (λ g. ComparesHdu options.now g again.now.header origin.now now)) }
+    ensures compared { IfOk result (λ now. IfSome (S.held source.old) (λ g. ComparesHdu asked.now.options g again.now.header origin.now now)) }
     ensures sound { OnOk result (IfSome (S.held source.old) (λ g. IsHduSound g again.now.header)) }
     ensures fault { IfRefused result (λ x. IfSome (S.held source.old) (λ g. IsHduFault g again.now.header x)) }
     ensures row { IfRefused result IsOfSomeRow }
     ensures plain { len plain.new ≡ len plain.old }
     ensures space { SpaceStays space.old space.new }
     ensures window { WindowStays window.old window.new }
-    ensures source { SourceStays (S.held source.old) (S.held source.new) (S.attached source.old) (S.attached source.new) }
+    ensures source { SourceStays S.held S.attached S.ranges source.old source.new }
     ensures read { IfSome (S.held source.old) (λ g. LogsIn (hdu_ranges g again.now.header) (S.ranges source.old) (S.ranges source.new)) }
-    ensures told { StaysTold (S.ranges source.old) (S.ranges source.new) }
     ensures cause { Fetches (S.tally source.old) (S.tally source.new) result }
 {
     match &again.image {
         Some(image) => {
             let header = &again.header;
-            compare_image(
-                crew, source, window, options, header, image, origin, plain, space,
-            )
+            let packed = ImageIn { header, image };
+            compare_image(asked, source, window, packed, origin, plain, space)
         }
-        None => Ok(compare_copied(options, again, origin, space)),
+        None => Ok(compare_copied(&asked.options, again, origin, space)),
     }
 }
 

@@ -1,49 +1,43 @@
 //! A packed image, compared with what `pack` writes for it.
-ghost use Rattle.std.specs.Prelude.{ℕ, ◌≡◌, ◌+◌, ◌-◌, ◌*◌, ◌<◌, ◌≤◌, ◌^◌, true, codes, List, Some, None, length as len, if◌then◌else◌, IfOk, IfSome, OnOk};
+ghost use Rattle.std.specs.Prelude.{ℕ, ◌≡◌, ◌+◌, ◌-◌, ◌*◌, ◌<◌, ◌≤◌, ◌^◌, List, Some, None, length as len, if◌then◌else◌, IfOk, IfSome, OnOk};
 ghost use Rattle.std.specs.Option.{option_map};
-ghost use Rattle.fz_block.specs.Cards.{card_at};
-ghost use Rattle.fz_block.specs.Checks.{is_set};
 ghost use Rattle.fz_base.specs.Ranges.{LogsIn};
 ghost use Rattle.fz_base.specs.Source.{LogsWithin};
 ghost use Rattle.fz_base.specs.Stop.{IfRefused, OnlyReads};
-ghost use Rattle.fz_base.specs.Told.{StaysTold};
 ghost use Rattle.fz_block.specs.Facts.{IsHeaderOf};
 ghost use Rattle.fz_block.specs.Header.{next_start_of, whole_blocks_of};
 ghost use Rattle.fz_fetch.specs.Stops.{Fetches};
 ghost use Rattle.fz_files.specs.Restored.{pixels_of};
-ghost use Rattle.fz_again.specs.Again.{IsAgain};
-ghost use Rattle.fz_head.specs.Conditions.{IsPackPlan, IsPackedPlan};
+ghost use Rattle.fz_job.specs.Again.{IsAgain};
+ghost use Rattle.fz_base.specs.Keeps.{SourceStays};
+ghost use Rattle.fz_head.specs.Conditions.{IsPackedPlan};
 ghost use Rattle.fz_head.specs.Planned.{AreOptions};
 ghost use Rattle.fz_block.specs.Hdus.{cards_of};
 ghost use Rattle.fz_head.specs.declared.plan.Plan.{Plan as PlanOf};
 ghost use Rattle.fz_image.specs.Layout.{IsLayout};
-ghost use Rattle.fz_image.specs.Progress.{no_progress, with_tiles};
-ghost use Rattle.fz_image.specs.Tiles.{AreCodesFrom};
-ghost use Rattle.fz_tile.specs.TileCode.{TileCode};
 ghost use Rattle.fz_job.specs.Clauses.{IsOfSomeRow};
-ghost use Rattle.fz_job.specs.Keeps.{SourceStays, WindowStays};
-ghost use Rattle.fz_pool.specs.Window.{HasSlotsFor};
-ghost use Rattle.fz_survey.specs.Workspace.{SpaceStays};
+ghost use Rattle.fz_pool.specs.Window.{HasSlotsFor, WindowStays};
+ghost use Rattle.fz_job.specs.Workspace.{SpaceStays};
 ghost use Rattle.fz_strict.specs.Backs.{ComparesRest, IsBack, Restores};
-ghost use Rattle.fz_strict.specs.Compared.{IsSoFar, begins_right as begins_right_of, has_empty_primary as has_empty_primary_of};
-ghost use Rattle.fz_strict.specs.Compared.{has_fill as has_fill_of, has_frame as has_frame_of, has_header as has_header_of};
+ghost use Rattle.fz_compare.specs.Compared.{IsSoFar, begins_right as begins_right_of, has_fill as has_fill_of, has_header as has_header_of};
 ghost use Rattle.fz_strict.specs.Origins.{IsOrigin, with_hdu};
-ghost use Rattle.fz_strict.specs.Reads.{table_ranges};
+ghost use Rattle.fz_compare.specs.Reads.{table_ranges};
 ghost use Rattle.fz_strict.specs.Rows.{IsHduFault, IsHduSound};
 ghost use Rattle.fz_strict.specs.SameImages.{ComparesImage, origin_before};
 ghost use Rattle.fz_strict.specs.declared.image.Restored.{Restored as RestoredOf};
 
-use crate::bytes::has_bytes;
+use crate::hdus::Comparing;
 use crate::headers::restore;
 use crate::image_law::image_law;
 use crate::origin::Origin;
-use crate::tiles::compare_tiles;
 use fz_base::{Gate, Source, Stop, log_law, ranges_law};
 use fz_block::{BLOCK_LEN, Header, data_start, next_start};
-use fz_head::{PackOptions, PackedImage, Plan, pack_plan_law, to_empty_primary};
+use fz_compare::{compare_tiles, has_bytes};
+use fz_fetch::ImageIn;
+use fz_head::{PackOptions, Plan, pack_plan_law, to_empty_primary};
 use fz_image::{Layout, Progress, make_header, table_law};
-use fz_pool::{Crew, Window};
-use fz_survey::Workspace;
+use fz_job::Workspace;
+use fz_pool::Window;
 use std::thread::Threads;
 
 /// A packed image whose header was restored.
@@ -57,59 +51,64 @@ pub(crate) struct Restored {
     pub(crate) layout: Layout,
 }
 
+/// What the frame of a table, which is all of it but its rows and its heap, is compared with.
+#[derive(Clone, Copy)]
+struct Frame<'h> {
+    /// Whether `pack` writes cards of sums.
+    sums: bool,
+    /// The facts of the header of the table in the file.
+    header: &'h Header,
+    /// The header of the image, restored, and what is after it in its buffer.
+    plain: &'h [u8],
+}
+
 /// Decodes a packed image, whose header is in the workspace. Answers the HDUs so far with this image, if the table, and
 /// what is before that of a primary, is what `pack` writes for the image.
 pub(crate) fn compare_image<R: Threads + Sync, S: Source, G: Gate>(
-    crew: &Crew<'_, R, G>,
+    asked: &Comparing<'_, R, G>,
     source: &mut S,
     window: &mut Window,
-    options: &PackOptions,
-    header: &Header,
-    image: &PackedImage,
+    packed: ImageIn<'_>,
     origin: &Option<Origin>,
     plain: &mut [u8],
     space: &mut Workspace,
 ) -> Result<Option<Origin>, Stop>
     requires again { (n : ℕ) × (n < 2 ^ 64) × (S.attached source.old ≡ Some n)
-        × IsAgain (S.held source.old) n space.old.header (record { header = header.now; image = Some image.now }) }
-    requires options { AreOptions options.now }
+        × IsAgain (S.held source.old) n space.old.header (record { header = packed.header.now; image = Some packed.image.now }) }
+    requires options { AreOptions asked.now.options }
     requires origin { IfSome origin.now IsOrigin }
-    requires window { HasSlotsFor (pixels_of image.now.plan 0) window.old }
+    requires window { HasSlotsFor (pixels_of packed.image.now.plan 0) window.old }
     requires plain { len space.old.header ≤ len plain.old }
-    requires room { 2880 * header.now.blocks + 2880 ≤ len space.old.header }
+    requires room { 2880 * packed.header.now.blocks + 2880 ≤ len space.old.header }
     requires copy { 4096 + 2880 ≤ len space.old.copy }
-    ensures compared { IfOk result (λ now. IfSome (S.held source.old) (λ g. ComparesImage options.now g header.now origin.now now)) }
+    ensures compared { IfOk result (λ now. IfSome (S.held source.old) (λ g. ComparesImage asked.now.options g packed.entry.header.now origin.now now)) }
     ensures origin { IfOk result (λ o. IfSome o IsOrigin) }
-    ensures sound { OnOk result (IfSome (S.held source.old) (λ g. IsHduSound g header.now)) }
-    ensures fault { IfRefused result (λ x. IfSome (S.held source.old) (λ g. IsHduFault g header.now x)) }
+    ensures sound { OnOk result (IfSome (S.held source.old) (λ g. IsHduSound g packed.entry.header.now)) }
+    ensures fault { IfRefused result (λ x. IfSome (S.held source.old) (λ g. IsHduFault g packed.entry.header.now x)) }
     ensures row { IfRefused result IsOfSomeRow }
     ensures plain { len plain.new ≡ len plain.old }
     ensures space { SpaceStays space.old space.new }
     ensures window { WindowStays window.old window.new }
-    ensures source { SourceStays (S.held source.old) (S.held source.new) (S.attached source.old) (S.attached source.new) }
-    ensures read { IfSome (S.held source.old) (λ g. LogsIn (table_ranges g header.now) (S.ranges source.old) (S.ranges source.new)) }
-    ensures told { StaysTold (S.ranges source.old) (S.ranges source.new) }
+    ensures source { SourceStays S.held S.attached S.ranges source.old source.new }
+    ensures read { IfSome (S.held source.old) (λ g. LogsIn (table_ranges g packed.entry.header.now) (S.ranges source.old) (S.ranges source.new)) }
     ensures cause { Fetches (S.tally source.old) (S.tally source.new) result }
 {
     ranges_law();
     image_law();
+    let (header, image) = (packed.header, packed.image);
     let buf = &space.header.as_slice()[..BLOCK_LEN * header.blocks as usize];
-    let restored = restored_image(origin, options, header, &image.plan, buf, plain);
+    let restored = restored_image(origin, &asked.options, header, &image.plan, buf, plain);
     let layout = layout_of(&restored);
     let copy = space.copy.as_mut_slice();
-    let written = compare_tiles(crew, source, window, header, image, &layout, copy)?;
+    let written = compare_tiles(&asked.crew, source, window, header, image, &layout, copy)?;
+    let frame = Frame {
+        sums: asked.options.sums,
+        header,
+        plain: &*plain,
+    };
     let made = space.header.as_mut_slice();
     let piece = space.copy.as_mut_slice();
-    compare_rest(
-        source,
-        options.sums,
-        header,
-        &restored,
-        written,
-        plain,
-        made,
-        piece,
-    )
+    compare_rest(source, frame, &restored, written, made, piece)
 }
 
 // The header of a packed image, restored, and the layout of the table that `pack` makes of the image.
@@ -169,107 +168,93 @@ fn layout_of(restored: &Option<Restored>) -> Option<Layout>
     }
 }
 
-// The HDUs so far with the image, if its header was restored and the rest of its table is what `pack` writes.
+// The HDUs so far with the image, if its header was restored and its whole table, of which this was written, is what `pack`
+// writes.
 fn compare_rest<S: Source>(
     source: &mut S,
-    sums: bool,
-    header: &Header,
+    frame: Frame<'_>,
     restored: &Option<Restored>,
-    written: Option<Progress>,
-    plain: &[u8],
+    progress: Option<Progress>,
     made: &mut [u8],
     piece: &mut [u8],
 ) -> Result<Option<Origin>, Stop>
-    requires within { (n : ℕ) × (S.attached source.old ≡ Some n) × (next_start_of header.now ≤ n) }
-    requires end { next_start_of header.now ≤ 2 ^ 62 }
-    requires restored { (cards : List (List ℕ)) × (p : PlanOf) × IfSome restored.now (IsBack sums cards p plain.now) }
-    requires written { IfSome written (λ w. IfSome restored.now (λ r. IsSoFar r.layout w × (w.tiles ≡ r.layout.tiles))) }
+    requires within { (n : ℕ) × (S.attached source.old ≡ Some n) × (next_start_of frame.header.now ≤ n) }
+    requires end { next_start_of frame.header.now ≤ 2 ^ 62 }
+    requires restored { (cards : List (List ℕ)) × (p : PlanOf) × IfSome restored.now (IsBack frame.sums cards p frame.plain.now) }
+    requires progress { IfSome progress (λ w. IfSome restored.now (λ r. IsSoFar r.layout w × (w.tiles ≡ r.layout.tiles))) }
     requires made { IfSome restored.now (λ r. 2880 * r.header.blocks + 2880 ≤ len made.old) }
     requires piece { 2880 ≤ len piece.old }
-    ensures compared { IfOk result (λ now. IfSome (S.held source.old) (λ g. ComparesRest g header.now sums plain.now restored.now written now)) }
+    ensures compared { IfOk result (λ now. IfSome (S.held source.old) (λ g. ComparesRest g frame.entry.header.now frame.entry.sums frame.entry.plain.now
+        restored.now progress now)) }
     ensures origin { IfOk result (λ o. IfSome o IsOrigin) }
     ensures made { len made.new ≡ len made.old }
     ensures piece { len piece.new ≡ len piece.old }
-    ensures source { SourceStays (S.held source.old) (S.held source.new) (S.attached source.old) (S.attached source.new) }
-    ensures read { LogsWithin 0 (next_start_of header.now) (S.ranges source.old) (S.ranges source.new) }
-    ensures told { StaysTold (S.ranges source.old) (S.ranges source.new) }
+    ensures source { SourceStays S.held S.attached S.ranges source.old source.new }
+    ensures read { LogsWithin 0 (next_start_of frame.entry.header.now) (S.ranges source.old) (S.ranges source.new) }
     ensures cause { OnlyReads (S.tally source.old) (S.tally source.new) result }
 {
     log_law();
     match restored {
-        Some(restored) => compare_written(
-            source, sums, header, restored, written, plain, made, piece,
-        ),
+        Some(restored) => match progress {
+            Some(progress) => compare_frame(source, frame, restored, progress, made, piece),
+            None => Ok(None),
+        },
         None => Ok(None),
     }
 }
 
-// The same if the rows and the heap are what `pack` writes.
-fn compare_written<S: Source>(
-    source: &mut S,
-    sums: bool,
-    header: &Header,
-    restored: &Restored,
-    written: Option<Progress>,
-    plain: &[u8],
-    made: &mut [u8],
-    piece: &mut [u8],
-) -> Result<Option<Origin>, Stop>
-    requires within { (n : ℕ) × (S.attached source.old ≡ Some n) × (next_start_of header.now ≤ n) }
-    requires end { next_start_of header.now ≤ 2 ^ 62 }
-    requires restored { (cards : List (List ℕ)) × (p : PlanOf) × IsBack sums cards p plain.now restored.now }
-    requires written { IfSome written (λ w. IsSoFar restored.now.layout w × (w.tiles ≡ restored.now.layout.tiles)) }
-    requires made { 2880 * restored.now.header.blocks + 2880 ≤ len made.old }
-    requires piece { 2880 ≤ len piece.old }
-    ensures compared { IfOk result (λ now. IfSome (S.held source.old) (λ g. ComparesRest g header.now sums plain.now (Some restored.now) written now)) }
-    ensures origin { IfOk result (λ o. IfSome o IsOrigin) }
-    ensures made { len made.new ≡ len made.old }
-    ensures piece { len piece.new ≡ len piece.old }
-    ensures source { SourceStays (S.held source.old) (S.held source.new) (S.attached source.old) (S.attached source.new) }
-    ensures read { LogsWithin 0 (next_start_of header.now) (S.ranges source.old) (S.ranges source.new) }
-    ensures told { StaysTold (S.ranges source.old) (S.ranges source.new) }
-    ensures cause { OnlyReads (S.tally source.old) (S.tally source.new) result }
-{
-    log_law();
-    match written {
-        Some(progress) => compare_frame(
-            source, sums, header, restored, progress, plain, made, piece,
-        ),
-        None => Ok(None),
-    }
-}
-
-// The HDUs so far with the image, if all but the rows and the heap, of which this was written, is what `pack` writes.
+// The HDUs so far with the image, if all but the rows and the heap, of which this was written, is what `pack` writes: the
+// fill of the table, what is before it, and its header.
 fn compare_frame<S: Source>(
     source: &mut S,
-    sums: bool,
-    header: &Header,
+    frame: Frame<'_>,
     restored: &Restored,
     progress: Progress,
-    plain: &[u8],
     made: &mut [u8],
     piece: &mut [u8],
 ) -> Result<Option<Origin>, Stop>
-    requires within { (n : ℕ) × (S.attached source.old ≡ Some n) × (next_start_of header.now ≤ n) }
-    requires end { next_start_of header.now ≤ 2 ^ 62 }
-    requires restored { (cards : List (List ℕ)) × (p : PlanOf) × IsBack sums cards p plain.now restored.now }
+    requires within { (n : ℕ) × (S.attached source.old ≡ Some n) × (next_start_of frame.header.now ≤ n) }
+    requires end { next_start_of frame.header.now ≤ 2 ^ 62 }
+    requires restored { (cards : List (List ℕ)) × (p : PlanOf) × IsBack frame.sums cards p frame.plain.now restored.now }
     requires progress { IsSoFar restored.now.layout progress × (progress.tiles ≡ restored.now.layout.tiles) }
     requires made { 2880 * restored.now.header.blocks + 2880 ≤ len made.old }
     requires piece { 2880 ≤ len piece.old }
-    ensures compared { IfOk result (λ now. IfSome (S.held source.old) (λ g. ComparesRest g header.now sums plain.now (Some restored.now) (Some progress) now)) }
+    ensures compared { IfOk result (λ now. IfSome (S.held source.old) (λ g. ComparesRest g frame.entry.header.now frame.entry.sums frame.entry.plain.now
+        (Some restored.now) (Some progress) now)) }
     ensures origin { IfOk result (λ o. IfSome o IsOrigin) }
     ensures made { len made.new ≡ len made.old }
     ensures piece { len piece.new ≡ len piece.old }
-    ensures source { SourceStays (S.held source.old) (S.held source.new) (S.attached source.old) (S.attached source.new) }
-    ensures read { LogsWithin 0 (next_start_of header.now) (S.ranges source.old) (S.ranges source.new) }
-    ensures told { StaysTold (S.ranges source.old) (S.ranges source.new) }
+    ensures source { SourceStays S.held S.attached S.ranges source.old source.new }
+    ensures read { LogsWithin 0 (next_start_of frame.entry.header.now) (S.ranges source.old) (S.ranges source.new) }
     ensures cause { OnlyReads (S.tally source.old) (S.tally source.new) result }
 {
-    let buf = &plain[..BLOCK_LEN * restored.header.blocks as usize];
-    let (facts, layout) = (&restored.header, &restored.layout);
-    let same = has_frame(
-        source, sums, header, facts, layout, progress, buf, made, piece,
+    log_law();
+    table_law();
+    let layout = &restored.layout;
+    let fills = has_fill(
+        source,
+        layout,
+        progress.heap,
+        next_start(frame.header),
+        piece,
     )?;
+    if !fills {
+        return Ok(None);
+    }
+    let begins = begins_right(source, frame.header, layout.plan.primary, made, piece)?;
+    if !begins {
+        return Ok(None);
+    }
+    let buf = &frame.plain[..BLOCK_LEN * restored.header.blocks as usize];
+    let len = make_header(
+        buf,
+        &restored.header,
+        &layout.plan,
+        frame.sums,
+        progress,
+        made,
+    );
+    let same = has_header(source, frame.header, &made[..len], piece)?;
     Ok(with_image(restored, same))
 }
 
@@ -288,51 +273,6 @@ fn with_image(restored: &Restored, same: bool) -> Option<Origin>
     }
 }
 
-// Whether all but the rows and the heap is what `pack` writes: what is before the table, its header and its fill.
-fn has_frame<S: Source>(
-    source: &mut S,
-    sums: bool,
-    header: &Header,
-    restored: &Header,
-    layout: &Layout,
-    progress: Progress,
-    buf: &[u8],
-    made: &mut [u8],
-    piece: &mut [u8],
-) -> Result<bool, Stop>
-    requires within { (n : ℕ) × (S.attached source.old ≡ Some n) × (next_start_of header.now ≤ n) }
-    requires end { next_start_of header.now ≤ 2 ^ 62 }
-    requires restored { IsHeaderOf buf.now restored.now }
-    requires simple { restored.now.hdu ≡ 0 → is_set (codes "SIMPLE") (card_at buf.now 0) ≡ true }
-    requires plan { IsPackPlan buf.now restored.now sums layout.now.plan }
-    requires layout { IsLayout layout.now }
-    requires progress { IsSoFar layout.now progress × (progress.tiles ≡ layout.now.tiles) }
-    requires made { len buf.now + 2880 ≤ len made.old }
-    requires piece { 2880 ≤ len piece.old }
-    ensures same { IfOk result (λ yes. IfSome (S.held source.old) (λ g. (codes : List TileCode) → AreCodesFrom layout.now 0 codes
-        → len codes ≡ layout.now.tiles → progress ≡ with_tiles layout.now no_progress codes
-        → yes ≡ has_frame_of g header.now layout.now sums (cards_of buf.now) codes)) }
-    ensures made { len made.new ≡ len made.old }
-    ensures piece { len piece.new ≡ len piece.old }
-    ensures source { SourceStays (S.held source.old) (S.held source.new) (S.attached source.old) (S.attached source.new) }
-    ensures read { LogsWithin 0 (next_start_of header.now) (S.ranges source.old) (S.ranges source.new) }
-    ensures told { StaysTold (S.ranges source.old) (S.ranges source.new) }
-    ensures cause { OnlyReads (S.tally source.old) (S.tally source.new) result }
-{
-    log_law();
-    table_law();
-    let fills = has_fill(source, layout, progress.heap, next_start(header), piece)?;
-    if !fills {
-        return Ok(false);
-    }
-    let begins = begins_right(source, header, layout.plan.primary, made, piece)?;
-    if !begins {
-        return Ok(false);
-    }
-    let len = make_header(buf, restored, &layout.plan, sums, progress, made);
-    has_header(source, header, &made[..len], piece)
-}
-
 // Whether a table whose heap has so many bytes ends at this byte, and zeros fill its data.
 fn has_fill<S: Source>(
     source: &mut S,
@@ -347,9 +287,8 @@ fn has_fill<S: Source>(
     requires piece { 0 < len piece.old }
     ensures same { IfOk result (λ yes. IfSome (S.held source.old) (λ g. yes ≡ has_fill_of g end layout.now heap)) }
     ensures piece { len piece.new ≡ len piece.old }
-    ensures source { SourceStays (S.held source.old) (S.held source.new) (S.attached source.old) (S.attached source.new) }
+    ensures source { SourceStays S.held S.attached S.ranges source.old source.new }
     ensures read { LogsWithin 0 end (S.ranges source.old) (S.ranges source.new) }
-    ensures told { StaysTold (S.ranges source.old) (S.ranges source.new) }
     ensures cause { OnlyReads (S.tally source.old) (S.tally source.new) result }
 {
     log_law();
@@ -386,9 +325,8 @@ fn has_header<S: Source>(
     requires piece { 0 < len piece.old }
     ensures same { IfOk result (λ yes. IfSome (S.held source.old) (λ g. yes ≡ has_header_of g header.now bytes.now)) }
     ensures piece { len piece.new ≡ len piece.old }
-    ensures source { SourceStays (S.held source.old) (S.held source.new) (S.attached source.old) (S.attached source.new) }
+    ensures source { SourceStays S.held S.attached S.ranges source.old source.new }
     ensures read { LogsWithin 0 (next_start_of header.now) (S.ranges source.old) (S.ranges source.new) }
-    ensures told { StaysTold (S.ranges source.old) (S.ranges source.new) }
     ensures cause { OnlyReads (S.tally source.old) (S.tally source.new) result }
 {
     log_law();
@@ -399,7 +337,7 @@ fn has_header<S: Source>(
     has_bytes(source, header.start, end, bytes, piece)
 }
 
-// Whether what is before the table of an image is what `pack` writes, if the image was a primary.
+// Whether the primary without data that `pack` writes, and nothing else, is before the table of an image that was a primary.
 fn begins_right<S: Source>(
     source: &mut S,
     header: &Header,
@@ -414,38 +352,14 @@ fn begins_right<S: Source>(
     ensures same { IfOk result (λ yes. IfSome (S.held source.old) (λ g. yes ≡ begins_right_of primary g header.now)) }
     ensures made { len made.new ≡ len made.old }
     ensures piece { len piece.new ≡ len piece.old }
-    ensures source { SourceStays (S.held source.old) (S.held source.new) (S.attached source.old) (S.attached source.new) }
+    ensures source { SourceStays S.held S.attached S.ranges source.old source.new }
     ensures read { LogsWithin 0 (next_start_of header.now) (S.ranges source.old) (S.ranges source.new) }
-    ensures told { StaysTold (S.ranges source.old) (S.ranges source.new) }
     ensures cause { OnlyReads (S.tally source.old) (S.tally source.new) result }
 {
     log_law();
     if !primary {
         return Ok(true);
     }
-    has_empty_primary(source, header, made, piece)
-}
-
-// Whether the primary without data that `pack` writes, and nothing else, is before an HDU.
-fn has_empty_primary<S: Source>(
-    source: &mut S,
-    header: &Header,
-    made: &mut [u8],
-    piece: &mut [u8],
-) -> Result<bool, Stop>
-    requires within { (n : ℕ) × (S.attached source.old ≡ Some n) × (next_start_of header.now ≤ n) }
-    requires end { next_start_of header.now ≤ 2 ^ 62 }
-    requires made { 2880 ≤ len made.old }
-    requires piece { 0 < len piece.old }
-    ensures same { IfOk result (λ yes. IfSome (S.held source.old) (λ g. yes ≡ has_empty_primary_of g header.now)) }
-    ensures made { len made.new ≡ len made.old }
-    ensures piece { len piece.new ≡ len piece.old }
-    ensures source { SourceStays (S.held source.old) (S.held source.new) (S.attached source.old) (S.attached source.new) }
-    ensures read { LogsWithin 0 (next_start_of header.now) (S.ranges source.old) (S.ranges source.new) }
-    ensures told { StaysTold (S.ranges source.old) (S.ranges source.new) }
-    ensures cause { OnlyReads (S.tally source.old) (S.tally source.new) result }
-{
-    log_law();
     let len = to_empty_primary(made);
     if header.start != len as u64 {
         return Ok(false);

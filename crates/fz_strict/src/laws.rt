@@ -1,14 +1,26 @@
 //! The laws of strict files: no code runs.
 ghost use Rattle.fz_strict.specs.Laws.{BytesHaveOneHeader, FoundOptionsAreAllowed, FoundOptionsDo, FoundOptionsDoForEach};
 ghost use Rattle.fz_strict.specs.Laws.{HdusAreDecided, HdusStandForOne, StrictImagesAgree, StrictIsHduByHdu};
-ghost use Rattle.fz_round_trip.specs.RoundTrip.{RestoredAreBytes};
+ghost use Rattle.fz_strict.specs.Taken.{WalkLaws};
+ghost use Rattle.fz_laws.specs.RoundTrip.{RestoredAreBytes};
 
 use fz_block::{cards_law, found_hdus_law, hdu_list_law, passing_law, walk_law};
 use fz_files::{packed_hdu_law, table_law};
 use fz_grid::{one_tile_law, shape_law, tiles_law};
 use fz_head::{packed_image_law, whole_cards_law};
-use fz_round_trip::{packed_hdus_law, restored_bytes_law};
+use fz_laws::{packed_hdus_law, restored_bytes_law};
 use fz_tile::{one_record_law, plain_law, slice_law};
+
+/// What the laws of strict files take of the headers and the HDUs of a file.
+pub(crate) fn walk_laws()
+    ensures { WalkLaws }
+{
+    found_hdus_law();
+    hdu_list_law();
+    packed_hdu_law();
+    passing_law();
+    walk_law();
+}
 
 /// The options by which a strict file was packed, or others with which `pack` writes the same, are those that its
 /// headers say: no others need to be tried. `pack` takes these options, whatever the file, and all packed images of a
@@ -18,15 +30,11 @@ pub fn options_law()
     ensures found { FoundOptionsDo }
     ensures agree { StrictImagesAgree }
 {
-    found_hdus_law();
-    hdu_list_law();
-    packed_hdu_law();
     packed_hdus_law();
     packed_image_law();
-    passing_law();
     shape_law();
     table_law();
-    walk_law();
+    walk_laws();
 }
 
 /// A file is what `pack` writes by some options if and only if every HDU of it is what `pack` makes, by these options,
@@ -36,8 +44,6 @@ pub fn same_hdus_law()
     ensures found { FoundOptionsDoForEach }
 {
     cards_law();
-    found_hdus_law();
-    hdu_list_law();
     packed_hdu_law();
     packed_hdus_law();
     packed_image_law();
@@ -45,7 +51,7 @@ pub fn same_hdus_law()
     plain_law();
     shape_law();
     table_law();
-    walk_law();
+    walk_laws();
     whole_cards_law();
 }
 
@@ -58,11 +64,8 @@ pub fn one_hdu_law()
     ensures bytes { RestoredAreBytes }
 {
     cards_law();
-    found_hdus_law();
-    hdu_list_law();
     one_record_law();
     one_tile_law();
-    packed_hdu_law();
     packed_image_law();
     passing_law();
     plain_law();
@@ -70,6 +73,6 @@ pub fn one_hdu_law()
     shape_law();
     slice_law();
     tiles_law();
-    walk_law();
+    walk_laws();
     whole_cards_law();
 }

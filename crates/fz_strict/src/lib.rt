@@ -1,10 +1,8 @@
 //! Says whether a file is the packed file, by some options, of the file that it stands for.
 //!
-//! Reading order: `laws`, `worked`; `strict_file`, `reread`, `options`, `hdus`, `origin`, `plans`, `headers`, `image`, `tiles`, `coded`, `bytes`.
+//! Reading order: `laws`, `worked`; `strict_file`, `options`, `hdus`, `origin`, `plans`, `headers`, `image`, `image_law`.
 #![tactic(auto)]
 
-mod bytes;
-mod coded;
 mod hdus;
 mod headers;
 mod image;
@@ -13,9 +11,7 @@ mod laws;
 mod options;
 mod origin;
 mod plans;
-mod reread;
 mod strict_file;
-mod tiles;
 mod worked;
 
 pub use laws::{one_hdu_law, options_law, same_hdus_law};

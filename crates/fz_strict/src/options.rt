@@ -1,26 +1,23 @@
 //! The options by which a file may have been packed.
 ghost use Rattle.std.specs.Prelude.{◌≡◌, ◌<◌, ◌≤◌, Some, length as len, IfOk, IfSome};
 ghost use Rattle.fz_base.specs.Stop.{IfRefused, ReadsOnly};
-ghost use Rattle.fz_base.specs.Told.{StaysTold};
 ghost use Rattle.fz_block.specs.Facts.{IsHeaderOf};
 ghost use Rattle.fz_block.specs.Hdus.{cards_of};
 ghost use Rattle.fz_head.specs.Planned.{AreOptions, IsTile};
 ghost use Rattle.fz_files.specs.declared.job.Job.TheVariants.{Verify};
 ghost use Rattle.fz_tile.specs.Codecs.{ReadsCodes};
-ghost use Rattle.fz_again.specs.Hdus.{ReadsHdus};
+ghost use Rattle.fz_job.specs.Hdus.{ReadsHdus};
+ghost use Rattle.fz_base.specs.Keeps.{SourceStays};
 ghost use Rattle.fz_job.specs.Clauses.{IsChanged};
-ghost use Rattle.fz_job.specs.Keeps.{SourceStays};
 ghost use Rattle.fz_strict.specs.FoundOptions.{has_sums as has_sums_of};
 ghost use Rattle.fz_strict.specs.Gathered.{FindsOptions, greater_tile as greater_tile_of, greatest_tile as greatest_tile_of};
 ghost use Rattle.fz_strict.specs.Gathered.{length_along as length_along_of, longer as longer_of, said_codec as said_codec_of};
 
-use crate::reread::read_front;
-use fz_again::{ReadHdu, hdus_law};
 use fz_base::{Source, Stop, ranges_law};
 use fz_block::{Axes, BLOCK_LEN, Header, cards_law, next_start};
 use fz_card::Name;
 use fz_head::{CodecWord, PackOptions, Plan};
-use fz_survey::Survey;
+use fz_job::{Begun, ReadHdu, Survey, hdus_law, read_front};
 use fz_table::first_named;
 use fz_tile::Codec;
 
@@ -35,28 +32,24 @@ pub(crate) struct Found {
     pub(crate) sums: bool,
 }
 
-/// The options by which `pack` wrote the file, if it did. The front of `copy` is the block with which headers are found,
-/// and `header` has room for the longest.
+/// The options by which `pack` wrote the file, if it did. `header` has room for the longest header.
 pub(crate) fn find_options<S: Source>(
     source: &mut S,
     length: u64,
     survey: &Survey,
-    copy: &mut [u8],
     header: &mut [u8],
 ) -> Result<PackOptions, Stop>
     requires attached { S.attached source.old ≡ Some length }
     requires some { 0 < survey.now.hdus }
     requires few { survey.now.hdus ≤ 65536 }
-    requires copy { 2880 ≤ len copy.old }
+    requires long { 2880 ≤ survey.now.header_len }
     requires header { survey.now.header_len ≤ len header.old }
     ensures options { IfSome (S.held source.old) (λ g. FindsOptions g survey.now result) }
     ensures allowed { IfOk result AreOptions }
     ensures changed { IfRefused result IsChanged }
-    ensures copy { len copy.new ≡ len copy.old }
     ensures header { len header.new ≡ len header.old }
-    ensures source { SourceStays (S.held source.old) (S.held source.new) (S.attached source.old) (S.attached source.new) }
+    ensures source { SourceStays S.held S.attached S.ranges source.old source.new }
     ensures read { IfSome (S.held source.old) (λ g. ReadsHdus Verify g survey.now (S.ranges source.old) (S.ranges source.new)) }
-    ensures told { StaysTold (S.ranges source.old) (S.ranges source.new) }
     ensures cause { ReadsOnly (S.tally source.old) (S.tally source.new) result }
 {
     hdus_law();
@@ -65,16 +58,12 @@ pub(crate) fn find_options<S: Source>(
     let mut start = 0;
     let mut after_empty = false;
     for hdu in 0..survey.hdus {
-        let again = read_front(
-            source,
-            length,
+        let begun = Begun {
             hdu,
             start,
             after_empty,
-            survey,
-            copy,
-            header,
-        )?;
+        };
+        let again = read_front(source, length, begun, survey, header)?;
         found = found.with_hdu(header, &again);
         start = next_start(&again.header);
         if start == length {

@@ -1,6 +1,7 @@
 //! The call: look at all headers, take all buffers, and then compare.
 ghost use Rattle.std.specs.Prelude.{◌≡◌, ◌+◌, ◌*◌, ◌<◌, ◌≤◌, max, [], None, Some, length as len, replicate, sum, IfOk, IfSome, IsErrOf, IsSome, OnOk};
 ghost use Rattle.std.specs.Prelude.{is_ok, is_some};
+ghost use Rattle.fz_base.specs.Keeps.{SourceStays};
 ghost use Rattle.fz_base.specs.Ranges.{LogsIn};
 ghost use Rattle.fz_base.specs.Stop.{IfRefused, IsDefined, ReadsAndTakes, TellsLimit};
 ghost use Rattle.fz_base.specs.Takings.{TellsFirstPast, highest, piled};
@@ -11,27 +12,27 @@ ghost use Rattle.fz_files.specs.FirstFault.{IsFirstFault};
 ghost use Rattle.fz_files.specs.Reads.{header_ranges};
 ghost use Rattle.fz_files.specs.Touched.{touched_by};
 ghost use Rattle.fz_files.specs.declared.job.Job.TheVariants.{Verify};
-ghost use Rattle.fz_pool.specs.Window.{IsEmpty, slot_sizes};
-ghost use Rattle.fz_survey.specs.Surveys.{IsSurvey, surveyed};
-ghost use Rattle.fz_survey.specs.Workspace.{SpaceStays, wanted_buffers};
-ghost use Rattle.fz_survey.specs.declared.checks.JobChecks.TheVariants.{Unpack};
+ghost use Rattle.fz_pool.specs.Window.{IsEmpty, slot_sizes, WindowStays};
+ghost use Rattle.fz_job.specs.Surveys.{IsSurvey, surveyed};
+ghost use Rattle.fz_job.specs.Workspace.{SpaceStays, wanted_buffers};
+ghost use Rattle.fz_job.specs.declared.checks.JobChecks.TheVariants.{Unpack};
 ghost use Rattle.fz_job.specs.Clauses.{ComesLate, KeepsBuffers, KeepsSource, TellsFirstFault};
-ghost use Rattle.fz_job.specs.Keeps.{SourceStays, WindowStays};
 ghost use Rattle.fz_strict.specs.Clauses.{AnswersStrict, HasStrictCause, IsLateOrEarly, IsStrictAsSaid};
 ghost use Rattle.fz_strict.specs.Clauses.{look_takings, strict_buffers, strict_takings, strict_wants};
-ghost use Rattle.fz_strict.specs.Reads.{ReadsKnown};
+ghost use Rattle.fz_compare.specs.Reads.{ReadsKnown};
 ghost use Rattle.fz_strict.specs.Rows.{ComparesFound};
 
-use crate::hdus::compare_hdus;
+use crate::hdus::{Comparing, compare_hdus};
 use crate::laws::same_hdus_law;
 use crate::options::find_options;
-use fz_again::{hdus_law, headers_law, known_law};
 use fz_base::{Gate, Meter, Source, Stop, ranges_law};
 use fz_block::BLOCK_LEN;
 use fz_files::same_faults_law;
+use fz_job::{
+    Survey, Wants, Workspace, hdus_law, headers_law, known_law, stages_law, survey_law,
+    survey_to_unpack, workspace_law,
+};
 use fz_pool::{Crew, Window, sizes_law};
-use fz_stages::stages_law;
-use fz_survey::{Survey, Wants, Workspace, survey_law, survey_to_unpack, workspace_law};
 use std::snapshot::Snapshot;
 use std::thread::Threads;
 
@@ -78,13 +79,10 @@ pub fn strict<R: Threads + Sync, S: Source, G: Gate>(
     stages_law::<bool>();
     survey_law();
     workspace_law();
-    let crew = Crew {
-        rt,
-        gate,
-        workers: window.workers(),
-    };
+    let workers = window.workers();
+    let crew = Crew { rt, gate, workers };
     let survey = look(source, length, meter)?;
-    compare(&crew, source, length, meter, window, &survey)
+    compare(crew, source, length, meter, window, &survey)
 }
 
 /// What `strict_decoded` hands out after it decoded every tile of a file, and none had a fault. Nothing else makes one, so a
@@ -165,9 +163,8 @@ fn look<S: Source>(source: &mut S, length: u64, meter: &mut Meter) -> Result<Sur
     ensures unread { meter.old.limit < 2880 → S.ranges source.new ≡ S.ranges source.old }
     ensures live { meter.new.live ≡ 0 }
     ensures limit { meter.new.limit ≡ meter.old.limit }
-    ensures source { SourceStays (S.held source.old) (S.held source.new) (S.attached source.old) (S.attached source.new) }
+    ensures source { SourceStays S.held S.attached S.ranges source.old source.new }
     ensures read { IfSome (S.held source.old) (λ g. LogsIn (header_ranges Verify g) (S.ranges source.old) (S.ranges source.new)) }
-    ensures told { StaysTold (S.ranges source.old) (S.ranges source.new) }
     ensures cause { ReadsAndTakes (S.tally source.old) (S.tally source.new) meter.old.limit result }
 {
     headers_law();
@@ -179,7 +176,7 @@ fn look<S: Source>(source: &mut S, length: u64, meter: &mut Meter) -> Result<Sur
 
 // Takes the buffer of restored headers, and compares.
 fn compare<R: Threads + Sync, S: Source, G: Gate>(
-    crew: &Crew<'_, R, G>,
+    crew: Crew<'_, R, G>,
     source: &mut S,
     length: u64,
     meter: &mut Meter,
@@ -191,6 +188,7 @@ fn compare<R: Threads + Sync, S: Source, G: Gate>(
     requires window { IsEmpty window.old }
     requires some { 0 < survey.now.hdus }
     requires few { survey.now.hdus ≤ 65536 }
+    requires long { 2880 ≤ survey.now.header_len }
     requires short { survey.now.header_len ≤ 737280 }
     ensures compared { IfSome (S.held source.old) (λ g. ComparesFound g survey.now result) }
     ensures live { meter.new.live ≡ 0 }
@@ -200,9 +198,8 @@ fn compare<R: Threads + Sync, S: Source, G: Gate>(
     ensures first_past { TellsFirstPast meter.old.limit (piled 0 (strict_buffers survey.now.header_len survey.now.tile window.old.workers)) result }
     ensures emptied { window.new ≡ record { slots = []; workers = window.old.workers } }
     ensures late { IfRefused result (ComesLate Verify) }
-    ensures source { SourceStays (S.held source.old) (S.held source.new) (S.attached source.old) (S.attached source.new) }
+    ensures source { SourceStays S.held S.attached S.ranges source.old source.new }
     ensures read { IfSome (S.held source.old) (λ g. ReadsKnown g survey.now (S.ranges source.old) (S.ranges source.new)) }
-    ensures told { StaysTold (S.ranges source.old) (S.ranges source.new) }
     ensures cause { ReadsAndTakes (S.tally source.old) (S.tally source.new) meter.old.limit result }
 {
     let mut plain = meter.bytes(u64::from(survey.header_len) + BLOCK_LEN as u64)?;
@@ -221,7 +218,7 @@ fn compare<R: Threads + Sync, S: Source, G: Gate>(
 
 // Takes the other buffers, compares, and hands them back.
 fn with_plain<R: Threads + Sync, S: Source, G: Gate>(
-    crew: &Crew<'_, R, G>,
+    crew: Crew<'_, R, G>,
     source: &mut S,
     length: u64,
     meter: &mut Meter,
@@ -233,6 +230,7 @@ fn with_plain<R: Threads + Sync, S: Source, G: Gate>(
     requires window { IsEmpty window.old }
     requires some { 0 < survey.now.hdus }
     requires few { survey.now.hdus ≤ 65536 }
+    requires long { 2880 ≤ survey.now.header_len }
     requires short { survey.now.header_len ≤ 737280 }
     requires plain { len plain.old ≡ survey.now.header_len + 2880 }
     ensures compared { IfSome (S.held source.old) (λ g. ComparesFound g survey.now result) }
@@ -245,9 +243,8 @@ fn with_plain<R: Threads + Sync, S: Source, G: Gate>(
     ensures first_past { TellsFirstPast meter.old.limit (piled meter.old.live (wanted_buffers (strict_wants survey.now) window.old.workers)) result }
     ensures emptied { window.new ≡ record { slots = []; workers = window.old.workers } }
     ensures late { IfRefused result (ComesLate Verify) }
-    ensures source { SourceStays (S.held source.old) (S.held source.new) (S.attached source.old) (S.attached source.new) }
+    ensures source { SourceStays S.held S.attached S.ranges source.old source.new }
     ensures read { IfSome (S.held source.old) (λ g. ReadsKnown g survey.now (S.ranges source.old) (S.ranges source.new)) }
-    ensures told { StaysTold (S.ranges source.old) (S.ranges source.new) }
     ensures cause { ReadsAndTakes (S.tally source.old) (S.tally source.new) meter.old.limit result }
 {
     // How long the slots are that were filled, and that what was taken comes back.
@@ -266,7 +263,7 @@ fn with_plain<R: Threads + Sync, S: Source, G: Gate>(
 
 // Finds the options, and compares the file with what `pack` writes by them.
 fn compare_file<R: Threads + Sync, S: Source, G: Gate>(
-    crew: &Crew<'_, R, G>,
+    crew: Crew<'_, R, G>,
     source: &mut S,
     length: u64,
     window: &mut Window,
@@ -277,6 +274,7 @@ fn compare_file<R: Threads + Sync, S: Source, G: Gate>(
     requires attached { S.attached source.old ≡ Some length }
     requires some { 0 < survey.now.hdus }
     requires few { survey.now.hdus ≤ 65536 }
+    requires long { 2880 ≤ survey.now.header_len }
     requires window { slot_sizes window.old.slots ≡ replicate (2 * window.old.workers) (2 * survey.now.tile, 8 * survey.now.tile + 64) }
     requires header { len space.old.header ≡ survey.now.header_len + 2880 }
     requires plain { len plain.old ≡ survey.now.header_len + 2880 }
@@ -286,18 +284,18 @@ fn compare_file<R: Threads + Sync, S: Source, G: Gate>(
     ensures plain { len plain.new ≡ len plain.old }
     ensures space { SpaceStays space.old space.new }
     ensures window { WindowStays window.old window.new }
-    ensures source { SourceStays (S.held source.old) (S.held source.new) (S.attached source.old) (S.attached source.new) }
+    ensures source { SourceStays S.held S.attached S.ranges source.old source.new }
     ensures read { IfSome (S.held source.old) (λ g. ReadsKnown g survey.now (S.ranges source.old) (S.ranges source.new)) }
-    ensures told { StaysTold (S.ranges source.old) (S.ranges source.new) }
     ensures cause { Fetches (S.tally source.old) (S.tally source.new) result }
 {
     ranges_law();
-    let options = find_options(
-        source,
+    let header = space.header.as_mut_slice();
+    let options = find_options(source, length, survey, header)?;
+    let asked = Comparing {
+        crew,
         length,
-        survey,
-        space.copy.as_mut_slice(),
-        space.header.as_mut_slice(),
-    )?;
-    compare_hdus(crew, source, length, window, survey, &options, plain, space)
+        survey: *survey,
+        options,
+    };
+    compare_hdus(&asked, source, window, plain, space)
 }

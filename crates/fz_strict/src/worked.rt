@@ -10,12 +10,10 @@ ghost use Rattle.fz_strict.specs.FoundOptions.{codec_found, found_options, tile_
 ghost use Rattle.fz_strict.specs.Strict.{IsStrict};
 ghost use Rattle.fz_strict.specs.Worked.{bare_file, filled_file, some_sums_file};
 
-use crate::laws::options_law;
-use fz_block::{found_hdus_law, hdu_list_law, passing_law, walk_law};
-use fz_files::{one_file_law, packed_hdu_law, plain_file_law, sum_file_law};
-use fz_round_trip::{
-    first_fault_law, packed_file_law, restored_file_law, restored_law, round_trip_law,
-};
+use crate::laws::{options_law, walk_laws};
+use fz_block::{hdu_list_law, passing_law};
+use fz_files::{one_file_law, plain_file_law, sum_file_law};
+use fz_laws::{first_fault_law, packed_file_law, restored_file_law, restored_law, round_trip_law};
 
 /// A primary without data is strict, and so are two files of `fz_files`: the packed file of an image in tiles of 2 by 2
 /// pixels, and the same with sums, by the options that its headers say. The file of the image is not strict, since the
@@ -35,17 +33,15 @@ pub fn strict_files_law()
     ensures some_sums { ¬ (IsStrict some_sums_file) }
 {
     first_fault_law();
-    found_hdus_law();
     hdu_list_law();
     one_file_law();
     options_law();
     packed_file_law();
-    packed_hdu_law();
     passing_law();
     plain_file_law();
     restored_file_law();
     restored_law();
     round_trip_law();
     sum_file_law();
-    walk_law();
+    walk_laws();
 }

@@ -10,7 +10,7 @@ use Rattle.fz_grid.specs.Laws.{BoxesAreInOrder, NumbersHavePlaces, PlacesAreInsi
 use Rattle.fz_grid.specs.Region.{IsWithin, lengths_of, region_corner, region_lengths}
 use Rattle.fz_grid.specs.Sieve.{IsSieveOf, pick_count, pick_counts, sieve_hi, sieve_lengths, sieve_lo, sieve_step}
 use Rattle.fz_grid.specs.declared.region.Region.{Region}
-use Rattle.fz_parts.specs.Cutout.{Sifts, picked_numbers}
+use Rattle.fz_grid.specs.Cutout.{Sifts, picked_numbers}
 use Rattle.fz_tile.specs.Laws.{HasPlainLen, SlicesBytes}
 use Rattle.fz_tile.specs.Pixels.{IsBitpix}
 use Rattle.fz_tile.specs.Plain.{plain_bytes}

@@ -3,7 +3,7 @@ use Rattle.std.proofs.Common.{◌≡◌, ℕ, ◌*◌, ◌/◌, ◌≤◌, List,
 use Rattle.std.specs.Option.{ForSome}
 use Rattle.std.proofs.lemmas.Nat.{le-div}
 use Rattle.fz_grid.specs.declared.region.Region.{Region}
-use Rattle.fz_survey.specs.declared.survey.Survey.{Survey}
+use Rattle.fz_job.specs.declared.survey.Survey.{Survey}
 use Rattle.fz_view.specs.Boxes.{HasBox, sieve_in}
 use Rattle.fz_view.specs.Holds.{IsKnownView}
 use Rattle.fz_view.specs.declared.here.Here.{Here}

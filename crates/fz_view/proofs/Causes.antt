@@ -11,7 +11,7 @@ use Rattle.fz_fetch.specs.Stops.{Fetches, StoppedFetching}
 use Rattle.fz_files.specs.declared.job.Job.TheVariants.{Unpack}
 use Rattle.fz_job.specs.Clauses.{HasJobCause}
 use Rattle.fz_job.specs.Keeps.{Rewrites, StoppedRewriting}
-use Rattle.fz_stages.specs.Stages.{StoppedWorking, Works}
+use Rattle.fz_job.specs.Stages.{StoppedWorking, Works}
 use Rattle.fz_view.specs.Looks.{HasLookCause}
 use Rattle.fz_view.specs.declared.looked.Looked.{Looked}
 use Rattle.fz_view.proofs.Outcomes.{kept_same, ok_always}

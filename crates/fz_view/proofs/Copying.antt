@@ -8,7 +8,7 @@ use Rattle.fz_block.specs.Header.{next_start_of}
 use Rattle.fz_grid.specs.declared.region.Region.{Region}
 use Rattle.fz_files.specs.Touched.{touched_by}
 use Rattle.fz_files.specs.declared.job.Job.TheVariants.{Unpack}
-use Rattle.fz_survey.specs.declared.survey.Survey.{Survey}
+use Rattle.fz_job.specs.declared.survey.Survey.{Survey}
 use Rattle.fz_view.specs.Here.{IsInOrder}
 use Rattle.fz_view.specs.Holds.{IsKnownView}
 use Rattle.fz_view.specs.Laws.{CopyIsTouched}

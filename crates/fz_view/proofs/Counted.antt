@@ -24,8 +24,8 @@ use Rattle.fz_files.specs.FirstFault.{IsFirstRowFault, rows_of}
 use Rattle.fz_files.specs.Packed.{pixel_bits, zero_filled}
 use Rattle.fz_files.specs.Restored.{header_in, image_bytes, is_image, is_packed_primary, plan_in, standing}
 use Rattle.fz_files.specs.RestoredFile.{image_array, restored_hdu}
-use Rattle.fz_again.specs.Again.{IsAgain, header_at_front, was_primary_image}
-use Rattle.fz_again.specs.declared.again.ReadHdu.{ReadHdu}
+use Rattle.fz_job.specs.Again.{IsAgain, header_at_front, was_primary_image}
+use Rattle.fz_job.specs.declared.again.ReadHdu.{ReadHdu}
 use Rattle.fz_view.specs.Looked.{AreLooked, IsHduLooked, IsImageCounted, behind_primary, first_of, the_primary, with_counted}
 use Rattle.fz_view.specs.declared.hdus.Counted.{Counted}
 use Rattle.fz_view.specs.declared.hdus.Seen.{Seen}

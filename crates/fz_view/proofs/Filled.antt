@@ -17,7 +17,7 @@ use Rattle.fz_grid.specs.Overlap.{has_pixel}
 use Rattle.fz_grid.specs.Region.{IsDivided, lengths_of}
 use Rattle.fz_grid.specs.Sieve.{picked_tiles, sieve_hi, sieve_lo, sieve_step, tile_picks}
 use Rattle.fz_grid.specs.declared.sieve.Sieve.{Sieve}
-use Rattle.fz_parts.specs.Cutout.{Sifts, part_lengths, picked_numbers}
+use Rattle.fz_grid.specs.Cutout.{Sifts, part_lengths, picked_numbers}
 use Rattle.fz_table.specs.Records.{IsOfRow, record_bytes}
 use Rattle.fz_table.specs.declared.record.Record.{Record}
 use Rattle.fz_tile.specs.Codecs.{CanRead}
@@ -38,15 +38,15 @@ use Rattle.fz_files.specs.RestoredFile.{image_array}
 use Rattle.fz_files.specs.Touched.{touched_by}
 use Rattle.fz_files.specs.Walks.{headers_for}
 use Rattle.fz_files.specs.declared.job.Job.TheVariants.{Unpack}
-use Rattle.fz_round_trip.specs.RoundTrip.{HasFirstFault, ImageArraysStand}
-use Rattle.fz_fetch.specs.Fetched.{HoldsPixels, IsFetched, fetched_ranges}
-use Rattle.fz_fetch.specs.Images.{IsReadable, IsSaid}
-use Rattle.fz_fetch.specs.Laws.{JoinsRoundsOfParts, PartsMakeTheBytes}
-use Rattle.fz_fetch.specs.Marks.{HoldsBetween, IsPartFetched}
-use Rattle.fz_fetch.specs.Scattered.{part_written, parts_written}
-use Rattle.fz_survey.specs.declared.survey.Survey.{Survey}
-use Rattle.fz_again.specs.Hdus.{DataAreOfHdus, KnownAreTouched, TilesAreOfImage, UnpacksWithin}
-use Rattle.fz_again.specs.Known.{IsKnown}
+use Rattle.fz_laws.specs.RoundTrip.{HasFirstFault, ImageArraysStand}
+use Rattle.fz_fetch.specs.Fetched.{HoldsPixels, IsFetched}
+use Rattle.fz_job.specs.Images.{fetched_ranges, IsReadable, IsSaid}
+use Rattle.fz_pixels.specs.Laws.{JoinsRoundsOfParts, PartsMakeTheBytes}
+use Rattle.fz_pixels.specs.Marks.{HoldsBetween, IsPartFetched}
+use Rattle.fz_pixels.specs.Scattered.{part_written, parts_written}
+use Rattle.fz_job.specs.declared.survey.Survey.{Survey}
+use Rattle.fz_job.specs.Hdus.{DataAreOfHdus, KnownAreTouched, TilesAreOfImage, UnpacksWithin}
+use Rattle.fz_job.specs.Known.{IsKnown}
 use Rattle.fz_job.specs.Clauses.{IsOfSomeRow}
 use Rattle.fz_view.specs.Boxes.{HasBox, HasPart}
 use Rattle.fz_view.specs.Here.{here_of}

@@ -16,10 +16,10 @@ use Rattle.fz_files.specs.Packed.{pixel_bits}
 use Rattle.fz_files.specs.Restored.{header_in, is_image, plan_in}
 use Rattle.fz_files.specs.RestoredFile.{restored_hdu}
 use Rattle.fz_files.specs.declared.job.Job.TheVariants.{Unpack}
-use Rattle.fz_survey.specs.declared.survey.Survey.{Survey}
-use Rattle.fz_again.specs.Again.{IsUsable, header_at_front}
-use Rattle.fz_again.specs.Known.{IsKnown}
-use Rattle.fz_again.specs.declared.again.ReadHdu.{ReadHdu}
+use Rattle.fz_job.specs.declared.survey.Survey.{Survey}
+use Rattle.fz_job.specs.Again.{IsUsable, header_at_front}
+use Rattle.fz_job.specs.Known.{IsKnown}
+use Rattle.fz_job.specs.declared.again.ReadHdu.{ReadHdu}
 use Rattle.fz_view.specs.Here.{IsCopiedHere, IsImageHere, data_len_of, here_of, here_with, image_or_none, made_header, place_of}
 use Rattle.fz_view.specs.Laws.{IsFound, IsHere}
 use Rattle.fz_view.specs.declared.here.Here.{Here}

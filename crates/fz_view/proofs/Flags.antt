@@ -9,7 +9,7 @@ use Rattle.fz_block.specs.Hdus.{axes_of, naxis_of, size_at}
 use Rattle.fz_block.specs.declared.header.Header.{Header}
 use Rattle.fz_head.specs.JobChecks.{is_after_empty}
 use Rattle.fz_files.specs.Restored.{header_in}
-use Rattle.fz_again.specs.Again.{WasSeen, WereSeen, is_empty_primary}
+use Rattle.fz_job.specs.Again.{WasSeen, WereSeen, is_empty_primary}
 
 -- the flag says of the first of some HDUs whether it is HDU 1 after a primary with NAXIS 0
 abbrev pub SaysBehind : List ℕ → Bool → List Header → Type 0

@@ -6,9 +6,9 @@ use Rattle.fz_head.specs.JobChecks.{image_in, is_after_empty}
 use Rattle.fz_head.specs.declared.job_checks.PackedImage.{PackedImage}
 use Rattle.fz_files.specs.Restored.{header_in, is_image}
 use Rattle.fz_files.specs.declared.job.Job.TheVariants.{Unpack}
-use Rattle.fz_fetch.specs.Images.{IsSaid}
-use Rattle.fz_survey.specs.declared.survey.Survey.{Survey}
-use Rattle.fz_again.specs.Known.{IsKnown}
+use Rattle.fz_job.specs.Images.{IsSaid}
+use Rattle.fz_job.specs.declared.survey.Survey.{Survey}
+use Rattle.fz_job.specs.Known.{IsKnown}
 use Rattle.fz_view.specs.Here.{here_of, image_or_none}
 use Rattle.fz_view.specs.declared.here.Here.{Here}
 use Rattle.fz_view.proofs.Knowing.{IsAmong, among, seen_here}

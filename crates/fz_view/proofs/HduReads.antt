@@ -11,15 +11,15 @@ use Rattle.fz_files.specs.Reads.{header_ranges}
 use Rattle.fz_files.specs.Touched.{all_data_touched, data_touched, image_ranges, touched_by}
 use Rattle.fz_files.specs.Walks.{header_fault}
 use Rattle.fz_files.specs.declared.job.Job.TheVariants.{Unpack}
-use Rattle.fz_survey.specs.Reads.{IsWithinOne}
-use Rattle.fz_survey.specs.Surveys.{survey_places, surveyed}
-use Rattle.fz_survey.specs.declared.checks.JobChecks.TheVariants.{Unpack as UnpackChecks}
-use Rattle.fz_survey.specs.declared.survey.Survey.{Survey}
-use Rattle.fz_again.specs.Again.{IsAgain, ReadsAsSeen, WasSeen}
-use Rattle.fz_again.specs.Hdus.{DataAreOfHdus, HeaderIsOfHdus, KnownAreTouched, ReadsHdus, UnpacksWithin, ranges_of_hdus}
-use Rattle.fz_again.specs.Headers.{LooksReadHeaders}
-use Rattle.fz_again.specs.Known.{IsKnown, SurveysKnow}
-use Rattle.fz_again.specs.declared.again.ReadHdu.{ReadHdu}
+use Rattle.fz_job.specs.SurveyReads.{IsWithinOne}
+use Rattle.fz_job.specs.Surveys.{survey_places, surveyed}
+use Rattle.fz_job.specs.declared.checks.JobChecks.TheVariants.{Unpack as UnpackChecks}
+use Rattle.fz_job.specs.declared.survey.Survey.{Survey}
+use Rattle.fz_job.specs.Again.{IsAgain, ReadsAsSeen, WasSeen}
+use Rattle.fz_job.specs.Hdus.{DataAreOfHdus, HeaderIsOfHdus, KnownAreTouched, ReadsHdus, UnpacksWithin, ranges_of_hdus}
+use Rattle.fz_job.specs.Headers.{LooksReadHeaders}
+use Rattle.fz_job.specs.Known.{IsKnown, SurveysKnow}
+use Rattle.fz_job.specs.declared.again.ReadHdu.{ReadHdu}
 use Rattle.fz_view.specs.declared.hdus.Seen.{Seen}
 use Rattle.fz_view.proofs.Looking.{IsLooking}
 use Rattle.fz_view.proofs.Parts.{next, read_same, was_seen}

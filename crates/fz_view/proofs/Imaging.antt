@@ -4,8 +4,8 @@ use Rattle.std.specs.Option.{ForSome}
 use Rattle.fz_base.specs.Source.{HoldsOctets}
 use Rattle.fz_grid.specs.declared.region.Region.{Region}
 use Rattle.fz_head.specs.declared.job_checks.PackedImage.{PackedImage}
-use Rattle.fz_fetch.specs.Images.{IsReadable}
-use Rattle.fz_survey.specs.declared.survey.Survey.{Survey}
+use Rattle.fz_job.specs.Images.{IsReadable}
+use Rattle.fz_job.specs.declared.survey.Survey.{Survey}
 use Rattle.fz_view.specs.Holds.{IsAtHand, IsKnownView}
 use Rattle.fz_view.specs.Laws.{FoundIsReadable, HereIsKnown, IsKnownImage}
 use Rattle.fz_view.specs.declared.here.Here.{Here}

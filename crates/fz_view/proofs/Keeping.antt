@@ -20,8 +20,8 @@ use Rattle.fz_head.specs.declared.job_checks.PackedImage.{PackedImage}
 use Rattle.fz_files.specs.Touched.{touched_by}
 use Rattle.fz_files.specs.declared.job.Job.TheVariants.{Unpack}
 use Rattle.fz_job.specs.Clauses.{IsChanged, IsOfSomeRow}
-use Rattle.fz_survey.specs.declared.survey.Survey.{Survey}
-use Rattle.fz_again.specs.Again.{is_empty_primary}
+use Rattle.fz_job.specs.declared.survey.Survey.{Survey}
+use Rattle.fz_job.specs.Again.{is_empty_primary}
 use Rattle.fz_view.specs.Begins.{HeadersStay, IsBegun, IsReadHere, IsToldHere}
 use Rattle.fz_view.specs.Boxes.{HasBox, LiesInImage, sieve_in}
 use Rattle.fz_view.specs.Here.{IsPlaced}
@@ -62,6 +62,7 @@ late_row X Y NoMemory row = tt
 pub room_read : (header_len tile : ℕ) (old new : Space) → HaveRoom header_len tile old → HeadersStay old new → HaveRoom header_len tile new
 room_read header_len tile old new room stay = record {
   block = stay.block ∙ room.block;
+  long = room.long;
   header = stay.header ∙ room.header;
   translated = stay.translated ∙ room.translated;
   numbers = ap length stay.numbers ∙ room.numbers;
@@ -75,6 +76,7 @@ bytes_read old new stay = omega (arith, stay.block, stay.header, stay.translated
 pub room_filled : (header_len tile : ℕ) (old new : Space) → HaveRoom header_len tile old → ScratchStays old new → HaveRoom header_len tile new
 room_filled header_len tile old new room stay = record {
   block = ap length stay.block ∙ room.block;
+  long = room.long;
   header = ap length stay.header ∙ room.header;
   translated = ap length stay.translated ∙ room.translated;
   numbers = stay.numbers ∙ room.numbers;

@@ -13,10 +13,10 @@ use Rattle.fz_files.specs.Restored.{is_packed_primary, standing}
 use Rattle.fz_files.specs.RestoredFile.{restored, restored_hdu}
 use Rattle.fz_files.specs.Walks.{headers_for}
 use Rattle.fz_files.specs.declared.job.Job.TheVariants.{Unpack}
-use Rattle.fz_survey.specs.declared.survey.Survey.{Survey}
-use Rattle.fz_again.specs.Again.{ReadsAsSeen, WasSeen, WereSeen, is_empty_primary}
-use Rattle.fz_again.specs.Known.{IsKnown}
-use Rattle.fz_again.specs.declared.again.ReadHdu.{ReadHdu}
+use Rattle.fz_job.specs.declared.survey.Survey.{Survey}
+use Rattle.fz_job.specs.Again.{ReadsAsSeen, WasSeen, WereSeen, is_empty_primary}
+use Rattle.fz_job.specs.Known.{IsKnown}
+use Rattle.fz_job.specs.declared.again.ReadHdu.{ReadHdu}
 use Rattle.fz_view.specs.Here.{IsPlaced, here_of, here_with, place_of}
 use Rattle.fz_view.specs.Laws.{HasNext}
 use Rattle.fz_view.specs.Looked.{first_of}

@@ -17,14 +17,14 @@ use Rattle.fz_files.specs.RestoredFile.{restored, restored_hdu}
 use Rattle.fz_files.specs.Retiled.{if_short, plain_of, restored_file, restored_unless}
 use Rattle.fz_files.specs.Walks.{headers_for}
 use Rattle.fz_files.specs.declared.job.Job.TheVariants.{Unpack}
-use Rattle.fz_round_trip.specs.RoundTrip.{HasNoOtherFault}
-use Rattle.fz_survey.specs.Surveys.{surveyed}
-use Rattle.fz_survey.specs.declared.checks.JobChecks.TheVariants.{Unpack as UnpackChecks}
-use Rattle.fz_survey.specs.declared.survey.Survey.{Survey}
+use Rattle.fz_laws.specs.RoundTrip.{HasNoOtherFault}
+use Rattle.fz_job.specs.Surveys.{surveyed}
+use Rattle.fz_job.specs.declared.checks.JobChecks.TheVariants.{Unpack as UnpackChecks}
+use Rattle.fz_job.specs.declared.survey.Survey.{Survey}
 use Rattle.fz_job.specs.Clauses.{TellsFirstFault}
-use Rattle.fz_again.specs.Known.{IsKnown, IsList, SurveysKnow}
-use Rattle.fz_stages.specs.Stages.{HasLargest}
-use Rattle.fz_view.specs.Found.{looked_with}
+use Rattle.fz_job.specs.Known.{IsKnown, IsList, SurveysKnow}
+use Rattle.fz_job.specs.Stages.{HasLargest}
+use Rattle.fz_view.specs.Found.{IsSoundFound, looked_with}
 use Rattle.fz_view.specs.Looked.{AreLooked, IsFaultAmong, IsLooked, IsLookFault, IsSeen, IsSoundLook}
 use Rattle.fz_view.specs.declared.whole_look.Found.{Found}
 use Rattle.fz_view.proofs.Tests.{false_lt}
@@ -71,15 +71,15 @@ module _ (know : SurveysKnow Unpack) (s : Survey) where
         first = looked.first;
       }
 
-  pub work_looked : HasNoOtherFault → (held : Option (List ℕ)) (length_is : ℕ) (block : List ℕ) (r : Result Found Stop) → IfSome held (Knows s) → IfOk r (λ f. IfSome held (λ g. IsSeen g s f.seen)) →
-      IfOk r (λ f. (f.survey ≡ s) × IsSoundLook length_is (looked_with f block)) → IfOk r (λ f. IfSome held (λ g. IsLooked g (looked_with f block)))
-  work_looked only None length_is block (Ok f) exact seen sound = tt
-  work_looked only (Some g) length_is block (Ok f) exact seen sound = looked_by only g exact f block seen sound.0 sound.1.short
-  work_looked only held length_is block (Err stop) exact seen sound = tt
+  pub work_looked : HasNoOtherFault → (held : Option (List ℕ)) (length_is : ℕ) (block : List ℕ) → length block ≡ 2880 → (r : Result Found Stop) → IfSome held (Knows s) → IfOk r (λ f. IfSome held (λ g. IsSeen g s f.seen)) →
+      IfOk r (λ f. (f.survey ≡ s) × IsSoundFound length_is f) → IfOk r (λ f. IfSome held (λ g. IsLooked g (looked_with f block)))
+  work_looked only None length_is block whole (Ok f) exact seen sound = tt
+  work_looked only (Some g) length_is block whole (Ok f) exact seen sound = looked_by only g exact f block seen sound.0 (sound.1 block whole).short
+  work_looked only held length_is block whole (Err stop) exact seen sound = tt
 
-  pub work_sound : (length_is : ℕ) (block : List ℕ) (r : Result Found Stop) → IfOk r (λ f. (f.survey ≡ s) × IsSoundLook length_is (looked_with f block)) → IfOk r (λ f. IsSoundLook length_is (looked_with f block))
-  work_sound length_is block (Ok f) sound = sound.1
-  work_sound length_is block (Err stop) sound = tt
+  pub work_sound : (length_is : ℕ) (block : List ℕ) → length block ≡ 2880 → (r : Result Found Stop) → IfOk r (λ f. (f.survey ≡ s) × IsSoundFound length_is f) → IfOk r (λ f. IsSoundLook length_is (looked_with f block))
+  work_sound length_is block whole (Ok f) sound = sound.1 block whole
+  work_sound length_is block whole (Err stop) sound = tt
 
   -- ---- what is refused
 

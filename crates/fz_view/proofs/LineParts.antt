@@ -8,7 +8,7 @@ use Rattle.fz_grid.specs.Arrays.{coordinates_of, place_of, product}
 use Rattle.fz_grid.specs.Laws.{JoinedIsArray}
 use Rattle.fz_grid.specs.Region.{IsWithin, lengths_of, region_lengths}
 use Rattle.fz_grid.specs.declared.region.Region.{Region}
-use Rattle.fz_parts.specs.Cutout.{picked_numbers}
+use Rattle.fz_grid.specs.Cutout.{picked_numbers}
 use Rattle.fz_tile.specs.Pixels.{IsBitpix}
 use Rattle.fz_tile.specs.Plain.{plain_bytes}
 use Rattle.fz_head.specs.declared.job_checks.PackedImage.{PackedImage}
@@ -16,7 +16,7 @@ use Rattle.fz_head.specs.declared.plan.Plan.{Plan}
 use Rattle.fz_files.specs.Packed.{pixel_bits}
 use Rattle.fz_files.specs.Restored.{plan_in}
 use Rattle.fz_files.specs.RestoredFile.{image_array}
-use Rattle.fz_fetch.specs.Images.{IsReadable, IsSaid}
+use Rattle.fz_job.specs.Images.{IsReadable, IsSaid}
 use Rattle.fz_view.specs.Boxes.{HasBox, HasPixel, inside_of, sieve_in}
 use Rattle.fz_view.specs.Laws.{HoldsBox, LineIsBytes}
 use Rattle.fz_view.proofs.Lengths.{array_lengths, array_whole, bits_of}

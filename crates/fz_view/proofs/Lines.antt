@@ -9,7 +9,7 @@ use Rattle.fz_grid.specs.Grid.{box_coordinates}
 use Rattle.fz_grid.specs.Laws.{BoxesAreInOrder, PlacesAreInside, PlacesHaveCoordinates}
 use Rattle.fz_grid.specs.Sieve.{sieve_lengths, sieve_lo, sieve_step, stepped}
 use Rattle.fz_grid.specs.declared.sieve.Sieve.{Sieve}
-use Rattle.fz_parts.specs.Cutout.{picked_numbers}
+use Rattle.fz_grid.specs.Cutout.{picked_numbers}
 use Rattle.fz_view.specs.Boxes.{from_corner}
 
 -- along each axis of an array a box, with its corner and its lengths, has this coordinate

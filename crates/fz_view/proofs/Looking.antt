@@ -18,10 +18,10 @@ use Rattle.fz_block.specs.declared.header.Header.{Header}
 use Rattle.fz_head.specs.JobChecks.{is_after_empty}
 use Rattle.fz_files.specs.FirstFault.{IsFirstRowFault, all_rows}
 use Rattle.fz_files.specs.Restored.{is_packed_primary}
-use Rattle.fz_survey.specs.declared.survey.Survey.{Survey}
-use Rattle.fz_again.specs.Again.{ReadsAsSeen, WasSeen, WereSeen, is_empty_primary, was_primary_image}
-use Rattle.fz_again.specs.Known.{IsList}
-use Rattle.fz_again.specs.declared.again.ReadHdu.{ReadHdu}
+use Rattle.fz_job.specs.declared.survey.Survey.{Survey}
+use Rattle.fz_job.specs.Again.{ReadsAsSeen, WasSeen, WereSeen, is_empty_primary, was_primary_image}
+use Rattle.fz_job.specs.Known.{IsList}
+use Rattle.fz_job.specs.declared.again.ReadHdu.{ReadHdu}
 use Rattle.fz_view.specs.Looked.{AreLooked, IsFaultAmong, IsHduLooked, IsSeen, the_primary, with_counted}
 use Rattle.fz_view.specs.declared.hdus.Counted.{Counted}
 use Rattle.fz_view.specs.declared.hdus.Seen.{Seen}

@@ -12,8 +12,8 @@ use Rattle.fz_block.specs.declared.header.Header.{Header}
 use Rattle.fz_tile.specs.declared.codec.Codec.{Codec}
 use Rattle.fz_tile.specs.declared.codec.Codec.TheVariants.{Rice, Plio, Plain}
 use Rattle.fz_head.specs.declared.job_checks.PackedImage.{PackedImage}
-use Rattle.fz_fetch.specs.Marks.{IsMarkIn}
-use Rattle.fz_fetch.specs.declared.marks.TileMark.{TileMark}
+use Rattle.fz_pixels.specs.Marks.{IsMarkIn}
+use Rattle.fz_pixels.specs.declared.marks.TileMark.{TileMark}
 use Rattle.fz_view.specs.Marked.{AreMarks, AreMarksOf, HasNoMarks, IsKept, KeepsMark, mark_place, table_in, table_place, word_at}
 use Rattle.fz_view.specs.declared.here.Here.{Here}
 use Rattle.fz_view.proofs.Merely.{mark_in_merely}

@@ -18,8 +18,8 @@ use Rattle.fz_tile.specs.Parts.{IsMarkAfter}
 use Rattle.fz_tile.specs.declared.codec.Codec.{Codec}
 use Rattle.fz_tile.specs.declared.codec.Codec.TheVariants.{Rice, Plio, Plain}
 use Rattle.fz_files.specs.Restored.{image_table, plan_in, tile_of}
-use Rattle.fz_fetch.specs.Marks.{IsMarkIn, IsReadOnFrom}
-use Rattle.fz_fetch.specs.declared.marks.TileMark.{TileMark}
+use Rattle.fz_pixels.specs.Marks.{IsMarkIn, IsReadOnFrom}
+use Rattle.fz_pixels.specs.declared.marks.TileMark.{TileMark}
 
 same_ok : {A E : Type 0} (x y : A) (r : Result A E) → r ≡ Ok x → r ≡ Ok y → x ≡ y
 same_ok x y r one two = cc

@@ -15,12 +15,12 @@ use Rattle.fz_files.specs.RestoredFile.{restored}
 use Rattle.fz_files.specs.Touched.{touched_by}
 use Rattle.fz_files.specs.Walks.{headers_for}
 use Rattle.fz_files.specs.declared.job.Job.TheVariants.{Unpack}
-use Rattle.fz_round_trip.specs.RoundTrip.{HasNoOtherFault, RestoredAreBytes, StandsForRestored}
-use Rattle.fz_survey.specs.Surveys.{surveyed}
-use Rattle.fz_survey.specs.declared.checks.JobChecks.TheVariants.{Unpack as UnpackChecks}
-use Rattle.fz_survey.specs.declared.survey.Survey.{Survey}
-use Rattle.fz_again.specs.Again.{WereSeen}
-use Rattle.fz_again.specs.Known.{IsKnown}
+use Rattle.fz_laws.specs.RoundTrip.{HasNoOtherFault, RestoredAreBytes, StandsForRestored}
+use Rattle.fz_job.specs.Surveys.{surveyed}
+use Rattle.fz_job.specs.declared.checks.JobChecks.TheVariants.{Unpack as UnpackChecks}
+use Rattle.fz_job.specs.declared.survey.Survey.{Survey}
+use Rattle.fz_job.specs.Again.{WereSeen}
+use Rattle.fz_job.specs.Known.{IsKnown}
 use Rattle.fz_view.specs.Begins.{IsToldHere}
 use Rattle.fz_view.specs.Boxes.{HasBox, sieve_in}
 use Rattle.fz_view.specs.Holds.{AreFailures, AreReads, AreRefusals, IsKnownView}

@@ -24,8 +24,8 @@ use Rattle.fz_files.specs.Packed.{pixel_bits, zero_filled}
 use Rattle.fz_files.specs.Restored.{header_in, is_image, plan_in, standing}
 use Rattle.fz_files.specs.RestoredFile.{image_array, restored, restored_hdu}
 use Rattle.fz_files.specs.declared.job.Job.TheVariants.{Unpack}
-use Rattle.fz_survey.specs.declared.survey.Survey.{Survey}
-use Rattle.fz_again.specs.Known.{IsKnown}
+use Rattle.fz_job.specs.declared.survey.Survey.{Survey}
+use Rattle.fz_job.specs.Known.{IsKnown}
 use Rattle.fz_view.specs.Here.{data_len_of, here_of, here_with, made_header, place_of}
 use Rattle.fz_view.specs.Laws.{ArePieces}
 use Rattle.fz_view.specs.declared.here.Here.{Here}

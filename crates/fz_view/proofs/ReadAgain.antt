@@ -21,10 +21,10 @@ use Rattle.fz_files.specs.Packed.{pixel_bits}
 use Rattle.fz_files.specs.Restored.{pixels_of}
 use Rattle.fz_files.specs.Touched.{touched_by}
 use Rattle.fz_files.specs.declared.job.Job.TheVariants.{Unpack}
-use Rattle.fz_fetch.specs.Images.{IsReadable}
-use Rattle.fz_survey.specs.declared.survey.Survey.{Survey}
-use Rattle.fz_again.specs.Again.{IsAgain, IsUsable, ReadsAsSeen, header_at_front}
-use Rattle.fz_again.specs.declared.again.ReadHdu.{ReadHdu}
+use Rattle.fz_job.specs.Images.{IsReadable}
+use Rattle.fz_job.specs.declared.survey.Survey.{Survey}
+use Rattle.fz_job.specs.Again.{IsAgain, IsUsable, ReadsAsSeen, header_at_front}
+use Rattle.fz_job.specs.declared.again.ReadHdu.{ReadHdu}
 use Rattle.fz_view.specs.Begins.{IsBegun, IsReadHere, IsToldHere}
 use Rattle.fz_view.specs.Here.{IsCopiedHere, IsImageHere, IsInOrder, IsReadHeader, made_header}
 use Rattle.fz_view.specs.Laws.{FoundIsHere, HeaderIsTouched, IsHere, PlacedIsRead}

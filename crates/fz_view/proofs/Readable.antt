@@ -7,7 +7,7 @@ use Rattle.fz_table.specs.Rows.{IsTable}
 use Rattle.fz_head.specs.JobChecks.{IsImageOf, image_in, image_to_unpack}
 use Rattle.fz_head.specs.Packable.{is_packed}
 use Rattle.fz_head.specs.declared.job_checks.PackedImage.{PackedImage}
-use Rattle.fz_fetch.specs.Images.{IsReadable}
+use Rattle.fz_job.specs.Images.{IsReadable}
 use Rattle.fz_view.specs.Here.{IsReadHeader}
 use Rattle.fz_view.proofs.Pieces.{ChecksAreKept, image_read}
 use Rattle.fz_view.proofs.Said.{image_if}

@@ -14,9 +14,9 @@ use Rattle.fz_head.specs.PlainHeader.{was_primary}
 use Rattle.fz_head.specs.declared.job_checks.PackedImage.{PackedImage}
 use Rattle.fz_files.specs.FirstFault.{IsFirstRowFault, all_rows, rows_of}
 use Rattle.fz_files.specs.Restored.{header_in, is_image, is_packed_primary}
-use Rattle.fz_fetch.specs.Images.{IsSaid}
-use Rattle.fz_again.specs.Again.{IsAgain, IsUsable, header_at_front, was_primary_image}
-use Rattle.fz_again.specs.declared.again.ReadHdu.{ReadHdu}
+use Rattle.fz_job.specs.Images.{IsSaid}
+use Rattle.fz_job.specs.Again.{IsAgain, IsUsable, header_at_front, was_primary_image}
+use Rattle.fz_job.specs.declared.again.ReadHdu.{ReadHdu}
 use Rattle.fz_view.proofs.Rows.{packed_rows}
 
 -- ---- what the checks answer

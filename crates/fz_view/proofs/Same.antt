@@ -6,7 +6,7 @@ use Rattle.fz_base.specs.Source.{HoldsOctets}
 use Rattle.fz_base.specs.declared.fault.Fault.{Fault}
 use Rattle.fz_base.specs.declared.failure.Failed.{Failed}
 use Rattle.fz_grid.specs.declared.region.Region.{Region}
-use Rattle.fz_survey.specs.declared.survey.Survey.{Survey}
+use Rattle.fz_job.specs.declared.survey.Survey.{Survey}
 use Rattle.fz_view.specs.Holds.{AreFailures, AreRefusals, IsKnownView}
 use Rattle.fz_view.specs.Views.{restored_from}
 use Rattle.fz_view.specs.declared.here.Here.{Here}

@@ -9,7 +9,7 @@ use Rattle.fz_head.specs.declared.job_checks.PackedImage.{PackedImage}
 use Rattle.fz_files.specs.Packed.{pixel_bits}
 use Rattle.fz_files.specs.Restored.{plan_in}
 use Rattle.fz_files.specs.RestoredFile.{image_array, restored}
-use Rattle.fz_survey.specs.declared.survey.Survey.{Survey}
+use Rattle.fz_job.specs.declared.survey.Survey.{Survey}
 use Rattle.fz_view.specs.Holds.{IsKnownView}
 use Rattle.fz_view.specs.Laws.{ArePieces, HereHasPieces}
 use Rattle.fz_view.specs.Views.{ReadsFront, restored_from}

@@ -5,9 +5,9 @@ use Rattle.fz_base.specs.declared.failure.Stop.{Stop}
 use Rattle.fz_pool.specs.Laws.{AreFresh, AsksAlike, AsksForFresh}
 use Rattle.fz_pool.specs.Window.{asked_for, fresh_bytes, fresh_slot, slot_sizes}
 use Rattle.fz_pool.specs.declared.slot.Slot.{Slot}
-use Rattle.fz_survey.specs.declared.survey.Survey.{Survey}
-use Rattle.fz_view.specs.Found.{HasFoundRoom, looked_with}
-use Rattle.fz_view.specs.Looked.{IsSeen, IsSoundLook}
+use Rattle.fz_job.specs.declared.survey.Survey.{Survey}
+use Rattle.fz_view.specs.Found.{HasFoundRoom, IsSoundFound}
+use Rattle.fz_view.specs.Looked.{IsSeen}
 use Rattle.fz_view.specs.declared.hdus.Seen.{Seen}
 use Rattle.fz_view.specs.declared.whole_look.Found.{Found}
 
@@ -20,16 +20,17 @@ module _ (s : Survey) (seen : Seen) where
   seen_with held (Ok f) is found = subst (λ (w : Seen). IfSome held (λ g. IsSeen g s w)) (sym found.1) is
   seen_with held (Err stop) is found = tt
 
-  module _ (length_is : ℕ) (block : List ℕ) (long : length block ≡ 2880) (some : 0 < s.hdus) (few : s.hdus ≤ 65536) (short : seen.plain_len ≤ 2 ^ 62)
+  module _ (length_is : ℕ) (long : 2880 ≤ s.header_len) (some : 0 < s.hdus) (few : s.hdus ≤ 65536) (short : seen.plain_len ≤ 2 ^ 62)
       (zero : seen.first.hdu ≡ 0 → seen.first.start ≡ 0) (place : 0 < seen.first.hdu → seen.first.start < length_is) (first : seen.first.hdu < 2) where
-    sound_by : (f : Found) → IsFoundAs f → IsSoundLook length_is (looked_with f block)
-    sound_by f found =
+    sound_by : (f : Found) → IsFoundAs f → IsSoundFound length_is f
+    sound_by f found = λ block whole.
         let same : f.survey ≡ s = found.0 in
         let learnt : f.seen ≡ seen = found.1 in
         let room = found.2 in
         record {
           room = record {
-            block = long;
+            block = whole;
+            long = subst (λ (t : Survey). 2880 ≤ t.header_len) (sym same) long;
             header = room.header ∙ ap (λ (t : Survey). t.header_len) (sym same);
             translated = room.translated ∙ ap (λ (t : Survey). t.header_len + 2880) (sym same);
             numbers = room.numbers ∙ ap (λ (t : Survey). 2 * t.tile) (sym same);
@@ -44,7 +45,7 @@ module _ (s : Survey) (seen : Seen) where
           first = subst (λ (w : Seen). w.first.hdu < 2) (sym learnt) first;
         }
 
-    pub sound_with : (r : Result Found Stop) → IfOk r IsFoundAs → IfOk r (λ f. (f.survey ≡ s) × IsSoundLook length_is (looked_with f block))
+    pub sound_with : (r : Result Found Stop) → IfOk r IsFoundAs → IfOk r (λ f. (f.survey ≡ s) × IsSoundFound length_is f)
     sound_with (Ok f) found = (found.0, sound_by f found)
     sound_with (Err stop) found = tt
 

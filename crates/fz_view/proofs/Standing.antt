@@ -4,7 +4,7 @@ use Rattle.std.proofs.Common.{◌≡◌, ℕ, suc, ◌+◌, ◌/◌, ◌<◌, �
 use Rattle.fz_block.specs.Header.{next_start_of}
 use Rattle.fz_block.specs.declared.header.Header.{Header}
 use Rattle.fz_files.specs.Restored.{header_in, is_packed_primary, standing}
-use Rattle.fz_again.specs.Again.{WasSeen, WereSeen, is_empty_primary}
+use Rattle.fz_job.specs.Again.{WasSeen, WereSeen, is_empty_primary}
 use Rattle.fz_view.specs.Looked.{behind_primary, first_of, the_primary}
 use Rattle.fz_view.specs.declared.looked.First.{First}
 use Rattle.fz_view.proofs.Flags.{SaysBehind, next_flag, none_behind_it, one_behind}

@@ -6,8 +6,8 @@ use Rattle.fz_tile.specs.Pixels.{IsBitpix, place_count}
 use Rattle.fz_tile.specs.declared.codec.Codec.{Codec}
 use Rattle.fz_tile.specs.declared.codec.Codec.TheVariants.{Rice, Plio, Plain}
 use Rattle.fz_head.specs.declared.plan.Plan.{Plan}
-use Rattle.fz_fetch.specs.Marks.{PicksLieBetween, part_start}
-use Rattle.fz_fetch.specs.declared.marks.TileMark.{TileMark}
+use Rattle.fz_pixels.specs.Marks.{PicksLieBetween, part_start}
+use Rattle.fz_pixels.specs.declared.marks.TileMark.{TileMark}
 use Rattle.fz_view.specs.Marked.{table_place}
 
 -- ---- places

@@ -10,7 +10,7 @@ use Rattle.fz_base.specs.declared.failure.Failed.{Failed}
 use Rattle.fz_base.specs.declared.failure.Failed.TheVariants.{Fault as IsFault, NoMemory as IsWant}
 use Rattle.fz_base.specs.declared.failure.Stop.{Stop}
 use Rattle.fz_base.specs.declared.failure.Stop.TheVariants.{Refused, ReadFault, WriteFault, OverLimit, NoMemory}
-use Rattle.fz_view.specs.Views.{failed_after, failed_by, is_late, later_after, more_by, or_first, together, with_more}
+use Rattle.fz_view.specs.Views.{KeepsFirst, failed_after, failed_by, is_late, later_after, more_by, or_first, together, with_more}
 
 -- ---- counts that are kept
 
@@ -176,3 +176,34 @@ pub cause_kept : (X : Type 0) (t0 t1 : Tally) (m m' : ℕ) (stop : Stop) (failed
 cause_kept X t0 t1 m m' stop failed more is kept why =
     subst (λ n. HasCause {T = X} (with_more t0 m) (with_more t1 n) (Err failed)) (sym more)
     (subst (λ (f : Failed). HasCause {T = X} (with_more t0 m) (with_more t1 (more_by stop m)) (Err f)) (sym is) (stop_cause X t0 t1 m stop kept why))
+
+-- ---- since a time at which the counts, and what was kept, were the same
+
+-- why a call failed is why another did
+other_cause : (X Y : Type 0) (t0 t1 : Tally) (failed : Failed) → HasCause {T = X} t0 t1 (Err failed) → HasCause {T = Y} t0 t1 (Err failed)
+other_cause X Y t0 t1 IsFault cause = record {
+  kept = cause.kept;
+  ok = tt;
+  fault = λ is. cause.fault refl;
+  no_memory = λ is. absurd cc;
+}
+other_cause X Y t0 t1 IsWant cause = record {
+  kept = cause.kept;
+  ok = tt;
+  fault = λ is. absurd cc;
+  no_memory = λ is. cause.no_memory refl;
+}
+
+pub first_after : (X : Type 0) (l0 l1 l2 : Option Fault) (r : Result X Failed) → l1 ≡ l0 → KeepsFirst l1 l2 r → KeepsFirst l0 l2 r
+first_after X l0 l1 l2 r same first = subst (λ (l : Option Fault). KeepsFirst l l2 r) same first
+
+pub cause_since : (X Y : Type 0) (t0 t1 t2 : Tally) (failed : Failed) (result : Result Y Failed) → result ≡ Err failed → t1 ≡ t0 → HasCause {T = X} t1 t2 (Err failed)
+    → HasCause t0 t2 result
+cause_since X Y t0 t1 t2 failed result stopped same cause =
+    subst (λ (r : Result Y Failed). HasCause t0 t2 r) (sym stopped) (other_cause X Y t0 t2 failed (cause_after X t0 t1 t2 (Err failed) same cause))
+
+pub first_since : (X Y : Type 0) (l0 l1 l2 : Option Fault) (failed : Failed) (result : Result Y Failed) → result ≡ Err failed → l1 ≡ l0 → KeepsFirst {X = X} l1 l2 (Err failed)
+    → KeepsFirst l0 l2 result
+first_since X Y l0 l1 l2 failed result stopped same first =
+    let there : KeepsFirst {X = X} l0 l2 (Err failed) = first_after X l0 l1 l2 (Err failed) same first in
+    subst (λ (r : Result Y Failed). KeepsFirst l0 l2 r) (sym stopped) (record { ok = tt; first = there.first })

@@ -19,12 +19,11 @@ use Rattle.fz_files.specs.Packed.{tiles_in}
 use Rattle.fz_files.specs.Restored.{is_image, is_packed_primary, standing}
 use Rattle.fz_files.specs.Touched.{data_touched, data_range, image_ranges, touched_by}
 use Rattle.fz_files.specs.declared.job.Job.TheVariants.{Unpack}
-use Rattle.fz_fetch.specs.Fetched.{fetched_ranges}
-use Rattle.fz_fetch.specs.Images.{AreTilesOf}
-use Rattle.fz_survey.specs.declared.survey.Survey.{Survey}
-use Rattle.fz_again.specs.Hdus.{DataAreOfHdus, HeaderIsOfHdus, KnownAreTouched, TilesAreOfImage, UnpacksWithin, ranges_of_hdus}
-use Rattle.fz_again.specs.Headers.{ranges_of_headers}
-use Rattle.fz_again.specs.Known.{IsKnown}
+use Rattle.fz_job.specs.Images.{fetched_ranges, AreTilesOf}
+use Rattle.fz_job.specs.declared.survey.Survey.{Survey}
+use Rattle.fz_job.specs.Hdus.{DataAreOfHdus, HeaderIsOfHdus, KnownAreTouched, TilesAreOfImage, UnpacksWithin, ranges_of_hdus}
+use Rattle.fz_job.specs.Headers.{ranges_of_headers}
+use Rattle.fz_job.specs.Known.{IsKnown}
 use Rattle.fz_view.specs.Here.{IsPlaced, here_of}
 use Rattle.fz_view.specs.declared.here.Here.{Here}
 use Rattle.fz_view.proofs.Hands.{copied_here, header_same, here, image_here, seen}

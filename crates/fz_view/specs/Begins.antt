@@ -5,9 +5,9 @@ use Rattle.fz_table.specs.Rows.{IsTable}
 use Rattle.fz_head.specs.JobChecks.{image_to_unpack}
 use Rattle.fz_files.specs.Restored.{pixels_of}
 use Rattle.fz_files.specs.RestoredFile.{restored}
-use Rattle.fz_survey.specs.Surveys.{surveyed}
-use Rattle.fz_survey.specs.declared.checks.JobChecks.TheVariants.{Unpack as UnpackChecks}
-use Rattle.fz_survey.specs.declared.survey.Survey.{Survey}
+use Rattle.fz_job.specs.Surveys.{surveyed}
+use Rattle.fz_job.specs.declared.checks.JobChecks.TheVariants.{Unpack as UnpackChecks}
+use Rattle.fz_job.specs.declared.survey.Survey.{Survey}
 use Rattle.fz_view.specs.Here.{IsInOrder, IsPlaced, IsReadHeader, here_of, made_header}
 use Rattle.fz_view.specs.declared.here.Here.{Here}
 use Rattle.fz_view.specs.declared.looked.Space.{Space}

@@ -7,13 +7,13 @@ use Rattle.fz_grid.specs.Grid.{tile as tile_of}
 use Rattle.fz_grid.specs.Region.{IsWithin, lengths_of, region_corner, region_lengths}
 use Rattle.fz_grid.specs.declared.region.Region.{Region}
 use Rattle.fz_grid.specs.declared.sieve.Sieve.{Sieve}
-use Rattle.fz_parts.specs.Cutout.{picked_numbers}
+use Rattle.fz_grid.specs.Cutout.{picked_numbers}
 use Rattle.fz_tile.specs.Plain.{plain_bytes}
 use Rattle.fz_head.specs.declared.plan.Plan.{Plan}
 use Rattle.fz_files.specs.Packed.{pixel_bits}
 use Rattle.fz_files.specs.Restored.{plan_in}
 use Rattle.fz_files.specs.RestoredFile.{image_array}
-use Rattle.fz_fetch.specs.Scattered.{part_written}
+use Rattle.fz_pixels.specs.Scattered.{part_written}
 
 -- the last coordinates of a region along each axis
 abbrev pub last_of : List ℕ → List ℕ → List ℕ

@@ -1,5 +1,6 @@
 -- What the look found, before its block is with it.
 use Rattle.std.specs.Prelude.{ℕ, ◌≡◌, ◌+◌, ◌*◌, ◌≤◌, List, length, Result, Ok, Err}
+use Rattle.fz_view.specs.Looked.{IsSoundLook}
 use Rattle.fz_view.specs.declared.whole_look.Found.{Found}
 use Rattle.fz_view.specs.declared.looked.Looked.{Looked}
 
@@ -11,6 +12,10 @@ looked_with f block = record {
   first = f.seen.first;
   space = record { block = block; header = f.header; translated = f.translated; numbers = f.numbers; code = f.code; band = f.band };
 }
+
+-- what was learnt is sound with every block
+abbrev pub IsSoundFound : ℕ → Found → Type 0
+IsSoundFound length_is f = (block : List ℕ) → length block ≡ 2880 → IsSoundLook length_is (looked_with f block)
 
 -- the bytes of its buffers
 abbrev pub found_bytes : Found → ℕ

@@ -23,7 +23,7 @@ use Rattle.fz_files.specs.RestoredFile.{restored_hdu}
 use Rattle.fz_files.specs.Walks.{headers_for}
 use Rattle.fz_files.specs.declared.job.Job.TheVariants.{Unpack}
 use Rattle.fz_head.specs.declared.plan.Plan.{Plan}
-use Rattle.fz_again.specs.declared.again.ReadHdu.{ReadHdu}
+use Rattle.fz_job.specs.declared.again.ReadHdu.{ReadHdu}
 use Rattle.fz_view.specs.declared.here.Here.{Here}
 
 -- the image that is in an HDU of which no check refuses anything, if there is one

@@ -14,9 +14,9 @@ use Rattle.fz_files.specs.RestoredFile.{restored}
 use Rattle.fz_files.specs.Touched.{touched_by}
 use Rattle.fz_files.specs.Walks.{headers_for}
 use Rattle.fz_files.specs.declared.job.Job.TheVariants.{Unpack}
-use Rattle.fz_survey.specs.Surveys.{surveyed}
-use Rattle.fz_survey.specs.declared.checks.JobChecks.TheVariants.{Unpack as UnpackChecks}
-use Rattle.fz_survey.specs.declared.survey.Survey.{Survey}
+use Rattle.fz_job.specs.Surveys.{surveyed}
+use Rattle.fz_job.specs.declared.checks.JobChecks.TheVariants.{Unpack as UnpackChecks}
+use Rattle.fz_job.specs.declared.survey.Survey.{Survey}
 use Rattle.fz_view.specs.Begins.{IsReadHere, IsToldHere}
 use Rattle.fz_view.specs.Boxes.{HasBox, LiesInImage, sieve_in}
 use Rattle.fz_view.specs.Looked.{first_of}

@@ -16,7 +16,7 @@ use Rattle.fz_grid.specs.Grid.{tile}
 use Rattle.fz_grid.specs.Region.{IsWithin, lengths_of, region_lengths}
 use Rattle.fz_grid.specs.Sieve.{IsSieveOf, sieve_lengths}
 use Rattle.fz_grid.specs.declared.region.Region.{Region}
-use Rattle.fz_parts.specs.Cutout.{Sifts, picked_numbers}
+use Rattle.fz_grid.specs.Cutout.{Sifts, picked_numbers}
 use Rattle.fz_tile.specs.Pixels.{IsBitpix}
 use Rattle.fz_tile.specs.Plain.{AreBytes, plain_bytes}
 use Rattle.fz_table.specs.Rows.{IsTable}
@@ -31,13 +31,12 @@ use Rattle.fz_files.specs.RestoredFile.{image_array, restored}
 use Rattle.fz_files.specs.Touched.{touched_by}
 use Rattle.fz_files.specs.Walks.{headers_for}
 use Rattle.fz_files.specs.declared.job.Job.TheVariants.{Unpack}
-use Rattle.fz_fetch.specs.Fetched.{fetched_ranges}
-use Rattle.fz_fetch.specs.Images.{IsReadable, IsSaid}
-use Rattle.fz_survey.specs.Surveys.{surveyed}
-use Rattle.fz_survey.specs.declared.checks.JobChecks.TheVariants.{Unpack as UnpackChecks}
-use Rattle.fz_survey.specs.declared.survey.Survey.{Survey}
-use Rattle.fz_again.specs.Again.{IsAgain, ReadsAsSeen, header_at_front, is_empty_primary}
-use Rattle.fz_again.specs.declared.again.ReadHdu.{ReadHdu}
+use Rattle.fz_job.specs.Images.{fetched_ranges, IsReadable, IsSaid}
+use Rattle.fz_job.specs.Surveys.{surveyed}
+use Rattle.fz_job.specs.declared.checks.JobChecks.TheVariants.{Unpack as UnpackChecks}
+use Rattle.fz_job.specs.declared.survey.Survey.{Survey}
+use Rattle.fz_job.specs.Again.{IsAgain, ReadsAsSeen, header_at_front, is_empty_primary}
+use Rattle.fz_job.specs.declared.again.ReadHdu.{ReadHdu}
 use Rattle.fz_view.specs.Boxes.{HasPixel, inside_of, sieve_in}
 use Rattle.fz_view.specs.Here.{IsCopiedHere, IsImageHere, IsPlaced, IsReadHeader, here_of, made_header}
 use Rattle.fz_view.specs.Looked.{first_of}

@@ -7,5 +7,7 @@ pub mod Laws
 pub mod Looked
 pub mod Looks
 pub mod Marked
+pub mod Placing
 pub mod Scratch
+pub mod Stays
 pub mod Views

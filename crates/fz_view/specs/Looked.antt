@@ -19,12 +19,12 @@ use Rattle.fz_files.specs.Restored.{is_packed_primary, standing}
 use Rattle.fz_files.specs.RestoredFile.{restored, restored_hdu}
 use Rattle.fz_files.specs.Retiled.{plain_of}
 use Rattle.fz_files.specs.declared.job.Job.TheVariants.{Unpack}
-use Rattle.fz_survey.specs.Surveys.{surveyed}
-use Rattle.fz_survey.specs.declared.checks.JobChecks.TheVariants.{Unpack as UnpackChecks}
-use Rattle.fz_survey.specs.declared.survey.Survey.{Survey}
-use Rattle.fz_again.specs.Again.{is_empty_primary, was_primary_image}
-use Rattle.fz_again.specs.declared.again.ReadHdu.{ReadHdu}
-use Rattle.fz_again.specs.Known.{IsList}
+use Rattle.fz_job.specs.Surveys.{surveyed}
+use Rattle.fz_job.specs.declared.checks.JobChecks.TheVariants.{Unpack as UnpackChecks}
+use Rattle.fz_job.specs.declared.survey.Survey.{Survey}
+use Rattle.fz_job.specs.Again.{is_empty_primary, was_primary_image}
+use Rattle.fz_job.specs.declared.again.ReadHdu.{ReadHdu}
+use Rattle.fz_job.specs.Known.{IsList}
 use Rattle.fz_view.specs.declared.hdus.Counted.{Counted}
 use Rattle.fz_view.specs.declared.hdus.Seen.{Seen}
 use Rattle.fz_view.specs.declared.looked.First.{First}
@@ -35,9 +35,11 @@ use Rattle.fz_view.specs.declared.looked.Space.{Space}
 abbrev pub buffers_of : Space → ℕ
 buffers_of s = length s.block + length s.header + length s.translated + 4 * length s.numbers + length s.code + length s.band
 
--- the buffers serve headers of at most so many bytes and tiles of at most so many pixels, and have room for one pixel
+-- the buffers serve headers of at most so many bytes, which are a block or more, and tiles of at most so many pixels, and have room for
+-- one pixel
 pub record HaveRoom (header_len tile : ℕ) (s : Space) : Type 0 where
   pub block : length s.block ≡ 2880
+  pub long : 2880 ≤ header_len
   pub header : length s.header ≡ header_len
   pub translated : length s.translated ≡ header_len + 2880
   pub numbers : length s.numbers ≡ 2 * tile

@@ -5,8 +5,8 @@ use Rattle.std.specs.Option.{ForSome}
 use Rattle.fz_block.specs.declared.header.Header.{Header}
 use Rattle.fz_tile.specs.declared.codec.Codec.{Codec}
 use Rattle.fz_tile.specs.declared.codec.Codec.TheVariants.{Rice, Plio, Plain}
-use Rattle.fz_fetch.specs.Marks.{IsMarkIn}
-use Rattle.fz_fetch.specs.declared.marks.TileMark.{TileMark}
+use Rattle.fz_pixels.specs.Marks.{IsMarkIn}
+use Rattle.fz_pixels.specs.declared.marks.TileMark.{TileMark}
 use Rattle.fz_view.specs.declared.here.Here.{Here}
 
 -- ---- the table of marks

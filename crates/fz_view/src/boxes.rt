@@ -3,7 +3,7 @@ ghost use Rattle.std.specs.Prelude.{ℕ, ◌≡◌, ◌↔◌, ◌+◌, ◌*◌,
 ghost use Rattle.fz_grid.specs.Arrays.{product};
 ghost use Rattle.fz_grid.specs.Region.{IsDivided, IsPlaceOf, IsShape, IsWithin, axes_of, lengths_of, region_lengths};
 ghost use Rattle.fz_grid.specs.Sieve.{IsSieveOf, sieve_lengths};
-ghost use Rattle.fz_parts.specs.Cutout.{Sifts};
+ghost use Rattle.fz_grid.specs.Cutout.{Sifts};
 ghost use Rattle.fz_view.specs.Boxes.{HasPixel, IsAlong, IsTileOf, sieve_in};
 
 use crate::law::region_law;

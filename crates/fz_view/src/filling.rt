@@ -1,26 +1,21 @@
 //! The pixels of a box, decoded into the band.
-ghost use Rattle.std.specs.Prelude.{◌≡◌, ◌+◌, ◌*◌, ◌/◌, ◌<◌, ◌≤◌, IsTrue, IfOk, IfSome, OnOk, length as len};
+ghost use Rattle.std.specs.Prelude.{◌≡◌, ◌+◌, ◌*◌, ◌<◌, ◌≤◌, IfOk, IfSome, OnOk, length as len};
+ghost use Rattle.fz_base.specs.Keeps.{SourceStays};
 ghost use Rattle.fz_base.specs.Ranges.{LogsIn};
 ghost use Rattle.fz_base.specs.Stop.{IfRefused, ReadsOnly};
-ghost use Rattle.fz_base.specs.Told.{StaysTold};
-ghost use Rattle.fz_grid.specs.Arrays.{product};
-ghost use Rattle.fz_grid.specs.Overlap.{has_pixel};
-ghost use Rattle.fz_grid.specs.Region.{IsDivided, lengths_of};
-ghost use Rattle.fz_grid.specs.Sieve.{IsSieveOf, sieve_lengths};
-ghost use Rattle.fz_parts.specs.Cutout.{part_lengths};
-ghost use Rattle.fz_tile.specs.Pixels.{place_count};
-ghost use Rattle.fz_files.specs.Packed.{pixel_bits, tiles_in};
+ghost use Rattle.fz_grid.specs.Region.{IsDivided};
+ghost use Rattle.fz_files.specs.Packed.{tiles_in};
 ghost use Rattle.fz_files.specs.Restored.{pixels_of};
 ghost use Rattle.fz_files.specs.Touched.{touched_by};
 ghost use Rattle.fz_files.specs.declared.job.Job.TheVariants.{Unpack};
-ghost use Rattle.fz_fetch.specs.Images.{IsReadable};
-ghost use Rattle.fz_fetch.specs.Marks.{IsPartFetched};
+ghost use Rattle.fz_job.specs.Images.{IsReadable};
+ghost use Rattle.fz_pixels.specs.Marks.{IsPartFetched};
 ghost use Rattle.fz_fetch.specs.Rows.{StandsWithin};
 ghost use Rattle.fz_job.specs.Clauses.{IsOfSomeRow};
-ghost use Rattle.fz_job.specs.Keeps.{SourceStays};
 ghost use Rattle.fz_view.specs.Boxes.{HasBox, HasPart, LiesInImage, sieve_in};
 ghost use Rattle.fz_view.specs.Laws.{IsKnownImage};
 ghost use Rattle.fz_view.specs.Marked.{AreMarks, table_in};
+ghost use Rattle.fz_view.specs.Placing.{CanPlace, HoldLargest, StaysReading};
 ghost use Rattle.fz_view.specs.Scratch.{ScratchStays};
 
 use crate::boxes::sieve_of;
@@ -28,11 +23,11 @@ use crate::looked::Space;
 use crate::marked::{keep_mark, mark_before, table_at};
 use fz_base::{Source, Stop, ranges_law};
 use fz_block::Header;
-use fz_fetch::{
-    fetch_part, fetch_tile, part_span, part_start, place_between, place_part, scattered_law,
-};
 use fz_grid::{Grid, Region, Sieve, shape_law, tile_pixels_law, tiles_law};
 use fz_head::{PackedImage, Plan};
+use fz_pixels::{
+    fetch_part, fetch_tile, part_span, part_start, place_between, place_part, scattered_law,
+};
 
 /// Puts the pixels of a box into the band: the part of each tile that has some of them.
 ///
@@ -56,9 +51,8 @@ pub(crate) fn fill_band<S: Source>(
     ensures row { IfRefused result IsOfSomeRow }
     ensures never { IfSome (S.held source.old) (λ g. IfRefused result (λ x. ⊥)) }
     ensures read { IfSome (S.held source.old) (λ g. LogsIn (touched_by Unpack g) (S.ranges source.old) (S.ranges source.new)) }
-    ensures told { StaysTold (S.ranges source.old) (S.ranges source.new) }
+    ensures source { SourceStays S.held S.attached S.ranges source.old source.new }
     ensures space { ScratchStays space.old space.new }
-    ensures source { SourceStays (S.held source.old) (S.held source.new) (S.attached source.old) (S.attached source.new) }
     ensures cause { ReadsOnly (S.tally source.old) (S.tally source.new) result }
 {
     ranges_law();
@@ -81,118 +75,100 @@ fn put_tile<S: Source>(
     tile: u32,
     space: &mut Space,
 ) -> Result<(), Stop>
-    requires image { IsReadable image.now }
-    requires within { StandsWithin (S.attached source.old) image.now.table }
-    requires known { IfSome (S.held source.old) (λ g. IsKnownImage g header.now image.now) }
-    requires sieve { IsSieveOf image.now.plan.shape sieve.now }
-    requires tile { tile < tiles_in image.now.plan }
-    requires picked { IsTrue (has_pixel (part_lengths (lengths_of image.now.plan.shape) (lengths_of image.now.plan.tile) sieve.now tile)) }
-    requires room { pixel_bits image.now.plan / 8 * product (sieve_lengths sieve.now) ≤ len space.old.band }
+    requires tile { CanPlace (S.held source.old) (S.attached source.old) header.now image.now tile sieve.now (len space.old.band) }
     requires numbers { 2 * pixels_of image.now.plan 0 ≤ len space.old.numbers }
     requires code { 8 * pixels_of image.now.plan 0 + 64 ≤ len space.old.code }
     requires marks { IfSome (S.held source.old) (λ g. AreMarks g header.now (table_in image.now.plan.codec space.old.numbers)) }
     ensures placed { OnOk result (IfSome (S.held source.old)
         (λ g. HasPart g header.now image.now.plan sieve.now tile space.old.band space.new.band)) }
     ensures marks { IfSome (S.held source.old) (λ g. AreMarks g header.now (table_in image.now.plan.codec space.new.numbers)) }
-    ensures row { IfRefused result IsOfSomeRow }
-    ensures never { IfSome (S.held source.old) (λ g. IfRefused result (λ x. ⊥)) }
-    ensures read { IfSome (S.held source.old) (λ g. LogsIn (touched_by Unpack g) (S.ranges source.old) (S.ranges source.new)) }
-    ensures told { StaysTold (S.ranges source.old) (S.ranges source.new) }
+    ensures stays { StaysReading S.held S.attached S.ranges S.tally source.old source.new result }
     ensures space { ScratchStays space.old space.new }
-    ensures source { SourceStays (S.held source.old) (S.held source.new) (S.attached source.old) (S.attached source.new) }
-    ensures cause { ReadsOnly (S.tally source.old) (S.tally source.new) result }
 {
     let numbers = space.numbers.as_mut_slice();
     let code = space.code.as_mut_slice();
     let band = space.band.as_mut_slice();
-    put_beside(source, header, image, sieve, tile, numbers, code, band)
+    let one = PackedTile {
+        header,
+        image,
+        number: tile,
+    };
+    put_beside(source, &one, sieve, numbers, code, band)
+}
+
+/// A tile of a packed image: the header of its HDU, the image, and its number.
+#[derive(Drop)]
+pub(crate) struct PackedTile<'a> {
+    /// The header of the HDU.
+    pub(crate) header: &'a Header,
+    /// The image that is in it.
+    pub(crate) image: &'a PackedImage,
+    /// The number of the tile, from 0.
+    pub(crate) number: u32,
 }
 
 // The same with the buffers one by one.
 fn put_beside<S: Source>(
     source: &mut S,
-    header: &Header,
-    image: &PackedImage,
+    tile: &PackedTile<'_>,
     sieve: &Sieve,
-    tile: u32,
     numbers: &mut [i32],
     code: &mut [u8],
     band: &mut [u8],
 ) -> Result<(), Stop>
-    requires image { IsReadable image.now }
-    requires within { StandsWithin (S.attached source.old) image.now.table }
-    requires known { IfSome (S.held source.old) (λ g. IsKnownImage g header.now image.now) }
-    requires sieve { IsSieveOf image.now.plan.shape sieve.now }
-    requires tile { tile < tiles_in image.now.plan }
-    requires picked { IsTrue (has_pixel (part_lengths (lengths_of image.now.plan.shape) (lengths_of image.now.plan.tile) sieve.now tile)) }
-    requires room { pixel_bits image.now.plan / 8 * product (sieve_lengths sieve.now) ≤ len band.old }
-    requires numbers { 2 * pixels_of image.now.plan 0 ≤ len numbers.old }
-    requires code { 8 * pixels_of image.now.plan 0 + 64 ≤ len code.old }
-    requires marks { IfSome (S.held source.old) (λ g. AreMarks g header.now (table_in image.now.plan.codec numbers.old)) }
-    ensures placed { OnOk result (IfSome (S.held source.old) (λ g. HasPart g header.now image.now.plan sieve.now tile band.old band.new)) }
-    ensures marks { IfSome (S.held source.old) (λ g. AreMarks g header.now (table_in image.now.plan.codec numbers.new)) }
-    ensures row { IfRefused result IsOfSomeRow }
-    ensures never { IfSome (S.held source.old) (λ g. IfRefused result (λ x. ⊥)) }
-    ensures read { IfSome (S.held source.old) (λ g. LogsIn (touched_by Unpack g) (S.ranges source.old) (S.ranges source.new)) }
-    ensures told { StaysTold (S.ranges source.old) (S.ranges source.new) }
+    requires tile { CanPlace (S.held source.old) (S.attached source.old) tile.now.header.now tile.now.image.now tile.now.number sieve.now (len band.old) }
+    requires numbers { 2 * pixels_of tile.now.image.now.plan 0 ≤ len numbers.old }
+    requires code { 8 * pixels_of tile.now.image.now.plan 0 + 64 ≤ len code.old }
+    requires marks { IfSome (S.held source.old) (λ g. AreMarks g tile.now.header.now (table_in tile.now.image.now.plan.codec numbers.old)) }
+    ensures placed { OnOk result (IfSome (S.held source.old)
+        (λ g. HasPart g tile.now.header.now tile.now.image.now.plan sieve.now tile.now.number band.old band.new)) }
+    ensures marks { IfSome (S.held source.old) (λ g. AreMarks g tile.now.header.now (table_in tile.now.image.now.plan.codec numbers.new)) }
+    ensures stays { StaysReading S.held S.attached S.ranges S.tally source.old source.new result }
     ensures numbers { len numbers.new ≡ len numbers.old }
     ensures code { len code.new ≡ len code.old }
     ensures band { len band.new ≡ len band.old }
-    ensures source { SourceStays (S.held source.old) (S.held source.new) (S.attached source.old) (S.attached source.new) }
-    ensures cause { ReadsOnly (S.tally source.old) (S.tally source.new) result }
 {
+    let image = tile.image;
     let at = table_at(image.plan.codec, numbers.len());
     let (front, table) = numbers.split_at_mut(at);
-    put_part(source, header, image, sieve, tile, front, table, code, band)
+    put_part(source, tile, sieve, front, table, code, band)
 }
 
 // The same with the table apart from the numbers: a stretch of the tile, or the whole tile.
 fn put_part<S: Source>(
     source: &mut S,
-    header: &Header,
-    image: &PackedImage,
+    tile: &PackedTile<'_>,
     sieve: &Sieve,
-    tile: u32,
     numbers: &mut [i32],
     table: &mut [i32],
     code: &mut [u8],
     band: &mut [u8],
 ) -> Result<(), Stop>
-    requires image { IsReadable image.now }
-    requires within { StandsWithin (S.attached source.old) image.now.table }
-    requires known { IfSome (S.held source.old) (λ g. IsKnownImage g header.now image.now) }
-    requires sieve { IsSieveOf image.now.plan.shape sieve.now }
-    requires tile { tile < tiles_in image.now.plan }
-    requires picked { IsTrue (has_pixel (part_lengths (lengths_of image.now.plan.shape) (lengths_of image.now.plan.tile) sieve.now tile)) }
-    requires room { pixel_bits image.now.plan / 8 * product (sieve_lengths sieve.now) ≤ len band.old }
-    requires numbers { place_count (pixel_bits image.now.plan) (pixels_of image.now.plan 0) ≤ len numbers.old }
-    requires code { 8 * pixels_of image.now.plan 0 + 64 ≤ len code.old }
-    requires marks { IfSome (S.held source.old) (λ g. AreMarks g header.now table.old) }
-    ensures placed { OnOk result (IfSome (S.held source.old) (λ g. HasPart g header.now image.now.plan sieve.now tile band.old band.new)) }
-    ensures marks { IfSome (S.held source.old) (λ g. AreMarks g header.now table.new) }
-    ensures row { IfRefused result IsOfSomeRow }
-    ensures never { IfSome (S.held source.old) (λ g. IfRefused result (λ x. ⊥)) }
-    ensures read { IfSome (S.held source.old) (λ g. LogsIn (touched_by Unpack g) (S.ranges source.old) (S.ranges source.new)) }
-    ensures told { StaysTold (S.ranges source.old) (S.ranges source.new) }
+    requires tile { CanPlace (S.held source.old) (S.attached source.old) tile.now.header.now tile.now.image.now tile.now.number sieve.now (len band.old) }
+    requires rooms { HoldLargest tile.now.image.now.plan (len numbers.old) (len code.old) }
+    requires marks { IfSome (S.held source.old) (λ g. AreMarks g tile.now.header.now table.old) }
+    ensures placed { OnOk result (IfSome (S.held source.old)
+        (λ g. HasPart g tile.now.header.now tile.now.image.now.plan sieve.now tile.now.number band.old band.new)) }
+    ensures marks { IfSome (S.held source.old) (λ g. AreMarks g tile.now.header.now table.new) }
+    ensures stays { StaysReading S.held S.attached S.ranges S.tally source.old source.new result }
     ensures numbers { len numbers.new ≡ len numbers.old }
     ensures table { len table.new ≡ len table.old }
     ensures code { len code.new ≡ len code.old }
     ensures band { len band.new ≡ len band.old }
-    ensures source { SourceStays (S.held source.old) (S.held source.new) (S.attached source.old) (S.attached source.new) }
-    ensures cause { ReadsOnly (S.tally source.old) (S.tally source.new) result }
 {
     ranges_law();
     shape_law();
     tile_pixels_law();
-    let (first, end) = part_span(&image.plan, sieve, tile);
+    let image = tile.image;
+    let (first, end) = part_span(&image.plan, sieve, tile.number);
     let wanted = Stretch { first, end };
-    let read = read_stretch(source, header, image, tile, wanted, numbers, table, code)?;
+    let read = read_stretch(source, tile, wanted, numbers, table, code)?;
     match read {
         Some(part) => {
             place_between(
                 &image.plan,
                 sieve,
-                tile,
+                tile.number,
                 part.first,
                 part.end,
                 numbers,
@@ -200,7 +176,7 @@ fn put_part<S: Source>(
             );
             Ok(())
         }
-        None => put_whole(source, header, image, sieve, tile, numbers, code, band),
+        None => put_whole(source, tile, sieve, numbers, code, band),
     }
 }
 
@@ -215,47 +191,50 @@ pub(crate) struct Stretch {
 // mark on that was kept before, if that is not after its first pixel. Answers what was read, which can be more.
 fn read_stretch<S: Source>(
     source: &mut S,
-    header: &Header,
-    image: &PackedImage,
-    tile: u32,
+    tile: &PackedTile<'_>,
     wanted: Stretch,
     numbers: &mut [i32],
     table: &mut [i32],
     code: &mut [u8],
 ) -> Result<Option<Stretch>, Stop>
-    requires image { IsReadable image.now }
-    requires within { StandsWithin (S.attached source.old) image.now.table }
-    requires known { IfSome (S.held source.old) (λ g. IsKnownImage g header.now image.now) }
-    requires tile { tile < tiles_in image.now.plan }
+    requires image { IsReadable tile.now.image.now }
+    requires within { StandsWithin (S.attached source.old) tile.now.image.now.table }
+    requires known { IfSome (S.held source.old) (λ g. IsKnownImage g tile.now.header.now tile.now.image.now) }
+    requires tile { tile.now.number < tiles_in tile.now.image.now.plan }
     requires some { wanted.first < wanted.end }
-    requires end { wanted.end ≤ pixels_of image.now.plan tile }
-    requires numbers { pixels_of image.now.plan 0 ≤ len numbers.old }
-    requires code { 8 * pixels_of image.now.plan 0 + 64 ≤ len code.old }
-    requires marks { IfSome (S.held source.old) (λ g. AreMarks g header.now table.old) }
+    requires end { wanted.end ≤ pixels_of tile.now.image.now.plan tile.now.number }
+    requires numbers { pixels_of tile.now.image.now.plan 0 ≤ len numbers.old }
+    requires code { 8 * pixels_of tile.now.image.now.plan 0 + 64 ≤ len code.old }
+    requires marks { IfSome (S.held source.old) (λ g. AreMarks g tile.now.header.now table.old) }
     ensures fetched { IfOk result (λ read. IfSome read
-        (λ part. IsPartFetched (S.held source.old) header.now image.now.plan tile part.first part.end numbers.new)) }
+        (λ part. IsPartFetched (S.held source.old) tile.now.header.now tile.now.image.now.plan tile.now.number part.first part.end numbers.new)) }
     ensures wanted { IfOk result (λ read. IfSome read
-        (λ part. (part.first ≤ wanted.first) × (wanted.end ≤ part.end) × (part.end ≤ pixels_of image.now.plan tile))) }
-    ensures marks { IfSome (S.held source.old) (λ g. AreMarks g header.now table.new) }
-    ensures row { IfRefused result IsOfSomeRow }
-    ensures never { IfSome (S.held source.old) (λ g. IfRefused result (λ x. ⊥)) }
-    ensures read { IfSome (S.held source.old) (λ g. LogsIn (touched_by Unpack g) (S.ranges source.old) (S.ranges source.new)) }
-    ensures told { StaysTold (S.ranges source.old) (S.ranges source.new) }
+        (λ part. (part.first ≤ wanted.first) × (wanted.end ≤ part.end) × (part.end ≤ pixels_of tile.now.image.now.plan tile.now.number))) }
+    ensures marks { IfSome (S.held source.old) (λ g. AreMarks g tile.now.header.now table.new) }
+    ensures stays { StaysReading S.held S.attached S.ranges S.tally source.old source.new result }
     ensures numbers { len numbers.new ≡ len numbers.old }
     ensures table { len table.new ≡ len table.old }
     ensures code { len code.new ≡ len code.old }
-    ensures source { SourceStays (S.held source.old) (S.held source.new) (S.attached source.old) (S.attached source.new) }
-    ensures cause { ReadsOnly (S.tally source.old) (S.tally source.new) result }
 {
+    let image = tile.image;
     if is_whole(&image.plan, wanted) {
         return Ok(None);
     }
-    let from = mark_before(table, tile, wanted.first);
-    let part = fetch_part(source, header, image, tile, from, wanted.end, numbers, code)?;
+    let from = mark_before(table, tile.number, wanted.first);
+    let part = fetch_part(
+        source,
+        tile.header,
+        image,
+        tile.number,
+        from,
+        wanted.end,
+        numbers,
+        code,
+    )?;
     let Some(next) = part else {
         return Ok(None);
     };
-    keep_mark(table, tile, next);
+    keep_mark(table, tile.number, next);
     Ok(Some(Stretch {
         first: part_start(from),
         end: next.pixel,
@@ -273,37 +252,25 @@ fn is_whole(plan: &Plan, wanted: Stretch) -> bool
 // Decodes a whole tile, and puts its part into the band.
 fn put_whole<S: Source>(
     source: &mut S,
-    header: &Header,
-    image: &PackedImage,
+    tile: &PackedTile<'_>,
     sieve: &Sieve,
-    tile: u32,
     numbers: &mut [i32],
     code: &mut [u8],
     band: &mut [u8],
 ) -> Result<(), Stop>
-    requires image { IsReadable image.now }
-    requires within { StandsWithin (S.attached source.old) image.now.table }
-    requires known { IfSome (S.held source.old) (λ g. IsKnownImage g header.now image.now) }
-    requires sieve { IsSieveOf image.now.plan.shape sieve.now }
-    requires tile { tile < tiles_in image.now.plan }
-    requires picked { IsTrue (has_pixel (part_lengths (lengths_of image.now.plan.shape) (lengths_of image.now.plan.tile) sieve.now tile)) }
-    requires room { pixel_bits image.now.plan / 8 * product (sieve_lengths sieve.now) ≤ len band.old }
-    requires numbers { place_count (pixel_bits image.now.plan) (pixels_of image.now.plan 0) ≤ len numbers.old }
-    requires code { 8 * pixels_of image.now.plan 0 + 64 ≤ len code.old }
-    ensures placed { OnOk result (IfSome (S.held source.old) (λ g. HasPart g header.now image.now.plan sieve.now tile band.old band.new)) }
-    ensures row { IfRefused result IsOfSomeRow }
-    ensures never { IfSome (S.held source.old) (λ g. IfRefused result (λ x. ⊥)) }
-    ensures read { IfSome (S.held source.old) (λ g. LogsIn (touched_by Unpack g) (S.ranges source.old) (S.ranges source.new)) }
-    ensures told { StaysTold (S.ranges source.old) (S.ranges source.new) }
+    requires tile { CanPlace (S.held source.old) (S.attached source.old) tile.now.header.now tile.now.image.now tile.now.number sieve.now (len band.old) }
+    requires rooms { HoldLargest tile.now.image.now.plan (len numbers.old) (len code.old) }
+    ensures placed { OnOk result (IfSome (S.held source.old)
+        (λ g. HasPart g tile.now.header.now tile.now.image.now.plan sieve.now tile.now.number band.old band.new)) }
+    ensures stays { StaysReading S.held S.attached S.ranges S.tally source.old source.new result }
     ensures numbers { len numbers.new ≡ len numbers.old }
     ensures code { len code.new ≡ len code.old }
     ensures band { len band.new ≡ len band.old }
-    ensures source { SourceStays (S.held source.old) (S.held source.new) (S.attached source.old) (S.attached source.new) }
-    ensures cause { ReadsOnly (S.tally source.old) (S.tally source.new) result }
 {
     shape_law();
     tile_pixels_law();
-    fetch_tile(source, header, image, tile, numbers, code)?;
-    place_part(&image.plan, sieve, tile, numbers, band);
+    let image = tile.image;
+    fetch_tile(source, tile.header, image, tile.number, numbers, code)?;
+    place_part(&image.plan, sieve, tile.number, numbers, band);
     Ok(())
 }

@@ -1,8 +1,8 @@
 //! The front of a buffer, filled.
 ghost use Rattle.std.specs.Prelude.{ℕ, ◌≡◌, ◌+◌, ◌<◌, ◌≤◌, min, take, drop, replicate, length as len, Some, IfSome, OnOk};
 ghost use Rattle.fz_base.specs.Counts.{HasCause};
+ghost use Rattle.fz_base.specs.Keeps.{SourceStays};
 ghost use Rattle.fz_base.specs.Source.{MayLog};
-ghost use Rattle.fz_base.specs.Told.{StaysTold};
 
 use fz_base::{Failed, Source, log_law};
 
@@ -42,9 +42,7 @@ pub(crate) fn read_front<S: Source>(
     ensures rest { OnOk result (drop count into.new ≡ drop count into.old) }
     ensures len { len into.new ≡ len into.old }
     ensures log { MayLog from count (S.ranges source.old) (S.ranges source.new) }
-    ensures told { StaysTold (S.ranges source.old) (S.ranges source.new) }
-    ensures held { S.held source.new ≡ S.held source.old }
-    ensures attached { S.attached source.new ≡ S.attached source.old }
+    ensures source { SourceStays S.held S.attached S.ranges source.old source.new }
     ensures cause { HasCause (S.tally source.old) (S.tally source.new) result }
 {
     log_law();

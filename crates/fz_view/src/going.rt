@@ -1,11 +1,7 @@
 //! From one HDU to the next.
 ghost use Rattle.std.specs.Prelude.{◌≡◌, ◌⊎◌, ◌+◌, ◌<◌, ◌≤◌, Some, IfOk, IfSome};
-ghost use Rattle.fz_base.specs.Counts.{HasCause};
 ghost use Rattle.fz_view.specs.Here.{IsPlaced};
-ghost use Rattle.fz_view.specs.Looked.{buffers_of};
-ghost use Rattle.fz_view.specs.Views.{KeepsFirst, with_more};
 
-use crate::hdus::changed;
 use crate::here::Here;
 use crate::law::places_law;
 use crate::marked::forget_marks;
@@ -13,21 +9,18 @@ use crate::reading::{Begin, read_begun};
 use crate::view::{PlainView, keep_stop};
 use fz_base::{Failed, Source, ranges_law};
 use fz_block::next_start;
+use fz_job::changed;
 
 impl<'a, S: Source> PlainView<'a, S> {
+    ghost use Rattle.fz_view.specs.Stays.{HasViewCause, ViewStays};
+
     /// Goes to the HDU whose plain bytes have this one, and answers it.
     pub(crate) fn go_to(&mut self, at: u64) -> Result<Here, Failed>
         requires within { at < self.old.plain_len }
         ensures has { IfOk result (λ h. (h.at ≤ at) × (at < h.end)) }
         ensures here { IfOk result (λ h. self.new.here ≡ Some h) }
-        ensures name { self.new.inner.ghost_name ≡ self.old.inner.ghost_name }
-        ensures start { self.new.start.value ≡ self.old.start.value }
-        ensures held { S.held self.new.inner.now ≡ S.held self.old.inner.now }
-        ensures plain_len { self.new.plain_len ≡ self.old.plain_len }
-        ensures file { self.new.length ≡ self.old.length }
-        ensures space { buffers_of self.new.space ≡ buffers_of self.old.space }
-        ensures cause { HasCause (with_more (S.tally self.old.inner.now) self.old.more) (with_more (S.tally self.new.inner.now) self.new.more) result }
-        ensures later { KeepsFirst self.old.later self.new.later result }
+        ensures view { ViewStays self.old self.new }
+        ensures cause { HasViewCause self.old self.new result }
     {
         let mut here = match self.here {
             Some(here) if here.at <= at => here,
@@ -43,14 +36,8 @@ impl<'a, S: Source> PlainView<'a, S> {
     fn go_first(&mut self) -> Result<Here, Failed>
         ensures first { IfOk result (λ h. h.at ≡ 0) }
         ensures here { IfOk result (λ h. self.new.here ≡ Some h) }
-        ensures name { self.new.inner.ghost_name ≡ self.old.inner.ghost_name }
-        ensures start { self.new.start.value ≡ self.old.start.value }
-        ensures held { S.held self.new.inner.now ≡ S.held self.old.inner.now }
-        ensures plain_len { self.new.plain_len ≡ self.old.plain_len }
-        ensures file { self.new.length ≡ self.old.length }
-        ensures space { buffers_of self.new.space ≡ buffers_of self.old.space }
-        ensures cause { HasCause (with_more (S.tally self.old.inner.now) self.old.more) (with_more (S.tally self.new.inner.now) self.new.more) result }
-        ensures later { KeepsFirst self.old.later self.new.later result }
+        ensures view { ViewStays self.old self.new }
+        ensures cause { HasViewCause self.old self.new result }
     {
         places_law();
         let begin = Begin {
@@ -68,14 +55,8 @@ impl<'a, S: Source> PlainView<'a, S> {
         requires more { here.now.end < self.old.plain_len }
         ensures next { IfOk result (λ h. (h.at ≡ here.now.end) × (h.at < h.end)) }
         ensures here { IfOk result (λ h. self.new.here ≡ Some h) }
-        ensures name { self.new.inner.ghost_name ≡ self.old.inner.ghost_name }
-        ensures start { self.new.start.value ≡ self.old.start.value }
-        ensures held { S.held self.new.inner.now ≡ S.held self.old.inner.now }
-        ensures plain_len { self.new.plain_len ≡ self.old.plain_len }
-        ensures file { self.new.length ≡ self.old.length }
-        ensures space { buffers_of self.new.space ≡ buffers_of self.old.space }
-        ensures cause { HasCause (with_more (S.tally self.old.inner.now) self.old.more) (with_more (S.tally self.new.inner.now) self.new.more) result }
-        ensures later { KeepsFirst self.old.later self.new.later result }
+        ensures view { ViewStays self.old self.new }
+        ensures cause { HasViewCause self.old self.new result }
     {
         places_law();
         let begin = Begin {
@@ -99,14 +80,8 @@ impl<'a, S: Source> PlainView<'a, S> {
         requires told { IfSome (S.held self.old.inner.now) (λ g. IsPlaced g begin.now.hdu begin.now.start begin.now.after_empty begin.now.at) }
         ensures place { IfOk result (λ h. (h.at ≡ begin.now.at) × (h.at < h.end)) }
         ensures here { IfOk result (λ h. self.new.here ≡ Some h) }
-        ensures name { self.new.inner.ghost_name ≡ self.old.inner.ghost_name }
-        ensures start { self.new.start.value ≡ self.old.start.value }
-        ensures held { S.held self.new.inner.now ≡ S.held self.old.inner.now }
-        ensures plain_len { self.new.plain_len ≡ self.old.plain_len }
-        ensures file { self.new.length ≡ self.old.length }
-        ensures space { buffers_of self.new.space ≡ buffers_of self.old.space }
-        ensures cause { HasCause (with_more (S.tally self.old.inner.now) self.old.more) (with_more (S.tally self.new.inner.now) self.new.more) result }
-        ensures later { KeepsFirst self.old.later self.new.later result }
+        ensures view { ViewStays self.old self.new }
+        ensures cause { HasViewCause self.old self.new result }
     {
         ranges_law();
         self.here = None;

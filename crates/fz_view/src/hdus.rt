@@ -2,9 +2,8 @@
 ghost use Rattle.std.specs.Prelude.{ℕ, ◌≡◌, ◌⊎◌, ◌+◌, ◌*◌, ◌/◌, ◌^◌, ◌<◌, ◌≤◌, [], ◌∷◌, Some, length as len, replicate, IfOk, IfSome, take};
 ghost use Rattle.fz_base.specs.Ranges.{LogsIn};
 ghost use Rattle.fz_base.specs.Stop.{IfRefused};
-ghost use Rattle.fz_base.specs.Told.{StaysTold};
-ghost use Rattle.fz_again.specs.Again.{IsAgain};
-ghost use Rattle.fz_again.specs.Hdus.{ReadsHdus};
+ghost use Rattle.fz_job.specs.Again.{IsAgain, was_primary_image};
+ghost use Rattle.fz_job.specs.Hdus.{ReadsHdus};
 ghost use Rattle.fz_files.specs.Touched.{data_touched};
 ghost use Rattle.fz_files.specs.declared.job.Job.TheVariants.{Unpack};
 ghost use Rattle.fz_fetch.specs.Stops.{Fetches};
@@ -12,29 +11,28 @@ ghost use Rattle.fz_files.specs.Packed.{pixel_bits};
 ghost use Rattle.fz_files.specs.Restored.{pixels_of};
 ghost use Rattle.fz_grid.specs.Arrays.{product};
 ghost use Rattle.fz_grid.specs.Region.{lengths_of};
-ghost use Rattle.fz_job.specs.Keeps.{SourceStays, WindowStays};
-ghost use Rattle.fz_pool.specs.Window.{HasSlotsFor, slot_sizes};
-ghost use Rattle.fz_survey.specs.Workspace.{SpaceStays};
+ghost use Rattle.fz_pool.specs.Window.{HasSlotsFor, slot_sizes, WindowStays};
+ghost use Rattle.fz_job.specs.Workspace.{SpaceStays};
 ghost use Rattle.fz_base.specs.Refusal.{refusal};
 ghost use Rattle.fz_base.specs.declared.failure.Stop.TheVariants.{Refused};
-ghost use Rattle.fz_base.specs.declared.fault.Place.TheVariants.{Byte as AtByte, Card as AtCard};
-ghost use Rattle.fz_base.specs.declared.kind.Kind.TheVariants.{BadCard, Limit};
-ghost use Rattle.fz_again.specs.Again.{was_primary_image};
+ghost use Rattle.fz_base.specs.declared.fault.Place.TheVariants.{Byte as AtByte};
+ghost use Rattle.fz_base.specs.declared.kind.Kind.TheVariants.{Limit};
+ghost use Rattle.fz_base.specs.Keeps.{SourceStays};
 ghost use Rattle.fz_files.specs.FirstFault.{IsFirstRowFault, all_rows};
 ghost use Rattle.fz_head.specs.Conditions.{IsPackedPlan};
 ghost use Rattle.fz_block.specs.Facts.{IsHeaderOf};
 ghost use Rattle.fz_block.specs.Header.{next_start_of};
-ghost use Rattle.fz_fetch.specs.Images.{IsReadable};
+ghost use Rattle.fz_job.specs.Images.{IsReadable};
 ghost use Rattle.fz_view.specs.Looked.{IsFaultAmong, IsHduLooked, IsImageCounted, IsSeen, with_counted};
 
 use crate::looked::First;
-use fz_again::{ReadHdu, decode_tiles, hdus_law, read_again};
 use fz_base::{Fault, Gate, Kind, Place, Source, Stop, ranges_law};
 use fz_block::{BLOCK_LEN, Header, next_start};
+use fz_fetch::decode_tiles;
 use fz_grid::{tiles_law, volume};
 use fz_head::{PackedImage, packed_primary_law, to_plain};
+use fz_job::{Begun, ReadHdu, Survey, Workspace, changed, hdus_law, read_again};
 use fz_pool::{Crew, Window};
-use fz_survey::{Survey, Workspace};
 use fz_tile::{plain_law, plain_len};
 use std::thread::Threads;
 
@@ -69,7 +67,6 @@ pub(crate) fn look_at_hdus<R: Threads + Sync, S: Source, G: Gate>(
     window: &mut Window,
     survey: &Survey,
     space: &mut Workspace,
-    block: &mut [u8],
 ) -> Result<Seen, Stop>
     requires attached { S.attached source.old ≡ Some length }
     requires some { 0 < survey.now.hdus }
@@ -78,18 +75,16 @@ pub(crate) fn look_at_hdus<R: Threads + Sync, S: Source, G: Gate>(
     requires header { len space.old.header ≡ survey.now.header_len }
     requires translated { len space.old.header + 2880 ≤ len space.old.translated }
     requires copy { 4096 ≤ len space.old.copy }
-    requires block { len block.old ≡ 2880 }
+    requires long { 2880 ≤ survey.now.header_len }
     ensures seen { IfOk result (λ seen. IfSome (S.held source.old) (λ g. IsSeen g survey.now seen)) }
     ensures fault { IfRefused result (λ x. IfSome (S.held source.old) (λ g. IsFaultAmong g survey.now x)) }
     ensures short { IfOk result (λ seen. seen.plain_len ≤ 2 ^ 62) }
     ensures first { IfOk result (λ seen. (seen.first.hdu ≡ 0 → seen.first.start ≡ 0) × (0 < seen.first.hdu → seen.first.start < length)
         × (seen.first.hdu < 2)) }
-    ensures block { len block.new ≡ 2880 }
     ensures space { SpaceStays space.old space.new }
     ensures window { WindowStays window.old window.new }
-    ensures source { SourceStays (S.held source.old) (S.held source.new) (S.attached source.old) (S.attached source.new) }
+    ensures source { SourceStays S.held S.attached S.ranges source.old source.new }
     ensures read { IfSome (S.held source.old) (λ g. ReadsHdus Unpack g survey.now (S.ranges source.old) (S.ranges source.new)) }
-    ensures told_ranges { StaysTold (S.ranges source.old) (S.ranges source.new) }
     ensures cause { Fetches (S.tally source.old) (S.tally source.new) result }
 {
     // What is read of one HDU is read of all; and a packed primary is after an empty one.
@@ -109,16 +104,12 @@ pub(crate) fn look_at_hdus<R: Threads + Sync, S: Source, G: Gate>(
     let mut after_empty = false;
     for hdu in 0..survey.hdus {
         let buf = space.header.as_mut_slice();
-        let again = read_again(
-            source,
-            length,
+        let begun = Begun {
             hdu,
             start,
             after_empty,
-            survey.tile,
-            block,
-            buf,
-        )?;
+        };
+        let again = read_again(source, length, begun, survey.tile, buf)?;
         let counted = look_at_hdu(crew, source, window, &again, space)?;
         seen = with_hdu(&seen, &again, after_empty, &counted);
         start = next_start(&again.header);
@@ -175,9 +166,8 @@ fn look_at_hdu<R: Threads + Sync, S: Source, G: Gate>(
     ensures few { IfOk result (λ c. again.now.header.start + c.all ≤ next_start_of again.now.header + 2 ^ 45) }
     ensures space { SpaceStays space.old space.new }
     ensures window { WindowStays window.old window.new }
-    ensures source { SourceStays (S.held source.old) (S.held source.new) (S.attached source.old) (S.attached source.new) }
+    ensures source { SourceStays S.held S.attached S.ranges source.old source.new }
     ensures read { IfSome (S.held source.old) (λ g. LogsIn (data_touched Unpack g again.now.header) (S.ranges source.old) (S.ranges source.new)) }
-    ensures told_ranges { StaysTold (S.ranges source.old) (S.ranges source.new) }
     ensures cause { Fetches (S.tally source.old) (S.tally source.new) result }
 {
     // How many bytes an image has, whose rows stand for pixels.
@@ -235,16 +225,5 @@ fn too_long(hdus: u32, length: u64) -> Stop
         hdu: hdus,
         at: Place::Byte(length),
         kind: Kind::Limit,
-    })
-}
-
-/// The source gave other bytes than before.
-pub(crate) fn changed(hdu: u32) -> Stop
-    ensures { result ≡ Refused (refusal hdu (AtCard 0) BadCard) }
-{
-    Stop::Refused(Fault {
-        hdu,
-        at: Place::Card(0),
-        kind: Kind::BadCard,
     })
 }

@@ -1,7 +1,7 @@
 //! The HDU at hand.
 ghost use Rattle.std.specs.Prelude.{◌≡◌};
 
-use fz_again::ReadHdu;
+use fz_job::ReadHdu;
 
 /// An HDU of a packed file, and where what it stands for is in the file that the packed file stands for.
 #[derive(Clone, Copy, Debug)]

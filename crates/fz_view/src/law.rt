@@ -2,12 +2,12 @@
 ghost use Rattle.fz_view.specs.Laws.{CopyIsTouched, FirstIsPlaced, FoundIsHere, FoundIsReadable, HeaderIsTouched, HereHasPieces, HereIsKnown};
 ghost use Rattle.fz_view.specs.Laws.{LineHasRoom, LineIsBytes, NextIsPlaced, PlacedIsRead, RegionIsSieve};
 
-use fz_again::{hdus_law, known_law};
 use fz_base::ranges_law;
 use fz_block::hdu_at_law;
 use fz_grid::{place_law, tiles_law};
 use fz_head::packed_image_law;
-use fz_round_trip::{first_fault_law, image_arrays_law};
+use fz_job::{hdus_law, known_law};
+use fz_laws::{first_fault_law, image_arrays_law};
 use fz_tile::{one_fault_law, one_record_law, plain_law, slice_law};
 
 /// The first HDU that stands for something is found with the plain bytes, and the next one where one ends; its header

@@ -4,7 +4,7 @@ ghost use Rattle.fz_base.specs.Meter.{handed_back};
 ghost use Rattle.fz_view.specs.Looked.{buffers_of};
 
 use fz_base::{Bytes, Meter, Numbers};
-use fz_survey::Survey;
+use fz_job::Survey;
 
 /// The first HDU that stands for something: its number, the byte at which it begins, and whether it is HDU 1 after a
 /// primary with NAXIS 0.
@@ -18,7 +18,8 @@ pub struct First {
 /// The buffers of a view.
 #[derive(Drop)]
 pub struct Space {
-    /// One block of a header.
+    /// The block with which the look read headers. A view does not use it: it stays live since the peak of a job, which is said
+    /// exactly, has one block beside all other buffers.
     pub block: Bytes,
     /// A header as it is read.
     pub header: Bytes,

@@ -5,7 +5,7 @@ ghost use Rattle.fz_view.specs.Marked.{HasNoMarks, IsKept, KeepsMark, mark_place
 ghost use Rattle.fz_view.specs.Scratch.{ScratchStays};
 
 use crate::looked::Space;
-use fz_fetch::{Mark, TileMark};
+use fz_pixels::{Mark, TileMark};
 use fz_tile::Codec;
 
 /// The places of one mark: the number of its tile and one, its pixel, its bit, and its residue.

@@ -1,14 +1,12 @@
 //! The bytes of an HDU.
 ghost use Rattle.std.specs.Prelude.{ℕ, ◌≡◌, ◌+◌, ◌-◌, ◌*◌, ◌/◌, ◌<◌, ◌≤◌, length as len, drop, slice_index, Some, None, IfOk, IfSome, OnOk};
-ghost use Rattle.fz_base.specs.Counts.{HasCause};
 ghost use Rattle.fz_base.specs.Source.{Reads};
 ghost use Rattle.fz_grid.specs.Arrays.{place_of, product};
 ghost use Rattle.fz_grid.specs.Region.{IsPlaceOf, IsShape, axes_of, region_lengths};
 ghost use Rattle.fz_view.specs.Boxes.{HasBox, HasPixel, LiesInImage, inside_of, sieve_in};
 ghost use Rattle.fz_files.specs.Packed.{pixel_bits};
-ghost use Rattle.fz_fetch.specs.Images.{IsReadable};
-ghost use Rattle.fz_view.specs.Looked.{buffers_of};
-ghost use Rattle.fz_view.specs.Views.{KeepsFirst, ReadsFront, restored_from, with_more};
+ghost use Rattle.fz_job.specs.Images.{IsReadable};
+ghost use Rattle.fz_view.specs.Views.{ReadsFront, restored_from};
 
 use crate::boxes::{box_at, has_pixel};
 use crate::filling::fill_band;
@@ -22,20 +20,16 @@ use fz_head::PackedImage;
 use fz_tile::plain_len;
 
 impl<'a, S: Source> PlainView<'a, S> {
+    ghost use Rattle.fz_view.specs.Stays.{HasViewCause, ViewStays};
+
     /// Reads plain bytes, one piece after another.
     pub(crate) fn read_plain(&mut self, at: u64, into: &mut [u8]) -> Result<(), Failed>
         requires within { at + len into.old ≤ self.old.plain_len }
         requires some { 0 < len into.old }
         ensures bytes { OnOk result (Reads (restored_from (S.held self.old.inner.now)) at into.new) }
         ensures len { len into.new ≡ len into.old }
-        ensures name { self.new.inner.ghost_name ≡ self.old.inner.ghost_name }
-        ensures start { self.new.start.value ≡ self.old.start.value }
-        ensures held { S.held self.new.inner.now ≡ S.held self.old.inner.now }
-        ensures plain_len { self.new.plain_len ≡ self.old.plain_len }
-        ensures file { self.new.length ≡ self.old.length }
-        ensures space { buffers_of self.new.space ≡ buffers_of self.old.space }
-        ensures cause { HasCause (with_more (S.tally self.old.inner.now) self.old.more) (with_more (S.tally self.new.inner.now) self.new.more) result }
-        ensures later { KeepsFirst self.old.later self.new.later result }
+        ensures view { ViewStays self.old self.new }
+        ensures cause { HasViewCause self.old self.new result }
     {
         let mut done = 0;
         while done < into.len() {
@@ -52,14 +46,8 @@ impl<'a, S: Source> PlainView<'a, S> {
         ensures count { IfOk result (λ n. (0 < n) × (n ≤ len into.old)) }
         ensures rest { IfOk result (λ n. drop n into.new ≡ drop n into.old) }
         ensures len { len into.new ≡ len into.old }
-        ensures name { self.new.inner.ghost_name ≡ self.old.inner.ghost_name }
-        ensures start { self.new.start.value ≡ self.old.start.value }
-        ensures held { S.held self.new.inner.now ≡ S.held self.old.inner.now }
-        ensures plain_len { self.new.plain_len ≡ self.old.plain_len }
-        ensures file { self.new.length ≡ self.old.length }
-        ensures space { buffers_of self.new.space ≡ buffers_of self.old.space }
-        ensures cause { HasCause (with_more (S.tally self.old.inner.now) self.old.more) (with_more (S.tally self.new.inner.now) self.new.more) result }
-        ensures later { KeepsFirst self.old.later self.new.later result }
+        ensures view { ViewStays self.old self.new }
+        ensures cause { HasViewCause self.old self.new result }
     {
         pieces_law();
         let here = self.go_to(at)?;
@@ -91,14 +79,8 @@ impl<'a, S: Source> PlainView<'a, S> {
         ensures count { IfOk result (λ n. (0 < n) × (n ≤ len into.old)) }
         ensures rest { IfOk result (λ n. drop n into.new ≡ drop n into.old) }
         ensures len { len into.new ≡ len into.old }
-        ensures name { self.new.inner.ghost_name ≡ self.old.inner.ghost_name }
-        ensures start { self.new.start.value ≡ self.old.start.value }
-        ensures held { S.held self.new.inner.now ≡ S.held self.old.inner.now }
-        ensures plain_len { self.new.plain_len ≡ self.old.plain_len }
-        ensures file { self.new.length ≡ self.old.length }
-        ensures space { buffers_of self.new.space ≡ buffers_of self.old.space }
-        ensures cause { HasCause (with_more (S.tally self.old.inner.now) self.old.more) (with_more (S.tally self.new.inner.now) self.new.more) result }
-        ensures later { KeepsFirst self.old.later self.new.later result }
+        ensures view { ViewStays self.old self.new }
+        ensures cause { HasViewCause self.old self.new result }
     {
         log_law();
         pieces_law();
@@ -133,14 +115,8 @@ impl<'a, S: Source> PlainView<'a, S> {
         ensures count { IfOk result (λ n. (0 < n) × (n ≤ len into.old)) }
         ensures rest { IfOk result (λ n. drop n into.new ≡ drop n into.old) }
         ensures len { len into.new ≡ len into.old }
-        ensures name { self.new.inner.ghost_name ≡ self.old.inner.ghost_name }
-        ensures start { self.new.start.value ≡ self.old.start.value }
-        ensures held { S.held self.new.inner.now ≡ S.held self.old.inner.now }
-        ensures plain_len { self.new.plain_len ≡ self.old.plain_len }
-        ensures file { self.new.length ≡ self.old.length }
-        ensures space { buffers_of self.new.space ≡ buffers_of self.old.space }
-        ensures cause { HasCause (with_more (S.tally self.old.inner.now) self.old.more) (with_more (S.tally self.new.inner.now) self.new.more) result }
-        ensures later { KeepsFirst self.old.later self.new.later result }
+        ensures view { ViewStays self.old self.new }
+        ensures cause { HasViewCause self.old self.new result }
     {
         image_law();
         line_law();
@@ -171,14 +147,8 @@ impl<'a, S: Source> PlainView<'a, S> {
         ensures lies { IfOk result (λ r. LiesInImage image.now.plan r (len self.new.space.band)) }
         ensures boxed { IfOk result (λ r. IfSome (S.held self.old.inner.now) (λ g. HasBox g here.now.read.header (sieve_in r) self.new.space.band)) }
         ensures here { self.new.here ≡ self.old.here }
-        ensures name { self.new.inner.ghost_name ≡ self.old.inner.ghost_name }
-        ensures start { self.new.start.value ≡ self.old.start.value }
-        ensures held { S.held self.new.inner.now ≡ S.held self.old.inner.now }
-        ensures plain_len { self.new.plain_len ≡ self.old.plain_len }
-        ensures file { self.new.length ≡ self.old.length }
-        ensures space { buffers_of self.new.space ≡ buffers_of self.old.space }
-        ensures cause { HasCause (with_more (S.tally self.old.inner.now) self.old.more) (with_more (S.tally self.new.inner.now) self.new.more) result }
-        ensures later { KeepsFirst self.old.later self.new.later result }
+        ensures view { ViewStays self.old self.new }
+        ensures cause { HasViewCause self.old self.new result }
     {
         readable_law();
         if let Some(region) = self.boxed {
@@ -200,14 +170,8 @@ impl<'a, S: Source> PlainView<'a, S> {
         ensures filled { OnOk result (IfSome (S.held self.old.inner.now) (λ g. HasBox g here.now.read.header (sieve_in region.now) self.new.space.band)) }
         ensures room { len self.new.space.band ≡ len self.old.space.band }
         ensures here { self.new.here ≡ self.old.here }
-        ensures name { self.new.inner.ghost_name ≡ self.old.inner.ghost_name }
-        ensures start { self.new.start.value ≡ self.old.start.value }
-        ensures held { S.held self.new.inner.now ≡ S.held self.old.inner.now }
-        ensures plain_len { self.new.plain_len ≡ self.old.plain_len }
-        ensures file { self.new.length ≡ self.old.length }
-        ensures space { buffers_of self.new.space ≡ buffers_of self.old.space }
-        ensures cause { HasCause (with_more (S.tally self.old.inner.now) self.old.more) (with_more (S.tally self.new.inner.now) self.new.more) result }
-        ensures later { KeepsFirst self.old.later self.new.later result }
+        ensures view { ViewStays self.old self.new }
+        ensures cause { HasViewCause self.old self.new result }
     {
         image_law();
         ranges_law();

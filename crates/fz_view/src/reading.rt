@@ -2,7 +2,6 @@
 ghost use Rattle.std.specs.Prelude.{◌≡◌, ◌⊎◌, ◌+◌, ◌-◌, ◌*◌, ◌^◌, ◌<◌, ◌≤◌, length as len, None, Some, IfOk, IfSome, take};
 ghost use Rattle.fz_base.specs.Ranges.{LogsIn};
 ghost use Rattle.fz_base.specs.Stop.{IfRefused, ReadsOnly};
-ghost use Rattle.fz_base.specs.Told.{StaysTold};
 ghost use Rattle.fz_block.specs.Facts.{IsHeaderOf};
 ghost use Rattle.fz_block.specs.Header.{next_start_of};
 ghost use Rattle.fz_block.specs.Hdus.{cards_of, header_bytes};
@@ -10,22 +9,21 @@ ghost use Rattle.fz_head.specs.PlainHeader.{plain_header};
 ghost use Rattle.fz_head.specs.Conditions.{IsPackedPlan};
 ghost use Rattle.fz_files.specs.Touched.{touched_by};
 ghost use Rattle.fz_files.specs.declared.job.Job.TheVariants.{Unpack};
-ghost use Rattle.fz_fetch.specs.Images.{IsReadable};
-ghost use Rattle.fz_again.specs.Again.{header_at_front};
+ghost use Rattle.fz_job.specs.Images.{IsReadable};
+ghost use Rattle.fz_job.specs.Again.{header_at_front};
+ghost use Rattle.fz_base.specs.Keeps.{SourceStays};
 ghost use Rattle.fz_job.specs.Clauses.{IsChanged};
-ghost use Rattle.fz_job.specs.Keeps.{SourceStays};
 ghost use Rattle.fz_view.specs.Begins.{HeadersStay, IsBegun, IsReadHere, IsToldHere};
 ghost use Rattle.fz_view.specs.Here.{IsCopiedHere, IsImageHere};
 
-use crate::hdus::{changed, pixels_len};
+use crate::hdus::pixels_len;
 use crate::here::Here;
 use crate::law::{places_law, touched_law};
 use crate::looked::Space;
-use fz_again::{ReadHdu, read_again};
 use fz_base::{Source, Stop};
 use fz_block::{BLOCK_LEN, Header, next_start};
 use fz_head::{PackedImage, to_plain};
-use fz_survey::Survey;
+use fz_job::{Begun, ReadHdu, Survey, changed, read_again};
 
 /// Where an HDU begins: its number, its first byte in the packed file, whether it is HDU 1 after a primary with NAXIS 0,
 /// and the first byte of what it stands for.
@@ -64,7 +62,7 @@ pub(crate) fn read_begun<S: Source>(
     requires within { (begin.now.start < length) ⊎ ((begin.now.hdu ≡ 0) × (begin.now.start ≡ 0)) }
     requires place { begin.now.at ≤ plain_size }
     requires short { plain_size ≤ 2 ^ 62 }
-    requires block { len space.old.block ≡ 2880 }
+    requires long { 2880 ≤ survey.now.header_len }
     requires header { len space.old.header ≡ survey.now.header_len }
     requires translated { len space.old.translated ≡ survey.now.header_len + 2880 }
     requires told { IfSome (S.held source.old) (λ g. IsBegun g survey.now plain_size begin.now) }
@@ -75,20 +73,21 @@ pub(crate) fn read_begun<S: Source>(
     ensures never { IfSome (S.held source.old) (λ g. IfRefused result (λ x. ⊥)) }
     ensures space { HeadersStay space.old space.new }
     ensures touched { IfSome (S.held source.old) (λ g. LogsIn (touched_by Unpack g) (S.ranges source.old) (S.ranges source.new)) }
-    ensures told_ranges { StaysTold (S.ranges source.old) (S.ranges source.new) }
-    ensures source { SourceStays (S.held source.old) (S.held source.new) (S.attached source.old) (S.attached source.new) }
+    ensures source { SourceStays S.held S.attached S.ranges source.old source.new }
     ensures cause { ReadsOnly (S.tally source.old) (S.tally source.new) result }
 {
     places_law();
     touched_law();
+    let begun = Begun {
+        hdu: begin.hdu,
+        start: begin.start,
+        after_empty: begin.after_empty,
+    };
     let read = read_again(
         source,
         length,
-        begin.hdu,
-        begin.start,
-        begin.after_empty,
+        begun,
         survey.tile,
-        space.block.as_mut_slice(),
         space.header.as_mut_slice(),
     )?;
     let buf = space.header.as_slice();

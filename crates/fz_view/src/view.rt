@@ -17,12 +17,11 @@ ghost use Rattle.fz_view.specs.Views.{failed_after, failed_by, is_late, later_af
 
 use crate::here::Here;
 use crate::looked::{First, Looked, Space};
-use fz_again::known_law;
 use fz_base::{Failed, Fault, Meter, Source, Stop};
 use fz_block::Axes;
 use fz_grid::Region;
-use fz_round_trip::{first_fault_law, restored_bytes_law, restored_law};
-use fz_survey::Survey;
+use fz_job::{Survey, known_law};
+use fz_laws::{first_fault_law, restored_bytes_law, restored_law};
 use std::snapshot::Snapshot;
 
 /// The file that a packed file stands for, whose bytes are made of those of another source as they are read.

@@ -4,30 +4,29 @@ ghost use Rattle.fz_base.specs.Counts.{uncounted};
 ghost use Rattle.fz_base.specs.Ranges.{LogsIn};
 ghost use Rattle.fz_base.specs.Stop.{IfRefused, TellsLimit};
 ghost use Rattle.fz_base.specs.Takings.{TellsFirstPast, highest, piled};
-ghost use Rattle.fz_base.specs.Told.{StaysTold};
 ghost use Rattle.fz_base.specs.declared.failure.Stop.TheVariants.{NoMemory as WantsMemory};
 ghost use Rattle.fz_files.specs.Buffers.{file_takings, job_bound};
 ghost use Rattle.fz_files.specs.Touched.{touched_by};
 ghost use Rattle.fz_files.specs.declared.job.Job.TheVariants.{Unpack};
 ghost use Rattle.fz_job.specs.Clauses.{greatest_bound};
-ghost use Rattle.fz_job.specs.Keeps.{SourceStays};
 ghost use Rattle.fz_pool.specs.Window.{IsEmpty, slot_sizes};
-ghost use Rattle.fz_survey.specs.Workspace.{held_bytes, wanted_buffers};
-ghost use Rattle.fz_again.specs.Hdus.{ReadsHdus};
-ghost use Rattle.fz_stages.specs.Stages.{Works, later_takings, wants_for};
-ghost use Rattle.fz_view.specs.Found.{HasFoundRoom, found_after, looked_with};
+ghost use Rattle.fz_job.specs.Workspace.{held_bytes, wanted_buffers};
+ghost use Rattle.fz_job.specs.Hdus.{ReadsHdus};
+ghost use Rattle.fz_base.specs.Keeps.{SourceStays};
+ghost use Rattle.fz_job.specs.Stages.{Works, later_takings, wants_for};
+ghost use Rattle.fz_view.specs.Found.{HasFoundRoom, IsSoundFound, found_after, looked_with};
 ghost use Rattle.fz_view.specs.Looked.{IsFaultAmong, IsLooked, IsLookFault, IsSeen, IsSoundLook, band_bytes};
 ghost use Rattle.fz_view.specs.Looks.{HasLookCause, KeepsLookBuffers};
 
 use crate::hdus::{Seen, look_at_hdus};
 use crate::looked::{Looked, Space};
-use fz_again::{hdus_law, headers_law, known_law};
 use fz_base::{Bytes, Gate, Meter, NoMemory, Numbers, Source, Stop, ranges_law};
 use fz_block::BLOCK_LEN;
+use fz_job::{
+    Survey, Wants, Workspace, hdus_law, headers_law, known_law, stages_law, survey_to_unpack,
+};
+use fz_laws::first_fault_law;
 use fz_pool::{Crew, Window, sizes_law};
-use fz_round_trip::first_fault_law;
-use fz_stages::stages_law;
-use fz_survey::{Survey, Wants, Workspace, survey_to_unpack};
 use std::thread::Threads;
 
 /// The most bytes of the buffer that has the pixels of a box.
@@ -56,8 +55,7 @@ pub fn look<R: Threads + Sync, S: Source, G: Gate>(
     ensures first_fault { IfRefused result (λ x. IfSome (S.held source.old) (λ g. IsLookFault g x)) }
     ensures cause { HasLookCause (S.held source.old) (S.tally source.old) (S.tally source.new) meter.old.limit window.old.workers result }
     ensures buffers { KeepsLookBuffers (S.held source.old) meter.old meter.new window.old window.new result }
-    ensures source { SourceStays (S.held source.old) (S.held source.new) (S.attached source.old) (S.attached source.new) }
-    ensures told_ranges { StaysTold (S.ranges source.old) (S.ranges source.new) }
+    ensures source { SourceStays S.held S.attached S.ranges source.old source.new }
     // Every byte that is read is one that `unpack` may read.
     ensures touched { IfSome (S.held source.old) (λ g. LogsIn (touched_by Unpack g) (S.ranges source.old) (S.ranges source.new)) }
     ensures exact_peak { OnOk result (IfSome (S.held source.old)
@@ -132,9 +130,8 @@ fn with_block<R: Threads + Sync, S: Source, G: Gate>(
     ensures limit { meter.new.limit ≡ meter.old.limit }
     ensures emptied { window.new ≡ record { slots = []; workers = window.old.workers } }
     ensures block { len block.new ≡ 2880 }
-    ensures source { SourceStays (S.held source.old) (S.held source.new) (S.attached source.old) (S.attached source.new) }
+    ensures source { SourceStays S.held S.attached S.ranges source.old source.new }
     ensures touched { IfSome (S.held source.old) (λ g. LogsIn (touched_by Unpack g) (S.ranges source.old) (S.ranges source.new)) }
-    ensures told_ranges { StaysTold (S.ranges source.old) (S.ranges source.new) }
     // A look writes nothing.
     ensures cause { Works (S.tally source.old) (S.tally source.new) uncounted uncounted meter.old.limit result }
 {
@@ -146,7 +143,7 @@ fn with_block<R: Threads + Sync, S: Source, G: Gate>(
     ranges_law();
     stages_law::<Found>();
     let survey = survey_to_unpack(source, length, meter, block)?;
-    with_survey(crew, source, length, meter, window, &survey, block)
+    with_survey(crew, source, length, meter, window, &survey)
 }
 
 // Takes all buffers of `unpack`, looks at the rows, and exchanges the buffers for those of a view.
@@ -157,15 +154,14 @@ fn with_survey<R: Threads + Sync, S: Source, G: Gate>(
     meter: &mut Meter,
     window: &mut Window,
     survey: &Survey,
-    block: &mut [u8],
 ) -> Result<Found, Stop>
     requires attached { S.attached source.old ≡ Some length }
     requires window { IsEmpty window.old }
     requires some { 0 < survey.now.hdus }
     requires few { survey.now.hdus ≤ 65536 }
-    requires block { len block.old ≡ 2880 }
+    requires long { 2880 ≤ survey.now.header_len }
     ensures seen { IfOk result (λ f. IfSome (S.held source.old) (λ g. IsSeen g survey.now f.seen)) }
-    ensures sound { IfOk result (λ f. (f.survey ≡ survey.now) × IsSoundLook length (looked_with f block.new)) }
+    ensures sound { IfOk result (λ f. (f.survey ≡ survey.now) × IsSoundFound length f) }
     ensures fault { IfRefused result (λ x. IfSome (S.held source.old) (λ g. IsFaultAmong g survey.now x)) }
     ensures first_past { TellsFirstPast meter.old.limit
         (piled meter.old.live (wanted_buffers (wants_for Unpack survey.now) window.old.workers)) result }
@@ -175,10 +171,8 @@ fn with_survey<R: Threads + Sync, S: Source, G: Gate>(
     ensures live { meter.new.live ≡ meter.old.live + found_after result }
     ensures limit { meter.new.limit ≡ meter.old.limit }
     ensures emptied { window.new ≡ record { slots = []; workers = window.old.workers } }
-    ensures block { len block.new ≡ 2880 }
-    ensures source { SourceStays (S.held source.old) (S.held source.new) (S.attached source.old) (S.attached source.new) }
+    ensures source { SourceStays S.held S.attached S.ranges source.old source.new }
     ensures read { IfSome (S.held source.old) (λ g. ReadsHdus Unpack g survey.now (S.ranges source.old) (S.ranges source.new)) }
-    ensures told_ranges { StaysTold (S.ranges source.old) (S.ranges source.new) }
     ensures cause { Works (S.tally source.old) (S.tally source.new) uncounted uncounted meter.old.limit result }
 {
     // How long the slots are that were filled, and that what was taken comes back.
@@ -190,7 +184,7 @@ fn with_survey<R: Threads + Sync, S: Source, G: Gate>(
         tile: Some(survey.tile),
     };
     let mut space = Workspace::take(meter, window, &wants)?;
-    match look_at_hdus(crew, source, length, window, survey, &mut space, block) {
+    match look_at_hdus(crew, source, length, window, survey, &mut space) {
         Ok(seen) => exchange(meter, window, survey, &seen, space),
         Err(stop) => {
             space.give_back(meter, window);

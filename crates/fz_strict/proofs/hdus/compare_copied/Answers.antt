@@ -1,7 +1,7 @@
 -- `pack` copies the HDU, or not; and nothing is compared after a difference.
 use Rattle.std.proofs.Common.{◌≡◌, ℕ, ◌-◌, List, Option, None, IfSome, sym, ap, ◌∙◌, subst}
 use Rattle.fz_block.specs.Header.{next_start_of}
-use Rattle.fz_again.specs.Again.{header_at_front}
+use Rattle.fz_job.specs.Again.{header_at_front}
 use Rattle.fz_strict.specs.Origins.{IsOrigin, with_copied}
 use Rattle.fz_strict.specs.SameImages.{ComparesCopy}
 use Rattle.fz_strict.specs.declared.origin.Origin.{Origin}

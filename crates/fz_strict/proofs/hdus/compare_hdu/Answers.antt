@@ -3,8 +3,8 @@ use Rattle.std.proofs.Common.{ℕ, List, Option, subst}
 use Rattle.std.proofs.lemmas.Result.{IfOk-weaker}
 use Rattle.fz_base.specs.Source.{HoldsLength}
 use Rattle.fz_head.specs.declared.job_checks.PackedImage.{PackedImage}
-use Rattle.fz_again.specs.Again.{IsAgain}
-use Rattle.fz_strict.specs.Reads.{hdu_ranges}
+use Rattle.fz_job.specs.Again.{IsAgain}
+use Rattle.fz_compare.specs.Reads.{hdu_ranges}
 use Rattle.fz_strict.proofs.CopiesCompared.{copy_compared, image_compares}
 use Rattle.fz_strict.proofs.ReadRanges.{image_read, unread}
 use Rattle.fz_strict.proofs.Said.{rows_none}
@@ -21,14 +21,14 @@ compare_image-requires-clause-again g c κs within = (
 pub returns-in-Some-clause-compared : goal.returns-in-Some-clause-compared
 returns-in-Some-clause-compared g c =
     IfOk-weaker c.compare_image.result _ _
-    (λ now is. image_compares (g.S.Source.held c.args.source.now) c.args.options.now c.requires.again.0 c.args.space.now.header c.args.again.now c.requires.again.3 c.in-Some.image c.args.origin.now now c.in-Some.is is)
+    (λ now is. image_compares (g.S.Source.held c.args.source.now) c.args.asked.now.options c.requires.again.0 c.args.space.now.header c.args.again.now c.requires.again.3 c.in-Some.image c.args.origin.now now c.in-Some.is is)
     c.compare_image.ensures.compared
 
 pub returns-in-None-clause-compared : goal.returns-in-None-clause-compared
 returns-in-None-clause-compared g c =
     let held : Option (List ℕ) = g.S.Source.held c.args.source.now in
     let told : HoldsLength held c.requires.again.0 = g.met.S.Source.agrees c.args.source.now c.requires.again.0 c.requires.again.2 in
-    copy_compared held c.args.options.now c.requires.again.0 c.args.space.now.header c.args.again.now c.requires.again.3 c.args.origin.now c.compare_copied.result c.in-None.is
+    copy_compared held c.args.asked.now.options c.requires.again.0 c.args.space.now.header c.args.again.now c.requires.again.3 c.args.origin.now c.compare_copied.result c.in-None.is
     (c.compare_copied.ensures.compared held c.requires.again.0 told c.requires.again.3 c.in-None.is)
 
 pub returns-in-None-clause-sound : goal.returns-in-None-clause-sound

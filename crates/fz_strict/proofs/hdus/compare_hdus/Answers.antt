@@ -10,9 +10,9 @@ use Rattle.fz_base.specs.declared.failure.Stop.{Stop}
 use Rattle.fz_block.specs.Checks.{header_touched}
 use Rattle.fz_block.specs.Header.{next_start_of}
 use Rattle.fz_files.specs.declared.job.Job.TheVariants.{Verify}
-use Rattle.fz_again.specs.Again.{ReadsAsSeen, is_empty_primary}
+use Rattle.fz_job.specs.Again.{ReadsAsSeen, is_empty_primary}
 use Rattle.fz_strict.specs.Origins.{IsOrigin}
-use Rattle.fz_strict.specs.Reads.{ReadsKnown, hdu_ranges}
+use Rattle.fz_compare.specs.Reads.{ReadsKnown, hdu_ranges}
 use Rattle.fz_strict.specs.Rows.{ComparesSeen, IsHduFault, IsHduSound}
 use Rattle.fz_strict.specs.SameImages.{ComparesHdu}
 use Rattle.fz_strict.specs.declared.origin.Origin.{Origin}
@@ -29,19 +29,19 @@ loop-hdu-init g c =
       attached = refl;
       reads = refl;
       told = λ told. told;
-      read = no_hdu c.args.survey.now (g.S.Source.ranges c.args.source.now) held;
+      read = no_hdu c.args.asked.now.survey (g.S.Source.ranges c.args.source.now) held;
       plain = refl;
       space = record { header = refl; translated = refl; copy = refl };
       window = record { sizes = refl; workers = refl };
       within = λ more. inr (refl, refl);
       origin = subst IsOrigin (sym c.none.ensures) (record { hdus = omega arith; end = omega arith });
-      comparing = subst (λ (w : Origin). IfSome held (IsComparing c.args.options.now c.args.survey.now 0 0 false (Some w))) (sym c.none.ensures) (none_compared laws c.args.options.now c.args.survey.now held);
+      comparing = subst (λ (w : Origin). IfSome held (IsComparing c.args.asked.now.options c.args.asked.now.survey 0 0 false (Some w))) (sym c.none.ensures) (none_compared laws c.args.asked.now.options c.args.asked.now.survey held);
     }
 
 pub returns-in_err-again-clause-compared : goal.returns-in_err-again-clause-compared
 returns-in_err-again-clause-compared g c =
-    let s = c.args.survey.now in
-    let o = c.args.options.now in
+    let s = c.args.asked.now.survey in
+    let o = c.args.asked.now.options in
     let laws : CompareLaws = record { one = c.one_hdu_law.ensures.one; decided = c.one_hdu_law.ensures.decided; bytes = c.one_hdu_law.ensures.bytes; restored = c.restored_file_law.ensures.some; primary = c.packed_primary_law.ensures.unpack } in
     let held : Option (List ℕ) = g.S.Source.held c.args.source.now in
     let old = c.loop-hdu.invariant in
@@ -54,8 +54,8 @@ returns-in_err-again-clause-compared g c =
 
 pub returns-in_err-now-clause-compared : goal.returns-in_err-now-clause-compared
 returns-in_err-now-clause-compared g c =
-    let s = c.args.survey.now in
-    let o = c.args.options.now in
+    let s = c.args.asked.now.survey in
+    let o = c.args.asked.now.options in
     let laws : CompareLaws = record { one = c.one_hdu_law.ensures.one; decided = c.one_hdu_law.ensures.decided; bytes = c.one_hdu_law.ensures.bytes; restored = c.restored_file_law.ensures.some; primary = c.packed_primary_law.ensures.unpack } in
     let held : Option (List ℕ) = g.S.Source.held c.args.source.now in
     let old = c.loop-hdu.invariant in
@@ -72,8 +72,8 @@ returns-in_err-now-clause-compared g c =
 
 pub returns-then-start-length-clause-compared : goal.returns-then-start-length-clause-compared
 returns-then-start-length-clause-compared g c =
-    let s = c.args.survey.now in
-    let o = c.args.options.now in
+    let s = c.args.asked.now.survey in
+    let o = c.args.asked.now.options in
     let laws : CompareLaws = record { one = c.one_hdu_law.ensures.one; decided = c.one_hdu_law.ensures.decided; bytes = c.one_hdu_law.ensures.bytes; restored = c.restored_file_law.ensures.some; primary = c.packed_primary_law.ensures.unpack } in
     let k : ℕ = c.loop-hdu.hdu in
     let start : ℕ = c.loop-hdu.start in
@@ -90,17 +90,17 @@ returns-then-start-length-clause-compared g c =
     let compared : IfSome held (λ f. ComparesHdu o f a.header c.loop-hdu.origin now) = subst (λ (h : Option (List ℕ)). IfSome h (λ f. ComparesHdu o f a.header c.loop-hdu.origin now)) there c.in_ok-now.ensures.compared in
     let more : IfSome held (IsComparing o s (k + 1) (next_start_of a.header) (is_empty_primary a.header) now) =
     more_compared laws o s held k start flag (is_empty_primary a.header) c.loop-hdu.origin now a few old.comparing seen sound compared refl in
-    let told : HoldsLength held c.args.length = g.met.S.Source.agrees c.args.source.now c.args.length c.requires.attached in
+    let told : HoldsLength held c.args.asked.now.length = g.met.S.Source.agrees c.args.source.now c.args.asked.now.length c.requires.attached in
     let octets : HoldsOctets held = g.met.S.Source.octets c.args.source.now in
     let next : c.next_start-start.result ≡ next_start_of a.header = c.next_start-start.ensures in
-    let ends : c.next_start-start.result ≡ c.args.length = first_of (omega (arith, c.if-start-length.true), grind (arith, nat_tests, c.if-start-length.true)) in
+    let ends : c.next_start-start.result ≡ c.args.asked.now.length = first_of (omega (arith, c.if-start-length.true), grind (arith, nat_tests, c.if-start-length.true)) in
     subst (λ b. IfSome held (λ f. ComparesSeen o f s (Ok b))) (sym c.is_some.ensures)
-    (ends_with_file laws o s held c.args.length (k + 1) (next_start_of a.header) (is_empty_primary a.header) now told (sym next ∙ ends) c.requires.options octets c.in_ok-now.ensures.origin more)
+    (ends_with_file laws o s held c.args.asked.now.length (k + 1) (next_start_of a.header) (is_empty_primary a.header) now told (sym next ∙ ends) c.requires.options octets c.in_ok-now.ensures.origin more)
 
 pub loop-hdu-preserved : goal.loop-hdu-preserved
 loop-hdu-preserved g c =
-    let s = c.args.survey.now in
-    let o = c.args.options.now in
+    let s = c.args.asked.now.survey in
+    let o = c.args.asked.now.options in
     let laws : CompareLaws = record { one = c.one_hdu_law.ensures.one; decided = c.one_hdu_law.ensures.decided; bytes = c.one_hdu_law.ensures.bytes; restored = c.restored_file_law.ensures.some; primary = c.packed_primary_law.ensures.unpack } in
     let k : ℕ = c.loop-hdu.hdu in
     let start : ℕ = c.loop-hdu.start in
@@ -119,8 +119,8 @@ loop-hdu-preserved g c =
     more_compared laws o s held k start flag (is_empty_primary a.header) c.loop-hdu.origin now a few old.comparing seen sound compared refl in
     let next : c.next_start-start.result ≡ next_start_of a.header = c.next_start-start.ensures in
     let says : c.is_empty_primary-after_empty.result ≡ is_empty_primary a.header = c.is_empty_primary-after_empty.ensures in
-    let inside : next_start_of a.header ≤ c.args.length = c.in_ok-again.ensures.again.inside in
-    let before : c.next_start-start.result < c.args.length = first_of (omega (arith, next, inside, c.if-start-length.false), grind (arith, nat_tests, next, inside, c.if-start-length.false)) in
+    let inside : next_start_of a.header ≤ c.args.asked.now.length = c.in_ok-again.ensures.again.inside in
+    let before : c.next_start-start.result < c.args.asked.now.length = first_of (omega (arith, next, inside, c.if-start-length.false), grind (arith, nat_tests, next, inside, c.if-start-length.false)) in
     let first : Option (List (ℕ × ℕ)) = g.S.Source.ranges c.args.source.now in
     let one : Option (List (ℕ × ℕ)) = g.S.Source.ranges c.loop-hdu.source in
     let two : Option (List (ℕ × ℕ)) = g.S.Source.ranges c.read_front.new.source in
@@ -137,13 +137,13 @@ loop-hdu-preserved g c =
       held = c.in_ok-now.ensures.source.held_is ∙ there;
       attached = c.in_ok-now.ensures.source.attached_is ∙ c.in_ok-again.ensures.source.attached_is ∙ old.attached;
       reads = c.in_ok-now.ensures.cause.ok ∙ c.in_ok-again.ensures.cause.ok ∙ old.reads;
-      told = λ told. c.in_ok-now.ensures.told (c.in_ok-again.ensures.told (old.told told));
+      told = λ told. c.in_ok-now.ensures.source.told (c.in_ok-again.ensures.source.told (old.told told));
       read = reads;
       plain = c.in_ok-now.ensures.plain ∙ old.plain;
       space = record {
         header = omega (arith, c.in_ok-now.ensures.space.header, old.space.header, c.in_ok-again.ensures.header, length-take {A = ℕ}, length-append {A = ℕ}, length-drop {A = ℕ});
         translated = c.in_ok-now.ensures.space.translated ∙ old.space.translated;
-        copy = omega (arith, c.in_ok-now.ensures.space.copy, old.space.copy, c.in_ok-again.ensures.copy, length-take {A = ℕ}, length-append {A = ℕ}, length-drop {A = ℕ});
+        copy = c.in_ok-now.ensures.space.copy ∙ old.space.copy;
       };
       window = record { sizes = c.in_ok-now.ensures.window.sizes ∙ old.window.sizes; workers = c.in_ok-now.ensures.window.workers ∙ old.window.workers };
       within = λ left. inl before;
@@ -154,8 +154,8 @@ loop-hdu-preserved g c =
 
 pub returns-clause-compared : goal.returns-clause-compared
 returns-clause-compared g c =
-    let s = c.args.survey.now in
-    let o = c.args.options.now in
+    let s = c.args.asked.now.survey in
+    let o = c.args.asked.now.options in
     let laws : CompareLaws = record { one = c.one_hdu_law.ensures.one; decided = c.one_hdu_law.ensures.decided; bytes = c.one_hdu_law.ensures.bytes; restored = c.restored_file_law.ensures.some; primary = c.packed_primary_law.ensures.unpack } in
     let held : Option (List ℕ) = g.S.Source.held c.args.source.now in
     let old = c.loop-hdu.invariant in
@@ -166,8 +166,8 @@ returns-clause-compared g c =
 
 pub returns-in_err-again-clause-read : goal.returns-in_err-again-clause-read
 returns-in_err-again-clause-read g c =
-    let s = c.args.survey.now in
-    let o = c.args.options.now in
+    let s = c.args.asked.now.survey in
+    let o = c.args.asked.now.options in
     let k : ℕ = c.loop-hdu.hdu in
     let start : ℕ = c.loop-hdu.start in
     let flag : Bool = c.loop-hdu.after_empty in
@@ -185,8 +185,8 @@ returns-in_err-again-clause-read g c =
 
 pub returns-in_err-now-clause-read : goal.returns-in_err-now-clause-read
 returns-in_err-now-clause-read g c =
-    let s = c.args.survey.now in
-    let o = c.args.options.now in
+    let s = c.args.asked.now.survey in
+    let o = c.args.asked.now.options in
     let k : ℕ = c.loop-hdu.hdu in
     let start : ℕ = c.loop-hdu.start in
     let flag : Bool = c.loop-hdu.after_empty in
@@ -213,8 +213,8 @@ returns-in_err-now-clause-read g c =
 
 pub returns-then-start-length-clause-read : goal.returns-then-start-length-clause-read
 returns-then-start-length-clause-read g c =
-    let s = c.args.survey.now in
-    let o = c.args.options.now in
+    let s = c.args.asked.now.survey in
+    let o = c.args.asked.now.options in
     let k : ℕ = c.loop-hdu.hdu in
     let start : ℕ = c.loop-hdu.start in
     let flag : Bool = c.loop-hdu.after_empty in

@@ -1,10 +1,10 @@
 -- The HDUs so far are compared; the source, the buffers and the counts are as at the start.
 use Rattle.std.proofs.Common.{◌≡◌, ◌<◌, ◌⊎◌, length, IfSome}
 use Rattle.fz_base.specs.Told.{StaysTold}
-use Rattle.fz_survey.specs.Workspace.{SpaceStays}
-use Rattle.fz_job.specs.Keeps.{WindowStays}
+use Rattle.fz_pool.specs.Window.{WindowStays}
+use Rattle.fz_job.specs.Workspace.{SpaceStays}
 use Rattle.fz_strict.specs.Origins.{IsOrigin}
-use Rattle.fz_strict.specs.Reads.{ReadsKnown}
+use Rattle.fz_compare.specs.Reads.{ReadsKnown}
 use Rattle.fz_strict.proofs.CompareLoop.{IsComparing}
 use Rattle.fz_strict.proofs.hdus.compare_hdus.Given as goal
 
@@ -14,11 +14,11 @@ invariant-loop-hdu g l = record {
   attached : g.S.Source.attached l.source ≡ g.S.Source.attached l.fn.source;
   reads : g.S.Source.tally l.source ≡ g.S.Source.tally l.fn.source;
   told : StaysTold (g.S.Source.ranges l.fn.source) (g.S.Source.ranges l.source);
-  read : IfSome (g.S.Source.held l.fn.source) (λ f. ReadsKnown f l.survey (g.S.Source.ranges l.fn.source) (g.S.Source.ranges l.source));
+  read : IfSome (g.S.Source.held l.fn.source) (λ f. ReadsKnown f l.asked.survey (g.S.Source.ranges l.fn.source) (g.S.Source.ranges l.source));
   plain : length l.plain ≡ length l.fn.plain;
   space : SpaceStays l.fn.space l.space;
   window : WindowStays l.fn.window l.window;
-  within : l.hdu < l.survey.hdus → (l.start < l.length) ⊎ ((l.hdu ≡ 0) × (l.start ≡ 0));
+  within : l.hdu < l.asked.survey.hdus → (l.start < l.length) ⊎ ((l.hdu ≡ 0) × (l.start ≡ 0));
   origin : IfSome l.origin IsOrigin;
-  comparing : IfSome (g.S.Source.held l.fn.source) (IsComparing l.options l.survey l.hdu l.start l.after_empty l.origin);
+  comparing : IfSome (g.S.Source.held l.fn.source) (IsComparing l.asked.options l.asked.survey l.hdu l.start l.after_empty l.origin);
 }

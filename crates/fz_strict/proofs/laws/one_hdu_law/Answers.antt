@@ -2,22 +2,13 @@
 use Rattle.fz_strict.proofs.Fill.{FillLaws}
 use Rattle.fz_strict.proofs.OneHdu.{HeaderLaws, ImageLaws, hdus_stand_for_one}
 use Rattle.fz_strict.proofs.Packs.{PackLaws, hdus_are_decided}
-use Rattle.fz_strict.proofs.Same.{WalkLaws}
+use Rattle.fz_strict.specs.Taken.{WalkLaws}
 use Rattle.fz_strict.proofs.Split.{one_split}
 use Rattle.fz_strict.proofs.laws.one_hdu_law.Goals as goal
 
 pub returns : goal.returns
 returns c =
-    let walks : WalkLaws =
-    record {
-      headers = c.walk_law.ensures.headers;
-      whole = c.walk_law.ensures.whole;
-      pass = c.found_hdus_law.ensures.pass;
-      parts = c.hdu_list_law.ensures.walk;
-      converse = c.hdu_list_law.ensures.converse;
-      judged = c.passing_law.ensures.judged;
-      packed = c.packed_hdu_law.ensures.packed;
-    } in
+    let walks : WalkLaws = c.walk_laws.ensures in
     let headers : HeaderLaws = record { read = c.whole_cards_law.ensures.read; plain = c.whole_cards_law.ensures.plain; made = c.cards_law.ensures.header } in
     let images : ImageLaws = record {
       record_ = c.one_record_law.ensures;

@@ -6,21 +6,12 @@ use Rattle.fz_strict.proofs.Images.{TableLaws}
 use Rattle.fz_strict.proofs.Joined.{found_for_each, hdu_by_hdu}
 use Rattle.fz_strict.proofs.OneHdu.{HeaderLaws}
 use Rattle.fz_strict.proofs.OptionsFound.{StrictLaws}
-use Rattle.fz_strict.proofs.Same.{WalkLaws}
+use Rattle.fz_strict.specs.Taken.{WalkLaws}
 use Rattle.fz_strict.proofs.laws.same_hdus_law.Goals as goal
 
 pub returns : goal.returns
 returns c =
-    let walks : WalkLaws =
-    record {
-      headers = c.walk_law.ensures.headers;
-      whole = c.walk_law.ensures.whole;
-      pass = c.found_hdus_law.ensures.pass;
-      parts = c.hdu_list_law.ensures.walk;
-      converse = c.hdu_list_law.ensures.converse;
-      judged = c.passing_law.ensures.judged;
-      packed = c.packed_hdu_law.ensures.packed;
-    } in
+    let walks : WalkLaws = c.walk_laws.ensures in
     let allowed = found_are_allowed walks c.shape_law.ensures.tiles c.packed_image_law.ensures.unpack in
     let tables : TableLaws = record { accepted = c.table_law.ensures.accepted; sums = c.packed_hdus_law.ensures.sums } in
     let strict : StrictLaws = record { walks = walks; tables = tables; allowed = allowed; become = c.packed_hdus_law.ensures.each } in

@@ -7,8 +7,8 @@ use Rattle.fz_block.specs.Checks.{header_touched}
 use Rattle.fz_block.specs.Header.{next_start_of}
 use Rattle.fz_files.specs.declared.job.Job.TheVariants.{Verify}
 use Rattle.fz_head.specs.declared.options.PackOptions.{PackOptions}
-use Rattle.fz_again.specs.Again.{IsAgain, ReadsAsSeen, is_empty_primary}
-use Rattle.fz_again.specs.Hdus.{ReadsHdus}
+use Rattle.fz_job.specs.Again.{IsAgain, ReadsAsSeen, is_empty_primary}
+use Rattle.fz_job.specs.Hdus.{ReadsHdus}
 use Rattle.fz_strict.specs.Gathered.{FindsOptions}
 use Rattle.fz_strict.specs.declared.options.Found.{Found}
 use Rattle.fz_strict.proofs.FindLoop.{IsGathering, ends_with_file, ends_with_last, more_gathered, none_gathered, stops_finding}
@@ -25,7 +25,6 @@ loop-hdu-init g c =
       reads = refl;
       told = λ told. told;
       read = no_header c.args.survey.now (g.S.Source.ranges c.args.source.now) held;
-      copy = refl;
       header = refl;
       within = λ more. inr (refl, refl);
       found = c.nothing-found.ensures.found;
@@ -101,9 +100,8 @@ loop-hdu-preserved g c =
       held = c.in_ok-again.ensures.source.held_is ∙ old.held;
       attached = c.in_ok-again.ensures.source.attached_is ∙ old.attached;
       reads = c.in_ok-again.ensures.cause.ok ∙ old.reads;
-      told = λ told. c.in_ok-again.ensures.told (old.told told);
+      told = λ told. c.in_ok-again.ensures.source.told (old.told told);
       read = reads;
-      copy = c.in_ok-again.ensures.copy ∙ old.copy;
       header = c.in_ok-again.ensures.header ∙ old.header;
       within = λ left. inl before;
       found = c.with_hdu-found.ensures.found;

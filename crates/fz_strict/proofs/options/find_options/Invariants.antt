@@ -1,7 +1,7 @@
 -- The options of the HDUs so far are gathered; the source and its counts are as at the start.
 use Rattle.std.proofs.Common.{◌≡◌, ◌<◌, ◌⊎◌, length, IfSome}
 use Rattle.fz_base.specs.Told.{StaysTold}
-use Rattle.fz_again.specs.Hdus.{ReadsHdus}
+use Rattle.fz_job.specs.Hdus.{ReadsHdus}
 use Rattle.fz_files.specs.declared.job.Job.TheVariants.{Verify}
 use Rattle.fz_strict.specs.Gathered.{IsFound}
 use Rattle.fz_strict.proofs.FindLoop.{IsGathering}
@@ -14,7 +14,6 @@ invariant-loop-hdu g l = record {
   reads : g.S.Source.tally l.source ≡ g.S.Source.tally l.fn.source;
   told : StaysTold (g.S.Source.ranges l.fn.source) (g.S.Source.ranges l.source);
   read : IfSome (g.S.Source.held l.fn.source) (λ f. ReadsHdus Verify f l.survey (g.S.Source.ranges l.fn.source) (g.S.Source.ranges l.source));
-  copy : length l.copy ≡ length l.fn.copy;
   header : length l.header ≡ length l.fn.header;
   within : l.hdu < l.survey.hdus → (l.start < l.length) ⊎ ((l.hdu ≡ 0) × (l.start ≡ 0));
   found : IsFound l.found;

@@ -10,7 +10,7 @@ use Rattle.fz_base.specs.declared.failure.Stop.{Stop}
 use Rattle.fz_files.specs.declared.job.Job.TheVariants.{Verify}
 use Rattle.fz_job.specs.Clauses.{ComesLate}
 use Rattle.fz_pool.specs.Window.{Pool}
-use Rattle.fz_survey.specs.Workspace.{wanted_buffers}
+use Rattle.fz_job.specs.Workspace.{wanted_buffers}
 use Rattle.fz_strict.specs.Clauses.{strict_buffers, strict_wants}
 use Rattle.fz_strict.specs.Rows.{ComparesFound}
 use Rattle.fz_strict.proofs.Outcomes.{always, given_past, ok_weaker, refilled_len, refused_tells, short_compared, short_past, short_refuses, short_takes, sum_more}

@@ -6,7 +6,7 @@ use Rattle.fz_base.specs.declared.failure.Stop.{Stop}
 use Rattle.fz_files.specs.declared.job.Job.TheVariants.{Verify}
 use Rattle.fz_job.specs.Clauses.{ComesLate}
 use Rattle.fz_fetch.specs.Stops.{Fetches}
-use Rattle.fz_strict.specs.Reads.{ReadsKnown}
+use Rattle.fz_compare.specs.Reads.{ReadsKnown}
 use Rattle.fz_strict.specs.Rows.{ComparesFound, ComparesSeen}
 use Rattle.fz_strict.proofs.FoundThere.{changed_late, finds_fetch, found_compared, stopped_compared}
 use Rattle.fz_strict.proofs.ReadHdus.{options_read, then_compared}

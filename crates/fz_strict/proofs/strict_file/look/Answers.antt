@@ -10,9 +10,9 @@ use Rattle.fz_base.specs.declared.failure.Stop.{Stop}
 use Rattle.fz_base.specs.declared.failure.Stop.TheVariants.{OverLimit}
 use Rattle.fz_files.specs.Reads.{header_ranges}
 use Rattle.fz_files.specs.declared.job.Job.TheVariants.{Verify}
-use Rattle.fz_survey.specs.Surveys.{survey_takings, surveyed}
-use Rattle.fz_survey.specs.declared.checks.JobChecks.TheVariants.{Unpack as UnpackChecks}
-use Rattle.fz_survey.specs.declared.survey.Survey.{Survey}
+use Rattle.fz_job.specs.Surveys.{survey_takings, surveyed}
+use Rattle.fz_job.specs.declared.checks.JobChecks.TheVariants.{Unpack as UnpackChecks}
+use Rattle.fz_job.specs.declared.survey.Survey.{Survey}
 use Rattle.fz_strict.specs.Clauses.{look_takings}
 use Rattle.fz_strict.proofs.Outcomes.{always, given_past, kept_same, ok_weaker, refilled_len, refused_tells, short_block, short_defined, short_limit, short_past, short_takes, told_weaker}
 use Rattle.fz_strict.proofs.ReadHdus.{look_reads}

@@ -9,12 +9,12 @@ use Rattle.fz_base.specs.declared.failure.Stop.{Stop}
 use Rattle.fz_files.specs.Buffers.{job_bound}
 use Rattle.fz_files.specs.declared.job.Job.TheVariants.{Unpack, Verify}
 use Rattle.fz_job.specs.Clauses.{TellsFirstFault, greatest_bound}
-use Rattle.fz_stages.specs.Stages.{HasLargest}
-use Rattle.fz_survey.specs.Surveys.{survey_takings}
-use Rattle.fz_survey.specs.declared.checks.JobChecks.TheVariants.{Unpack as UnpackChecks}
-use Rattle.fz_survey.specs.declared.survey.Survey.{Survey}
+use Rattle.fz_job.specs.Stages.{HasLargest}
+use Rattle.fz_job.specs.Surveys.{survey_takings}
+use Rattle.fz_job.specs.declared.checks.JobChecks.TheVariants.{Unpack as UnpackChecks}
+use Rattle.fz_job.specs.declared.survey.Survey.{Survey}
 use Rattle.fz_strict.specs.Clauses.{AnswersStrict, HasStrictCause, IsStrictAsSaid, look_takings, strict_buffers, strict_takings}
-use Rattle.fz_strict.specs.Reads.{ReadsKnown}
+use Rattle.fz_compare.specs.Reads.{ReadsKnown}
 use Rattle.fz_strict.specs.Rows.{ComparesFound}
 use Rattle.fz_strict.proofs.Outcomes.{if_refused, kept_same, ok_weaker, refused_weaker}
 use Rattle.fz_strict.proofs.Promises.{Knows, answers, block_other, buffers_most, cause_of, headers_within, never_ok, compare_limit, compare_reached, compare_tells, compare_within, learnt, look_faulty, look_tells, look_within, takes_other, takings_within, tells_more, work_faulty, work_right}
@@ -163,7 +163,7 @@ returns-clause-kept g c =
     }
 
 pub returns-clause-told : goal.returns-clause-told
-returns-clause-told g c = λ told. c.compare.ensures.told (c.in_ok-survey.ensures.told told)
+returns-clause-told g c = λ told. c.compare.ensures.source.told (c.in_ok-survey.ensures.source.told told)
 
 pub returns-clause-touched : goal.returns-clause-touched
 returns-clause-touched g c =

@@ -6,8 +6,8 @@ use Rattle.fz_base.specs.declared.failure.Stop.{Stop}
 use Rattle.fz_files.specs.declared.job.Job.TheVariants.{Verify}
 use Rattle.fz_job.specs.Clauses.{ComesLate}
 use Rattle.fz_pool.specs.Window.{Pool}
-use Rattle.fz_survey.specs.Workspace.{held_bytes, wanted_buffers}
-use Rattle.fz_survey.specs.declared.workspace.Wants.{Wants}
+use Rattle.fz_job.specs.Workspace.{held_bytes, wanted_buffers}
+use Rattle.fz_job.specs.declared.workspace.Wants.{Wants}
 use Rattle.fz_strict.specs.Clauses.{strict_wants}
 use Rattle.fz_strict.specs.Rows.{ComparesFound}
 use Rattle.fz_strict.proofs.Outcomes.{always, fetched_past, fetched_takes, ok_always, short_compared, short_refuses, short_takes, short_tells}

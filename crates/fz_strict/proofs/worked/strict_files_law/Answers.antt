@@ -1,5 +1,5 @@
 -- The law, by computing.
-use Rattle.fz_strict.proofs.Same.{WalkLaws}
+use Rattle.fz_strict.specs.Taken.{WalkLaws}
 use Rattle.std.proofs.Common.{refl}
 use Rattle.fz_strict.proofs.WorkedBare.{bare_strict}
 use Rattle.fz_strict.proofs.WorkedFiles.{grid_not_strict, plain_strict, sum_stands, sum_strict}
@@ -10,16 +10,7 @@ use Rattle.fz_strict.proofs.worked.strict_files_law.Goals as goal
 
 pub returns : goal.returns
 returns c =
-    let walks : WalkLaws =
-    record {
-      headers = c.walk_law.ensures.headers;
-      whole = c.walk_law.ensures.whole;
-      pass = c.found_hdus_law.ensures.pass;
-      parts = c.hdu_list_law.ensures.walk;
-      converse = c.hdu_list_law.ensures.converse;
-      judged = c.passing_law.ensures.judged;
-      packed = c.packed_hdu_law.ensures.packed;
-    } in
+    let walks : WalkLaws = c.walk_laws.ensures in
     record {
       bare = bare_strict c.restored_file_law.ensures.copies c.packed_file_law.ensures.copies;
       packed = plain_strict c.plain_file_law.ensures.restored c.plain_file_law.ensures.file;

@@ -3,7 +3,7 @@ use Rattle.std.proofs.Common.{◌≡◌, ◌≤◌, sym, ap, ◌∙◌, subst, a
 use Rattle.fz_grid.specs.Region.{lengths_of}
 use Rattle.fz_grid.specs.Sieve.{IsSieveOf, sieve_lengths}
 use Rattle.fz_grid.specs.declared.sieve.Sieve.{Sieve}
-use Rattle.fz_parts.specs.Cutout.{Sifts}
+use Rattle.fz_grid.specs.Cutout.{Sifts}
 use Rattle.fz_view.specs.Boxes.{sieve_in}
 use Rattle.fz_view.proofs.BoxParts.{lasts_all, lasts_more}
 use Rattle.fz_view.proofs.boxes.sieve_of.Goals as goal

@@ -10,7 +10,9 @@ use Rattle.fz_grid.specs.declared.sieving.SieveTiles.{SieveTiles}
 use Rattle.fz_files.specs.Packed.{pixel_bits}
 use Rattle.fz_files.specs.Touched.{touched_by}
 use Rattle.fz_files.specs.declared.job.Job.TheVariants.{Unpack}
+use Rattle.fz_fetch.specs.Rows.{StandsWithin}
 use Rattle.fz_view.specs.Boxes.{HasBox, HasPart}
+use Rattle.fz_view.specs.Laws.{IsKnownImage}
 use Rattle.fz_view.specs.Marked.{AreMarks, table_in}
 use Rattle.fz_view.proofs.Filled.{IsTileWithPick, all_filled, both_read, first_left, never_ok, none_filled, none_read, one_filled, tiles_of_grid, tiles_with_pick}
 use Rattle.fz_view.proofs.filling.fill_band.Goals as goal
@@ -54,12 +56,12 @@ loop-tile-preserved g c =
     let put : IfSome held (λ f. HasPart f h i.plan sieve c.in-Some.tile c.loop-tile.space.band new.space.band) =
     subst (λ (l : Option (List ℕ)). IfSome l (λ f. HasPart f h i.plan sieve c.in-Some.tile c.loop-tile.space.band new.space.band)) old.held one.placed in
     record {
-      held = one.source.held_is ∙ old.held;
-      attached = one.source.attached_is ∙ old.attached;
-      reads = one.cause.ok ∙ old.reads;
-      told_ranges = λ told. one.told (old.told_ranges told);
+      held = one.stays.source.held_is ∙ old.held;
+      attached = one.stays.source.attached_is ∙ old.attached;
+      reads = one.stays.cause.ok ∙ old.reads;
+      told_ranges = λ told. one.stays.source.told (old.told_ranges told);
       read = both_read c.ranges_law.ensures.join held (touched_by Unpack) (g.S.Source.ranges c.args.source.now) (g.S.Source.ranges c.loop-tile.source) (g.S.Source.ranges new.source) old.read
-          (subst (λ (l : Option (List ℕ)). IfSome l (λ f. LogsIn (touched_by Unpack f) (g.S.Source.ranges c.loop-tile.source) (g.S.Source.ranges new.source))) old.held one.read);
+          (subst (λ (l : Option (List ℕ)). IfSome l (λ f. LogsIn (touched_by Unpack f) (g.S.Source.ranges c.loop-tile.source) (g.S.Source.ranges new.source))) old.held one.stays.read);
       space = record {
         block = one.space.block ∙ old.space.block;
         header = one.space.header ∙ old.space.header;
@@ -76,14 +78,24 @@ loop-tile-preserved g c =
 pub sieve_tiles-tile-items-requires : goal.sieve_tiles-tile-items-requires
 sieve_tiles-tile-items-requires g c = subst (λ (s : Axes). IsSieveOf s c.sieve_of-sieve.result) (sym c.new-grid.ensures.shape) c.sieve_of-sieve.ensures.sieve
 
-pub put_tile-requires-clause-sieve : goal.put_tile-requires-clause-sieve
-put_tile-requires-clause-sieve g c = c.sieve_of-sieve.ensures.sieve
-
-pub put_tile-requires-clause-room : goal.put_tile-requires-clause-room
-put_tile-requires-clause-room g c =
-    let bytes : ℕ = pixel_bits c.args.image.now.plan / 8 in
-    subst (λ n. bytes * product (sieve_lengths c.sieve_of-sieve.result) ≤ n) (sym c.loop-tile.invariant.space.band)
-    (subst (λ (l : List ℕ). bytes * product l ≤ length c.args.space.now.band) (sym c.sieve_of-sieve.ensures.lengths) c.requires.region.fits)
+pub put_tile-requires-clause-tile : goal.put_tile-requires-clause-tile
+put_tile-requires-clause-tile g c =
+    let h = c.args.header.now in
+    let image = c.args.image.now in
+    let bytes : ℕ = pixel_bits image.plan / 8 in
+    let sieve = c.sieve_of-sieve.result in
+    let old = c.loop-tile.invariant in
+    let here = first_left (IsTileWithPick image.plan sieve) c.in-Some.tile (sieve_tiles_left c.loop-tile.tile-iterator) (sieve_tiles_left c.next.new.self) c.in-Some.ensures.steps old.picked in
+    record {
+      readable = c.requires.image;
+      within = subst (λ (a : Option ℕ). StandsWithin a image.table) (sym old.attached) c.requires.within;
+      known = subst (λ (l : Option (List ℕ)). IfSome l (λ f. IsKnownImage f h image)) (sym old.held) c.requires.known;
+      sieve_of = c.sieve_of-sieve.ensures.sieve;
+      number = here.0.0;
+      picked = here.0.1;
+      room = subst (λ n. bytes * product (sieve_lengths sieve) ≤ n) (sym old.space.band)
+          (subst (λ (l : List ℕ). bytes * product l ≤ length c.args.space.now.band) (sym c.sieve_of-sieve.ensures.lengths) c.requires.region.fits);
+    }
 
 pub put_tile-requires-clause-marks : goal.put_tile-requires-clause-marks
 put_tile-requires-clause-marks g c =
@@ -100,7 +112,7 @@ returns-in_err-put_tile-clause-read g c =
     let held : Option (List ℕ) = g.S.Source.held c.args.source.now in
     let old = c.loop-tile.invariant in
     both_read c.ranges_law.ensures.join held (touched_by Unpack) (g.S.Source.ranges c.args.source.now) (g.S.Source.ranges c.loop-tile.source) (g.S.Source.ranges c.put_tile.new.source) old.read
-    (subst (λ (l : Option (List ℕ)). IfSome l (λ f. LogsIn (touched_by Unpack f) (g.S.Source.ranges c.loop-tile.source) (g.S.Source.ranges c.put_tile.new.source))) old.held c.in_err-put_tile.ensures.read)
+    (subst (λ (l : Option (List ℕ)). IfSome l (λ f. LogsIn (touched_by Unpack f) (g.S.Source.ranges c.loop-tile.source) (g.S.Source.ranges c.put_tile.new.source))) old.held c.in_err-put_tile.ensures.stays.read)
 
 pub returns-clause-filled : goal.returns-clause-filled
 returns-clause-filled g c =

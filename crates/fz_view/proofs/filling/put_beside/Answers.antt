@@ -8,30 +8,34 @@ use Rattle.fz_view.proofs.Marking.{marks_of_numbers, marks_of_table, table_after
 use Rattle.fz_view.proofs.Stretches.{front_room}
 use Rattle.fz_view.proofs.filling.put_beside.Goals as goal
 
-pub put_part-requires-clause-numbers : goal.put_part-requires-clause-numbers
-put_part-requires-clause-numbers g c =
-    let p = c.args.image.now.plan in
+pub put_part-requires-clause-rooms : goal.put_part-requires-clause-rooms
+put_part-requires-clause-rooms g c =
+    let p = c.args.tile.now.image.now.plan in
     let old : List ℤ = c.args.numbers.now in
     let front : length c.split_at_mut-front.result.0.now ≡ table_place p.codec (length old) = c.split_at_mut-front.ensures.front_len ∙ c.table_at-at.ensures.place in
-    subst (λ n. place_count (pixel_bits p) (pixels_of p 0) ≤ n) (sym front) (front_room p.codec p.bitpix (pixels_of p 0) (length old) c.requires.image.codec c.requires.numbers)
+    record {
+      numbers_fit = subst (λ n. place_count (pixel_bits p) (pixels_of p 0) ≤ n) (sym front)
+          (front_room p.codec p.bitpix (pixels_of p 0) (length old) c.requires.tile.readable.codec c.requires.numbers);
+      code_fits = c.requires.code;
+    }
 
 pub put_part-requires-clause-marks : goal.put_part-requires-clause-marks
 put_part-requires-clause-marks g c =
-    let p = c.args.image.now.plan in
+    let p = c.args.tile.now.image.now.plan in
     let old : List ℤ = c.args.numbers.now in
     let table : c.split_at_mut-front.result.1.now ≡ table_in p.codec old = c.split_at_mut-front.ensures.back ∙ ap (λ k. drop k old) c.table_at-at.ensures.place in
-    marks_of_table (g.S.Source.held c.args.source.now) c.args.header.now p.codec old c.split_at_mut-front.result.1.now table c.requires.marks
+    marks_of_table (g.S.Source.held c.args.source.now) c.args.tile.now.header.now p.codec old c.split_at_mut-front.result.1.now table c.requires.marks
 
 pub returns-clause-marks : goal.returns-clause-marks
 returns-clause-marks g c =
-    let p = c.args.image.now.plan in
+    let p = c.args.tile.now.image.now.plan in
     let old : List ℤ = c.args.numbers.now in
     let front : List ℤ = c.put_part.new.numbers in
     let table : List ℤ = c.put_part.new.table in
     let split = c.split_at_mut-front.ensures in
     let front_long : length front ≡ c.table_at-at.result = c.put_part.ensures.numbers ∙ split.front_len in
     let long : length (front ++ table) ≡ length old = omega (arith, length-append front table, front_long, c.put_part.ensures.table, split.back_len) in
-    marks_of_numbers (g.S.Source.held c.args.source.now) c.args.header.now p.codec (front ++ table) table
+    marks_of_numbers (g.S.Source.held c.args.source.now) c.args.tile.now.header.now p.codec (front ++ table) table
     (table_after p.codec old front table (front ++ table) c.table_at-at.result refl long front_long c.table_at-at.ensures.place) c.put_part.ensures.marks
 
 pub returns-clause-numbers : goal.returns-clause-numbers
@@ -40,3 +44,6 @@ returns-clause-numbers g c =
     let table : List ℤ = c.put_part.new.table in
     let split = c.split_at_mut-front.ensures in
     omega (arith, length-append front table, c.put_part.ensures.numbers, c.put_part.ensures.table, split.front_len, split.back_len)
+
+pub put_part-requires-clause-tile : goal.put_part-requires-clause-tile
+put_part-requires-clause-tile g c = c.requires.tile

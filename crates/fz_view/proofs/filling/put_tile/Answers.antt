@@ -3,6 +3,9 @@ use Rattle.std.proofs.Common.{◌≡◌, ℕ, ◌*◌, ◌+◌, ◌/◌, ◌≤�
 use Rattle.fz_view.specs.Boxes.{HasPart}
 use Rattle.fz_view.specs.Marked.{AreMarks, table_in}
 use Rattle.fz_view.proofs.ReadAgain.{given_back}
+use Rattle.fz_files.specs.Packed.{pixel_bits}
+use Rattle.fz_grid.specs.Arrays.{product}
+use Rattle.fz_grid.specs.Sieve.{sieve_lengths}
 use Rattle.fz_view.proofs.filling.put_tile.Goals as goal
 
 pub put_beside-requires-clause-marks : goal.put_beside-requires-clause-marks
@@ -43,4 +46,18 @@ returns-clause-space g c =
       numbers = ap length (given_back space.numbers new.numbers numbers) ∙ numbers;
       code = ap length (given_back space.code new.code code) ∙ code;
       band = ap length (given_back space.band new.band band) ∙ band;
+    }
+
+pub put_beside-requires-clause-tile : goal.put_beside-requires-clause-tile
+put_beside-requires-clause-tile g c =
+    let p = c.args.image.now.plan in
+    let can = c.requires.tile in
+    record {
+      readable = can.readable;
+      within = can.within;
+      known = can.known;
+      sieve_of = can.sieve_of;
+      number = can.number;
+      picked = can.picked;
+      room = subst (λ (l : List ℕ). pixel_bits p / 8 * product (sieve_lengths c.args.sieve.now) ≤ length l) (sym c.as_mut_slice-band.ensures.value) can.room;
     }

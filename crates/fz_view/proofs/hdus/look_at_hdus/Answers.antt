@@ -13,8 +13,8 @@ use Rattle.fz_files.specs.FirstFault.{IsFirstRowFault, all_rows}
 use Rattle.fz_files.specs.Restored.{is_packed_primary}
 use Rattle.fz_files.specs.Touched.{data_touched}
 use Rattle.fz_files.specs.declared.job.Job.TheVariants.{Unpack}
-use Rattle.fz_again.specs.Again.{ReadsAsSeen, is_empty_primary, was_primary_image}
-use Rattle.fz_again.specs.Hdus.{ReadsHdus}
+use Rattle.fz_job.specs.Again.{ReadsAsSeen, is_empty_primary, was_primary_image}
+use Rattle.fz_job.specs.Hdus.{ReadsHdus}
 use Rattle.fz_view.specs.Looked.{IsFaultAmong, IsHduLooked, with_counted}
 use Rattle.fz_view.specs.declared.hdus.Counted.{Counted}
 use Rattle.fz_view.specs.declared.hdus.Seen.{Seen}
@@ -30,7 +30,6 @@ loop-hdu-init g c = record {
   attached = refl;
   reads = refl;
   told_ranges = λ told. told;
-  block = c.requires.block;
   space = record { header = refl; translated = refl; copy = refl };
   window = record { sizes = refl; workers = refl };
   within = λ more. inr (refl, refl);
@@ -161,8 +160,7 @@ loop-hdu-preserved g c =
       held = search rules;
       attached = search rules;
       reads = search rules;
-      told_ranges = λ told. c.in_ok-counted.ensures.told_ranges (c.in_ok-again.ensures.told (old.told_ranges told));
-      block = c.in_ok-again.ensures.block;
+      told_ranges = λ told. c.in_ok-counted.ensures.source.told (c.in_ok-again.ensures.source.told (old.told_ranges told));
       space = record {
         header = omega (arith, c.in_ok-counted.ensures.space.header, old.space.header, c.in_ok-again.ensures.buf, length-take {A = ℕ}, length-append {A = ℕ}, length-drop {A = ℕ});
         translated = c.in_ok-counted.ensures.space.translated ∙ old.space.translated;

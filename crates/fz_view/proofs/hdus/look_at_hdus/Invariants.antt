@@ -1,10 +1,10 @@
 -- The HDUs so far are looked at; the source, the buffers and the counts are as at the start.
 use Rattle.std.proofs.Common.{◌≡◌, ◌+◌, ◌*◌, ◌^◌, ◌<◌, ◌≤◌, ◌⊎◌, true, length, IfSome}
 use Rattle.fz_base.specs.Told.{StaysTold}
-use Rattle.fz_survey.specs.Workspace.{SpaceStays}
-use Rattle.fz_job.specs.Keeps.{WindowStays}
-use Rattle.fz_again.specs.Hdus.{ReadsHdus}
+use Rattle.fz_job.specs.Workspace.{SpaceStays}
+use Rattle.fz_job.specs.Hdus.{ReadsHdus}
 use Rattle.fz_files.specs.declared.job.Job.TheVariants.{Unpack}
+use Rattle.fz_pool.specs.Window.{WindowStays}
 use Rattle.fz_view.proofs.Looking.{BeginsNear, IsLooking}
 use Rattle.fz_view.proofs.hdus.look_at_hdus.Given as goal
 
@@ -14,7 +14,6 @@ invariant-loop-hdu g l = record {
   attached : g.S.Source.attached l.source ≡ g.S.Source.attached l.fn.source;
   reads : g.S.Source.tally l.source ≡ g.S.Source.tally l.fn.source;
   told_ranges : StaysTold (g.S.Source.ranges l.fn.source) (g.S.Source.ranges l.source);
-  block : length l.block ≡ 2880;
   space : SpaceStays l.fn.space l.space;
   window : WindowStays l.fn.window l.window;
   within : l.hdu < l.survey.hdus → (l.start < l.length) ⊎ ((l.hdu ≡ 0) × (l.start ≡ 0));

@@ -3,9 +3,9 @@ use Rattle.std.proofs.Common.{◌≡◌, ℕ, List, length, Option, IfSome, Resu
 use Rattle.fz_base.specs.Source.{HoldsLength}
 use Rattle.fz_base.specs.Stop.{IfRefused}
 use Rattle.fz_base.specs.declared.failure.Stop.{Stop}
-use Rattle.fz_again.specs.Again.{ReadsAsSeen, header_at_front}
+use Rattle.fz_job.specs.Again.{ReadsAsSeen, header_at_front}
 use Rattle.fz_head.specs.Conditions.{IsPackedPlan}
-use Rattle.fz_fetch.specs.Images.{IsReadable}
+use Rattle.fz_job.specs.Images.{IsReadable}
 use Rattle.fz_view.specs.Begins.{IsReadHere, IsToldHere}
 use Rattle.fz_view.specs.declared.here.Here.{Here}
 use Rattle.fz_view.proofs.Filled.{never_ok}
@@ -19,14 +19,14 @@ here_for-here-requires-clause-near g c = c.in_ok-read.ensures.again.near
 pub here_for-here-requires-clause-image : goal.here_for-here-requires-clause-image
 here_for-here-requires-clause-image g c =
     let a = c.in_ok-read.read in
-    let long : length c.read_again.new.buf ≡ length c.args.space.now.header = c.in_ok-read.ensures.buf ∙ ap length c.as_mut_slice-2.ensures.value in
+    let long : length c.read_again.new.buf ≡ length c.args.space.now.header = c.in_ok-read.ensures.buf ∙ ap length c.as_mut_slice.ensures.value in
     let same : c.read_again.new.buf ≡ c.as_slice-buf.result.now = sym (c.as_slice-buf.ensures ∙ given_back c.args.space.now.header c.read_again.new.buf long) in
     subst (λ (buf : List ℕ). IfSome a.image (λ i. IsPackedPlan (header_at_front a buf) a.header i.plan × IsReadable i)) same (can_make (header_at_front a c.read_again.new.buf) a.header c.args.length a.image c.in_ok-read.ensures.again.usable)
 
 pub returns-clause-read : goal.returns-clause-read
 returns-clause-read g c =
     let a = c.in_ok-read.read in
-    let long : length c.read_again.new.buf ≡ length c.args.space.now.header = c.in_ok-read.ensures.buf ∙ ap length c.as_mut_slice-2.ensures.value in
+    let long : length c.read_again.new.buf ≡ length c.args.space.now.header = c.in_ok-read.ensures.buf ∙ ap length c.as_mut_slice.ensures.value in
     let same : c.read_again.new.buf ≡ c.as_slice-buf.result.now = sym (c.as_slice-buf.ensures ∙ given_back c.args.space.now.header c.read_again.new.buf long) in
     let w = c.in_ok-read.ensures in
     let b = c.args.begin.now in
@@ -39,7 +39,7 @@ returns-clause-read g c =
 pub returns-clause-told : goal.returns-clause-told
 returns-clause-told g c =
     let a = c.in_ok-read.read in
-    let long : length c.read_again.new.buf ≡ length c.args.space.now.header = c.in_ok-read.ensures.buf ∙ ap length c.as_mut_slice-2.ensures.value in
+    let long : length c.read_again.new.buf ≡ length c.args.space.now.header = c.in_ok-read.ensures.buf ∙ ap length c.as_mut_slice.ensures.value in
     let same : c.read_again.new.buf ≡ c.as_slice-buf.result.now = sym (c.as_slice-buf.ensures ∙ given_back c.args.space.now.header c.read_again.new.buf long) in
     let w = c.in_ok-read.ensures in
     let s = c.args.survey.now in
@@ -49,7 +49,7 @@ returns-clause-told g c =
     let held : Option (List ℕ) = g.S.Source.held c.args.source.now in
     let told : HoldsLength held c.args.length = g.met.S.Source.agrees c.args.source.now c.args.length c.requires.attached in
     let seen : IfSome held (λ f. ReadsAsSeen f b.hdu b.start b.after_empty s.header_len s.tile (Ok a)) =
-    subst (λ n. IfSome held (λ f. ReadsAsSeen f b.hdu b.start b.after_empty n s.tile (Ok a))) (ap length c.as_mut_slice-2.ensures.value ∙ c.requires.header) w.as_seen in
+    subst (λ n. IfSome held (λ f. ReadsAsSeen f b.hdu b.start b.after_empty n s.tile (Ok a))) (ap length c.as_mut_slice.ensures.value ∙ c.requires.header) w.as_seen in
     let made_long : length c.here_for-here.new.made ≡ length c.args.space.now.translated = done.len ∙ ap length c.as_mut_slice-made.ensures.value in
     subst (λ (made : List ℕ). IfSome held (λ f. IsToldHere f made h)) (sym (given_back c.args.space.now.translated c.here_for-here.new.made made_long))
     (told_here c.places_law.ensures.found s c.args.plain_size b c.read_again.new.buf c.here_for-here.new.made a h done.read.0 done.read.1 done.read.2 done.copied (image_again a h b.after_empty b.at c.as_slice-buf.result.now c.read_again.new.buf (sym same) done.image)
@@ -58,7 +58,7 @@ returns-clause-told g c =
 pub returns-then-here-plain_size-clause-never : goal.returns-then-here-plain_size-clause-never
 returns-then-here-plain_size-clause-never g c =
     let a = c.in_ok-read.read in
-    let long : length c.read_again.new.buf ≡ length c.args.space.now.header = c.in_ok-read.ensures.buf ∙ ap length c.as_mut_slice-2.ensures.value in
+    let long : length c.read_again.new.buf ≡ length c.args.space.now.header = c.in_ok-read.ensures.buf ∙ ap length c.as_mut_slice.ensures.value in
     let same : c.read_again.new.buf ≡ c.as_slice-buf.result.now = sym (c.as_slice-buf.ensures ∙ given_back c.args.space.now.header c.read_again.new.buf long) in
     let w = c.in_ok-read.ensures in
     let s = c.args.survey.now in
@@ -69,7 +69,7 @@ returns-then-here-plain_size-clause-never g c =
     let held : Option (List ℕ) = g.S.Source.held c.args.source.now in
     let told : HoldsLength held c.args.length = g.met.S.Source.agrees c.args.source.now c.args.length c.requires.attached in
     let seen : IfSome held (λ f. ReadsAsSeen f b.hdu b.start b.after_empty s.header_len s.tile (Ok a)) =
-    subst (λ n. IfSome held (λ f. ReadsAsSeen f b.hdu b.start b.after_empty n s.tile (Ok a))) (ap length c.as_mut_slice-2.ensures.value ∙ c.requires.header) w.as_seen in
+    subst (λ n. IfSome held (λ f. ReadsAsSeen f b.hdu b.start b.after_empty n s.tile (Ok a))) (ap length c.as_mut_slice.ensures.value ∙ c.requires.header) w.as_seen in
     never_past c.places_law.ensures.found s c.args.plain_size b c.read_again.new.buf c.here_for-here.new.made a h done.read.0 done.read.1 done.read.2 done.copied (image_again a h b.after_empty b.at c.as_slice-buf.result.now c.read_again.new.buf (sym same) done.image)
     Here stop held c.args.length told c.requires.told w.again seen w.found (omega arith)
 
@@ -80,7 +80,7 @@ returns-in_err-read-clause-never g c =
     let stop : Stop = c.in_err-read.field-0.0 in
     let held : Option (List ℕ) = g.S.Source.held c.args.source.now in
     let seen : IfSome held (λ f. ReadsAsSeen f b.hdu b.start b.after_empty s.header_len s.tile (Err stop)) =
-    subst (λ n. IfSome held (λ f. ReadsAsSeen f b.hdu b.start b.after_empty n s.tile (Err stop))) (ap length c.as_mut_slice-2.ensures.value ∙ c.requires.header) c.in_err-read.ensures.as_seen in
+    subst (λ n. IfSome held (λ f. ReadsAsSeen f b.hdu b.start b.after_empty n s.tile (Err stop))) (ap length c.as_mut_slice.ensures.value ∙ c.requires.header) c.in_err-read.ensures.as_seen in
     let stopped : c.from_residual.result ≡ Err stop = search rules in
     subst (λ (r : Result Here Stop). IfSome held (λ f. IfRefused r (λ x. ⊥))) (sym stopped) (never_unread c.places_law.ensures.read s c.args.plain_size b stop held c.requires.told seen)
 

@@ -12,7 +12,7 @@ use Rattle.fz_files.specs.Buffers.{job_bound}
 use Rattle.fz_files.specs.Touched.{touched_by}
 use Rattle.fz_files.specs.declared.job.Job.TheVariants.{Unpack}
 use Rattle.fz_job.specs.Clauses.{HasJobCause, greatest_bound}
-use Rattle.fz_stages.specs.Stages.{Works, later_takings}
+use Rattle.fz_job.specs.Stages.{Works, later_takings}
 use Rattle.fz_view.specs.Found.{looked_with}
 use Rattle.fz_view.specs.Looked.{IsLooked, IsLookFault, IsSoundLook}
 use Rattle.fz_view.specs.Looks.{live_after}

@@ -1,17 +1,17 @@
 -- The first look stops, or knows the file, and then the look at the rows says the rest.
-use Rattle.std.proofs.Common.{◌≡◌, ℕ, ◌+◌, ◌≤◌, max, List, Option, None, IfSome, Result, Err, sum, refl, sym, ◌∙◌, subst, rules, arith}
+use Rattle.std.proofs.Common.{◌≡◌, ℕ, ◌+◌, ◌≤◌, max, List, Option, None, IfSome, Result, Err, length, sum, refl, sym, ◌∙◌, subst, rules, arith}
 use Rattle.std.specs.Prelude.{IfOk, OnOk}
 use Rattle.fz_base.specs.Counts.{uncounted}
 use Rattle.fz_base.specs.Stop.{IfRefused, TellsLimit}
 use Rattle.fz_base.specs.Takings.{TellsFirstPast, first_past, highest, piled}
 use Rattle.fz_base.specs.declared.failure.Stop.{Stop}
 use Rattle.fz_files.specs.declared.job.Job.TheVariants.{Unpack}
-use Rattle.fz_survey.specs.Surveys.{survey_takings}
-use Rattle.fz_survey.specs.Workspace.{wanted_buffers}
-use Rattle.fz_survey.specs.declared.checks.JobChecks.TheVariants.{Unpack as UnpackChecks}
+use Rattle.fz_job.specs.Surveys.{survey_takings}
+use Rattle.fz_job.specs.Workspace.{wanted_buffers}
+use Rattle.fz_job.specs.declared.checks.JobChecks.TheVariants.{Unpack as UnpackChecks}
 use Rattle.fz_job.specs.Clauses.{greatest_bound}
-use Rattle.fz_stages.specs.Stages.{Works, later_takings, wants_for}
-use Rattle.fz_again.specs.Hdus.{ReadsHdus}
+use Rattle.fz_job.specs.Stages.{Works, later_takings, wants_for}
+use Rattle.fz_job.specs.Hdus.{ReadsHdus}
 use Rattle.fz_view.specs.Looked.{IsFaultAmong, IsLookFault, IsSeen}
 use Rattle.fz_view.specs.declared.whole_look.Found.{Found}
 use Rattle.fz_view.proofs.HduReads.{all_read, look_read}
@@ -80,10 +80,13 @@ returns-clause-looked g c =
     let s = c.in_ok-survey.survey in
     let exact : IfSome held (Knows s) = c.in_ok-survey.ensures.exact in
     let seen : IfOk c.with_survey.result (λ (f : Found). IfSome held (λ file. IsSeen file s f.seen)) = rw same at c.with_survey.ensures.seen in
-    work_looked (c.known_law.ensures.know Unpack tt) s c.first_fault_law.ensures.only held c.args.length c.with_survey.new.block c.with_survey.result exact seen c.with_survey.ensures.sound
+    let whole : length c.survey_to_unpack.new.block ≡ 2880 = search rules in
+    work_looked (c.known_law.ensures.know Unpack tt) s c.first_fault_law.ensures.only held c.args.length c.survey_to_unpack.new.block whole c.with_survey.result exact seen c.with_survey.ensures.sound
 
 pub returns-clause-sound : goal.returns-clause-sound
-returns-clause-sound g c = work_sound (c.known_law.ensures.know Unpack tt) c.in_ok-survey.survey c.args.length c.with_survey.new.block c.with_survey.result c.with_survey.ensures.sound
+returns-clause-sound g c =
+    let whole : length c.survey_to_unpack.new.block ≡ 2880 = search rules in
+    work_sound (c.known_law.ensures.know Unpack tt) c.in_ok-survey.survey c.args.length c.survey_to_unpack.new.block whole c.with_survey.result c.with_survey.ensures.sound
 
 pub returns-clause-first_fault : goal.returns-clause-first_fault
 returns-clause-first_fault g c =

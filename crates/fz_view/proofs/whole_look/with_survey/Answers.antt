@@ -5,10 +5,10 @@ use Rattle.fz_base.specs.Stop.{IfRefused, stop_of_short}
 use Rattle.fz_base.specs.Takings.{TellsFirstPast, piled}
 use Rattle.fz_base.specs.declared.failure.Stop.{Stop}
 use Rattle.fz_pool.specs.Window.{Pool, slot_sizes}
-use Rattle.fz_survey.specs.Workspace.{held_bytes, wanted_buffers}
-use Rattle.fz_survey.specs.declared.workspace.Wants.{Wants}
+use Rattle.fz_job.specs.Workspace.{held_bytes, wanted_buffers}
+use Rattle.fz_job.specs.declared.workspace.Wants.{Wants}
 use Rattle.fz_files.specs.declared.job.Job.TheVariants.{Unpack}
-use Rattle.fz_stages.specs.Stages.{Works, wants_for}
+use Rattle.fz_job.specs.Stages.{Works, wants_for}
 use Rattle.fz_view.specs.Looked.{IsFaultAmong}
 use Rattle.fz_view.specs.declared.hdus.Seen.{Seen}
 use Rattle.fz_view.specs.declared.whole_look.Found.{Found}
@@ -117,7 +117,7 @@ returns-in-Ok-clause-seen g c = seen_with c.args.survey.now c.in-Ok.seen (g.S.So
 
 pub returns-in-Ok-clause-sound : goal.returns-in-Ok-clause-sound
 returns-in-Ok-clause-sound g c =
-    sound_with c.args.survey.now c.in-Ok.seen c.args.length c.look_at_hdus.new.block c.look_at_hdus.ensures.block c.requires.some c.requires.few c.in-Ok.ensures.short
+    sound_with c.args.survey.now c.in-Ok.seen c.args.length c.requires.long c.requires.some c.requires.few c.in-Ok.ensures.short
     c.in-Ok.ensures.first.0 c.in-Ok.ensures.first.1 c.in-Ok.ensures.first.2 c.exchange.result c.exchange.ensures.found
 
 pub returns-in-Ok-clause-fault : goal.returns-in-Ok-clause-fault

@@ -1,13 +1,17 @@
 -- The box of before has the pixel, or another box is filled.
-use Rattle.std.proofs.Common.{ℕ, ◌/◌, ◌≤◌, length, sym, subst, arith}
+use Rattle.std.proofs.Common.{◌≡◌, ℕ, ◌/◌, ◌≤◌, Err, length, refl, sym, subst, arith, rules}
+use Rattle.fz_base.specs.declared.failure.Failed.{Failed}
 use Rattle.fz_grid.specs.Arrays.{product}
 use Rattle.fz_grid.specs.Region.{region_lengths}
+use Rattle.fz_grid.specs.declared.region.Region.{Region}
 use Rattle.fz_files.specs.Packed.{pixel_bits}
-use Rattle.fz_fetch.specs.Images.{IsReadable}
+use Rattle.fz_job.specs.Images.{IsReadable}
 use Rattle.fz_view.specs.Boxes.{LiesInImage}
+use Rattle.fz_view.specs.Views.{with_more}
 use Rattle.fz_view.proofs.Boxing.{all_fit, boxed_shown, one_fits}
 use Rattle.fz_view.proofs.Imaging.{image_read}
 use Rattle.fz_view.proofs.Somes.{if_some}
+use Rattle.fz_view.proofs.Tallies.{cause_since, first_since}
 use Rattle.fz_view.proofs.view.PlainView.box_with.Goals as goal
 
 pub has_pixel-requires : goal.has_pixel-requires
@@ -75,3 +79,17 @@ returns-clause-lies g c =
       within = c.box_at-region.ensures.within;
       fits = all_fit (length v.space.band) c.pixel_len.result (pixel_bits i.plan / 8) count c.pixel_len.ensures.len (subst (λ n. count ≤ n / c.pixel_len.result) c.len.ensures c.box_at-region.ensures.fits);
     })
+
+-- why it was not filled is why there is none
+pub returns-in_err-fill-clause-cause : goal.returns-in_err-fill-clause-cause
+returns-in_err-fill-clause-cause g c =
+    let v = c.args.self.now in
+    let new = c.fill.new.self in
+    let before = with_more (g.S.Source.tally v.inner.now) v.more in
+    let failed : Failed = c.in_err-fill.field-0.0 in
+    let stopped : c.from_residual.result ≡ Err failed = search rules in
+    record {
+      counts = cause_since (Unit {0}) Region before before (with_more (g.S.Source.tally new.inner.now) new.more) failed c.from_residual.result stopped refl
+          c.in_err-fill.ensures.cause.counts;
+      first = first_since (Unit {0}) Region v.later v.later new.later failed c.from_residual.result stopped refl c.in_err-fill.ensures.cause.first;
+    }

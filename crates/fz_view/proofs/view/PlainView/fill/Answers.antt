@@ -1,9 +1,9 @@
 -- The band has the box, or why a tile was not read is kept.
-use Rattle.std.proofs.Common.{◌≡◌, ℕ, List, Option, ◌∙◌, arith}
+use Rattle.std.proofs.Common.{◌≡◌, ℕ, List, Option, refl, ◌∙◌, arith, rules}
 use Rattle.fz_base.specs.declared.failure.Stop.{Stop}
-use Rattle.fz_fetch.specs.Images.{IsReadable}
+use Rattle.fz_job.specs.Images.{IsReadable}
 use Rattle.fz_view.proofs.Imaging.{image_known, image_read}
-use Rattle.fz_view.proofs.Keeping.{boxed_at_hand, failures_kept, failures_stop, known_boxed, known_unboxed, late_row, reads_kept, refusals_kept, refusals_stop, room_filled, unboxed_at_hand}
+use Rattle.fz_view.proofs.Keeping.{boxed_at_hand, bytes_filled, failures_kept, failures_stop, known_boxed, known_unboxed, late_row, reads_kept, refusals_kept, refusals_stop, room_filled, unboxed_at_hand}
 use Rattle.fz_view.proofs.Keeping.{first_kept}
 use Rattle.fz_view.proofs.Marking.{marks_filled, marks_shown}
 use Rattle.fz_view.proofs.Same.{failures_same, fits_same, octets_same, refusals_same}
@@ -62,10 +62,20 @@ invariant_of-self g c =
       marks = marks_filled held held' same v.here c.args.here.now c.args.image.now new.space.numbers c.requires.here c.requires.image done.marks;
       fits = fits_same held held' same v.plain_len v.fits;
       octets = octets_same held held' same v.octets;
-      reads = reads_kept c.ranges_law.ensures.join held held' (g.S.Source.ranges v.start.value) (g.S.Source.ranges v.inner.now) (g.S.Source.ranges new.source) same done.read done.told v.reads;
+      reads = reads_kept c.ranges_law.ensures.join held held' (g.S.Source.ranges v.start.value) (g.S.Source.ranges v.inner.now) (g.S.Source.ranges new.source) same done.read done.source.told v.reads;
       refusals = refusals_same held held' same v.later v.more v.refusals;
       failures = failures_same (g.S.Source.tally v.start.value) (g.S.Source.tally v.inner.now) (g.S.Source.tally new.source) v.failed done.cause.ok v.failures;
     }
+
+pub returns-in-Ok-clause-view : goal.returns-in-Ok-clause-view
+returns-in-Ok-clause-view g c = record {
+  name = search rules;
+  start = refl;
+  held = c.in-Ok.ensures.source.held_is;
+  plain_len = refl;
+  packed_len = refl;
+  space = bytes_filled c.args.self.now.space c.fill_band.new.space c.in-Ok.ensures.space;
+}
 
 pub invariant_of-self-in-Err : goal.invariant_of-self-in-Err
 invariant_of-self-in-Err g c =
@@ -87,19 +97,29 @@ invariant_of-self-in-Err g c =
       marks = marks_filled held held' same v.here c.args.here.now c.args.image.now new.space.numbers c.requires.here c.requires.image done.marks;
       fits = fits_same held held' same v.plain_len v.fits;
       octets = octets_same held held' same v.octets;
-      reads = reads_kept c.ranges_law.ensures.join held held' (g.S.Source.ranges v.start.value) (g.S.Source.ranges v.inner.now) (g.S.Source.ranges new.source) same done.read done.told v.reads;
+      reads = reads_kept c.ranges_law.ensures.join held held' (g.S.Source.ranges v.start.value) (g.S.Source.ranges v.inner.now) (g.S.Source.ranges new.source) same done.read done.source.told v.reads;
       refusals = refusals_kept held' stop v.later c.keep_stop.new.later v.more c.keep_stop.new.more c.keep_stop.ensures.later c.keep_stop.ensures.more
           (refusals_stop (Unit {0}) held held' stop v.later v.more same (late_row (Unit {0}) (Unit {0}) stop done.row) done.never v.refusals);
       failures = failures_kept start t1 stop v.failed c.keep_stop.new.failed c.keep_stop.ensures.failed
           (failures_stop start (g.S.Source.tally v.inner.now) t1 stop v.failed done.cause.kept done.cause.stop v.failures);
     }
 
+pub returns-in-Err-clause-view : goal.returns-in-Err-clause-view
+returns-in-Err-clause-view g c = record {
+  name = search rules;
+  start = refl;
+  held = c.in-Err.ensures.source.held_is;
+  plain_len = refl;
+  packed_len = refl;
+  space = bytes_filled c.args.self.now.space c.fill_band.new.space c.in-Err.ensures.space;
+}
+
 pub returns-in-Err-clause-cause : goal.returns-in-Err-clause-cause
 returns-in-Err-clause-cause g c =
     let v = c.args.self.now in
     let new = c.fill_band.new in
-    cause_kept (Unit {0}) (g.S.Source.tally v.inner.now) (g.S.Source.tally new.source) v.more c.keep_stop.new.more c.in-Err.stop c.keep_stop.result c.keep_stop.ensures.more c.keep_stop.ensures.answer
-    c.in-Err.ensures.cause.kept c.in-Err.ensures.cause.stop
-
-pub returns-in-Err-clause-later : goal.returns-in-Err-clause-later
-returns-in-Err-clause-later g c = first_kept (Unit {0}) c.args.self.now.later c.keep_stop.new.later c.in-Err.stop c.keep_stop.result c.keep_stop.ensures.later
+    record {
+      counts = cause_kept (Unit {0}) (g.S.Source.tally v.inner.now) (g.S.Source.tally new.source) v.more c.keep_stop.new.more c.in-Err.stop c.keep_stop.result c.keep_stop.ensures.more c.keep_stop.ensures.answer
+          c.in-Err.ensures.cause.kept c.in-Err.ensures.cause.stop;
+      first = first_kept (Unit {0}) v.later c.keep_stop.new.later c.in-Err.stop c.keep_stop.result c.keep_stop.ensures.later;
+    }

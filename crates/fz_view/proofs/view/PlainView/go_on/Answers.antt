@@ -61,8 +61,7 @@ returns-then-not-is_there-clause-cause g c =
     let v = c.args.self.now in
     let now = g.S.Source.tally v.inner.now in
     let stop : Stop = c.changed-stop.result in
-    cause_kept Here now now v.more c.keep_stop.new.more stop c.keep_stop.result c.keep_stop.ensures.more c.keep_stop.ensures.answer (kept_same now) (changed_why now stop _ c.changed-stop.ensures)
-
-pub returns-then-not-is_there-clause-later : goal.returns-then-not-is_there-clause-later
-returns-then-not-is_there-clause-later g c =
-    first_kept Here c.args.self.now.later c.keep_stop.new.later c.changed-stop.result c.keep_stop.result c.keep_stop.ensures.later
+    record {
+      counts = cause_kept Here now now v.more c.keep_stop.new.more stop c.keep_stop.result c.keep_stop.ensures.more c.keep_stop.ensures.answer (kept_same now) (changed_why now stop _ c.changed-stop.ensures);
+      first = first_kept Here v.later c.keep_stop.new.later stop c.keep_stop.result c.keep_stop.ensures.later;
+    }

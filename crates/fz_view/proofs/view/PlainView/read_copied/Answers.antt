@@ -44,14 +44,14 @@ invariant_of-self g c =
     let done = c.in-Ok.ensures in
     let held : Option (List ℕ) = g.S.Source.held v.inner.now in
     let held' : Option (List ℕ) = g.S.Source.held new.source in
-    let same : held' ≡ held = done.held in
+    let same : held' ≡ held = done.source.held_is in
     let order = (v.at_hand.read h c.requires.here).order in
     let read : IfSome held (λ f. LogsIn (touched_by Unpack f) (g.S.Source.ranges v.inner.now) (g.S.Source.ranges new.source)) =
     copy_read c.touched_law.ensures.copy c.log_law.ensures.one v.plain_len v.length _ v.survey v.first v.space v.here v.boxed h c.requires.here c.requires.copied order
     held c.args.at c.min-count.result (g.S.Source.ranges v.inner.now) (g.S.Source.ranges new.source) v.known (omega (arith, c.requires.has, c.requires.some, c.min-count.ensures)) c.requires.has.0
     (omega (arith, c.requires.has, c.min-count.ensures)) done.log in
     record {
-      is_attached = done.attached ∙ v.is_attached;
+      is_attached = done.source.attached_is ∙ v.is_attached;
       fixed = v.fixed;
       room = v.room;
       at_hand = v.at_hand;
@@ -59,7 +59,7 @@ invariant_of-self g c =
       marks = marks_same held held' same v.here v.space.numbers v.marks;
       fits = fits_same held held' same v.plain_len v.fits;
       octets = octets_same held held' same v.octets;
-      reads = reads_kept c.ranges_law.ensures.join held held' (g.S.Source.ranges v.start.value) (g.S.Source.ranges v.inner.now) (g.S.Source.ranges new.source) same read done.told v.reads;
+      reads = reads_kept c.ranges_law.ensures.join held held' (g.S.Source.ranges v.start.value) (g.S.Source.ranges v.inner.now) (g.S.Source.ranges new.source) same read done.source.told v.reads;
       refusals = refusals_same held held' same v.later v.more v.refusals;
       failures = failures_same (g.S.Source.tally v.start.value) (g.S.Source.tally v.inner.now) (g.S.Source.tally new.source) v.failed done.cause.ok v.failures;
     }
@@ -73,7 +73,7 @@ invariant_of-self-in-Err g c =
     let stop : Stop = c.reading.result in
     let held : Option (List ℕ) = g.S.Source.held v.inner.now in
     let held' : Option (List ℕ) = g.S.Source.held new.source in
-    let same : held' ≡ held = done.held in
+    let same : held' ≡ held = done.source.held_is in
     let start = g.S.Source.tally v.start.value in
     let t0 = g.S.Source.tally v.inner.now in
     let t1 = g.S.Source.tally new.source in
@@ -83,7 +83,7 @@ invariant_of-self-in-Err g c =
     held c.args.at c.min-count.result (g.S.Source.ranges v.inner.now) (g.S.Source.ranges new.source) v.known (omega (arith, c.requires.has, c.requires.some, c.min-count.ensures)) c.requires.has.0
     (omega (arith, c.requires.has, c.min-count.ensures)) done.log in
     record {
-      is_attached = done.attached ∙ v.is_attached;
+      is_attached = done.source.attached_is ∙ v.is_attached;
       fixed = v.fixed;
       room = v.room;
       at_hand = v.at_hand;
@@ -91,7 +91,7 @@ invariant_of-self-in-Err g c =
       marks = marks_same held held' same v.here v.space.numbers v.marks;
       fits = fits_same held held' same v.plain_len v.fits;
       octets = octets_same held held' same v.octets;
-      reads = reads_kept c.ranges_law.ensures.join held held' (g.S.Source.ranges v.start.value) (g.S.Source.ranges v.inner.now) (g.S.Source.ranges new.source) same read done.told v.reads;
+      reads = reads_kept c.ranges_law.ensures.join held held' (g.S.Source.ranges v.start.value) (g.S.Source.ranges v.inner.now) (g.S.Source.ranges new.source) same read done.source.told v.reads;
       refusals = refusals_kept held' stop v.later c.keep_stop.new.later v.more c.keep_stop.new.more c.keep_stop.ensures.later c.keep_stop.ensures.more
           (refusals_stop (Unit {0}) held held' stop v.later v.more same (reading_not_refused (Unit {0}) c.in-Err.failed stop (λ x. is_late x ≡ true) c.reading.ensures)
           (reading_never (Unit {0}) held c.in-Err.failed stop c.reading.ensures) v.refusals);
@@ -104,8 +104,8 @@ returns-in-Err-clause-cause g c =
     let v = c.args.self.now in
     let t0 = g.S.Source.tally v.inner.now in
     let t1 = g.S.Source.tally c.read_front.new.source in
-    cause_kept ℕ t0 t1 v.more c.keep_stop.new.more c.reading.result c.keep_stop.result c.keep_stop.ensures.more c.keep_stop.ensures.answer
-    c.in-Err.ensures.cause.kept (reading_stopped t0 t1 c.in-Err.failed c.reading.result c.reading.ensures c.in-Err.ensures.cause)
-
-pub returns-in-Err-clause-later : goal.returns-in-Err-clause-later
-returns-in-Err-clause-later g c = first_kept ℕ c.args.self.now.later c.keep_stop.new.later c.reading.result c.keep_stop.result c.keep_stop.ensures.later
+    record {
+      counts = cause_kept ℕ t0 t1 v.more c.keep_stop.new.more c.reading.result c.keep_stop.result c.keep_stop.ensures.more c.keep_stop.ensures.answer
+          c.in-Err.ensures.cause.kept (reading_stopped t0 t1 c.in-Err.failed c.reading.result c.reading.ensures c.in-Err.ensures.cause);
+      first = first_kept ℕ v.later c.keep_stop.new.later c.reading.result c.keep_stop.result c.keep_stop.ensures.later;
+    }

@@ -1,5 +1,5 @@
 -- The HDU is at hand, or why its header was not read is kept.
-use Rattle.std.proofs.Common.{◌≡◌, ℕ, List, Option, Some, None, refl, ◌∙◌}
+use Rattle.std.proofs.Common.{◌≡◌, ℕ, List, Option, Some, None, refl, ◌∙◌, rules}
 use Rattle.fz_base.specs.declared.failure.Stop.{Stop}
 use Rattle.fz_view.specs.declared.here.Here.{Here}
 use Rattle.fz_view.proofs.Keeping.{begun_of, bytes_filled, bytes_read, failures_kept, failures_stop, known_none, known_read, known_unboxed, late_changed, none_at_hand, read_at_hand, reads_kept, refusals_kept, refusals_stop, room_filled, room_read, unboxed_at_hand}
@@ -34,16 +34,23 @@ invariant_of-self g c =
       marks = marks_cleared held' (Some c.in-Ok.here) new.numbers c.forget_marks.ensures.none;
       fits = fits_same held held' same v.plain_len v.fits;
       octets = octets_same held held' same v.octets;
-      reads = reads_kept c.ranges_law.ensures.join held held' (g.S.Source.ranges v.start.value) (g.S.Source.ranges v.inner.now) (g.S.Source.ranges mid.source) same c.in-Ok.ensures.touched c.in-Ok.ensures.told_ranges v.reads;
+      reads = reads_kept c.ranges_law.ensures.join held held' (g.S.Source.ranges v.start.value) (g.S.Source.ranges v.inner.now) (g.S.Source.ranges mid.source) same c.in-Ok.ensures.touched c.in-Ok.ensures.source.told v.reads;
       refusals = refusals_same held held' same v.later v.more v.refusals;
       failures = failures_same (g.S.Source.tally v.start.value) (g.S.Source.tally v.inner.now) (g.S.Source.tally mid.source) v.failed c.in-Ok.ensures.cause.ok v.failures;
     }
 
-pub returns-in-Ok-clause-space : goal.returns-in-Ok-clause-space
-returns-in-Ok-clause-space g c =
+pub returns-in-Ok-clause-view : goal.returns-in-Ok-clause-view
+returns-in-Ok-clause-view g c =
     let v = c.args.self.now in
     let mid = c.read_begun-answer.new in
-    bytes_filled mid.space c.forget_marks.new.space c.forget_marks.ensures.space ∙ bytes_read v.space mid.space c.in-Ok.ensures.space
+    record {
+      name = search rules;
+      start = refl;
+      held = c.in-Ok.ensures.source.held_is;
+      plain_len = refl;
+      packed_len = refl;
+      space = bytes_filled mid.space c.forget_marks.new.space c.forget_marks.ensures.space ∙ bytes_read v.space mid.space c.in-Ok.ensures.space;
+    }
 
 pub invariant_of-self-in-Err : goal.invariant_of-self-in-Err
 invariant_of-self-in-Err g c =
@@ -64,19 +71,29 @@ invariant_of-self-in-Err g c =
       marks = marks_none held' new.space.numbers;
       fits = fits_same held held' same v.plain_len v.fits;
       octets = octets_same held held' same v.octets;
-      reads = reads_kept c.ranges_law.ensures.join held held' (g.S.Source.ranges v.start.value) (g.S.Source.ranges v.inner.now) (g.S.Source.ranges new.source) same c.in-Err.ensures.touched c.in-Err.ensures.told_ranges v.reads;
+      reads = reads_kept c.ranges_law.ensures.join held held' (g.S.Source.ranges v.start.value) (g.S.Source.ranges v.inner.now) (g.S.Source.ranges new.source) same c.in-Err.ensures.touched c.in-Err.ensures.source.told v.reads;
       refusals = refusals_kept held' stop v.later c.keep_stop.new.later v.more c.keep_stop.new.more c.keep_stop.ensures.later c.keep_stop.ensures.more
           (refusals_stop Here held held' stop v.later v.more same (late_changed Here Here stop c.in-Err.ensures.changed) c.in-Err.ensures.never v.refusals);
       failures = failures_kept start t1 stop v.failed c.keep_stop.new.failed c.keep_stop.ensures.failed
           (failures_stop start (g.S.Source.tally v.inner.now) t1 stop v.failed c.in-Err.ensures.cause.kept c.in-Err.ensures.cause.stop v.failures);
     }
 
+pub returns-in-Err-clause-view : goal.returns-in-Err-clause-view
+returns-in-Err-clause-view g c = record {
+  name = search rules;
+  start = refl;
+  held = c.in-Err.ensures.source.held_is;
+  plain_len = refl;
+  packed_len = refl;
+  space = bytes_read c.args.self.now.space c.read_begun-answer.new.space c.in-Err.ensures.space;
+}
+
 pub returns-in-Err-clause-cause : goal.returns-in-Err-clause-cause
 returns-in-Err-clause-cause g c =
     let v = c.args.self.now in
     let new = c.read_begun-answer.new in
-    cause_kept Here (g.S.Source.tally v.inner.now) (g.S.Source.tally new.source) v.more c.keep_stop.new.more c.in-Err.stop c.keep_stop.result c.keep_stop.ensures.more c.keep_stop.ensures.answer
-    c.in-Err.ensures.cause.kept c.in-Err.ensures.cause.stop
-
-pub returns-in-Err-clause-later : goal.returns-in-Err-clause-later
-returns-in-Err-clause-later g c = first_kept Here c.args.self.now.later c.keep_stop.new.later c.in-Err.stop c.keep_stop.result c.keep_stop.ensures.later
+    record {
+      counts = cause_kept Here (g.S.Source.tally v.inner.now) (g.S.Source.tally new.source) v.more c.keep_stop.new.more c.in-Err.stop c.keep_stop.result c.keep_stop.ensures.more c.keep_stop.ensures.answer
+          c.in-Err.ensures.cause.kept c.in-Err.ensures.cause.stop;
+      first = first_kept Here v.later c.keep_stop.new.later c.in-Err.stop c.keep_stop.result c.keep_stop.ensures.later;
+    }

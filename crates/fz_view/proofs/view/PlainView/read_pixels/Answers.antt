@@ -4,7 +4,7 @@ use Rattle.std.proofs.lemmas.Nat.{mod_below}
 use Rattle.fz_grid.specs.Arrays.{place_of, product}
 use Rattle.fz_grid.specs.Region.{lengths_of, region_lengths}
 use Rattle.fz_files.specs.Packed.{pixel_bits}
-use Rattle.fz_fetch.specs.Images.{IsReadable}
+use Rattle.fz_job.specs.Images.{IsReadable}
 use Rattle.fz_view.specs.Boxes.{HasBox, inside_of, sieve_in}
 use Rattle.fz_view.specs.Laws.{IsKnownImage}
 use Rattle.fz_view.proofs.Imaging.{image_known, image_read}

@@ -1,8 +1,10 @@
 -- One piece after another.
-use Rattle.std.proofs.Common.{◌≡◌, ℕ, ◌+◌, ◌-◌, ◌≤◌, List, ◌++◌, length, drop, Option, refl, ◌∙◌, subst, arith, length-take}
+use Rattle.std.proofs.Common.{◌≡◌, ℕ, ◌+◌, ◌-◌, ◌≤◌, List, ◌++◌, length, drop, Option, Err, refl, ◌∙◌, subst, arith, length-take, rules}
 use borrow.Rule.Slice.PartMut.{post_of, put_mid, same_len_mid}
-use Rattle.fz_view.specs.Views.{ReadsFront, restored_from}
+use Rattle.fz_base.specs.declared.failure.Failed.{Failed}
+use Rattle.fz_view.specs.Views.{ReadsFront, restored_from, with_more}
 use Rattle.fz_view.proofs.Shown.{all_read, front_longer, more_front}
+use Rattle.fz_view.proofs.Tallies.{cause_since, first_since}
 use Rattle.fz_view.proofs.view.PlainView.read_plain.Goals as goal
 
 pub loop-done-preserved : goal.loop-done-preserved
@@ -18,22 +20,40 @@ loop-done-preserved g c =
     let same : length (put_mid done left into piece) ≡ length into = same_len_mid done left into piece one.len in
     let few : n ≤ left = omega (arith, one.count, length-take left (drop done into)) in
     record {
-      name = one.name ∙ old.name;
-      start = one.start ∙ old.start;
-      held = one.held ∙ old.held;
-      plain_len = one.plain_len ∙ old.plain_len;
-      file = one.file ∙ old.file;
-      space = one.space ∙ old.space;
-      cause = one.cause.ok ∙ old.cause;
-      later = one.later.ok ∙ old.later;
+      view = record {
+        name = one.view.name ∙ old.view.name;
+        start = one.view.start ∙ old.view.start;
+        held = one.view.held ∙ old.view.held;
+        plain_len = one.view.plain_len ∙ old.view.plain_len;
+        packed_len = one.view.packed_len ∙ old.view.packed_len;
+        space = one.view.space ∙ old.view.space;
+      };
+      cause = one.cause.counts.ok ∙ old.cause;
+      later = one.cause.first.ok ∙ old.later;
       long = same ∙ old.long;
       few = omega (arith, same, few, old.few);
       bytes = more_front plain done n c.args.at into (piece ++ post_of done left into) (put_mid done left into piece) old.few refl old.bytes
           (front_longer plain (c.args.at + done) n piece (post_of done left into) (omega (arith, one.len, one.count))
-          (subst (λ (h : Option (List ℕ)). ReadsFront (restored_from h) (c.args.at + done) n piece) old.held one.bytes));
+          (subst (λ (h : Option (List ℕ)). ReadsFront (restored_from h) (c.args.at + done) n piece) old.view.held one.bytes));
     }
 
 pub returns-clause-bytes : goal.returns-clause-bytes
 returns-clause-bytes g c =
     let old = c.loop-done.invariant in
     all_read (restored_from (g.S.Source.held c.args.self.now.inner.now)) c.args.at c.loop-done.done c.loop-done.into (omega (arith, old.few)) old.bytes
+
+-- why a piece was not read is why not all are
+pub returns-in_err-done-clause-cause : goal.returns-in_err-done-clause-cause
+returns-in_err-done-clause-cause g c =
+    let v = c.args.self.now in
+    let mid = c.loop-done.self in
+    let new = c.read_piece.new.self in
+    let failed : Failed = c.in_err-done.field-0.0 in
+    let stopped : c.from_residual.result ≡ Err failed = search rules in
+    record {
+      counts = cause_since ℕ (Unit {0}) (with_more (g.S.Source.tally v.inner.now) v.more) (with_more (g.S.Source.tally mid.inner.now) mid.more)
+          (with_more (g.S.Source.tally new.inner.now) new.more) failed c.from_residual.result stopped c.loop-done.invariant.cause
+          c.in_err-done.ensures.cause.counts;
+      first = first_since ℕ (Unit {0}) v.later mid.later new.later failed c.from_residual.result stopped c.loop-done.invariant.later
+          c.in_err-done.ensures.cause.first;
+    }

@@ -1,17 +1,12 @@
 -- The first bytes are read; the view is at the same file, and the counts are as at the start.
 use Rattle.std.proofs.Common.{◌≡◌, ◌-◌, ◌≤◌, length, take, drop, IfSome}
-use Rattle.fz_view.specs.Looked.{buffers_of}
+use Rattle.fz_view.specs.Stays.{ViewStays}
 use Rattle.fz_view.specs.Views.{restored_from, with_more}
 use Rattle.fz_view.proofs.view.PlainView.read_plain.Given as goal
 
 abbrev pub invariant-loop-done : goal.invariant-loop-done
 invariant-loop-done g l = record {
-  name : l.self.inner.ghost_name ≡ l.fn.self.inner.ghost_name;
-  start : l.self.start.value ≡ l.fn.self.start.value;
-  held : g.S.Source.held l.self.inner.now ≡ g.S.Source.held l.fn.self.inner.now;
-  plain_len : l.self.plain_len ≡ l.fn.self.plain_len;
-  file : l.self.length ≡ l.fn.self.length;
-  space : buffers_of l.self.space ≡ buffers_of l.fn.self.space;
+  view : ViewStays l.fn.self l.self;
   cause : with_more (g.S.Source.tally l.self.inner.now) l.self.more ≡ with_more (g.S.Source.tally l.fn.self.inner.now) l.fn.self.more;
   later : l.self.later ≡ l.fn.self.later;
   long : length l.into ≡ length l.fn.into;

@@ -1,0 +1,8 @@
+-- The bytes so far are those of the picks so far.
+use Rattle.std.proofs.Common.{◌≡◌, ◌*◌, take}
+use Rattle.fz_tile.specs.Plain.{plain_bytes}
+use Rattle.fz_pixels.proofs.Gathering.{apart}
+use Rattle.fz_pixels.proofs.gather.gather_words.Given as goal
+
+abbrev pub invariant-loop-k : goal.invariant-loop-k
+invariant-loop-k l = take (4 * l.k) l.out ≡ plain_bytes 32 (apart l.numbers l.from l.step l.k)
