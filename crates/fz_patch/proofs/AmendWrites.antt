@@ -6,9 +6,9 @@ use Rattle.fz_base.specs.Sink.{written}
 use Rattle.fz_base.specs.Stop.{Amends}
 use Rattle.fz_base.specs.Store.{MayAmend, amended_by}
 use Rattle.fz_base.specs.declared.failure.Stop.{Stop}
-use Rattle.fz_patched.specs.Amends.{amend_of}
-use Rattle.fz_patched.specs.Writes.{zero_writes}
-use Rattle.fz_patch.specs.Steps.{Wrote, WroteSome}
+use Rattle.fz_laws.specs.Amends.{amend_of}
+use Rattle.fz_laws.specs.Writes.{zero_writes}
+use Rattle.fz_target.specs.Steps.{Wrote, WroteSome}
 use Rattle.fz_patch.proofs.Wrotes.{one-failed, one-wrote, wrote-all}
 
 pub amend_wrote : {X : Type 0} (w : Amend) (held held' : Option (List ℕ)) (s s' : Tally) (r : Result X Stop) → OnOk r (held' ≡ written w.at w.bytes held) → Amends s (amended_by w s) s' r →

@@ -5,8 +5,8 @@ use Rattle.fz_base.specs.Stop.{Amends, OnlyReads, StoppedByAmend, StoppedByRead}
 use Rattle.fz_base.specs.Store.{HasAtLeast, Reaches, StoreKept, amended_by}
 use Rattle.fz_base.specs.declared.failure.Stop.{Stop}
 use Rattle.fz_base.specs.declared.failure.Stop.TheVariants.{Refused, ReadFault, WriteFault, OverLimit, NoMemory}
-use Rattle.fz_patch.specs.Ends.{AmendsStore, SameCounts, StoppedAmending}
-use Rattle.fz_patch.specs.Steps.{KeepsReach}
+use Rattle.fz_target.specs.Ends.{AmendsStore, SameCounts, StoppedAmending}
+use Rattle.fz_target.specs.Steps.{KeepsReach}
 
 -- ---- the attached length
 

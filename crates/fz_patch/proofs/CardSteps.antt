@@ -3,14 +3,14 @@
 use Rattle.std.proofs.Common.{◌≡◌, ℕ, List, [], ◌∷◌, ◌++◌, Option, ap, ◌∙◌}
 use Rattle.fz_base.specs.Counts.{Amend}
 use Rattle.fz_head.specs.PackedHeader.{coded_letter, stored_letter}
-use Rattle.fz_patched.specs.Writes.{card_write}
+use Rattle.fz_laws.specs.Writes.{card_write}
 use Rattle.fz_sum.specs.Cards.{with_card}
 use Rattle.fz_patch.specs.Cards.{form_write, forms_writes, pcount_at, pcount_card, with_form, with_forms}
-use Rattle.fz_patch.specs.Steps.{Wrote, WroteSome}
+use Rattle.fz_target.specs.Steps.{Wrote, WroteSome}
 use Rattle.fz_patch.specs.declared.column.Forms.{Forms}
-use Rattle.fz_patch.specs.declared.measure.Measure.{Measure}
+use Rattle.fz_target.specs.declared.measure.Measure.{Measure}
 use Rattle.fz_patch.specs.declared.places.Places.{Places}
-use Rattle.fz_patch.specs.declared.target.Target.{Target}
+use Rattle.fz_target.specs.declared.target.Target.{Target}
 use Rattle.fz_patch.proofs.Wrotes.{some-back, some-front, wrote-then}
 
 module _ (a b c : List Amend) (held h1 h2 h3 : Option (List ℕ)) (log l1 l2 l3 : Option (List Amend)) where

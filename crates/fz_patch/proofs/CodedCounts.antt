@@ -1,10 +1,5 @@
 -- How many elements the code in a slot has in its column (FITS 4.0, sections 7.3.5 and 10.1.3).
-use Rattle.std.proofs.Common.{◌≡◌, ℕ, ◌+◌, ◌*◌, ◌/◌, ◌<◌, ◌≤◌, Bool, true, false, ℤ, unsigned_abs, max, inl, inr, length, take, if◌then◌else◌, refl, sym, ap, ◌∙◌, subst, arith, length-take-le}
-use Rattle.std.proofs.Common.{pos, w32, of_z, to_z, FitsSigned}
-use Rattle.std.proofs.Math.Nat.{div-le_self}
-use Rattle.std.proofs.lemmas.Int.{to_z-of_z}
-use Rattle.fz_tile.specs.Pixels.{IsBitpix}
-use Rattle.fz_tile.specs.TileCode.{TileCode}
+use Rattle.std.proofs.Common.{◌≡◌, ℕ, ◌+◌, ◌*◌, ◌/◌, ◌≤◌, unsigned_abs, max, length, take, if◌then◌else◌, refl, sym, ap, ◌∙◌, subst, arith, length-take-le}
 use Rattle.fz_tile.specs.declared.coded.Place2.{Place2}
 use Rattle.fz_tile.specs.declared.coded.Place2.TheVariants.{Coded, Stored}
 use Rattle.fz_head.specs.PackedTable.{coded_unit}
@@ -13,8 +8,8 @@ use Rattle.fz_head.specs.declared.plan.Plan.{Plan}
 use Rattle.fz_files.specs.Packed.{coded_count, is_coded, stored_count}
 use Rattle.fz_pool.specs.Round.{coded_tile}
 use Rattle.fz_pool.specs.declared.slot.Slot.{Slot}
-use Rattle.fz_patch.specs.Measures.{measured_with}
-use Rattle.fz_patch.specs.declared.measure.Measure.{Measure}
+use Rattle.fz_target.specs.Measures.{measured_with}
+use Rattle.fz_target.specs.declared.measure.Measure.{Measure}
 
 pub slot_long : (x : Slot) → x.job.len ≤ length x.code → length (coded_tile x).bytes ≡ x.job.len
 slot_long x within = length-take-le x.job.len x.code within
@@ -35,38 +30,6 @@ pixels_of_stored p x size place within is =
     let one : unsigned_abs p.bitpix / 8 * 1 ≡ pixel_len p.bitpix = omega arith in
     subst (λ (q : Place2). x.job.len / size ≡ (if is_coded q then 0 else length (take x.job.len x.code) / pixel_len p.bitpix)) (sym place)
     (λ j. sym (slot_long x within) j / (is ∙ one) j)
-
--- neither count is above that of bytes
-pub coded_low : (p : Plan) (e : TileCode) → coded_count p e ≤ length e.bytes
-coded_low p e = by_place (is_coded e.place)
-  where
-    by_place : (b : Bool) → (if b then length e.bytes / coded_unit p.codec else 0) ≤ length e.bytes
-    by_place true = div-le_self (length e.bytes) (coded_unit p.codec)
-    by_place false = omega arith
-
-pub stored_low : (p : Plan) (e : TileCode) → stored_count p e ≤ length e.bytes
-stored_low p e = by_place (is_coded e.place)
-  where
-    by_place : (b : Bool) → (if b then 0 else length e.bytes / pixel_len p.bitpix) ≤ length e.bytes
-    by_place true = omega arith
-    by_place false = div-le_self (length e.bytes) (pixel_len p.bitpix)
-
--- a pixel has at least one byte
-pub pixel_some : (bitpix : ℤ) → IsBitpix bitpix → 0 < unsigned_abs bitpix / 8 * 1
-pixel_some bitpix (inl e) = subst (λ b. 0 < unsigned_abs b / 8 * 1) (sym e) (omega arith)
-pixel_some bitpix (inr (inl e)) = subst (λ b. 0 < unsigned_abs b / 8 * 1) (sym e) (omega arith)
-pixel_some bitpix (inr (inr (inl e))) = subst (λ b. 0 < unsigned_abs b / 8 * 1) (sym e) (omega arith)
-pixel_some bitpix (inr (inr (inr e))) = subst (λ b. 0 < unsigned_abs b / 8 * 1) (sym e) (omega arith)
-
--- it is held by 32 bits
-bits_fit : (bitpix : ℤ) → IsBitpix bitpix → FitsSigned w32 bitpix
-bits_fit bitpix (inl e) = subst (FitsSigned w32) (sym e) (record { sfits = omega arith })
-bits_fit bitpix (inr (inl e)) = subst (FitsSigned w32) (sym e) (record { sfits = omega arith })
-bits_fit bitpix (inr (inr (inl e))) = subst (FitsSigned w32) (sym e) (record { sfits = omega arith })
-bits_fit bitpix (inr (inr (inr e))) = subst (FitsSigned w32) (sym e) (record { sfits = omega arith })
-
-pub bits_back : (bitpix : ℤ) → IsBitpix bitpix → to_z w32 (of_z w32 bitpix) ≡ bitpix
-bits_back bitpix is = to_z-of_z w32 bitpix (bits_fit bitpix is)
 
 -- what is known with the code in the slot
 pub with_code : (p : Plan) (m : Measure) (x : Slot) (bytes coded stored : ℕ) → x.job.len ≤ length x.code → bytes ≡ m.bytes + x.job.len → coded ≡ max m.coded (coded_count p (coded_tile x)) →

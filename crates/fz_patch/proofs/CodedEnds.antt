@@ -2,12 +2,12 @@
 use Rattle.std.proofs.Common.{◌≡◌, ℕ, ◌+◌, ◌-◌, ◌^◌, ◌<◌, ◌≤◌, ◌&&◌, ◌||◌, nat_le, Bool, true, false, arith}
 use Rattle.std.proofs.lemmas.Bool.Decides.{nat_tests}
 use Rattle.fz_block.specs.Header.{data_start_of, whole_blocks_of}
-use Rattle.fz_patched.specs.Writes.{grown_end}
-use Rattle.fz_patch.specs.Measures.{HasRoom}
-use Rattle.fz_patch.specs.Targets.{IsTarget}
-use Rattle.fz_patch.specs.Tiles.{IsBoxTile}
-use Rattle.fz_patch.specs.declared.measure.Measure.{Measure}
-use Rattle.fz_patch.specs.declared.target.Target.{Target}
+use Rattle.fz_laws.specs.Writes.{grown_end}
+use Rattle.fz_target.specs.Measures.{HasRoom}
+use Rattle.fz_target.specs.Targets.{IsTarget}
+use Rattle.fz_target.specs.Tiles.{IsBoxTile}
+use Rattle.fz_target.specs.declared.measure.Measure.{Measure}
+use Rattle.fz_target.specs.declared.target.Target.{Target}
 use Rattle.fz_patch.proofs.NewCodes.{heap_end_of}
 
 pub row_of_tile : (t : Target) (tile : ℕ) → IsTarget t → IsBoxTile t tile → tile < t.image.table.rows
@@ -69,7 +69,3 @@ zeros_near t more at is end =
     let low : at ≤ grown_end t.header more = omega (arith, heap_end_is t is, end, whole_at_least (t.header.data_len + more)) in
     let high : grown_end t.header more ≤ at + 2879 = omega (arith, heap_end_is t is, end, whole_near (t.header.data_len + more)) in
     (low, high)
-
--- the heap is within the data
-pub heap_few : (t : Target) → IsTarget t → t.header.pcount ≤ 2 ^ 62
-heap_few t is = omega (arith, is.data_len, is.end, whole_at_least t.header.data_len)

@@ -11,15 +11,15 @@ use Rattle.fz_files.specs.FirstFault.{picked_tiles_of}
 use Rattle.fz_files.specs.Packed.{heap_of}
 use Rattle.fz_files.specs.Restored.{RowStandsFor}
 use Rattle.fz_pool.specs.Window.{Pool}
-use Rattle.fz_patched.specs.FirstPatchFault.{BoxHasNumbers, RowsHaveNumbers}
-use Rattle.fz_patched.specs.Laws.{new_code}
-use Rattle.fz_patched.specs.NewNumbers.{box_tiles}
-use Rattle.fz_patched.specs.Writes.{new_codes, row_writes}
-use Rattle.fz_patch.specs.Steps.{HasFirstOf, Wrote, WroteSome}
-use Rattle.fz_patch.specs.Targets.{IsGivenTo, IsTarget, IsTargetIn, given_at, plan_to_write}
-use Rattle.fz_patch.specs.Tiles.{HasCode, HasFirst, HasNewCode}
-use Rattle.fz_patch.specs.Told.{IfBoth}
-use Rattle.fz_patch.specs.declared.target.Target.{Target}
+use Rattle.fz_laws.specs.FirstPatchFault.{BoxHasNumbers, RowsHaveNumbers}
+use Rattle.fz_laws.specs.PatchLaws.{new_code}
+use Rattle.fz_laws.specs.NewNumbers.{box_tiles}
+use Rattle.fz_laws.specs.Writes.{new_codes, row_writes}
+use Rattle.fz_target.specs.Steps.{HasFirstOf, Wrote, WroteSome}
+use Rattle.fz_target.specs.Targets.{IsGivenTo, IsTarget, IsTargetIn, given_at, plan_to_write}
+use Rattle.fz_target.specs.Tiles.{HasCode, HasFirst, HasNewCode}
+use Rattle.fz_target.specs.Told.{IfBoth}
+use Rattle.fz_target.specs.declared.target.Target.{Target}
 use Rattle.fz_patch.proofs.Boxes.{heap_more, more_codes, next_numbers}
 use Rattle.fz_patch.proofs.NewCodes.{HaveCodes, RowsAreStill, SomeCodes, heap_end_of}
 use Rattle.fz_patch.proofs.RowCodes.{HaveRows, LaterAreStill, SomeRows}

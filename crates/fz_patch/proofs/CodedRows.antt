@@ -13,8 +13,8 @@ use Rattle.fz_files.specs.FirstFault.{picked_tiles_of}
 use Rattle.fz_files.specs.Packed.{coded_count, is_coded, row_of, stored_count}
 use Rattle.fz_pool.specs.Round.{coded_tile}
 use Rattle.fz_pool.specs.declared.slot.Slot.{Slot}
-use Rattle.fz_patch.specs.Targets.{IsTarget, plan_to_write}
-use Rattle.fz_patch.specs.declared.target.Target.{Target}
+use Rattle.fz_target.specs.Targets.{IsTarget, plan_to_write}
+use Rattle.fz_target.specs.declared.target.Target.{Target}
 use Rattle.fz_patch.proofs.Boxes.{AreAbove, filtered_above}
 use Rattle.fz_patch.proofs.NewCodes.{heap_end_of}
 use Rattle.fz_patch.proofs.Written.{row_low}

@@ -4,19 +4,20 @@ use Rattle.std.specs.Prelude.{IfSome}
 use Rattle.std.proofs.lemmas.Slice.Eq.{bytes_eq-Decides}
 use Rattle.fz_base.specs.Counts.{Amend}
 use Rattle.fz_base.specs.Sink.{written}
+use Rattle.fz_base.specs.Source.{has_bytes}
 use Rattle.fz_base.specs.Store.{MayAmend, amend_of, with_write}
 use Rattle.fz_table.specs.Rows.{row_start}
 use Rattle.fz_table.specs.declared.table.Table.{Table}
 use Rattle.fz_tile.specs.TileCode.{TileCode}
 use Rattle.fz_head.specs.declared.plan.Plan.{Plan}
 use Rattle.fz_files.specs.Packed.{row_of}
-use Rattle.fz_patched.specs.Writes.{row_writes}
-use Rattle.fz_patch.specs.Compared.{CodesLie, DescribesCodes, has_bytes}
-use Rattle.fz_patch.specs.Measures.{is_measured}
-use Rattle.fz_patch.specs.Steps.{Wrote, WroteSome}
-use Rattle.fz_patch.specs.Targets.{IsTargetIn, plan_to_write}
-use Rattle.fz_patch.specs.declared.measure.Measure.{Measure}
-use Rattle.fz_patch.specs.declared.target.Target.{Target}
+use Rattle.fz_laws.specs.Writes.{row_writes}
+use Rattle.fz_patch.specs.Compared.{CodesLie, DescribesCodes}
+use Rattle.fz_target.specs.Measures.{is_measured}
+use Rattle.fz_target.specs.Steps.{Wrote, WroteSome}
+use Rattle.fz_target.specs.Targets.{IsTargetIn, plan_to_write}
+use Rattle.fz_target.specs.declared.measure.Measure.{Measure}
+use Rattle.fz_target.specs.declared.target.Target.{Target}
 use Rattle.fz_patch.proofs.CodedRefusals.{some_same}
 use Rattle.fz_patch.proofs.RowCodes.{LaterAreStill}
 use Rattle.fz_patch.proofs.Stays.{HasSameHeap, part_same}

@@ -10,7 +10,7 @@ use Rattle.fz_base.specs.declared.failure.Stop.{Stop}
 use Rattle.fz_base.specs.declared.failure.Stop.TheVariants.{Refused, ReadFault, WriteFault, OverLimit, NoMemory}
 use Rattle.fz_table.specs.declared.table.Table.{Table}
 use Rattle.fz_fetch.specs.Rows.{StandsWithin}
-use Rattle.fz_patch.specs.Ends.{AmendsStore, Patches, ReadsTiles, SameCounts, StoppedAmending, StoppedPatching, StoppedTile}
+use Rattle.fz_target.specs.Ends.{AmendsStore, Patches, ReadsTiles, SameCounts, StoppedAmending, StoppedPatching, StoppedTile}
 use Rattle.fz_patch.proofs.Amended.{kept-read, kept-then, rose-from, same-is, same-then}
 
 -- ---- refusals

@@ -1,14 +1,14 @@
 -- What is said of files that show their bytes.
-use Rattle.std.proofs.Common.{◌≡◌, ◌⊎◌, inl, inr, ℕ, List, length, take, Option, Some, None, refl, sym, subst}
+use Rattle.std.proofs.Common.{◌≡◌, inl, inr, ℕ, List, length, take, Option, Some, None, refl, sym, subst}
 use Rattle.std.specs.Option.{option_map}
-use Rattle.std.specs.Prelude.{IfSome, IsSome, slice_get}
+use Rattle.std.specs.Prelude.{IfSome, IsSome}
 use Rattle.fz_base.specs.Counts.{Amend}
 use Rattle.fz_base.specs.Sink.{written}
 use Rattle.fz_base.specs.Store.{MayAmend}
 use Rattle.fz_base.specs.Told.{StaysTold}
-use Rattle.fz_patched.specs.Amends.{applied}
-use Rattle.fz_patch.specs.Steps.{HasFirstOf, WroteSome}
-use Rattle.fz_patch.specs.Told.{IfBoth}
+use Rattle.fz_laws.specs.Amends.{applied}
+use Rattle.fz_target.specs.Steps.{HasFirstOf, WroteSome}
+use Rattle.fz_target.specs.Told.{IfBoth}
 
 pub if_some : (held : Option (List ℕ)) (P : List ℕ → Type 0) → ((f : List ℕ) → held ≡ Some f → P f) → IfSome held P
 if_some None P all = tt

@@ -10,14 +10,14 @@ use Rattle.fz_head.specs.Greatest.{greatest}
 use Rattle.fz_head.specs.PackedHeader.{coded_letter, descriptor_form, number_card, numbered_word_card, stored_letter}
 use Rattle.fz_files.specs.Packed.{coded_count, heap_of, stored_count}
 use Rattle.fz_files.specs.Restored.{header_in}
-use Rattle.fz_patched.specs.Writes.{card_write, column_writes, form_writes, other_rows, pcount_writes, said_most}
-use Rattle.fz_patch.specs.Cards.{HasPlaces, form_write, forms_writes, pcount_at}
-use Rattle.fz_patch.specs.Measures.{form_for, forms_for, measure_of}
-use Rattle.fz_patch.specs.Targets.{IsTargetIn}
+use Rattle.fz_laws.specs.Writes.{card_write, column_writes, form_writes, other_rows, pcount_writes, said_most}
+use Rattle.fz_patch.specs.Cards.{HasPlaces, form_write, forms_writes, pcount_at, forms_for}
+use Rattle.fz_target.specs.Measures.{form_for, measure_of}
+use Rattle.fz_target.specs.Targets.{IsTargetIn}
 use Rattle.fz_patch.specs.declared.column.Forms.{Forms}
-use Rattle.fz_patch.specs.declared.measure.Measure.{Measure}
+use Rattle.fz_target.specs.declared.measure.Measure.{Measure}
 use Rattle.fz_patch.specs.declared.places.Places.{Places}
-use Rattle.fz_patch.specs.declared.target.Target.{Target}
+use Rattle.fz_target.specs.declared.target.Target.{Target}
 
 greatest_both : (xs ys : List ℕ) → greatest (xs ++ ys) ≡ max (greatest xs) (greatest ys)
 greatest_both [] ys = omega arith

@@ -18,19 +18,19 @@ use Rattle.fz_block.specs.declared.header.Header.{Header}
 use Rattle.fz_block.specs.declared.next.ReadHeader.{ReadHeader}
 use Rattle.fz_files.specs.Restored.{header_in}
 use Rattle.fz_job.specs.Clauses.{IfOverLimit, IsChanged, IsOfSomeRow}
-use Rattle.fz_survey.specs.Laws.{AmendLooksOver, EveryLooksOver}
-use Rattle.fz_survey.specs.Surveys.{amend_surveyed, survey_of, survey_takings, surveyed}
-use Rattle.fz_survey.specs.declared.checks.JobChecks.TheVariants.{Amend as AmendLook, Every}
-use Rattle.fz_survey.specs.declared.survey.Survey.{Survey}
-use Rattle.fz_patched.specs.Buffers.{given_takings, second_takings, target_takings}
-use Rattle.fz_patched.specs.Checks.{find_judge, if_all_pass, if_patchable, own_checks, patch_target, wanted_image}
-use Rattle.fz_patched.specs.Given.{PatchJob}
+use Rattle.fz_job.specs.SurveyLaws.{AmendLooksOver, EveryLooksOver}
+use Rattle.fz_job.specs.Surveys.{amend_surveyed, survey_of, survey_takings, surveyed}
+use Rattle.fz_job.specs.declared.checks.JobChecks.TheVariants.{Amend as AmendLook, Every}
+use Rattle.fz_job.specs.declared.survey.Survey.{Survey}
+use Rattle.fz_laws.specs.PatchBuffers.{given_takings, second_takings, target_takings}
+use Rattle.fz_laws.specs.PatchChecks.{find_judge, if_all_pass, if_patchable, own_checks, patch_target, wanted_image}
+use Rattle.fz_laws.specs.Given.{PatchJob}
 use Rattle.fz_patch.specs.Clauses.{IsUnpassed, IsUnwritten, LeavesSafe, TakingsOfBoth, TellsPatchFault, later_takings}
-use Rattle.fz_patch.specs.Ends.{StoppedWorking, WorksInPlace}
+use Rattle.fz_target.specs.Ends.{StoppedWorking, WorksInPlace}
 use Rattle.fz_patch.specs.Jobs.{IsReadAgain, IsWanted}
-use Rattle.fz_patch.specs.Steps.{ComesInWork, KeepsReach}
-use Rattle.fz_patch.specs.Targets.{job_at}
-use Rattle.fz_patch.specs.Told.{IfBoth}
+use Rattle.fz_target.specs.Steps.{ComesInWork, KeepsReach}
+use Rattle.fz_target.specs.Targets.{job_at}
+use Rattle.fz_target.specs.Told.{IfBoth}
 use Rattle.fz_patch.proofs.Amended.{kept-read, same-is}
 use Rattle.fz_patch.proofs.EndsJoined.{counts_same}
 use Rattle.fz_patch.proofs.EndsTold.{if_both}

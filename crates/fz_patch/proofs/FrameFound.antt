@@ -17,12 +17,12 @@ use Rattle.fz_head.specs.Judges.{is_wanted}
 use Rattle.fz_head.specs.PackedChecks.{at_word, bitpix_checks, codec_checks, has_word, line_list_check, must_be, packed_checks, parameter_checks, row_check, scaling_check, shape_checks, sort_checks}
 use Rattle.fz_head.specs.PackedPlan.{word_in}
 use Rattle.fz_files.specs.Restored.{header_in}
-use Rattle.fz_survey.specs.Laws.{AmendLooksOver}
-use Rattle.fz_survey.specs.Judges.{judge_of}
-use Rattle.fz_survey.specs.Surveys.{amend_surveyed, stop_in, stop_or, stopped_at, survey_of}
-use Rattle.fz_survey.specs.declared.checks.JobChecks.TheVariants.{Amend}
-use Rattle.fz_survey.specs.declared.survey.Survey.{Survey}
-use Rattle.fz_patched.specs.Checks.{find_checks, find_hdu_checks, find_judge, last_or, wanted_among, wanted_image}
+use Rattle.fz_job.specs.SurveyLaws.{AmendLooksOver}
+use Rattle.fz_job.specs.Judges.{judge_of}
+use Rattle.fz_job.specs.Surveys.{amend_surveyed, stop_in, stop_or, stopped_at, survey_of}
+use Rattle.fz_job.specs.declared.checks.JobChecks.TheVariants.{Amend}
+use Rattle.fz_job.specs.declared.survey.Survey.{Survey}
+use Rattle.fz_laws.specs.PatchChecks.{find_checks, find_hdu_checks, find_judge, last_or, wanted_among, wanted_image}
 
 -- ---- checks of two lists, of which none refuses
 

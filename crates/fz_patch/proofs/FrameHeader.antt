@@ -23,22 +23,22 @@ use Rattle.fz_grid.specs.Region.{IsDivided, lengths_of}
 use Rattle.fz_head.specs.WorkBuffers.{pixels_of_tile, work_buffers}
 use Rattle.fz_head.specs.declared.plan.Plan.{Plan}
 use Rattle.fz_files.specs.Restored.{header_in, pixels_of, plan_in}
-use Rattle.fz_survey.specs.Workspace.{BoundGrows, PassesWithinAll, StaysInBound}
-use Rattle.fz_survey.specs.declared.workspace.Wants.{Wants}
-use Rattle.fz_patched.specs.Buffers.{given_takings, kept_live, tile_takings}
-use Rattle.fz_patched.specs.Checks.{find_checks, if_all_pass, if_patchable, own_checks, patch_target, target_checks}
-use Rattle.fz_patched.specs.FirstPatchFault.{IsFaultBehindTarget, IsFirstPatchFault}
-use Rattle.fz_patched.specs.Given.{PatchJob, given_by}
+use Rattle.fz_job.specs.Workspace.{BoundGrows, PassesWithinAll, StaysInBound}
+use Rattle.fz_job.specs.declared.workspace.Wants.{Wants}
+use Rattle.fz_laws.specs.PatchBuffers.{given_takings, kept_live, tile_takings}
+use Rattle.fz_laws.specs.PatchChecks.{find_checks, if_all_pass, if_patchable, own_checks, patch_target, target_checks}
+use Rattle.fz_laws.specs.FirstPatchFault.{IsFaultBehindTarget, IsFirstPatchFault}
+use Rattle.fz_laws.specs.Given.{PatchJob, given_by}
 use Rattle.fz_patch.specs.Clauses.{TellsPatchFault, greatest_patch_bound}
-use Rattle.fz_patch.specs.Ends.{StoppedWorking, WorksInPlace}
+use Rattle.fz_target.specs.Ends.{StoppedWorking, WorksInPlace}
 use Rattle.fz_patch.specs.Jobs.{ForJobs, IsWanted}
-use Rattle.fz_patched.specs.Form.{has_form, is_wide_table}
-use Rattle.fz_patched.specs.Grown.{IsFoundHeader}
+use Rattle.fz_laws.specs.PatchForm.{has_form, is_wide_table}
+use Rattle.fz_laws.specs.Grown.{IsFoundHeader}
 use Rattle.fz_table.specs.Tables.{table_in}
 use Rattle.fz_head.specs.declared.job_checks.PackedImage.{PackedImage}
-use Rattle.fz_patch.specs.Targets.{HasHeader, IsFoundBy, IsGivenTo, IsOwnImage, IsTarget, IsTargetIn, given_taking, job_at}
-use Rattle.fz_patch.specs.Told.{IfBoth}
-use Rattle.fz_patch.specs.declared.target.Target.{Target}
+use Rattle.fz_target.specs.Targets.{HasHeader, IsFoundBy, IsGivenTo, IsOwnImage, IsTarget, IsTargetIn, given_taking, job_at}
+use Rattle.fz_target.specs.Told.{IfBoth}
+use Rattle.fz_target.specs.declared.target.Target.{Target}
 use Rattle.fz_patch.proofs.Amended.{kept-same, same-is}
 use Rattle.fz_patch.proofs.EndsTold.{some_of}
 use Rattle.fz_patch.proofs.FrameFound.{WalkFinds, WalkStops, front_passed, wanted_hdu}

@@ -14,12 +14,12 @@ use Rattle.fz_base.specs.declared.failure.Short.TheVariants.{NoMemory as NoRoom,
 use Rattle.fz_base.specs.declared.failure.Stop.{Stop}
 use Rattle.fz_base.specs.declared.failure.Stop.TheVariants.{Refused, ReadFault, WriteFault, OverLimit, NoMemory}
 use Rattle.fz_job.specs.Clauses.{IfOverLimit}
-use Rattle.fz_patched.specs.Buffers.{patch_bound, patch_takings}
-use Rattle.fz_patched.specs.Given.{PatchJob}
-use Rattle.fz_patched.specs.Laws.{PatchIsBounded}
+use Rattle.fz_laws.specs.PatchBuffers.{patch_bound, patch_takings}
+use Rattle.fz_laws.specs.Given.{PatchJob}
+use Rattle.fz_laws.specs.PatchLaws.{PatchIsBounded}
 use Rattle.fz_patch.specs.Clauses.{AnswersPatch, HasPatchCause, IsUnwritten, TakingsOfBoth, TellsPatchFault, greatest_patch_bound, later_takings}
-use Rattle.fz_patch.specs.Ends.{SameCounts, StoppedWorking, WorksInPlace}
-use Rattle.fz_patch.specs.Told.{IfBoth}
+use Rattle.fz_target.specs.Ends.{SameCounts, StoppedWorking, WorksInPlace}
+use Rattle.fz_target.specs.Told.{IfBoth}
 use Rattle.fz_patch.proofs.EndsTold.{if_both}
 
 -- ---- a buffer that was not given

@@ -11,18 +11,17 @@ use Rattle.fz_base.specs.declared.failure.Short.TheVariants.{NoMemory as NoRoom,
 use Rattle.fz_base.specs.declared.failure.Stop.{Stop}
 use Rattle.fz_base.specs.declared.failure.Stop.TheVariants.{Refused, ReadFault, WriteFault, OverLimit, NoMemory}
 use Rattle.fz_job.specs.Clauses.{IfOverLimit}
-use Rattle.fz_job.specs.Keeps.{WindowStays}
-use Rattle.fz_patched.specs.Given.{PatchJob}
+use Rattle.fz_laws.specs.Given.{PatchJob}
 use Rattle.fz_pool.specs.Laws.{AreFresh}
-use Rattle.fz_pool.specs.Window.{HasSlotsFor, Pool, slot_sizes}
-use Rattle.fz_survey.specs.Takes.{TellsTheLimit}
-use Rattle.fz_survey.specs.Workspace.{HasLengths, HoldsWhatItTook, SpaceStays, held_bytes, slots_for, wanted_buffers, window_for}
-use Rattle.fz_survey.specs.declared.workspace.Wants.{Wants}
-use Rattle.fz_survey.specs.declared.workspace.Workspace.{Workspace}
-use Rattle.fz_patch.specs.Ends.{Patches, StoppedPatching, StoppedWorking, WorksInPlace}
+use Rattle.fz_pool.specs.Window.{HasSlotsFor, Pool, slot_sizes, WindowStays}
+use Rattle.fz_job.specs.Takes.{TellsTheLimit}
+use Rattle.fz_job.specs.Workspace.{HasLengths, HoldsWhatItTook, SpaceStays, held_bytes, slots_for, wanted_buffers, window_for}
+use Rattle.fz_job.specs.declared.workspace.Wants.{Wants}
+use Rattle.fz_job.specs.declared.workspace.Workspace.{Workspace}
+use Rattle.fz_target.specs.Ends.{Patches, StoppedPatching, StoppedWorking, WorksInPlace}
 use Rattle.fz_patch.specs.Jobs.{ForJobs}
-use Rattle.fz_patch.specs.Targets.{job_at}
-use Rattle.fz_patch.specs.declared.target.Target.{Target}
+use Rattle.fz_target.specs.Targets.{job_at}
+use Rattle.fz_target.specs.declared.target.Target.{Target}
 use Rattle.fz_patch.proofs.Amended.{kept-same}
 use Rattle.fz_patch.proofs.EndsJoined.{counts_same}
 use Rattle.fz_patch.proofs.EndsTold.{if_both}

@@ -7,6 +7,7 @@ use Rattle.std.proofs.lemmas.Grind.{flat_map-append}
 use Rattle.std.proofs.lemmas.List.{append_assoc, drop-drop, drop-take, length-append, take-take}
 use Rattle.std.proofs.lemmas.Slice.Eq.{bytes_eq-Decides}
 use Rattle.fz_base.specs.Counts.{Amend}
+use Rattle.fz_base.specs.Source.{has_bytes}
 use Rattle.fz_base.specs.Stop.{IsRefused}
 use Rattle.fz_base.specs.declared.failure.Stop.{Stop}
 use Rattle.fz_table.specs.declared.table.Table.{Table}
@@ -17,26 +18,28 @@ use Rattle.fz_files.specs.Restored.{image_table}
 use Rattle.fz_head.specs.Greatest.{greatest}
 use Rattle.fz_head.specs.declared.plan.Plan.{Plan}
 use Rattle.fz_pool.specs.Window.{Pool}
-use Rattle.fz_patched.specs.FirstPatchFault.{BoxHasNumbers, RowsHaveNumbers}
-use Rattle.fz_patched.specs.Laws.{new_code}
-use Rattle.fz_patched.specs.NewNumbers.{box_tiles}
-use Rattle.fz_patched.specs.Writes.{new_codes}
-use Rattle.fz_patch.specs.Compared.{HeapEndsWith, has_bytes}
-use Rattle.fz_patch.specs.Measures.{is_measured, measure_of}
-use Rattle.fz_patch.specs.Targets.{IsGivenTo, IsTarget, IsTargetIn, given_at}
-use Rattle.fz_patch.specs.Tiles.{HasCode, HasFirst, HasNewCode}
-use Rattle.fz_patch.specs.Told.{IfBoth}
-use Rattle.fz_patch.specs.declared.measure.Measure.{Measure}
-use Rattle.fz_patch.specs.declared.target.Target.{Target}
+use Rattle.fz_laws.specs.FirstPatchFault.{BoxHasNumbers, RowsHaveNumbers}
+use Rattle.fz_laws.specs.PatchLaws.{new_code}
+use Rattle.fz_laws.specs.NewNumbers.{box_tiles}
+use Rattle.fz_laws.specs.Writes.{new_codes}
+use Rattle.fz_patch.specs.Compared.{HeapEndsWith}
+use Rattle.fz_target.specs.Measures.{is_measured, measure_of}
+use Rattle.fz_target.specs.Targets.{IsGivenTo, IsTarget, IsTargetIn, given_at}
+use Rattle.fz_target.specs.Tiles.{HasCode, HasFirst, HasNewCode}
+use Rattle.fz_target.specs.Told.{IfBoth}
+use Rattle.fz_target.specs.declared.measure.Measure.{Measure}
+use Rattle.fz_target.specs.declared.target.Target.{Target}
 use Rattle.fz_patch.proofs.Boxes.{more_codes, next_numbers}
 use Rattle.fz_patch.proofs.CodedRefusals.{NoFit, Unrefused}
-use Rattle.fz_patch.proofs.ComparedBytes.{not_both}
 use Rattle.fz_patch.proofs.RowCodes.{HaveRows, LaterAreStill}
 use Rattle.fz_patch.proofs.Stays.{HasSameHeap, part_same, stands_still}
 use Rattle.fz_patch.proofs.Targeted.{table_of, tiles_of}
 
 none_some : (x : List ℕ) → None ≡ Some x → ⊥
 none_some x e = absurd cc
+
+not_both : true ≡ false → ⊥
+not_both e = absurd cc
 
 -- ---- what is said of every job whose new codes lie at the end of the heap
 

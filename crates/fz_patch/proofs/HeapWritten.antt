@@ -14,18 +14,18 @@ use Rattle.fz_tile.specs.Pixels.{IsBitpix}
 use Rattle.fz_tile.specs.TileCode.{TileCode}
 use Rattle.fz_files.specs.Packed.{heap_of}
 use Rattle.fz_files.specs.Restored.{image_table}
-use Rattle.fz_patched.specs.Amends.{amend_of, amended, applied}
-use Rattle.fz_patched.specs.Form.{has_form}
-use Rattle.fz_patched.specs.Grown.{IsFormFor, form_index}
-use Rattle.fz_patched.specs.Writes.{card_write, code_writes, grown_end, heap_end, heap_writes, zero_writes}
+use Rattle.fz_laws.specs.Amends.{amend_of, amended, applied}
+use Rattle.fz_laws.specs.PatchForm.{has_form}
+use Rattle.fz_laws.specs.Grown.{IsFormFor, form_index}
+use Rattle.fz_laws.specs.Writes.{card_write, code_writes, grown_end, heap_end, heap_writes, zero_writes}
 use Rattle.fz_patch.specs.Cards.{HasPlaces, form_card_of, form_write, forms_writes, pcount_at, pcount_card}
 use Rattle.fz_patch.specs.Compared.{HeapEndsWith}
-use Rattle.fz_patch.specs.Measures.{HasRoom}
-use Rattle.fz_patch.specs.Targets.{IsFoundBy, IsTarget, IsTargetIn, grown_by}
+use Rattle.fz_target.specs.Measures.{HasRoom}
+use Rattle.fz_target.specs.Targets.{IsFoundBy, IsTarget, IsTargetIn, grown_by}
 use Rattle.fz_patch.specs.declared.column.Forms.{Forms}
-use Rattle.fz_patch.specs.declared.measure.Measure.{Measure}
+use Rattle.fz_target.specs.declared.measure.Measure.{Measure}
 use Rattle.fz_patch.specs.declared.places.Places.{Places}
-use Rattle.fz_patch.specs.declared.target.Target.{Target}
+use Rattle.fz_target.specs.declared.target.Target.{Target}
 use Rattle.fz_patch.proofs.CodedEnds.{ends_of}
 use Rattle.fz_patch.proofs.NewCodes.{heap_end_of}
 use Rattle.fz_patch.proofs.Slices.{long_written, rest_after, slice_before, slice_here}

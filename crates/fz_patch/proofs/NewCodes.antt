@@ -12,16 +12,16 @@ use Rattle.fz_files.specs.FirstFault.{picked_tiles_of}
 use Rattle.fz_files.specs.Packed.{heap_of}
 use Rattle.fz_files.specs.Restored.{header_in}
 use Rattle.fz_pool.specs.Window.{Pool}
-use Rattle.fz_patched.specs.Amends.{applied}
-use Rattle.fz_patched.specs.FirstPatchFault.{BoxHasNumbers, RowsHaveNumbers}
-use Rattle.fz_patched.specs.Laws.{new_code}
-use Rattle.fz_patched.specs.NewNumbers.{box_tiles}
-use Rattle.fz_patched.specs.Writes.{code_writes, grown_end, heap_end, heap_writes, new_codes, zero_writes}
-use Rattle.fz_patch.specs.Steps.{KeepsHeader, Wrote, WroteSome}
-use Rattle.fz_patch.specs.Targets.{IsGivenTo, IsTarget, IsTargetIn, given_at}
-use Rattle.fz_patch.specs.Tiles.{HasCode, HasFirst, HasNewCode}
-use Rattle.fz_patch.specs.Told.{IfBoth}
-use Rattle.fz_patch.specs.declared.target.Target.{Target}
+use Rattle.fz_laws.specs.Amends.{applied}
+use Rattle.fz_laws.specs.FirstPatchFault.{BoxHasNumbers, RowsHaveNumbers}
+use Rattle.fz_laws.specs.PatchLaws.{new_code}
+use Rattle.fz_laws.specs.NewNumbers.{box_tiles}
+use Rattle.fz_laws.specs.Writes.{code_writes, grown_end, heap_end, heap_writes, new_codes, zero_writes}
+use Rattle.fz_target.specs.Steps.{KeepsHeader, Wrote, WroteSome}
+use Rattle.fz_target.specs.Targets.{IsGivenTo, IsTarget, IsTargetIn, given_at}
+use Rattle.fz_target.specs.Tiles.{HasCode, HasFirst, HasNewCode}
+use Rattle.fz_target.specs.Told.{IfBoth}
+use Rattle.fz_target.specs.declared.target.Target.{Target}
 use Rattle.fz_patch.proofs.Boxes.{codes_more, codes_then, heap_more, more_codes, next_numbers}
 use Rattle.fz_patch.proofs.Slices.{slice_before}
 use Rattle.fz_patch.proofs.Stays.{IsStill, stands_still, still_none, still_then}

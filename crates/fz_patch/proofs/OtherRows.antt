@@ -19,9 +19,9 @@ use Rattle.fz_head.specs.Greatest.{greatest}
 use Rattle.fz_head.specs.declared.plan.Plan.{Plan}
 use Rattle.fz_files.specs.FirstFault.{picked_tiles_of}
 use Rattle.fz_files.specs.Packed.{tiles_in}
-use Rattle.fz_patched.specs.Writes.{other_rows}
-use Rattle.fz_patch.specs.Measures.{counted_rows, counted_with, counted_with_all}
-use Rattle.fz_patch.specs.declared.measure.Measure.{Measure}
+use Rattle.fz_laws.specs.Writes.{other_rows}
+use Rattle.fz_target.specs.Measures.{counted_rows, counted_with, counted_with_all}
+use Rattle.fz_target.specs.declared.measure.Measure.{Measure}
 
 -- ---- counts of rows
 

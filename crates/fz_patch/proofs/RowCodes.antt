@@ -12,14 +12,14 @@ use Rattle.fz_files.specs.FirstFault.{picked_tiles_of}
 use Rattle.fz_files.specs.Packed.{heap_of, row_of}
 use Rattle.fz_files.specs.Restored.{header_in, image_table}
 use Rattle.fz_pool.specs.Window.{Pool}
-use Rattle.fz_patched.specs.FirstPatchFault.{BoxHasNumbers, RowsHaveNumbers}
-use Rattle.fz_patched.specs.Laws.{new_code}
-use Rattle.fz_patched.specs.Writes.{new_codes, row_writes}
-use Rattle.fz_patch.specs.Steps.{Wrote, WroteSome}
-use Rattle.fz_patch.specs.Targets.{IsGivenTo, IsTarget, IsTargetIn, given_at, plan_to_write}
-use Rattle.fz_patch.specs.Tiles.{HasCode, HasFirst, HasNewCode}
-use Rattle.fz_patch.specs.Told.{IfBoth}
-use Rattle.fz_patch.specs.declared.target.Target.{Target}
+use Rattle.fz_laws.specs.FirstPatchFault.{BoxHasNumbers, RowsHaveNumbers}
+use Rattle.fz_laws.specs.PatchLaws.{new_code}
+use Rattle.fz_laws.specs.Writes.{new_codes, row_writes}
+use Rattle.fz_target.specs.Steps.{Wrote, WroteSome}
+use Rattle.fz_target.specs.Targets.{IsGivenTo, IsTarget, IsTargetIn, given_at, plan_to_write}
+use Rattle.fz_target.specs.Tiles.{HasCode, HasFirst, HasNewCode}
+use Rattle.fz_target.specs.Told.{IfBoth}
+use Rattle.fz_target.specs.declared.target.Target.{Target}
 use Rattle.fz_patch.proofs.Boxes.{codes_count, heap_more, next_numbers, rows_more, AreAbove, more_codes, rows_then}
 use Rattle.fz_patch.proofs.NewCodes.{HeaderIsStill}
 use Rattle.fz_patch.proofs.Stays.{IsStill, stands_still, still_then, still_none}
@@ -27,7 +27,7 @@ use Rattle.fz_patch.proofs.Targeted.{table_of, tiles_of, target_still}
 use Rattle.fz_patch.proofs.Written.{after_row}
 use Rattle.fz_patch.proofs.Wrotes.{one-wrote, wrote-then, one-failed, some-back, some-front, wrote-all, wrote-none}
 use Rattle.std.proofs.lemmas.List.{append_assoc}
-use Rattle.fz_patched.specs.NewNumbers.{box_tiles}
+use Rattle.fz_laws.specs.NewNumbers.{box_tiles}
 use Rattle.fz_patch.proofs.Slices.{slice_before}
 
 -- the rows of these tiles say these codes, from this offset on, and the next code begins here

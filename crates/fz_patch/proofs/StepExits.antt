@@ -9,17 +9,17 @@ use Rattle.fz_base.specs.declared.failure.Stop.{Stop}
 use Rattle.fz_base.specs.declared.failure.Stop.TheVariants.{Refused, ReadFault, WriteFault, OverLimit, NoMemory}
 use Rattle.fz_block.specs.Header.{next_start_of, whole_blocks_of}
 use Rattle.fz_fetch.specs.Rows.{StandsWithin}
-use Rattle.fz_patched.specs.FirstPatchFault.{ArePatchSteps, IsBoxFault, IsFaultBehindTarget}
-use Rattle.fz_patched.specs.Given.{PatchJob, given_by}
-use Rattle.fz_patched.specs.Writes.{Steps}
+use Rattle.fz_laws.specs.FirstPatchFault.{ArePatchSteps, IsBoxFault, IsFaultBehindTarget}
+use Rattle.fz_laws.specs.Given.{PatchJob, given_by}
+use Rattle.fz_laws.specs.Writes.{Steps}
 use Rattle.fz_block.specs.declared.header.Header.{Header}
 use Rattle.fz_patch.specs.Clauses.{TellsPatchFault}
-use Rattle.fz_patch.specs.Ends.{Patches, ReadsTiles, SameCounts, StoppedPatching}
+use Rattle.fz_target.specs.Ends.{Patches, ReadsTiles, SameCounts, StoppedPatching}
 use Rattle.fz_patch.specs.Jobs.{ForJobs}
-use Rattle.fz_patch.specs.Steps.{Wrote, WroteSome}
-use Rattle.fz_patch.specs.Targets.{IsGivenTo, IsTarget, given_at}
-use Rattle.fz_patch.specs.Told.{IfBoth}
-use Rattle.fz_patch.specs.declared.target.Target.{Target}
+use Rattle.fz_target.specs.Steps.{Wrote, WroteSome}
+use Rattle.fz_target.specs.Targets.{IsGivenTo, IsTarget, given_at}
+use Rattle.fz_target.specs.Told.{IfBoth}
+use Rattle.fz_target.specs.declared.target.Target.{Target}
 use Rattle.fz_patch.proofs.Amended.{kept-then, rose-from, same-then}
 use Rattle.fz_patch.proofs.CodedEnds.{heap_end_is}
 use Rattle.fz_patch.proofs.EndsTold.{both_of}

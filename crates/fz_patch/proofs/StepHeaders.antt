@@ -15,20 +15,20 @@ use Rattle.fz_head.specs.PackedHeader.{coded_letter, descriptor_form, number_car
 use Rattle.fz_head.specs.PackedPlan.{plan_of_cards}
 use Rattle.fz_head.specs.declared.plan.Plan.{Plan}
 use Rattle.fz_files.specs.Restored.{header_in}
-use Rattle.fz_patched.specs.Form.{has_form, is_wide_table}
-use Rattle.fz_patched.specs.Grown.{CountsGrow, FormsChange, GrownHeadersSayMore, IsCardFor, IsFormFor, OneMoreIsAmended, SaysMore, SumsChange, form_index, longer}
-use Rattle.fz_patched.specs.Headers.{IsAmended}
+use Rattle.fz_laws.specs.PatchForm.{has_form, is_wide_table}
+use Rattle.fz_laws.specs.Grown.{CountsGrow, FormsChange, GrownHeadersSayMore, IsCardFor, IsFormFor, OneMoreIsAmended, SaysMore, SumsChange, form_index, longer}
+use Rattle.fz_laws.specs.PatchHeaders.{IsAmended}
 use Rattle.fz_base.specs.Counts.{Amend}
-use Rattle.fz_patched.specs.Amends.{amended, applied}
-use Rattle.fz_patched.specs.Laws.{CardsStandInPlace}
-use Rattle.fz_patched.specs.Writes.{card_write}
+use Rattle.fz_laws.specs.Amends.{amended, applied}
+use Rattle.fz_laws.specs.PatchLaws.{CardsStandInPlace}
+use Rattle.fz_laws.specs.Writes.{card_write}
 use Rattle.fz_patch.specs.Cards.{HasPlaces, form_card_of, form_write, forms_writes, pcount_at, pcount_card, with_form, with_forms}
-use Rattle.fz_patch.specs.Measures.{HasRoom}
-use Rattle.fz_patch.specs.Targets.{IsFoundBy, IsTarget, IsTargetIn, grown_by}
+use Rattle.fz_target.specs.Measures.{HasRoom}
+use Rattle.fz_target.specs.Targets.{IsFoundBy, IsTarget, IsTargetIn, grown_by}
 use Rattle.fz_patch.specs.declared.column.Forms.{Forms}
-use Rattle.fz_patch.specs.declared.measure.Measure.{Measure}
+use Rattle.fz_target.specs.declared.measure.Measure.{Measure}
 use Rattle.fz_patch.specs.declared.places.Places.{Places}
-use Rattle.fz_patch.specs.declared.target.Target.{Target}
+use Rattle.fz_target.specs.declared.target.Target.{Target}
 use Rattle.fz_patch.proofs.CodedEnds.{HasEnds, ends_of}
 use Rattle.fz_patch.proofs.Slices.{long_written}
 use Rattle.fz_patch.proofs.SumCards.{header_long}

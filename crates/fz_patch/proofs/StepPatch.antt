@@ -15,26 +15,26 @@ use Rattle.fz_head.specs.declared.plan.Plan.{Plan}
 use Rattle.fz_files.specs.FirstFault.{IsFirstRowFault, picked_rows, picked_tiles_of}
 use Rattle.fz_files.specs.Packed.{heap_of, row_of, tiles_in}
 use Rattle.fz_files.specs.Restored.{RowStandsFor, header_in, plan_in}
-use Rattle.fz_patched.specs.Amends.{amend_of, applied}
-use Rattle.fz_patched.specs.FirstPatchFault.{ArePatchSteps, BoxHasNumbers, RowsHaveNumbers, codes_len, room_check}
-use Rattle.fz_patched.specs.Given.{Given, PatchJob}
-use Rattle.fz_patched.specs.Checks.{patch_target}
-use Rattle.fz_patched.specs.Laws.{EachPrefixIsSafe}
-use Rattle.fz_patched.specs.NewNumbers.{box_tiles}
-use Rattle.fz_patched.specs.Safe.{AreAllOld, IsSafeAfter}
-use Rattle.fz_patched.specs.Writes.{Steps, all_writes, before_rows, before_sums, column_writes, header_now, heap_writes, new_codes, pcount_writes, row_writes, said_most, other_rows, steps_of, sum_writes}
+use Rattle.fz_laws.specs.Amends.{amend_of, applied}
+use Rattle.fz_laws.specs.FirstPatchFault.{ArePatchSteps, BoxHasNumbers, RowsHaveNumbers, codes_len, room_check}
+use Rattle.fz_laws.specs.Given.{Given, PatchJob}
+use Rattle.fz_laws.specs.PatchChecks.{patch_target}
+use Rattle.fz_laws.specs.PatchLaws.{EachPrefixIsSafe}
+use Rattle.fz_laws.specs.NewNumbers.{box_tiles}
+use Rattle.fz_laws.specs.Safe.{AreAllOld, IsSafeAfter}
+use Rattle.fz_laws.specs.Writes.{Steps, all_writes, before_rows, before_sums, column_writes, header_now, heap_writes, new_codes, pcount_writes, row_writes, said_most, other_rows, steps_of, sum_writes}
 use Rattle.fz_block.specs.Hdus.{pcount_index}
-use Rattle.fz_patch.specs.Cards.{HasPlaces, forms_writes, pcount_at}
+use Rattle.fz_patch.specs.Cards.{HasPlaces, forms_writes, pcount_at, forms_for}
 use Rattle.fz_patch.specs.Clauses.{LeavesSafe}
 use Rattle.fz_patch.specs.Jobs.{ForJobs}
-use Rattle.fz_patch.specs.Measures.{HasRoom, forms_for, measure_of}
-use Rattle.fz_patch.specs.Steps.{Wrote, WroteSome}
-use Rattle.fz_patch.specs.Targets.{IsGivenTo, IsTargetIn, given_at, grown_by, job_at, plan_to_write}
-use Rattle.fz_patch.specs.Told.{IfBoth}
+use Rattle.fz_target.specs.Measures.{HasRoom, measure_of}
+use Rattle.fz_target.specs.Steps.{Wrote, WroteSome}
+use Rattle.fz_target.specs.Targets.{IsGivenTo, IsTargetIn, given_at, grown_by, job_at, plan_to_write}
+use Rattle.fz_target.specs.Told.{IfBoth}
 use Rattle.fz_patch.specs.declared.column.Forms.{Forms}
-use Rattle.fz_patch.specs.declared.measure.Measure.{Measure}
+use Rattle.fz_target.specs.declared.measure.Measure.{Measure}
 use Rattle.fz_patch.specs.declared.places.Places.{Places}
-use Rattle.fz_patch.specs.declared.target.Target.{Target}
+use Rattle.fz_target.specs.declared.target.Target.{Target}
 use Rattle.fz_patch.proofs.Boxes.{SomeNumbers, some_numbers}
 use Rattle.fz_patch.proofs.EndsTold.{both_of, if_both, some_of}
 use Rattle.fz_patch.proofs.FormCards.{forms_are}

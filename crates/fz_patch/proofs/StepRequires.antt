@@ -4,16 +4,16 @@ use Rattle.std.specs.Option.{option_map}
 use Rattle.std.specs.Prelude.{IfSome}
 use Rattle.fz_block.specs.declared.header.Header.{Header}
 use Rattle.fz_files.specs.Restored.{header_in}
-use Rattle.fz_patched.specs.Amends.{applied}
-use Rattle.fz_patched.specs.Laws.{CardsStandInPlace}
+use Rattle.fz_laws.specs.Amends.{applied}
+use Rattle.fz_laws.specs.PatchLaws.{CardsStandInPlace}
 use Rattle.fz_patch.specs.Cards.{HasPlaces, forms_writes}
-use Rattle.fz_patch.specs.Measures.{HasRoom}
-use Rattle.fz_patch.specs.Steps.{KeepsHeader}
-use Rattle.fz_patch.specs.Targets.{IsFoundBy, IsTarget, IsTargetIn, grown_by}
+use Rattle.fz_target.specs.Measures.{HasRoom}
+use Rattle.fz_target.specs.Steps.{KeepsHeader}
+use Rattle.fz_target.specs.Targets.{IsFoundBy, IsTarget, IsTargetIn, grown_by}
 use Rattle.fz_patch.specs.declared.column.Forms.{Forms}
-use Rattle.fz_patch.specs.declared.measure.Measure.{Measure}
+use Rattle.fz_target.specs.declared.measure.Measure.{Measure}
 use Rattle.fz_patch.specs.declared.places.Places.{Places}
-use Rattle.fz_patch.specs.declared.target.Target.{Target}
+use Rattle.fz_target.specs.declared.target.Target.{Target}
 use Rattle.fz_patch.proofs.CodedEnds.{ends_of}
 use Rattle.fz_patch.proofs.EndsTold.{some_of}
 use Rattle.fz_patch.proofs.StepHeaders.{StepLaws, all_there, grown_said}

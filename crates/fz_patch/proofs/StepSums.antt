@@ -8,25 +8,24 @@ use Rattle.std.proofs.lemmas.Slice.Eq.{bytes_eq-Decides}
 use Rattle.fz_card.specs.CardLists.{has_name}
 use Rattle.fz_card.specs.Laws.{CardLaws}
 use Rattle.fz_card.specs.Layout.{card_name}
-use Rattle.fz_card.specs.Reading.{text_of}
+use Rattle.fz_card.specs.Reading.{text_of, integer_of}
 use Rattle.fz_block.specs.Cards.{card_at, end_of}
 use Rattle.fz_block.specs.Facts.{facts_of}
 use Rattle.fz_block.specs.Hdus.{cards_of, pcount_index, size_at, size_in}
 use Rattle.fz_block.specs.Header.{data_start_of, whole_blocks_of}
 use Rattle.fz_block.specs.Walk.{hdu_of}
 use Rattle.fz_block.specs.declared.header.Header.{Header}
-use Rattle.fz_card.specs.Reading.{integer_of}
 use Rattle.fz_sum.specs.Cards.{blank_checksum_card, checksum_card, checksum_name, datasum_card, datasum_name, with_card}
 use Rattle.fz_sum.specs.Sums.{ones_sum}
 use Rattle.fz_sum.specs.Verdicts.{is_some_text}
 use Rattle.fz_head.specs.CardLists.{index_of}
 use Rattle.fz_files.specs.Restored.{header_in}
-use Rattle.fz_patched.specs.Amends.{applied}
-use Rattle.fz_patched.specs.Grown.{IsCardFor, IsFoundHeader, SaysMore, longer}
-use Rattle.fz_patched.specs.Headers.{IsAmended}
-use Rattle.fz_patched.specs.Laws.{CardsStandInPlace}
-use Rattle.fz_patched.specs.Writes.{card_write, checksum_writes, data_now, datasum_writes, header_now, sum_writes, told_sum}
-use Rattle.fz_patched.specs.Writes as patched
+use Rattle.fz_laws.specs.Amends.{applied}
+use Rattle.fz_laws.specs.Grown.{IsCardFor, IsFoundHeader, SaysMore, longer}
+use Rattle.fz_laws.specs.PatchHeaders.{IsAmended}
+use Rattle.fz_laws.specs.PatchLaws.{CardsStandInPlace}
+use Rattle.fz_laws.specs.Writes.{card_write, checksum_writes, data_now, datasum_writes, header_now, sum_writes, told_sum}
+use Rattle.fz_laws.specs.Writes as patched
 use Rattle.fz_patch.specs.Cards.{checksum_write, datasum_write, sums_writes, with_datasum}
 use Rattle.fz_patch.proofs.Slices.{rest_after}
 use Rattle.fz_patch.proofs.StepHeaders.{StepLaws}

@@ -20,9 +20,9 @@ use Rattle.fz_sum.specs.Sums.{ones_sum}
 use Rattle.fz_sum.specs.Verdicts.{is_some_text}
 use Rattle.fz_table.specs.Columns.{first_named}
 use Rattle.fz_head.specs.CardLists.{index_of}
-use Rattle.fz_patched.specs.Writes.{told_sum}
+use Rattle.fz_laws.specs.Writes.{told_sum}
 use Rattle.fz_patch.specs.Cards.{checksum_write, datasum_write, sums_writes, with_datasum}
-use Rattle.fz_patch.specs.Steps.{Wrote, WroteSome}
+use Rattle.fz_target.specs.Steps.{Wrote, WroteSome}
 use Rattle.fz_patch.proofs.Wrotes.{some-back, some-front, wrote-then}
 
 -- the first card with a property is that of the bytes and that of the list

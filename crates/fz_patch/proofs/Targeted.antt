@@ -5,11 +5,11 @@ use Rattle.fz_block.specs.Header.{data_start_of}
 use Rattle.fz_table.specs.Rows.{IsTable}
 use Rattle.fz_files.specs.FirstFault.{picked_tiles_of}
 use Rattle.fz_files.specs.Restored.{header_in, image_table, plan_in}
-use Rattle.fz_patched.specs.Form.{is_wide_table}
-use Rattle.fz_patched.specs.Given.{box_sieve}
-use Rattle.fz_patched.specs.NewNumbers.{box_tiles}
-use Rattle.fz_patch.specs.Targets.{IsGivenTo, IsTarget, IsTargetIn, given_at}
-use Rattle.fz_patch.specs.declared.target.Target.{Target}
+use Rattle.fz_laws.specs.PatchForm.{is_wide_table}
+use Rattle.fz_laws.specs.Given.{box_sieve}
+use Rattle.fz_laws.specs.NewNumbers.{box_tiles}
+use Rattle.fz_target.specs.Targets.{IsGivenTo, IsTarget, IsTargetIn, given_at}
+use Rattle.fz_target.specs.declared.target.Target.{Target}
 use Rattle.fz_patch.proofs.Stays.{IsStill, plan_still, table_still}
 use Rattle.fz_patch.proofs.Written.{after_heap}
 

@@ -9,8 +9,8 @@ use Rattle.std.proofs.lemmas.Bool.{cases_lt}
 use Rattle.fz_base.specs.Counts.{Amend}
 use Rattle.fz_base.specs.Sink.{written}
 use Rattle.fz_base.specs.Store.{MayAmend, with_write}
-use Rattle.fz_patched.specs.Amends.{amended, applied}
-use Rattle.fz_patch.specs.Steps.{HasFirstOf, Wrote, WroteSome}
+use Rattle.fz_laws.specs.Amends.{amended, applied}
+use Rattle.fz_target.specs.Steps.{HasFirstOf, Wrote, WroteSome}
 
 pub applied-append : (front back : List Amend) (file : List ℕ) → applied (front ++ back) file ≡ applied back (applied front file)
 applied-append [] back file = refl

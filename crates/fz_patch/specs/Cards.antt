@@ -1,5 +1,5 @@
 -- The cards of a header that are changed (FITS 4.0, sections 4.4.2.7 and 7.3.1).
-use Rattle.std.specs.Prelude.{ℕ, ◌≡◌, ◌+◌, ◌*◌, ◌≤◌, List, [], ◌∷◌, ◌++◌, length, codes, Option, Some, None, unwrap_or}
+use Rattle.std.specs.Prelude.{ℕ, ◌≡◌, ◌+◌, ◌*◌, ◌≤◌, List, [], ◌∷◌, ◌++◌, length, codes, Option, Some, None, unwrap_or, ◌-◌}
 use Rattle.fz_base.specs.Counts.{Amend}
 use Rattle.fz_block.specs.Walk.{hdu_of}
 use Rattle.fz_block.specs.declared.header.Header.{Header}
@@ -7,11 +7,14 @@ use Rattle.fz_head.specs.PackedHeader.{coded_letter, descriptor_form, number_car
 use Rattle.fz_sum.specs.Cards.{blank_checksum_card, checksum_card, checksum_name, datasum_card, datasum_name, with_card}
 use Rattle.fz_sum.specs.Sums.{ones_sum}
 use Rattle.fz_table.specs.Columns.{tform_card}
-use Rattle.fz_patched.specs.Writes.{card_write, told_sum}
+use Rattle.fz_laws.specs.Writes.{card_write, told_sum}
 use Rattle.fz_patch.specs.declared.column.Forms.{Forms}
-use Rattle.fz_patch.specs.declared.measure.Measure.{Measure}
+use Rattle.fz_target.specs.declared.measure.Measure.{Measure}
 use Rattle.fz_patch.specs.declared.places.Places.{Places}
-use Rattle.fz_patch.specs.declared.target.Target.{Target}
+use Rattle.fz_target.specs.declared.target.Target.{Target}
+use Rattle.fz_head.specs.Greatest.{greatest}
+use Rattle.fz_table.specs.declared.row.Row.{Row}
+use Rattle.fz_target.specs.Measures.{counted_with_all, form_for}
 
 -- a card of this index is in the header
 abbrev pub IsCardIn : List ℕ → ℕ → Type 0
@@ -81,3 +84,10 @@ sums_writes h file header =
     let sum = ones_sum payload in
     let datasum = told_sum datasum_name header in
     datasum_write h datasum sum ++ checksum_write h (told_sum checksum_name header) payload (with_datasum datasum sum header)
+
+-- the forms of both columns, which say these greatest counts so far
+abbrev pub forms_for : ℕ → ℕ → Measure → List Row → Forms
+forms_for coded stored m others = record {
+  coded = form_for coded m.coded (counted_with_all m others).coded;
+  stored = form_for stored m.stored (counted_with_all m others).stored;
+}

@@ -11,16 +11,16 @@ use Rattle.fz_block.specs.Checks.{headers_of, unjudged}
 use Rattle.fz_block.specs.Takings.{walk_takings}
 use Rattle.fz_block.specs.declared.header.Header.{Header}
 use Rattle.fz_job.specs.Clauses.{IfOverLimit, IsAnswer, IsChanged, IsOfSomeRow}
-use Rattle.fz_patched.specs.Amends.{applied}
-use Rattle.fz_patched.specs.Buffers.{patch_bound, patch_takings, second_takings}
-use Rattle.fz_patched.specs.FirstPatchFault.{ArePatchSteps, IsFirstPatchFault}
-use Rattle.fz_patched.specs.Given.{PatchJob, given_by}
-use Rattle.fz_patched.specs.Patched.{IsPatched}
-use Rattle.fz_patched.specs.Safe.{IsSafeAfter}
-use Rattle.fz_patched.specs.Writes.{Steps, all_writes}
-use Rattle.fz_patch.specs.Ends.{SameCounts}
-use Rattle.fz_patch.specs.Steps.{Wrote, WroteSome}
-use Rattle.fz_patch.specs.Told.{IfBoth}
+use Rattle.fz_laws.specs.Amends.{applied}
+use Rattle.fz_laws.specs.PatchBuffers.{patch_bound, patch_takings, second_takings}
+use Rattle.fz_laws.specs.FirstPatchFault.{ArePatchSteps, IsFirstPatchFault}
+use Rattle.fz_laws.specs.Given.{PatchJob, given_by}
+use Rattle.fz_laws.specs.Patched.{IsPatched}
+use Rattle.fz_laws.specs.Safe.{IsSafeAfter}
+use Rattle.fz_laws.specs.Writes.{Steps, all_writes}
+use Rattle.fz_target.specs.Ends.{SameCounts}
+use Rattle.fz_target.specs.Steps.{Wrote, WroteSome}
+use Rattle.fz_target.specs.Told.{IfBoth}
 
 -- after Ok the patch has no fault, and after Refused x its first fault is x
 abbrev pub TellsPatchFault : {X : Type 0} → PatchJob → Option (List ℕ) → Option (List ℕ) → Result X Stop → Type 0

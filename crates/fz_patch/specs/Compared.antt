@@ -1,17 +1,14 @@
 -- Bytes that a file has at a place, and rows that describe such bytes (FITS 4.0, sections 7.3.5 and 10.1.3).
-use Rattle.std.specs.Prelude.{ℕ, ◌≡◌, ◌+◌, ◌-◌, Bool, true, bytes_eq, List, [], ◌∷◌, length, take, drop, Option, ⊤}
+use Rattle.std.specs.Prelude.{ℕ, ◌≡◌, ◌+◌, ◌-◌, true, List, [], ◌∷◌, length, take, drop, Option, ⊤}
 use Rattle.fz_base.specs.Counts.{Amend}
+use Rattle.fz_base.specs.Source.{has_bytes}
 use Rattle.fz_head.specs.declared.plan.Plan.{Plan}
 use Rattle.fz_table.specs.declared.table.Table.{Table}
 use Rattle.fz_tile.specs.TileCode.{TileCode}
-use Rattle.fz_patched.specs.Writes.{row_writes}
-use Rattle.fz_patch.specs.Measures.{is_measured}
-use Rattle.fz_patch.specs.Steps.{WroteSome}
-use Rattle.fz_patch.specs.declared.measure.Measure.{Measure}
-
--- the file has these bytes from a place on
-abbrev pub has_bytes : List ℕ → ℕ → List ℕ → Bool
-has_bytes file at bytes = bytes_eq (take (length bytes) (drop at file)) bytes
+use Rattle.fz_laws.specs.Writes.{row_writes}
+use Rattle.fz_target.specs.Measures.{is_measured}
+use Rattle.fz_target.specs.Steps.{WroteSome}
+use Rattle.fz_target.specs.declared.measure.Measure.{Measure}
 
 -- the heap of a table ends with these bytes
 abbrev pub HeapEndsWith : List ℕ → Table → List ℕ → Type 0

@@ -6,11 +6,11 @@ use Rattle.fz_block.specs.Facts.{IsHeaderOf}
 use Rattle.fz_block.specs.Header.{next_start_of}
 use Rattle.fz_block.specs.declared.header.Header.{Header}
 use Rattle.fz_block.specs.declared.next.ReadHeader.{ReadHeader}
-use Rattle.fz_patched.specs.Checks.{patch_target, wanted_image}
-use Rattle.fz_patched.specs.Given.{PatchJob}
-use Rattle.fz_patch.specs.Targets.{IsGivenTo, job_at}
-use Rattle.fz_patch.specs.Told.{IfBoth}
-use Rattle.fz_patch.specs.declared.target.Target.{Target}
+use Rattle.fz_laws.specs.PatchChecks.{patch_target, wanted_image}
+use Rattle.fz_laws.specs.Given.{PatchJob}
+use Rattle.fz_target.specs.Targets.{IsGivenTo, job_at}
+use Rattle.fz_target.specs.Told.{IfBoth}
+use Rattle.fz_target.specs.declared.target.Target.{Target}
 
 -- If both files show their bytes: of each job that puts PATCH there, and for which no check before the rows refuses.
 abbrev pub ForJobs : Option (List ℕ) → Option (List ℕ) → Target → (PatchJob → List ℕ → List ℕ → Type 0) → Type 0

@@ -1,10 +1,4 @@
 pub mod Cards
 pub mod Clauses
 pub mod Compared
-pub mod Ends
 pub mod Jobs
-pub mod Measures
-pub mod Steps
-pub mod Targets
-pub mod Tiles
-pub mod Told

@@ -3,23 +3,22 @@ ghost use Rattle.std.specs.Prelude.{◌≡◌, ◌+◌, ◌<◌, ◌≤◌, ◌^
 ghost use Rattle.std.specs.List.{list_all};
 ghost use Rattle.fz_base.specs.Store.{HasAtLeast};
 ghost use Rattle.fz_block.specs.Facts.{IsHeaderOf};
-ghost use Rattle.fz_patched.specs.Writes.{card_write};
+ghost use Rattle.fz_laws.specs.Writes.{card_write};
 ghost use Rattle.fz_sum.specs.Cards.{with_card};
 ghost use Rattle.fz_patch.specs.Cards.{IsCardIn, form_write, forms_writes, pcount_at, with_form, with_forms};
-ghost use Rattle.fz_patch.specs.Ends.{AmendsStore};
-ghost use Rattle.fz_patch.specs.Measures.{HasRoom};
-ghost use Rattle.fz_patch.specs.Steps.{KeepsReach, Wrote, WroteSome};
-ghost use Rattle.fz_patch.specs.Targets.{IsTarget};
+ghost use Rattle.fz_target.specs.Ends.{AmendsStore};
+ghost use Rattle.fz_target.specs.Measures.{HasRoom};
+ghost use Rattle.fz_target.specs.Steps.{KeepsReach, Wrote, WroteSome};
+ghost use Rattle.fz_target.specs.Targets.{IsTarget};
 
 use crate::column::Forms;
-use crate::measure::Measure;
 use crate::places::Places;
 use crate::settled::settle;
-use crate::target::Target;
 use fz_base::{Stop, Store, amend_at};
 use fz_block::Header;
 use fz_card::{CARD_LEN, Card, Name, int_card};
 use fz_head::{coded_letter, form_card, stored_letter};
+use fz_target::{Measure, Target};
 
 /// Writes PCOUNT, and then the forms that have to say more. The buffer with the header is changed alike.
 pub(crate) fn write_cards<D: Store>(

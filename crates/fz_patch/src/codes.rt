@@ -1,31 +1,28 @@
 //! The new codes, from the heap's end on: the second pass over the tiles with a pixel in the box.
 ghost use Rattle.std.specs.Prelude.{ℕ, ◌≡◌, ◌+◌, ◌≤◌, ◌^◌, ℤ, List, length as len, IfSome, OnOk};
+ghost use Rattle.fz_base.specs.Keeps.{SourceStays};
 ghost use Rattle.fz_base.specs.Stop.{IfRefused, IsRefused};
 ghost use Rattle.fz_base.specs.Store.{HasAtLeast};
 ghost use Rattle.fz_base.specs.Told.{StaysTold};
-ghost use Rattle.fz_fetch.specs.Images.{HaveRoom};
+ghost use Rattle.fz_job.specs.Images.{HaveRoom};
 ghost use Rattle.fz_fetch.specs.Rows.{StandsWithin};
 ghost use Rattle.fz_files.specs.Packed.{heap_of};
-ghost use Rattle.fz_job.specs.Keeps.{SourceStays, WindowStays};
-ghost use Rattle.fz_patched.specs.FirstPatchFault.{BoxHasNumbers};
-ghost use Rattle.fz_patched.specs.NewNumbers.{box_tiles};
-ghost use Rattle.fz_patched.specs.Writes.{grown_end, heap_writes, new_codes, zero_writes};
+ghost use Rattle.fz_laws.specs.FirstPatchFault.{BoxHasNumbers};
+ghost use Rattle.fz_laws.specs.NewNumbers.{box_tiles};
+ghost use Rattle.fz_laws.specs.Writes.{grown_end, heap_writes, new_codes, zero_writes};
 ghost use Rattle.fz_pool.specs.Round.{coded_tile};
-ghost use Rattle.fz_patch.specs.Ends.{AmendsStore, Patches};
-ghost use Rattle.fz_patch.specs.Measures.{HasRoom};
-ghost use Rattle.fz_patch.specs.Steps.{ComesInWork, KeepsHeader, KeepsReach, Wrote, WroteSome};
-ghost use Rattle.fz_patch.specs.Targets.{GivesWithin, IsGivenTo, IsTarget, IsTargetIn, given_at};
-ghost use Rattle.fz_patch.specs.Told.{IfBoth};
+ghost use Rattle.fz_target.specs.Ends.{AmendsStore, Patches};
+ghost use Rattle.fz_target.specs.Measures.{HasRoom};
+ghost use Rattle.fz_target.specs.Steps.{ComesInWork, KeepsHeader, KeepsReach, Wrote, WroteSome};
+ghost use Rattle.fz_target.specs.Targets.{GivesWithin, IsGivenTo, IsTarget, IsTargetIn, given_at};
+ghost use Rattle.fz_target.specs.Told.{IfBoth};
+ghost use Rattle.fz_pool.specs.Window.{WindowStays};
 
-use crate::find::changed;
-use crate::measure::Measure;
 use crate::settled::settle;
-use crate::target::Target;
-use crate::tile::prepare_tile;
-use crate::walk::{code_slot, tiles_in_box};
 use fz_base::{Source, Stop, Store, amend_at};
 use fz_block::BLOCK_LEN;
 use fz_pool::{Slot, Window};
+use fz_target::{Measure, Target, changed, code_slot, prepare_tile, tiles_in_box};
 use std::thread::Threads;
 
 /// Writes the new codes of all tiles with a pixel in the box, one after another, and zeros to a whole block.
@@ -69,7 +66,7 @@ pub(crate) fn write_codes<R: Threads + Sync, D: Store, S: Source>(
     ensures copy { len copy.new ≡ len copy.old }
     ensures reach { KeepsReach (D.attached store.old) (D.attached store.new) }
     ensures told { StaysTold (D.held store.old) (D.held store.new) }
-    ensures patch { SourceStays (S.held patch.old) (S.held patch.new) (S.attached patch.old) (S.attached patch.new) }
+    ensures patch { SourceStays S.held S.attached S.ranges patch.old patch.new }
     ensures cause { Patches (D.tally store.old) (D.tally store.new) (S.tally patch.old) (S.tally patch.new) result }
 {
     let mut at = target.heap_end();

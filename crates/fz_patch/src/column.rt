@@ -1,21 +1,19 @@
 //! The greatest counts that the columns say after the patch, if they do not say enough.
 ghost use Rattle.std.specs.Prelude.{◌≡◌, ◌+◌, ◌-◌, ◌*◌, ◌^◌, ◌<◌, ◌≤◌, length as len, Some, None, IfOk, IfSome, if◌then◌else◌};
+ghost use Rattle.fz_base.specs.Keeps.{SourceStays};
 ghost use Rattle.fz_base.specs.Stop.{OnlyReads};
 ghost use Rattle.fz_block.specs.Facts.{IsHeaderOf};
 ghost use Rattle.fz_fetch.specs.Rows.{StandsWithin};
 ghost use Rattle.fz_files.specs.FirstFault.{picked_tiles_of};
-ghost use Rattle.fz_job.specs.Keeps.{SourceStays};
 ghost use Rattle.fz_table.specs.Rows.{IsTable};
-ghost use Rattle.fz_patched.specs.Writes.{other_rows, said_most as said_most_of};
-ghost use Rattle.fz_patch.specs.Measures.{counted_rows, counted_with, counted_with_all, forms_for};
-ghost use Rattle.fz_patch.specs.Targets.{IsTarget};
+ghost use Rattle.fz_laws.specs.Writes.{other_rows, said_most as said_most_of};
+ghost use Rattle.fz_target.specs.Measures.{counted_rows, counted_with, counted_with_all};
+ghost use Rattle.fz_patch.specs.Cards.{forms_for};
+ghost use Rattle.fz_target.specs.Targets.{IsTarget};
 
-use crate::measure::Measure;
-use crate::most::said_most;
-use crate::target::Target;
-use crate::walk::tiles_in_box;
 use fz_base::{Source, Stop};
 use fz_table::{Row, Table, row_in, row_in_law};
+use fz_target::{Measure, Target, said_most, tiles_in_box};
 
 /// The greatest counts that TFORM1 and TFORM2 come to say; none for a card that stays.
 #[derive(Clone, Copy, Debug)]
@@ -41,7 +39,7 @@ pub(crate) fn find_forms<D: Source>(
         (other_rows f target.now.image.table (picked_tiles_of target.now.image.plan target.now.sieve)))) }
     ensures small { IfOk result (λ forms. IfSome forms.coded (λ n. n < 2 ^ 64) × IfSome forms.stored (λ n. n < 2 ^ 64)) }
     ensures copy { len copy.new ≡ len copy.old }
-    ensures store { SourceStays (D.held store.old) (D.held store.new) (D.attached store.old) (D.attached store.new) }
+    ensures store { SourceStays D.held D.attached D.ranges store.old store.new }
     ensures cause { OnlyReads (D.tally store.old) (D.tally store.new) result }
 {
     let coded = said_most(&target.header, buf, 1) < found.coded;
@@ -80,7 +78,7 @@ fn with_other_rows<D: Source>(
     ensures all { IfOk result (λ m. IfSome (D.held store.old) (λ f. m ≡ counted_with_all found.now
         (other_rows f target.now.image.table (picked_tiles_of target.now.image.plan target.now.sieve)))) }
     ensures copy { len copy.new ≡ len copy.old }
-    ensures store { SourceStays (D.held store.old) (D.held store.new) (D.attached store.old) (D.attached store.new) }
+    ensures store { SourceStays D.held D.attached D.ranges store.old store.new }
     ensures cause { OnlyReads (D.tally store.old) (D.tally store.new) result }
 {
     let table = &target.image.table;
@@ -109,7 +107,7 @@ fn with_rows<D: Source>(
     requires copy { 4096 ≤ len copy.old }
     ensures counted { IfOk result (λ m. IfSome (D.held store.old) (λ f. m ≡ counted_rows found.now f table.now first (end - first))) }
     ensures copy { len copy.new ≡ len copy.old }
-    ensures store { SourceStays (D.held store.old) (D.held store.new) (D.attached store.old) (D.attached store.new) }
+    ensures store { SourceStays D.held D.attached D.ranges store.old store.new }
     ensures cause { OnlyReads (D.tally store.old) (D.tally store.new) result }
 {
     let most = copy.len() / table.row_bytes as usize;
@@ -139,7 +137,7 @@ fn with_neighbours<D: Source>(
     requires copy { table.now.row_bytes * count ≤ len copy.old }
     ensures counted { IfOk result (λ m. IfSome (D.held store.old) (λ f. m ≡ counted_rows found.now f table.now first count)) }
     ensures copy { len copy.new ≡ len copy.old }
-    ensures store { SourceStays (D.held store.old) (D.held store.new) (D.attached store.old) (D.attached store.new) }
+    ensures store { SourceStays D.held D.attached D.ranges store.old store.new }
     ensures cause { OnlyReads (D.tally store.old) (D.tally store.new) result }
 {
     row_in_law();

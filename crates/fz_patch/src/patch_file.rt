@@ -1,6 +1,7 @@
 //! The call: all checks of headers, all buffers, and then the writes.
 ghost use Rattle.std.specs.Prelude.{ℕ, ◌≡◌, ◌⊎◌, ◌+◌, ◌<◌, ◌≤◌, ◌^◌, max, sum, false, Option, Ok, Some, length as len, IfOk, IfSome, OnErr, OnOk};
 ghost use Rattle.fz_base.specs.Counts.{CountsKept};
+ghost use Rattle.fz_base.specs.Keeps.{SourceStays};
 ghost use Rattle.fz_base.specs.Meter.{taken};
 ghost use Rattle.fz_base.specs.Refusal.{first_refusal};
 ghost use Rattle.fz_base.specs.Stop.{IfRefused, IsRefused, ReadsAndTakes, TellsLimit};
@@ -14,27 +15,36 @@ ghost use Rattle.fz_block.specs.Takings.{header_taking};
 ghost use Rattle.fz_files.specs.Restored.{header_in, pixels_of};
 ghost use Rattle.fz_head.specs.WorkBuffers.{work_buffers};
 ghost use Rattle.fz_job.specs.Clauses.{IfOverLimit};
-ghost use Rattle.fz_job.specs.Keeps.{SourceStays};
-ghost use Rattle.fz_patched.specs.Buffers.{given_takings, patch_takings};
-ghost use Rattle.fz_patched.specs.Checks.{own_checks};
+ghost use Rattle.fz_laws.specs.PatchBuffers.{given_takings, patch_takings};
+ghost use Rattle.fz_laws.specs.PatchChecks.{own_checks};
 ghost use Rattle.fz_patch.specs.Clauses.{AnswersPatch, HasPatchCause, IsPatchedBy, IsUnwritten, KeepsPatchBuffers, LeavesSafe, TellsPatchFault};
 ghost use Rattle.fz_patch.specs.Clauses.{IsUnpassed, greatest_patch_bound, later_takings};
-ghost use Rattle.fz_patch.specs.Ends.{WorksInPlace};
+ghost use Rattle.fz_target.specs.Ends.{WorksInPlace};
 ghost use Rattle.fz_patch.specs.Jobs.{ForJobs, IsWanted, IsReadAgain};
-ghost use Rattle.fz_patch.specs.Steps.{ComesInWork, KeepsReach};
-ghost use Rattle.fz_patch.specs.Targets.{GivesWithin, IsCorner, IsFoundBy, IsTarget, IsTargetIn, job_at};
-ghost use Rattle.fz_patch.specs.Told.{IfBoth};
+ghost use Rattle.fz_target.specs.Steps.{ComesInWork, KeepsReach};
+ghost use Rattle.fz_target.specs.Targets.{GivesWithin, IsCorner, IsFoundIn, job_at};
+ghost use Rattle.fz_target.specs.Told.{IfBoth};
 
-use crate::find::{changed, find_target};
 use crate::steps::write_patch;
-use crate::target::Target;
 use fz_base::{Meter, NoMemory, Source, Stop, Store, takings_law};
 use fz_block::{BLOCK_LEN, Header, ReadHeader, found_hdus_law, hdu_at_law, header_at};
-use fz_patched::{one_patch_law, patch_buffers_law, safe_patch_law};
+use fz_job::{Wants, Workspace, survey_every, survey_law, survey_to_amend, workspace_law};
+use fz_laws::{one_patch_law, patch_buffers_law, safe_patch_law};
 use fz_pool::{Window, sizes_law};
-use fz_survey::{Wants, Workspace, survey_every, survey_law, survey_to_amend, workspace_law};
+use fz_target::{Asked, Target, changed, find_target};
 use std::alloc::Global;
 use std::thread::Threads;
+
+/// What is asked for, and what works on it.
+#[derive(Drop)]
+struct Patching<'r, 'c, R> {
+    /// What starts threads.
+    rt: &'r R,
+    /// What the window is allocated with.
+    alloc: Global,
+    /// What is asked for.
+    asked: Asked<'c>,
+}
 
 /// Puts the image of the first HDU of the file PATCH, which is attached to the source, into a packed image of the file
 /// FILE, which is attached to the store, in place: into that of the HDU of this number, or of the first that is packed.
@@ -48,7 +58,7 @@ use std::thread::Threads;
 /// if the heap with the new codes is longer than one may be (at card 5). Of a file that gives other bytes at a later reading
 /// also BadCard at card 0, or a row, which may come after some of the writes.
 ///
-/// The writes are those of `fz_patched`, in its order; each step is on the disk before the next one begins.
+/// The writes are those of `fz_laws`, in its order; each step is on the disk before the next one begins.
 pub fn patch<R: Threads + Sync, D: Store, S: Source>(
     rt: &R,
     alloc: Global,
@@ -84,57 +94,48 @@ pub fn patch<R: Threads + Sync, D: Store, S: Source>(
     ensures reach { KeepsReach (D.attached store.old) (D.attached store.new) }
     ensures told { StaysTold (D.held store.old) (D.held store.new) }
     ensures counts { StoreKept (D.tally store.old) (D.tally store.new) × CountsKept (S.tally patch.old) (S.tally patch.new) }
-    ensures kept { SourceStays (S.held patch.old) (S.held patch.new) (S.attached patch.old) (S.attached patch.new) }
+    ensures kept { SourceStays S.held S.attached S.ranges patch.old patch.new }
 {
     // No taking passes the bound.
     patch_buffers_law();
     takings_law();
-    let mut block = meter.bytes(BLOCK_LEN as u64)?;
-    let answer = with_block(
-        rt,
-        alloc,
-        store,
+    let asked = Asked {
         length,
-        patch,
         patch_length,
-        meter,
-        hdu,
         corner,
-        block.as_mut_slice(),
-    );
+    };
+    let patching = Patching { rt, alloc, asked };
+    let mut block = meter.bytes(BLOCK_LEN as u64)?;
+    let answer = with_block(&patching, store, patch, meter, hdu, block.as_mut_slice());
     meter.give_bytes(block);
     answer
 }
 
 // Looks at all headers of FILE, finds the image, keeps its header, and patches it.
 fn with_block<R: Threads + Sync, D: Store, S: Source>(
-    rt: &R,
-    alloc: Global,
+    patching: &Patching<'_, '_, R>,
     store: &mut D,
-    length: u64,
     patch: &mut S,
-    patch_length: u64,
     meter: &mut Meter,
     hdu: Option<u32>,
-    corner: &[u32],
     block: &mut [u8],
 ) -> Result<(), Stop>
-    requires attached { D.attached store.old ≡ Some length }
-    requires given { S.attached patch.old ≡ Some patch_length }
+    requires attached { D.attached store.old ≡ Some patching.now.asked.length }
+    requires given { S.attached patch.old ≡ Some patching.now.asked.patch_length }
     requires one_block { meter.old.live ≡ 2880 }
-    requires corner { IsCorner corner.now }
+    requires corner { IsCorner patching.now.asked.corner.now }
     requires block { len block.old ≡ 2880 }
     ensures patched { OnOk result (IfBoth (D.held store.old) (S.held patch.old)
-        (IsPatchedBy (job_at hdu corner.now) (D.held store.new) (D.tally store.old).amended.writes (D.tally store.new).amended.writes)) }
+        (IsPatchedBy (job_at hdu patching.now.asked.corner.now) (D.held store.new) (D.tally store.old).amended.writes (D.tally store.new).amended.writes)) }
     ensures safe { IfBoth (D.held store.old) (S.held patch.old)
-        (LeavesSafe (job_at hdu corner.now) (D.held store.new) (D.tally store.old).amended.writes (D.tally store.new).amended.writes) }
-    ensures unwritten { IsUnwritten (D.held store.old) (S.held patch.old) meter.old.limit (λ g p. later_takings g p (job_at hdu corner.now))
+        (LeavesSafe (job_at hdu patching.now.asked.corner.now) (D.held store.new) (D.tally store.old).amended.writes (D.tally store.new).amended.writes) }
+    ensures unwritten { IsUnwritten (D.held store.old) (S.held patch.old) meter.old.limit (λ g p. later_takings g p (job_at hdu patching.now.asked.corner.now))
         ((D.held store.new ≡ D.held store.old) × ((D.tally store.new).amended ≡ (D.tally store.old).amended)) result }
-    ensures first_fault { TellsPatchFault (job_at hdu corner.now) (D.held store.old) (S.held patch.old) result }
+    ensures first_fault { TellsPatchFault (job_at hdu patching.now.asked.corner.now) (D.held store.old) (S.held patch.old) result }
     ensures first_past { IfBoth (D.held store.old) (S.held patch.old)
-        (λ g p. TellsFirstPast meter.old.limit (later_takings g p (job_at hdu corner.now)) result) }
+        (λ g p. TellsFirstPast meter.old.limit (later_takings g p (job_at hdu patching.now.asked.corner.now)) result) }
     ensures peak { IfBoth (D.held store.old) (S.held patch.old)
-        (λ g p. meter.new.peak ≤ max meter.old.peak (highest (later_takings g p (job_at hdu corner.now)))) }
+        (λ g p. meter.new.peak ≤ max meter.old.peak (highest (later_takings g p (job_at hdu patching.now.asked.corner.now)))) }
     ensures most { TellsLimit meter.old.limit greatest_patch_bound result }
     ensures peak_most { meter.new.peak ≤ max meter.old.peak greatest_patch_bound }
     ensures live { meter.new.live ≡ meter.old.live }
@@ -142,7 +143,7 @@ fn with_block<R: Threads + Sync, D: Store, S: Source>(
     ensures risen { meter.old.peak ≤ meter.new.peak }
     ensures reach { KeepsReach (D.attached store.old) (D.attached store.new) }
     ensures told { StaysTold (D.held store.old) (D.held store.new) }
-    ensures patch { SourceStays (S.held patch.old) (S.held patch.new) (S.attached patch.old) (S.attached patch.new) }
+    ensures patch { SourceStays S.held S.attached S.ranges patch.old patch.new }
     ensures cause { WorksInPlace (D.tally store.old) (D.tally store.new) (S.tally patch.old) (S.tally patch.new) meter.old.limit result }
 {
     // The first look goes over all headers, and the second up to the HDU that is wanted, which is found where it begins.
@@ -150,18 +151,15 @@ fn with_block<R: Threads + Sync, D: Store, S: Source>(
     hdu_at_law();
     survey_law();
     takings_law();
+    let length = patching.asked.length;
     survey_every(store, length, meter, block)?;
     let found = survey_to_amend(store, length, meter, block, hdu)?;
     let mut kept = read_again(store, length, &found, meter, block)?;
     let answer = with_header(
-        rt,
-        alloc,
+        patching,
         store,
-        length,
         patch,
-        patch_length,
         meter,
-        corner,
         &kept.facts,
         kept.bytes.as_mut_slice(),
         block,
@@ -192,7 +190,7 @@ fn read_again<D: Source>(
     ensures most { TellsLimit meter.old.limit (meter.old.live + 737280) result }
     ensures peak_most { meter.new.peak ≤ max meter.old.peak (meter.old.live + 737280) }
     ensures block { len block.new ≡ 2880 }
-    ensures store { SourceStays (D.held store.old) (D.held store.new) (D.attached store.old) (D.attached store.new) }
+    ensures store { SourceStays D.held D.attached D.ranges store.old store.new }
     ensures cause { ReadsAndTakes (D.tally store.old) (D.tally store.new) meter.old.limit result }
 {
     // A header that begins where the file ends, or after that, is not the one that was found.
@@ -208,47 +206,45 @@ fn read_again<D: Source>(
 
 // Finds what is patched, and by what, and patches it.
 fn with_header<R: Threads + Sync, D: Store, S: Source>(
-    rt: &R,
-    alloc: Global,
+    patching: &Patching<'_, '_, R>,
     store: &mut D,
-    length: u64,
     patch: &mut S,
-    patch_length: u64,
     meter: &mut Meter,
-    corner: &[u32],
     header: &Header,
     buf: &mut [u8],
     block: &mut [u8],
 ) -> Result<(), Stop>
-    requires attached { D.attached store.old ≡ Some length }
-    requires given { S.attached patch.old ≡ Some patch_length }
-    requires corner { IsCorner corner.now }
+    requires attached { D.attached store.old ≡ Some patching.now.asked.length }
+    requires given { S.attached patch.old ≡ Some patching.now.asked.patch_length }
+    requires corner { IsCorner patching.now.asked.corner.now }
     requires header { IsHeaderOf buf.old header.now }
-    requires end { (next_start_of header.now ≤ length) × (next_start_of header.now ≤ 2 ^ 62) }
+    requires end { (next_start_of header.now ≤ patching.now.asked.length) × (next_start_of header.now ≤ 2 ^ 62) }
     requires read { IfSome (D.held store.old) (λ g. header_in g header.now ≡ buf.old) }
     requires block { len block.old ≡ 2880 }
     ensures patched { OnOk result (IfBoth (D.held store.old) (S.held patch.old) (λ g p. (wanted : Option ℕ) → IsWanted wanted header.now g
-        → IsPatchedBy (job_at wanted corner.now) (D.held store.new) (D.tally store.old).amended.writes (D.tally store.new).amended.writes g p)) }
+        → IsPatchedBy (job_at wanted patching.now.asked.corner.now) (D.held store.new)
+        (D.tally store.old).amended.writes (D.tally store.new).amended.writes g p)) }
     ensures safe { IfBoth (D.held store.old) (S.held patch.old) (λ g p. (wanted : Option ℕ) → IsWanted wanted header.now g
-        → LeavesSafe (job_at wanted corner.now) (D.held store.new) (D.tally store.old).amended.writes (D.tally store.new).amended.writes g p) }
+        → LeavesSafe (job_at wanted patching.now.asked.corner.now) (D.held store.new)
+        (D.tally store.old).amended.writes (D.tally store.new).amended.writes g p) }
     ensures unwritten { IsRefused result → IfBoth (D.held store.old) (S.held patch.old) (λ g p. (wanted : Option ℕ) → IsWanted wanted header.now g
         → (D.held store.new ≡ D.held store.old) × (D.tally store.new ≡ D.tally store.old)) }
     ensures unpassed { IfBoth (D.held store.old) (S.held patch.old) (λ g p. (wanted : Option ℕ) → IsWanted wanted header.now g
         → meter.old.live ≡ 2880 + len buf.old
         → IsUnpassed ((D.held store.new ≡ D.held store.old) × (D.tally store.new ≡ D.tally store.old)) meter.old.limit
-        (given_takings g p (job_at wanted corner.now) header.now
-        (first_refusal (own_checks g header.now (job_at wanted corner.now))))) }
+        (given_takings g p (job_at wanted patching.now.asked.corner.now) header.now
+        (first_refusal (own_checks g header.now (job_at wanted patching.now.asked.corner.now))))) }
     ensures over_limit { IfOverLimit result ((D.held store.new ≡ D.held store.old) × (D.tally store.new ≡ D.tally store.old)) }
     ensures first_fault { IfBoth (D.held store.old) (S.held patch.old) (λ g p. (wanted : Option ℕ) → IsWanted wanted header.now g
-        → TellsPatchFault (job_at wanted corner.now) (Some g) (Some p) result) }
+        → TellsPatchFault (job_at wanted patching.now.asked.corner.now) (Some g) (Some p) result) }
     ensures first_past { IfBoth (D.held store.old) (S.held patch.old) (λ g p. (wanted : Option ℕ) → IsWanted wanted header.now g
         → meter.old.live ≡ 2880 + len buf.old
-        → TellsFirstPast meter.old.limit (given_takings g p (job_at wanted corner.now) header.now
-        (first_refusal (own_checks g header.now (job_at wanted corner.now)))) result) }
+        → TellsFirstPast meter.old.limit (given_takings g p (job_at wanted patching.now.asked.corner.now) header.now
+        (first_refusal (own_checks g header.now (job_at wanted patching.now.asked.corner.now)))) result) }
     ensures peak { IfBoth (D.held store.old) (S.held patch.old) (λ g p. (wanted : Option ℕ) → IsWanted wanted header.now g
         → meter.old.live ≡ 2880 + len buf.old
-        → meter.new.peak ≤ max meter.old.peak (highest (given_takings g p (job_at wanted corner.now) header.now
-        (first_refusal (own_checks g header.now (job_at wanted corner.now)))))) }
+        → meter.new.peak ≤ max meter.old.peak (highest (given_takings g p (job_at wanted patching.now.asked.corner.now) header.now
+        (first_refusal (own_checks g header.now (job_at wanted patching.now.asked.corner.now)))))) }
     ensures most { meter.old.live ≤ 2880 + 737280 → TellsLimit meter.old.limit greatest_patch_bound result }
     ensures peak_most { meter.old.live ≤ 2880 + 737280 → meter.new.peak ≤ max meter.old.peak greatest_patch_bound }
     ensures late { IfRefused result (λ x. ((D.held store.new ≡ D.held store.old) × (D.tally store.new ≡ D.tally store.old)) ⊎ ComesInWork header.now.hdu x) }
@@ -258,7 +254,7 @@ fn with_header<R: Threads + Sync, D: Store, S: Source>(
     ensures risen { meter.old.peak ≤ meter.new.peak }
     ensures reach { KeepsReach (D.attached store.old) (D.attached store.new) }
     ensures told { StaysTold (D.held store.old) (D.held store.new) }
-    ensures patch { SourceStays (S.held patch.old) (S.held patch.new) (S.attached patch.old) (S.attached patch.new) }
+    ensures patch { SourceStays S.held S.attached S.ranges patch.old patch.new }
     ensures cause { WorksInPlace (D.tally store.old) (D.tally store.new) (S.tally patch.old) (S.tally patch.new) meter.old.limit result }
 {
     // The HDU that is wanted passes the checks of its image; and no taking passes the bound.
@@ -266,17 +262,16 @@ fn with_header<R: Threads + Sync, D: Store, S: Source>(
     hdu_at_law();
     takings_law();
     workspace_law();
-    let target = find_target(
-        length,
+    let target = find_target(&patching.asked, patch, meter, header, buf, block)?;
+    work(
+        patching.rt,
+        patching.alloc,
+        store,
         patch,
-        patch_length,
         meter,
-        corner,
-        header,
+        &target,
         buf,
-        block,
-    )?;
-    work(rt, alloc, store, patch, meter, &target, buf)
+    )
 }
 
 // Takes all buffers of the work, does it, and hands them back.
@@ -289,11 +284,7 @@ fn work<R: Threads + Sync, D: Store, S: Source>(
     target: &Target,
     buf: &mut [u8],
 ) -> Result<(), Stop>
-    requires target { IsTarget target.now }
-    requires attached { (n : ℕ) × (D.attached store.old ≡ Some n) × (next_start_of target.now.header ≡ n) }
-    requires header { IsHeaderOf buf.old target.now.header }
-    requires by { IsFoundBy buf.old target.now }
-    requires said { IfSome (D.held store.old) (λ f. IsTargetIn f target.now × (header_in f target.now.header ≡ buf.old)) }
+    requires found { IsFoundIn (D.attached store.old) (D.held store.old) buf.old target.now }
     requires given { GivesWithin (S.attached patch.old) target.now }
     ensures patched { OnOk result (ForJobs (D.held store.old) (S.held patch.old) target.now
         (λ job. IsPatchedBy job (D.held store.new) (D.tally store.old).amended.writes (D.tally store.new).amended.writes)) }
@@ -318,7 +309,7 @@ fn work<R: Threads + Sync, D: Store, S: Source>(
     ensures risen { meter.old.peak ≤ meter.new.peak }
     ensures reach { KeepsReach (D.attached store.old) (D.attached store.new) }
     ensures told { StaysTold (D.held store.old) (D.held store.new) }
-    ensures patch { SourceStays (S.held patch.old) (S.held patch.new) (S.attached patch.old) (S.attached patch.new) }
+    ensures patch { SourceStays S.held S.attached S.ranges patch.old patch.new }
     ensures cause { WorksInPlace (D.tally store.old) (D.tally store.new) (S.tally patch.old) (S.tally patch.new) meter.old.limit result }
 {
     // How long the slots are that were filled, and that what was taken comes back.

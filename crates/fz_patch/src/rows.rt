@@ -1,36 +1,35 @@
 //! The rows, by which tiles have their new codes: the third pass over the tiles with a pixel in the box.
 ghost use Rattle.std.specs.Prelude.{ℕ, ◌≡◌, ◌+◌, ◌-◌, ◌*◌, ◌<◌, ◌≤◌, ◌^◌, ℤ, List, zip, if◌then◌else◌, length as len, IfSome, OnErr, OnOk};
+ghost use Rattle.fz_base.specs.Keeps.{SourceStays};
 ghost use Rattle.fz_base.specs.Sink.{written};
 ghost use Rattle.fz_base.specs.Stop.{Amends, IfRefused, IsRefused};
 ghost use Rattle.fz_base.specs.Store.{HasAtLeast, MayAmend, amend_of, amended_by};
 ghost use Rattle.fz_base.specs.Told.{StaysTold};
-ghost use Rattle.fz_fetch.specs.Images.{HaveRoom};
+ghost use Rattle.fz_job.specs.Images.{HaveRoom};
 ghost use Rattle.fz_fetch.specs.Rows.{StandsWithin};
 ghost use Rattle.fz_files.specs.Packed.{heap_of, row_of};
-ghost use Rattle.fz_job.specs.Keeps.{SourceStays, WindowStays};
-ghost use Rattle.fz_patched.specs.FirstPatchFault.{BoxHasNumbers};
-ghost use Rattle.fz_patched.specs.NewNumbers.{box_tiles};
-ghost use Rattle.fz_patched.specs.Writes.{new_codes, row_writes};
+ghost use Rattle.fz_laws.specs.FirstPatchFault.{BoxHasNumbers};
+ghost use Rattle.fz_laws.specs.NewNumbers.{box_tiles};
+ghost use Rattle.fz_laws.specs.Writes.{new_codes, row_writes};
 ghost use Rattle.fz_pool.specs.Round.{coded_tile};
 ghost use Rattle.fz_table.specs.Rows.{descriptor_len, row_start};
 ghost use Rattle.fz_patch.specs.Compared.{DescribesCodes, HeapEndsWith};
-ghost use Rattle.fz_patch.specs.Ends.{Patches};
-ghost use Rattle.fz_patch.specs.Measures.{measure_of};
-ghost use Rattle.fz_patch.specs.Steps.{ComesInWork, KeepsHeader, KeepsReach, Wrote, WroteSome};
-ghost use Rattle.fz_patch.specs.Targets.{GivesWithin, IsGivenTo, IsTarget, IsTargetIn, given_at, plan_to_write};
-ghost use Rattle.fz_patch.specs.Told.{IfBoth};
+ghost use Rattle.fz_target.specs.Ends.{Patches};
+ghost use Rattle.fz_target.specs.Measures.{measure_of};
+ghost use Rattle.fz_target.specs.Steps.{ComesInWork, KeepsHeader, KeepsReach, Wrote, WroteSome};
+ghost use Rattle.fz_target.specs.Targets.{GivesWithin, IsGivenTo, IsTarget, IsTargetIn, given_at, plan_to_write};
+ghost use Rattle.fz_target.specs.Told.{IfBoth};
+ghost use Rattle.fz_pool.specs.Window.{WindowStays};
 
 use crate::codes::code_in;
-use crate::compare::has_bytes;
-use crate::find::changed;
-use crate::measure::{Measure, coded_count, is_measured, stored_count};
 use crate::settled::settle;
-use crate::target::Target;
-use crate::tile::prepare_tile;
-use crate::walk::{code_slot, tiles_in_box};
-use fz_base::{Source, Stop, Store, amend_at};
+use fz_base::{Source, Stop, Store, amend_at, has_bytes};
 use fz_pool::{Slot, Window};
 use fz_table::{Descriptor, write_row};
+use fz_target::{
+    Measure, Target, changed, code_slot, coded_count, is_measured, prepare_tile, stored_count,
+    tiles_in_box,
+};
 use fz_tile::Place2;
 use std::thread::Threads;
 
@@ -88,7 +87,7 @@ pub(crate) fn write_rows<R: Threads + Sync, D: Store, S: Source>(
     ensures copy { len copy.new ≡ len copy.old }
     ensures reach { KeepsReach (D.attached store.old) (D.attached store.new) }
     ensures told { StaysTold (D.held store.old) (D.held store.new) }
-    ensures patch { SourceStays (S.held patch.old) (S.held patch.new) (S.attached patch.old) (S.attached patch.new) }
+    ensures patch { SourceStays S.held S.attached S.ranges patch.old patch.new }
     ensures cause { Patches (D.tally store.old) (D.tally store.new) (S.tally patch.old) (S.tally patch.new) result }
 {
     let end = target.image.table.heap_len;

@@ -1,32 +1,29 @@
 //! The three passes and the writes, in their order.
-ghost use Rattle.std.specs.Prelude.{ℕ, ◌≡◌, ◌⊎◌, ◌≤◌, Some, length as len, IfSome, OnOk};
+ghost use Rattle.std.specs.Prelude.{◌≡◌, ◌⊎◌, ◌≤◌, Some, length as len, OnOk};
+ghost use Rattle.fz_base.specs.Keeps.{SourceStays};
 ghost use Rattle.fz_base.specs.Stop.{IfRefused, IsRefused};
 ghost use Rattle.fz_base.specs.Told.{StaysTold};
-ghost use Rattle.fz_block.specs.Facts.{IsHeaderOf};
-ghost use Rattle.fz_block.specs.Header.{next_start_of};
-ghost use Rattle.fz_fetch.specs.Images.{HaveRoom};
-ghost use Rattle.fz_files.specs.Restored.{header_in};
-ghost use Rattle.fz_job.specs.Keeps.{SourceStays, WindowStays};
+ghost use Rattle.fz_job.specs.Images.{HaveRoom};
 ghost use Rattle.fz_patch.specs.Clauses.{IsPatchedBy, LeavesSafe, TellsPatchFault};
-ghost use Rattle.fz_patch.specs.Ends.{Patches};
+ghost use Rattle.fz_target.specs.Ends.{Patches};
 ghost use Rattle.fz_patch.specs.Jobs.{ForJobs};
-ghost use Rattle.fz_patch.specs.Steps.{ComesInWork, KeepsReach};
-ghost use Rattle.fz_patch.specs.Targets.{GivesWithin, IsFoundBy, IsTarget, IsTargetIn};
+ghost use Rattle.fz_target.specs.Steps.{ComesInWork, KeepsReach};
+ghost use Rattle.fz_target.specs.Targets.{GivesWithin, IsFoundIn};
+ghost use Rattle.fz_pool.specs.Window.{WindowStays};
 
 use crate::cards::write_cards;
 use crate::codes::write_codes;
 use crate::column::find_forms;
-use crate::measure::measure_codes;
 use crate::places::find_places;
 use crate::rows::write_rows;
 use crate::sums::write_sums;
-use crate::target::Target;
 use fz_base::{Source, Stop, Store};
 use fz_card::card_laws;
 use fz_head::sum_cards_law;
-use fz_patched::{card_in_file_law, grown_header_law, safe_patch_law, whole_patch_law};
+use fz_laws::{card_in_file_law, grown_header_law, safe_patch_law, whole_patch_law};
 use fz_pool::Window;
 use fz_sum::{sum_law, with_card_law};
+use fz_target::{Target, measure_codes};
 use std::thread::Threads;
 
 /// Measures the new codes, and then writes them, the cards, the rows and the checksums, in this order.
@@ -41,11 +38,7 @@ pub(crate) fn write_patch<R: Threads + Sync, D: Store, S: Source>(
     window: &mut Window,
     copy: &mut [u8],
 ) -> Result<(), Stop>
-    requires target { IsTarget target.now }
-    requires attached { (n : ℕ) × (D.attached store.old ≡ Some n) × (next_start_of target.now.header ≡ n) }
-    requires header { IsHeaderOf buf.old target.now.header }
-    requires by { IsFoundBy buf.old target.now }
-    requires said { IfSome (D.held store.old) (λ f. IsTargetIn f target.now × (header_in f target.now.header ≡ buf.old)) }
+    requires found { IsFoundIn (D.attached store.old) (D.held store.old) buf.old target.now }
     requires given { GivesWithin (S.attached patch.old) target.now }
     requires window { HaveRoom target.now.image window.old }
     requires copy { 4096 ≤ len copy.old }
@@ -64,7 +57,7 @@ pub(crate) fn write_patch<R: Threads + Sync, D: Store, S: Source>(
     ensures copy { len copy.new ≡ len copy.old }
     ensures reach { KeepsReach (D.attached store.old) (D.attached store.new) }
     ensures told { StaysTold (D.held store.old) (D.held store.new) }
-    ensures patch { SourceStays (S.held patch.old) (S.held patch.new) (S.attached patch.old) (S.attached patch.new) }
+    ensures patch { SourceStays S.held S.attached S.ranges patch.old patch.new }
     ensures cause { Patches (D.tally store.old) (D.tally store.new) (S.tally patch.old) (S.tally patch.new) result }
 {
     // What the header says with other cards, that the file is safe after each write, and that it is patched after all.

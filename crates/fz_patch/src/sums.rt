@@ -1,15 +1,15 @@
 //! The checksums, if the header has them: DATASUM, and then CHECKSUM.
 ghost use Rattle.std.specs.Prelude.{ℕ, ◌≡◌, ◌+◌, ◌-◌, ◌*◌, ◌<◌, ◌≤◌, ◌^◌, List, length as len, take, drop, ◌&&◌, is_none, IfOk, IfSome, OnOk};
+ghost use Rattle.fz_base.specs.Keeps.{SourceStays};
 ghost use Rattle.fz_base.specs.Stop.{OnlyReads};
 ghost use Rattle.fz_base.specs.Store.{HasAtLeast};
 ghost use Rattle.fz_block.specs.Facts.{IsHeaderOf};
 ghost use Rattle.fz_block.specs.Header.{next_start_of};
-ghost use Rattle.fz_job.specs.Keeps.{SourceStays};
-ghost use Rattle.fz_patched.specs.Writes.{told_sum as told_sum_of};
+ghost use Rattle.fz_laws.specs.Writes.{told_sum as told_sum_of};
 ghost use Rattle.fz_sum.specs.Pieces.{after, nothing};
 ghost use Rattle.fz_patch.specs.Cards.{IsCardIn, checksum_write, datasum_write, sums_writes, with_datasum};
-ghost use Rattle.fz_patch.specs.Ends.{AmendsStore};
-ghost use Rattle.fz_patch.specs.Steps.{KeepsReach, Wrote, WroteSome};
+ghost use Rattle.fz_target.specs.Ends.{AmendsStore};
+ghost use Rattle.fz_target.specs.Steps.{KeepsReach, Wrote, WroteSome};
 
 use crate::cards::{put_card, write_card};
 use crate::settled::settle;
@@ -86,7 +86,7 @@ fn sum_of<D: Source>(store: &mut D, start: u64, end: u64, copy: &mut [u8]) -> Re
     ensures sum { IfOk result (λ sum. IfSome (D.held store.old) (λ f. sum ≡ after nothing 0 (take (end - start) (drop start f)))) }
     ensures few { IfOk result (λ sum. sum.count ≡ end - start) }
     ensures copy { len copy.new ≡ len copy.old }
-    ensures store { SourceStays (D.held store.old) (D.held store.new) (D.attached store.old) (D.attached store.new) }
+    ensures store { SourceStays D.held D.attached D.ranges store.old store.new }
     ensures cause { OnlyReads (D.tally store.old) (D.tally store.new) result }
 {
     sum_law();

@@ -1,8 +1,8 @@
 -- One write of a card.
 use Rattle.std.proofs.Common.{ℕ, ◌+◌, ◌*◌, List, [], ◌∷◌, length, Option, subst, arith}
 use Rattle.fz_base.specs.Counts.{Tally}
-use Rattle.fz_patched.specs.Amends.{amend_of}
-use Rattle.fz_patch.specs.Steps.{WroteSome}
+use Rattle.fz_laws.specs.Amends.{amend_of}
+use Rattle.fz_target.specs.Steps.{WroteSome}
 use Rattle.fz_patch.proofs.AmendWrites.{amend_some}
 use Rattle.fz_patch.proofs.Amended.{at-least}
 use Rattle.fz_patch.proofs.cards.write_card.Goals as goal

@@ -6,10 +6,10 @@ use Rattle.fz_base.specs.Counts.{Amend, Tally}
 use Rattle.fz_base.specs.Store.{HasAtLeast}
 use Rattle.fz_base.specs.declared.failure.Stop.{Stop}
 use Rattle.fz_head.specs.PackedHeader.{coded_letter, stored_letter}
-use Rattle.fz_patched.specs.Writes.{card_write}
+use Rattle.fz_laws.specs.Writes.{card_write}
 use Rattle.fz_patch.specs.Cards.{form_write, forms_writes, pcount_at, pcount_card}
-use Rattle.fz_patch.specs.Ends.{AmendsStore}
-use Rattle.fz_patch.specs.Steps.{Wrote, WroteSome}
+use Rattle.fz_target.specs.Ends.{AmendsStore}
+use Rattle.fz_target.specs.Steps.{Wrote, WroteSome}
 use Rattle.fz_patch.proofs.Amended.{amends-then, kept-then, reach-is, reach-then, same-then, settled-amends}
 use Rattle.fz_patch.proofs.CardSteps.{header_is, stopped_first, stopped_second, stopped_third, three_wrote, writes_are}
 use Rattle.fz_patch.proofs.CodedEnds.{ends_of}

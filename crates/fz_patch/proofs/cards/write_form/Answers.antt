@@ -3,9 +3,9 @@ use Rattle.std.proofs.Common.{◌≡◌, List, [], ◌∷◌, Option, refl, sym,
 use Rattle.std.proofs.lemmas.Result.{on_ok_weaker}
 use Rattle.fz_base.specs.Counts.{Amend}
 use Rattle.fz_sum.specs.Cards.{with_card}
-use Rattle.fz_patched.specs.Writes.{card_write}
+use Rattle.fz_laws.specs.Writes.{card_write}
 use Rattle.fz_patch.specs.Cards.{form_write, with_form}
-use Rattle.fz_patch.specs.Steps.{Wrote, WroteSome}
+use Rattle.fz_target.specs.Steps.{Wrote, WroteSome}
 use Rattle.fz_patch.proofs.Amended.{amends-nothing}
 use Rattle.fz_patch.proofs.Wrotes.{wrote-none, wrote-nothing}
 use Rattle.fz_patch.proofs.cards.write_form.Goals as goal

@@ -9,12 +9,12 @@ use Rattle.fz_base.specs.declared.failure.Stop.{Stop}
 use Rattle.fz_grid.specs.SieveWalks.{sieve_tiles_left}
 use Rattle.fz_pool.specs.Window.{Pool}
 use Rattle.fz_tile.specs.TileCode.{TileCode}
-use Rattle.fz_patched.specs.Writes.{grown_end, zero_writes}
-use Rattle.fz_patch.specs.Ends.{Patches}
-use Rattle.fz_patch.specs.Steps.{ComesInWork, Wrote, WroteSome}
-use Rattle.fz_patch.specs.Targets.{IsGivenTo, given_at}
-use Rattle.fz_patch.specs.Tiles.{HasNewCode}
-use Rattle.fz_patch.specs.Told.{IfBoth}
+use Rattle.fz_laws.specs.Writes.{grown_end, zero_writes}
+use Rattle.fz_target.specs.Ends.{Patches}
+use Rattle.fz_target.specs.Steps.{ComesInWork, Wrote, WroteSome}
+use Rattle.fz_target.specs.Targets.{IsGivenTo, given_at}
+use Rattle.fz_target.specs.Tiles.{HasNewCode}
+use Rattle.fz_target.specs.Told.{IfBoth}
 use Rattle.fz_patch.proofs.Amended.{at-least, kept-then, one-amends, reach-is, reach-of, reach-then, same-amended, same-counts, same-is, same-then, kept-read, kept-same, settled-amends}
 use Rattle.fz_patch.proofs.CodeSlots.{first_has}
 use Rattle.fz_patch.proofs.CodedEnds.{end_near, ends_of, row_of_tile, zeros_near}
@@ -35,6 +35,7 @@ loop-tile-init g c =
     record {
       given = refl;
       given_len = refl;
+      given_told = λ told. told;
       given_tally = refl;
       window = record { sizes = refl; workers = refl };
       copy = refl;
@@ -104,6 +105,7 @@ loop-tile-preserved g c =
     record {
       given = done.patch.held_is ∙ old.given;
       given_len = done.patch.attached_is ∙ old.given_len;
+      given_told = λ told. done.patch.told (old.given_told told);
       given_tally = done.cause.ok.1 ∙ old.given_tally;
       window = record { sizes = done.window.sizes ∙ old.window.sizes; workers = done.window.workers ∙ old.window.workers };
       copy = done.copy ∙ old.copy;

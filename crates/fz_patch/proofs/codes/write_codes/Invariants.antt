@@ -4,17 +4,18 @@ use Rattle.std.specs.List.{AllByRecursion}
 use Rattle.fz_base.specs.Store.{HasAtLeast, StoreKept}
 use Rattle.fz_base.specs.Told.{StaysTold}
 use Rattle.fz_grid.specs.SieveWalks.{sieve_tiles_left}
-use Rattle.fz_job.specs.Keeps.{WindowStays}
-use Rattle.fz_patch.specs.Ends.{SameCounts}
-use Rattle.fz_patch.specs.Steps.{KeepsReach}
-use Rattle.fz_patch.specs.Tiles.{IsBoxTile}
+use Rattle.fz_target.specs.Ends.{SameCounts}
+use Rattle.fz_target.specs.Steps.{KeepsReach}
+use Rattle.fz_target.specs.Tiles.{IsBoxTile}
 use Rattle.fz_patch.proofs.NewCodes.{CodesState, heap_end_of}
+use Rattle.fz_pool.specs.Window.{WindowStays}
 use Rattle.fz_patch.proofs.codes.write_codes.Given as goal
 
 abbrev pub invariant-loop-tile : goal.invariant-loop-tile
 invariant-loop-tile g l = record {
   given : g.S.Source.held l.patch ≡ g.S.Source.held l.fn.patch;
   given_len : g.S.Source.attached l.patch ≡ g.S.Source.attached l.fn.patch;
+  given_told : StaysTold (g.S.Source.ranges l.fn.patch) (g.S.Source.ranges l.patch);
   given_tally : g.S.Source.tally l.patch ≡ g.S.Source.tally l.fn.patch;
   window : WindowStays l.fn.window l.window;
   copy : length l.copy ≡ length l.fn.copy;

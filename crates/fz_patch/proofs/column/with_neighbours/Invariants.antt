@@ -1,6 +1,6 @@
 -- The rows so far are counted.
 use Rattle.std.proofs.Common.{◌≡◌, IfSome}
-use Rattle.fz_patch.specs.Measures.{counted_rows}
+use Rattle.fz_target.specs.Measures.{counted_rows}
 use Rattle.fz_patch.proofs.column.with_neighbours.Given as goal
 
 abbrev pub invariant-loop-i : goal.invariant-loop-i

@@ -1,7 +1,7 @@
 -- The rows before each tile with a pixel in the box, and those after the last.
 use Rattle.std.proofs.Common.{◌≡◌, ◌+◌, ◌-◌, ◌^◌, ◌<◌, IfSome, refl, sym, subst, arith, rules}
 use Rattle.fz_grid.specs.SieveWalks.{sieve_tiles_left}
-use Rattle.fz_patch.specs.Measures.{counted_rows}
+use Rattle.fz_target.specs.Measures.{counted_rows}
 use Rattle.fz_patch.proofs.OtherRows.{next_row, others_begin, others_result, others_step}
 use Rattle.fz_patch.proofs.TilesLeft.{given_tiles}
 use Rattle.fz_patch.proofs.column.with_other_rows.Goals as goal
@@ -13,6 +13,7 @@ loop-tile-init g c =
     record {
       held = refl;
       attached = refl;
+      told = λ told. told;
       reads = refl;
       copy = refl;
       others = others_begin t.image.plan t.sieve t.image.table c.args.found.now (g.D.Source.held c.args.store.now) (sieve_tiles_left c.into_iter-tile-iterator.result) c.requires.target.readable.rows (sym tiles);
@@ -39,6 +40,7 @@ loop-tile-preserved g c =
     record {
       held = search rules;
       attached = search rules;
+      told = λ told. c.in_ok-greatest.ensures.store.told (c.loop-tile.invariant.told told);
       reads = search rules;
       copy = search rules;
       others = others_step t.image.plan t.sieve t.image.table c.args.found.now (g.D.Source.held c.args.store.now) c.loop-tile.greatest c.in_ok-greatest.greatest c.loop-tile.first c.in-Some.tile (sieve_tiles_left c.loop-tile.tile-iterator) (sieve_tiles_left c.next.new.self)

@@ -8,10 +8,10 @@ use Rattle.fz_base.specs.Stop.{TellsLimit, stop_of_short}
 use Rattle.fz_base.specs.Takings.{TellsFirstPast, highest}
 use Rattle.fz_base.specs.declared.failure.Stop.{Stop}
 use Rattle.fz_patch.specs.Clauses.{HasPatchCause, IsUnwritten, TellsPatchFault, greatest_patch_bound, later_takings}
-use Rattle.fz_patch.specs.Ends.{WorksInPlace}
-use Rattle.fz_patched.specs.Buffers.{patch_takings}
-use Rattle.fz_patch.specs.Targets.{job_at}
-use Rattle.fz_patch.specs.Told.{IfBoth}
+use Rattle.fz_target.specs.Ends.{WorksInPlace}
+use Rattle.fz_laws.specs.PatchBuffers.{patch_takings}
+use Rattle.fz_target.specs.Targets.{job_at}
+use Rattle.fz_target.specs.Told.{IfBoth}
 use Rattle.fz_patch.proofs.Amended.{kept-same}
 use Rattle.fz_patch.proofs.EndsJoined.{counts_same}
 use Rattle.fz_patch.proofs.EndsTold.{if_both}

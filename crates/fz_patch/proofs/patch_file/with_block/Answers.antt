@@ -13,17 +13,17 @@ use Rattle.fz_block.specs.Takings.{header_taking}
 use Rattle.fz_block.specs.declared.header.Header.{Header}
 use Rattle.fz_block.specs.declared.next.ReadHeader.{ReadHeader}
 use Rattle.fz_files.specs.Restored.{header_in}
-use Rattle.fz_survey.specs.Surveys.{amend_surveyed, survey_takings}
-use Rattle.fz_survey.specs.declared.checks.JobChecks.TheVariants.{Amend as AmendLook, Every}
-use Rattle.fz_survey.specs.declared.survey.Survey.{Survey}
-use Rattle.fz_patched.specs.Buffers.{given_takings}
-use Rattle.fz_patched.specs.Checks.{own_checks}
+use Rattle.fz_job.specs.Surveys.{amend_surveyed, survey_takings}
+use Rattle.fz_job.specs.declared.checks.JobChecks.TheVariants.{Amend as AmendLook, Every}
+use Rattle.fz_job.specs.declared.survey.Survey.{Survey}
+use Rattle.fz_laws.specs.PatchBuffers.{given_takings}
+use Rattle.fz_laws.specs.PatchChecks.{own_checks}
 use Rattle.fz_patch.specs.Clauses.{IsPatchedBy, LeavesSafe, TellsPatchFault, greatest_patch_bound, later_takings}
-use Rattle.fz_patch.specs.Ends.{WorksInPlace}
+use Rattle.fz_target.specs.Ends.{WorksInPlace}
 use Rattle.fz_patch.specs.Jobs.{IsWanted}
-use Rattle.fz_patch.specs.Steps.{KeepsReach}
-use Rattle.fz_patch.specs.Targets.{job_at}
-use Rattle.fz_patch.specs.Told.{IfBoth}
+use Rattle.fz_target.specs.Steps.{KeepsReach}
+use Rattle.fz_target.specs.Targets.{job_at}
+use Rattle.fz_target.specs.Told.{IfBoth}
 use Rattle.fz_patch.proofs.EndsJoined.{refused_weaker}
 use Rattle.fz_patch.proofs.FrameBlock.{HasFound, HasLooked, SaysSame, again_high, again_past, again_told, all_high, all_past, amend_high, amend_past, amend_told, both_weaker, either_way, every_high, every_past, every_told, found, in_work, looked, of_wanted, ok_weaker, over_weaker, reach_same, read_is, still_amended, store_works, told_both, untouched, untouched_safe, wanted_of}
 use Rattle.fz_patch.proofs.FrameBlock.{past_later, unpassed_here}
@@ -37,7 +37,7 @@ pub returns-in_err-survey_every-clause-safe : goal.returns-in_err-survey_every-c
 returns-in_err-survey_every-clause-safe g c =
     let held : g.D.Source.held c.survey_every.new.source ≡ g.D.Source.held c.args.store.now = search rules in
     let amended : (g.D.Source.tally c.survey_every.new.source).amended ≡ (g.D.Source.tally c.args.store.now).amended = still_amended (g.D.Source.tally c.args.store.now) (g.D.Source.tally c.args.store.now) (g.D.Source.tally c.survey_every.new.source) refl c.in_err-survey_every.ensures.cause.kept in
-    untouched_safe (job_at c.args.hdu c.args.corner.now) (g.D.Source.held c.args.store.now) (g.S.Source.held c.args.patch.now) _ _ _ held (ap (λ a. a.writes) amended)
+    untouched_safe (job_at c.args.hdu c.args.patching.now.asked.corner.now) (g.D.Source.held c.args.store.now) (g.S.Source.held c.args.patch.now) _ _ _ held (ap (λ a. a.writes) amended)
 
 pub returns-in_err-survey_every-clause-unwritten : goal.returns-in_err-survey_every-clause-unwritten
 returns-in_err-survey_every-clause-unwritten g c =
@@ -53,19 +53,19 @@ returns-in_err-survey_every-clause-reach g c =
 pub returns-in_err-survey_every-clause-first_fault : goal.returns-in_err-survey_every-clause-first_fault
 returns-in_err-survey_every-clause-first_fault g c =
     let stopped : c.from_residual.result ≡ Err c.in_err-survey_every.field-0.0 = search rules in
-    subst (λ (r : Result (Unit {0}) Stop). TellsPatchFault (job_at c.args.hdu c.args.corner.now) (g.D.Source.held c.args.store.now) (g.S.Source.held c.args.patch.now) r) (sym stopped) (every_told (Unit {0}) c.survey_law.ensures.every (job_at c.args.hdu c.args.corner.now) (g.D.Source.held c.args.store.now) (g.S.Source.held c.args.patch.now) c.in_err-survey_every.field-0.0 c.in_err-survey_every.ensures.exact)
+    subst (λ (r : Result (Unit {0}) Stop). TellsPatchFault (job_at c.args.hdu c.args.patching.now.asked.corner.now) (g.D.Source.held c.args.store.now) (g.S.Source.held c.args.patch.now) r) (sym stopped) (every_told (Unit {0}) c.survey_law.ensures.every (job_at c.args.hdu c.args.patching.now.asked.corner.now) (g.D.Source.held c.args.store.now) (g.S.Source.held c.args.patch.now) c.in_err-survey_every.field-0.0 c.in_err-survey_every.ensures.exact)
 
 pub returns-in_err-survey_every-clause-first_past : goal.returns-in_err-survey_every-clause-first_past
 returns-in_err-survey_every-clause-first_past g c =
     let stopped : c.from_residual.result ≡ Err c.in_err-survey_every.field-0.0 = search rules in
     let meter = c.args.meter.now in
-    subst (λ (r : Result (Unit {0}) Stop). IfBoth (g.D.Source.held c.args.store.now) (g.S.Source.held c.args.patch.now) (λ f p. TellsFirstPast meter.limit (later_takings f p (job_at c.args.hdu c.args.corner.now)) r)) (sym stopped)
-    (every_past (Unit {0}) c.takings_law.ensures.first c.takings_law.ensures.second c.survey_law.ensures.every _ _ meter.limit meter.live (job_at c.args.hdu c.args.corner.now) (g.D.Source.held c.args.store.now) (g.S.Source.held c.args.patch.now) c.in_err-survey_every.field-0.0 c.requires.one_block c.in_err-survey_every.ensures.cause.stop c.in_err-survey_every.ensures.exact c.in_err-survey_every.ensures.first_past)
+    subst (λ (r : Result (Unit {0}) Stop). IfBoth (g.D.Source.held c.args.store.now) (g.S.Source.held c.args.patch.now) (λ f p. TellsFirstPast meter.limit (later_takings f p (job_at c.args.hdu c.args.patching.now.asked.corner.now)) r)) (sym stopped)
+    (every_past (Unit {0}) c.takings_law.ensures.first c.takings_law.ensures.second c.survey_law.ensures.every _ _ meter.limit meter.live (job_at c.args.hdu c.args.patching.now.asked.corner.now) (g.D.Source.held c.args.store.now) (g.S.Source.held c.args.patch.now) c.in_err-survey_every.field-0.0 c.requires.one_block c.in_err-survey_every.ensures.cause.stop c.in_err-survey_every.ensures.exact c.in_err-survey_every.ensures.first_past)
 
 pub returns-in_err-survey_every-clause-peak : goal.returns-in_err-survey_every-clause-peak
 returns-in_err-survey_every-clause-peak g c =
     let meter = c.args.meter.now in
-    every_high c.survey_law.ensures.every meter.live meter.peak c.survey_every.new.meter.peak (job_at c.args.hdu c.args.corner.now) (g.D.Source.held c.args.store.now) (g.S.Source.held c.args.patch.now) c.requires.one_block c.in_err-survey_every.ensures.peak
+    every_high c.survey_law.ensures.every meter.live meter.peak c.survey_every.new.meter.peak (job_at c.args.hdu c.args.patching.now.asked.corner.now) (g.D.Source.held c.args.store.now) (g.S.Source.held c.args.patch.now) c.requires.one_block c.in_err-survey_every.ensures.peak
 
 pub returns-in_err-survey_every-clause-most : goal.returns-in_err-survey_every-clause-most
 returns-in_err-survey_every-clause-most g c =
@@ -93,7 +93,7 @@ pub returns-in_err-found-clause-safe : goal.returns-in_err-found-clause-safe
 returns-in_err-found-clause-safe g c =
     let held : g.D.Source.held c.survey_to_amend.new.source ≡ g.D.Source.held c.args.store.now = search rules in
     let amended : (g.D.Source.tally c.survey_to_amend.new.source).amended ≡ (g.D.Source.tally c.args.store.now).amended = still_amended (g.D.Source.tally c.args.store.now) (g.D.Source.tally c.survey_every.new.source) (g.D.Source.tally c.survey_to_amend.new.source) c.in_ok-survey_every.ensures.cause.ok c.in_err-found.ensures.cause.kept in
-    untouched_safe (job_at c.args.hdu c.args.corner.now) (g.D.Source.held c.args.store.now) (g.S.Source.held c.args.patch.now) _ _ _ held (ap (λ a. a.writes) amended)
+    untouched_safe (job_at c.args.hdu c.args.patching.now.asked.corner.now) (g.D.Source.held c.args.store.now) (g.S.Source.held c.args.patch.now) _ _ _ held (ap (λ a. a.writes) amended)
 
 pub returns-in_err-found-clause-unwritten : goal.returns-in_err-found-clause-unwritten
 returns-in_err-found-clause-unwritten g c =
@@ -114,8 +114,8 @@ returns-in_err-found-clause-first_fault g c =
     let look : IfSome (g.D.Source.held c.args.store.now) (HasLooked c.args.meter.now.live c.args.meter.now.limit) = looked c.survey_law.ensures.every c.args.meter.now.live c.args.meter.now.limit (g.D.Source.held c.args.store.now) _ c.requires.one_block c.in_ok-survey_every.ensures.exact c.in_ok-survey_every.ensures.first_past in
     let held1 : g.D.Source.held c.survey_every.new.source ≡ g.D.Source.held c.args.store.now = search rules in
     let exact : IfSome (g.D.Source.held c.args.store.now) (λ f. IsDefined {X = Header} (amend_surveyed c.args.hdu f) (Err c.in_err-found.field-0.0)) = rw held1 at c.in_err-found.ensures.exact in
-    subst (λ (r : Result (Unit {0}) Stop). TellsPatchFault (job_at c.args.hdu c.args.corner.now) (g.D.Source.held c.args.store.now) (g.S.Source.held c.args.patch.now) r) (sym stopped)
-    (amend_told c.hdu_at_law.ensures.walk c.found_hdus_law.ensures.last c.survey_law.ensures.amend (Unit {0}) c.args.meter.now.live c.args.meter.now.limit (job_at c.args.hdu c.args.corner.now) (g.D.Source.held c.args.store.now) (g.S.Source.held c.args.patch.now) c.in_err-found.field-0.0 look exact)
+    subst (λ (r : Result (Unit {0}) Stop). TellsPatchFault (job_at c.args.hdu c.args.patching.now.asked.corner.now) (g.D.Source.held c.args.store.now) (g.S.Source.held c.args.patch.now) r) (sym stopped)
+    (amend_told c.hdu_at_law.ensures.walk c.found_hdus_law.ensures.last c.survey_law.ensures.amend (Unit {0}) c.args.meter.now.live c.args.meter.now.limit (job_at c.args.hdu c.args.patching.now.asked.corner.now) (g.D.Source.held c.args.store.now) (g.S.Source.held c.args.patch.now) c.in_err-found.field-0.0 look exact)
 
 pub returns-in_err-found-clause-first_past : goal.returns-in_err-found-clause-first_past
 returns-in_err-found-clause-first_past g c =
@@ -131,8 +131,8 @@ returns-in_err-found-clause-first_past g c =
     (subst (λ (n : ℕ). IfSome (g.D.Source.held c.args.store.now) (λ f. TellsFirstPast {X = Header} c.survey_every.new.meter.limit (survey_takings (AmendLook c.args.hdu) n f) (Err c.in_err-found.field-0.0))) live1
     (subst (λ (h : Option (List ℕ)). IfSome h (λ f. TellsFirstPast {X = Header} c.survey_every.new.meter.limit (survey_takings (AmendLook c.args.hdu) c.survey_every.new.meter.live f) (Err c.in_err-found.field-0.0))) held1 c.in_err-found.ensures.first_past)) in
     let why : StoppedTaking (g.D.Source.tally c.survey_every.new.source) (g.D.Source.tally c.survey_to_amend.new.source) meter.limit c.in_err-found.field-0.0 = rw limit1 at c.in_err-found.ensures.cause.stop in
-    subst (λ (r : Result (Unit {0}) Stop). IfBoth (g.D.Source.held c.args.store.now) (g.S.Source.held c.args.patch.now) (λ f p. TellsFirstPast meter.limit (later_takings f p (job_at c.args.hdu c.args.corner.now)) r)) (sym stopped)
-    (amend_past c.hdu_at_law.ensures.walk c.found_hdus_law.ensures.last c.survey_law.ensures.amend (Unit {0}) c.takings_law.ensures.first c.takings_law.ensures.second _ _ meter.limit meter.live (job_at c.args.hdu c.args.corner.now) (g.D.Source.held c.args.store.now) (g.S.Source.held c.args.patch.now) c.in_err-found.field-0.0 c.requires.one_block why look exact tells)
+    subst (λ (r : Result (Unit {0}) Stop). IfBoth (g.D.Source.held c.args.store.now) (g.S.Source.held c.args.patch.now) (λ f p. TellsFirstPast meter.limit (later_takings f p (job_at c.args.hdu c.args.patching.now.asked.corner.now)) r)) (sym stopped)
+    (amend_past c.hdu_at_law.ensures.walk c.found_hdus_law.ensures.last c.survey_law.ensures.amend (Unit {0}) c.takings_law.ensures.first c.takings_law.ensures.second _ _ meter.limit meter.live (job_at c.args.hdu c.args.patching.now.asked.corner.now) (g.D.Source.held c.args.store.now) (g.S.Source.held c.args.patch.now) c.in_err-found.field-0.0 c.requires.one_block why look exact tells)
 
 pub returns-in_err-found-clause-peak : goal.returns-in_err-found-clause-peak
 returns-in_err-found-clause-peak g c =
@@ -143,7 +143,7 @@ returns-in_err-found-clause-peak g c =
     let held1 : g.D.Source.held c.survey_every.new.source ≡ g.D.Source.held c.args.store.now = search rules in
     let first : IfSome (g.D.Source.held c.args.store.now) (λ f. c.survey_every.new.meter.peak ≤ max c.args.meter.now.peak (highest (survey_takings Every c.args.meter.now.live f))) = c.in_ok-survey_every.ensures.peak in
     let next : IfSome (g.D.Source.held c.args.store.now) (λ f. c.survey_to_amend.new.meter.peak ≤ max c.survey_every.new.meter.peak (highest (survey_takings (AmendLook c.args.hdu) c.args.meter.now.live f))) = rw (held1, live1) at c.in_err-found.ensures.peak in
-    amend_high c.hdu_at_law.ensures.walk c.found_hdus_law.ensures.last c.survey_law.ensures.amend c.survey_law.ensures.every meter.live meter.limit meter.peak c.survey_every.new.meter.peak c.survey_to_amend.new.meter.peak (job_at c.args.hdu c.args.corner.now) (g.D.Source.held c.args.store.now) (g.S.Source.held c.args.patch.now) c.requires.one_block look first next
+    amend_high c.hdu_at_law.ensures.walk c.found_hdus_law.ensures.last c.survey_law.ensures.amend c.survey_law.ensures.every meter.live meter.limit meter.peak c.survey_every.new.meter.peak c.survey_to_amend.new.meter.peak (job_at c.args.hdu c.args.patching.now.asked.corner.now) (g.D.Source.held c.args.store.now) (g.S.Source.held c.args.patch.now) c.requires.one_block look first next
 
 pub returns-in_err-found-clause-most : goal.returns-in_err-found-clause-most
 returns-in_err-found-clause-most g c =
@@ -174,7 +174,7 @@ pub returns-in_err-kept-clause-safe : goal.returns-in_err-kept-clause-safe
 returns-in_err-kept-clause-safe g c =
     let held : g.D.Source.held c.read_again.new.store ≡ g.D.Source.held c.args.store.now = search rules in
     let amended : (g.D.Source.tally c.read_again.new.store).amended ≡ (g.D.Source.tally c.args.store.now).amended = still_amended (g.D.Source.tally c.args.store.now) (g.D.Source.tally c.survey_to_amend.new.source) (g.D.Source.tally c.read_again.new.store) (c.in_ok-found.ensures.cause.ok ∙ c.in_ok-survey_every.ensures.cause.ok) c.in_err-kept.ensures.cause.kept in
-    untouched_safe (job_at c.args.hdu c.args.corner.now) (g.D.Source.held c.args.store.now) (g.S.Source.held c.args.patch.now) _ _ _ held (ap (λ a. a.writes) amended)
+    untouched_safe (job_at c.args.hdu c.args.patching.now.asked.corner.now) (g.D.Source.held c.args.store.now) (g.S.Source.held c.args.patch.now) _ _ _ held (ap (λ a. a.writes) amended)
 
 pub returns-in_err-kept-clause-unwritten : goal.returns-in_err-kept-clause-unwritten
 returns-in_err-kept-clause-unwritten g c =
@@ -201,8 +201,8 @@ returns-in_err-kept-clause-first_fault g c =
     let known : IfSome (g.D.Source.held c.args.store.now) (HasFound c.args.meter.now.live c.args.meter.now.limit c.args.hdu c.in_ok-found.found) = found c.hdu_at_law.ensures.walk c.found_hdus_law.ensures.last c.survey_law.ensures.amend c.args.meter.now.live c.args.meter.now.limit c.args.hdu c.in_ok-found.found (g.D.Source.held c.args.store.now) c.requires.one_block look exact2 none2 in
     let held2 : g.D.Source.held c.survey_to_amend.new.source ≡ g.D.Source.held c.args.store.now = search rules in
     let same : IfSome (g.D.Source.held c.args.store.now) (SaysSame c.in_ok-found.found (Err c.in_err-kept.field-0.0)) = rw held2 at c.in_err-kept.ensures.same in
-    subst (λ (r : Result (Unit {0}) Stop). TellsPatchFault (job_at c.args.hdu c.args.corner.now) (g.D.Source.held c.args.store.now) (g.S.Source.held c.args.patch.now) r) (sym stopped)
-    (again_told c.hdu_at_law.ensures.blocks c.takings_law.ensures.second c.args.meter.now.live c.args.meter.now.limit c.requires.one_block (job_at c.args.hdu c.args.corner.now) c.in_ok-found.found (Unit {0}) (g.D.Source.held c.args.store.now) (g.S.Source.held c.args.patch.now) c.in_err-kept.field-0.0 known same)
+    subst (λ (r : Result (Unit {0}) Stop). TellsPatchFault (job_at c.args.hdu c.args.patching.now.asked.corner.now) (g.D.Source.held c.args.store.now) (g.S.Source.held c.args.patch.now) r) (sym stopped)
+    (again_told c.hdu_at_law.ensures.blocks c.takings_law.ensures.second c.args.meter.now.live c.args.meter.now.limit c.requires.one_block (job_at c.args.hdu c.args.patching.now.asked.corner.now) c.in_ok-found.found (Unit {0}) (g.D.Source.held c.args.store.now) (g.S.Source.held c.args.patch.now) c.in_err-kept.field-0.0 known same)
 
 pub returns-in_err-kept-clause-first_past : goal.returns-in_err-kept-clause-first_past
 returns-in_err-kept-clause-first_past g c =
@@ -224,8 +224,8 @@ returns-in_err-kept-clause-first_past g c =
     (subst (λ (n : ℕ). IfSome (g.D.Source.held c.args.store.now) (λ f. TellsFirstPast {X = ReadHeader} c.survey_to_amend.new.meter.limit (header_taking n (header_blocks_of c.in_ok-found.found.hdu c.in_ok-found.found.start f)) (Err c.in_err-kept.field-0.0))) live2
     (subst (λ (h : Option (List ℕ)). IfSome h (λ f. TellsFirstPast {X = ReadHeader} c.survey_to_amend.new.meter.limit (header_taking c.survey_to_amend.new.meter.live (header_blocks_of c.in_ok-found.found.hdu c.in_ok-found.found.start f)) (Err c.in_err-kept.field-0.0))) held2 c.in_err-kept.ensures.first_past)) in
     let why : StoppedTaking (g.D.Source.tally c.survey_to_amend.new.source) (g.D.Source.tally c.read_again.new.store) meter.limit c.in_err-kept.field-0.0 = rw limit2 at c.in_err-kept.ensures.cause.stop in
-    subst (λ (r : Result (Unit {0}) Stop). IfBoth (g.D.Source.held c.args.store.now) (g.S.Source.held c.args.patch.now) (λ f p. TellsFirstPast meter.limit (later_takings f p (job_at c.args.hdu c.args.corner.now)) r)) (sym stopped)
-    (again_past c.hdu_at_law.ensures.blocks c.takings_law.ensures.second c.args.meter.now.live c.args.meter.now.limit c.requires.one_block (job_at c.args.hdu c.args.corner.now) c.in_ok-found.found (Unit {0}) c.takings_law.ensures.first _ _ (g.D.Source.held c.args.store.now) (g.S.Source.held c.args.patch.now) c.in_err-kept.field-0.0 why known same tells)
+    subst (λ (r : Result (Unit {0}) Stop). IfBoth (g.D.Source.held c.args.store.now) (g.S.Source.held c.args.patch.now) (λ f p. TellsFirstPast meter.limit (later_takings f p (job_at c.args.hdu c.args.patching.now.asked.corner.now)) r)) (sym stopped)
+    (again_past c.hdu_at_law.ensures.blocks c.takings_law.ensures.second c.args.meter.now.live c.args.meter.now.limit c.requires.one_block (job_at c.args.hdu c.args.patching.now.asked.corner.now) c.in_ok-found.found (Unit {0}) c.takings_law.ensures.first _ _ (g.D.Source.held c.args.store.now) (g.S.Source.held c.args.patch.now) c.in_err-kept.field-0.0 why known same tells)
 
 pub returns-in_err-kept-clause-peak : goal.returns-in_err-kept-clause-peak
 returns-in_err-kept-clause-peak g c =
@@ -242,7 +242,7 @@ returns-in_err-kept-clause-peak g c =
     let first : IfSome (g.D.Source.held c.args.store.now) (λ f. c.survey_every.new.meter.peak ≤ max c.args.meter.now.peak (highest (survey_takings Every c.args.meter.now.live f))) = c.in_ok-survey_every.ensures.peak in
     let next : IfSome (g.D.Source.held c.args.store.now) (λ f. c.survey_to_amend.new.meter.peak ≤ max c.survey_every.new.meter.peak (highest (survey_takings (AmendLook c.args.hdu) c.args.meter.now.live f))) = rw (held1, live1) at c.in_ok-found.ensures.peak in
     let last : IfSome (g.D.Source.held c.args.store.now) (λ f. c.read_again.new.meter.peak ≤ max c.survey_to_amend.new.meter.peak (highest (header_taking c.args.meter.now.live (header_blocks_of c.in_ok-found.found.hdu c.in_ok-found.found.start f)))) = rw (held2, live2) at c.in_err-kept.ensures.peak in
-    again_high c.hdu_at_law.ensures.blocks c.takings_law.ensures.second c.args.meter.now.live c.args.meter.now.limit c.requires.one_block (job_at c.args.hdu c.args.corner.now) c.in_ok-found.found c.survey_law.ensures.every c.survey_law.ensures.amend c.args.meter.now.peak c.survey_every.new.meter.peak c.survey_to_amend.new.meter.peak c.read_again.new.meter.peak (g.D.Source.held c.args.store.now) (g.S.Source.held c.args.patch.now) known first next last
+    again_high c.hdu_at_law.ensures.blocks c.takings_law.ensures.second c.args.meter.now.live c.args.meter.now.limit c.requires.one_block (job_at c.args.hdu c.args.patching.now.asked.corner.now) c.in_ok-found.found c.survey_law.ensures.every c.survey_law.ensures.amend c.args.meter.now.peak c.survey_every.new.meter.peak c.survey_to_amend.new.meter.peak c.read_again.new.meter.peak (g.D.Source.held c.args.store.now) (g.S.Source.held c.args.patch.now) known first next last
 
 pub returns-in_err-kept-clause-most : goal.returns-in_err-kept-clause-most
 returns-in_err-kept-clause-most g c =
@@ -278,7 +278,7 @@ pub with_header-answer-requires-clause-read : goal.with_header-answer-requires-c
 with_header-answer-requires-clause-read g c = λ lifetimes lives.
     let same : g.D.Source.held c.read_again.new.store ≡ g.D.Source.held c.survey_to_amend.new.source = search rules in
     subst (λ (l : List ℕ). IfSome (g.D.Source.held c.read_again.new.store) (λ f. header_in f c.in_ok-kept.kept.facts ≡ l)) (sym c.as_mut_slice.ensures.value)
-    (subst (λ (h : Option (List ℕ)). IfSome h (λ f. header_in f c.in_ok-kept.kept.facts ≡ c.in_ok-kept.kept.bytes)) (sym same) (read_is (g.D.Source.held c.survey_to_amend.new.source) c.args.length c.in_ok-found.found c.in_ok-kept.kept c.in_ok-kept.ensures.again))
+    (subst (λ (h : Option (List ℕ)). IfSome h (λ f. header_in f c.in_ok-kept.kept.facts ≡ c.in_ok-kept.kept.bytes)) (sym same) (read_is (g.D.Source.held c.survey_to_amend.new.source) c.args.patching.now.asked.length c.in_ok-found.found c.in_ok-kept.kept c.in_ok-kept.ensures.again))
 
 pub returns-clause-patched : goal.returns-clause-patched
 returns-clause-patched g c =
@@ -297,8 +297,8 @@ returns-clause-patched g c =
     let held3 : g.D.Source.held c.read_again.new.store ≡ g.D.Source.held c.args.store.now = search rules in
     let tally : g.D.Source.tally c.read_again.new.store ≡ g.D.Source.tally c.args.store.now = c.in_ok-kept.ensures.cause.ok ∙ c.in_ok-found.ensures.cause.ok ∙ c.in_ok-survey_every.ensures.cause.ok in
     let writes : (g.D.Source.tally c.read_again.new.store).amended.writes ≡ (g.D.Source.tally c.args.store.now).amended.writes = ap (λ (t : Tally). t.amended.writes) tally in
-    let all : OnOk c.with_header-answer.result (IfBoth (g.D.Source.held c.args.store.now) (g.S.Source.held c.args.patch.now) (λ f p. (any : Option ℕ) → IsWanted any c.in_ok-kept.kept.facts f → IsPatchedBy (job_at any c.args.corner.now) (g.D.Source.held c.with_header-answer.new.store) (g.D.Source.tally c.args.store.now).amended.writes (g.D.Source.tally c.with_header-answer.new.store).amended.writes f p)) = rw (held3, writes) at c.with_header-answer.ensures.patched in
-    ok_weaker c.with_header-answer.result (of_wanted (g.D.Source.held c.args.store.now) (g.S.Source.held c.args.patch.now) c.in_ok-kept.kept.facts c.args.hdu c.args.corner.now (λ job. IsPatchedBy job (g.D.Source.held c.with_header-answer.new.store) (g.D.Source.tally c.args.store.now).amended.writes (g.D.Source.tally c.with_header-answer.new.store).amended.writes) wanted) all
+    let all : OnOk c.with_header-answer.result (IfBoth (g.D.Source.held c.args.store.now) (g.S.Source.held c.args.patch.now) (λ f p. (any : Option ℕ) → IsWanted any c.in_ok-kept.kept.facts f → IsPatchedBy (job_at any c.args.patching.now.asked.corner.now) (g.D.Source.held c.with_header-answer.new.store) (g.D.Source.tally c.args.store.now).amended.writes (g.D.Source.tally c.with_header-answer.new.store).amended.writes f p)) = rw (held3, writes) at c.with_header-answer.ensures.patched in
+    ok_weaker c.with_header-answer.result (of_wanted (g.D.Source.held c.args.store.now) (g.S.Source.held c.args.patch.now) c.in_ok-kept.kept.facts c.args.hdu c.args.patching.now.asked.corner.now (λ job. IsPatchedBy job (g.D.Source.held c.with_header-answer.new.store) (g.D.Source.tally c.args.store.now).amended.writes (g.D.Source.tally c.with_header-answer.new.store).amended.writes) wanted) all
 
 pub returns-clause-safe : goal.returns-clause-safe
 returns-clause-safe g c =
@@ -317,8 +317,8 @@ returns-clause-safe g c =
     let held3 : g.D.Source.held c.read_again.new.store ≡ g.D.Source.held c.args.store.now = search rules in
     let tally : g.D.Source.tally c.read_again.new.store ≡ g.D.Source.tally c.args.store.now = c.in_ok-kept.ensures.cause.ok ∙ c.in_ok-found.ensures.cause.ok ∙ c.in_ok-survey_every.ensures.cause.ok in
     let writes : (g.D.Source.tally c.read_again.new.store).amended.writes ≡ (g.D.Source.tally c.args.store.now).amended.writes = ap (λ (t : Tally). t.amended.writes) tally in
-    let all : IfBoth (g.D.Source.held c.args.store.now) (g.S.Source.held c.args.patch.now) (λ f p. (any : Option ℕ) → IsWanted any c.in_ok-kept.kept.facts f → LeavesSafe (job_at any c.args.corner.now) (g.D.Source.held c.with_header-answer.new.store) (g.D.Source.tally c.args.store.now).amended.writes (g.D.Source.tally c.with_header-answer.new.store).amended.writes f p) = rw (held3, writes) at c.with_header-answer.ensures.safe in
-    of_wanted (g.D.Source.held c.args.store.now) (g.S.Source.held c.args.patch.now) c.in_ok-kept.kept.facts c.args.hdu c.args.corner.now (λ job. LeavesSafe job (g.D.Source.held c.with_header-answer.new.store) (g.D.Source.tally c.args.store.now).amended.writes (g.D.Source.tally c.with_header-answer.new.store).amended.writes) wanted all
+    let all : IfBoth (g.D.Source.held c.args.store.now) (g.S.Source.held c.args.patch.now) (λ f p. (any : Option ℕ) → IsWanted any c.in_ok-kept.kept.facts f → LeavesSafe (job_at any c.args.patching.now.asked.corner.now) (g.D.Source.held c.with_header-answer.new.store) (g.D.Source.tally c.args.store.now).amended.writes (g.D.Source.tally c.with_header-answer.new.store).amended.writes f p) = rw (held3, writes) at c.with_header-answer.ensures.safe in
+    of_wanted (g.D.Source.held c.args.store.now) (g.S.Source.held c.args.patch.now) c.in_ok-kept.kept.facts c.args.hdu c.args.patching.now.asked.corner.now (λ job. LeavesSafe job (g.D.Source.held c.with_header-answer.new.store) (g.D.Source.tally c.args.store.now).amended.writes (g.D.Source.tally c.with_header-answer.new.store).amended.writes) wanted all
 
 pub returns-clause-unwritten : goal.returns-clause-unwritten
 returns-clause-unwritten g c =
@@ -350,14 +350,14 @@ returns-clause-unwritten g c =
     record {
       refused = λ refused.
           let all : IfBoth (g.D.Source.held c.args.store.now) (g.S.Source.held c.args.patch.now) (λ f p. (any : Option ℕ) → IsWanted any c.in_ok-kept.kept.facts f → (g.D.Source.held c.with_header-answer.new.store ≡ g.D.Source.held c.read_again.new.store) × (g.D.Source.tally c.with_header-answer.new.store ≡ g.D.Source.tally c.read_again.new.store)) = subst (λ (h : Option (List ℕ)). IfBoth h (g.S.Source.held c.args.patch.now) (λ f p. (any : Option ℕ) → IsWanted any c.in_ok-kept.kept.facts f → (g.D.Source.held c.with_header-answer.new.store ≡ g.D.Source.held c.read_again.new.store) × (g.D.Source.tally c.with_header-answer.new.store ≡ g.D.Source.tally c.read_again.new.store))) held3 (c.with_header-answer.ensures.unwritten refused) in
-          both_weaker (g.D.Source.held c.args.store.now) (g.S.Source.held c.args.patch.now) _ _ (λ f p. weak) (of_wanted (g.D.Source.held c.args.store.now) (g.S.Source.held c.args.patch.now) c.in_ok-kept.kept.facts c.args.hdu c.args.corner.now (λ job f p. (g.D.Source.held c.with_header-answer.new.store ≡ g.D.Source.held c.read_again.new.store) × (g.D.Source.tally c.with_header-answer.new.store ≡ g.D.Source.tally c.read_again.new.store)) wanted all);
+          both_weaker (g.D.Source.held c.args.store.now) (g.S.Source.held c.args.patch.now) _ _ (λ f p. weak) (of_wanted (g.D.Source.held c.args.store.now) (g.S.Source.held c.args.patch.now) c.in_ok-kept.kept.facts c.args.hdu c.args.patching.now.asked.corner.now (λ job f p. (g.D.Source.held c.with_header-answer.new.store ≡ g.D.Source.held c.read_again.new.store) × (g.D.Source.tally c.with_header-answer.new.store ≡ g.D.Source.tally c.read_again.new.store)) wanted all);
       late = refused_weaker c.with_header-answer.result (λ x came. either_way weak (in_work c.in_ok-kept.kept.facts.hdu x) came) c.with_header-answer.ensures.late;
       past = past_later c.hdu_at_law.ensures.blocks c.takings_law.ensures.second c.args.meter.now.live c.args.meter.now.limit c.requires.one_block
-          (job_at c.args.hdu c.args.corner.now) c.in_ok-found.found _ _ (g.D.Source.held c.args.store.now) (g.S.Source.held c.args.patch.now) c.in_ok-kept.kept
+          (job_at c.args.hdu c.args.patching.now.asked.corner.now) c.in_ok-found.found _ _ (g.D.Source.held c.args.store.now) (g.S.Source.held c.args.patch.now) c.in_ok-kept.kept
           weak known same3 none3
           (unpassed_here _ (g.D.Source.held c.args.store.now) (g.D.Source.held c.read_again.new.store) (g.S.Source.held c.args.patch.now)
           c.args.meter.now.limit c.read_again.new.meter.limit c.read_again.new.meter.live (2880 + length c.as_mut_slice.result.now) c.in_ok-kept.kept.facts
-          c.args.hdu c.args.corner.now held3 limit3 live4 wanted c.with_header-answer.ensures.unpassed);
+          c.args.hdu c.args.patching.now.asked.corner.now held3 limit3 live4 wanted c.with_header-answer.ensures.unpassed);
       over_limit = over_weaker c.with_header-answer.result weak c.with_header-answer.ensures.over_limit;
     }
 
@@ -376,8 +376,8 @@ returns-clause-first_fault g c =
     let same3 : IfSome (g.D.Source.held c.args.store.now) (SaysSame c.in_ok-found.found (Ok c.in_ok-kept.kept)) = rw held2 at c.in_ok-kept.ensures.same in
     let wanted : IfSome (g.D.Source.held c.args.store.now) (IsWanted c.args.hdu c.in_ok-kept.kept.facts) = wanted_of c.args.meter.now.live c.args.meter.now.limit c.args.hdu c.in_ok-found.found (g.D.Source.held c.args.store.now) c.in_ok-kept.kept known same3 in
     let held3 : g.D.Source.held c.read_again.new.store ≡ g.D.Source.held c.args.store.now = search rules in
-    let all : IfBoth (g.D.Source.held c.args.store.now) (g.S.Source.held c.args.patch.now) (λ f p. (any : Option ℕ) → IsWanted any c.in_ok-kept.kept.facts f → TellsPatchFault (job_at any c.args.corner.now) (Some f) (Some p) c.with_header-answer.result) = rw held3 at c.with_header-answer.ensures.first_fault in
-    told_both (job_at c.args.hdu c.args.corner.now) (g.D.Source.held c.args.store.now) (g.S.Source.held c.args.patch.now) c.with_header-answer.result (of_wanted (g.D.Source.held c.args.store.now) (g.S.Source.held c.args.patch.now) c.in_ok-kept.kept.facts c.args.hdu c.args.corner.now (λ job f p. TellsPatchFault job (Some f) (Some p) c.with_header-answer.result) wanted all)
+    let all : IfBoth (g.D.Source.held c.args.store.now) (g.S.Source.held c.args.patch.now) (λ f p. (any : Option ℕ) → IsWanted any c.in_ok-kept.kept.facts f → TellsPatchFault (job_at any c.args.patching.now.asked.corner.now) (Some f) (Some p) c.with_header-answer.result) = rw held3 at c.with_header-answer.ensures.first_fault in
+    told_both (job_at c.args.hdu c.args.patching.now.asked.corner.now) (g.D.Source.held c.args.store.now) (g.S.Source.held c.args.patch.now) c.with_header-answer.result (of_wanted (g.D.Source.held c.args.store.now) (g.S.Source.held c.args.patch.now) c.in_ok-kept.kept.facts c.args.hdu c.args.patching.now.asked.corner.now (λ job f p. TellsPatchFault job (Some f) (Some p) c.with_header-answer.result) wanted all)
 
 pub returns-clause-first_past : goal.returns-clause-first_past
 returns-clause-first_past g c =
@@ -399,10 +399,10 @@ returns-clause-first_past g c =
     let live4 : c.read_again.new.meter.live ≡ 2880 + length c.as_mut_slice.result.now = live3 ∙ ap (λ l. 2880 + length l) (sym c.as_mut_slice.ensures.value) in
     let limit3 : c.read_again.new.meter.limit ≡ c.args.meter.now.limit = ap (λ (m : Gauge). m.limit) took ∙ limit2 in
     let none3 : IfSome (g.D.Source.held c.args.store.now) (λ f. first_past c.args.meter.now.limit (header_taking c.args.meter.now.live (header_blocks_of c.in_ok-found.found.hdu c.in_ok-found.found.start f)) ≡ None) = rw (held2, live2, limit2) at c.in_ok-kept.ensures.first_past in
-    let all : IfBoth (g.D.Source.held c.args.store.now) (g.S.Source.held c.args.patch.now) (λ f p. (any : Option ℕ) → IsWanted any c.in_ok-kept.kept.facts f → c.read_again.new.meter.live ≡ 2880 + length c.as_mut_slice.result.now → TellsFirstPast c.args.meter.now.limit (given_takings f p (job_at any c.args.corner.now) c.in_ok-kept.kept.facts (first_refusal (own_checks f c.in_ok-kept.kept.facts (job_at any c.args.corner.now)))) c.with_header-answer.result) = rw (held3, limit3) at c.with_header-answer.ensures.first_past in
-    let here : IfBoth (g.D.Source.held c.args.store.now) (g.S.Source.held c.args.patch.now) (λ f p. TellsFirstPast c.args.meter.now.limit (given_takings f p (job_at c.args.hdu c.args.corner.now) c.in_ok-kept.kept.facts (first_refusal (own_checks f c.in_ok-kept.kept.facts (job_at c.args.hdu c.args.corner.now)))) c.with_header-answer.result) =
-    both_weaker (g.D.Source.held c.args.store.now) (g.S.Source.held c.args.patch.now) _ _ (λ f p tells. tells live4) (of_wanted (g.D.Source.held c.args.store.now) (g.S.Source.held c.args.patch.now) c.in_ok-kept.kept.facts c.args.hdu c.args.corner.now (λ job f p. c.read_again.new.meter.live ≡ 2880 + length c.as_mut_slice.result.now → TellsFirstPast c.args.meter.now.limit (given_takings f p job c.in_ok-kept.kept.facts (first_refusal (own_checks f c.in_ok-kept.kept.facts job))) c.with_header-answer.result) wanted all) in
-    all_past c.hdu_at_law.ensures.blocks c.takings_law.ensures.second c.args.meter.now.live c.args.meter.now.limit c.requires.one_block (job_at c.args.hdu c.args.corner.now) c.in_ok-found.found {X = Unit {0}} (g.D.Source.held c.args.store.now) (g.S.Source.held c.args.patch.now) c.in_ok-kept.kept c.with_header-answer.result known same3 none3 here
+    let all : IfBoth (g.D.Source.held c.args.store.now) (g.S.Source.held c.args.patch.now) (λ f p. (any : Option ℕ) → IsWanted any c.in_ok-kept.kept.facts f → c.read_again.new.meter.live ≡ 2880 + length c.as_mut_slice.result.now → TellsFirstPast c.args.meter.now.limit (given_takings f p (job_at any c.args.patching.now.asked.corner.now) c.in_ok-kept.kept.facts (first_refusal (own_checks f c.in_ok-kept.kept.facts (job_at any c.args.patching.now.asked.corner.now)))) c.with_header-answer.result) = rw (held3, limit3) at c.with_header-answer.ensures.first_past in
+    let here : IfBoth (g.D.Source.held c.args.store.now) (g.S.Source.held c.args.patch.now) (λ f p. TellsFirstPast c.args.meter.now.limit (given_takings f p (job_at c.args.hdu c.args.patching.now.asked.corner.now) c.in_ok-kept.kept.facts (first_refusal (own_checks f c.in_ok-kept.kept.facts (job_at c.args.hdu c.args.patching.now.asked.corner.now)))) c.with_header-answer.result) =
+    both_weaker (g.D.Source.held c.args.store.now) (g.S.Source.held c.args.patch.now) _ _ (λ f p tells. tells live4) (of_wanted (g.D.Source.held c.args.store.now) (g.S.Source.held c.args.patch.now) c.in_ok-kept.kept.facts c.args.hdu c.args.patching.now.asked.corner.now (λ job f p. c.read_again.new.meter.live ≡ 2880 + length c.as_mut_slice.result.now → TellsFirstPast c.args.meter.now.limit (given_takings f p job c.in_ok-kept.kept.facts (first_refusal (own_checks f c.in_ok-kept.kept.facts job))) c.with_header-answer.result) wanted all) in
+    all_past c.hdu_at_law.ensures.blocks c.takings_law.ensures.second c.args.meter.now.live c.args.meter.now.limit c.requires.one_block (job_at c.args.hdu c.args.patching.now.asked.corner.now) c.in_ok-found.found {X = Unit {0}} (g.D.Source.held c.args.store.now) (g.S.Source.held c.args.patch.now) c.in_ok-kept.kept c.with_header-answer.result known same3 none3 here
 
 pub returns-clause-peak : goal.returns-clause-peak
 returns-clause-peak g c =
@@ -426,11 +426,11 @@ returns-clause-peak g c =
     let first : IfSome (g.D.Source.held c.args.store.now) (λ f. c.survey_every.new.meter.peak ≤ max c.args.meter.now.peak (highest (survey_takings Every c.args.meter.now.live f))) = c.in_ok-survey_every.ensures.peak in
     let next : IfSome (g.D.Source.held c.args.store.now) (λ f. c.survey_to_amend.new.meter.peak ≤ max c.survey_every.new.meter.peak (highest (survey_takings (AmendLook c.args.hdu) c.args.meter.now.live f))) = rw (held1, live1) at c.in_ok-found.ensures.peak in
     let last : IfSome (g.D.Source.held c.args.store.now) (λ f. c.read_again.new.meter.peak ≤ max c.survey_to_amend.new.meter.peak (highest (header_taking c.args.meter.now.live (header_blocks_of c.in_ok-found.found.hdu c.in_ok-found.found.start f)))) = rw (held2, live2) at c.in_ok-kept.ensures.peak in
-    let all : IfBoth (g.D.Source.held c.args.store.now) (g.S.Source.held c.args.patch.now) (λ f p. (any : Option ℕ) → IsWanted any c.in_ok-kept.kept.facts f → c.read_again.new.meter.live ≡ 2880 + length c.as_mut_slice.result.now → c.with_header-answer.new.meter.peak ≤ max c.read_again.new.meter.peak (highest (given_takings f p (job_at any c.args.corner.now) c.in_ok-kept.kept.facts (first_refusal (own_checks f c.in_ok-kept.kept.facts (job_at any c.args.corner.now)))))) = rw held3 at c.with_header-answer.ensures.peak in
-    let here : IfBoth (g.D.Source.held c.args.store.now) (g.S.Source.held c.args.patch.now) (λ f p. c.with_header-answer.new.meter.peak ≤ max c.read_again.new.meter.peak (highest (given_takings f p (job_at c.args.hdu c.args.corner.now) c.in_ok-kept.kept.facts (first_refusal (own_checks f c.in_ok-kept.kept.facts (job_at c.args.hdu c.args.corner.now)))))) =
-    both_weaker (g.D.Source.held c.args.store.now) (g.S.Source.held c.args.patch.now) _ _ (λ f p low. low live4) (of_wanted (g.D.Source.held c.args.store.now) (g.S.Source.held c.args.patch.now) c.in_ok-kept.kept.facts c.args.hdu c.args.corner.now (λ job f p. c.read_again.new.meter.live ≡ 2880 + length c.as_mut_slice.result.now → c.with_header-answer.new.meter.peak ≤ max c.read_again.new.meter.peak (highest (given_takings f p job c.in_ok-kept.kept.facts (first_refusal (own_checks f c.in_ok-kept.kept.facts job))))) wanted all) in
+    let all : IfBoth (g.D.Source.held c.args.store.now) (g.S.Source.held c.args.patch.now) (λ f p. (any : Option ℕ) → IsWanted any c.in_ok-kept.kept.facts f → c.read_again.new.meter.live ≡ 2880 + length c.as_mut_slice.result.now → c.with_header-answer.new.meter.peak ≤ max c.read_again.new.meter.peak (highest (given_takings f p (job_at any c.args.patching.now.asked.corner.now) c.in_ok-kept.kept.facts (first_refusal (own_checks f c.in_ok-kept.kept.facts (job_at any c.args.patching.now.asked.corner.now)))))) = rw held3 at c.with_header-answer.ensures.peak in
+    let here : IfBoth (g.D.Source.held c.args.store.now) (g.S.Source.held c.args.patch.now) (λ f p. c.with_header-answer.new.meter.peak ≤ max c.read_again.new.meter.peak (highest (given_takings f p (job_at c.args.hdu c.args.patching.now.asked.corner.now) c.in_ok-kept.kept.facts (first_refusal (own_checks f c.in_ok-kept.kept.facts (job_at c.args.hdu c.args.patching.now.asked.corner.now)))))) =
+    both_weaker (g.D.Source.held c.args.store.now) (g.S.Source.held c.args.patch.now) _ _ (λ f p low. low live4) (of_wanted (g.D.Source.held c.args.store.now) (g.S.Source.held c.args.patch.now) c.in_ok-kept.kept.facts c.args.hdu c.args.patching.now.asked.corner.now (λ job f p. c.read_again.new.meter.live ≡ 2880 + length c.as_mut_slice.result.now → c.with_header-answer.new.meter.peak ≤ max c.read_again.new.meter.peak (highest (given_takings f p job c.in_ok-kept.kept.facts (first_refusal (own_checks f c.in_ok-kept.kept.facts job))))) wanted all) in
     let back : c.give_bytes.new.self.peak ≡ c.with_header-answer.new.meter.peak = ap (λ (m : Gauge). m.peak) c.give_bytes.ensures in
-    rw back (all_high c.hdu_at_law.ensures.blocks c.takings_law.ensures.second c.args.meter.now.live c.args.meter.now.limit c.requires.one_block (job_at c.args.hdu c.args.corner.now) c.in_ok-found.found c.survey_law.ensures.every c.survey_law.ensures.amend c.args.meter.now.peak c.survey_every.new.meter.peak c.survey_to_amend.new.meter.peak c.read_again.new.meter.peak c.with_header-answer.new.meter.peak (g.D.Source.held c.args.store.now) (g.S.Source.held c.args.patch.now) c.in_ok-kept.kept known same3 first next last here)
+    rw back (all_high c.hdu_at_law.ensures.blocks c.takings_law.ensures.second c.args.meter.now.live c.args.meter.now.limit c.requires.one_block (job_at c.args.hdu c.args.patching.now.asked.corner.now) c.in_ok-found.found c.survey_law.ensures.every c.survey_law.ensures.amend c.args.meter.now.peak c.survey_every.new.meter.peak c.survey_to_amend.new.meter.peak c.read_again.new.meter.peak c.with_header-answer.new.meter.peak (g.D.Source.held c.args.store.now) (g.S.Source.held c.args.patch.now) c.in_ok-kept.kept known same3 first next last here)
 
 pub returns-clause-reach : goal.returns-clause-reach
 returns-clause-reach g c =

@@ -11,13 +11,13 @@ use Rattle.fz_block.specs.Facts.{IsHeaderOf}
 use Rattle.fz_block.specs.declared.header.Header.{Header}
 use Rattle.fz_files.specs.Restored.{header_in, pixels_of}
 use Rattle.fz_head.specs.WorkBuffers.{work_buffers}
-use Rattle.fz_patched.specs.Buffers.{given_takings}
-use Rattle.fz_patched.specs.Checks.{if_patchable, own_checks, patch_target}
+use Rattle.fz_laws.specs.PatchBuffers.{given_takings}
+use Rattle.fz_laws.specs.PatchChecks.{if_patchable, own_checks, patch_target}
 use Rattle.fz_patch.specs.Clauses.{IsPatchedBy, IsUnpassed, LeavesSafe, TellsPatchFault, greatest_patch_bound}
-use Rattle.fz_patch.specs.Ends.{WorksInPlace}
-use Rattle.fz_patch.specs.Steps.{ComesInWork}
-use Rattle.fz_patch.specs.Targets.{GivesWithin, IsTargetIn, given_taking, job_at}
-use Rattle.fz_patch.specs.declared.target.Target.{Target}
+use Rattle.fz_target.specs.Ends.{WorksInPlace}
+use Rattle.fz_target.specs.Steps.{ComesInWork}
+use Rattle.fz_target.specs.Targets.{GivesWithin, IsTargetIn, given_taking, job_at}
+use Rattle.fz_target.specs.declared.target.Target.{Target}
 use Rattle.fz_patch.proofs.EndsTold.{if_both, if_some, some_of}
 use Rattle.fz_patch.proofs.FrameBlock.{either_way}
 use Rattle.fz_patch.proofs.FrameHeader.{bound_headers, bound_work, few_pixels, find_high, find_past, found_by, given_works, has_of, kept_is, of_jobs, stop_limit, target_is, tile_of, told_stop, work_high, work_limit, work_past}
@@ -49,12 +49,12 @@ pub returns-in_err-target-clause-first_fault : goal.returns-in_err-target-clause
 returns-in_err-target-clause-first_fault g c =
     let stop : Stop = c.in_err-target.field-0.0 in
     let stopped : c.from_residual.result ≡ Err stop = search rules in
-    let corner : List ℕ = c.args.corner.now in
+    let corner : List ℕ = c.args.patching.now.asked.corner.now in
     let header : Header = c.args.header.now in
     if_both (g.D.Source.held c.args.store.now) (g.S.Source.held c.args.patch.now) _
     (λ f p is by wanted w.
     let defined : IsDefined {X = Header} (if_patchable f p (job_at wanted corner) (Ok header)) (Err stop) =
-    some_of (g.S.Source.held c.args.patch.now) (λ q. IsDefined {X = Header} (if_patchable f q (job_at wanted corner) (Ok header)) (Err stop)) p by (c.in_err-target.ensures.exact f wanted (has_of c.hdu_at_law.ensures.walk c.found_hdus_law.ensures.last (g.D.Source.held c.args.store.now) c.args.length c.args.header.now c.args.buf.now (g.met.D.Source.agrees c.args.store.now c.args.length c.requires.attached) c.requires.read f wanted is w)) in
+    some_of (g.S.Source.held c.args.patch.now) (λ q. IsDefined {X = Header} (if_patchable f q (job_at wanted corner) (Ok header)) (Err stop)) p by (c.in_err-target.ensures.exact f wanted (has_of c.hdu_at_law.ensures.walk c.found_hdus_law.ensures.last (g.D.Source.held c.args.store.now) c.args.patching.now.asked.length c.args.header.now c.args.buf.now (g.met.D.Source.agrees c.args.store.now c.args.patching.now.asked.length c.requires.attached) c.requires.read f wanted is w)) in
     let told : IsDefined {X = Header} (patch_target f p (job_at wanted corner)) (Err stop) =
     subst (λ (r : Result Header Fault). IsDefined {X = Header} r (Err stop)) (sym (target_is header f p corner wanted w)) defined in
     subst (λ (r : Result (Unit {0}) Stop). TellsPatchFault (job_at wanted corner) (Some f) (Some p) r) (sym stopped) (told_stop (Unit {0}) f p (job_at wanted corner) stop told))
@@ -63,7 +63,7 @@ pub returns-in_err-target-clause-first_past : goal.returns-in_err-target-clause-
 returns-in_err-target-clause-first_past g c =
     let stop : Stop = c.in_err-target.field-0.0 in
     let stopped : c.from_residual.result ≡ Err stop = search rules in
-    let corner : List ℕ = c.args.corner.now in
+    let corner : List ℕ = c.args.patching.now.asked.corner.now in
     let header : Header = c.args.header.now in
     let meter = c.args.meter.now in
     if_both (g.D.Source.held c.args.store.now) (g.S.Source.held c.args.patch.now) _
@@ -71,15 +71,15 @@ returns-in_err-target-clause-first_past g c =
     let job = job_at wanted corner in
     let own = first_refusal (own_checks f header job) in
     let defined : IsDefined {X = Header} (if_patchable f p job (Ok header)) (Err stop) =
-    some_of (g.S.Source.held c.args.patch.now) (λ q. IsDefined {X = Header} (if_patchable f q job (Ok header)) (Err stop)) p by (c.in_err-target.ensures.exact f wanted (has_of c.hdu_at_law.ensures.walk c.found_hdus_law.ensures.last (g.D.Source.held c.args.store.now) c.args.length c.args.header.now c.args.buf.now (g.met.D.Source.agrees c.args.store.now c.args.length c.requires.attached) c.requires.read f wanted is w)) in
+    some_of (g.S.Source.held c.args.patch.now) (λ q. IsDefined {X = Header} (if_patchable f q job (Ok header)) (Err stop)) p by (c.in_err-target.ensures.exact f wanted (has_of c.hdu_at_law.ensures.walk c.found_hdus_law.ensures.last (g.D.Source.held c.args.store.now) c.args.patching.now.asked.length c.args.header.now c.args.buf.now (g.met.D.Source.agrees c.args.store.now c.args.patching.now.asked.length c.requires.attached) c.requires.read f wanted is w)) in
     let tells : TellsFirstPast {X = Target} meter.limit (given_taking meter.live p own) (Err stop) =
-    some_of (g.S.Source.held c.args.patch.now) (λ q. TellsFirstPast {X = Target} meter.limit (given_taking meter.live q own) (Err stop)) p by (c.in_err-target.ensures.first_past f wanted (has_of c.hdu_at_law.ensures.walk c.found_hdus_law.ensures.last (g.D.Source.held c.args.store.now) c.args.length c.args.header.now c.args.buf.now (g.met.D.Source.agrees c.args.store.now c.args.length c.requires.attached) c.requires.read f wanted is w)) in
+    some_of (g.S.Source.held c.args.patch.now) (λ q. TellsFirstPast {X = Target} meter.limit (given_taking meter.live q own) (Err stop)) p by (c.in_err-target.ensures.first_past f wanted (has_of c.hdu_at_law.ensures.walk c.found_hdus_law.ensures.last (g.D.Source.held c.args.store.now) c.args.patching.now.asked.length c.args.header.now c.args.buf.now (g.met.D.Source.agrees c.args.store.now c.args.patching.now.asked.length c.requires.attached) c.requires.read f wanted is w)) in
     subst (λ (r : Result (Unit {0}) Stop). TellsFirstPast meter.limit (given_takings f p job header own) r) (sym stopped)
     (find_past Target (Unit {0}) c.takings_law.ensures.first c.takings_law.ensures.second _ _ meter.limit meter.live f p job header own stop (kept_is c.args.meter.now.live c.args.buf.now c.args.header.now c.requires.header live) c.in_err-target.ensures.cause.stop defined tells))
 
 pub returns-in_err-target-clause-peak : goal.returns-in_err-target-clause-peak
 returns-in_err-target-clause-peak g c =
-    let corner : List ℕ = c.args.corner.now in
+    let corner : List ℕ = c.args.patching.now.asked.corner.now in
     let header : Header = c.args.header.now in
     let meter = c.args.meter.now in
     if_both (g.D.Source.held c.args.store.now) (g.S.Source.held c.args.patch.now) _
@@ -87,7 +87,7 @@ returns-in_err-target-clause-peak g c =
     let job = job_at wanted corner in
     let own = first_refusal (own_checks f header job) in
     let low : c.find_target.new.meter.peak ≤ max meter.peak (highest (given_taking meter.live p own)) =
-    some_of (g.S.Source.held c.args.patch.now) (λ q. c.find_target.new.meter.peak ≤ max meter.peak (highest (given_taking meter.live q own))) p by (c.in_err-target.ensures.peak f wanted (has_of c.hdu_at_law.ensures.walk c.found_hdus_law.ensures.last (g.D.Source.held c.args.store.now) c.args.length c.args.header.now c.args.buf.now (g.met.D.Source.agrees c.args.store.now c.args.length c.requires.attached) c.requires.read f wanted is w)) in
+    some_of (g.S.Source.held c.args.patch.now) (λ q. c.find_target.new.meter.peak ≤ max meter.peak (highest (given_taking meter.live q own))) p by (c.in_err-target.ensures.peak f wanted (has_of c.hdu_at_law.ensures.walk c.found_hdus_law.ensures.last (g.D.Source.held c.args.store.now) c.args.patching.now.asked.length c.args.header.now c.args.buf.now (g.met.D.Source.agrees c.args.store.now c.args.patching.now.asked.length c.requires.attached) c.requires.read f wanted is w)) in
     omega (arith, low, find_high meter.live f p job header own (kept_is c.args.meter.now.live c.args.buf.now c.args.header.now c.requires.header live)))
 
 pub returns-in_err-target-clause-most : goal.returns-in_err-target-clause-most
@@ -112,26 +112,26 @@ returns-in_err-target-clause-cause g c =
 
 -- ---- it was found
 
-pub work-requires-clause-attached : goal.work-requires-clause-attached
-work-requires-clause-attached g c = λ lifetimes lives. (c.args.length, c.requires.attached, c.in_ok-target.ensures.target.2)
-
-pub work-requires-clause-header : goal.work-requires-clause-header
-work-requires-clause-header g c = λ lifetimes lives. subst (λ (h : Header). IsHeaderOf c.args.buf.now h) (sym c.in_ok-target.ensures.target.1) c.requires.header
-
-pub work-requires-clause-by : goal.work-requires-clause-by
-work-requires-clause-by g c = λ lifetimes lives.
-    found_by c.args.length c.args.corner.now c.args.buf.now c.args.header.now c.in_ok-target.target c.requires.header c.in_ok-target.ensures.target.1 c.in_ok-target.ensures.own.0 c.in_ok-target.ensures.own.1
-
-pub work-requires-clause-said : goal.work-requires-clause-said
-work-requires-clause-said g c = λ lifetimes lives.
+pub work-requires-clause-found : goal.work-requires-clause-found
+work-requires-clause-found g c = λ lifetimes lives.
     let held : Option (List ℕ) = g.D.Source.held c.args.store.now in
-    if_some held (λ f. IsTargetIn f c.in_ok-target.target × (header_in f c.in_ok-target.target.header ≡ c.args.buf.now))
-    (λ f is.
-    let long : length f ≡ c.args.length = some_of held (λ f. length f ≡ c.args.length) f is (g.met.D.Source.agrees c.args.store.now c.args.length c.requires.attached) in
-    let read : header_in f c.args.header.now ≡ c.args.buf.now = some_of held (λ f. header_in f c.args.header.now ≡ c.args.buf.now) f is c.requires.read in (
-      c.in_ok-target.ensures.said f (record { length_is = long; header_is = read; passes = c.in_ok-target.ensures.own.0.checks }),
-      ap (header_in f) c.in_ok-target.ensures.target.1 ∙ read,
-    ))
+    record {
+      target = c.in_ok-target.ensures.target.0;
+      attached = (c.args.patching.now.asked.length, c.requires.attached, c.in_ok-target.ensures.target.2);
+      header = subst (λ (h : Header). IsHeaderOf c.args.buf.now h) (sym c.in_ok-target.ensures.target.1) c.requires.header;
+      by =
+          found_by c.args.patching.now.asked.length c.args.patching.now.asked.corner.now c.args.buf.now c.args.header.now c.in_ok-target.target c.requires.header c.in_ok-target.ensures.target.1
+          c.in_ok-target.ensures.own.0 c.in_ok-target.ensures.own.1;
+      said =
+          if_some held (λ f. IsTargetIn f c.in_ok-target.target × (header_in f c.in_ok-target.target.header ≡ c.args.buf.now))
+          (λ f is.
+          let long : length f ≡ c.args.patching.now.asked.length = some_of held (λ f. length f ≡ c.args.patching.now.asked.length) f is
+          (g.met.D.Source.agrees c.args.store.now c.args.patching.now.asked.length c.requires.attached) in
+          let read : header_in f c.args.header.now ≡ c.args.buf.now = some_of held (λ f. header_in f c.args.header.now ≡ c.args.buf.now) f is c.requires.read in (
+            c.in_ok-target.ensures.said f (record { length_is = long; header_is = read; passes = c.in_ok-target.ensures.own.0.checks }),
+            ap (header_in f) c.in_ok-target.ensures.target.1 ∙ read,
+          ));
+    }
 
 pub work-requires-clause-given : goal.work-requires-clause-given
 work-requires-clause-given g c = λ lifetimes lives. subst (λ (n : Option ℕ). GivesWithin n c.in_ok-target.target) (sym c.in_ok-target.ensures.source.attached_is) c.in_ok-target.ensures.given.0
@@ -145,25 +145,25 @@ returns-clause-patched g c =
     let s : Tally = g.D.Source.tally c.args.store.now in
     let s' : Tally = g.D.Source.tally c.work.new.store in
     on_ok c.work.result
-    (of_jobs (g.D.Source.held c.args.store.now) (g.S.Source.held c.args.patch.now) (g.S.Source.held c.find_target.new.patch) c.in_ok-target.target c.args.header.now c.args.corner.now
-    (λ job. IsPatchedBy job (g.D.Source.held c.work.new.store) s.amended.writes s'.amended.writes) (c.in_ok-target.ensures.source.held_is) (c.in_ok-target.ensures.given.1) (if_both (g.D.Source.held c.args.store.now) (g.S.Source.held c.args.patch.now) _ (λ f p is by wanted w. target_is c.args.header.now f p c.args.corner.now wanted w ∙ some_of (g.S.Source.held c.args.patch.now) (λ q. if_patchable f q (job_at wanted c.args.corner.now) (Ok c.args.header.now) ≡ Ok c.in_ok-target.target.header) p by (c.in_ok-target.ensures.exact f wanted (has_of c.hdu_at_law.ensures.walk c.found_hdus_law.ensures.last (g.D.Source.held c.args.store.now) c.args.length c.args.header.now c.args.buf.now (g.met.D.Source.agrees c.args.store.now c.args.length c.requires.attached) c.requires.read f wanted is w))))) c.work.ensures.patched
+    (of_jobs (g.D.Source.held c.args.store.now) (g.S.Source.held c.args.patch.now) (g.S.Source.held c.find_target.new.patch) c.in_ok-target.target c.args.header.now c.args.patching.now.asked.corner.now
+    (λ job. IsPatchedBy job (g.D.Source.held c.work.new.store) s.amended.writes s'.amended.writes) (c.in_ok-target.ensures.source.held_is) (c.in_ok-target.ensures.given.1) (if_both (g.D.Source.held c.args.store.now) (g.S.Source.held c.args.patch.now) _ (λ f p is by wanted w. target_is c.args.header.now f p c.args.patching.now.asked.corner.now wanted w ∙ some_of (g.S.Source.held c.args.patch.now) (λ q. if_patchable f q (job_at wanted c.args.patching.now.asked.corner.now) (Ok c.args.header.now) ≡ Ok c.in_ok-target.target.header) p by (c.in_ok-target.ensures.exact f wanted (has_of c.hdu_at_law.ensures.walk c.found_hdus_law.ensures.last (g.D.Source.held c.args.store.now) c.args.patching.now.asked.length c.args.header.now c.args.buf.now (g.met.D.Source.agrees c.args.store.now c.args.patching.now.asked.length c.requires.attached) c.requires.read f wanted is w))))) c.work.ensures.patched
 
 pub returns-clause-safe : goal.returns-clause-safe
 returns-clause-safe g c =
     let s : Tally = g.D.Source.tally c.args.store.now in
     let s' : Tally = g.D.Source.tally c.work.new.store in
-    of_jobs (g.D.Source.held c.args.store.now) (g.S.Source.held c.args.patch.now) (g.S.Source.held c.find_target.new.patch) c.in_ok-target.target c.args.header.now c.args.corner.now
-    (λ job. LeavesSafe job (g.D.Source.held c.work.new.store) s.amended.writes s'.amended.writes) (c.in_ok-target.ensures.source.held_is) (c.in_ok-target.ensures.given.1) (if_both (g.D.Source.held c.args.store.now) (g.S.Source.held c.args.patch.now) _ (λ f p is by wanted w. target_is c.args.header.now f p c.args.corner.now wanted w ∙ some_of (g.S.Source.held c.args.patch.now) (λ q. if_patchable f q (job_at wanted c.args.corner.now) (Ok c.args.header.now) ≡ Ok c.in_ok-target.target.header) p by (c.in_ok-target.ensures.exact f wanted (has_of c.hdu_at_law.ensures.walk c.found_hdus_law.ensures.last (g.D.Source.held c.args.store.now) c.args.length c.args.header.now c.args.buf.now (g.met.D.Source.agrees c.args.store.now c.args.length c.requires.attached) c.requires.read f wanted is w)))) c.work.ensures.safe
+    of_jobs (g.D.Source.held c.args.store.now) (g.S.Source.held c.args.patch.now) (g.S.Source.held c.find_target.new.patch) c.in_ok-target.target c.args.header.now c.args.patching.now.asked.corner.now
+    (λ job. LeavesSafe job (g.D.Source.held c.work.new.store) s.amended.writes s'.amended.writes) (c.in_ok-target.ensures.source.held_is) (c.in_ok-target.ensures.given.1) (if_both (g.D.Source.held c.args.store.now) (g.S.Source.held c.args.patch.now) _ (λ f p is by wanted w. target_is c.args.header.now f p c.args.patching.now.asked.corner.now wanted w ∙ some_of (g.S.Source.held c.args.patch.now) (λ q. if_patchable f q (job_at wanted c.args.patching.now.asked.corner.now) (Ok c.args.header.now) ≡ Ok c.in_ok-target.target.header) p by (c.in_ok-target.ensures.exact f wanted (has_of c.hdu_at_law.ensures.walk c.found_hdus_law.ensures.last (g.D.Source.held c.args.store.now) c.args.patching.now.asked.length c.args.header.now c.args.buf.now (g.met.D.Source.agrees c.args.store.now c.args.patching.now.asked.length c.requires.attached) c.requires.read f wanted is w)))) c.work.ensures.safe
 
 pub returns-clause-unwritten : goal.returns-clause-unwritten
 returns-clause-unwritten g c = λ refused.
-    of_jobs (g.D.Source.held c.args.store.now) (g.S.Source.held c.args.patch.now) (g.S.Source.held c.find_target.new.patch) c.in_ok-target.target c.args.header.now c.args.corner.now
-    (λ job f p. (g.D.Source.held c.work.new.store ≡ g.D.Source.held c.args.store.now) × (g.D.Source.tally c.work.new.store ≡ g.D.Source.tally c.args.store.now)) (c.in_ok-target.ensures.source.held_is) (c.in_ok-target.ensures.given.1) (if_both (g.D.Source.held c.args.store.now) (g.S.Source.held c.args.patch.now) _ (λ f p is by wanted w. target_is c.args.header.now f p c.args.corner.now wanted w ∙ some_of (g.S.Source.held c.args.patch.now) (λ q. if_patchable f q (job_at wanted c.args.corner.now) (Ok c.args.header.now) ≡ Ok c.in_ok-target.target.header) p by (c.in_ok-target.ensures.exact f wanted (has_of c.hdu_at_law.ensures.walk c.found_hdus_law.ensures.last (g.D.Source.held c.args.store.now) c.args.length c.args.header.now c.args.buf.now (g.met.D.Source.agrees c.args.store.now c.args.length c.requires.attached) c.requires.read f wanted is w)))) (c.work.ensures.unwritten refused)
+    of_jobs (g.D.Source.held c.args.store.now) (g.S.Source.held c.args.patch.now) (g.S.Source.held c.find_target.new.patch) c.in_ok-target.target c.args.header.now c.args.patching.now.asked.corner.now
+    (λ job f p. (g.D.Source.held c.work.new.store ≡ g.D.Source.held c.args.store.now) × (g.D.Source.tally c.work.new.store ≡ g.D.Source.tally c.args.store.now)) (c.in_ok-target.ensures.source.held_is) (c.in_ok-target.ensures.given.1) (if_both (g.D.Source.held c.args.store.now) (g.S.Source.held c.args.patch.now) _ (λ f p is by wanted w. target_is c.args.header.now f p c.args.patching.now.asked.corner.now wanted w ∙ some_of (g.S.Source.held c.args.patch.now) (λ q. if_patchable f q (job_at wanted c.args.patching.now.asked.corner.now) (Ok c.args.header.now) ≡ Ok c.in_ok-target.target.header) p by (c.in_ok-target.ensures.exact f wanted (has_of c.hdu_at_law.ensures.walk c.found_hdus_law.ensures.last (g.D.Source.held c.args.store.now) c.args.patching.now.asked.length c.args.header.now c.args.buf.now (g.met.D.Source.agrees c.args.store.now c.args.patching.now.asked.length c.requires.attached) c.requires.read f wanted is w)))) (c.work.ensures.unwritten refused)
 
 pub returns-clause-first_fault : goal.returns-clause-first_fault
 returns-clause-first_fault g c =
-    of_jobs (g.D.Source.held c.args.store.now) (g.S.Source.held c.args.patch.now) (g.S.Source.held c.find_target.new.patch) c.in_ok-target.target c.args.header.now c.args.corner.now
-    (λ job f p. TellsPatchFault job (Some f) (Some p) c.work.result) (c.in_ok-target.ensures.source.held_is) (c.in_ok-target.ensures.given.1) (if_both (g.D.Source.held c.args.store.now) (g.S.Source.held c.args.patch.now) _ (λ f p is by wanted w. target_is c.args.header.now f p c.args.corner.now wanted w ∙ some_of (g.S.Source.held c.args.patch.now) (λ q. if_patchable f q (job_at wanted c.args.corner.now) (Ok c.args.header.now) ≡ Ok c.in_ok-target.target.header) p by (c.in_ok-target.ensures.exact f wanted (has_of c.hdu_at_law.ensures.walk c.found_hdus_law.ensures.last (g.D.Source.held c.args.store.now) c.args.length c.args.header.now c.args.buf.now (g.met.D.Source.agrees c.args.store.now c.args.length c.requires.attached) c.requires.read f wanted is w)))) c.work.ensures.first_fault
+    of_jobs (g.D.Source.held c.args.store.now) (g.S.Source.held c.args.patch.now) (g.S.Source.held c.find_target.new.patch) c.in_ok-target.target c.args.header.now c.args.patching.now.asked.corner.now
+    (λ job f p. TellsPatchFault job (Some f) (Some p) c.work.result) (c.in_ok-target.ensures.source.held_is) (c.in_ok-target.ensures.given.1) (if_both (g.D.Source.held c.args.store.now) (g.S.Source.held c.args.patch.now) _ (λ f p is by wanted w. target_is c.args.header.now f p c.args.patching.now.asked.corner.now wanted w ∙ some_of (g.S.Source.held c.args.patch.now) (λ q. if_patchable f q (job_at wanted c.args.patching.now.asked.corner.now) (Ok c.args.header.now) ≡ Ok c.in_ok-target.target.header) p by (c.in_ok-target.ensures.exact f wanted (has_of c.hdu_at_law.ensures.walk c.found_hdus_law.ensures.last (g.D.Source.held c.args.store.now) c.args.patching.now.asked.length c.args.header.now c.args.buf.now (g.met.D.Source.agrees c.args.store.now c.args.patching.now.asked.length c.requires.attached) c.requires.read f wanted is w)))) c.work.ensures.first_fault
 
 pub returns-clause-late : goal.returns-clause-late
 returns-clause-late g c =
@@ -174,7 +174,7 @@ returns-clause-late g c =
 
 pub returns-clause-first_past : goal.returns-clause-first_past
 returns-clause-first_past g c =
-    let corner : List ℕ = c.args.corner.now in
+    let corner : List ℕ = c.args.patching.now.asked.corner.now in
     let header : Header = c.args.header.now in
     let meter = c.args.meter.now in
     let n : ℕ = pixels_of c.in_ok-target.target.image.plan 0 in
@@ -185,12 +185,12 @@ returns-clause-first_past g c =
     let job = job_at wanted corner in
     let own = first_refusal (own_checks f header job) in
     let none : TellsFirstPast {X = Target} meter.limit (given_taking meter.live p own) (Ok c.in_ok-target.target) =
-    some_of (g.S.Source.held c.args.patch.now) (λ q. TellsFirstPast {X = Target} meter.limit (given_taking meter.live q own) (Ok c.in_ok-target.target)) p by (c.in_ok-target.ensures.first_past f wanted (has_of c.hdu_at_law.ensures.walk c.found_hdus_law.ensures.last (g.D.Source.held c.args.store.now) c.args.length c.args.header.now c.args.buf.now (g.met.D.Source.agrees c.args.store.now c.args.length c.requires.attached) c.requires.read f wanted is w)) in
-    work_past {X = Unit {0}} {Y = Target} c.takings_law.ensures.second meter.limit meter.live n f p job header c.in_ok-target.target.header c.in_ok-target.target c.work.result (kept_is c.args.meter.now.live c.args.buf.now c.args.header.now c.requires.header live) (tile_of c.in_ok-target.target c.args.header.now f c.in_ok-target.ensures.target.0 c.in_ok-target.ensures.target.1 (c.in_ok-target.ensures.said f (has_of c.hdu_at_law.ensures.walk c.found_hdus_law.ensures.last (g.D.Source.held c.args.store.now) c.args.length c.args.header.now c.args.buf.now (g.met.D.Source.agrees c.args.store.now c.args.length c.requires.attached) c.requires.read f wanted is w))) (some_of (g.S.Source.held c.args.patch.now) (λ q. if_patchable f q (job_at wanted c.args.corner.now) (Ok c.args.header.now) ≡ Ok c.in_ok-target.target.header) p by (c.in_ok-target.ensures.exact f wanted (has_of c.hdu_at_law.ensures.walk c.found_hdus_law.ensures.last (g.D.Source.held c.args.store.now) c.args.length c.args.header.now c.args.buf.now (g.met.D.Source.agrees c.args.store.now c.args.length c.requires.attached) c.requires.read f wanted is w))) none tells)
+    some_of (g.S.Source.held c.args.patch.now) (λ q. TellsFirstPast {X = Target} meter.limit (given_taking meter.live q own) (Ok c.in_ok-target.target)) p by (c.in_ok-target.ensures.first_past f wanted (has_of c.hdu_at_law.ensures.walk c.found_hdus_law.ensures.last (g.D.Source.held c.args.store.now) c.args.patching.now.asked.length c.args.header.now c.args.buf.now (g.met.D.Source.agrees c.args.store.now c.args.patching.now.asked.length c.requires.attached) c.requires.read f wanted is w)) in
+    work_past {X = Unit {0}} {Y = Target} c.takings_law.ensures.second meter.limit meter.live n f p job header c.in_ok-target.target.header c.in_ok-target.target c.work.result (kept_is c.args.meter.now.live c.args.buf.now c.args.header.now c.requires.header live) (tile_of c.in_ok-target.target c.args.header.now f c.in_ok-target.ensures.target.0 c.in_ok-target.ensures.target.1 (c.in_ok-target.ensures.said f (has_of c.hdu_at_law.ensures.walk c.found_hdus_law.ensures.last (g.D.Source.held c.args.store.now) c.args.patching.now.asked.length c.args.header.now c.args.buf.now (g.met.D.Source.agrees c.args.store.now c.args.patching.now.asked.length c.requires.attached) c.requires.read f wanted is w))) (some_of (g.S.Source.held c.args.patch.now) (λ q. if_patchable f q (job_at wanted c.args.patching.now.asked.corner.now) (Ok c.args.header.now) ≡ Ok c.in_ok-target.target.header) p by (c.in_ok-target.ensures.exact f wanted (has_of c.hdu_at_law.ensures.walk c.found_hdus_law.ensures.last (g.D.Source.held c.args.store.now) c.args.patching.now.asked.length c.args.header.now c.args.buf.now (g.met.D.Source.agrees c.args.store.now c.args.patching.now.asked.length c.requires.attached) c.requires.read f wanted is w))) none tells)
 
 pub returns-clause-unpassed : goal.returns-clause-unpassed
 returns-clause-unpassed g c =
-    let corner : List ℕ = c.args.corner.now in
+    let corner : List ℕ = c.args.patching.now.asked.corner.now in
     let header : Header = c.args.header.now in
     let meter = c.args.meter.now in
     let store = c.args.store.now in
@@ -202,8 +202,8 @@ returns-clause-unpassed g c =
     (λ f p is by wanted w live.
     let job = job_at wanted corner in
     let own = first_refusal (own_checks f header job) in
-    let has = has_of c.hdu_at_law.ensures.walk c.found_hdus_law.ensures.last (g.D.Source.held store) c.args.length header c.args.buf.now
-    (g.met.D.Source.agrees store c.args.length c.requires.attached) c.requires.read f wanted is w in
+    let has = has_of c.hdu_at_law.ensures.walk c.found_hdus_law.ensures.last (g.D.Source.held store) c.args.patching.now.asked.length header c.args.buf.now
+    (g.met.D.Source.agrees store c.args.patching.now.asked.length c.requires.attached) c.requires.read f wanted is w in
     let none : TellsFirstPast {X = Target} meter.limit (given_taking meter.live p own) (Ok c.in_ok-target.target) =
     some_of (g.S.Source.held c.args.patch.now) (λ q. TellsFirstPast {X = Target} meter.limit (given_taking meter.live q own) (Ok c.in_ok-target.target)) p by
     (c.in_ok-target.ensures.first_past f wanted has) in
@@ -218,7 +218,7 @@ returns-clause-unpassed g c =
 
 pub returns-clause-peak : goal.returns-clause-peak
 returns-clause-peak g c =
-    let corner : List ℕ = c.args.corner.now in
+    let corner : List ℕ = c.args.patching.now.asked.corner.now in
     let header : Header = c.args.header.now in
     let meter = c.args.meter.now in
     let n : ℕ = pixels_of c.in_ok-target.target.image.plan 0 in
@@ -228,8 +228,8 @@ returns-clause-peak g c =
     let job = job_at wanted corner in
     let own = first_refusal (own_checks f header job) in
     let low : c.find_target.new.meter.peak ≤ max meter.peak (highest (given_taking meter.live p own)) =
-    some_of (g.S.Source.held c.args.patch.now) (λ q. c.find_target.new.meter.peak ≤ max meter.peak (highest (given_taking meter.live q own))) p by (c.in_ok-target.ensures.peak f wanted (has_of c.hdu_at_law.ensures.walk c.found_hdus_law.ensures.last (g.D.Source.held c.args.store.now) c.args.length c.args.header.now c.args.buf.now (g.met.D.Source.agrees c.args.store.now c.args.length c.requires.attached) c.requires.read f wanted is w)) in
-    let both = work_high meter.live n f p job header c.in_ok-target.target.header (kept_is c.args.meter.now.live c.args.buf.now c.args.header.now c.requires.header live) (tile_of c.in_ok-target.target c.args.header.now f c.in_ok-target.ensures.target.0 c.in_ok-target.ensures.target.1 (c.in_ok-target.ensures.said f (has_of c.hdu_at_law.ensures.walk c.found_hdus_law.ensures.last (g.D.Source.held c.args.store.now) c.args.length c.args.header.now c.args.buf.now (g.met.D.Source.agrees c.args.store.now c.args.length c.requires.attached) c.requires.read f wanted is w))) (some_of (g.S.Source.held c.args.patch.now) (λ q. if_patchable f q (job_at wanted c.args.corner.now) (Ok c.args.header.now) ≡ Ok c.in_ok-target.target.header) p by (c.in_ok-target.ensures.exact f wanted (has_of c.hdu_at_law.ensures.walk c.found_hdus_law.ensures.last (g.D.Source.held c.args.store.now) c.args.length c.args.header.now c.args.buf.now (g.met.D.Source.agrees c.args.store.now c.args.length c.requires.attached) c.requires.read f wanted is w))) in
+    some_of (g.S.Source.held c.args.patch.now) (λ q. c.find_target.new.meter.peak ≤ max meter.peak (highest (given_taking meter.live q own))) p by (c.in_ok-target.ensures.peak f wanted (has_of c.hdu_at_law.ensures.walk c.found_hdus_law.ensures.last (g.D.Source.held c.args.store.now) c.args.patching.now.asked.length c.args.header.now c.args.buf.now (g.met.D.Source.agrees c.args.store.now c.args.patching.now.asked.length c.requires.attached) c.requires.read f wanted is w)) in
+    let both = work_high meter.live n f p job header c.in_ok-target.target.header (kept_is c.args.meter.now.live c.args.buf.now c.args.header.now c.requires.header live) (tile_of c.in_ok-target.target c.args.header.now f c.in_ok-target.ensures.target.0 c.in_ok-target.ensures.target.1 (c.in_ok-target.ensures.said f (has_of c.hdu_at_law.ensures.walk c.found_hdus_law.ensures.last (g.D.Source.held c.args.store.now) c.args.patching.now.asked.length c.args.header.now c.args.buf.now (g.met.D.Source.agrees c.args.store.now c.args.patching.now.asked.length c.requires.attached) c.requires.read f wanted is w))) (some_of (g.S.Source.held c.args.patch.now) (λ q. if_patchable f q (job_at wanted c.args.patching.now.asked.corner.now) (Ok c.args.header.now) ≡ Ok c.in_ok-target.target.header) p by (c.in_ok-target.ensures.exact f wanted (has_of c.hdu_at_law.ensures.walk c.found_hdus_law.ensures.last (g.D.Source.held c.args.store.now) c.args.patching.now.asked.length c.args.header.now c.args.buf.now (g.met.D.Source.agrees c.args.store.now c.args.patching.now.asked.length c.requires.attached) c.requires.read f wanted is w))) in
     omega (arith, high, low, both.0, both.1))
 
 pub returns-clause-most : goal.returns-clause-most

@@ -13,10 +13,10 @@ use Rattle.fz_grid.specs.Region.{lengths_of}
 use Rattle.fz_pool.specs.Window.{Pool}
 use Rattle.fz_files.specs.Restored.{pixels_of}
 use Rattle.fz_head.specs.WorkBuffers.{work_buffers}
-use Rattle.fz_survey.specs.Workspace.{wanted_buffers}
-use Rattle.fz_survey.specs.declared.workspace.Wants.{Wants}
-use Rattle.fz_survey.specs.declared.workspace.Workspace.{Workspace}
-use Rattle.fz_patch.specs.Ends.{WorksInPlace}
+use Rattle.fz_job.specs.Workspace.{wanted_buffers}
+use Rattle.fz_job.specs.declared.workspace.Wants.{Wants}
+use Rattle.fz_job.specs.declared.workspace.Workspace.{Workspace}
+use Rattle.fz_target.specs.Ends.{WorksInPlace}
 use Rattle.fz_patch.specs.Clauses.{LeavesSafe, TellsPatchFault}
 use Rattle.fz_patch.proofs.FramePatch.{over_short, refilled_len, short_untold}
 use Rattle.fz_patch.proofs.FrameWork.{filled_slots, for_jobs, if_refused, meter_back, over_patches, past_patches, past_short, patches_work, still_held, works_short}

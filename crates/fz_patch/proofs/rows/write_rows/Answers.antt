@@ -4,6 +4,7 @@ use Rattle.std.specs.Prelude.{IfSome}
 use Rattle.std.proofs.lemmas.Result.{on_ok_weaker}
 use Rattle.fz_base.specs.Counts.{Amend, Tally}
 use Rattle.fz_base.specs.Sink.{written}
+use Rattle.fz_base.specs.Source.{has_bytes}
 use Rattle.fz_base.specs.Stop.{IfRefused}
 use Rattle.fz_base.specs.Store.{HasAtLeast, MayAmend, amend_of, with_write}
 use Rattle.fz_base.specs.declared.failure.Stop.{Stop}
@@ -13,13 +14,12 @@ use Rattle.fz_pool.specs.Round.{coded_tile}
 use Rattle.fz_pool.specs.Window.{Pool}
 use Rattle.fz_table.specs.Rows.{row_start}
 use Rattle.fz_tile.specs.TileCode.{TileCode}
-use Rattle.fz_patch.specs.Compared.{has_bytes}
-use Rattle.fz_patch.specs.Ends.{Patches}
-use Rattle.fz_patch.specs.Measures.{is_measured}
-use Rattle.fz_patch.specs.Steps.{ComesInWork}
-use Rattle.fz_patch.specs.Targets.{IsGivenTo, given_at, plan_to_write}
-use Rattle.fz_patch.specs.Tiles.{HasNewCode}
-use Rattle.fz_patch.specs.Told.{IfBoth}
+use Rattle.fz_target.specs.Ends.{Patches}
+use Rattle.fz_target.specs.Measures.{is_measured}
+use Rattle.fz_target.specs.Steps.{ComesInWork}
+use Rattle.fz_target.specs.Targets.{IsGivenTo, given_at, plan_to_write}
+use Rattle.fz_target.specs.Tiles.{HasNewCode}
+use Rattle.fz_target.specs.Told.{IfBoth}
 use Rattle.fz_patch.proofs.Amended.{at-least, kept-read, kept-same, kept-then, one-amends, reach-is, reach-then, read-amends, same-amended, same-counts, same-is, same-then, settled-amends}
 use Rattle.fz_patch.proofs.Boxes.{AreAbove}
 use Rattle.fz_patch.proofs.CodeSlots.{first_has}
@@ -44,6 +44,7 @@ loop-tile-init g c =
     record {
       given = refl;
       given_len = refl;
+      given_told = λ told. told;
       given_tally = refl;
       window = record { sizes = refl; workers = refl };
       copy = refl;
@@ -100,9 +101,9 @@ write_tile-requires-clause-reach g c =
     let parts = state.parts ∙ ap (λ l. state.front ++ l) next in
     let less = row_of_tile t tile c.requires.target box in
     let read = c.prepare_tile.new.store in
-    let back = c.has_bytes.new.store in
+    let back = c.has_bytes.new.source in
     at-least (g.D.Source.attached back) (heap_end_of t) (row_start t.image.table tile)
-    (subst (λ (a : Option ℕ). HasAtLeast a (heap_end_of t)) (sym (c.in_ok-is_there.ensures.store.attached_is ∙ c.in_ok-prepare_tile.ensures.store.attached_is)) old.reach)
+    (subst (λ (a : Option ℕ). HasAtLeast a (heap_end_of t)) (sym (c.in_ok-is_there.ensures.source.attached_is ∙ c.in_ok-prepare_tile.ensures.store.attached_is)) old.reach)
     (row_in_file t tile c.requires.target less)
 
 -- ---- what is compared lies in the file
@@ -121,8 +122,8 @@ has_bytes-requires-clause-near g c =
     let near = g.met.D.Source.near c.loop-tile.store reach.0 reach.1 in
     omega (arith, near, reach.2, c.code_in.ensures.count, c.if-count-room.false, c.loop-tile.invariant.high, c.from-count.ensures)
 
-pub has_bytes-requires-clause-copy : goal.has_bytes-requires-clause-copy
-has_bytes-requires-clause-copy g c = omega (arith, c.requires.copy, c.loop-tile.invariant.copy, c.in_ok-prepare_tile.ensures.copy)
+pub has_bytes-requires-clause-piece : goal.has_bytes-requires-clause-piece
+has_bytes-requires-clause-piece g c = omega (arith, c.requires.copy, c.loop-tile.invariant.copy, c.in_ok-prepare_tile.ensures.copy)
 
 pub loop-tile-preserved : goal.loop-tile-preserved
 loop-tile-preserved g c =
@@ -153,10 +154,10 @@ loop-tile-preserved g c =
     let put = c.in_ok-write_tile.ensures in
     let new_store = c.write_tile.new.store in
     let seen = c.in_ok-is_there.ensures in
-    let back = c.has_bytes.new.store in
+    let back = c.has_bytes.new.source in
     let same_counts = same-is (g.D.Source.tally now) (g.D.Source.tally back) (seen.cause.ok ∙ done.cause.ok.0) in
-    let held_is : g.D.Source.held back ≡ g.D.Source.held now = seen.store.held_is ∙ done.store.held_is in
-    let attached_is : g.D.Source.attached back ≡ g.D.Source.attached now = seen.store.attached_is ∙ done.store.attached_is in
+    let held_is : g.D.Source.held back ≡ g.D.Source.held now = seen.source.held_is ∙ done.store.held_is in
+    let attached_is : g.D.Source.attached back ≡ g.D.Source.attached now = seen.source.attached_is ∙ done.store.attached_is in
     let logged : (g.D.Source.tally back).amended.writes ≡ (g.D.Source.tally now).amended.writes =
     read_writes (g.D.Source.tally read) (g.D.Source.tally back) seen.cause.kept ∙ read_writes (g.D.Source.tally now) (g.D.Source.tally read) done.cause.store_kept in
     let made : g.D.Source.held new_store ≡ written (row_start t.image.table tile) bytes (g.D.Source.held now) = put.amended ∙ ap (written (row_start t.image.table tile) bytes) held_is in
@@ -172,9 +173,10 @@ loop-tile-preserved g c =
     record {
       given = done.patch.held_is ∙ old.given;
       given_len = done.patch.attached_is ∙ old.given_len;
+      given_told = λ told. done.patch.told (old.given_told told);
       given_tally = done.cause.ok.1 ∙ old.given_tally;
       window = record { sizes = done.window.sizes ∙ old.window.sizes; workers = done.window.workers ∙ old.window.workers };
-      copy = seen.copy ∙ done.copy ∙ old.copy;
+      copy = seen.piece ∙ done.copy ∙ old.copy;
       high = omega (arith, old.high);
       reach = put.reach (heap_end_of t) (subst (λ (a : Option ℕ). HasAtLeast a (heap_end_of t)) (sym attached_is) old.reach);
       grows = reach-then _ _ _ old.grows (reach-then _ _ _ (reach-is _ _ attached_is) put.reach);
@@ -449,11 +451,11 @@ returns-in_err-is_there-clause-some g c =
     let left : List ℕ = sieve_tiles_left c.loop-tile.tile-iterator in
     let now = c.loop-tile.store in
     let read = c.prepare_tile.new.store in
-    let back = c.has_bytes.new.store in
+    let back = c.has_bytes.new.source in
     let done = c.in_ok-prepare_tile.ensures in
     let seen = c.in_err-is_there.ensures in
     some_rows_same t start given held (g.D.Source.held now) (g.D.Source.held back) log (g.D.Source.tally now).amended.writes (g.D.Source.tally back).amended.writes
-    (seen.store.held_is ∙ done.store.held_is) (read_writes (g.D.Source.tally read) (g.D.Source.tally back) seen.cause.kept ∙ read_writes (g.D.Source.tally now) (g.D.Source.tally read) done.cause.store_kept)
+    (seen.source.held_is ∙ done.store.held_is) (read_writes (g.D.Source.tally read) (g.D.Source.tally back) seen.cause.kept ∙ read_writes (g.D.Source.tally now) (g.D.Source.tally read) done.cause.store_kept)
     (rows_stop t start held given (g.D.Source.held now) log (g.D.Source.tally now).amended.writes state.front left offset state.parts c.requires.said state.have)
 
 pub returns-in_err-is_there-clause-unrefused : goal.returns-in_err-is_there-clause-unrefused
@@ -464,7 +466,7 @@ returns-in_err-is_there-clause-unrefused g c =
     let stop : Stop = c.in_err-is_there.field-0.0 in
     let stopped : c.from_residual-in_err-is_there.result ≡ Err stop = search rules in
     let read = g.D.Source.tally c.prepare_tile.new.store in
-    let back = g.D.Source.tally c.has_bytes.new.store in
+    let back = g.D.Source.tally c.has_bytes.new.source in
     let never = amends_unrefused {X = Unit {0}} read back (Err stop) (read-amends read back (Err stop) (record { kept = c.in_err-is_there.ensures.cause.kept; ok = tt; stop = c.in_err-is_there.ensures.cause.stop })) in
     subst (λ (r : Result (Unit {0}) Stop). UnrefusedRows t c.args.found.now held given r) (sym stopped)
     (also_rows t c.args.found.now held given (Err stop) (by_stop t c.args.found.now.bytes held given (Err stop) never))
@@ -474,13 +476,13 @@ returns-in_err-is_there-clause-late g c =
     let stop : Stop = c.in_err-is_there.field-0.0 in
     let stopped : c.from_residual-in_err-is_there.result ≡ Err stop = search rules in
     let read = g.D.Source.tally c.prepare_tile.new.store in
-    let back = g.D.Source.tally c.has_bytes.new.store in
+    let back = g.D.Source.tally c.has_bytes.new.source in
     subst (λ (r : Result (Unit {0}) Stop). IfRefused r (ComesInWork c.args.target.now.header.hdu)) (sym stopped)
     (none_refused {X = Unit {0}} _ read back (Err stop) (read-amends read back (Err stop) (record { kept = c.in_err-is_there.ensures.cause.kept; ok = tt; stop = c.in_err-is_there.ensures.cause.stop })))
 
 pub returns-in_err-is_there-clause-reach : goal.returns-in_err-is_there-clause-reach
 returns-in_err-is_there-clause-reach g c =
-    reach-then _ _ _ c.loop-tile.invariant.grows (reach-is _ _ (c.in_err-is_there.ensures.store.attached_is ∙ c.in_ok-prepare_tile.ensures.store.attached_is))
+    reach-then _ _ _ c.loop-tile.invariant.grows (reach-is _ _ (c.in_err-is_there.ensures.source.attached_is ∙ c.in_ok-prepare_tile.ensures.store.attached_is))
 
 pub returns-in_err-is_there-clause-cause : goal.returns-in_err-is_there-clause-cause
 returns-in_err-is_there-clause-cause g c =
@@ -491,7 +493,7 @@ returns-in_err-is_there-clause-cause g c =
     let s = g.D.Source.tally c.args.store.now in
     let s' = g.D.Source.tally c.loop-tile.store in
     let s'' = g.D.Source.tally c.prepare_tile.new.store in
-    let back = g.D.Source.tally c.has_bytes.new.store in
+    let back = g.D.Source.tally c.has_bytes.new.source in
     let p = g.S.Source.tally c.args.patch.now in
     let p' = g.S.Source.tally c.prepare_tile.new.patch in
     subst (λ (r : Result (Unit {0}) Stop). Patches s back p p' r) (sym stopped)
@@ -508,10 +510,10 @@ returns-in_err-is_there-clause-described g c =
     let start : ℕ = t.image.table.heap_len - c.args.found.now.bytes in
     let now = c.loop-tile.store in
     let read = c.prepare_tile.new.store in
-    let back = c.has_bytes.new.store in
+    let back = c.has_bytes.new.source in
     let done = c.in_ok-prepare_tile.ensures in
     let seen = c.in_err-is_there.ensures in
-    described_stop t c.args.found.now start held (g.D.Source.held now) (g.D.Source.held back) log (g.D.Source.tally now).amended.writes (g.D.Source.tally back).amended.writes offset (seen.store.held_is ∙ done.store.held_is) (read_writes (g.D.Source.tally read) (g.D.Source.tally back) seen.cause.kept ∙ read_writes (g.D.Source.tally now) (g.D.Source.tally read) done.cause.store_kept) old.described
+    described_stop t c.args.found.now start held (g.D.Source.held now) (g.D.Source.held back) log (g.D.Source.tally now).amended.writes (g.D.Source.tally back).amended.writes offset (seen.source.held_is ∙ done.store.held_is) (read_writes (g.D.Source.tally read) (g.D.Source.tally back) seen.cause.kept ∙ read_writes (g.D.Source.tally now) (g.D.Source.tally read) done.cause.store_kept) old.described
 
 -- ---- another code lies there
 
@@ -528,11 +530,11 @@ returns-then-not-is_there-clause-some g c =
     let left : List ℕ = sieve_tiles_left c.loop-tile.tile-iterator in
     let now = c.loop-tile.store in
     let read = c.prepare_tile.new.store in
-    let back = c.has_bytes.new.store in
+    let back = c.has_bytes.new.source in
     let done = c.in_ok-prepare_tile.ensures in
     let seen = c.in_ok-is_there.ensures in
     some_rows_same t start given held (g.D.Source.held now) (g.D.Source.held back) log (g.D.Source.tally now).amended.writes (g.D.Source.tally back).amended.writes
-    (seen.store.held_is ∙ done.store.held_is) (read_writes (g.D.Source.tally read) (g.D.Source.tally back) seen.cause.kept ∙ read_writes (g.D.Source.tally now) (g.D.Source.tally read) done.cause.store_kept)
+    (seen.source.held_is ∙ done.store.held_is) (read_writes (g.D.Source.tally read) (g.D.Source.tally back) seen.cause.kept ∙ read_writes (g.D.Source.tally now) (g.D.Source.tally read) done.cause.store_kept)
     (rows_stop t start held given (g.D.Source.held now) log (g.D.Source.tally now).amended.writes state.front left offset state.parts c.requires.said state.have)
 
 pub returns-then-not-is_there-clause-unrefused : goal.returns-then-not-is_there-clause-unrefused
@@ -572,7 +574,7 @@ returns-then-not-is_there-clause-unrefused g c =
 
 pub returns-then-not-is_there-clause-reach : goal.returns-then-not-is_there-clause-reach
 returns-then-not-is_there-clause-reach g c =
-    reach-then _ _ _ c.loop-tile.invariant.grows (reach-is _ _ (c.in_ok-is_there.ensures.store.attached_is ∙ c.in_ok-prepare_tile.ensures.store.attached_is))
+    reach-then _ _ _ c.loop-tile.invariant.grows (reach-is _ _ (c.in_ok-is_there.ensures.source.attached_is ∙ c.in_ok-prepare_tile.ensures.store.attached_is))
 
 pub returns-then-not-is_there-clause-cause : goal.returns-then-not-is_there-clause-cause
 returns-then-not-is_there-clause-cause g c =
@@ -582,7 +584,7 @@ returns-then-not-is_there-clause-cause g c =
     let s = g.D.Source.tally c.args.store.now in
     let s' = g.D.Source.tally c.loop-tile.store in
     let s'' = g.D.Source.tally c.prepare_tile.new.store in
-    let back = g.D.Source.tally c.has_bytes.new.store in
+    let back = g.D.Source.tally c.has_bytes.new.source in
     let p = g.S.Source.tally c.args.patch.now in
     let p' = g.S.Source.tally c.prepare_tile.new.patch in
     subst (λ (stop : Stop). Patches {X = Unit {0}} s back p p' (Err stop)) (sym c.changed-then-not-is_there.ensures)
@@ -599,10 +601,10 @@ returns-then-not-is_there-clause-described g c =
     let start : ℕ = t.image.table.heap_len - c.args.found.now.bytes in
     let now = c.loop-tile.store in
     let read = c.prepare_tile.new.store in
-    let back = c.has_bytes.new.store in
+    let back = c.has_bytes.new.source in
     let done = c.in_ok-prepare_tile.ensures in
     let seen = c.in_ok-is_there.ensures in
-    described_stop t c.args.found.now start held (g.D.Source.held now) (g.D.Source.held back) log (g.D.Source.tally now).amended.writes (g.D.Source.tally back).amended.writes offset (seen.store.held_is ∙ done.store.held_is) (read_writes (g.D.Source.tally read) (g.D.Source.tally back) seen.cause.kept ∙ read_writes (g.D.Source.tally now) (g.D.Source.tally read) done.cause.store_kept) old.described
+    described_stop t c.args.found.now start held (g.D.Source.held now) (g.D.Source.held back) log (g.D.Source.tally now).amended.writes (g.D.Source.tally back).amended.writes offset (seen.source.held_is ∙ done.store.held_is) (read_writes (g.D.Source.tally read) (g.D.Source.tally back) seen.cause.kept ∙ read_writes (g.D.Source.tally now) (g.D.Source.tally read) done.cause.store_kept) old.described
 
 -- ---- a row is not written
 
@@ -635,11 +637,11 @@ returns-in_err-write_tile-clause-some g c =
     let put = c.in_err-write_tile.ensures in
     let new_store = c.write_tile.new.store in
     let seen = c.in_ok-is_there.ensures in
-    let back = c.has_bytes.new.store in
+    let back = c.has_bytes.new.source in
     rows_failed t start held given (g.D.Source.held now) (g.D.Source.held new_store) log (g.D.Source.tally now).amended.writes (g.D.Source.tally new_store).amended.writes state.front tile after state.next offset bytes slot.job.len w
     c.requires.target parts low less c.requires.said state.still new
     (λ code has. (ap (row_of (plan_to_write t) offset) (first_has w slot code c.code_slot-slot.ensures.first has).0, (first_has w slot code c.code_slot-slot.ensures.first has).1))
-    (subst (λ (h : Option (List ℕ)). MayAmend (row_start t.image.table tile) (length bytes) h (g.D.Source.held new_store)) (seen.store.held_is ∙ done.store.held_is) put.partly)
+    (subst (λ (h : Option (List ℕ)). MayAmend (row_start t.image.table tile) (length bytes) h (g.D.Source.held new_store)) (seen.source.held_is ∙ done.store.held_is) put.partly)
     (put.cause.unlogged ∙ read_writes (g.D.Source.tally read) (g.D.Source.tally back) seen.cause.kept ∙ read_writes (g.D.Source.tally now) (g.D.Source.tally read) done.cause.store_kept) state.have
 
 pub returns-in_err-write_tile-clause-unrefused : goal.returns-in_err-write_tile-clause-unrefused
@@ -649,7 +651,7 @@ returns-in_err-write_tile-clause-unrefused g c =
     let t = c.args.target.now in
     let held : Option (List ℕ) = g.D.Source.held c.args.store.now in
     let given : Option (List ℕ) = g.S.Source.held c.args.patch.now in
-    let back = g.D.Source.tally c.has_bytes.new.store in
+    let back = g.D.Source.tally c.has_bytes.new.source in
     let now = g.D.Source.tally c.write_tile.new.store in
     subst (λ (r : Result (Unit {0}) Stop). UnrefusedRows t c.args.found.now held given r) (sym stopped)
     (also_rows t c.args.found.now held given (Err stop)
@@ -658,7 +660,7 @@ returns-in_err-write_tile-clause-unrefused g c =
 pub returns-in_err-write_tile-clause-reach : goal.returns-in_err-write_tile-clause-reach
 returns-in_err-write_tile-clause-reach g c =
     reach-then _ _ _ c.loop-tile.invariant.grows
-    (reach-then _ _ _ (reach-is _ _ (c.in_ok-is_there.ensures.store.attached_is ∙ c.in_ok-prepare_tile.ensures.store.attached_is)) c.in_err-write_tile.ensures.reach)
+    (reach-then _ _ _ (reach-is _ _ (c.in_ok-is_there.ensures.source.attached_is ∙ c.in_ok-prepare_tile.ensures.store.attached_is)) c.in_err-write_tile.ensures.reach)
 
 pub returns-in_err-write_tile-clause-cause : goal.returns-in_err-write_tile-clause-cause
 returns-in_err-write_tile-clause-cause g c =
@@ -670,7 +672,7 @@ returns-in_err-write_tile-clause-cause g c =
     let s = g.D.Source.tally c.args.store.now in
     let s' = g.D.Source.tally c.loop-tile.store in
     let s'' = g.D.Source.tally c.prepare_tile.new.store in
-    let back = g.D.Source.tally c.has_bytes.new.store in
+    let back = g.D.Source.tally c.has_bytes.new.source in
     let now = g.D.Source.tally c.write_tile.new.store in
     let p = g.S.Source.tally c.args.patch.now in
     let p' = g.S.Source.tally c.prepare_tile.new.patch in
@@ -695,7 +697,7 @@ returns-in_err-write_tile-clause-described g c =
     let low = not_below state.next tile left after next state.above in
     let less = row_of_tile t tile c.requires.target (next_box t tile left after next old.boxes) in
     let read = c.prepare_tile.new.store in
-    let back = c.has_bytes.new.store in
+    let back = c.has_bytes.new.source in
     let new_store = c.write_tile.new.store in
     let slot = c.code_slot-slot.result.now in
     let done = c.in_ok-prepare_tile.ensures in
@@ -712,7 +714,7 @@ returns-in_err-write_tile-clause-described g c =
     let within : offset + length code.bytes ≤ t.image.table.heap_len = omega (arith, size, c.if-count-room.false, old.high, c.from-count.ensures) in
     let bytes : List ℕ = row_of (plan_to_write t) offset code in
     described_failed t c.args.found.now start state.next log (g.D.Source.tally now).amended.writes (g.D.Source.tally new_store).amended.writes tile offset code few held (g.D.Source.held now) (g.D.Source.held new_store) c.requires.said state.still low less within found
-    (subst (λ (h : Option (List ℕ)). MayAmend (row_start t.image.table tile) (length bytes) h (g.D.Source.held new_store)) (seen.store.held_is ∙ done.store.held_is) put.partly)
+    (subst (λ (h : Option (List ℕ)). MayAmend (row_start t.image.table tile) (length bytes) h (g.D.Source.held new_store)) (seen.source.held_is ∙ done.store.held_is) put.partly)
     (put.cause.unlogged ∙ read_writes (g.D.Source.tally read) (g.D.Source.tally back) seen.cause.kept ∙ read_writes (g.D.Source.tally now) (g.D.Source.tally read) done.cause.store_kept) old.described
 
 -- ---- all codes are shorter than was measured

@@ -9,7 +9,7 @@ use Rattle.fz_files.specs.Packed.{row_of}
 use Rattle.fz_pool.specs.Round.{coded_tile}
 use Rattle.fz_table.specs.Rows.{row_start}
 use Rattle.fz_table.specs.declared.table.Table.{Table}
-use Rattle.fz_patch.specs.Targets.{plan_to_write}
+use Rattle.fz_target.specs.Targets.{plan_to_write}
 use Rattle.fz_patch.proofs.Amended.{reach-of}
 use Rattle.fz_patch.proofs.CodedEnds.{heap_end_is}
 use Rattle.fz_patch.proofs.CodedRows.{row_long, row_some, row_within}

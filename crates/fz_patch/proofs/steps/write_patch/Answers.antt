@@ -12,25 +12,25 @@ use Rattle.fz_block.specs.Header.{next_start_of}
 use Rattle.fz_files.specs.Restored.{header_in}
 use Rattle.fz_files.specs.Packed.{heap_of}
 use Rattle.fz_tile.specs.Plain.{AreBytes}
-use Rattle.fz_patched.specs.Amends.{applied}
-use Rattle.fz_patched.specs.FirstPatchFault.{BoxHasNumbers, IsBoxFault}
-use Rattle.fz_patched.specs.Grown.{SaysMore}
-use Rattle.fz_patched.specs.NewNumbers.{box_tiles}
-use Rattle.fz_patched.specs.Writes.{Steps, before_rows, before_sums, grown_end, header_now, heap_writes, new_codes, other_rows, row_writes, said_most, sum_writes}
+use Rattle.fz_laws.specs.Amends.{applied}
+use Rattle.fz_laws.specs.FirstPatchFault.{BoxHasNumbers, IsBoxFault}
+use Rattle.fz_laws.specs.Grown.{SaysMore}
+use Rattle.fz_laws.specs.NewNumbers.{box_tiles}
+use Rattle.fz_laws.specs.Writes.{Steps, before_rows, before_sums, grown_end, header_now, heap_writes, new_codes, other_rows, row_writes, said_most, sum_writes}
 use Rattle.fz_fetch.specs.Rows.{StandsWithin}
 use Rattle.fz_files.specs.FirstFault.{picked_tiles_of}
-use Rattle.fz_patch.specs.Cards.{HasPlaces, forms_writes, sums_writes, with_forms}
+use Rattle.fz_patch.specs.Cards.{HasPlaces, forms_writes, sums_writes, with_forms, forms_for}
 use Rattle.fz_patch.specs.Clauses.{IsPatchedBy, LeavesSafe, TellsPatchFault}
 use Rattle.fz_patch.specs.Compared.{HeapEndsWith}
-use Rattle.fz_patch.specs.Ends.{Patches, SameCounts}
+use Rattle.fz_target.specs.Ends.{Patches, SameCounts}
 use Rattle.fz_patch.specs.Jobs.{ForJobs}
-use Rattle.fz_patch.specs.Measures.{forms_for, measure_of}
-use Rattle.fz_patch.specs.Steps.{ComesInWork, KeepsHeader, Wrote, WroteSome}
-use Rattle.fz_patch.specs.Targets.{GivesWithin, IsGivenTo, IsTargetIn, given_at, grown_by, job_at, plan_to_write}
-use Rattle.fz_patch.specs.Told.{IfBoth}
-use Rattle.fz_patch.specs.declared.measure.Measure.{Measure}
-use Rattle.fz_patch.specs.declared.target.Target.{Target}
-use Rattle.fz_fetch.specs.Images.{HaveRoom}
+use Rattle.fz_target.specs.Measures.{measure_of}
+use Rattle.fz_target.specs.Steps.{ComesInWork, KeepsHeader, Wrote, WroteSome}
+use Rattle.fz_target.specs.Targets.{GivesWithin, IsGivenTo, IsTargetIn, given_at, grown_by, job_at, plan_to_write}
+use Rattle.fz_target.specs.Told.{IfBoth}
+use Rattle.fz_target.specs.declared.measure.Measure.{Measure}
+use Rattle.fz_target.specs.declared.target.Target.{Target}
+use Rattle.fz_job.specs.Images.{HaveRoom}
 use Rattle.fz_patch.proofs.StepRequires.{heap_says, kept_header, said_after}
 use Rattle.fz_patch.proofs.CodedEnds.{ends_of, zeros_near}
 use Rattle.fz_patch.proofs.SumCards.{header_long}
@@ -49,26 +49,26 @@ use Rattle.fz_patch.proofs.steps.write_patch.Goals as goal
 
 pub measure_codes-requires-clause-within : goal.measure_codes-requires-clause-within
 measure_codes-requires-clause-within g c κs within =
-    stands_at c.args.target.now (g.D.Source.attached c.args.store.now) c.requires.attached.0 c.requires.target c.requires.attached.1 c.requires.attached.2
+    stands_at c.args.target.now (g.D.Source.attached c.args.store.now) c.requires.found.attached.0 c.requires.found.target c.requires.found.attached.1 c.requires.found.attached.2
 
 pub measure_codes-requires-clause-said : goal.measure_codes-requires-clause-said
 measure_codes-requires-clause-said g c κs within =
-    if_some_map (g.D.Source.held c.args.store.now) _ _ (λ f said. said.0) c.requires.said
+    if_some_map (g.D.Source.held c.args.store.now) _ _ (λ f said. said.0) c.requires.found.said
 
 pub find_forms-requires-clause-within : goal.find_forms-requires-clause-within
 find_forms-requires-clause-within g c =
     subst (λ (a : Option ℕ). StandsWithin a c.args.target.now.image.table) (sym c.in_ok-found.ensures.store.attached_is)
-    (stands_at c.args.target.now (g.D.Source.attached c.args.store.now) c.requires.attached.0 c.requires.target c.requires.attached.1 c.requires.attached.2)
+    (stands_at c.args.target.now (g.D.Source.attached c.args.store.now) c.requires.found.attached.0 c.requires.found.target c.requires.found.attached.1 c.requires.found.attached.2)
 
 pub write_codes-requires-clause-within : goal.write_codes-requires-clause-within
 write_codes-requires-clause-within g c κs within =
     subst (λ (a : Option ℕ). StandsWithin a c.args.target.now.image.table) (sym (c.in_ok-forms.ensures.store.attached_is ∙ c.in_ok-found.ensures.store.attached_is))
-    (stands_at c.args.target.now (g.D.Source.attached c.args.store.now) c.requires.attached.0 c.requires.target c.requires.attached.1 c.requires.attached.2)
+    (stands_at c.args.target.now (g.D.Source.attached c.args.store.now) c.requires.found.attached.0 c.requires.found.target c.requires.found.attached.1 c.requires.found.attached.2)
 
 pub write_codes-requires-clause-said : goal.write_codes-requires-clause-said
 write_codes-requires-clause-said g c κs within =
     subst (λ (h : Option (List ℕ)). IfSome h (λ f. IsTargetIn f c.args.target.now)) (sym (c.in_ok-forms.ensures.store.held_is ∙ c.in_ok-found.ensures.store.held_is))
-    (if_some_map (g.D.Source.held c.args.store.now) _ _ (λ f said. said.0) c.requires.said)
+    (if_some_map (g.D.Source.held c.args.store.now) _ _ (λ f said. said.0) c.requires.found.said)
 
 -- ---- the new codes are not measured
 
@@ -161,7 +161,7 @@ returns-in_err-forms-clause-first_fault g c =
     let never : IsRefused {X = Unit {0}} (Err stop) → ⊥ = amends_unrefused (g.D.Source.tally c.measure_codes.new.store) (g.D.Source.tally c.find_forms.new.store) (Err stop) (read-amends (g.D.Source.tally c.measure_codes.new.store) (g.D.Source.tally c.find_forms.new.store) (Err stop) (record { kept = c.in_err-forms.ensures.cause.kept; ok = tt; stop = c.in_err-forms.ensures.cause.stop })) in
     subst (λ (r : Result (Unit {0}) Stop). ForJobs held given t (λ job file by. TellsPatchFault job (Some file) (Some by) r)) (sym stopped)
     (for_jobs held given t (λ job file by. TellsPatchFault {X = Unit {0}} job (Some file) (Some by) (Err stop)) (λ f p is by wanted corner to target.
-    let r : Ready t f p wanted corner m = ready_of t m buf held given f p wanted corner is by to target c.requires.said c.in_ok-found.ensures.sound c.in_ok-found.ensures.room c.in_ok-found.ensures.measured in
+    let r : Ready t f p wanted corner m = ready_of t m buf held given f p wanted corner is by to target c.requires.found.said c.in_ok-found.ensures.sound c.in_ok-found.ensures.room c.in_ok-found.ensures.measured in
     let st : Steps = steps t f p wanted corner m r in
     let fb : AreBytes f = some_of held _ f is (g.met.D.Source.octets c.args.store.now) in
     let pb : AreBytes p = some_of given _ p by (g.met.S.Source.octets c.args.patch.now) in
@@ -222,7 +222,7 @@ returns-in_err-write_codes-clause-safe g c =
     let log2 : (g.D.Source.tally c.find_forms.new.store).amended.writes ≡ log = ap (λ (k : Tally). k.amended.writes) (c.in_ok-forms.ensures.cause.ok ∙ c.in_ok-found.ensures.cause.ok.0) in
     let given1 : g.S.Source.held c.measure_codes.new.patch ≡ given = c.in_ok-found.ensures.patch.held_is in
     for_jobs held given t (λ job. LeavesSafe job (g.D.Source.held c.write_codes.new.store) log (g.D.Source.tally c.write_codes.new.store).amended.writes) (λ f p is by wanted corner to target.
-    let r : Ready t f p wanted corner m = ready_of t m buf held given f p wanted corner is by to target c.requires.said c.in_ok-found.ensures.sound c.in_ok-found.ensures.room c.in_ok-found.ensures.measured in
+    let r : Ready t f p wanted corner m = ready_of t m buf held given f p wanted corner is by to target c.requires.found.said c.in_ok-found.ensures.sound c.in_ok-found.ensures.room c.in_ok-found.ensures.measured in
     let st : Steps = steps t f p wanted corner m r in
     let fb : AreBytes f = some_of held _ f is (g.met.D.Source.octets c.args.store.now) in
     let pb : AreBytes p = some_of given _ p by (g.met.S.Source.octets c.args.patch.now) in
@@ -250,7 +250,7 @@ returns-in_err-write_codes-clause-first_fault g c =
     let stopped : c.from_residual-in_err-write_codes.result ≡ Err stop = search rules in
     subst (λ (r : Result (Unit {0}) Stop). ForJobs held given t (λ job file by. TellsPatchFault job (Some file) (Some by) r)) (sym stopped)
     (for_jobs held given t (λ job file by. TellsPatchFault {X = Unit {0}} job (Some file) (Some by) (Err stop)) (λ f p is by wanted corner to target.
-    let r : Ready t f p wanted corner m = ready_of t m buf held given f p wanted corner is by to target c.requires.said c.in_ok-found.ensures.sound c.in_ok-found.ensures.room c.in_ok-found.ensures.measured in
+    let r : Ready t f p wanted corner m = ready_of t m buf held given f p wanted corner is by to target c.requires.found.said c.in_ok-found.ensures.sound c.in_ok-found.ensures.room c.in_ok-found.ensures.measured in
     let st : Steps = steps t f p wanted corner m r in
     let fb : AreBytes f = some_of held _ f is (g.met.D.Source.octets c.args.store.now) in
     let pb : AreBytes p = some_of given _ p by (g.met.S.Source.octets c.args.patch.now) in
@@ -273,7 +273,7 @@ returns-in_err-write_codes-clause-unwritten g c =
     let stop : Stop = c.in_err-write_codes.field-0.0 in
     let stopped : c.from_residual-in_err-write_codes.result ≡ Err stop = search rules in
     λ refused. for_jobs held given t (λ job file by. (g.D.Source.held c.write_codes.new.store ≡ held) × (g.D.Source.tally c.write_codes.new.store ≡ g.D.Source.tally c.args.store.now)) (λ f p is by wanted corner to target.
-    let r : Ready t f p wanted corner m = ready_of t m buf held given f p wanted corner is by to target c.requires.said c.in_ok-found.ensures.sound c.in_ok-found.ensures.room c.in_ok-found.ensures.measured in
+    let r : Ready t f p wanted corner m = ready_of t m buf held given f p wanted corner is by to target c.requires.found.said c.in_ok-found.ensures.sound c.in_ok-found.ensures.room c.in_ok-found.ensures.measured in
     let st : Steps = steps t f p wanted corner m r in
     let fb : AreBytes f = some_of held _ f is (g.met.D.Source.octets c.args.store.now) in
     let pb : AreBytes p = some_of given _ p by (g.met.S.Source.octets c.args.patch.now) in
@@ -326,7 +326,7 @@ returns-in_err-write_cards-clause-safe g c =
     let log2 : (g.D.Source.tally c.find_forms.new.store).amended.writes ≡ log = ap (λ (k : Tally). k.amended.writes) (c.in_ok-forms.ensures.cause.ok ∙ c.in_ok-found.ensures.cause.ok.0) in
     let given1 : g.S.Source.held c.measure_codes.new.patch ≡ given = c.in_ok-found.ensures.patch.held_is in
     for_jobs held given t (λ job. LeavesSafe job (g.D.Source.held c.write_cards.new.store) log (g.D.Source.tally c.write_cards.new.store).amended.writes) (λ f p is by wanted corner to target.
-    let r : Ready t f p wanted corner m = ready_of t m buf held given f p wanted corner is by to target c.requires.said c.in_ok-found.ensures.sound c.in_ok-found.ensures.room c.in_ok-found.ensures.measured in
+    let r : Ready t f p wanted corner m = ready_of t m buf held given f p wanted corner is by to target c.requires.found.said c.in_ok-found.ensures.sound c.in_ok-found.ensures.room c.in_ok-found.ensures.measured in
     let st : Steps = steps t f p wanted corner m r in
     let fb : AreBytes f = some_of held _ f is (g.met.D.Source.octets c.args.store.now) in
     let pb : AreBytes p = some_of given _ p by (g.met.S.Source.octets c.args.patch.now) in
@@ -336,10 +336,10 @@ returns-in_err-write_cards-clause-safe g c =
     (both_of (g.D.Source.held c.find_forms.new.store) (g.S.Source.held c.measure_codes.new.patch) _ f p (held2 ∙ is) (given1 ∙ by) c.in_ok-write_codes.ensures.wrote corner (olds t f p wanted corner m r) to (numbers t f p wanted corner m r)) in
     let places = c.find_places-places.result in
     let forms = c.in_ok-forms.forms in
-    let header_is : header_in f t.header ≡ buf = (some_of held _ f is c.requires.said).1 in
+    let header_is : header_in f t.header ≡ buf = (some_of held _ f is c.requires.found.said).1 in
     let put = forms_writes t places m forms in
     let cards_is : st.pcount ++ st.forms ≡ put =
-    cards_are t f p wanted corner m r places forms (subst (λ l. HasPlaces l places) (sym header_is) c.find_places-places.ensures) (pcount_place buf t.header c.requires.header ∙ ap pcount_index (sym header_is))
+    cards_are t f p wanted corner m r places forms (subst (λ l. HasPlaces l places) (sym header_is) c.find_places-places.ensures) (pcount_place buf t.header c.requires.found.header ∙ ap pcount_index (sym header_is))
     (some_of (g.D.Source.held c.measure_codes.new.store) _ f (c.in_ok-found.ensures.store.held_is ∙ is) c.in_ok-forms.ensures.forms
     ∙ (λ j. forms_for (said_most (sym header_is j) 1) (said_most (sym header_is j) 2) m (other_rows f t.image.table (picked_tiles_of t.image.plan (to.sieve j))))) in
     stops t f p wanted corner m r c.safe_patch_law.ensures fb pb (g.D.Source.held c.write_cards.new.store) log (g.D.Source.tally c.write_cards.new.store).amended.writes
@@ -362,7 +362,7 @@ returns-in_err-write_cards-clause-first_fault g c =
     let stopped : c.from_residual-in_err-write_cards.result ≡ Err stop = search rules in
     subst (λ (r : Result (Unit {0}) Stop). ForJobs held given t (λ job file by. TellsPatchFault job (Some file) (Some by) r)) (sym stopped)
     (for_jobs held given t (λ job file by. TellsPatchFault {X = Unit {0}} job (Some file) (Some by) (Err stop)) (λ f p is by wanted corner to target.
-    let r : Ready t f p wanted corner m = ready_of t m buf held given f p wanted corner is by to target c.requires.said c.in_ok-found.ensures.sound c.in_ok-found.ensures.room c.in_ok-found.ensures.measured in
+    let r : Ready t f p wanted corner m = ready_of t m buf held given f p wanted corner is by to target c.requires.found.said c.in_ok-found.ensures.sound c.in_ok-found.ensures.room c.in_ok-found.ensures.measured in
     let st : Steps = steps t f p wanted corner m r in
     let fb : AreBytes f = some_of held _ f is (g.met.D.Source.octets c.args.store.now) in
     let pb : AreBytes p = some_of given _ p by (g.met.S.Source.octets c.args.patch.now) in
@@ -384,7 +384,7 @@ returns-in_err-write_cards-clause-unwritten g c =
     let stop : Stop = c.in_err-write_cards.field-0.0 in
     let stopped : c.from_residual-in_err-write_cards.result ≡ Err stop = search rules in
     λ refused. for_jobs held given t (λ job file by. (g.D.Source.held c.write_cards.new.store ≡ held) × (g.D.Source.tally c.write_cards.new.store ≡ g.D.Source.tally c.args.store.now)) (λ f p is by wanted corner to target.
-    let r : Ready t f p wanted corner m = ready_of t m buf held given f p wanted corner is by to target c.requires.said c.in_ok-found.ensures.sound c.in_ok-found.ensures.room c.in_ok-found.ensures.measured in
+    let r : Ready t f p wanted corner m = ready_of t m buf held given f p wanted corner is by to target c.requires.found.said c.in_ok-found.ensures.sound c.in_ok-found.ensures.room c.in_ok-found.ensures.measured in
     let st : Steps = steps t f p wanted corner m r in
     let fb : AreBytes f = some_of held _ f is (g.met.D.Source.octets c.args.store.now) in
     let pb : AreBytes p = some_of given _ p by (g.met.S.Source.octets c.args.patch.now) in
@@ -425,6 +425,13 @@ pub returns-in_err-write_cards-clause-reach : goal.returns-in_err-write_cards-cl
 returns-in_err-write_cards-clause-reach g c =
     reach-then _ _ _ (reach-is _ _ c.in_ok-found.ensures.store.attached_is) (reach-then _ _ _ (reach-is _ _ c.in_ok-forms.ensures.store.attached_is) (reach-then _ _ _ c.in_ok-write_codes.ensures.reach c.in_err-write_cards.ensures.reach))
 
+pub returns-in_err-write_cards-clause-patch : goal.returns-in_err-write_cards-clause-patch
+returns-in_err-write_cards-clause-patch g c = record {
+  held_is = c.in_ok-write_codes.ensures.patch.held_is ∙ c.in_ok-found.ensures.patch.held_is;
+  attached_is = c.in_ok-write_codes.ensures.patch.attached_is ∙ c.in_ok-found.ensures.patch.attached_is;
+  told = λ told. c.in_ok-write_codes.ensures.patch.told (c.in_ok-found.ensures.patch.told told);
+}
+
 -- ---- a row is not written
 
 pub returns-in_err-write_rows-clause-safe : goal.returns-in_err-write_rows-clause-safe
@@ -439,7 +446,7 @@ returns-in_err-write_rows-clause-safe g c =
     let log2 : (g.D.Source.tally c.find_forms.new.store).amended.writes ≡ log = ap (λ (k : Tally). k.amended.writes) (c.in_ok-forms.ensures.cause.ok ∙ c.in_ok-found.ensures.cause.ok.0) in
     let given1 : g.S.Source.held c.measure_codes.new.patch ≡ given = c.in_ok-found.ensures.patch.held_is in
     for_jobs held given t (λ job. LeavesSafe job (g.D.Source.held c.write_rows.new.store) log (g.D.Source.tally c.write_rows.new.store).amended.writes) (λ f p is by wanted corner to target.
-    let r : Ready t f p wanted corner m = ready_of t m buf held given f p wanted corner is by to target c.requires.said c.in_ok-found.ensures.sound c.in_ok-found.ensures.room c.in_ok-found.ensures.measured in
+    let r : Ready t f p wanted corner m = ready_of t m buf held given f p wanted corner is by to target c.requires.found.said c.in_ok-found.ensures.sound c.in_ok-found.ensures.room c.in_ok-found.ensures.measured in
     let st : Steps = steps t f p wanted corner m r in
     let fb : AreBytes f = some_of held _ f is (g.met.D.Source.octets c.args.store.now) in
     let pb : AreBytes p = some_of given _ p by (g.met.S.Source.octets c.args.patch.now) in
@@ -449,10 +456,10 @@ returns-in_err-write_rows-clause-safe g c =
     (both_of (g.D.Source.held c.find_forms.new.store) (g.S.Source.held c.measure_codes.new.patch) _ f p (held2 ∙ is) (given1 ∙ by) c.in_ok-write_codes.ensures.wrote corner (olds t f p wanted corner m r) to (numbers t f p wanted corner m r)) in
     let places = c.find_places-places.result in
     let forms = c.in_ok-forms.forms in
-    let header_is : header_in f t.header ≡ buf = (some_of held _ f is c.requires.said).1 in
+    let header_is : header_in f t.header ≡ buf = (some_of held _ f is c.requires.found.said).1 in
     let put = forms_writes t places m forms in
     let cards_is : st.pcount ++ st.forms ≡ put =
-    cards_are t f p wanted corner m r places forms (subst (λ l. HasPlaces l places) (sym header_is) c.find_places-places.ensures) (pcount_place buf t.header c.requires.header ∙ ap pcount_index (sym header_is))
+    cards_are t f p wanted corner m r places forms (subst (λ l. HasPlaces l places) (sym header_is) c.find_places-places.ensures) (pcount_place buf t.header c.requires.found.header ∙ ap pcount_index (sym header_is))
     (some_of (g.D.Source.held c.measure_codes.new.store) _ f (c.in_ok-found.ensures.store.held_is ∙ is) c.in_ok-forms.ensures.forms
     ∙ (λ j. forms_for (said_most (sym header_is j) 1) (said_most (sym header_is j) 2) m (other_rows f t.image.table (picked_tiles_of t.image.plan (to.sieve j))))) in
     let laws : StepLaws = record {
@@ -474,10 +481,10 @@ returns-in_err-write_rows-clause-safe g c =
     let file_long : t.header.start + 2880 * t.header.blocks ≤ length mid =
     some_of (g.D.Source.held c.write_codes.new.store) _ mid mid_is (told_long (g.D.Source.held c.write_codes.new.store) (g.D.Source.attached c.write_codes.new.store) (t.header.start + 2880 * t.header.blocks) (λ n at. g.met.D.Source.agrees c.write_codes.new.store n at)
     (at-least _ _ _ c.in_ok-write_codes.ensures.grown (omega arith))) in
-    let there = all_there laws t buf c.find_places-places.result m c.in_ok-forms.forms c.requires.target c.requires.by c.find_places-places.ensures c.in_ok-found.ensures.room c.in_ok-forms.ensures.small c.card_in_file_law.ensures mid mid_header file_long in
-    let says : SaysMore buf (with_forms t places m forms buf) t.header m.bytes = grown_says laws t buf c.find_places-places.result m c.in_ok-forms.forms c.requires.target c.requires.by c.find_places-places.ensures c.in_ok-found.ensures.room c.in_ok-forms.ensures.small in
+    let there = all_there laws t buf c.find_places-places.result m c.in_ok-forms.forms c.requires.found.target c.requires.found.by c.find_places-places.ensures c.in_ok-found.ensures.room c.in_ok-forms.ensures.small c.card_in_file_law.ensures mid mid_header file_long in
+    let says : SaysMore buf (with_forms t places m forms buf) t.header m.bytes = grown_says laws t buf c.find_places-places.result m c.in_ok-forms.forms c.requires.found.target c.requires.found.by c.find_places-places.ensures c.in_ok-found.ensures.room c.in_ok-forms.ensures.small in
     let now_is : header_now x t.header ≡ (grown_by t m.bytes).header = ap (facts_of t.header.hdu t.header.start) there.there ∙ sym says.is.is_header.facts in
-    let said4 : IsTargetIn x (grown_by t m.bytes) = grown_said laws t buf c.find_places-places.result m c.in_ok-forms.forms c.requires.target c.requires.by c.find_places-places.ensures c.in_ok-found.ensures.room c.in_ok-forms.ensures.small x there.there in
+    let said4 : IsTargetIn x (grown_by t m.bytes) = grown_said laws t buf c.find_places-places.result m c.in_ok-forms.forms c.requires.found.target c.requires.found.by c.find_places-places.ensures c.in_ok-found.ensures.room c.in_ok-forms.ensures.small x there.there in
     let front_is : x ≡ applied (before_rows st) f = sym (applied-append heap put f) ∙ (λ j. applied (sym (heap_is t f p wanted corner m r) j ++ sym cards_is j) f) in
     let rows4 : BoxHasNumbers x (grown_by t m.bytes).header (given_at corner p) (olds t f p wanted corner m r) =
     still_numbers t f p wanted corner m r c.safe_patch_law.ensures fb pb x (grown_by t m.bytes).header front_is now_is (said4.said.plan ∙ sym r.said.said.plan) in
@@ -509,7 +516,7 @@ returns-in_err-write_rows-clause-first_fault g c =
     let stopped : c.from_residual-in_err-write_rows.result ≡ Err stop = search rules in
     subst (λ (r : Result (Unit {0}) Stop). ForJobs held given t (λ job file by. TellsPatchFault job (Some file) (Some by) r)) (sym stopped)
     (for_jobs held given t (λ job file by. TellsPatchFault {X = Unit {0}} job (Some file) (Some by) (Err stop)) (λ f p is by wanted corner to target.
-    let r : Ready t f p wanted corner m = ready_of t m buf held given f p wanted corner is by to target c.requires.said c.in_ok-found.ensures.sound c.in_ok-found.ensures.room c.in_ok-found.ensures.measured in
+    let r : Ready t f p wanted corner m = ready_of t m buf held given f p wanted corner is by to target c.requires.found.said c.in_ok-found.ensures.sound c.in_ok-found.ensures.room c.in_ok-found.ensures.measured in
     let st : Steps = steps t f p wanted corner m r in
     let fb : AreBytes f = some_of held _ f is (g.met.D.Source.octets c.args.store.now) in
     let pb : AreBytes p = some_of given _ p by (g.met.S.Source.octets c.args.patch.now) in
@@ -519,10 +526,10 @@ returns-in_err-write_rows-clause-first_fault g c =
     (both_of (g.D.Source.held c.find_forms.new.store) (g.S.Source.held c.measure_codes.new.patch) _ f p (held2 ∙ is) (given1 ∙ by) c.in_ok-write_codes.ensures.wrote corner (olds t f p wanted corner m r) to (numbers t f p wanted corner m r)) in
     let places = c.find_places-places.result in
     let forms = c.in_ok-forms.forms in
-    let header_is : header_in f t.header ≡ buf = (some_of held _ f is c.requires.said).1 in
+    let header_is : header_in f t.header ≡ buf = (some_of held _ f is c.requires.found.said).1 in
     let put = forms_writes t places m forms in
     let cards_is : st.pcount ++ st.forms ≡ put =
-    cards_are t f p wanted corner m r places forms (subst (λ l. HasPlaces l places) (sym header_is) c.find_places-places.ensures) (pcount_place buf t.header c.requires.header ∙ ap pcount_index (sym header_is))
+    cards_are t f p wanted corner m r places forms (subst (λ l. HasPlaces l places) (sym header_is) c.find_places-places.ensures) (pcount_place buf t.header c.requires.found.header ∙ ap pcount_index (sym header_is))
     (some_of (g.D.Source.held c.measure_codes.new.store) _ f (c.in_ok-found.ensures.store.held_is ∙ is) c.in_ok-forms.ensures.forms
     ∙ (λ j. forms_for (said_most (sym header_is j) 1) (said_most (sym header_is j) 2) m (other_rows f t.image.table (picked_tiles_of t.image.plan (to.sieve j))))) in
     let laws : StepLaws = record {
@@ -544,10 +551,10 @@ returns-in_err-write_rows-clause-first_fault g c =
     let file_long : t.header.start + 2880 * t.header.blocks ≤ length mid =
     some_of (g.D.Source.held c.write_codes.new.store) _ mid mid_is (told_long (g.D.Source.held c.write_codes.new.store) (g.D.Source.attached c.write_codes.new.store) (t.header.start + 2880 * t.header.blocks) (λ n at. g.met.D.Source.agrees c.write_codes.new.store n at)
     (at-least _ _ _ c.in_ok-write_codes.ensures.grown (omega arith))) in
-    let there = all_there laws t buf c.find_places-places.result m c.in_ok-forms.forms c.requires.target c.requires.by c.find_places-places.ensures c.in_ok-found.ensures.room c.in_ok-forms.ensures.small c.card_in_file_law.ensures mid mid_header file_long in
-    let says : SaysMore buf (with_forms t places m forms buf) t.header m.bytes = grown_says laws t buf c.find_places-places.result m c.in_ok-forms.forms c.requires.target c.requires.by c.find_places-places.ensures c.in_ok-found.ensures.room c.in_ok-forms.ensures.small in
+    let there = all_there laws t buf c.find_places-places.result m c.in_ok-forms.forms c.requires.found.target c.requires.found.by c.find_places-places.ensures c.in_ok-found.ensures.room c.in_ok-forms.ensures.small c.card_in_file_law.ensures mid mid_header file_long in
+    let says : SaysMore buf (with_forms t places m forms buf) t.header m.bytes = grown_says laws t buf c.find_places-places.result m c.in_ok-forms.forms c.requires.found.target c.requires.found.by c.find_places-places.ensures c.in_ok-found.ensures.room c.in_ok-forms.ensures.small in
     let now_is : header_now x t.header ≡ (grown_by t m.bytes).header = ap (facts_of t.header.hdu t.header.start) there.there ∙ sym says.is.is_header.facts in
-    let said4 : IsTargetIn x (grown_by t m.bytes) = grown_said laws t buf c.find_places-places.result m c.in_ok-forms.forms c.requires.target c.requires.by c.find_places-places.ensures c.in_ok-found.ensures.room c.in_ok-forms.ensures.small x there.there in
+    let said4 : IsTargetIn x (grown_by t m.bytes) = grown_said laws t buf c.find_places-places.result m c.in_ok-forms.forms c.requires.found.target c.requires.found.by c.find_places-places.ensures c.in_ok-found.ensures.room c.in_ok-forms.ensures.small x there.there in
     let front_is : x ≡ applied (before_rows st) f = sym (applied-append heap put f) ∙ (λ j. applied (sym (heap_is t f p wanted corner m r) j ++ sym cards_is j) f) in
     let rows4 : BoxHasNumbers x (grown_by t m.bytes).header (given_at corner p) (olds t f p wanted corner m r) =
     still_numbers t f p wanted corner m r c.safe_patch_law.ensures fb pb x (grown_by t m.bytes).header front_is now_is (said4.said.plan ∙ sym r.said.said.plan) in
@@ -556,9 +563,9 @@ returns-in_err-write_rows-clause-first_fault g c =
     let given3 : g.S.Source.held c.write_codes.new.patch ≡ given = c.in_ok-write_codes.ensures.patch.held_is ∙ given1 in
     let near : heap_end_of t ≤ length f =
     some_of held _ f is (told_long held (g.D.Source.attached c.args.store.now) (heap_end_of t) (λ n at. g.met.D.Source.agrees c.args.store.now n at)
-    (start_reach (g.D.Source.attached c.args.store.now) t.image.table (stands_at t (g.D.Source.attached c.args.store.now) c.requires.attached.0 c.requires.target c.requires.attached.1 c.requires.attached.2))) in
+    (start_reach (g.D.Source.attached c.args.store.now) t.image.table (stands_at t (g.D.Source.attached c.args.store.now) c.requires.found.attached.0 c.requires.found.target c.requires.found.attached.1 c.requires.found.attached.2))) in
     let ends : HeapEndsWith x (grown_by t m.bytes).image.table (heap_of (es t f p wanted corner m r)) =
-    codes_at_end laws t buf places m forms c.requires.target c.requires.by c.find_places-places.ensures c.in_ok-found.ensures.room c.in_ok-forms.ensures.small f (es t f p wanted corner m r) r.said near
+    codes_at_end laws t buf places m forms c.requires.found.target c.requires.found.by c.find_places-places.ensures c.in_ok-found.ensures.room c.in_ok-forms.ensures.small f (es t f p wanted corner m r) r.said near
     (bytes_are t f p wanted corner m r) file_long in
     let never : IsRefused {X = Unit {0}} (Err stop) → ⊥ =
     both_of (g.D.Source.held c.write_cards.new.store) (g.S.Source.held c.write_codes.new.patch) _ x p x_is (given3 ∙ by)
@@ -583,7 +590,7 @@ returns-in_err-write_rows-clause-unwritten g c =
     let stop : Stop = c.in_err-write_rows.field-0.0 in
     let stopped : c.from_residual-in_err-write_rows.result ≡ Err stop = search rules in
     λ refused. for_jobs held given t (λ job file by. (g.D.Source.held c.write_rows.new.store ≡ held) × (g.D.Source.tally c.write_rows.new.store ≡ g.D.Source.tally c.args.store.now)) (λ f p is by wanted corner to target.
-    let r : Ready t f p wanted corner m = ready_of t m buf held given f p wanted corner is by to target c.requires.said c.in_ok-found.ensures.sound c.in_ok-found.ensures.room c.in_ok-found.ensures.measured in
+    let r : Ready t f p wanted corner m = ready_of t m buf held given f p wanted corner is by to target c.requires.found.said c.in_ok-found.ensures.sound c.in_ok-found.ensures.room c.in_ok-found.ensures.measured in
     let st : Steps = steps t f p wanted corner m r in
     let fb : AreBytes f = some_of held _ f is (g.met.D.Source.octets c.args.store.now) in
     let pb : AreBytes p = some_of given _ p by (g.met.S.Source.octets c.args.patch.now) in
@@ -593,10 +600,10 @@ returns-in_err-write_rows-clause-unwritten g c =
     (both_of (g.D.Source.held c.find_forms.new.store) (g.S.Source.held c.measure_codes.new.patch) _ f p (held2 ∙ is) (given1 ∙ by) c.in_ok-write_codes.ensures.wrote corner (olds t f p wanted corner m r) to (numbers t f p wanted corner m r)) in
     let places = c.find_places-places.result in
     let forms = c.in_ok-forms.forms in
-    let header_is : header_in f t.header ≡ buf = (some_of held _ f is c.requires.said).1 in
+    let header_is : header_in f t.header ≡ buf = (some_of held _ f is c.requires.found.said).1 in
     let put = forms_writes t places m forms in
     let cards_is : st.pcount ++ st.forms ≡ put =
-    cards_are t f p wanted corner m r places forms (subst (λ l. HasPlaces l places) (sym header_is) c.find_places-places.ensures) (pcount_place buf t.header c.requires.header ∙ ap pcount_index (sym header_is))
+    cards_are t f p wanted corner m r places forms (subst (λ l. HasPlaces l places) (sym header_is) c.find_places-places.ensures) (pcount_place buf t.header c.requires.found.header ∙ ap pcount_index (sym header_is))
     (some_of (g.D.Source.held c.measure_codes.new.store) _ f (c.in_ok-found.ensures.store.held_is ∙ is) c.in_ok-forms.ensures.forms
     ∙ (λ j. forms_for (said_most (sym header_is j) 1) (said_most (sym header_is j) 2) m (other_rows f t.image.table (picked_tiles_of t.image.plan (to.sieve j))))) in
     let laws : StepLaws = record {
@@ -618,10 +625,10 @@ returns-in_err-write_rows-clause-unwritten g c =
     let file_long : t.header.start + 2880 * t.header.blocks ≤ length mid =
     some_of (g.D.Source.held c.write_codes.new.store) _ mid mid_is (told_long (g.D.Source.held c.write_codes.new.store) (g.D.Source.attached c.write_codes.new.store) (t.header.start + 2880 * t.header.blocks) (λ n at. g.met.D.Source.agrees c.write_codes.new.store n at)
     (at-least _ _ _ c.in_ok-write_codes.ensures.grown (omega arith))) in
-    let there = all_there laws t buf c.find_places-places.result m c.in_ok-forms.forms c.requires.target c.requires.by c.find_places-places.ensures c.in_ok-found.ensures.room c.in_ok-forms.ensures.small c.card_in_file_law.ensures mid mid_header file_long in
-    let says : SaysMore buf (with_forms t places m forms buf) t.header m.bytes = grown_says laws t buf c.find_places-places.result m c.in_ok-forms.forms c.requires.target c.requires.by c.find_places-places.ensures c.in_ok-found.ensures.room c.in_ok-forms.ensures.small in
+    let there = all_there laws t buf c.find_places-places.result m c.in_ok-forms.forms c.requires.found.target c.requires.found.by c.find_places-places.ensures c.in_ok-found.ensures.room c.in_ok-forms.ensures.small c.card_in_file_law.ensures mid mid_header file_long in
+    let says : SaysMore buf (with_forms t places m forms buf) t.header m.bytes = grown_says laws t buf c.find_places-places.result m c.in_ok-forms.forms c.requires.found.target c.requires.found.by c.find_places-places.ensures c.in_ok-found.ensures.room c.in_ok-forms.ensures.small in
     let now_is : header_now x t.header ≡ (grown_by t m.bytes).header = ap (facts_of t.header.hdu t.header.start) there.there ∙ sym says.is.is_header.facts in
-    let said4 : IsTargetIn x (grown_by t m.bytes) = grown_said laws t buf c.find_places-places.result m c.in_ok-forms.forms c.requires.target c.requires.by c.find_places-places.ensures c.in_ok-found.ensures.room c.in_ok-forms.ensures.small x there.there in
+    let said4 : IsTargetIn x (grown_by t m.bytes) = grown_said laws t buf c.find_places-places.result m c.in_ok-forms.forms c.requires.found.target c.requires.found.by c.find_places-places.ensures c.in_ok-found.ensures.room c.in_ok-forms.ensures.small x there.there in
     let front_is : x ≡ applied (before_rows st) f = sym (applied-append heap put f) ∙ (λ j. applied (sym (heap_is t f p wanted corner m r) j ++ sym cards_is j) f) in
     let rows4 : BoxHasNumbers x (grown_by t m.bytes).header (given_at corner p) (olds t f p wanted corner m r) =
     still_numbers t f p wanted corner m r c.safe_patch_law.ensures fb pb x (grown_by t m.bytes).header front_is now_is (said4.said.plan ∙ sym r.said.said.plan) in
@@ -630,9 +637,9 @@ returns-in_err-write_rows-clause-unwritten g c =
     let given3 : g.S.Source.held c.write_codes.new.patch ≡ given = c.in_ok-write_codes.ensures.patch.held_is ∙ given1 in
     let near : heap_end_of t ≤ length f =
     some_of held _ f is (told_long held (g.D.Source.attached c.args.store.now) (heap_end_of t) (λ n at. g.met.D.Source.agrees c.args.store.now n at)
-    (start_reach (g.D.Source.attached c.args.store.now) t.image.table (stands_at t (g.D.Source.attached c.args.store.now) c.requires.attached.0 c.requires.target c.requires.attached.1 c.requires.attached.2))) in
+    (start_reach (g.D.Source.attached c.args.store.now) t.image.table (stands_at t (g.D.Source.attached c.args.store.now) c.requires.found.attached.0 c.requires.found.target c.requires.found.attached.1 c.requires.found.attached.2))) in
     let ends : HeapEndsWith x (grown_by t m.bytes).image.table (heap_of (es t f p wanted corner m r)) =
-    codes_at_end laws t buf places m forms c.requires.target c.requires.by c.find_places-places.ensures c.in_ok-found.ensures.room c.in_ok-forms.ensures.small f (es t f p wanted corner m r) r.said near
+    codes_at_end laws t buf places m forms c.requires.found.target c.requires.found.by c.find_places-places.ensures c.in_ok-found.ensures.room c.in_ok-forms.ensures.small f (es t f p wanted corner m r) r.said near
     (bytes_are t f p wanted corner m r) file_long in
     let never : IsRefused {X = Unit {0}} (Err stop) → ⊥ =
     both_of (g.D.Source.held c.write_cards.new.store) (g.S.Source.held c.write_codes.new.patch) _ x p x_is (given3 ∙ by)
@@ -692,7 +699,7 @@ returns-clause-safe g c =
     let log2 : (g.D.Source.tally c.find_forms.new.store).amended.writes ≡ log = ap (λ (k : Tally). k.amended.writes) (c.in_ok-forms.ensures.cause.ok ∙ c.in_ok-found.ensures.cause.ok.0) in
     let given1 : g.S.Source.held c.measure_codes.new.patch ≡ given = c.in_ok-found.ensures.patch.held_is in
     for_jobs held given t (λ job. LeavesSafe job (g.D.Source.held c.write_sums.new.store) log (g.D.Source.tally c.write_sums.new.store).amended.writes) (λ f p is by wanted corner to target.
-    let r : Ready t f p wanted corner m = ready_of t m buf held given f p wanted corner is by to target c.requires.said c.in_ok-found.ensures.sound c.in_ok-found.ensures.room c.in_ok-found.ensures.measured in
+    let r : Ready t f p wanted corner m = ready_of t m buf held given f p wanted corner is by to target c.requires.found.said c.in_ok-found.ensures.sound c.in_ok-found.ensures.room c.in_ok-found.ensures.measured in
     let st : Steps = steps t f p wanted corner m r in
     let fb : AreBytes f = some_of held _ f is (g.met.D.Source.octets c.args.store.now) in
     let pb : AreBytes p = some_of given _ p by (g.met.S.Source.octets c.args.patch.now) in
@@ -702,10 +709,10 @@ returns-clause-safe g c =
     (both_of (g.D.Source.held c.find_forms.new.store) (g.S.Source.held c.measure_codes.new.patch) _ f p (held2 ∙ is) (given1 ∙ by) c.in_ok-write_codes.ensures.wrote corner (olds t f p wanted corner m r) to (numbers t f p wanted corner m r)) in
     let places = c.find_places-places.result in
     let forms = c.in_ok-forms.forms in
-    let header_is : header_in f t.header ≡ buf = (some_of held _ f is c.requires.said).1 in
+    let header_is : header_in f t.header ≡ buf = (some_of held _ f is c.requires.found.said).1 in
     let put = forms_writes t places m forms in
     let cards_is : st.pcount ++ st.forms ≡ put =
-    cards_are t f p wanted corner m r places forms (subst (λ l. HasPlaces l places) (sym header_is) c.find_places-places.ensures) (pcount_place buf t.header c.requires.header ∙ ap pcount_index (sym header_is))
+    cards_are t f p wanted corner m r places forms (subst (λ l. HasPlaces l places) (sym header_is) c.find_places-places.ensures) (pcount_place buf t.header c.requires.found.header ∙ ap pcount_index (sym header_is))
     (some_of (g.D.Source.held c.measure_codes.new.store) _ f (c.in_ok-found.ensures.store.held_is ∙ is) c.in_ok-forms.ensures.forms
     ∙ (λ j. forms_for (said_most (sym header_is j) 1) (said_most (sym header_is j) 2) m (other_rows f t.image.table (picked_tiles_of t.image.plan (to.sieve j))))) in
     let laws : StepLaws = record {
@@ -727,10 +734,10 @@ returns-clause-safe g c =
     let file_long : t.header.start + 2880 * t.header.blocks ≤ length mid =
     some_of (g.D.Source.held c.write_codes.new.store) _ mid mid_is (told_long (g.D.Source.held c.write_codes.new.store) (g.D.Source.attached c.write_codes.new.store) (t.header.start + 2880 * t.header.blocks) (λ n at. g.met.D.Source.agrees c.write_codes.new.store n at)
     (at-least _ _ _ c.in_ok-write_codes.ensures.grown (omega arith))) in
-    let there = all_there laws t buf c.find_places-places.result m c.in_ok-forms.forms c.requires.target c.requires.by c.find_places-places.ensures c.in_ok-found.ensures.room c.in_ok-forms.ensures.small c.card_in_file_law.ensures mid mid_header file_long in
-    let says : SaysMore buf (with_forms t places m forms buf) t.header m.bytes = grown_says laws t buf c.find_places-places.result m c.in_ok-forms.forms c.requires.target c.requires.by c.find_places-places.ensures c.in_ok-found.ensures.room c.in_ok-forms.ensures.small in
+    let there = all_there laws t buf c.find_places-places.result m c.in_ok-forms.forms c.requires.found.target c.requires.found.by c.find_places-places.ensures c.in_ok-found.ensures.room c.in_ok-forms.ensures.small c.card_in_file_law.ensures mid mid_header file_long in
+    let says : SaysMore buf (with_forms t places m forms buf) t.header m.bytes = grown_says laws t buf c.find_places-places.result m c.in_ok-forms.forms c.requires.found.target c.requires.found.by c.find_places-places.ensures c.in_ok-found.ensures.room c.in_ok-forms.ensures.small in
     let now_is : header_now x t.header ≡ (grown_by t m.bytes).header = ap (facts_of t.header.hdu t.header.start) there.there ∙ sym says.is.is_header.facts in
-    let said4 : IsTargetIn x (grown_by t m.bytes) = grown_said laws t buf c.find_places-places.result m c.in_ok-forms.forms c.requires.target c.requires.by c.find_places-places.ensures c.in_ok-found.ensures.room c.in_ok-forms.ensures.small x there.there in
+    let said4 : IsTargetIn x (grown_by t m.bytes) = grown_said laws t buf c.find_places-places.result m c.in_ok-forms.forms c.requires.found.target c.requires.found.by c.find_places-places.ensures c.in_ok-found.ensures.room c.in_ok-forms.ensures.small x there.there in
     let front_is : x ≡ applied (before_rows st) f = sym (applied-append heap put f) ∙ (λ j. applied (sym (heap_is t f p wanted corner m r) j ++ sym cards_is j) f) in
     let rows4 : BoxHasNumbers x (grown_by t m.bytes).header (given_at corner p) (olds t f p wanted corner m r) =
     still_numbers t f p wanted corner m r c.safe_patch_law.ensures fb pb x (grown_by t m.bytes).header front_is now_is (said4.said.plan ∙ sym r.said.said.plan) in
@@ -775,7 +782,7 @@ returns-clause-patched g c =
     let given1 : g.S.Source.held c.measure_codes.new.patch ≡ given = c.in_ok-found.ensures.patch.held_is in
     on_ok_weaker c.write_sums.result (λ wrote.
     for_jobs held given t (λ job. IsPatchedBy job (g.D.Source.held c.write_sums.new.store) log (g.D.Source.tally c.write_sums.new.store).amended.writes) (λ f p is by wanted corner to target.
-    let r : Ready t f p wanted corner m = ready_of t m buf held given f p wanted corner is by to target c.requires.said c.in_ok-found.ensures.sound c.in_ok-found.ensures.room c.in_ok-found.ensures.measured in
+    let r : Ready t f p wanted corner m = ready_of t m buf held given f p wanted corner is by to target c.requires.found.said c.in_ok-found.ensures.sound c.in_ok-found.ensures.room c.in_ok-found.ensures.measured in
     let st : Steps = steps t f p wanted corner m r in
     let fb : AreBytes f = some_of held _ f is (g.met.D.Source.octets c.args.store.now) in
     let pb : AreBytes p = some_of given _ p by (g.met.S.Source.octets c.args.patch.now) in
@@ -785,10 +792,10 @@ returns-clause-patched g c =
     (both_of (g.D.Source.held c.find_forms.new.store) (g.S.Source.held c.measure_codes.new.patch) _ f p (held2 ∙ is) (given1 ∙ by) c.in_ok-write_codes.ensures.wrote corner (olds t f p wanted corner m r) to (numbers t f p wanted corner m r)) in
     let places = c.find_places-places.result in
     let forms = c.in_ok-forms.forms in
-    let header_is : header_in f t.header ≡ buf = (some_of held _ f is c.requires.said).1 in
+    let header_is : header_in f t.header ≡ buf = (some_of held _ f is c.requires.found.said).1 in
     let put = forms_writes t places m forms in
     let cards_is : st.pcount ++ st.forms ≡ put =
-    cards_are t f p wanted corner m r places forms (subst (λ l. HasPlaces l places) (sym header_is) c.find_places-places.ensures) (pcount_place buf t.header c.requires.header ∙ ap pcount_index (sym header_is))
+    cards_are t f p wanted corner m r places forms (subst (λ l. HasPlaces l places) (sym header_is) c.find_places-places.ensures) (pcount_place buf t.header c.requires.found.header ∙ ap pcount_index (sym header_is))
     (some_of (g.D.Source.held c.measure_codes.new.store) _ f (c.in_ok-found.ensures.store.held_is ∙ is) c.in_ok-forms.ensures.forms
     ∙ (λ j. forms_for (said_most (sym header_is j) 1) (said_most (sym header_is j) 2) m (other_rows f t.image.table (picked_tiles_of t.image.plan (to.sieve j))))) in
     let laws : StepLaws = record {
@@ -810,10 +817,10 @@ returns-clause-patched g c =
     let file_long : t.header.start + 2880 * t.header.blocks ≤ length mid =
     some_of (g.D.Source.held c.write_codes.new.store) _ mid mid_is (told_long (g.D.Source.held c.write_codes.new.store) (g.D.Source.attached c.write_codes.new.store) (t.header.start + 2880 * t.header.blocks) (λ n at. g.met.D.Source.agrees c.write_codes.new.store n at)
     (at-least _ _ _ c.in_ok-write_codes.ensures.grown (omega arith))) in
-    let there = all_there laws t buf c.find_places-places.result m c.in_ok-forms.forms c.requires.target c.requires.by c.find_places-places.ensures c.in_ok-found.ensures.room c.in_ok-forms.ensures.small c.card_in_file_law.ensures mid mid_header file_long in
-    let says : SaysMore buf (with_forms t places m forms buf) t.header m.bytes = grown_says laws t buf c.find_places-places.result m c.in_ok-forms.forms c.requires.target c.requires.by c.find_places-places.ensures c.in_ok-found.ensures.room c.in_ok-forms.ensures.small in
+    let there = all_there laws t buf c.find_places-places.result m c.in_ok-forms.forms c.requires.found.target c.requires.found.by c.find_places-places.ensures c.in_ok-found.ensures.room c.in_ok-forms.ensures.small c.card_in_file_law.ensures mid mid_header file_long in
+    let says : SaysMore buf (with_forms t places m forms buf) t.header m.bytes = grown_says laws t buf c.find_places-places.result m c.in_ok-forms.forms c.requires.found.target c.requires.found.by c.find_places-places.ensures c.in_ok-found.ensures.room c.in_ok-forms.ensures.small in
     let now_is : header_now x t.header ≡ (grown_by t m.bytes).header = ap (facts_of t.header.hdu t.header.start) there.there ∙ sym says.is.is_header.facts in
-    let said4 : IsTargetIn x (grown_by t m.bytes) = grown_said laws t buf c.find_places-places.result m c.in_ok-forms.forms c.requires.target c.requires.by c.find_places-places.ensures c.in_ok-found.ensures.room c.in_ok-forms.ensures.small x there.there in
+    let said4 : IsTargetIn x (grown_by t m.bytes) = grown_said laws t buf c.find_places-places.result m c.in_ok-forms.forms c.requires.found.target c.requires.found.by c.find_places-places.ensures c.in_ok-found.ensures.room c.in_ok-forms.ensures.small x there.there in
     let front_is : x ≡ applied (before_rows st) f = sym (applied-append heap put f) ∙ (λ j. applied (sym (heap_is t f p wanted corner m r) j ++ sym cards_is j) f) in
     let rows4 : BoxHasNumbers x (grown_by t m.bytes).header (given_at corner p) (olds t f p wanted corner m r) =
     still_numbers t f p wanted corner m r c.safe_patch_law.ensures fb pb x (grown_by t m.bytes).header front_is now_is (said4.said.plan ∙ sym r.said.said.plan) in
@@ -863,7 +870,7 @@ returns-clause-first_fault g c =
     let given1 : g.S.Source.held c.measure_codes.new.patch ≡ given = c.in_ok-found.ensures.patch.held_is in
     let never : IsRefused c.write_sums.result → ⊥ = amends_unrefused (g.D.Source.tally c.write_rows.new.store) (g.D.Source.tally c.write_sums.new.store) c.write_sums.result c.write_sums.ensures.cause in
     for_jobs held given t (λ job file by. TellsPatchFault {X = Unit {0}} job (Some file) (Some by) c.write_sums.result) (λ f p is by wanted corner to target.
-    let r : Ready t f p wanted corner m = ready_of t m buf held given f p wanted corner is by to target c.requires.said c.in_ok-found.ensures.sound c.in_ok-found.ensures.room c.in_ok-found.ensures.measured in
+    let r : Ready t f p wanted corner m = ready_of t m buf held given f p wanted corner is by to target c.requires.found.said c.in_ok-found.ensures.sound c.in_ok-found.ensures.room c.in_ok-found.ensures.measured in
     let st : Steps = steps t f p wanted corner m r in
     let fb : AreBytes f = some_of held _ f is (g.met.D.Source.octets c.args.store.now) in
     let pb : AreBytes p = some_of given _ p by (g.met.S.Source.octets c.args.patch.now) in
@@ -906,7 +913,7 @@ returns-clause-reach g c =
 -- ---- what the parts require
 
 pub find_places-places-requires-clause-some : goal.find_places-places-requires-clause-some
-find_places-places-requires-clause-some g c = let long = c.requires.header.whole.blocks in omega (arith, long)
+find_places-places-requires-clause-some g c = let long = c.requires.found.header.whole.blocks in omega (arith, long)
 
 pub write_codes-requires-clause-given : goal.write_codes-requires-clause-given
 write_codes-requires-clause-given g c κs within = subst (λ (a : Option ℕ). GivesWithin a c.args.target.now) (sym c.in_ok-found.ensures.patch.attached_is) c.requires.given
@@ -918,23 +925,23 @@ write_codes-requires-clause-window g c κs within =
 pub write_cards-requires-clause-within : goal.write_cards-requires-clause-within
 write_cards-requires-clause-within g c =
     let t = c.args.target.now in
-    let long : length c.args.buf.now ≡ 2880 * t.header.blocks = header_long c.args.buf.now t.header c.requires.header in
+    let long : length c.args.buf.now ≡ 2880 * t.header.blocks = header_long c.args.buf.now t.header c.requires.found.header in
     at-least _ _ _ c.in_ok-write_codes.ensures.grown (omega (arith, long))
 
 pub write_cards-requires-clause-near : goal.write_cards-requires-clause-near
 write_cards-requires-clause-near g c =
     let t = c.args.target.now in
-    let long : length c.args.buf.now ≡ 2880 * t.header.blocks = header_long c.args.buf.now t.header c.requires.header in
-    omega (arith, long, c.requires.target.end)
+    let long : length c.args.buf.now ≡ 2880 * t.header.blocks = header_long c.args.buf.now t.header c.requires.found.header in
+    omega (arith, long, c.requires.found.target.end)
 
 pub write_cards-requires-clause-pcount : goal.write_cards-requires-clause-pcount
 write_cards-requires-clause-pcount g c =
     let t = c.args.target.now in
     let m : Measure = c.in_ok-found.found in
-    let spot = pcount_place c.args.buf.now t.header c.requires.header in
+    let spot = pcount_place c.args.buf.now t.header c.requires.found.header in
     let ends = ends_of t m c.in_ok-found.ensures.room in
     let low : t.header.pcount ≤ t.header.pcount + m.bytes = omega arith in
-    let inside = (c.grown_header_law.ensures.count c.args.buf.now t.header (t.header.pcount + m.bytes) c.requires.by.found low ends.short).0.within in
+    let inside = (c.grown_header_law.ensures.count c.args.buf.now t.header (t.header.pcount + m.bytes) c.requires.found.by.found low ends.short).0.within in
     omega (arith, spot, inside)
 
 pub write_cards-requires-clause-coded : goal.write_cards-requires-clause-coded
@@ -954,7 +961,7 @@ write_rows-requires-clause-within g c κs within =
     let t = c.args.target.now in
     let m : Measure = c.in_ok-found.found in
     let far : HasAtLeast (g.D.Source.attached c.write_cards.new.store) (grown_end t.header m.bytes) = c.in_ok-write_cards.ensures.reach _ c.in_ok-write_codes.ensures.grown in
-    let low = (zeros_near t m.bytes (t.image.table.heap_at + t.image.table.heap_len + m.bytes) c.requires.target refl).0 in
+    let low = (zeros_near t m.bytes (t.image.table.heap_at + t.image.table.heap_len + m.bytes) c.requires.found.target refl).0 in
     subst (λ (u : Target). StandsWithin (g.D.Source.attached c.write_cards.new.store) u.image.table) (sym c.grown-grown.ensures.same)
     (reach_table (g.D.Source.attached c.write_cards.new.store) (grown_by t m.bytes).image.table (λ n at. g.met.D.Source.near c.write_cards.new.store n at) (at-least _ _ _ far (omega (arith, low))))
 
@@ -981,8 +988,8 @@ write_rows-requires-clause-said g c κs within =
     let wrote2 : Wrote put (g.D.Source.held c.write_codes.new.store) (g.D.Source.held c.write_cards.new.store) (g.D.Source.tally c.write_codes.new.store).amended.writes (g.D.Source.tally c.write_cards.new.store).amended.writes = c.in_ok-write_cards.ensures.wrote in
     subst (λ (u : Target). IfSome (g.D.Source.held c.write_cards.new.store) (λ f. IsTargetIn f u)) (sym c.grown-grown.ensures.same)
     (subst (λ (h : Option (List ℕ)). IfSome h (λ f. IsTargetIn f (grown_by t m.bytes))) (sym wrote2.held_is)
-    (said_after laws t buf places m forms c.requires.target c.requires.by c.find_places-places.ensures c.in_ok-found.ensures.room c.in_ok-forms.ensures.small c.card_in_file_law.ensures held (g.D.Source.held c.find_forms.new.store) (g.D.Source.held c.write_codes.new.store) held2
-    (if_some_map held _ _ (λ f said. said.1) c.requires.said) c.in_ok-write_codes.ensures.header
+    (said_after laws t buf places m forms c.requires.found.target c.requires.found.by c.find_places-places.ensures c.in_ok-found.ensures.room c.in_ok-forms.ensures.small c.card_in_file_law.ensures held (g.D.Source.held c.find_forms.new.store) (g.D.Source.held c.write_codes.new.store) held2
+    (if_some_map held _ _ (λ f said. said.1) c.requires.found.said) c.in_ok-write_codes.ensures.header
     (told_long (g.D.Source.held c.write_codes.new.store) (g.D.Source.attached c.write_codes.new.store) (t.header.start + 2880 * t.header.blocks) (λ n at. g.met.D.Source.agrees c.write_codes.new.store n at) (at-least _ _ _ c.in_ok-write_codes.ensures.grown (omega arith)))))
 
 pub write_rows-requires-clause-given : goal.write_rows-requires-clause-given
@@ -1001,7 +1008,7 @@ pub write_rows-requires-clause-room : goal.write_rows-requires-clause-room
 write_rows-requires-clause-room g c κs within =
     let t = c.args.target.now in
     let m : Measure = c.in_ok-found.found in
-    subst (λ (u : Target). u.image.table.heap_len < (if u.wide then 2 ^ 63 else 2 ^ 31)) (sym c.grown-grown.ensures.same) (heap_says t m c.requires.target c.in_ok-found.ensures.room)
+    subst (λ (u : Target). u.image.table.heap_len < (if u.wide then 2 ^ 63 else 2 ^ 31)) (sym c.grown-grown.ensures.same) (heap_says t m c.requires.found.target c.in_ok-found.ensures.room)
 
 pub write_rows-requires-clause-window : goal.write_rows-requires-clause-window
 write_rows-requires-clause-window g c κs within =
@@ -1024,7 +1031,7 @@ write_sums-requires-clause-header g c =
       others = c.with_card_law.ensures.others;
       long = c.with_card_law.ensures.long;
     } in
-    let says = grown_says laws t c.args.buf.now c.find_places-places.result m c.in_ok-forms.forms c.requires.target c.requires.by c.find_places-places.ensures c.in_ok-found.ensures.room c.in_ok-forms.ensures.small in
+    let says = grown_says laws t c.args.buf.now c.find_places-places.result m c.in_ok-forms.forms c.requires.found.target c.requires.found.by c.find_places-places.ensures c.in_ok-found.ensures.room c.in_ok-forms.ensures.small in
     subst (λ (u : Target). IsHeaderOf c.write_cards.new.buf u.header) (sym c.grown-grown.ensures.same)
     (subst (λ (l : List ℕ). IsHeaderOf l (grown_by t m.bytes).header) (sym c.in_ok-write_cards.ensures.header) says.is.is_header)
 

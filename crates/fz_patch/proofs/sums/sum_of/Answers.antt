@@ -11,6 +11,7 @@ loop-at-init g c =
     record {
       held = refl;
       attached = refl;
+      told = λ told. told;
       tally = refl;
       copy = refl;
       low = omega arith;
@@ -37,6 +38,7 @@ loop-at-preserved g c =
     record {
       held = search rules;
       attached = search rules;
+      told = search rules;
       tally = search rules;
       copy = search rules;
       low = omega (arith, old.low);

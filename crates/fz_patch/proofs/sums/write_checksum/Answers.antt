@@ -4,10 +4,10 @@ use Rattle.std.proofs.lemmas.Result.{on_ok_weaker}
 use Rattle.fz_base.specs.Counts.{Amend}
 use Rattle.fz_sum.specs.Cards.{blank_checksum_card, checksum_card, with_card}
 use Rattle.fz_sum.specs.Sums.{ones_sum}
-use Rattle.fz_patched.specs.Writes.{card_write}
+use Rattle.fz_laws.specs.Writes.{card_write}
 use Rattle.fz_base.specs.Store.{HasAtLeast}
 use Rattle.fz_patch.specs.Cards.{IsCardIn, checksum_write}
-use Rattle.fz_patch.specs.Steps.{Wrote, WroteSome}
+use Rattle.fz_target.specs.Steps.{Wrote, WroteSome}
 use Rattle.fz_patch.proofs.Amended.{amends-nothing}
 use Rattle.fz_patch.proofs.Summed.{both_sum}
 use Rattle.fz_patch.proofs.Wrotes.{wrote-none, wrote-nothing}

@@ -10,8 +10,8 @@ use Rattle.std.specs.Prelude.{is_some}
 use Rattle.fz_sum.specs.Pieces.{after, nothing}
 use Rattle.fz_sum.specs.Sums.{ones_sum}
 use Rattle.fz_patch.specs.Cards.{datasum_write, sums_writes}
-use Rattle.fz_patch.specs.Ends.{AmendsStore}
-use Rattle.fz_patch.specs.Steps.{Wrote, WroteSome}
+use Rattle.fz_target.specs.Ends.{AmendsStore}
+use Rattle.fz_target.specs.Steps.{Wrote, WroteSome}
 use Rattle.fz_patch.proofs.Amended.{amends-then, at-least, kept-read, kept-then, read-amends, reach-is, reach-then, same-is, same-then, settled-amends}
 use Rattle.fz_patch.proofs.CodedRefusals.{some_same, wrote_same}
 use Rattle.fz_patch.proofs.EndsJoined.{read_writes, settled_writes}

@@ -1,6 +1,0 @@
--- Card by card, and then check by check.
-use Rattle.fz_patched.proofs.AmendedHeaders.{amended_say_the_same}
-use Rattle.fz_patched.proofs.laws.amended_header_law.Goals as goal
-
-pub returns : goal.returns
-returns c = amended_say_the_same c.card_laws.ensures c.cards_law.ensures.first

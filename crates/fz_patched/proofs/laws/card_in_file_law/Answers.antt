@@ -1,6 +1,0 @@
--- A slice of the file in whose middle the card is written.
-use Rattle.fz_patched.proofs.CardInFile.{cards_stand_in_place}
-use Rattle.fz_patched.proofs.laws.card_in_file_law.Goals as goal
-
-pub returns : goal.returns
-returns c = cards_stand_in_place

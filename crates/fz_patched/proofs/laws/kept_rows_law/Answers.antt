@@ -1,6 +1,0 @@
--- By the header as it is now.
-use Rattle.fz_patched.proofs.KeptRows.{kept_rows_stand}
-use Rattle.fz_patched.proofs.laws.kept_rows_law.Goals as goal
-
-pub returns : goal.returns
-returns c = kept_rows_stand c.row_laws.ensures c.amended_header_law.ensures

@@ -1,6 +1,0 @@
--- By the places of all writes.
-use Rattle.fz_patched.proofs.Patching.{writes_are_in_order}
-use Rattle.fz_patched.proofs.laws.writes_in_order_law.Goals as goal
-
-pub returns : goal.returns
-returns c = writes_are_in_order c.write_laws.ensures

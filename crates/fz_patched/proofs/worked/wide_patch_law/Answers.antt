@@ -1,9 +1,0 @@
--- The law, by computing.
-use Rattle.fz_patched.proofs.WideSteps.{lent_are, target}
-use Rattle.fz_patched.proofs.worked.wide_patch_law.Goals as goal
-
-pub returns-clause-target : goal.returns-clause-target
-returns-clause-target c = target
-
-pub returns-clause-steps : goal.returns-clause-steps
-returns-clause-steps c = lent_are

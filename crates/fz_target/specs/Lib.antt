@@ -1,0 +1,6 @@
+pub mod Ends
+pub mod Measures
+pub mod Steps
+pub mod Targets
+pub mod Tiles
+pub mod Told
