@@ -13,7 +13,7 @@ use Rattle.fz_files.specs.Lines.{report_lines}
 use Rattle.fz_files.specs.declared.job.Job.{Job}
 use Rattle.fz_files.specs.declared.job.Job.TheVariants.{Pack, Unpack, Cut, Verify, List as ListHdus, Drill, Retile}
 use Rattle.fz_files.specs.Decided.{first_fault}
-use Rattle.fz_round_trip.specs.RoundTrip.{HasFirstFault, HasNoOtherFault}
+use Rattle.fz_laws.specs.RoundTrip.{HasFirstFault, HasNoOtherFault}
 use Rattle.fz_job.specs.Clauses.{TellsFirstFault}
 use Rattle.fz_verify.specs.Clauses.{PrintsLines}
 use Rattle.fz_words.specs.Jobs.{Asked}

@@ -8,6 +8,7 @@ mod FirstBytes
 mod Fronts
 mod JobAnswers
 mod Limits
+mod MemoryRuns
 mod NamesAnswers
 mod Opening
 mod PackAnswers

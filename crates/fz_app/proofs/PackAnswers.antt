@@ -11,7 +11,7 @@ use Rattle.fz_files.specs.Walks.{header_fault}
 use Rattle.fz_files.specs.declared.job.Job.TheVariants.{Pack}
 use Rattle.fz_head.specs.Planned.{AreOptions}
 use Rattle.fz_head.specs.declared.options.PackOptions.{PackOptions}
-use Rattle.fz_round_trip.specs.RoundTrip.{ComesBack}
+use Rattle.fz_laws.specs.RoundTrip.{ComesBack}
 use Rattle.fz_job.specs.Clauses.{TellsFirstFault}
 use Rattle.fz_words.specs.Jobs.{Asked}
 use Rattle.fz_app.specs.Ends.{Ends, IsSameSink}

@@ -13,10 +13,10 @@ use Rattle.fz_base.specs.declared.failure.Stop.{Stop}
 use Rattle.fz_base.specs.declared.failure.Stop.TheVariants.{Refused as StopRefused, ReadFault as StopRead, WriteFault as StopWrite, OverLimit as StopLimit, NoMemory as StopMemory}
 use Rattle.fz_job.specs.Clauses.{IfOverLimit, IsChanged, IsOfSomeRow}
 use Rattle.fz_patch.specs.Clauses.{AnswersPatch, HasPatchCause, IsPatchedBy, IsUnwritten, KeepsPatchBuffers, LeavesSafe, TakingsOfBoth, TellsPatchFault}
-use Rattle.fz_patch.specs.Ends.{SameCounts}
-use Rattle.fz_patch.specs.Told.{IfBoth}
-use Rattle.fz_patched.specs.Buffers.{patch_takings}
-use Rattle.fz_patched.specs.Given.{PatchJob}
+use Rattle.fz_target.specs.Ends.{SameCounts}
+use Rattle.fz_target.specs.Told.{IfBoth}
+use Rattle.fz_laws.specs.PatchBuffers.{patch_takings}
+use Rattle.fz_laws.specs.Given.{PatchJob}
 use Rattle.fz_words.specs.PatchJobs.{PatchAsked}
 use Rattle.fz_app.specs.PatchPromises.{IfOpened, OpensBoth, PatchEnds, PatchNames, job_asked, patch_limit}
 use Rattle.fz_app.proofs.JobAnswers.{on_ok}

@@ -10,13 +10,13 @@ use Rattle.fz_base.specs.Takings.{PastWithinLaw, TellsFirstPast}
 use Rattle.fz_base.specs.declared.failure.Stop.{Stop}
 use Rattle.fz_base.specs.declared.failure.Stop.TheVariants.{ReadFault as StopRead, WriteFault as StopWrite, OverLimit as StopLimit, NoMemory as StopMemory}
 use Rattle.fz_patch.specs.Clauses.{AnswersPatch, IsPatchedBy, IsUnwritten, KeepsPatchBuffers, LeavesSafe, TellsPatchFault, greatest_patch_bound}
-use Rattle.fz_patch.specs.Ends.{SameCounts}
-use Rattle.fz_patch.specs.Told.{IfBoth}
-use Rattle.fz_patched.specs.Amends.{applied}
-use Rattle.fz_patched.specs.Buffers.{patch_bound, patch_takings}
-use Rattle.fz_patched.specs.Given.{PatchJob}
-use Rattle.fz_patched.specs.Laws.{AllWritesPatch, PatchIsBounded as IsBoundedPatch}
-use Rattle.fz_patched.specs.Writes.{all_writes}
+use Rattle.fz_target.specs.Ends.{SameCounts}
+use Rattle.fz_target.specs.Told.{IfBoth}
+use Rattle.fz_laws.specs.Amends.{applied}
+use Rattle.fz_laws.specs.PatchBuffers.{patch_bound, patch_takings}
+use Rattle.fz_laws.specs.Given.{PatchJob}
+use Rattle.fz_laws.specs.PatchLaws.{AllWritesPatch, PatchIsBounded as IsBoundedPatch}
+use Rattle.fz_laws.specs.Writes.{all_writes}
 use Rattle.fz_words.specs.PatchJobs.{PatchAsked, patch_job_of}
 use Rattle.fz_app.specs.Answer.{IsPromisedTo}
 use Rattle.fz_app.specs.PatchPromises.{ArePatchCountsKept, ArePatchNames, HasPatch, HasPatchFault, IsLeftSafe, IsPatchComplete, IsPatchUsage, IsPatchedFor}

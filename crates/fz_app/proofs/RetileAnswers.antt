@@ -11,7 +11,7 @@ use Rattle.fz_files.specs.FirstFault.{IsFirstFault}
 use Rattle.fz_files.specs.declared.job.Job.TheVariants.{Retile}
 use Rattle.fz_head.specs.Planned.{AreOptions}
 use Rattle.fz_head.specs.declared.options.PackOptions.{PackOptions}
-use Rattle.fz_round_trip.specs.RoundTrip.{HasFirstFault}
+use Rattle.fz_laws.specs.RoundTrip.{HasFirstFault}
 use Rattle.fz_job.specs.Clauses.{TellsFirstFault}
 use Rattle.fz_retile.specs.Laws.{StandsForTheSame}
 use Rattle.fz_words.specs.Jobs.{Asked}

@@ -10,7 +10,7 @@ use Rattle.fz_files.specs.Buffers.{IsOfFile, job_bound}
 use Rattle.fz_files.specs.declared.job.Job.{Job}
 use Rattle.fz_files.specs.declared.job.Job.TheVariants.{Pack, Unpack, Cut, Verify, List as ListHdus, Drill, Retile}
 use Rattle.fz_files.specs.Decided.{first_fault}
-use Rattle.fz_round_trip.specs.RoundTrip.{ComesBack, HasNoOtherFault}
+use Rattle.fz_laws.specs.RoundTrip.{ComesBack, HasNoOtherFault}
 use Rattle.fz_job.specs.Clauses.{IsAnswer, IsUnmade, TellsFirstFault}
 use Rattle.fz_words.specs.Jobs.{Asked, job_of}
 use Rattle.fz_app.specs.Answer.{IfAnswer, IsEnd, IsPromisedTo}

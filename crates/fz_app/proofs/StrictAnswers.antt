@@ -13,7 +13,7 @@ use Rattle.fz_files.specs.Buffers.{job_bound, job_takings}
 use Rattle.fz_files.specs.FirstFault.{IsFirstFault}
 use Rattle.fz_files.specs.Touched.{touched_by}
 use Rattle.fz_files.specs.declared.job.Job.TheVariants.{Verify}
-use Rattle.fz_round_trip.specs.RoundTrip.{HasNoOtherFault}
+use Rattle.fz_laws.specs.RoundTrip.{HasNoOtherFault}
 use Rattle.fz_job.specs.Clauses.{Answers, IfOverLimit, IsAnswer, TellsFirstFault, greatest_bound}
 use Rattle.fz_strict.specs.Clauses.{IsStrictAsSaid, strict_takings}
 use Rattle.fz_verify.specs.Clauses.{IsRightAsSaid}

@@ -16,7 +16,7 @@ use Rattle.fz_files.specs.FirstFault.{IsFirstFault}
 use Rattle.fz_files.specs.Lines.{report_lines}
 use Rattle.fz_files.specs.Walks.{header_fault}
 use Rattle.fz_files.specs.declared.job.Job.TheVariants.{Verify}
-use Rattle.fz_round_trip.specs.RoundTrip.{HasNoOtherFault}
+use Rattle.fz_laws.specs.RoundTrip.{HasNoOtherFault}
 use Rattle.fz_job.specs.Clauses.{Answers, ComesLate, HasJobCause, IfOverLimit, IsAnswer, IsUnmade, TellsFirstFault, greatest_bound}
 use Rattle.fz_strict.specs.Clauses.{HasStrictCause, IsStrictAsSaid, strict_takings}
 use Rattle.fz_verify.specs.Clauses.{GotFront, PrintsLines}

@@ -15,7 +15,7 @@ use Rattle.fz_files.specs.Lines.{report_lines}
 use Rattle.fz_files.specs.Walks.{header_fault}
 use Rattle.fz_files.specs.declared.job.Job.TheVariants.{Verify}
 use Rattle.fz_files.specs.Decided.{first_fault}
-use Rattle.fz_round_trip.specs.RoundTrip.{HasNoOtherFault}
+use Rattle.fz_laws.specs.RoundTrip.{HasNoOtherFault}
 use Rattle.fz_job.specs.Clauses.{ComesLate, IfOverLimit, IsUnmade, TellsFirstFault}
 use Rattle.fz_strict.specs.Clauses.{IsStrictAsSaid}
 use Rattle.fz_verify.specs.Clauses.{GotLines, PrintsLines}

@@ -8,7 +8,7 @@ use Rattle.fz_base.specs.declared.failure.Stop.{Stop}
 use Rattle.fz_files.specs.FirstFault.{IsFirstFault}
 use Rattle.fz_files.specs.Laws.{StandsForOneFile}
 use Rattle.fz_files.specs.declared.job.Job.TheVariants.{Unpack}
-use Rattle.fz_round_trip.specs.RoundTrip.{ComesBack}
+use Rattle.fz_laws.specs.RoundTrip.{ComesBack}
 use Rattle.fz_words.specs.Jobs.{Asked}
 use Rattle.fz_app.specs.Ends.{Ends}
 use Rattle.fz_app.specs.Outputs.{HoldsJobOutput, JobRestores}

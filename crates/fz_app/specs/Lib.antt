@@ -4,10 +4,12 @@ pub mod Causes
 pub mod Ends
 pub mod Found
 pub mod Lines
+pub mod Memory
 pub mod Names
 pub mod Outputs
 pub mod PatchPromises
 pub mod Printed
 pub mod Promised
 pub mod Promises
+pub mod Shown
 pub mod Status

@@ -12,12 +12,12 @@ use Rattle.fz_base.specs.declared.failure.Stop.TheVariants.{OverLimit as StopLim
 use Rattle.fz_block.specs.declared.header.Header.{Header}
 use Rattle.fz_grid.specs.Region.{lengths_of}
 use Rattle.fz_patch.specs.Clauses.{AnswersPatch, IsPatchedBy, IsUnwritten, KeepsPatchBuffers, LeavesSafe, TellsPatchFault, greatest_patch_bound}
-use Rattle.fz_patch.specs.Ends.{SameCounts}
-use Rattle.fz_patch.specs.Told.{IfBoth}
-use Rattle.fz_patched.specs.Buffers.{patch_bound, patch_takings}
-use Rattle.fz_patched.specs.Checks.{patch_target}
-use Rattle.fz_patched.specs.Given.{PatchJob, given_by}
-use Rattle.fz_patched.specs.Patched.{IsPatched}
+use Rattle.fz_target.specs.Ends.{SameCounts}
+use Rattle.fz_target.specs.Told.{IfBoth}
+use Rattle.fz_laws.specs.PatchBuffers.{patch_bound, patch_takings}
+use Rattle.fz_laws.specs.PatchChecks.{patch_target}
+use Rattle.fz_laws.specs.Given.{PatchJob, given_by}
+use Rattle.fz_laws.specs.Patched.{IsPatched}
 use Rattle.fz_words.specs.PatchJobs.{PatchAsked, patch_job_of}
 use Rattle.fz_app.specs.Answer.{IfAnswer}
 use Rattle.fz_app.specs.declared.status.Status.{Status}

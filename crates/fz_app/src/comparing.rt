@@ -1,6 +1,6 @@
 //! `verify --strict` that decodes each tile once: the file is compared first, and then verified.
 ghost use Rattle.std.specs.Prelude.{ℕ, ◌≡◌, ◌≤◌, min, true, List, [], Option, IfErr, IfOk, IfSome, Ok, Err};
-ghost use Rattle.fz_base.specs.Counts.{CountsKept, Tally, nameless};
+ghost use Rattle.fz_base.specs.Counts.{CountsKept, Tally};
 ghost use Rattle.fz_base.specs.Sink.{MayAppend, appended};
 ghost use Rattle.fz_base.specs.Stop.{IfRefused};
 ghost use Rattle.fz_base.specs.Told.{StaysTold};
@@ -9,18 +9,19 @@ ghost use Rattle.fz_job.specs.Clauses.{IfOverLimit, greatest_bound};
 ghost use Rattle.fz_words.specs.Seen.{asked_of};
 ghost use Rattle.fz_app.specs.Answer.{IsRightBy, done_of};
 ghost use Rattle.fz_app.specs.Causes.{ComparesFor};
-ghost use Rattle.fz_app.specs.Ends.{SinkIs, ends, text_is};
+ghost use Rattle.fz_app.specs.Ends.{SinkIs};
 ghost use Rattle.fz_app.specs.Found.{found_of};
 ghost use Rattle.fz_app.specs.Lines.{strict_text};
 ghost use Rattle.fz_app.specs.Names.{JobNames};
 ghost use Rattle.fz_app.specs.Printed.{ReportsBy};
-ghost use Rattle.fz_app.specs.Promised.{IsPromised};
+ghost use Rattle.fz_app.specs.Shown.{IsPromisedOfPrinting};
 
 use crate::host::Host;
 use crate::line::strict_line;
 use crate::run_job::begin;
 use fz_base::{Fault, Gate, Meter, Source, Stop, Text, ranges_law};
-use fz_round_trip::first_fault_law;
+use fz_laws::first_fault_law;
+use fz_pool::Crew;
 use fz_strict::strict_decoded;
 use fz_verify::verify_decoded;
 use fz_words::Request;
@@ -52,11 +53,8 @@ pub(crate) fn run_compared<R: Threads + Sync, S: Source, T: Text, G: Gate>(
     requires strict { request.now.strict ≡ true }
     requires ample { greatest_bound Verify 1 ≤ min meter.old.limit request.now.memory }
     requires unused { (meter.old.live ≡ 0) × (meter.old.peak ≡ 0) }
-    ensures promised { (sink : SinkIs) → IfSome sink.contents (λ c. c ≡ []) → IsPromised (asked_of request.now)
-        (ends (S.held source.old) (S.ranges source.old) (nameless (S.tally source.old)) sink
-        (text_is (T.contents text.old) (T.tally text.old)) meter.old)
-        (ends (S.held source.new) (S.ranges source.new) (nameless (S.tally source.new)) sink
-        (text_is (T.contents text.new) (T.tally text.new)) meter.new) (done_of result) }
+    ensures promised { (sink : SinkIs) → IfSome sink.contents (λ c. c ≡ []) → IsPromisedOfPrinting S.held S.ranges S.tally
+        T.contents T.tally sink (asked_of request.now) source.old source.new text.old text.new meter.old meter.new (done_of result) }
     ensures names { (made : Option (List (List ℕ))) → JobNames (asked_of request.now) (S.tally source.old).names
         (S.tally source.new).names made made (done_of result) }
     ensures right { IfOk result (λ right. IfSome (S.held source.old) (IsRightBy true right)) }
@@ -67,16 +65,12 @@ pub(crate) fn run_compared<R: Threads + Sync, S: Source, T: Text, G: Gate>(
     let (length, mut window) = begin(host.alloc, request, 1, source, meter)?;
     let (answer, decoded) = strict_decoded(host.rt, source, length, meter, &mut window, host.gate);
     let found = found_by(answer)?;
-    let right = verify_decoded(
-        host.rt,
-        source,
-        length,
-        text,
-        meter,
-        &mut window,
-        host.gate,
-        &decoded,
-    )?;
+    let crew = Crew {
+        rt: host.rt,
+        gate: host.gate,
+        workers: window.workers(),
+    };
+    let right = verify_decoded(crew, source, length, text, meter, &mut window, &decoded)?;
     let same = print_found(text, found)?;
     Ok(right & same)
 }

@@ -25,14 +25,14 @@ ghost use Rattle.fz_app.specs.Answer.{IfAnswer, IsEnd, IsPromisedTo, IsRightBy, 
 ghost use Rattle.fz_app.specs.Asked.{given, uncompared};
 ghost use Rattle.fz_app.specs.Causes.{AreCountsKept, ComparesFor, DoneHasCause, IsDifferent, IsUnmadeFor, IsUntouched, IsUsage};
 ghost use Rattle.fz_app.specs.Causes.{OverLimitHasCause, ReadFaultHasCause, RefusedHasCause, WriteFaultHasCause};
-ghost use Rattle.fz_app.specs.Ends.{SinkIs, TextIs, ends, sink_is, text_is};
+ghost use Rattle.fz_app.specs.Ends.{SinkIs, ends, text_is};
 ghost use Rattle.fz_app.specs.Lines.{status_line, strict_text, GotLine};
 ghost use Rattle.fz_app.specs.Names.{AreNamed, JobNames};
 ghost use Rattle.fz_app.specs.Outputs.{LeavesSink, LeavesSource, ReadsTouched};
 ghost use Rattle.fz_app.specs.Printed.{IsReported, ReportsBy};
 ghost use Rattle.fz_app.specs.Promised.{IsPromised};
-ghost use Rattle.fz_app.specs.Promises.{BuffersAreBounded, GotText, HasFirstByteLast, HasFirstFault, HasOutput, HasSlice};
-ghost use Rattle.fz_app.specs.Promises.{IsComplete, IsRestored, ReadsWithin};
+ghost use Rattle.fz_app.specs.Promises.{BuffersAreBounded, GotText, HasFirstByteLast, HasFirstFault, HasOutput, HasSlice, IsComplete, IsRestored, ReadsWithin};
+ghost use Rattle.fz_app.specs.Shown.{CanBegin, IsPromisedOfPrinting, WritesAsAsked, ends_of};
 ghost use Rattle.fz_app.specs.declared.status.Status.TheVariants.{Usage as IsUsageStatus};
 
 use crate::comparing::{is_ample, run_compared};
@@ -45,10 +45,10 @@ use fz_drill::drill;
 use fz_files::{Job, buffers_law, one_file_law};
 use fz_grid::Sieve;
 use fz_head::PackOptions;
+use fz_laws::{first_fault_law, round_trip_law};
 use fz_pack::pack;
 use fz_pool::Window;
 use fz_retile::{retile, retile_law};
-use fz_round_trip::{first_fault_law, round_trip_law};
 use fz_strict::strict;
 use fz_unpack::unpack;
 use fz_verify::{list, verify};
@@ -141,11 +141,9 @@ fn answer_to<R: Threads + Sync, S: Source, K: Sink, T: Text, G: Gate>(
     requires empty { IfSome (K.contents sink.old) (λ c. c ≡ []) }
     requires unused { (meter.old.live ≡ 0) × (meter.old.peak ≡ 0) }
     ensures promised { IsPromisedTo (job_of (texts_of words.now)) result (λ asked. IsPromised asked
-        (ends (S.held source.old) (S.ranges source.old) (nameless (S.tally source.old))
-        (sink_is (K.contents sink.old) (K.created sink.old) (K.finished sink.old) (nameless (K.tally sink.old)))
+        (ends_of S.held S.ranges S.tally K.created K.contents K.finished K.tally source.old sink.old
         (text_is (T.contents text.old) (T.tally text.old)) meter.old)
-        (ends (S.held source.new) (S.ranges source.new) (nameless (S.tally source.new))
-        (sink_is (K.contents sink.new) (K.created sink.new) (K.finished sink.new) (nameless (K.tally sink.new)))
+        (ends_of S.held S.ranges S.tally K.created K.contents K.finished K.tally source.new sink.new
         (text_is (T.contents text.new) (T.tally text.new)) meter.new)) }
     ensures untouched { result ≡ IsUsageStatus → (source.new ≡ source.old) × (sink.new ≡ sink.old) × (text.new ≡ text.old) × (meter.new ≡ meter.old) }
     ensures ended { IfSome (job_of (texts_of words.now)) (λ asked. IsEnd asked (given asked.job (S.held source.old)) result) }
@@ -175,11 +173,9 @@ fn run_request<R: Threads + Sync, S: Source, K: Sink, T: Text, G: Gate>(
     requires empty { IfSome (K.contents sink.old) (λ c. c ≡ []) }
     requires unused { (meter.old.live ≡ 0) × (meter.old.peak ≡ 0) }
     ensures promised { IsPromisedTo (Some (asked_of request.now)) result (λ asked. IsPromised asked
-        (ends (S.held source.old) (S.ranges source.old) (nameless (S.tally source.old))
-        (sink_is (K.contents sink.old) (K.created sink.old) (K.finished sink.old) (nameless (K.tally sink.old)))
+        (ends_of S.held S.ranges S.tally K.created K.contents K.finished K.tally source.old sink.old
         (text_is (T.contents text.old) (T.tally text.old)) meter.old)
-        (ends (S.held source.new) (S.ranges source.new) (nameless (S.tally source.new))
-        (sink_is (K.contents sink.new) (K.created sink.new) (K.finished sink.new) (nameless (K.tally sink.new)))
+        (ends_of S.held S.ranges S.tally K.created K.contents K.finished K.tally source.new sink.new
         (text_is (T.contents text.new) (T.tally text.new)) meter.new)) }
     ensures untouched { result ≡ IsUsageStatus → (source.new ≡ source.old) × (sink.new ≡ sink.old) × (text.new ≡ text.old) × (meter.new ≡ meter.old) }
     ensures ended { IfSome (Some (asked_of request.now)) (λ asked. IsEnd asked (given asked.job (S.held source.old)) result) }
@@ -213,32 +209,17 @@ fn run_pack<R: Threads + Sync, S: Source, K: Sink, G: Gate>(
 ) -> Result<(), Stop>
     requires job { request.now.job ≡ Pack options.now }
     requires options { AreOptions options.now }
-    requires workers { (1 ≤ request.now.workers) × (request.now.workers ≤ 64) }
-    requires empty { IfSome (K.contents sink.old) (λ c. c ≡ []) }
-    requires unused { (meter.old.live ≡ 0) × (meter.old.peak ≡ 0) }
-    ensures promised { (text : TextIs) → IsPromised (asked_of request.now)
-        (ends (S.held source.old) (S.ranges source.old) (nameless (S.tally source.old))
-        (sink_is (K.contents sink.old) (K.created sink.old) (K.finished sink.old) (nameless (K.tally sink.old))) text meter.old)
-        (ends (S.held source.new) (S.ranges source.new) (nameless (S.tally source.new))
-        (sink_is (K.contents sink.new) (K.created sink.new) (K.finished sink.new) (nameless (K.tally sink.new))) text meter.new)
-        result }
-    ensures names { JobNames (asked_of request.now) (S.tally source.old).names (S.tally source.new).names (K.tally sink.old).names
-        (K.tally sink.new).names result }
+    requires ready { CanBegin request.now.workers (K.contents sink.old) meter.old }
+    ensures { WritesAsAsked S.held S.ranges S.tally K.created K.contents K.finished K.tally
+        (asked_of request.now) source.old source.new sink.old sink.new meter.old meter.new result }
 {
     // What is packed comes back.
     round_trip_law();
     let (length, mut window) = begin(host.alloc, request, request.workers, source, meter)?;
-    let output = request.output;
+    let (rt, gate, output) = (host.rt, host.gate, request.output);
+    let window = &mut window;
     pack(
-        host.rt,
-        source,
-        length,
-        output,
-        sink,
-        meter,
-        &mut window,
-        host.gate,
-        options,
+        rt, source, length, output, sink, meter, window, gate, options,
     )
 }
 
@@ -252,33 +233,17 @@ fn run_unpack<R: Threads + Sync, S: Source, K: Sink, G: Gate>(
     meter: &mut Meter,
 ) -> Result<(), Stop>
     requires job { request.now.job ≡ Unpack }
-    requires workers { (1 ≤ request.now.workers) × (request.now.workers ≤ 64) }
-    requires empty { IfSome (K.contents sink.old) (λ c. c ≡ []) }
-    requires unused { (meter.old.live ≡ 0) × (meter.old.peak ≡ 0) }
-    ensures promised { (text : TextIs) → IsPromised (asked_of request.now)
-        (ends (S.held source.old) (S.ranges source.old) (nameless (S.tally source.old))
-        (sink_is (K.contents sink.old) (K.created sink.old) (K.finished sink.old) (nameless (K.tally sink.old))) text meter.old)
-        (ends (S.held source.new) (S.ranges source.new) (nameless (S.tally source.new))
-        (sink_is (K.contents sink.new) (K.created sink.new) (K.finished sink.new) (nameless (K.tally sink.new))) text meter.new)
-        result }
-    ensures names { JobNames (asked_of request.now) (S.tally source.old).names (S.tally source.new).names (K.tally sink.old).names
-        (K.tally sink.new).names result }
+    requires ready { CanBegin request.now.workers (K.contents sink.old) meter.old }
+    ensures { WritesAsAsked S.held S.ranges S.tally K.created K.contents K.finished K.tally
+        (asked_of request.now) source.old source.new sink.old sink.new meter.old meter.new result }
 {
     // What was packed comes back, and a packed file stands for one file.
     round_trip_law();
     one_file_law();
     let (length, mut window) = begin(host.alloc, request, request.workers, source, meter)?;
-    let output = request.output;
-    unpack(
-        host.rt,
-        source,
-        length,
-        output,
-        sink,
-        meter,
-        &mut window,
-        host.gate,
-    )
+    let (rt, gate, output) = (host.rt, host.gate, request.output);
+    let window = &mut window;
+    unpack(rt, source, length, output, sink, meter, window, gate)
 }
 
 // Cuts the picks of a sieve out of the file IN into OUT.
@@ -294,33 +259,17 @@ fn run_cut<R: Threads + Sync, S: Source, K: Sink, G: Gate>(
 ) -> Result<(), Stop>
     requires job { request.now.job ≡ Cut hdu sieve.now }
     requires sieve { HasPicks sieve.now }
-    requires workers { (1 ≤ request.now.workers) × (request.now.workers ≤ 64) }
-    requires empty { IfSome (K.contents sink.old) (λ c. c ≡ []) }
-    requires unused { (meter.old.live ≡ 0) × (meter.old.peak ≡ 0) }
-    ensures promised { (text : TextIs) → IsPromised (asked_of request.now)
-        (ends (S.held source.old) (S.ranges source.old) (nameless (S.tally source.old))
-        (sink_is (K.contents sink.old) (K.created sink.old) (K.finished sink.old) (nameless (K.tally sink.old))) text meter.old)
-        (ends (S.held source.new) (S.ranges source.new) (nameless (S.tally source.new))
-        (sink_is (K.contents sink.new) (K.created sink.new) (K.finished sink.new) (nameless (K.tally sink.new))) text meter.new)
-        result }
-    ensures names { JobNames (asked_of request.now) (S.tally source.old).names (S.tally source.new).names (K.tally sink.old).names
-        (K.tally sink.new).names result }
+    requires ready { CanBegin request.now.workers (K.contents sink.old) meter.old }
+    ensures { WritesAsAsked S.held S.ranges S.tally K.created K.contents K.finished K.tally
+        (asked_of request.now) source.old source.new sink.old sink.new meter.old meter.new result }
 {
     // A cutout is a slice of what the packed file stands for.
     slice_law(sieve);
     let (length, mut window) = begin(host.alloc, request, request.workers, source, meter)?;
-    let output = request.output;
+    let (rt, gate, output) = (host.rt, host.gate, request.output);
+    let window = &mut window;
     cut(
-        host.rt,
-        source,
-        length,
-        output,
-        sink,
-        meter,
-        &mut window,
-        host.gate,
-        hdu,
-        sieve,
+        rt, source, length, output, sink, meter, window, gate, hdu, sieve,
     )
 }
 
@@ -336,36 +285,21 @@ fn run_retile<R: Threads + Sync, S: Source, K: Sink, G: Gate>(
 ) -> Result<(), Stop>
     requires job { request.now.job ≡ Retile options.now }
     requires options { AreOptions options.now }
-    requires workers { (1 ≤ request.now.workers) × (request.now.workers ≤ 64) }
-    requires empty { IfSome (K.contents sink.old) (λ c. c ≡ []) }
-    requires unused { (meter.old.live ≡ 0) × (meter.old.peak ≡ 0) }
-    ensures promised { (text : TextIs) → IsPromised (asked_of request.now)
-        (ends (S.held source.old) (S.ranges source.old) (nameless (S.tally source.old))
-        (sink_is (K.contents sink.old) (K.created sink.old) (K.finished sink.old) (nameless (K.tally sink.old))) text meter.old)
-        (ends (S.held source.new) (S.ranges source.new) (nameless (S.tally source.new))
-        (sink_is (K.contents sink.new) (K.created sink.new) (K.finished sink.new) (nameless (K.tally sink.new))) text meter.new)
-        result }
-    ensures names { JobNames (asked_of request.now) (S.tally source.old).names (S.tally source.new).names (K.tally sink.old).names
-        (K.tally sink.new).names result }
+    requires ready { CanBegin request.now.workers (K.contents sink.old) meter.old }
+    ensures { WritesAsAsked S.held S.ranges S.tally K.created K.contents K.finished K.tally
+        (asked_of request.now) source.old source.new sink.old sink.new meter.old meter.new result }
 {
     // With one limit both meters are as one, and what is packed anew stands for the same file.
     first_fault_law();
     retile_law();
     let (length, mut window) = begin(host.alloc, request, request.workers, source, meter)?;
-    let output = request.output;
+    let (rt, gate, output) = (host.rt, host.gate, request.output);
+    let window = &mut window;
     // The buffers in which the packed file is decoded, under the same limit.
     let mut view = Meter::new(host.alloc, meter.limit());
+    let view = &mut view;
     retile(
-        host.rt,
-        source,
-        length,
-        output,
-        sink,
-        meter,
-        &mut view,
-        &mut window,
-        host.gate,
-        options,
+        rt, source, length, output, sink, meter, view, window, gate, options,
     )
 }
 
@@ -380,11 +314,8 @@ fn run_verify<R: Threads + Sync, S: Source, T: Text, G: Gate>(
 ) -> Result<bool, Stop>
     requires job { request.now.job ≡ Verify }
     requires unused { (meter.old.live ≡ 0) × (meter.old.peak ≡ 0) }
-    ensures promised { (sink : SinkIs) → IfSome sink.contents (λ c. c ≡ []) → IsPromised (asked_of request.now)
-        (ends (S.held source.old) (S.ranges source.old) (nameless (S.tally source.old)) sink
-        (text_is (T.contents text.old) (T.tally text.old)) meter.old)
-        (ends (S.held source.new) (S.ranges source.new) (nameless (S.tally source.new)) sink
-        (text_is (T.contents text.new) (T.tally text.new)) meter.new) (done_of result) }
+    ensures promised { (sink : SinkIs) → IfSome sink.contents (λ c. c ≡ []) → IsPromisedOfPrinting S.held S.ranges S.tally
+        T.contents T.tally sink (asked_of request.now) source.old source.new text.old text.new meter.old meter.new (done_of result) }
     ensures names { (made : Option (List (List ℕ))) → JobNames (asked_of request.now) (S.tally source.old).names
         (S.tally source.new).names made made (done_of result) }
     ensures right { IfOk result (λ right. IfSome (S.held source.old) (IsRightBy request.now.strict right)) }
@@ -416,11 +347,8 @@ fn verify_sums<R: Threads + Sync, S: Source, T: Text, G: Gate>(
 ) -> Result<(u64, Window, bool), Stop>
     requires job { request.now.job ≡ Verify }
     requires unused { (meter.old.live ≡ 0) × (meter.old.peak ≡ 0) }
-    ensures promised { (sink : SinkIs) → IfSome sink.contents (λ c. c ≡ []) → IsPromised (uncompared (asked_of request.now))
-        (ends (S.held source.old) (S.ranges source.old) (nameless (S.tally source.old)) sink
-        (text_is (T.contents text.old) (T.tally text.old)) meter.old)
-        (ends (S.held source.new) (S.ranges source.new) (nameless (S.tally source.new)) sink
-        (text_is (T.contents text.new) (T.tally text.new)) meter.new) (done_of result) }
+    ensures promised { (sink : SinkIs) → IfSome sink.contents (λ c. c ≡ []) → IsPromisedOfPrinting S.held S.ranges S.tally
+        T.contents T.tally sink (uncompared (asked_of request.now)) source.old source.new text.old text.new meter.old meter.new (done_of result) }
     ensures names { (made : Option (List (List ℕ))) → JobNames (asked_of request.now) (S.tally source.old).names
         (S.tally source.new).names made made (done_of result) }
     ensures right { IfOk result (λ done. IfSome (S.held source.old) (IsRightAsSaid done.2)) }
@@ -486,11 +414,8 @@ fn run_list<S: Source, T: Text>(
 ) -> Result<(), Stop>
     requires job { request.now.job ≡ ListHdus }
     requires unused { (meter.old.live ≡ 0) × (meter.old.peak ≡ 0) }
-    ensures promised { (sink : SinkIs) → IfSome sink.contents (λ c. c ≡ []) → IsPromised (asked_of request.now)
-        (ends (S.held source.old) (S.ranges source.old) (nameless (S.tally source.old)) sink
-        (text_is (T.contents text.old) (T.tally text.old)) meter.old)
-        (ends (S.held source.new) (S.ranges source.new) (nameless (S.tally source.new)) sink
-        (text_is (T.contents text.new) (T.tally text.new)) meter.new) result }
+    ensures promised { (sink : SinkIs) → IfSome sink.contents (λ c. c ≡ []) → IsPromisedOfPrinting S.held S.ranges S.tally
+        T.contents T.tally sink (asked_of request.now) source.old source.new text.old text.new meter.old meter.new result }
     ensures names { (made : Option (List (List ℕ))) → JobNames (asked_of request.now) (S.tally source.old).names
         (S.tally source.new).names made made result }
 {

@@ -1,6 +1,6 @@
 -- What `patch` says of both files since they were attached, and of the meter that was narrowed, it says of them as they were before.
 use Rattle.std.proofs.Common.{◌≡◌, ◌<◌, rules, subst, sym, ◌∙◌, take}
-use Rattle.fz_patch.specs.Targets.{job_at}
+use Rattle.fz_target.specs.Targets.{job_at}
 use Rattle.fz_base.specs.Meter.{Gauge, narrowed}
 use Rattle.fz_words.specs.PatchJobs.{PatchAsked}
 use Rattle.fz_words.specs.Seen.{patch_asked_of}

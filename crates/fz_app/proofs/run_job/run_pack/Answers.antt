@@ -10,6 +10,7 @@ use Rattle.fz_app.specs.Promised.{IsPromised}
 use Rattle.fz_app.proofs.NamesAnswers.{once_more}
 use Rattle.fz_app.proofs.Tallies.{answers_from, cause_from, kept_by, kept_from}
 use Rattle.fz_app.proofs.PackAnswers.{packed}
+use Rattle.fz_app.proofs.Before.{before_the_job}
 use Rattle.fz_app.proofs.run_job.run_pack.Goals as goal
 
 pub returns : goal.returns
@@ -25,7 +26,7 @@ returns g c =
     let new : TextIs → Ends = λ text. record { held = g.S.Source.held c.pack.new.source; ranges = g.S.Source.ranges c.pack.new.source; source = nameless (g.S.Source.tally c.pack.new.source); sink = record { contents = g.K.Sink.contents c.pack.new.sink; created = g.K.Sink.created c.pack.new.sink; finished = g.K.Sink.finished c.pack.new.sink; tally = nameless (g.K.Sink.tally c.pack.new.sink) }; text = text; meter = c.pack.new.meter } in
     record {
       promised = λ text. subst (λ (j : Job). IsPromised (record { job = j; workers = c.args.request.now.workers; strict = c.args.request.now.strict; memory = c.args.request.now.memory; input = c.args.request.now.input.now; output = c.args.request.now.output.now }) (old text) (new text) c.pack.result) (sym c.requires.job)
-          (packed c.args.options.now c.args.request.now.workers c.args.request.now.strict c.args.request.now.memory c.args.request.now.input.now c.args.request.now.output.now (old text) (new text) c.requires.empty c.round_trip_law.ensures c.requires.options (g.met.S.Source.octets c.args.source.now) c.pack.result
+          (packed c.args.options.now c.args.request.now.workers c.args.request.now.strict c.args.request.now.memory c.args.request.now.input.now c.args.request.now.output.now (old text) (new text) c.requires.ready.empty c.round_trip_law.ensures c.requires.options (g.met.S.Source.octets c.args.source.now) c.pack.result
           (record {
             of_file = tt;
             output = rw held at c.pack.ensures.output;
@@ -53,4 +54,13 @@ returns g c =
             one_written = λ e. (e, refl);
           }));
       names = subst (λ (j : Job). JobNames (record { job = j; workers = c.args.request.now.workers; strict = c.args.request.now.strict; memory = c.args.request.now.memory; input = c.args.request.now.input.now; output = c.args.request.now.output.now }) (g.S.Source.tally c.args.source.now).names (g.S.Source.tally c.pack.new.source).names (g.K.Sink.tally c.args.sink.now).names (g.K.Sink.tally c.pack.new.sink).names c.pack.result) (sym c.requires.job) (record { source = once_more c.args.request.now.input.now (g.S.Source.tally c.args.source.now).names (g.S.Source.tally c.begin.new.source).names (g.S.Source.tally c.pack.new.source).names c.pack.result c.in_ok-length.ensures.names.done c.pack.ensures.kept.source_counts.names_kept; sink = c.pack.ensures.names });
+    }
+
+-- the job did not begin
+pub returns-in_err-length : goal.returns-in_err-length
+returns-in_err-length g c =
+    let unused : (c.args.meter.now.live ≡ 0) × (c.args.meter.now.peak ≡ 0) = c.requires.ready.unused in
+    record {
+      promised = λ text. search (rules, before_the_job, unused);
+      names = search (rules, before_the_job, unused);
     }

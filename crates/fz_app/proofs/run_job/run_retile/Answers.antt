@@ -11,6 +11,7 @@ use Rattle.fz_app.specs.Promised.{IsPromised}
 use Rattle.fz_app.proofs.NamesAnswers.{once_more}
 use Rattle.fz_app.proofs.Tallies.{answers_from, cause_from, kept_by, kept_from}
 use Rattle.fz_app.proofs.RetileAnswers.{retiled}
+use Rattle.fz_app.proofs.Before.{before_the_job}
 use Rattle.fz_app.proofs.run_job.run_retile.Goals as goal
 
 pub returns : goal.returns
@@ -27,7 +28,7 @@ returns g c =
     let new : TextIs → Ends = λ text. record { held = g.S.Source.held c.retile.new.source; ranges = g.S.Source.ranges c.retile.new.source; source = nameless (g.S.Source.tally c.retile.new.source); sink = record { contents = g.K.Sink.contents c.retile.new.sink; created = g.K.Sink.created c.retile.new.sink; finished = g.K.Sink.finished c.retile.new.sink; tally = nameless (g.K.Sink.tally c.retile.new.sink) }; text = text; meter = c.retile.new.meter } in
     record {
       promised = λ text. subst (λ (j : Job). IsPromised (record { job = j; workers = c.args.request.now.workers; strict = c.args.request.now.strict; memory = c.args.request.now.memory; input = c.args.request.now.input.now; output = c.args.request.now.output.now }) (old text) (new text) c.retile.result) (sym c.requires.job)
-          (retiled c.args.options.now c.args.request.now.workers c.args.request.now.strict c.args.request.now.memory c.args.request.now.input.now c.args.request.now.output.now (old text) (new text) c.requires.empty c.retile_law.ensures.restores c.first_fault_law.ensures.some c.requires.options (g.met.S.Source.octets c.args.source.now) (rw held at c.retile.ensures.unmade.faulty) c.retile.result
+          (retiled c.args.options.now c.args.request.now.workers c.args.request.now.strict c.args.request.now.memory c.args.request.now.input.now c.args.request.now.output.now (old text) (new text) c.requires.ready.empty c.retile_law.ensures.restores c.first_fault_law.ensures.some c.requires.options (g.met.S.Source.octets c.args.source.now) (rw held at c.retile.ensures.unmade.faulty) c.retile.result
           (record {
             of_file = tt;
             output = rw held at c.retile.ensures.output;
@@ -60,4 +61,13 @@ returns g c =
             one_written = λ e. (e, refl);
           }));
       names = subst (λ (j : Job). JobNames (record { job = j; workers = c.args.request.now.workers; strict = c.args.request.now.strict; memory = c.args.request.now.memory; input = c.args.request.now.input.now; output = c.args.request.now.output.now }) (g.S.Source.tally c.args.source.now).names (g.S.Source.tally c.retile.new.source).names (g.K.Sink.tally c.args.sink.now).names (g.K.Sink.tally c.retile.new.sink).names c.retile.result) (sym c.requires.job) (record { source = once_more c.args.request.now.input.now (g.S.Source.tally c.args.source.now).names (g.S.Source.tally c.begin.new.source).names (g.S.Source.tally c.retile.new.source).names c.retile.result c.in_ok-length.ensures.names.done c.retile.ensures.kept.source_counts.names_kept; sink = c.retile.ensures.names });
+    }
+
+-- the job did not begin
+pub returns-in_err-length : goal.returns-in_err-length
+returns-in_err-length g c =
+    let unused : (c.args.meter.now.live ≡ 0) × (c.args.meter.now.peak ≡ 0) = c.requires.ready.unused in
+    record {
+      promised = λ text. search (rules, before_the_job, unused);
+      names = search (rules, before_the_job, unused);
     }

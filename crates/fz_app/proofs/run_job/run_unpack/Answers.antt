@@ -10,6 +10,7 @@ use Rattle.fz_app.specs.Promised.{IsPromised}
 use Rattle.fz_app.proofs.NamesAnswers.{once_more}
 use Rattle.fz_app.proofs.Tallies.{answers_from, cause_from, kept_by, kept_from}
 use Rattle.fz_app.proofs.UnpackAnswers.{unpacked}
+use Rattle.fz_app.proofs.Before.{before_the_job}
 use Rattle.fz_app.proofs.run_job.run_unpack.Goals as goal
 
 pub returns : goal.returns
@@ -53,4 +54,13 @@ returns g c =
             one_written = λ e. (e, refl);
           }));
       names = subst (λ (j : Job). JobNames (record { job = j; workers = c.args.request.now.workers; strict = c.args.request.now.strict; memory = c.args.request.now.memory; input = c.args.request.now.input.now; output = c.args.request.now.output.now }) (g.S.Source.tally c.args.source.now).names (g.S.Source.tally c.unpack.new.source).names (g.K.Sink.tally c.args.sink.now).names (g.K.Sink.tally c.unpack.new.sink).names c.unpack.result) (sym c.requires.job) (record { source = once_more c.args.request.now.input.now (g.S.Source.tally c.args.source.now).names (g.S.Source.tally c.begin.new.source).names (g.S.Source.tally c.unpack.new.source).names c.unpack.result c.in_ok-length.ensures.names.done c.unpack.ensures.kept.source_counts.names_kept; sink = c.unpack.ensures.names });
+    }
+
+-- the job did not begin
+pub returns-in_err-length : goal.returns-in_err-length
+returns-in_err-length g c =
+    let unused : (c.args.meter.now.live ≡ 0) × (c.args.meter.now.peak ≡ 0) = c.requires.ready.unused in
+    record {
+      promised = λ text. search (rules, before_the_job, unused);
+      names = search (rules, before_the_job, unused);
     }

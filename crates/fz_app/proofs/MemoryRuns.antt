@@ -21,7 +21,7 @@ use Rattle.fz_app.specs.Outputs.{HoldsJobOutput, IsFinished, IsOutput}
 use Rattle.fz_app.specs.Promises.{HasFirstFault, HasOutput}
 use Rattle.fz_app.specs.declared.status.Status.{Status}
 use Rattle.fz_app.specs.declared.status.Status.TheVariants.{Done, Different, Usage, Refused, ReadFault, WriteFault, OverLimit, NoMemory}
-use Rattle.fz_memory.specs.Memory.{AsksFor, IsCause, IsCauseOfBoth, IsPast, IsWhole, Makes, default_options, without_faults, words_for}
+use Rattle.fz_app.specs.Memory.{AsksFor, IsCause, IsCauseOfBoth, IsPast, IsWhole, Makes, default_options, without_faults, words_for}
 
 -- ---- answers
 

@@ -4,12 +4,12 @@ ghost use Rattle.fz_tile.specs.Plain.{AreBytes};
 ghost use Rattle.fz_files.specs.Packed.{IsPackedFile};
 ghost use Rattle.fz_files.specs.StandsFor.{IsProfileFile, StandsFor};
 ghost use Rattle.fz_files.specs.declared.job.Job.TheVariants.{Pack, Unpack};
-ghost use Rattle.fz_memory.specs.Memory.{IsCause, IsCauseOfBoth, default_options};
+ghost use Rattle.fz_app.specs.Memory.{IsCause, IsCauseOfBoth, default_options};
 
-use crate::between::run_between;
-use fz_app::Status;
+use crate::memory_run::run_between;
+use crate::status::Status;
 use fz_files::one_first_fault_law;
-use fz_round_trip::{lossless_law, round_trip_law};
+use fz_laws::{lossless_law, round_trip_law};
 use std::alloc::Global;
 use std::thread::Threads;
 

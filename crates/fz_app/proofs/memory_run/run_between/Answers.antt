@@ -3,9 +3,9 @@ use Rattle.std.proofs.Common.{◌≡◌, ◌^◌, rules, refl}
 use Rattle.std.specs.Prelude.{Some, IfOk, min}
 use Rattle.fz_base.specs.Counts.{tally_of}
 use Rattle.fz_words.specs.Parts.{texts_of}
-use Rattle.fz_memory.specs.Memory.{words_for}
-use Rattle.fz_memory.proofs.Runs.{Ran, cause_at, if_ok, makes_at}
-use Rattle.fz_memory.proofs.between.run_between.Goals as goal
+use Rattle.fz_app.specs.Memory.{words_for}
+use Rattle.fz_app.proofs.MemoryRuns.{Ran, cause_at, if_ok, makes_at}
+use Rattle.fz_app.proofs.memory_run.run_between.Goals as goal
 
 pub returns-in-Done-clause-makes : goal.returns-in-Done-clause-makes
 returns-in-Done-clause-makes g c =

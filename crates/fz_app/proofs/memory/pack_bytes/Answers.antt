@@ -1,8 +1,8 @@
 -- By what the words ask for.
 use Rattle.fz_files.specs.declared.job.Job.TheVariants.{Pack}
-use Rattle.fz_memory.specs.Memory.{default_options}
-use Rattle.fz_memory.proofs.Runs.{if_err, if_ok, pack_asks, taken_of}
-use Rattle.fz_memory.proofs.files.pack_bytes.Goals as goal
+use Rattle.fz_app.specs.Memory.{default_options}
+use Rattle.fz_app.proofs.MemoryRuns.{if_err, if_ok, pack_asks, taken_of}
+use Rattle.fz_app.proofs.memory.pack_bytes.Goals as goal
 
 pub returns : goal.returns
 returns g c =

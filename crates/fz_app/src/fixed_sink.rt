@@ -2,7 +2,7 @@
 ghost use Rattle.std.specs.Prelude.{◌≡◌, [], Some, false};
 ghost use Rattle.fz_base.specs.Counts.{uncounted};
 ghost use Rattle.fz_base.specs.MemSink.{sink_failing};
-ghost use Rattle.fz_memory.specs.Memory.{without_faults};
+ghost use Rattle.fz_app.specs.Memory.{without_faults};
 
 use fz_base::{Failed, MemSink, Sink};
 use std::alloc::Global;
@@ -36,7 +36,7 @@ impl FixedSink {
 }
 
 impl Sink for FixedSink {
-    ghost use Rattle.fz_memory.specs.Memory.{without_faults};
+    ghost use Rattle.fz_app.specs.Memory.{without_faults};
 
     ghost contents = { λ s. ⟦<MemSink as Sink>⟧.contents s.sink };
 

@@ -3,10 +3,11 @@ ghost use Rattle.std.specs.Prelude.{◌≡◌, ◌≤◌, ◌^◌, length as len
 ghost use Rattle.fz_files.specs.declared.job.Job.{Job};
 ghost use Rattle.fz_words.specs.Parts.{texts_of};
 ghost use Rattle.fz_app.specs.declared.status.Status.TheVariants.{NoMemory};
-ghost use Rattle.fz_memory.specs.Memory.{AsksFor, IsCause, Makes, words_for};
+ghost use Rattle.fz_app.specs.Memory.{AsksFor, IsCause, Makes, words_for};
 
 use crate::fixed_sink::FixedSink;
-use fz_app::{Status, run};
+use crate::run_job::run;
+use crate::status::Status;
 use fz_base::{FixedSource, FreeGate, MemText, Meter, Sink, Source};
 use std::alloc::{AllocError, Global};
 use std::thread::Threads;

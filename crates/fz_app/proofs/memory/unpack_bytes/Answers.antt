@@ -1,7 +1,7 @@
 -- By what the words ask for.
 use Rattle.fz_files.specs.declared.job.Job.TheVariants.{Unpack}
-use Rattle.fz_memory.proofs.Runs.{if_err, if_ok, unpack_asks}
-use Rattle.fz_memory.proofs.files.unpack_bytes.Goals as goal
+use Rattle.fz_app.proofs.MemoryRuns.{if_err, if_ok, unpack_asks}
+use Rattle.fz_app.proofs.memory.unpack_bytes.Goals as goal
 
 pub returns : goal.returns
 returns g c =
