@@ -1,9 +1,9 @@
 //! Each public call on a file that is taken, and rows of refused files with the values of the rules.
-use fz_base::{Fault, Kind, MemSource, Place, Source, Stop};
+use fz_base::{Fault, Kind, MemSource, Meter, Place, Source, Stop};
 use fz_block::{
     Axes, BLOCK_LEN, Header, Sort, again_law, buffered_header, card, cards_law, data_start,
-    first_card_law, found_law, hdu_law, hdu_list_law, header_again, header_blocks, next_start,
-    number_law, read_header, start_law, walk_law,
+    first_card_law, found_law, hdu_law, hdu_list_law, header_again, header_at, header_blocks,
+    next_start, number_law, read_header, start_law, walk_law,
 };
 use std::alloc::Global;
 use std::test::Fail;
@@ -210,46 +210,102 @@ fn a_header_in_a_buffer(rt: HostRuntime) {
     assert_eq!(rt; buffered_header(&block, 5760, 0, 0), Ok(SMALL));
 }
 
-/// What `header_again` answers of HDU 1 of a file with these cards, with a buffer of so many bytes.
-fn header_once_more(alloc: Global, cards: &[Text], room: usize) -> Result<Header, Stop> {
-    let mut source = source_of(alloc, 8640, cards)?;
+/// What `header_again` answers of HDU 1 of a source, with a buffer of so many bytes.
+fn header_once_more(source: &mut MemSource, room: usize) -> Result<Header, Stop> {
     let length = source.attach("any").map_err(Stop::reading)?;
-    if length <= 2880 || room > 2 * BLOCK_LEN {
+    if length <= 2880 || room < BLOCK_LEN || room > 2 * BLOCK_LEN {
+        return Err(Stop::NoMemory);
+    }
+    let mut buf = [0; 2 * BLOCK_LEN];
+    header_again(source, length, 1, 2880, &mut buf[..room])
+}
+
+/// The table with END in the second block of its header.
+fn long_table() -> [Text; 13] {
+    let mut cards = TABLE_CARDS;
+    cards[12] = (80, END);
+    cards
+}
+
+/// What `header_at` answers of HDU 1 of a source. The buffer of the header goes back.
+fn header_at_first(source: &mut MemSource, meter: &mut Meter) -> Result<Header, Stop> {
+    let length = source.attach("any").map_err(Stop::reading)?;
+    if length <= 2880 {
         return Err(Stop::NoMemory);
     }
     let mut block = [0; BLOCK_LEN];
-    let mut buf = [0; 2 * BLOCK_LEN];
-    header_again(&mut source, length, 1, 2880, &mut block, &mut buf[..room])
+    let read = header_at(source, length, 1, 2880, meter, &mut block)?;
+    let header = read.facts;
+    meter.give_bytes(read.bytes);
+    Ok(header)
+}
+
+// The blocks before the last are read twice, since the buffer is taken after the search for END.
+#[test]
+fn a_header_in_a_buffer_of_its_length(rt: HostRuntime) -> Result<(), Fail> {
+    let alloc = rt.alloc();
+    let mut meter = Meter::new(alloc, 5760);
+    let mut source = source_of(alloc, 8640, &TABLE_CARDS)?;
+    assert_eq!(rt; header_at_first(&mut source, &mut meter), Ok(TABLE));
+    assert_eq!(rt; source.reads(), [(2880, 8), (2880, 2880)].as_slice());
+    let mut source = source_of(alloc, 11520, &long_table())?;
+    let header = header_at_first(&mut source, &mut meter)?;
+    assert_eq!(rt;
+        (header.cards, header.blocks, meter.live(), meter.peak()),
+        (44, 2, 0, 5760)
+    );
+    assert_eq!(rt;
+        source.reads(),
+        [(2880, 8), (2880, 2880), (5760, 2880), (2880, 2880)].as_slice()
+    );
+    Ok(())
 }
 
 #[test]
-fn a_header_once_more(rt: HostRuntime) {
+fn a_header_once_more(rt: HostRuntime) -> Result<(), Fail> {
     let alloc = rt.alloc();
     for room in [5760, 2880] {
-        assert_eq!(rt; header_once_more(alloc, &TABLE_CARDS, room), Ok(TABLE));
+        let mut source = source_of(alloc, 8640, &TABLE_CARDS)?;
+        assert_eq!(rt; header_once_more(&mut source, room), Ok(TABLE));
+        assert_eq!(rt; source.reads(), [(2880, 8), (2880, 2880)].as_slice());
     }
+    let mut source = source_of(alloc, 11520, &long_table())?;
+    let header = header_once_more(&mut source, 5760)?;
+    assert_eq!(rt; (header.cards, header.blocks), (44, 2));
+    assert_eq!(rt;
+        source.reads(),
+        [(2880, 8), (2880, 2880), (5760, 2880)].as_slice()
+    );
+    Ok(())
 }
 
 #[test]
-fn headers_that_are_refused_again(rt: HostRuntime) {
+fn headers_that_are_refused_again(rt: HostRuntime) -> Result<(), Fail> {
     let alloc = rt.alloc();
-    let mut foreign = TABLE_CARDS;
+    let long = long_table();
+    let mut foreign = long;
     foreign[4] = (36, b"EXTENSION");
-    let mut faulty = TABLE_CARDS;
+    let mut faulty = long;
     faulty[6] = (38, NAXIS_1);
+    let mut endless = long;
+    endless[12] = (80, b"ENDED");
     let cases = [
-        (foreign, 0, Place::Byte(2880), Kind::TrailingBytes),
-        (TABLE_CARDS, 2879, Place::Card(0), Kind::BadCard),
-        (faulty, 2879, Place::Card(0), Kind::BadCard),
-        (faulty, 2880, Place::Card(4), Kind::BadCard),
+        (foreign, 2880, Place::Byte(2880), Kind::TrailingBytes),
+        (long, 5759, Place::Card(0), Kind::BadCard),
+        (faulty, 5759, Place::Card(0), Kind::BadCard),
+        (faulty, 5760, Place::Card(4), Kind::BadCard),
+        // the search for END goes on after the buffer is full
+        (endless, 2880, Place::Byte(11520), Kind::Truncated),
     ];
     for (cards, room, at, kind) in cases {
         let fault = Fault { hdu: 1, at, kind };
+        let mut source = source_of(alloc, 11520, &cards)?;
         assert_eq!(rt;
-            header_once_more(alloc, &cards, room),
+            header_once_more(&mut source, room),
             Err(Stop::Refused(fault))
         );
     }
+    Ok(())
 }
 
 #[test]

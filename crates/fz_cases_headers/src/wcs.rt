@@ -1,6 +1,5 @@
 //! Rows of shifted decimals.
-use fz_card::Card;
-use fz_wcs::shift;
+use fz_card::{Card, shift};
 
 /// The card CRPIX1 with this text in its value field.
 fn crpix(field: &[u8]) -> Card {

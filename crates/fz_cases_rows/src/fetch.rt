@@ -3,23 +3,21 @@ ghost use Rattle.std.specs.Prelude.{ℕ, ◌≡◌, ◌*◌, ◌^◌, ◌<◌, �
 ghost use Rattle.fz_grid.specs.Overlap.{has_pixel};
 ghost use Rattle.fz_grid.specs.Region.{IsDivided, lengths_of};
 ghost use Rattle.fz_grid.specs.Sieve.{IsSieveOf};
-ghost use Rattle.fz_parts.specs.Cutout.{part_lengths};
+ghost use Rattle.fz_grid.specs.Cutout.{part_lengths};
 ghost use Rattle.fz_files.specs.Restored.{pixels_of};
-ghost use Rattle.fz_pool.specs.Window.{HasSlotsFor, slot_sizes};
+ghost use Rattle.fz_pool.specs.Window.{HasSlotsFor};
 ghost use Rattle.fz_fetch.specs.Fetched.{HaveTiles};
-ghost use Rattle.fz_fetch.specs.Images.{AreTilesOf, IsReadable};
+ghost use Rattle.fz_job.specs.Images.{AreTilesOf, IsReadable};
 
 use fz_base::{
     Failed, Fault, FreeGate, Kind, MemSink, MemSource, Meter, Place, Sink, Source, Stop,
 };
 use fz_block::{Axes, Header, Sort};
-use fz_fetch::{
-    Ahead, fetch_ahead, fetch_tiles, number_tiles, scatter_held, scatter_picks, scatter_tiles,
-};
-use fz_grid::{Grid, Sieve, shape_law};
+use fz_fetch::{Ahead, fetch_ahead, fetch_tiles, number_tiles};
+use fz_grid::{Grid, Sieve, cutout_axes, shape_law};
 use fz_head::{PackedImage, Plan};
 use fz_job::{Held, write_pieces};
-use fz_parts::cutout_axes;
+use fz_pixels::{scatter_held, scatter_picks, scatter_tiles};
 use fz_pool::{Crew, Window, sizes_law};
 use fz_table::{Column, Table};
 use fz_tile::Codec;

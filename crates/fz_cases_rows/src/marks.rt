@@ -2,14 +2,14 @@
 ghost use Rattle.std.specs.Prelude.{◌≡◌};
 ghost use Rattle.fz_files.specs.Packed.{tiles_in};
 ghost use Rattle.fz_files.specs.Restored.{pixels_of};
-ghost use Rattle.fz_fetch.specs.Images.{IsReadable};
+ghost use Rattle.fz_job.specs.Images.{IsReadable};
 
 use crate::fetch::{HEADER, Untold, has_pick, sifts, source_of};
 use fz_base::{MemSource, Source, Stop};
 use fz_block::Axes;
-use fz_fetch::{Mark, TileMark, fetch_part, part_span, part_start};
 use fz_grid::{Sieve, shape_law};
 use fz_head::{PackedImage, Plan};
+use fz_pixels::{Mark, TileMark, fetch_part, part_span, part_start};
 use fz_table::{Column, Table};
 use fz_tile::Codec;
 use std::test::Fail;

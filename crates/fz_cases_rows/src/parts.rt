@@ -5,12 +5,13 @@ ghost use Rattle.fz_grid.specs.Grid.{tile_count};
 ghost use Rattle.fz_grid.specs.Overlap.{has_pixel};
 ghost use Rattle.fz_grid.specs.Region.{IsShape, lengths_of};
 ghost use Rattle.fz_grid.specs.Sieve.{IsSieve, IsSieveOf};
-ghost use Rattle.fz_parts.specs.Cutout.{part_lengths};
+ghost use Rattle.fz_grid.specs.Cutout.{part_lengths};
 
 use crate::lawful::{is_within, sifts};
 use fz_block::Axes;
-use fz_grid::{Grid, Region, Sieve, runs, tile_counts};
-use fz_parts::{Line, cutout_axes, cutout_law, tile_lines, whole_lines};
+use fz_grid::{
+    Grid, Line, Region, Sieve, cutout_axes, cutout_law, runs, tile_counts, tile_lines, whole_lines,
+};
 use std::process::Abort;
 
 /// Lengths of 2 axes.

@@ -3,10 +3,10 @@ use fz_base::{Fault, Kind, MemSource, Meter, Place, Short, Source, Stop};
 use fz_block::BLOCK_LEN;
 use fz_grid::Region;
 use fz_head::{CodecWord, PackOptions};
-use fz_pool::Window;
-use fz_survey::{
+use fz_job::{
     Survey, Wants, Workspace, survey_to_cut, survey_to_pack, survey_to_unpack, workspace_law,
 };
+use fz_pool::Window;
 use std::alloc::Global;
 use std::test::Fail;
 
@@ -126,6 +126,7 @@ fn a_look_at_an_image(rt: HostRuntime) -> Result<(), Fail> {
         hdus: 1,
         header_len: 2880,
         tile: 4,
+        packed_primary: None,
         stopped: None,
     };
     assert_eq!(rt; look_to_pack(source, &mut meter), Ok(seen));
@@ -184,6 +185,22 @@ fn a_look_at_a_packed_image(rt: HostRuntime) -> Result<(), Fail> {
     let length = source.attach("any").map_err(Stop::reading)?;
     let missing = survey_to_cut(&mut source, length, &mut meter, &mut block, None, &region);
     assert_eq!(rt; missing, refused(1, Place::Byte(2880), Kind::NotPacked));
+    Ok(())
+}
+
+#[test]
+fn a_packed_primary(rt: HostRuntime) -> Result<(), Fail> {
+    let alloc = rt.alloc();
+    let mut meter = Meter::new(alloc, 2880);
+    let mut block = [0; BLOCK_LEN];
+    let mut source = source_of(alloc, 8640, 0, &[(0, &EMPTY), (1, &PACKED)])?;
+    let length = source.attach("any").map_err(Stop::reading)?;
+    let seen = survey_to_unpack(&mut source, length, &mut meter, &mut block)?;
+    assert_eq!(rt; (seen.hdus, seen.packed_primary), (2, Some(2880)));
+    let mut source = source_of(alloc, 2880, 0, &[(0, &EMPTY)])?;
+    let length = source.attach("any").map_err(Stop::reading)?;
+    let seen = survey_to_unpack(&mut source, length, &mut meter, &mut block)?;
+    assert_eq!(rt; (seen.hdus, seen.packed_primary), (1, None));
     Ok(())
 }
 

@@ -1,9 +1,8 @@
-//! Files in memory, by `fz_memory`.
-use fz_app::Status;
+//! Files in memory, by `fz_app`.
+use fz_app::{Status, pack_and_unpack, pack_bytes, unpack_bytes};
 use fz_base::{Fault, Kind, Place};
 use fz_cases::files::file_of;
 use fz_cases::standing;
-use fz_memory::{pack_and_unpack, pack_bytes, unpack_bytes};
 use std::process::Abort;
 use std::test::Fail;
 

@@ -4,7 +4,7 @@ use Rattle.std.specs.List.{AllByRecursion}
 use Rattle.fz_grid.specs.Overlap.{has_pixel}
 use Rattle.fz_grid.specs.Region.{lengths_of}
 use Rattle.fz_grid.specs.SieveWalks.{sieve_tiles_left}
-use Rattle.fz_parts.specs.Cutout.{part_lengths}
+use Rattle.fz_grid.specs.Cutout.{part_lengths}
 use Rattle.fz_cases_rows.proofs.fetch.has_pick.Given as goal
 
 abbrev pub invariant-loop-other : goal.invariant-loop-other

@@ -4,7 +4,7 @@ use Rattle.fz_grid.specs.Grid.{tile_count}
 use Rattle.fz_grid.specs.Overlap.{has_pixel}
 use Rattle.fz_grid.specs.Region.{lengths_of}
 use Rattle.fz_grid.specs.SieveWalks.{sieve_tiles_left}
-use Rattle.fz_parts.specs.Cutout.{part_lengths}
+use Rattle.fz_grid.specs.Cutout.{part_lengths}
 use Rattle.fz_cases_rows.proofs.parts.has_part.Given as goal
 
 abbrev pub invariant-loop-tile : goal.invariant-loop-tile

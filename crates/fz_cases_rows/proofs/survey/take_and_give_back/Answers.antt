@@ -1,7 +1,7 @@
 -- What is handed back is what was taken.
 use Rattle.std.proofs.Common.{◌≡◌, refl, sym, ap, subst, arith, sum}
 use Rattle.fz_pool.specs.Window.{Pool}
-use Rattle.fz_survey.specs.Workspace.{AreSizedFor, wanted_buffers, window_for}
+use Rattle.fz_job.specs.Workspace.{AreSizedFor, wanted_buffers, window_for}
 use Rattle.fz_cases_rows.proofs.survey.take_and_give_back.Goals as goal
 
 pub give_back-requires : goal.give_back-requires
