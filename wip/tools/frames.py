@@ -15,7 +15,7 @@ stays (as is_frame of tools/style says, each part of a product on its own) it
 - rewrites the lines of must-fail edits that name a clause that was joined, and answers that they name;
 - prints every mention in documents of a clause that was joined.
 
---dry writes nothing. --fmt runs `rt fmt` in each crate that changed (wanted: it sets the tuples). --crates=A,B joins only the clauses of functions of these crates (to check a crate over libraries of the others as they were). --check looks in the made.json of the libraries (/work/h/gate, /work/base/libs) whether each binding that was rewritten is a call of the
+--dry writes nothing. --fmt runs `rt fmt` in each crate that changed (wanted: it sets the tuples). --crates=A,B joins only the clauses of functions of these crates (to check a crate over libraries of the others as they were); --texts then changes documents and tools/style too. --not=CRATE.FUNCTION,.. leaves these functions as they are. --check looks in the made.json of the libraries (/work/h/gate, /work/base/libs) whether each binding that was rewritten is a call of the
 function that it was taken for, and whether each exit whose answers were joined is there; it wants a tree whose names of bindings are those of the libraries.
 A line `frames: ..` is a warning. It is text only, and can be run on any state of the tree; run twice, the second time does nothing.
 """
@@ -491,10 +491,10 @@ class Frames:
 
     # -- clauses
 
-    def plan(self, only=()):
+    def plan(self, only=(), left=()):
         """Which clauses of which functions are joined, and how."""
         for fn in self.rust.functions:
-            if fn.kind in ("trait", "impl") or only and fn.crate not in only:
+            if fn.kind in ("trait", "impl") or only and fn.crate not in only or f"{fn.crate}.{fn.name}" in left:
                 continue
             frames = [it for it in fn.clauses if it.kind == "ensures" and not it.star and it.label and is_frame(it.inner)]
             if len(frames) < 2:
@@ -925,16 +925,20 @@ def with_rules(text):
     return text[: it.start()] + "use Rattle.std.proofs.Common.{rules}\n" + text[it.start() :]
 
 
+def listed(arguments, option):
+    return [name for it in arguments if it.startswith(option) for name in it.removeprefix(option).split(",")]
+
+
 def main(arguments):
     top = next(it for it in arguments if not it.startswith("--"))
     tree = Tree(top)
     before = dict(tree.text)
     frames = Frames(tree)
-    frames.plan([k for it in arguments if it.startswith("--crates=") for k in it[9:].split(",")])
+    frames.plan(listed(arguments, "--crates="), listed(arguments, "--not="))
     frames.proofs()
     frames.join_clauses()
     frames.edits(before)
-    if not any(it.startswith("--crates=") for it in arguments):
+    if "--texts" in arguments or not listed(arguments, "--crates="):
         frames.texts()
     frames.documents()
     print(dict(frames.counts), f"{frames.warnings} warnings")
