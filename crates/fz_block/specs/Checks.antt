@@ -156,3 +156,7 @@ walk_of judge most file = walk_from judge most 0 0 file
 -- the same of all HDUs, by only the checks of every job
 abbrev pub headers_of : ℕ → List ℕ → Result (List Header) Fault
 headers_of most file = walk_of unjudged most file
+
+-- if there is a card of this property, the header is refused at it
+abbrev pub refused_at : ℕ → Option ℕ → Kind → Bool × Fault
+refused_at k found kind = (is_some found, refusal k (Card (unwrap_or found 0)) kind)

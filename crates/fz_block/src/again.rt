@@ -11,7 +11,7 @@ ghost use Rattle.fz_block.specs.Header.{next_start_of};
 use crate::blocks::{BLOCK_LEN, header_blocks};
 use crate::header::Header;
 use crate::read::buffered_header;
-use crate::refused::refused;
+use crate::refusing::refused;
 use fz_base::{Kind, Place, Source, Stop};
 
 /// Reads and checks the header of the HDU that begins at this byte once more, into the first bytes of a buffer,

@@ -9,7 +9,7 @@ ghost use Rattle.fz_block.specs.Checks.{IsBlockRefusal, header_blocks_of, header
 ghost use Rattle.fz_block.specs.Scan.{begin_says, block_says, next_block_says};
 
 use crate::cards::{card, end_card, is_set};
-use crate::refused::refused;
+use crate::refusing::refused;
 use fz_base::{Failed, Fault, Kind, Place, Source, Stop, log_law};
 use fz_card::Name;
 
@@ -25,8 +25,8 @@ const MAX_BLOCKS: u32 = 256;
 /// Reads the header at `start` block by block, and answers the number of its blocks up to the one
 /// with END (FITS 4.0, sections 3.3.1 and 3.4.1).
 ///
-/// The blocks are read into the buffer, one after another, as long as it has room for them. Each of those that follow is read
-/// into its last 2,880 bytes.
+/// After Ok the buffer holds, from its first byte, all blocks of the header if it has room for them (clause `kept`); if it has
+/// room for one block only, it holds the last of them (clause `last`).
 ///
 /// Refused, in this order: this is the 65,537th HDU (Limit); bytes after an HDU do not begin with
 /// `XTENSION` (TrailingBytes); a block of the header passes the end of the file (Truncated); card 0 of

@@ -12,7 +12,7 @@ mod laws;
 mod mandatory;
 mod next;
 mod read;
-mod refused;
+mod refusing;
 
 pub use again::header_again;
 pub use axes::Axes;
@@ -25,3 +25,4 @@ pub use laws::{
 };
 pub use next::{ReadHeader, header_at};
 pub use read::{buffered_header, read_header};
+pub use refusing::{refuse_at, refuse_if, refused};

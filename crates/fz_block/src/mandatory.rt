@@ -15,7 +15,7 @@ ghost use Rattle.fz_block.specs.Values.{has_size};
 use crate::Axes;
 use crate::axes::MAX_AXES;
 use crate::cards::{card, is_named};
-use crate::refused::refused;
+use crate::refusing::refused;
 use fz_base::{Fault, Kind, Place};
 use fz_card::{FIELD_LEN, Name, numbered};
 

@@ -15,7 +15,7 @@ use crate::blocks::BLOCK_LEN;
 use crate::cards::{CARD_LEN, card, end_card, is_set};
 use crate::header::whole_blocks;
 use crate::mandatory::{Mandatory, mandatory_cards};
-use crate::refused::refused;
+use crate::refusing::refused;
 use crate::{Axes, Header, Sort};
 use fz_base::{Fault, Kind, Place, Source, Stop};
 use fz_card::{FIELD_LEN, Name};

@@ -27,6 +27,7 @@ mod sieve;
 mod sieving;
 mod sizes;
 mod tile_parts;
+mod volumes;
 
 pub use cutout_laws::{cutout_law, picked_tiles_law};
 pub use grid::{Grid, tile_counts};
@@ -46,3 +47,4 @@ pub use sieve::{Sieve, pick_along, picks_along};
 pub use sieving::SieveTiles;
 pub use sizes::volume;
 pub use tile_parts::{cutout_axes, tile_lines, whole_lines};
+pub use volumes::{has_more_places, has_more_tiles};
