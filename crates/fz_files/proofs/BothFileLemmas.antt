@@ -24,8 +24,8 @@ use Rattle.fz_table.specs.declared.table.Table.{Table}
 use Rattle.fz_tile.specs.Record.{Means}
 use Rattle.fz_tile.specs.declared.codec.Codec.TheVariants as codec
 use Rattle.fz_tile.specs.declared.coded.Place2.TheVariants as place
-use Rattle.fz_head.specs.JobChecks.{image_checks, unpack_hdu_checks}
-use Rattle.fz_head.specs.Judges.{unpack_judge}
+use Rattle.fz_checks.specs.JobChecks.{image_checks, unpack_hdu_checks}
+use Rattle.fz_checks.specs.Judges.{unpack_judge}
 use Rattle.fz_head.specs.Packable.{is_packed}
 use Rattle.fz_head.specs.PackedChecks.{packed_checks}
 use Rattle.fz_head.specs.PackedPlan.{plan_of_cards}

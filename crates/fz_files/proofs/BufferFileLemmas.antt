@@ -6,9 +6,9 @@ use Rattle.fz_base.specs.Takings.{piled}
 use Rattle.fz_card.specs.Reading.{logical_of}
 use Rattle.fz_block.specs.Cards.{end_among}
 use Rattle.fz_block.specs.Checks.{header_blocks_of}
-use Rattle.fz_head.specs.Greatest.{greatest}
-use Rattle.fz_head.specs.Judges.{unpack_judge}
-use Rattle.fz_head.specs.WorkBuffers.{pixels_of_tile}
+use Rattle.fz_checks.specs.Greatest.{greatest}
+use Rattle.fz_checks.specs.Judges.{unpack_judge}
+use Rattle.fz_checks.specs.WorkBuffers.{pixels_of_tile}
 use Rattle.fz_files.specs.declared.job.Job.TheVariants.{Unpack}
 use Rattle.fz_files.specs.BufferFile.{unpack_bound, unpack_takings}
 use Rattle.fz_files.specs.Buffers.{header_len, header_takings, job_bound, job_buffers, job_takings, largest_tile, longest_header, plans_behind, work_takings}

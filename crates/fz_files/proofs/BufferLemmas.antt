@@ -8,7 +8,7 @@ use Rattle.fz_block.specs.Checks.{Judge, header_blocks_of, hdu_at}
 use Rattle.fz_block.specs.Header.{next_start_of}
 use Rattle.fz_block.specs.Takings.{header_taking, where_going_on, for_those_after, walk_takings}
 use Rattle.fz_block.specs.declared.header.Header.{Header}
-use Rattle.fz_head.specs.Greatest.{greatest}
+use Rattle.fz_checks.specs.Greatest.{greatest}
 use Rattle.fz_head.specs.declared.options.CodecWord.{CodecWord}
 use Rattle.fz_head.specs.declared.options.CodecWord.TheVariants as word
 use Rattle.fz_files.specs.declared.job.Job.{Job}

@@ -23,8 +23,8 @@ use Rattle.fz_table.specs.Reads.{tile_ranges}
 use Rattle.fz_table.specs.Records.{record_of}
 use Rattle.fz_table.specs.Tables.{table_checks}
 use Rattle.fz_table.specs.declared.table.Table.{Table}
-use Rattle.fz_head.specs.JobChecks.{box_checks, cut_hdu_checks, image_checks, missing_hdu, packed_card_checks}
-use Rattle.fz_head.specs.Judges.{cut_judge}
+use Rattle.fz_checks.specs.JobChecks.{box_checks, cut_hdu_checks, image_checks, missing_hdu, packed_card_checks}
+use Rattle.fz_checks.specs.Judges.{cut_judge}
 use Rattle.fz_head.specs.Packable.{is_packed}
 use Rattle.fz_head.specs.PackedChecks.{packed_checks}
 use Rattle.fz_head.specs.PackedPlan.{plan_of_cards}

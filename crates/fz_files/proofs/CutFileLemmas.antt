@@ -30,8 +30,8 @@ use Rattle.fz_table.specs.Tables.{table_checks}
 use Rattle.fz_table.specs.declared.record.Record.{Record}
 use Rattle.fz_table.specs.declared.record.TileColumn.TheVariants as column
 use Rattle.fz_table.specs.declared.table.Table.{Table}
-use Rattle.fz_head.specs.JobChecks.{cut_hdu_checks, packed_card_checks, image_checks, box_checks, missing_hdu}
-use Rattle.fz_head.specs.Judges.{cut_judge}
+use Rattle.fz_checks.specs.JobChecks.{cut_hdu_checks, packed_card_checks, image_checks, box_checks, missing_hdu}
+use Rattle.fz_checks.specs.Judges.{cut_judge}
 use Rattle.fz_head.specs.Packable.{is_packed}
 use Rattle.fz_head.specs.PackedChecks.{packed_checks}
 use Rattle.fz_head.specs.PackedPlan.{plan_of_cards}

@@ -14,7 +14,7 @@ use Rattle.fz_block.specs.Cards.{end_among, first_among}
 use Rattle.fz_block.specs.Checks.{header_blocks_of, header_of, hdu_at}
 use Rattle.fz_block.specs.declared.header.Header.{Header}
 use Rattle.fz_block.specs.declared.header.Sort.TheVariants.{Primary}
-use Rattle.fz_head.specs.Judges.{pack_judge, unpack_judge}
+use Rattle.fz_checks.specs.Judges.{pack_judge, unpack_judge}
 use Rattle.fz_head.specs.Packable.{is_packable, is_packed}
 use Rattle.fz_head.specs.PackedHeader.{packed_header}
 use Rattle.fz_head.specs.Planned.{pack_plan_of}

@@ -13,8 +13,8 @@ use Rattle.fz_block.specs.declared.header.Header.{Header}
 use Rattle.fz_grid.specs.declared.region.Region.{Region}
 use Rattle.fz_table.specs.Columns.{field_count}
 use Rattle.fz_table.specs.Tables.{column_checks, form_checks, heap_checks, table_checks, width_checks}
-use Rattle.fz_head.specs.JobChecks.{already_packed, axis_inside, box_checks, cut_checks, cut_hdu_checks, data_fill, fill_in, image_checks, is_after_empty, not_packed, packed_card_checks, pack_hdu_checks, unpack_checks, unpack_hdu_checks}
-use Rattle.fz_head.specs.Judges.{is_wanted}
+use Rattle.fz_checks.specs.JobChecks.{already_packed, axis_inside, box_checks, cut_checks, cut_hdu_checks, data_fill, fill_in, image_checks, is_after_empty, not_packed, packed_card_checks, pack_hdu_checks, unpack_checks, unpack_hdu_checks}
+use Rattle.fz_checks.specs.Judges.{is_wanted}
 use Rattle.fz_head.specs.PackChecks.{pack_checks}
 use Rattle.fz_head.specs.Packable.{is_packable, is_packed, is_table}
 use Rattle.fz_head.specs.PackedChecks.{axis_checks as image_axis_checks, block_checks as parameter_block_checks, bytepix_checks, grid_check, line_list_check, packed_checks, parameter_checks, row_check, shape_checks, sort_checks, tile_check}

@@ -16,9 +16,9 @@ use Rattle.fz_tile.specs.Laws.{StandsUnrefused, IsRefusedOnce}
 use Rattle.fz_tile.specs.Pixels.{IsBitpix}
 use Rattle.fz_tile.specs.Refusals.{IsFault}
 use Rattle.fz_tile.specs.declared.codec.Codec.{Codec}
-use Rattle.fz_head.specs.JobChecks.{cut_hdu_checks, missing_hdu}
-use Rattle.fz_head.specs.Judges.{unpack_judge, cut_judge}
-use Rattle.fz_head.specs.TileKinds.{kind_of_tile}
+use Rattle.fz_checks.specs.JobChecks.{cut_hdu_checks, missing_hdu}
+use Rattle.fz_checks.specs.Judges.{unpack_judge, cut_judge}
+use Rattle.fz_checks.specs.TileKinds.{kind_of_tile}
 use Rattle.fz_head.specs.declared.plan.Plan.{Plan}
 use Rattle.fz_files.specs.declared.job.Job.{Job}
 use Rattle.fz_files.specs.declared.job.Job.TheVariants.{Pack, Unpack, Cut, Verify, List as ListHdus, Drill, Retile}

@@ -19,8 +19,8 @@ use Rattle.fz_table.specs.Forms.{elements_len, form_in}
 use Rattle.fz_table.specs.Records.{record_at, record_of}
 use Rattle.fz_table.specs.Tables.{table_checks}
 use Rattle.fz_table.specs.declared.table.Table.{Table}
-use Rattle.fz_head.specs.JobChecks.{image_checks, unpack_hdu_checks}
-use Rattle.fz_head.specs.Judges.{pack_judge, unpack_judge}
+use Rattle.fz_checks.specs.JobChecks.{image_checks, unpack_hdu_checks}
+use Rattle.fz_checks.specs.Judges.{pack_judge, unpack_judge}
 use Rattle.fz_head.specs.Packable.{is_packable, is_packed}
 use Rattle.fz_head.specs.PackedChecks.{packed_checks}
 use Rattle.fz_head.specs.PackedPlan.{plan_of_cards}

@@ -13,8 +13,8 @@ use Rattle.fz_block.specs.Checks.{header_blocks_of, header_of, hdu_at, unless_re
 use Rattle.fz_grid.specs.Grid.{tile}
 use Rattle.fz_table.specs.Records.{record_at, record_of}
 use Rattle.fz_table.specs.Tables.{table_checks}
-use Rattle.fz_head.specs.JobChecks.{image_checks, unpack_hdu_checks}
-use Rattle.fz_head.specs.Judges.{unpack_judge}
+use Rattle.fz_checks.specs.JobChecks.{image_checks, unpack_hdu_checks}
+use Rattle.fz_checks.specs.Judges.{unpack_judge}
 use Rattle.fz_head.specs.Packable.{is_packed}
 use Rattle.fz_head.specs.PackedChecks.{packed_checks}
 use Rattle.fz_head.specs.TableChecks.{table_card_checks}

@@ -10,8 +10,8 @@ use Rattle.fz_block.specs.Walk.{AreHeadersBetween, RefusesNone, is_stop, stops}
 use Rattle.fz_block.specs.declared.header.Header.{Header}
 use Rattle.fz_grid.specs.declared.region.Region.{Region}
 use Rattle.fz_grid.specs.declared.sieve.Sieve.{Sieve}
-use Rattle.fz_head.specs.JobChecks.{IsImageOf, image_in, is_after_empty, cut_checks, cut_hdu_checks, unpack_checks, unpack_hdu_checks}
-use Rattle.fz_head.specs.Judges.{unpack_judge, cut_judge, is_wanted}
+use Rattle.fz_checks.specs.JobChecks.{IsImageOf, image_in, is_after_empty, cut_checks, cut_hdu_checks, unpack_checks, unpack_hdu_checks}
+use Rattle.fz_checks.specs.Judges.{unpack_judge, cut_judge, is_wanted}
 use Rattle.fz_head.specs.Packable.{is_packed}
 use Rattle.fz_files.specs.Restored.{header_in, is_image}
 use Rattle.fz_files.specs.Walks.{box_of, last_of}

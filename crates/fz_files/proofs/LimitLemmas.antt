@@ -15,13 +15,13 @@ use Rattle.fz_block.specs.Walk.{RefusesNone}
 use Rattle.fz_block.specs.declared.header.Header.{Header}
 use Rattle.fz_grid.specs.Arrays.{product}
 use Rattle.fz_grid.specs.Region.{lengths_of}
-use Rattle.fz_head.specs.Greatest.{greatest}
-use Rattle.fz_head.specs.JobChecks.{already_packed, data_fill, fill_in, pack_hdu_checks}
-use Rattle.fz_head.specs.Judges.{pack_judge, unpack_judge}
+use Rattle.fz_checks.specs.Greatest.{greatest}
+use Rattle.fz_checks.specs.JobChecks.{already_packed, data_fill, fill_in, pack_hdu_checks}
+use Rattle.fz_checks.specs.Judges.{pack_judge, unpack_judge}
 use Rattle.fz_head.specs.PackChecks.{limit_checks, name_checks, offset_check, pack_checks}
 use Rattle.fz_head.specs.Packable.{is_packable}
 use Rattle.fz_head.specs.Planned.{pack_plan_of}
-use Rattle.fz_head.specs.WorkBuffers.{pixels_of_tile}
+use Rattle.fz_checks.specs.WorkBuffers.{pixels_of_tile}
 use Rattle.fz_head.specs.declared.options.PackOptions.{PackOptions}
 use Rattle.fz_head.specs.declared.plan.Plan.{Plan}
 use Rattle.fz_files.specs.declared.job.Job.{Job}

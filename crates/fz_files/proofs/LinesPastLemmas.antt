@@ -19,8 +19,8 @@ use Rattle.fz_sum.specs.declared.verdicts.Verdict.TheVariants.{Absent}
 use Rattle.fz_table.specs.Columns.{first_named, columns_len, column_called}
 use Rattle.fz_table.specs.Forms.{elements_len, form_in}
 use Rattle.fz_table.specs.Records.{record_at, record_of}
-use Rattle.fz_head.specs.JobChecks.{unpack_hdu_checks}
-use Rattle.fz_head.specs.Judges.{unpack_judge}
+use Rattle.fz_checks.specs.JobChecks.{unpack_hdu_checks}
+use Rattle.fz_checks.specs.Judges.{unpack_judge}
 use Rattle.fz_head.specs.Packable.{is_packed}
 use Rattle.fz_files.specs.declared.job.Job.TheVariants.{Verify}
 use Rattle.fz_files.specs.FirstFault.{IsFirstFault, IsFaultBehind, IsFirstRowFault, all_rows, image_row, rows_of}

@@ -12,7 +12,7 @@ use Rattle.fz_block.specs.Header.{next_start_of}
 use Rattle.fz_block.specs.Mandatory.{mandatory_checks}
 use Rattle.fz_block.specs.Walk.{hdu_of}
 use Rattle.fz_block.specs.declared.header.Header.{Header}
-use Rattle.fz_head.specs.Judges.{cut_judge, pack_judge, unpack_judge}
+use Rattle.fz_checks.specs.Judges.{cut_judge, pack_judge, unpack_judge}
 use Rattle.fz_files.specs.declared.job.Job.{Job}
 use Rattle.fz_files.specs.declared.job.Job.TheVariants.{Pack, Unpack, Cut, Verify, List as ListHdus, Drill, Retile}
 use Rattle.fz_files.specs.Cutout.{header_range}

@@ -19,7 +19,7 @@ use Rattle.fz_tile.specs.declared.codec.Codec.{Codec}
 use Rattle.fz_tile.specs.declared.coded.Place2.{Place2}
 use Rattle.fz_table.specs.Records.{record_bytes}
 use Rattle.fz_table.specs.declared.record.Record.{Record}
-use Rattle.fz_head.specs.Judges.{unpack_judge}
+use Rattle.fz_checks.specs.Judges.{unpack_judge}
 use Rattle.fz_head.specs.PackedPlan.{plan_of_cards, said_axes, said_tile, tile_along}
 use Rattle.fz_head.specs.PlainHeader.{axis_count}
 use Rattle.fz_head.specs.declared.plan.Plan.{Plan}

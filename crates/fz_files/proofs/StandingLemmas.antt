@@ -13,8 +13,8 @@ use Rattle.fz_block.specs.Checks.{unless_refused, walk_of}
 use Rattle.fz_grid.specs.Region.{lengths_of}
 use Rattle.fz_grid.specs.Grid.{tile}
 use Rattle.fz_table.specs.declared.table.Table.{Table}
-use Rattle.fz_head.specs.JobChecks.{image_checks, unpack_hdu_checks}
-use Rattle.fz_head.specs.Judges.{unpack_judge}
+use Rattle.fz_checks.specs.JobChecks.{image_checks, unpack_hdu_checks}
+use Rattle.fz_checks.specs.Judges.{unpack_judge}
 use Rattle.fz_head.specs.Packable.{is_packed}
 use Rattle.fz_head.specs.PackedChecks.{packed_checks}
 use Rattle.fz_head.specs.PlainHeader.{plain_header, was_primary}

@@ -21,7 +21,7 @@ use Rattle.fz_tile.specs.TileCode.{AreElements, TileCode, code_of, shorter, tile
 use Rattle.fz_tile.specs.declared.codec.Codec.{Codec}
 use Rattle.fz_tile.specs.declared.codec.Codec.TheVariants.{Rice, Plio, Plain}
 use Rattle.fz_tile.specs.declared.coded.Place2.TheVariants as place
-use Rattle.fz_head.specs.Greatest.{greatest}
+use Rattle.fz_checks.specs.Greatest.{greatest}
 use Rattle.fz_head.specs.PackedTable.{coded_unit}
 use Rattle.fz_head.specs.Planned.{pixel_len}
 use Rattle.fz_head.specs.declared.plan.Plan.{Plan}

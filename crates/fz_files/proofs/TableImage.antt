@@ -35,8 +35,8 @@ use Rattle.fz_tile.specs.declared.codec.Codec.{Codec}
 use Rattle.fz_bits.specs.Numbers.{IsNumber}
 use Rattle.fz_head.specs.Accepted.{IsAccepted}
 use Rattle.fz_head.specs.Conditions.{AreShort}
-use Rattle.fz_head.specs.Greatest.{greatest}
-use Rattle.fz_head.specs.JobChecks.{IsImageToPack, fill_in}
+use Rattle.fz_checks.specs.Greatest.{greatest}
+use Rattle.fz_checks.specs.JobChecks.{IsImageToPack, fill_in}
 use Rattle.fz_head.specs.PackChecks.{limit_checks, name_checks, offset_check, pack_answer, pack_checks}
 use Rattle.fz_head.specs.Packable.{has_integers, is_image as is_image_sort, is_primary, is_packable}
 use Rattle.std.specs.List.{list_all}

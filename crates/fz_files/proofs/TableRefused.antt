@@ -8,16 +8,16 @@ use Rattle.fz_base.specs.declared.fault.Place.TheVariants.{Card}
 use Rattle.fz_base.specs.declared.kind.Kind.TheVariants.{AlreadyPacked}
 use Rattle.fz_card.specs.Made.{int_card_bytes, logical_card_bytes, numbered_name, text_card_bytes}
 use Rattle.fz_card.specs.Reading.{logical_of}
-use Rattle.fz_block.specs.Checks.{unless_refused}
+use Rattle.fz_block.specs.Checks.{unless_refused, refused_at}
 use Rattle.fz_block.specs.Facts.{facts_of}
 use Rattle.fz_block.specs.Hdus.{Hdu, cards_of}
 use Rattle.fz_block.specs.Walk.{hdu_of}
 use Rattle.fz_block.specs.declared.header.Header.{Header}
 use Rattle.fz_head.specs.Accepted.{IsAccepted}
-use Rattle.fz_head.specs.JobChecks.{already_packed, data_fill, fill_in, says_packed}
-use Rattle.fz_head.specs.Judges.{pack_judge}
+use Rattle.fz_checks.specs.JobChecks.{already_packed, data_fill, fill_in, says_packed}
+use Rattle.fz_checks.specs.Judges.{pack_judge}
 use Rattle.fz_head.specs.Packable.{is_packable, is_table}
-use Rattle.fz_head.specs.PackChecks.{pack_checks, refused_at}
+use Rattle.fz_head.specs.PackChecks.{pack_checks}
 use Rattle.fz_head.specs.PackedHeader.{packed_with}
 use Rattle.fz_head.specs.Planned.{pack_plan_of}
 use Rattle.fz_head.specs.declared.options.PackOptions.{PackOptions}

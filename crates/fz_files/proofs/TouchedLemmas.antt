@@ -24,8 +24,8 @@ use Rattle.fz_table.specs.declared.record.Record.{Record}
 use Rattle.fz_table.specs.declared.record.Tile.{Tile}
 use Rattle.fz_table.specs.declared.row.Row.{Row}
 use Rattle.fz_table.specs.declared.table.Table.{Table}
-use Rattle.fz_head.specs.JobChecks.{box_checks, cut_hdu_checks, image_checks, is_after_empty, packed_card_checks}
-use Rattle.fz_head.specs.Judges.{cut_judge}
+use Rattle.fz_checks.specs.JobChecks.{box_checks, cut_hdu_checks, image_checks, is_after_empty, packed_card_checks}
+use Rattle.fz_checks.specs.Judges.{cut_judge}
 use Rattle.fz_head.specs.PackedChecks.{packed_checks}
 use Rattle.fz_files.specs.declared.job.Job.TheVariants.{Cut}
 use Rattle.fz_files.specs.Cutout.{header_range, ranges_of_row, rows_touched, touched}

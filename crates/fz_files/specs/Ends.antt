@@ -9,7 +9,7 @@ use Rattle.fz_block.specs.Checks.{Judge, hdu_at, unjudged}
 use Rattle.fz_block.specs.Header.{next_start_of}
 use Rattle.fz_block.specs.declared.header.Header.{Header}
 use Rattle.fz_grid.specs.declared.sieve.Sieve.{Sieve}
-use Rattle.fz_head.specs.Judges.{cut_judge, pack_judge, unpack_judge}
+use Rattle.fz_checks.specs.Judges.{cut_judge, pack_judge, unpack_judge}
 use Rattle.fz_files.specs.declared.job.Job.{Job}
 use Rattle.fz_files.specs.declared.job.Job.TheVariants.{Pack, Unpack, Cut, Verify, List as ListHdus, Drill, Retile}
 use Rattle.fz_files.specs.Buffers.{largest_tile, longest_header}

@@ -13,7 +13,7 @@ use Rattle.fz_table.specs.Records.{record_at, record_bytes}
 use Rattle.fz_table.specs.declared.record.Record.{Record}
 use Rattle.fz_tile.specs.Refusals.{IsFault}
 use Rattle.fz_tile.specs.declared.fault.TileFault.{TileFault}
-use Rattle.fz_head.specs.TileKinds.{kind_of_tile}
+use Rattle.fz_checks.specs.TileKinds.{kind_of_tile}
 use Rattle.fz_head.specs.declared.plan.Plan.{Plan}
 use Rattle.fz_files.specs.declared.job.Job.{Job}
 use Rattle.fz_files.specs.declared.job.Job.TheVariants.{Pack, Unpack, Cut, Verify, List as ListHdus, Drill, Retile}

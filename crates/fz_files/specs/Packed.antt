@@ -22,7 +22,7 @@ use Rattle.fz_head.specs.declared.plan.Plan.{Plan}
 use Rattle.fz_head.specs.declared.totals.Totals.{Totals}
 use Rattle.fz_head.specs.Packable.{is_packable}
 use Rattle.fz_head.specs.EmptyPrimary.{empty_primary}
-use Rattle.fz_head.specs.Greatest.{greatest}
+use Rattle.fz_checks.specs.Greatest.{greatest}
 use Rattle.fz_head.specs.PackedHeader.{packed_header}
 use Rattle.fz_head.specs.PackedTable.{coded_unit}
 use Rattle.fz_head.specs.Planned.{pack_plan_of, pixel_len}

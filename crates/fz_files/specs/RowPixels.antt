@@ -8,7 +8,7 @@ use Rattle.fz_block.specs.declared.header.Header.{Header}
 use Rattle.fz_table.specs.Records.{record_at, record_bytes}
 use Rattle.fz_table.specs.declared.record.Record.{Record}
 use Rattle.fz_tile.specs.declared.fault.TileFault.{TileFault}
-use Rattle.fz_head.specs.TileKinds.{kind_of_tile}
+use Rattle.fz_checks.specs.TileKinds.{kind_of_tile}
 use Rattle.fz_files.specs.Packed.{pixel_bits}
 use Rattle.fz_files.specs.RecordPixels.{record_pixels}
 use Rattle.fz_files.specs.Restored.{image_table, pixels_of, place_in, plan_in, tile_of}

@@ -5,7 +5,7 @@ use Rattle.fz_base.specs.declared.fault.Fault.{Fault}
 use Rattle.fz_block.specs.Checks.{hdu_at}
 use Rattle.fz_block.specs.Header.{data_start_of, next_start_of}
 use Rattle.fz_block.specs.declared.header.Header.{Header}
-use Rattle.fz_head.specs.JobChecks.{data_end_of}
+use Rattle.fz_checks.specs.JobChecks.{data_end_of}
 use Rattle.fz_head.specs.Packable.{is_packable}
 use Rattle.fz_files.specs.Cutout.{ranges_of_row, touched}
 use Rattle.fz_files.specs.FirstFault.{rows_of}

@@ -9,8 +9,8 @@ use Rattle.fz_block.specs.declared.header.Header.{Header}
 use Rattle.fz_grid.specs.Sieve.{sieve_lo, sieve_hi}
 use Rattle.fz_grid.specs.declared.region.Region.{Region}
 use Rattle.fz_grid.specs.declared.sieve.Sieve.{Sieve}
-use Rattle.fz_head.specs.JobChecks.{missing_hdu}
-use Rattle.fz_head.specs.Judges.{pack_judge, unpack_judge, cut_judge}
+use Rattle.fz_checks.specs.JobChecks.{missing_hdu}
+use Rattle.fz_checks.specs.Judges.{pack_judge, unpack_judge, cut_judge}
 use Rattle.fz_files.specs.declared.job.Job.{Job}
 use Rattle.fz_files.specs.declared.job.Job.TheVariants.{Pack, Unpack, Cut, Verify, List as ListHdus, Drill, Retile}
 

@@ -3,7 +3,7 @@ ghost use Rattle.fz_files.specs.Ends.{CutsLieWithin, HeadersAreShort, ListHasNoT
 ghost use Rattle.fz_files.specs.Laws.{RowsLieWithin};
 
 use fz_block::{hdu_at_law, walk_law};
-use fz_head::packed_image_law;
+use fz_checks::packed_image_law;
 
 /// If the headers of a file have a fault for a job, the last HDU that its checks come to is the one that is rejected,
 /// and the fault is one of this HDU; or there are more HDUs than a job may look at, or the HDU that a part is cut from is

@@ -6,11 +6,9 @@ ghost use Rattle.fz_files.specs.Laws.{ReachedLieWithin, StandsForOneFile, Tables
 ghost use Rattle.fz_files.specs.Laws.{TablesPass, TablesStandForImages, TablesWerePrimary, VerifyRefusesAsUnpack};
 
 use fz_block::{cards_law, found_law, hdu_at_law, walk_law};
+use fz_checks::{image_to_pack_law, packed_image_law, plan_to_pack_law, primary_law};
 use fz_grid::{picked_tiles_law, shape_law, tile_pixels_law, tiles_law};
-use fz_head::{
-    accepted_law, image_to_pack_law, packed_image_law, plan_to_pack_law, primary_law,
-    sum_cards_law, there_and_back_law, whole_cards_law,
-};
+use fz_head::{accepted_law, sum_cards_law, there_and_back_law, whole_cards_law};
 use fz_sum::sum_law;
 use fz_table::descriptor_law;
 use fz_tile::{column_law, one_fault_law, one_record_law, plain_law, slice_law, tile_code_law};

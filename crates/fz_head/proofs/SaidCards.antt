@@ -1,25 +1,18 @@
 -- The first card of a name, by its index and by itself.
 use Rattle.std.proofs.Common.{◌≡◌, ℕ, zero, suc, ◌+◌, ◌*◌, Bool, true, false, cond, ltb, not, List, [], ◌∷◌, length, drop, map, refl, ap, sym, ◌∙◌, arith}
-use Rattle.std.specs.Prelude.{Option, Some, None, IfNone, IfSome, is_none, unwrap_or}
+use Rattle.std.specs.Prelude.{Option, Some, None, IfNone, IfSome, unwrap_or}
 use Rattle.std.specs.Option.{option_map, option_to_list}
 use Rattle.std.specs.List.{find, position, position_or_len, range_with_len}
 use Rattle.std.proofs.lemmas.Bool.{lt-ltb}
 use Rattle.std.proofs.lemmas.Bool.Decides.{nat_tests}
 use Rattle.std.proofs.lemmas.List.{drop-drop}
-use Rattle.fz_base.specs.Refusal.{first_refusal, refusal}
-use Rattle.fz_base.specs.declared.fault.Place.TheVariants.{Card}
-use Rattle.fz_base.specs.declared.kind.Kind.TheVariants.{BadCard}
 use Rattle.fz_card.specs.Reading.{integer_of, logical_of, text_of}
 use Rattle.fz_card.specs.CardLists.{has_name}
 use Rattle.fz_block.specs.Cards.{card_at, end_of, first_among}
-use Rattle.fz_block.specs.Facts.{IsHeaderOf}
-use Rattle.fz_block.specs.declared.header.Header.{Header}
 use Rattle.fz_block.specs.Hdus.{cards_of}
 use Rattle.fz_table.specs.Columns.{first_named}
 use Rattle.fz_head.specs.CardLists.{index_of, the_card}
-use Rattle.fz_head.specs.PackedChecks.{missing}
 use Rattle.fz_head.proofs.FoundCards.{named-cards}
-use Rattle.fz_head.proofs.PackAnswers.{cards-count}
 
 one-later : (b : Bool) (n : ℕ) → cond b (Some (1 + n)) None ≡ option_map suc (cond b (Some n) None)
 one-later true n = let e : 1 + n ≡ suc n = omega arith in ap Some e
@@ -80,9 +73,3 @@ unfolding text_of
 text-nothing = refl
 
 pub ruleset nothing_said = (integer-nothing, logical-nothing, text-nothing)
-
--- a card that must be there is not
-pub missing-found : (k : ℕ) (header name : List ℕ) (h : Header) → IsHeaderOf header h → None ≡ index_of name (cards_of header) → first_refusal (missing k name (cards_of header) ∷ []) ≡ Some (refusal k (Card h.cards) BadCard)
-missing-found k header name h is e =
-    ap (λ o. first_refusal ((is_none o, refusal k (Card (length (cards_of header))) BadCard) ∷ [])) (sym e)
-    ∙ ap (λ n. Some (refusal k (Card n) BadCard)) (cards-count header h is)

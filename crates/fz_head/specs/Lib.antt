@@ -3,9 +3,6 @@ pub mod Along
 pub mod CardLists
 pub mod Conditions
 pub mod EmptyPrimary
-pub mod Greatest
-pub mod JobChecks
-pub mod Judges
 pub mod Once
 pub mod PackChecks
 pub mod Packable
@@ -19,6 +16,4 @@ pub mod Repeats
 pub mod SumCards
 pub mod TableChecks
 pub mod ThereAndBack
-pub mod TileKinds
-pub mod WorkBuffers
 pub mod Written

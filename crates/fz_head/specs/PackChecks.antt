@@ -6,14 +6,13 @@ use Rattle.std.specs.Str.{byte}
 use Rattle.fz_base.specs.Refusal.{refusal, first_refusal}
 use Rattle.fz_base.specs.declared.fault.Fault.{Fault}
 use Rattle.fz_base.specs.declared.fault.Place.TheVariants.{Byte, Card}
-use Rattle.fz_base.specs.declared.kind.Kind.{Kind}
 use Rattle.fz_base.specs.declared.kind.Kind.TheVariants.{Duplicate, HeaderFill, Limit, PlioOffset, Reserved}
 use Rattle.fz_card.specs.Layout.{card_name}
 use Rattle.fz_card.specs.Naming.{is_reserved, is_in}
 use Rattle.fz_card.specs.Reading.{zero_of, has_text}
 use Rattle.fz_card.specs.Tables.Names.{Numbered}
 use Rattle.fz_block.specs.Cards.{is_named}
-use Rattle.fz_block.specs.Checks.{unless_refused}
+use Rattle.fz_block.specs.Checks.{refused_at, unless_refused}
 use Rattle.fz_block.specs.Hdus.{behind_end, cards_of}
 use Rattle.fz_block.specs.declared.header.Header.{Header}
 use Rattle.fz_grid.specs.Arrays.{product}
@@ -28,10 +27,6 @@ use Rattle.fz_head.specs.Packable.{is_primary}
 use Rattle.fz_head.specs.PackedHeader.{packed_header}
 use Rattle.fz_head.specs.Planned.{pack_plan_of}
 use Rattle.fz_head.specs.Repeats.{first_repeat, image_names, itself}
-
--- if there is a card of this property, the header is refused at it
-abbrev pub refused_at : ℕ → Option ℕ → Kind → Bool × Fault
-refused_at k found kind = (is_some found, refusal k (Card (unwrap_or found 0)) kind)
 
 -- the card that says what the other sort of image is
 abbrev pub is_of_other_sort : Bool → List ℕ → Bool

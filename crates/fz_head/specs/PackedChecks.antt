@@ -15,13 +15,13 @@ use Rattle.fz_card.specs.Made.{numbered_name}
 use Rattle.fz_card.specs.Naming.{number_behind, up_to}
 use Rattle.fz_card.specs.Reading.{integer_of, logical_of, text_of, is_text}
 use Rattle.fz_block.specs.Cards.{is_named}
-use Rattle.fz_block.specs.Checks.{unless_refused}
+use Rattle.fz_block.specs.Checks.{unless_refused, refused_at}
 use Rattle.fz_block.specs.Hdus.{cards_of, size_at, size_in}
 use Rattle.fz_grid.specs.Arrays.{product}
 use Rattle.fz_grid.specs.Grid.{tile_count}
 use Rattle.fz_head.specs.declared.plan.Plan.{Plan}
 use Rattle.fz_head.specs.CardLists.{index_of}
-use Rattle.fz_head.specs.PackChecks.{is_offset, refused_at}
+use Rattle.fz_head.specs.PackChecks.{is_offset}
 use Rattle.fz_head.specs.PackedPlan.{word_in, numbered_in, size_of, said_axes, said_tile, parameter_number}
 use Rattle.fz_head.specs.PackedPlan.{is_codec_name, is_plain_name, is_plio_name, is_rice_name, said_codec, plan_of_cards}
 use Rattle.fz_head.specs.PlainHeader.{axis_count}

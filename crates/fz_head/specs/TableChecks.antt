@@ -5,11 +5,10 @@ use Rattle.fz_base.specs.Refusal.{refusal}
 use Rattle.fz_base.specs.declared.fault.Fault.{Fault}
 use Rattle.fz_base.specs.declared.fault.Place.TheVariants.{Card}
 use Rattle.fz_base.specs.declared.kind.Kind.TheVariants.{CompressedTable, Duplicate}
-use Rattle.fz_block.specs.Checks.{is_set}
+use Rattle.fz_block.specs.Checks.{is_set, refused_at}
 use Rattle.fz_block.specs.Hdus.{cards_of}
 use Rattle.fz_block.specs.declared.header.Header.{Header}
 use Rattle.fz_head.specs.Packable.{is_packed}
-use Rattle.fz_head.specs.PackChecks.{refused_at}
 use Rattle.fz_head.specs.Repeats.{first_repeat, table_names, counted_name}
 
 -- the table is not a compressed one

@@ -10,21 +10,21 @@ use fz_block::card;
 use fz_card::{Card, Name};
 
 /// Whether the card has this name.
-pub(crate) fn has_name(card: &Card, name: &Name) -> bool
+pub fn has_name(card: &Card, name: &Name) -> bool
     ensures { result ≡ has_name name.now.bytes card.now.bytes }
 {
     card.name() == *name
 }
 
 /// Whether the card has this name and the value T.
-pub(crate) fn is_set(card: &Card, name: &Name) -> bool
+pub fn is_set(card: &Card, name: &Name) -> bool
     ensures { result ≡ (has_name name.now.bytes card.now.bytes && unwrap_or (logical_of card.now.bytes) false) }
 {
     has_name(card, name) && card.logical().unwrap_or(false)
 }
 
 /// The index of the first of so many cards that has this name and the value T.
-pub(crate) fn first_set(buf: &[u8], cards: u32, name: &Name) -> Option<u32>
+pub fn first_set(buf: &[u8], cards: u32, name: &Name) -> Option<u32>
     requires { 80 * cards ≤ len buf.now }
     ensures { result ≡ position (λ c. has_name name.now.bytes c && unwrap_or (logical_of c) false) (first_cards buf.now cards) }
 {
@@ -44,7 +44,7 @@ fn is_offset(card: &Card) -> bool
 }
 
 /// The index of the first of so many cards that says an offset of the pixels that is not zero.
-pub(crate) fn first_offset(buf: &[u8], cards: u32) -> Option<u32>
+pub fn first_offset(buf: &[u8], cards: u32) -> Option<u32>
     requires { 80 * cards ≤ len buf.now }
     ensures { result ≡ position is_offset_of (first_cards buf.now cards) }
 {

@@ -65,7 +65,7 @@ pub fn is_packed(buf: &[u8], header: &Header) -> bool
 }
 
 /// Whether the HDU is a binary table.
-pub(crate) fn is_table(sort: Sort) -> bool
+pub fn is_table(sort: Sort) -> bool
     ensures { result ≡ is_table sort }
 {
     sort == Sort::BinTable

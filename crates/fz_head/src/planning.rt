@@ -17,25 +17,23 @@ ghost use Rattle.fz_head.specs.PackedHeader.{packed_header, parameter_cards, sum
 ghost use Rattle.fz_head.specs.Written.{first_cards};
 
 use crate::find::{first_offset, has_name};
-use crate::refused::{refuse_at, refuse_if, refused};
 use crate::repeats::{Once, first_repeat};
 use crate::tiles::cut_tile;
-use crate::volumes::{has_more_places, has_more_tiles};
 use crate::{CodecWord, PackOptions, Plan};
 use fz_base::{Fault, Kind, Place};
-use fz_block::{Axes, Header, Sort, card};
+use fz_block::{Axes, Header, Sort, card, refuse_at, refuse_if, refused};
 use fz_card::{CARD_LEN, Card, Name, is_numbered, is_reserved};
-use fz_grid::volume;
+use fz_grid::{has_more_places, has_more_tiles, volume};
 use fz_tile::Codec;
 
 /// The most pixels of a packed image.
-pub(crate) const MAX_PIXELS: u64 = 1 << 40;
+pub const MAX_PIXELS: u64 = 1 << 40;
 
 /// The most pixels of a tile.
-pub(crate) const MAX_TILE_PIXELS: u64 = 1 << 26;
+pub const MAX_TILE_PIXELS: u64 = 1 << 26;
 
 /// The most tiles of an image, which are the rows of its table.
-pub(crate) const MAX_TILES: u64 = 2_147_483_647;
+pub const MAX_TILES: u64 = 2_147_483_647;
 
 /// The most bytes that a descriptor of 32 bits is used for.
 const MAX_NARROW: u64 = 2_147_483_647;
@@ -84,7 +82,7 @@ fn plan_for(header: &Header, options: &PackOptions) -> Plan
 }
 
 /// Whether the plain bytes of an image pass 31 bits.
-pub(crate) fn is_wide(bitpix: i32, axes: &Axes) -> bool
+pub fn is_wide(bitpix: i32, axes: &Axes) -> bool
     requires { axes.now.n ≤ 9 }
     ensures { result ≡ is_wide_of bitpix (lengths_of axes.now) }
 {
@@ -254,7 +252,7 @@ fn check_header_fill(buf: &[u8], header: &Header) -> Result<(), Fault>
     let start = CARD_LEN * header.cards as usize + 3;
     match first_non_blank(buf.split_at(start).1) {
         Some(i) => Err(refused(
-            header,
+            header.hdu,
             Place::Byte(header.start + (start + i) as u64),
             Kind::HeaderFill,
         )),

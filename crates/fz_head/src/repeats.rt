@@ -13,13 +13,13 @@ use fz_card::{Name, is_numbered};
 
 /// The headers in which some names occur once: that of an image, and that of a packed table.
 #[derive(Clone, Copy)]
-pub(crate) enum Once {
+pub enum Once {
     Image,
     Table,
 }
 
 /// The index of the first of so many cards that repeats the name of an earlier one.
-pub(crate) fn first_repeat(buf: &[u8], cards: u32, of: Once) -> Option<u32>
+pub fn first_repeat(buf: &[u8], cards: u32, of: Once) -> Option<u32>
     requires { 80 * cards ≤ len buf.now }
     ensures { result ≡ first_repeat (once_names of) (name_in of) (first_cards buf.now cards) }
 {

@@ -8,7 +8,7 @@ use Rattle.fz_block.specs.Header.{data_start_of}
 use Rattle.fz_block.specs.declared.header.Header.{Header}
 use Rattle.fz_table.specs.Columns.{column_called, field_count}
 use Rattle.fz_table.specs.Tables.{coded_name, gzip_name, heap_start_of, row_count_of, row_len_of, rows_len_of, stored_name, table_in}
-use Rattle.fz_head.specs.JobChecks.{image_checks, is_after_empty, not_packed, packed_card_checks}
+use Rattle.fz_checks.specs.JobChecks.{image_checks, is_after_empty, not_packed, packed_card_checks}
 use Rattle.fz_head.specs.Packable.{is_packed, is_table}
 use Rattle.fz_head.specs.PackedPlan.{plan_of_cards}
 use Rattle.fz_head.specs.TableChecks.{compressed_table, repeated_table_names}

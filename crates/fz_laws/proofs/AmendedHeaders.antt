@@ -8,15 +8,14 @@ use Rattle.fz_base.specs.declared.kind.Kind.TheVariants.{CompressedTable, Duplic
 use Rattle.fz_card.specs.Laws.{CardLaws}
 use Rattle.fz_card.specs.Layout.{padded}
 use Rattle.fz_card.specs.Made.{numbered_name}
-use Rattle.fz_block.specs.Checks.{is_set}
+use Rattle.fz_block.specs.Checks.{is_set, refused_at}
 use Rattle.fz_block.specs.Facts.{IsHeaderOf, facts_of}
 use Rattle.fz_block.specs.Hdus.{cards_of, naxis_of, size_in}
 use Rattle.fz_block.specs.declared.header.Header.{Header}
 use Rattle.fz_grid.specs.Grid.{tile_count}
 use Rattle.fz_table.specs.Columns.{column_called, columns_len, describes, field_count, first_named, integer_at, is_called, is_from, title_of}
 use Rattle.fz_table.specs.Tables.{array_checks, bad_table, coded_name, column_checks, field_checks, form_checks, gzip_letters, gzip_name, heap_checks, heap_start_of, name_checks, row_len_of, rows_len_of, stored_name, table_checks, theap_card, tile_letters, width_checks}
-use Rattle.fz_head.specs.JobChecks.{image_checks, packed_card_checks}
-use Rattle.fz_head.specs.PackChecks.{refused_at}
+use Rattle.fz_checks.specs.JobChecks.{image_checks, packed_card_checks}
 use Rattle.fz_head.specs.Packable.{is_packed, is_table}
 use Rattle.fz_head.specs.PackedChecks.{packed_checks}
 use Rattle.fz_head.specs.Repeats.{counted_name, first_repeat, table_names}

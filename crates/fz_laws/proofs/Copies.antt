@@ -6,7 +6,7 @@ use Rattle.fz_block.specs.Facts.{facts_of}
 use Rattle.fz_block.specs.Hdus.{AreHdusOf, Hdu, cards_of, hdu_bytes}
 use Rattle.fz_block.specs.Walk.{hdu_of, stops}
 use Rattle.fz_block.specs.declared.header.Header.{Header}
-use Rattle.fz_head.specs.Judges.{unpack_judge}
+use Rattle.fz_checks.specs.Judges.{unpack_judge}
 use Rattle.fz_head.specs.Packable.{is_packable}
 use Rattle.fz_head.specs.PlainHeader.{was_primary}
 use Rattle.fz_head.specs.Planned.{pack_plan_of}

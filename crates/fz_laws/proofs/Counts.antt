@@ -13,7 +13,7 @@ use Rattle.fz_table.specs.declared.row.Row.{Row}
 use Rattle.fz_table.specs.declared.table.Table.{Table}
 use Rattle.fz_tile.specs.Plain.{AreBytes}
 use Rattle.fz_tile.specs.TileCode.{TileCode}
-use Rattle.fz_head.specs.Greatest.{greatest}
+use Rattle.fz_checks.specs.Greatest.{greatest}
 use Rattle.fz_head.specs.PackedTable.{coded_unit}
 use Rattle.fz_head.specs.Planned.{pixel_len}
 use Rattle.fz_head.specs.declared.plan.Plan.{Plan}

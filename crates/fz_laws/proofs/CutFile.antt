@@ -22,8 +22,8 @@ use Rattle.fz_table.specs.Tables.{table_checks}
 use Rattle.fz_tile.specs.Plain.{plain_bytes}
 use Rattle.fz_head.specs.Conditions.{IsPackedPlan}
 use Rattle.fz_head.specs.declared.plan.Plan.{Plan}
-use Rattle.fz_head.specs.JobChecks.{IsImageOf, box_checks, cut_checks, cut_hdu_checks, image_checks, image_in, is_after_empty, missing_hdu, packed_card_checks}
-use Rattle.fz_head.specs.Judges.{cut_judge, is_wanted}
+use Rattle.fz_checks.specs.JobChecks.{IsImageOf, box_checks, cut_checks, cut_hdu_checks, image_checks, image_in, is_after_empty, missing_hdu, packed_card_checks}
+use Rattle.fz_checks.specs.Judges.{cut_judge, is_wanted}
 use Rattle.fz_head.specs.PackedChecks.{packed_checks}
 use Rattle.fz_head.specs.PackedPlan.{plan_of_cards}
 use Rattle.fz_head.specs.PlainHeader.{axis_count, cutout_header}

@@ -20,8 +20,8 @@ use Rattle.fz_grid.specs.Overlap.{has_pixel}
 use Rattle.fz_grid.specs.Whole.{AreTiles, joined}
 use Rattle.fz_grid.specs.declared.sieve.Sieve.{Sieve}
 use Rattle.fz_grid.specs.Cutout.{picked_numbers}
-use Rattle.fz_head.specs.JobChecks.{IsImageOf, image_in}
-use Rattle.fz_head.specs.Judges.{cut_judge}
+use Rattle.fz_checks.specs.JobChecks.{IsImageOf, image_in}
+use Rattle.fz_checks.specs.Judges.{cut_judge}
 use Rattle.fz_head.specs.declared.plan.Plan.{Plan}
 use Rattle.fz_files.specs.Cutout.{AreCutFrom, PickedRowsStandFor}
 use Rattle.fz_files.specs.CutoutBytes.{cutout_bytes}

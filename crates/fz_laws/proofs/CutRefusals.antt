@@ -18,8 +18,8 @@ use Rattle.fz_block.specs.declared.header.Header.{Header}
 use Rattle.fz_grid.specs.Region.{lengths_of}
 use Rattle.fz_grid.specs.declared.region.Region.{Region}
 use Rattle.fz_grid.specs.declared.sieve.Sieve.{Sieve}
-use Rattle.fz_head.specs.JobChecks.{axis_inside, box_checks, cut_checks, cut_hdu_checks, image_checks, is_after_empty, missing_hdu, not_packed, packed_card_checks, unpack_checks}
-use Rattle.fz_head.specs.Judges.{cut_judge, is_wanted}
+use Rattle.fz_checks.specs.JobChecks.{axis_inside, box_checks, cut_checks, cut_hdu_checks, image_checks, is_after_empty, missing_hdu, not_packed, packed_card_checks, unpack_checks}
+use Rattle.fz_checks.specs.Judges.{cut_judge, is_wanted}
 use Rattle.fz_head.specs.Packable.{is_packable, is_packed, is_table}
 use Rattle.fz_head.specs.PackedChecks.{at_word, packed_checks, plan_answer}
 use Rattle.fz_head.specs.PackedPlan.{numbered_in, plan_of_cards, said_axes, size_of}

@@ -11,8 +11,8 @@ use Rattle.fz_block.specs.Header.{next_start_of}
 use Rattle.fz_block.specs.Walk.{hdu_of, is_stop, stops}
 use Rattle.fz_block.specs.declared.header.Header.{Header}
 use Rattle.fz_head.specs.Accepted.{IsAccepted}
-use Rattle.fz_head.specs.JobChecks.{cut_hdu_checks}
-use Rattle.fz_head.specs.Judges.{cut_judge, is_wanted}
+use Rattle.fz_checks.specs.JobChecks.{cut_hdu_checks}
+use Rattle.fz_checks.specs.Judges.{cut_judge, is_wanted}
 use Rattle.fz_head.specs.Packable.{is_packable}
 use Rattle.fz_head.specs.PlainHeader.{was_primary}
 use Rattle.fz_grid.specs.declared.sieve.Sieve.{Sieve}

@@ -18,8 +18,8 @@ use Rattle.fz_tile.specs.Pixels.{IsBitpix}
 use Rattle.fz_tile.specs.Plain.{AreBytes}
 use Rattle.fz_tile.specs.declared.codec.Codec.{Codec}
 use Rattle.fz_tile.specs.declared.fault.TileFault.{TileFault}
-use Rattle.fz_head.specs.JobChecks.{IsImageOf, image_in, is_after_empty, cut_hdu_checks, missing_hdu, unpack_hdu_checks}
-use Rattle.fz_head.specs.Judges.{cut_judge, is_wanted, unpack_judge}
+use Rattle.fz_checks.specs.JobChecks.{IsImageOf, image_in, is_after_empty, cut_hdu_checks, missing_hdu, unpack_hdu_checks}
+use Rattle.fz_checks.specs.Judges.{cut_judge, is_wanted, unpack_judge}
 use Rattle.fz_head.specs.declared.plan.Plan.{Plan}
 use Rattle.fz_files.specs.declared.job.Job.{Job}
 use Rattle.fz_files.specs.declared.job.Job.TheVariants.{Pack, Unpack, Cut, Verify, List as ListHdus, Drill, Retile}

@@ -20,7 +20,7 @@ use Rattle.fz_table.specs.Forms.{elements_len, form_in}
 use Rattle.fz_table.specs.Records.{record_of}
 use Rattle.fz_table.specs.Tables.{table_checks}
 use Rattle.fz_tile.specs.TileCode.{TileCode}
-use Rattle.fz_head.specs.JobChecks.{axis_inside, image_checks, packed_card_checks}
+use Rattle.fz_checks.specs.JobChecks.{axis_inside, image_checks, packed_card_checks}
 use Rattle.fz_head.specs.Packable.{is_packed}
 use Rattle.fz_head.specs.PackedChecks.{packed_checks}
 use Rattle.fz_head.specs.PackedHeader.{descriptor_form, number_card, numbered_word_card}

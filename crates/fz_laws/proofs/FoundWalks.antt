@@ -5,7 +5,7 @@ use Rattle.fz_block.specs.Checks.{Judge, hdu_at, headers_of, unjudged, walk_from
 use Rattle.fz_block.specs.Header.{data_start_of, next_start_of, whole_blocks_of}
 use Rattle.fz_block.specs.Walk.{hdu_of, is_stop, stops}
 use Rattle.fz_block.specs.declared.header.Header.{Header}
-use Rattle.fz_head.specs.JobChecks.{missing_hdu}
+use Rattle.fz_checks.specs.JobChecks.{missing_hdu}
 use Rattle.fz_files.specs.Walks.{last_of}
 use Rattle.fz_laws.specs.PatchChecks.{find_judge, if_all_pass, if_patchable, last_or, patch_target, wanted_among, wanted_image}
 use Rattle.fz_laws.specs.Given.{PatchJob}

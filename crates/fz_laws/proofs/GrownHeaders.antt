@@ -18,7 +18,7 @@ use Rattle.fz_table.specs.Columns.{column_called, field_count, form_of, text_at,
 use Rattle.fz_table.specs.Forms.{form_in}
 use Rattle.fz_table.specs.Tables.{coded_name, gzip_name, heap_start_of, row_count_of, row_len_of, rows_len_of, stored_name, table_checks, table_in}
 use Rattle.fz_tile.specs.Pixels.{IsBitpix}
-use Rattle.fz_head.specs.JobChecks.{image_checks, not_packed, packed_card_checks}
+use Rattle.fz_checks.specs.JobChecks.{image_checks, not_packed, packed_card_checks}
 use Rattle.fz_head.specs.Packable.{is_packed, is_table}
 use Rattle.fz_head.specs.PackedChecks.{packed_checks}
 use Rattle.fz_head.specs.PackedHeader.{coded_letter, descriptor_form, number_card, numbered_word_card, stored_letter}

@@ -16,7 +16,7 @@ use Rattle.fz_card.specs.Reading.{text_of}
 use Rattle.fz_table.specs.Tables.{heap_start_of, rows_len_of, table_checks}
 use Rattle.fz_table.specs.declared.table.Table.{Table}
 use Rattle.fz_tile.specs.TileCode.{TileCode}
-use Rattle.fz_head.specs.JobChecks.{image_checks, is_after_empty, packed_card_checks}
+use Rattle.fz_checks.specs.JobChecks.{image_checks, is_after_empty, packed_card_checks}
 use Rattle.fz_head.specs.PackedChecks.{packed_checks}
 use Rattle.fz_files.specs.Restored.{header_in, image_table}
 use Rattle.fz_laws.specs.PatchChecks.{find_checks}

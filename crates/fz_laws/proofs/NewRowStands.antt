@@ -3,7 +3,7 @@ use Rattle.std.proofs.Common.{◌≡◌, ℕ, ◌+◌, ◌*◌, ◌^◌, ◌<◌
 use Rattle.fz_base.specs.Refusal.{first_refusal}
 use Rattle.fz_block.specs.declared.header.Header.{Header}
 use Rattle.fz_grid.specs.Region.{IsDivided}
-use Rattle.fz_head.specs.JobChecks.{IsImageOf, image_checks, image_in, is_after_empty, packed_card_checks}
+use Rattle.fz_checks.specs.JobChecks.{IsImageOf, image_checks, image_in, is_after_empty, packed_card_checks}
 use Rattle.fz_head.specs.declared.plan.Plan.{Plan}
 use Rattle.fz_table.specs.Rows.{FitsDescriptor, row_start}
 use Rattle.fz_table.specs.declared.table.Table.{Table}

@@ -28,7 +28,7 @@ use Rattle.fz_grid.specs.Cutout.{IsSteppedBoxOf, Sifts}
 use Rattle.fz_tile.specs.Laws.{StoresPixels}
 use Rattle.fz_tile.specs.Pixels.{IsBitpix}
 use Rattle.fz_tile.specs.Plain.{AreBytes, stored_pixels}
-use Rattle.fz_head.specs.JobChecks.{axis_inside}
+use Rattle.fz_checks.specs.JobChecks.{axis_inside}
 use Rattle.fz_head.specs.PackedPlan.{numbered_in, plan_of_cards, said_axes, size_of}
 use Rattle.fz_head.specs.PlainHeader.{axis_count}
 use Rattle.fz_head.specs.declared.plan.Plan.{Plan}

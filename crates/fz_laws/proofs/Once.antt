@@ -4,7 +4,7 @@ use Rattle.fz_block.specs.Checks.{Judge, headers_of, walk_of}
 use Rattle.fz_block.specs.Hdus.{AreHdusOf, Hdu}
 use Rattle.fz_block.specs.Walk.{hdu_of, stops}
 use Rattle.fz_block.specs.declared.header.Header.{Header}
-use Rattle.fz_head.specs.Judges.{pack_judge}
+use Rattle.fz_checks.specs.Judges.{pack_judge}
 use Rattle.fz_files.specs.Packed.{packed_file}
 use Rattle.fz_files.specs.Walks.{header_fault}
 use Rattle.fz_files.specs.declared.job.Job.TheVariants.{Pack}

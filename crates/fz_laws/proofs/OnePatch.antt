@@ -9,9 +9,9 @@ use Rattle.fz_block.specs.Checks.{Judge, hdu_at, headers_of, unless_refused, wal
 use Rattle.fz_block.specs.Facts.{IsHeaderOf}
 use Rattle.fz_block.specs.Walk.{hdu_of, is_stop, stops}
 use Rattle.fz_block.specs.declared.header.Header.{Header}
-use Rattle.fz_head.specs.JobChecks.{IsImageOf, image_checks, image_in, is_after_empty, missing_hdu, packed_card_checks}
-use Rattle.fz_head.specs.Judges.{is_wanted}
-use Rattle.fz_head.specs.TileKinds.{kind_of_tile}
+use Rattle.fz_checks.specs.JobChecks.{IsImageOf, image_checks, image_in, is_after_empty, missing_hdu, packed_card_checks}
+use Rattle.fz_checks.specs.Judges.{is_wanted}
+use Rattle.fz_checks.specs.TileKinds.{kind_of_tile}
 use Rattle.fz_head.specs.declared.plan.Plan.{Plan}
 use Rattle.fz_table.specs.Records.{record_bytes}
 use Rattle.fz_table.specs.declared.record.Record.{Record}

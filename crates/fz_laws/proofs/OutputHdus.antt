@@ -15,7 +15,7 @@ use Rattle.fz_grid.specs.Arrays.{NumberArray, product}
 use Rattle.fz_grid.specs.Region.{lengths_of}
 use Rattle.fz_tile.specs.Pixels.{IsBitpix}
 use Rattle.fz_tile.specs.Plain.{plain_bytes}
-use Rattle.fz_head.specs.JobChecks.{image_checks, image_in, image_to_unpack, is_after_empty, unpack_checks, unpack_hdu_checks}
+use Rattle.fz_checks.specs.JobChecks.{image_checks, image_in, image_to_unpack, is_after_empty, unpack_checks, unpack_hdu_checks}
 use Rattle.fz_head.specs.Packable.{has_integers, is_packed, is_table}
 use Rattle.fz_head.specs.PackedPlan.{plan_of_cards, said_axes}
 use Rattle.fz_head.specs.PlainHeader.{plain_header, was_primary}

@@ -21,8 +21,8 @@ use Rattle.fz_grid.specs.Overlap.{has_pixel}
 use Rattle.fz_grid.specs.Region.{lengths_of}
 use Rattle.fz_grid.specs.Sieve.{picked_tiles, sieve_hi, sieve_lo, sieve_step, tile_picks}
 use Rattle.fz_grid.specs.declared.sieve.Sieve.{Sieve}
-use Rattle.fz_head.specs.JobChecks.{cut_hdu_checks, is_after_empty, pack_hdu_checks, unpack_hdu_checks}
-use Rattle.fz_head.specs.Judges.{cut_judge, is_wanted, pack_judge, unpack_judge}
+use Rattle.fz_checks.specs.JobChecks.{cut_hdu_checks, is_after_empty, pack_hdu_checks, unpack_hdu_checks}
+use Rattle.fz_checks.specs.Judges.{cut_judge, is_wanted, pack_judge, unpack_judge}
 use Rattle.fz_head.specs.Packable.{is_packable}
 use Rattle.fz_head.specs.declared.options.PackOptions.{PackOptions}
 use Rattle.fz_files.specs.FirstFault.{IsFaultBehind, IsFirstFault, IsFirstRowFault, image_row, picked_rows, picked_tiles_of}

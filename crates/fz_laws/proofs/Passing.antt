@@ -20,7 +20,7 @@ use Rattle.fz_table.specs.declared.table.Table.{Table}
 use Rattle.fz_tile.specs.Plain.{AreBytes}
 use Rattle.fz_head.specs.Accepted.{IsAccepted}
 use Rattle.fz_head.specs.EmptyPrimary.{empty_primary}
-use Rattle.fz_head.specs.JobChecks.{already_packed, data_fill, fill_in, image_checks, pack_hdu_checks, says_packed, unpack_checks}
+use Rattle.fz_checks.specs.JobChecks.{already_packed, data_fill, fill_in, image_checks, pack_hdu_checks, says_packed, unpack_checks}
 use Rattle.fz_head.specs.PackChecks.{pack_checks}
 use Rattle.fz_head.specs.Packable.{is_packable, is_packed, is_table}
 use Rattle.fz_head.specs.PackedChecks.{packed_checks, plan_answer}

@@ -11,9 +11,9 @@ use Rattle.fz_block.specs.Header.{next_start_of}
 use Rattle.fz_block.specs.Takings.{for_those_after, header_taking, walk_takings, where_going_on}
 use Rattle.fz_block.specs.Walk.{stops}
 use Rattle.fz_block.specs.declared.header.Header.{Header}
-use Rattle.fz_head.specs.Greatest.{greatest}
-use Rattle.fz_head.specs.JobChecks.{missing_hdu}
-use Rattle.fz_head.specs.WorkBuffers.{pixels_of_tile}
+use Rattle.fz_checks.specs.Greatest.{greatest}
+use Rattle.fz_checks.specs.JobChecks.{missing_hdu}
+use Rattle.fz_checks.specs.WorkBuffers.{pixels_of_tile}
 use Rattle.fz_files.specs.Buffers.{found_len, header_len}
 use Rattle.fz_files.specs.Restored.{plan_in}
 use Rattle.fz_files.specs.Walks.{reached_after, reached_behind, reached_from}

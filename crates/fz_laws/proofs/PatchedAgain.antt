@@ -15,8 +15,8 @@ use Rattle.fz_table.specs.Columns.{column_called, describes, field_count, form_o
 use Rattle.fz_table.specs.Tables.{coded_name, heap_start_of, rows_len_of, stored_name}
 use Rattle.fz_tile.specs.Plain.{AreBytes}
 use Rattle.fz_tile.specs.TileCode.{TileCode}
-use Rattle.fz_head.specs.JobChecks.{axis_inside, image_checks, is_after_empty, missing_hdu, not_packed, packed_card_checks, unpack_checks, unpack_hdu_checks}
-use Rattle.fz_head.specs.Judges.{unpack_judge}
+use Rattle.fz_checks.specs.JobChecks.{axis_inside, image_checks, is_after_empty, missing_hdu, not_packed, packed_card_checks, unpack_checks, unpack_hdu_checks}
+use Rattle.fz_checks.specs.Judges.{unpack_judge}
 use Rattle.fz_head.specs.PackedHeader.{coded_letter, stored_letter}
 use Rattle.fz_head.specs.PackedPlan.{numbered_in, said_axes, size_of}
 use Rattle.fz_head.specs.PlainHeader.{axis_count}

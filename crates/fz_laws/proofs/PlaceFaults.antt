@@ -8,7 +8,7 @@ use Rattle.fz_files.specs.FirstFault.{IsFaultBehind, IsFaultThen, IsFirstFault, 
 use Rattle.std.specs.Prelude.{◌^◌, nat_lt, Bool, true, false, length, Result, Ok, Err, if◌then◌else◌}
 use Rattle.fz_block.specs.Checks.{walk_of}
 use Rattle.fz_block.specs.declared.header.Header.{Header}
-use Rattle.fz_head.specs.Judges.{unpack_judge}
+use Rattle.fz_checks.specs.Judges.{unpack_judge}
 use Rattle.fz_head.specs.declared.options.PackOptions.{PackOptions}
 use Rattle.fz_files.specs.PlainFault.{plain_fault, too_long}
 use Rattle.fz_files.specs.RestoredFile.{restored}

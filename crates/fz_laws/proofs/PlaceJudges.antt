@@ -22,8 +22,8 @@ use Rattle.fz_grid.specs.declared.region.Region.{Region}
 use Rattle.fz_table.specs.Columns.{field_count, first_named, tform_card, ttype_card}
 use Rattle.fz_table.specs.Tables.{array_checks, column_checks, field_checks, form_checks, heap_checks, table_checks, width_checks}
 use Rattle.fz_head.specs.CardLists.{index_of}
-use Rattle.fz_head.specs.JobChecks.{already_packed, axis_inside, box_checks, cut_checks, cut_hdu_checks, data_end_of, data_fill, fill_in, image_checks, is_after_empty, not_packed, pack_hdu_checks, says_packed, unpack_checks, unpack_hdu_checks}
-use Rattle.fz_head.specs.Judges.{is_wanted}
+use Rattle.fz_checks.specs.JobChecks.{already_packed, axis_inside, box_checks, cut_checks, cut_hdu_checks, data_end_of, data_fill, fill_in, image_checks, is_after_empty, not_packed, pack_hdu_checks, says_packed, unpack_checks, unpack_hdu_checks}
+use Rattle.fz_checks.specs.Judges.{is_wanted}
 use Rattle.fz_head.specs.PackChecks.{fill_place, is_offset, is_reserved_card, pack_checks}
 use Rattle.fz_head.specs.Packable.{is_packable, is_packed, is_primary, is_table}
 use Rattle.fz_head.specs.PackedChecks.{axis_checks, block_checks, bytepix_checks, column_count, grid_check, is_scaling, line_list_check, packed_checks, parameter_checks, row_check, shape_checks, sort_checks, tile_check}

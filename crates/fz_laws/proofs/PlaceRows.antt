@@ -29,8 +29,8 @@ use Rattle.fz_table.specs.Tables.{array_checks, bad_table, rows_len_of, table_ch
 use Rattle.fz_table.specs.declared.record.Tile.{Tile}
 use Rattle.fz_table.specs.declared.row.Row.{Row}
 use Rattle.fz_table.specs.declared.table.Table.{Table}
-use Rattle.fz_head.specs.JobChecks.{IsImageOf, box_checks, cut_checks, cut_hdu_checks, image_checks, image_in, is_after_empty, missing_hdu, not_packed, packed_card_checks, unpack_checks, unpack_hdu_checks}
-use Rattle.fz_head.specs.Judges.{cut_judge, is_wanted, unpack_judge}
+use Rattle.fz_checks.specs.JobChecks.{IsImageOf, box_checks, cut_checks, cut_hdu_checks, image_checks, image_in, is_after_empty, missing_hdu, not_packed, packed_card_checks, unpack_checks, unpack_hdu_checks}
+use Rattle.fz_checks.specs.Judges.{cut_judge, is_wanted, unpack_judge}
 use Rattle.fz_head.specs.Packable.{is_packed, is_table}
 use Rattle.fz_head.specs.PackedChecks.{packed_checks}
 use Rattle.fz_head.specs.TableChecks.{compressed_table, repeated_table_names, table_card_checks}

@@ -12,8 +12,8 @@ use Rattle.fz_block.specs.Hdus.{Hdu, cards_of, hdu_bytes, size_at}
 use Rattle.fz_block.specs.Header.{next_start_of}
 use Rattle.fz_block.specs.Walk.{AreHeadersBetween, PassFrom, RefusesNone, facts_from, hdu_of, is_stop, stops}
 use Rattle.fz_block.specs.declared.header.Header.{Header}
-use Rattle.fz_head.specs.JobChecks.{is_after_empty, unpack_hdu_checks}
-use Rattle.fz_head.specs.Judges.{unpack_judge}
+use Rattle.fz_checks.specs.JobChecks.{is_after_empty, unpack_hdu_checks}
+use Rattle.fz_checks.specs.Judges.{unpack_judge}
 use Rattle.fz_head.specs.Packable.{is_packed, is_table}
 use Rattle.fz_card.specs.CardLists.{has_name}
 use Rattle.fz_card.specs.Layout.{padded}

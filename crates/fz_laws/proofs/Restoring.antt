@@ -12,8 +12,8 @@ use Rattle.fz_block.specs.declared.header.Header.{Header}
 use Rattle.fz_grid.specs.Division.{AreTileLengths}
 use Rattle.fz_grid.specs.Region.{lengths_of}
 use Rattle.fz_grid.specs.Whole.{AreTiles}
-use Rattle.fz_head.specs.JobChecks.{IsImageOf, image_in, is_after_empty, unpack_hdu_checks}
-use Rattle.fz_head.specs.Judges.{unpack_judge}
+use Rattle.fz_checks.specs.JobChecks.{IsImageOf, image_in, is_after_empty, unpack_hdu_checks}
+use Rattle.fz_checks.specs.Judges.{unpack_judge}
 use Rattle.fz_head.specs.declared.plan.Plan.{Plan}
 use Rattle.fz_files.specs.FirstFault.{IsFaultBehind, IsFirstFault, IsFirstRowFault, IsRowSound, all_rows, image_row, rows_of}
 use Rattle.fz_files.specs.Laws.{StandsForOneFile}

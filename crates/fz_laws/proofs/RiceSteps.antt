@@ -29,7 +29,7 @@ use Rattle.fz_tile.specs.Codecs.{CanWrite}
 use Rattle.fz_tile.specs.Record.{IsRecord}
 use Rattle.fz_tile.specs.TileCode.{TileCode, tile_code}
 use Rattle.fz_tile.specs.declared.codec.Codec.{Codec}
-use Rattle.fz_head.specs.JobChecks.{axis_inside, image_checks, packed_card_checks}
+use Rattle.fz_checks.specs.JobChecks.{axis_inside, image_checks, packed_card_checks}
 use Rattle.fz_head.specs.Packable.{is_packed}
 use Rattle.fz_head.specs.PackedChecks.{packed_checks}
 use Rattle.fz_head.specs.PackedHeader.{descriptor_form, number_card, numbered_word_card}

@@ -17,8 +17,8 @@ use Rattle.fz_grid.specs.Region.{lengths_of}
 use Rattle.fz_grid.specs.Sieve.{IsSieveOf, sieve_hi, sieve_lo}
 use Rattle.fz_grid.specs.declared.region.Region.{Region}
 use Rattle.fz_grid.specs.declared.sieve.Sieve.{Sieve}
-use Rattle.fz_head.specs.JobChecks.{axis_inside, box_checks, cut_checks, cut_hdu_checks, image_checks, is_after_empty, missing_hdu, packed_card_checks}
-use Rattle.fz_head.specs.Judges.{cut_judge, is_wanted}
+use Rattle.fz_checks.specs.JobChecks.{axis_inside, box_checks, cut_checks, cut_hdu_checks, image_checks, is_after_empty, missing_hdu, packed_card_checks}
+use Rattle.fz_checks.specs.Judges.{cut_judge, is_wanted}
 use Rattle.fz_head.specs.Packable.{is_packed}
 use Rattle.fz_tile.specs.TileCode.{TileCode}
 use Rattle.fz_head.specs.PackedPlan.{numbered_in, plan_of_cards, said_axes, size_of}

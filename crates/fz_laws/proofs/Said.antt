@@ -10,7 +10,7 @@ use Rattle.fz_block.specs.Checks.{is_set}
 use Rattle.fz_block.specs.Hdus.{cards_of}
 use Rattle.fz_block.specs.declared.header.Header.{Header}
 use Rattle.fz_table.specs.Tables.{table_checks}
-use Rattle.fz_head.specs.JobChecks.{image_checks, unpack_checks}
+use Rattle.fz_checks.specs.JobChecks.{image_checks, unpack_checks}
 use Rattle.fz_head.specs.Packable.{is_packed, is_table}
 use Rattle.fz_head.specs.PackedChecks.{axis_checks, axis_count_checks, bitpix_checks, codec_checks, grid_check, has_word, is_integer, is_integer_size, is_positive, line_list_check, packed_checks, parameter_checks, row_check, scaling_check, shape_checks, sort_checks, tile_check}
 use Rattle.fz_head.specs.PackedPlan.{numbered_in, size_of, word_in}

@@ -12,7 +12,8 @@ use Rattle.fz_card.specs.Reading.{integer_of, is_text, logical_of, text_of}
 use Rattle.fz_grid.specs.Arrays.{product}
 use Rattle.fz_grid.specs.Grid.{tile_count}
 use Rattle.fz_head.specs.CardLists.{index_of}
-use Rattle.fz_head.specs.PackChecks.{is_offset, refused_at}
+use Rattle.fz_head.specs.PackChecks.{is_offset}
+use Rattle.fz_block.specs.Checks.{refused_at}
 use Rattle.fz_head.specs.PackedChecks.{at_name, axis_checks, axis_count_checks, bitpix_checks, block_checks, bytepix_checks, codec_checks, column_count, grid_check, has_word, is_block, is_bytepix, is_integer, is_integer_size, is_positive, is_scaling, line_list_check, missing, must_be, parameter_checks, scaling_check, shape_checks, sort_checks, tile_check, value_missing}
 use Rattle.fz_head.specs.PackedPlan.{is_codec_name, is_plain_name, is_plio_name, is_rice_name, parameter_number, size_of}
 use Rattle.fz_laws.proofs.Alike.{AreAlike, ignoring, index_alike, length_alike, position_alike}

@@ -10,8 +10,8 @@ use Rattle.fz_block.specs.Header.{next_start_of, whole_blocks_of}
 use Rattle.fz_block.specs.Walk.{AreHeadersBetween, PassFrom, PassesAt, RefusesNone, begins_hdu, hdu_of, is_stop, stops}
 use Rattle.fz_block.specs.declared.header.Header.{Header}
 use Rattle.fz_tile.specs.Plain.{AreBytes}
-use Rattle.fz_head.specs.JobChecks.{pack_hdu_checks}
-use Rattle.fz_head.specs.Judges.{pack_judge}
+use Rattle.fz_checks.specs.JobChecks.{pack_hdu_checks}
+use Rattle.fz_checks.specs.Judges.{pack_judge}
 use Rattle.fz_head.specs.Packable.{is_packable}
 use Rattle.fz_head.specs.Planned.{AreOptions}
 use Rattle.fz_head.specs.declared.options.PackOptions.{PackOptions}

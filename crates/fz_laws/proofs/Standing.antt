@@ -17,8 +17,8 @@ use Rattle.fz_grid.specs.Grid.{tile}
 use Rattle.fz_grid.specs.Region.{lengths_of}
 use Rattle.fz_tile.specs.Plain.{AreBytes}
 use Rattle.fz_head.specs.EmptyPrimary.{empty_primary}
-use Rattle.fz_head.specs.JobChecks.{is_after_empty, says_packed, unpack_checks, unpack_hdu_checks}
-use Rattle.fz_head.specs.Judges.{unpack_judge}
+use Rattle.fz_checks.specs.JobChecks.{is_after_empty, says_packed, unpack_checks, unpack_hdu_checks}
+use Rattle.fz_checks.specs.Judges.{unpack_judge}
 use Rattle.fz_head.specs.Packable.{is_packable, is_packed, is_primary, is_table}
 use Rattle.fz_head.specs.PlainHeader.{was_primary}
 use Rattle.fz_head.specs.Planned.{AreOptions, pack_plan_of}

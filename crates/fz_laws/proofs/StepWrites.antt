@@ -23,7 +23,7 @@ use Rattle.fz_table.specs.declared.table.Table.{Table}
 use Rattle.fz_tile.specs.Codecs.{CanRead}
 use Rattle.fz_tile.specs.Plain.{AreBytes}
 use Rattle.fz_tile.specs.TileCode.{TileCode}
-use Rattle.fz_head.specs.Greatest.{greatest}
+use Rattle.fz_checks.specs.Greatest.{greatest}
 use Rattle.fz_head.specs.PackedHeader.{coded_letter, descriptor_form, number_card, numbered_word_card, stored_letter}
 use Rattle.fz_head.specs.PackedTable.{coded_unit}
 use Rattle.fz_head.specs.Planned.{pixel_len}

@@ -14,8 +14,8 @@ use Rattle.fz_grid.specs.Division.{AreTileLengths}
 use Rattle.fz_grid.specs.Laws.{DividedArraysHaveTiles, JoinedHasTheTiles, JoinedIsArray}
 use Rattle.fz_grid.specs.Region.{lengths_of}
 use Rattle.fz_grid.specs.Whole.{AreTiles, joined}
-use Rattle.fz_head.specs.JobChecks.{IsImageOf, image_in, is_after_empty, unpack_checks, unpack_hdu_checks}
-use Rattle.fz_head.specs.Judges.{unpack_judge}
+use Rattle.fz_checks.specs.JobChecks.{IsImageOf, image_in, is_after_empty, unpack_checks, unpack_hdu_checks}
+use Rattle.fz_checks.specs.Judges.{unpack_judge}
 use Rattle.fz_head.specs.Packable.{is_packed}
 use Rattle.fz_head.specs.declared.plan.Plan.{Plan}
 use Rattle.fz_files.specs.FirstFault.{ImageRow, IsFaultBehind, IsFirstFault, IsFirstRowFault, all_rows, image_row, rows_of}

@@ -20,7 +20,7 @@ use Rattle.fz_sum.specs.Cards.{checksum_name, datasum_name}
 use Rattle.fz_tile.specs.TileCode.{TileCode}
 use Rattle.fz_tile.specs.declared.codec.Codec.{Codec}
 use Rattle.fz_tile.specs.declared.codec.Codec.TheVariants.{Rice, Plio, Plain}
-use Rattle.fz_head.specs.Greatest.{greatest}
+use Rattle.fz_checks.specs.Greatest.{greatest}
 use Rattle.fz_head.specs.PackedHeader.{codec_name, column_cards, flag_card, made_cards, numbered_number_card, packed_card, parameter_cards, table_cards, tile_cards, word_card}
 use Rattle.fz_head.specs.PackedTable.{coded_unit}
 use Rattle.fz_head.specs.Planned.{pixel_len}

@@ -11,7 +11,7 @@ use Rattle.fz_block.specs.declared.header.Header.{Header}
 use Rattle.fz_sum.specs.Verdicts.{checksum_verdict, datasum_verdict}
 use Rattle.fz_sum.specs.declared.verdicts.Verdict.TheVariants.{Right}
 use Rattle.fz_tile.specs.Plain.{AreBytes}
-use Rattle.fz_head.specs.Judges.{pack_judge, unpack_judge}
+use Rattle.fz_checks.specs.Judges.{pack_judge, unpack_judge}
 use Rattle.fz_head.specs.Packable.{is_packable}
 use Rattle.fz_head.specs.Planned.{AreOptions}
 use Rattle.fz_head.specs.declared.options.PackOptions.{PackOptions}

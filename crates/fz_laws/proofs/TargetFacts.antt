@@ -10,7 +10,7 @@ use Rattle.fz_table.specs.Columns.{columns_len, field_count}
 use Rattle.fz_table.specs.Rows.{descriptor_len}
 use Rattle.fz_table.specs.Tables.{array_checks, column_checks, field_checks, form_checks, heap_checks, heap_start_of, row_len_of, rows_len_of, table_checks, width_checks}
 use Rattle.fz_table.specs.declared.table.Table.{Table}
-use Rattle.fz_head.specs.JobChecks.{IsImageOf, image_checks, image_in, is_after_empty, packed_card_checks}
+use Rattle.fz_checks.specs.JobChecks.{IsImageOf, image_checks, image_in, is_after_empty, packed_card_checks}
 use Rattle.fz_head.specs.PackedChecks.{packed_checks}
 use Rattle.fz_files.specs.Packed.{tiles_in}
 use Rattle.fz_files.specs.Restored.{header_in, image_table, plan_in}

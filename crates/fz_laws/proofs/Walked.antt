@@ -6,8 +6,8 @@ use Rattle.fz_block.specs.Checks.{Judge, by_judgement, followed_by, headers_of, 
 use Rattle.fz_block.specs.Header.{next_start_of}
 use Rattle.fz_block.specs.Walk.{hdu_of, is_stop, stops}
 use Rattle.fz_block.specs.declared.header.Header.{Header}
-use Rattle.fz_head.specs.JobChecks.{missing_hdu}
-use Rattle.fz_head.specs.Judges.{is_wanted}
+use Rattle.fz_checks.specs.JobChecks.{missing_hdu}
+use Rattle.fz_checks.specs.Judges.{is_wanted}
 use Rattle.fz_head.specs.declared.plan.Plan.{Plan}
 use Rattle.fz_table.specs.Records.{record_at}
 use Rattle.fz_table.specs.declared.record.Record.{Record}

@@ -7,7 +7,7 @@ use Rattle.fz_block.specs.Checks.{headers_of, walk_of}
 use Rattle.fz_block.specs.Hdus.{Hdu, hdu_bytes}
 use Rattle.fz_block.specs.Walk.{PassFrom, facts_from, hdu_of}
 use Rattle.fz_block.specs.declared.header.Header.{Header}
-use Rattle.fz_head.specs.Judges.{pack_judge, unpack_judge}
+use Rattle.fz_checks.specs.Judges.{pack_judge, unpack_judge}
 use Rattle.fz_head.specs.Packable.{is_packable}
 use Rattle.fz_head.specs.declared.options.PackOptions.{PackOptions}
 use Rattle.fz_files.specs.declared.job.Job.{Job}

@@ -11,7 +11,7 @@ use Rattle.fz_grid.specs.Division.{AreTileLengths}
 use Rattle.fz_grid.specs.Grid.{box_coordinates, tile}
 use Rattle.fz_grid.specs.Region.{lengths_of}
 use Rattle.fz_tile.specs.Plain.{plain_bytes}
-use Rattle.fz_head.specs.Judges.{unpack_judge}
+use Rattle.fz_checks.specs.Judges.{unpack_judge}
 use Rattle.fz_head.specs.Packable.{is_packed}
 use Rattle.fz_head.specs.PackedPlan.{plan_of_cards}
 use Rattle.fz_head.specs.PlainHeader.{plain_header, was_primary}

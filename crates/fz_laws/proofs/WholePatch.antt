@@ -5,7 +5,7 @@ use Rattle.fz_block.specs.Hdus.{cards_of}
 use Rattle.fz_block.specs.Header.{data_start_of, next_start_of, whole_blocks_of}
 use Rattle.fz_block.specs.declared.header.Header.{Header}
 use Rattle.fz_grid.specs.Laws.{DividedArraysHaveTiles}
-use Rattle.fz_head.specs.JobChecks.{image_checks, is_after_empty, not_packed, packed_card_checks}
+use Rattle.fz_checks.specs.JobChecks.{image_checks, is_after_empty, not_packed, packed_card_checks}
 use Rattle.fz_head.specs.Packable.{is_packed, is_table}
 use Rattle.fz_head.specs.PackedPlan.{plan_of_cards}
 use Rattle.fz_head.specs.PlainHeader.{plain_header}

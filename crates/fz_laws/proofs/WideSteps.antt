@@ -23,7 +23,7 @@ use Rattle.fz_table.specs.declared.record.TileColumn.TheVariants as column
 use Rattle.fz_table.specs.declared.table.Table.{Table}
 use Rattle.fz_tile.specs.declared.codec.Codec.TheVariants.{Plain}
 use Rattle.fz_tile.specs.TileCode.{TileCode}
-use Rattle.fz_head.specs.JobChecks.{axis_inside, image_checks, packed_card_checks}
+use Rattle.fz_checks.specs.JobChecks.{axis_inside, image_checks, packed_card_checks}
 use Rattle.fz_head.specs.Packable.{is_packed}
 use Rattle.fz_head.specs.PackedChecks.{packed_checks}
 use Rattle.fz_head.specs.PackedHeader.{descriptor_form, number_card, numbered_word_card}

@@ -11,10 +11,10 @@ use Rattle.fz_block.specs.Walk.{AreHeadersBetween, PassFrom, PassesAt, RefusesNo
 use Rattle.fz_block.specs.declared.header.Header.{Header}
 use Rattle.fz_tile.specs.Laws.{HasPlainLen}
 use Rattle.fz_head.specs.Conditions.{IsPackedPlan}
-use Rattle.fz_head.specs.JobChecks.{IsImageOf, image_in, image_to_unpack, unpack_checks}
+use Rattle.fz_checks.specs.JobChecks.{IsImageOf, image_in, image_to_unpack, unpack_checks}
 use Rattle.fz_head.specs.Packable.{is_packed}
 use Rattle.fz_head.specs.PlainHeader.{plain_header}
-use Rattle.fz_head.specs.declared.job_checks.PackedImage.{PackedImage}
+use Rattle.fz_checks.specs.declared.job_checks.PackedImage.{PackedImage}
 use Rattle.fz_head.specs.declared.plan.Plan.{Plan}
 use Rattle.fz_files.specs.Laws.{HasOneFirstFault, ListRefusesHeaders, TablesAreAccepted, TablesStandForImages, VerifyRefusesAsUnpack}
 use Rattle.fz_laws.specs.PackedHdus.{HdusBecome}

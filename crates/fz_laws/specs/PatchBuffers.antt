@@ -9,8 +9,8 @@ use Rattle.fz_base.specs.declared.fault.Fault.{Fault}
 use Rattle.fz_block.specs.Checks.{header_blocks_of, headers_of, unjudged}
 use Rattle.fz_block.specs.Takings.{header_taking, walk_takings}
 use Rattle.fz_block.specs.declared.header.Header.{Header}
-use Rattle.fz_head.specs.Greatest.{greatest}
-use Rattle.fz_head.specs.WorkBuffers.{pixels_of_tile, work_buffers}
+use Rattle.fz_checks.specs.Greatest.{greatest}
+use Rattle.fz_checks.specs.WorkBuffers.{pixels_of_tile, work_buffers}
 use Rattle.fz_files.specs.Buffers.{found_len, header_len}
 use Rattle.fz_files.specs.Restored.{plan_in}
 use Rattle.fz_files.specs.Walks.{reached_from}

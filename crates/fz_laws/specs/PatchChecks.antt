@@ -14,8 +14,8 @@ use Rattle.fz_block.specs.Header.{next_start_of}
 use Rattle.fz_block.specs.Walk.{hdu_of, stops}
 use Rattle.fz_block.specs.declared.header.Header.{Header}
 use Rattle.fz_grid.specs.Region.{lengths_of}
-use Rattle.fz_head.specs.JobChecks.{axis_inside, image_checks, is_after_empty, missing_hdu, packed_card_checks}
-use Rattle.fz_head.specs.Judges.{is_wanted}
+use Rattle.fz_checks.specs.JobChecks.{axis_inside, image_checks, is_after_empty, missing_hdu, packed_card_checks}
+use Rattle.fz_checks.specs.Judges.{is_wanted}
 use Rattle.fz_head.specs.PackedChecks.{at_word}
 use Rattle.fz_head.specs.PlainHeader.{axis_count}
 use Rattle.fz_head.specs.declared.plan.Plan.{Plan}

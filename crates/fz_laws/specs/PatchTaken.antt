@@ -21,7 +21,7 @@ use Rattle.fz_tile.specs.Record.{IsRecord}
 use Rattle.fz_tile.specs.TileCode.{tile_code}
 use Rattle.fz_tile.specs.declared.codec.Codec.{Codec}
 use Rattle.fz_tile.specs.declared.coded.Place2.{Place2}
-use Rattle.fz_head.specs.JobChecks.{IsImageOf, image_checks, image_in}
+use Rattle.fz_checks.specs.JobChecks.{IsImageOf, image_checks, image_in}
 use Rattle.fz_head.specs.SumCards.{IsSumCard}
 use Rattle.fz_laws.specs.PatchLaws.{AmendedHeadersSayTheSame, KeptRowsStand, NewRowsStand, TargetsAreGiven}
 

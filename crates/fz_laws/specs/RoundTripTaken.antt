@@ -26,7 +26,7 @@ use Rattle.fz_tile.specs.Laws.{GivesBytesAgain, GivesPixelsAgain, IsRefusedOnce,
 use Rattle.fz_tile.specs.Record.{IsRecord}
 use Rattle.fz_tile.specs.declared.codec.Codec.{Codec}
 use Rattle.fz_tile.specs.declared.coded.Place2.{Place2}
-use Rattle.fz_head.specs.JobChecks.{IsImageOf, IsImageToPack, cut_checks, image_in, unpack_checks}
+use Rattle.fz_checks.specs.JobChecks.{IsImageOf, IsImageToPack, cut_checks, image_in, unpack_checks}
 use Rattle.fz_head.specs.PackChecks.{pack_answer}
 use Rattle.fz_head.specs.Packable.{is_packed}
 use Rattle.fz_head.specs.PackedHeader.{packed_with, sum_cards}

@@ -25,7 +25,7 @@ use Rattle.fz_table.specs.declared.row.Row.{Row}
 use Rattle.fz_table.specs.declared.table.Table.{Table}
 use Rattle.fz_tile.specs.TileCode.{TileCode, tile_code}
 use Rattle.fz_head.specs.CardLists.{index_of}
-use Rattle.fz_head.specs.Greatest.{greatest}
+use Rattle.fz_checks.specs.Greatest.{greatest}
 use Rattle.fz_head.specs.PackedHeader.{coded_letter, descriptor_form, number_card, numbered_word_card, stored_letter}
 use Rattle.fz_head.specs.declared.plan.Plan.{Plan}
 use Rattle.fz_files.specs.Packed.{coded_count, heap_of, pixel_bits, row_of, stored_count}

@@ -7,9 +7,10 @@ ghost use Rattle.fz_laws.specs.OutputsTaken.{CutsLaws, OutLaws, WalkLaws};
 use crate::round_trip::{cutout_file_law, packed_hdus_law, round_trip_law};
 use fz_block::{cards_law, found_hdus_law, found_law, passing_law, walk_law};
 use fz_card::{card_laws, renamed_value_law, shifted_card_law};
+use fz_checks::{packed_image_law, packed_primary_law};
 use fz_files::{one_first_fault_law, one_picked_file_law, same_faults_law, table_law};
 use fz_grid::{cutout_law, place_law};
-use fz_head::{packed_image_law, packed_primary_law, sizes_law, whole_cards_law};
+use fz_head::{sizes_law, whole_cards_law};
 use fz_tile::{plain_law, slice_law};
 
 // What the laws of HDUs that come out take from those of the crates below.

@@ -10,9 +10,10 @@ ghost use Rattle.fz_laws.specs.PatchTaken.{PatchLaws, SafeLaws, TakenLaws, TileL
 use fz_base::places_law;
 use fz_block::{cards_law, found_hdus_law, found_law, hdu_at_law, start_law};
 use fz_card::{card_laws, first_of_name_law};
+use fz_checks::packed_image_law;
 use fz_files::table_reads_law;
 use fz_grid::{cutout_law, place_law, shape_law, tile_pixels_law, tiles_law};
-use fz_head::{packed_image_law, sum_cards_law};
+use fz_head::sum_cards_law;
 use fz_sum::{all_ones_law, characters_law, datasum_law, sum_law, verdicts_law, with_card_law};
 use fz_table::descriptor_law;
 use fz_tile::{column_law, one_fault_law, one_record_law, plain_law, tile_code_law};

@@ -3,8 +3,8 @@ ghost use Rattle.fz_laws.specs.Places.{BytesLie, CardsLie, RetileFaultsAreOfBoth
 ghost use Rattle.fz_laws.specs.Touched.{TouchedLieWithin};
 
 use fz_block::{found_hdus_law, hdu_at_law, walk_law};
+use fz_checks::packed_image_law;
 use fz_files::{cut_reads_law, reached_law, table_reads_law, walk_end_law};
-use fz_head::packed_image_law;
 
 /// The place that the first fault of a file for a job names lies in the file, whatever the job and the
 /// bytes are. A byte is one of the file, or its end if the file is cut short or has no HDU to cut from. A

@@ -9,9 +9,10 @@ ghost use Rattle.fz_laws.specs.RoundTripTaken.{RestoringLaws, SumLaws, WayLaws};
 
 use fz_block::{cards_law, found_hdus_law, hdu_list_law, passing_law, start_law, walk_law};
 use fz_card::card_laws;
+use fz_checks::{image_to_pack_law, packed_image_law};
 use fz_files::{one_file_law, one_picked_file_law, table_law};
 use fz_grid::{shape_law, tiles_law};
-use fz_head::{image_to_pack_law, packed_image_law, sum_cards_law, whole_cards_law};
+use fz_head::{sum_cards_law, whole_cards_law};
 use fz_sum::{all_ones_law, characters_law, datasum_law, sum_law, verdicts_law};
 use fz_tile::{one_fault_law, one_record_law, plain_law};
 

@@ -2,7 +2,8 @@ use Rattle.std.proofs.Common.{[], ◌∷◌, arith, ap, sym, ◌∙◌}
 use Rattle.fz_base.specs.Refusal.{first_refusal}
 use Rattle.fz_base.specs.declared.kind.Kind.TheVariants.{Duplicate, Reserved}
 use Rattle.fz_head.specs.Packable.{is_primary}
-use Rattle.fz_head.specs.PackChecks.{header_fill, refused_at, repeated_names, reserved_index, reserved_names}
+use Rattle.fz_head.specs.PackChecks.{header_fill, repeated_names, reserved_index, reserved_names}
+use Rattle.fz_block.specs.Checks.{refused_at}
 use Rattle.fz_head.specs.Repeats.{first_repeat, image_names, itself}
 use Rattle.fz_head.proofs.FrontCards.{header-cards, header-end}
 use Rattle.fz_head.proofs.RefusalLists.{first-of-third}
