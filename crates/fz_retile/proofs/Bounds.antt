@@ -16,7 +16,7 @@ use Rattle.fz_files.specs.RestoredFile.{restored}
 use Rattle.fz_files.specs.Retiled.{plain_of}
 use Rattle.fz_files.specs.declared.job.Job.TheVariants.{Pack, Retile, Unpack}
 use Rattle.fz_job.specs.Clauses.{IsAnswer, greatest_bound}
-use Rattle.fz_view.specs.Views.{restored_from, together}
+use Rattle.fz_retile.specs.Views.{restored_from, together}
 use Rattle.fz_retile.specs.Retiles.{settled_of}
 use Rattle.fz_retile.proofs.Settling.{IsAccepted, answer, rose_in}
 

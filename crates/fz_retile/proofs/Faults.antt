@@ -12,7 +12,7 @@ use Rattle.fz_files.specs.Retiled.{if_short, plain_of, restored_file, restored_u
 use Rattle.fz_files.specs.Walks.{header_fault, job_walk}
 use Rattle.fz_files.specs.declared.job.Job.TheVariants.{Pack, Retile, Unpack}
 use Rattle.fz_laws.specs.RoundTrip.{HasNoOtherFault}
-use Rattle.fz_view.specs.Looked.{IsLookFault}
+use Rattle.fz_look.specs.Looked.{IsLookFault}
 use Rattle.fz_retile.proofs.SameAsUnpack.{same_header_fault}
 
 is_long : (n : ℕ) → 2 ^ 62 < n → nat_lt (2 ^ 62) n ≡ true

@@ -25,7 +25,7 @@ use Rattle.fz_files.specs.Walks.{header_fault}
 use Rattle.fz_files.specs.declared.job.Job.TheVariants.{Pack, Retile, Unpack}
 use Rattle.fz_laws.specs.RoundTrip.{HasNoOtherFault}
 use Rattle.fz_job.specs.Clauses.{ComesLate, IfOverLimit, IsShutOrWhole, greatest_bound}
-use Rattle.fz_view.specs.Views.{is_bad_card, is_late, is_late_at, restored_from}
+use Rattle.fz_retile.specs.Views.{is_bad_card, is_late, is_late_at, restored_from}
 use Rattle.fz_retile.specs.Retiles.{TellsEitherLimit, TellsFirstOfBoth, failed_of, first_past_of, late_of, past_of, settled_of}
 use Rattle.fz_retile.proofs.Faults.{none_found}
 use Rattle.fz_retile.proofs.Settling.{IsAccepted}

@@ -18,9 +18,9 @@ use Rattle.fz_files.specs.declared.job.Job.TheVariants.{Retile, Unpack}
 use Rattle.fz_laws.specs.RoundTrip.{HasNoOtherFault}
 use Rattle.fz_job.specs.Clauses.{ComesLate, IfOverLimit, TellsFirstFault, greatest_bound}
 use Rattle.fz_pool.specs.Window.{Pool}
-use Rattle.fz_view.specs.Looked.{IsLookFault, buffers_of}
-use Rattle.fz_view.specs.Looks.{HasLookCause, KeepsLookBuffers}
-use Rattle.fz_view.specs.declared.looked.Looked.{Looked}
+use Rattle.fz_look.specs.Looked.{IsLookFault, buffers_of}
+use Rattle.fz_look.specs.Looks.{HasLookCause, KeepsLookBuffers}
+use Rattle.fz_look.specs.declared.looked.Looked.{Looked}
 use Rattle.fz_retile.specs.Retiles.{AnswersBoth, HasRetileCause, KeepsPacking, KeepsView, StaysUnmadeBoth, TellsFirstOfBoth, first_past_of}
 use Rattle.fz_retile.proofs.Bounds.{look_answers}
 use Rattle.fz_retile.proofs.Faults.{look_refused, nothing_anew}

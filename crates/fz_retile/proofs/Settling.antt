@@ -16,9 +16,9 @@ use Rattle.fz_files.specs.declared.job.Job.TheVariants.{Pack, Retile, Unpack}
 use Rattle.fz_laws.specs.RoundTrip.{StandsForRestored}
 use Rattle.fz_job.specs.Clauses.{HasJobCause, IsAnswer, IsShutOrWhole, TellsFirstFault}
 use Rattle.fz_pack.specs.Output.{HoldsPacked}
-use Rattle.fz_view.specs.Looked.{IsLooked}
-use Rattle.fz_view.specs.declared.looked.Looked.{Looked}
-use Rattle.fz_view.specs.Views.{restored_from, together, with_more}
+use Rattle.fz_look.specs.Looked.{IsLooked}
+use Rattle.fz_look.specs.declared.looked.Looked.{Looked}
+use Rattle.fz_retile.specs.Views.{restored_from, together, with_more}
 use Rattle.fz_retile.specs.Retiles.{HoldsRetiled, settled_of}
 use Rattle.fz_retile.proofs.Faults.{no_fault, plain_refused}
 

@@ -1,2 +1,6 @@
+pub mod Begins
+pub mod Holds
 pub mod Laws
 pub mod Retiles
+pub mod Stays
+pub mod Views

@@ -12,15 +12,16 @@ ghost use Rattle.fz_files.specs.declared.job.Job.TheVariants.{Pack};
 ghost use Rattle.fz_job.specs.Clauses.{Answers, HasJobCause, IsShutOrWhole, IsUnmade, KeepsBuffers, TellsFirstFault};
 ghost use Rattle.fz_pack.specs.Output.{HoldsPacked};
 ghost use Rattle.fz_retile.specs.Retiles.{unless_failed};
-ghost use Rattle.fz_view.specs.Looked.{buffers_of};
-ghost use Rattle.fz_view.specs.Views.{restored_from, with_more};
+ghost use Rattle.fz_look.specs.Looked.{buffers_of};
+ghost use Rattle.fz_retile.specs.Views.{restored_from, with_more};
 
+use crate::pinned::{Origin, Pinned};
+use crate::view::PlainView;
 use crate::watched::{Lent, Watch, WatchedSink};
 use fz_base::{Gate, Meter, Sink, Source, Stop};
 use fz_head::PackOptions;
 use fz_pack::pack;
 use fz_pool::Window;
-use fz_view::{Origin, Pinned, PlainView};
 use std::marker::PhantomData;
 use std::thread::Threads;
 
@@ -87,7 +88,6 @@ pub(crate) fn in_view<'a, 'k, L: Origin, M: Watch, R: Threads + Sync, S: Source,
         (with_more (S.tally view.entry.inner.now) view.entry.more) (with_more (S.tally result.view.inner.now) result.view.more)
         (nameless (K.tally sink.entry.inner.now)) (nameless (K.tally result.lent.inner.now)) meter.old.limit window.old.workers answer.new }
     ensures unwritten { IsErrOf answer.new ReadFault → nameless (K.tally result.lent.inner.now) ≡ nameless (K.tally sink.entry.inner.now) }
-    ensures sink_counts { CountsKept (nameless (K.tally sink.entry.inner.now)) (nameless (K.tally result.lent.inner.now)) }
     ensures names { NamesOnce asked.now.name.now (K.tally sink.entry.inner.now).names (K.tally result.lent.inner.now).names answer.new }
     ensures first_byte { IsShutOrWhole (K.contents result.lent.inner.now)
         (HoldsPacked asked.now.options (restored_from (S.held view.entry.inner.now)) (K.contents result.lent.inner.now)) answer.new }
@@ -96,7 +96,8 @@ pub(crate) fn in_view<'a, 'k, L: Origin, M: Watch, R: Threads + Sync, S: Source,
     ensures buffers { KeepsBuffers (Pack asked.now.options) (restored_from (S.held view.entry.inner.now)) meter.old meter.new window.old window.new }
     ensures exact_peak { OnOk answer.new (IfSome (restored_from (S.held view.entry.inner.now))
         (λ u. meter.new.peak ≡ max meter.old.peak (highest (job_takings (Pack asked.now.options) u window.old.workers)))) }
-    ensures told_contents { StaysTold (K.contents sink.entry.inner.now) (K.contents result.lent.inner.now) }
+    ensures stays { CountsKept (nameless (K.tally sink.entry.inner.now)) (nameless (K.tally result.lent.inner.now))
+        × StaysTold (K.contents sink.entry.inner.now) (K.contents result.lent.inner.now) }
 {
     let length = view.length();
     let mut pinned: Pinned<'a, S, L> = Pinned {

@@ -14,13 +14,14 @@ ghost use Rattle.fz_job.specs.Clauses.{IsShutOrWhole, KeepsSource, TellsFirstFau
 ghost use Rattle.fz_retile.specs.Retiles.{AnswersBoth, HasRetileCause, HoldsRetiled, KeepsPacking, KeepsView, StaysUnmadeBoth, failed_of, late_of, settled_of};
 
 use crate::pinning::{Ended, Packing, in_view};
+use crate::view::PlainView;
 use crate::watched::Lent;
 use fz_base::{Failed, Fault, Gate, Meter, Sink, Source, Stop, takings_law};
 use fz_files::buffers_law;
 use fz_head::PackOptions;
 use fz_laws::{first_fault_law, restored_law};
+use fz_look::look;
 use fz_pool::Window;
-use fz_view::{PlainView, look};
 use std::marker::Brand;
 use std::snapshot::Snapshot;
 use std::thread::Threads;
@@ -79,8 +80,8 @@ pub fn retile<R: Threads + Sync, S: Source, K: Sink, G: Gate>(
     ensures unread { view.old.limit < 2880 → S.ranges source.new ≡ S.ranges source.old }
     ensures kept { KeepsSource (S.held source.old) (S.held source.new) (S.attached source.old) (S.attached source.new)
         (S.tally source.old) (S.tally source.new) (nameless (K.tally sink.old)) (nameless (K.tally sink.new)) }
-    ensures told_ranges { StaysTold (S.ranges source.old) (S.ranges source.new) }
-    ensures told_contents { StaysTold (K.contents sink.old) (K.contents sink.new) }
+    ensures stays { StaysTold (S.ranges source.old) (S.ranges source.new)
+        × StaysTold (K.contents sink.old) (K.contents sink.new) }
 {
     // What the file stands for, that it has one first fault, and which limits are enough.
     first_fault_law();

@@ -43,10 +43,10 @@ impl<'k, K: Sink> Lent<'k, K> {
     fn write_at(&mut self, at: u64, bytes: &[u8]) -> Result<(), Failed>
         requires created { IsTrue (K.created self.old.inner.now) }
         requires some { 0 < len bytes.now }
-        ensures same_reference { self.new.inner.ghost_name ≡ self.old.inner.ghost_name }
         ensures written { OnOk result (K.contents self.new.inner.now ≡ written at bytes.now (K.contents self.old.inner.now)) }
         ensures partly { OnErr result (MayWrite at bytes.now (K.contents self.old.inner.now) (K.contents self.new.inner.now)) }
-        ensures created { K.created self.new.inner.now ≡ K.created self.old.inner.now }
+        ensures stays { (self.new.inner.ghost_name ≡ self.old.inner.ghost_name)
+            × (K.created self.new.inner.now ≡ K.created self.old.inner.now) }
         ensures finished { K.finished self.new.inner.now ≡ false }
         ensures cause { HasCause (K.tally self.old.inner.now) (K.tally self.new.inner.now) result }
     {
@@ -56,9 +56,9 @@ impl<'k, K: Sink> Lent<'k, K> {
     // As the sink ends.
     fn finish(&mut self) -> Result<(), Failed>
         requires { IsTrue (K.created self.old.inner.now) }
-        ensures same_reference { self.new.inner.ghost_name ≡ self.old.inner.ghost_name }
-        ensures contents { K.contents self.new.inner.now ≡ K.contents self.old.inner.now }
-        ensures created { K.created self.new.inner.now ≡ K.created self.old.inner.now }
+        ensures stays { (self.new.inner.ghost_name ≡ self.old.inner.ghost_name)
+            × (K.contents self.new.inner.now ≡ K.contents self.old.inner.now)
+            × (K.created self.new.inner.now ≡ K.created self.old.inner.now) }
         ensures finished { K.finished self.new.inner.now ≡ (is_ok result || K.finished self.old.inner.now) }
         ensures cause { HasCause (K.tally self.old.inner.now) (K.tally self.new.inner.now) result }
     {

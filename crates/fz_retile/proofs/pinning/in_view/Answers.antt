@@ -10,7 +10,7 @@ use Rattle.fz_files.specs.Buffers.{job_takings}
 use Rattle.fz_files.specs.declared.job.Job.TheVariants.{Pack}
 use Rattle.fz_job.specs.Clauses.{Answers, HasJobCause, IsShutOrWhole, IsUnmade, TellsFirstFault}
 use Rattle.fz_pack.specs.Output.{HoldsPacked}
-use Rattle.fz_view.specs.Views.{restored_from, with_more}
+use Rattle.fz_retile.specs.Views.{restored_from, with_more}
 use Rattle.fz_retile.proofs.Unread as late
 use Rattle.fz_retile.proofs.Watching.{kept_from}
 use Rattle.fz_retile.proofs.pinning.in_view.Goals as goal

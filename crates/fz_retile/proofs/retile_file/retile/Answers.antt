@@ -13,8 +13,8 @@ use Rattle.fz_base.specs.Takings.{highest}
 use Rattle.fz_base.specs.declared.failure.Stop.TheVariants.{OverLimit}
 use Rattle.fz_head.specs.Planned.{IsTile}
 use Rattle.fz_pool.specs.Window.{Pool}
-use Rattle.fz_view.specs.Views.{restored_from}
-use Rattle.fz_view.specs.declared.looked.Looked.{Looked}
+use Rattle.fz_retile.specs.Views.{restored_from}
+use Rattle.fz_look.specs.declared.looked.Looked.{Looked}
 use Rattle.fz_files.specs.Buffers.{file_takings, own_takings}
 use Rattle.fz_files.specs.Touched.{touched_by}
 use Rattle.fz_files.specs.declared.job.Job.TheVariants.{Retile, Unpack}
@@ -257,11 +257,13 @@ returns-clause-touched g c =
     subst (λ s. IfSome held (λ f. LogsIn (touched_by (Retile c.args.options.now) f) (g.S.Source.ranges c.args.source.now) (g.S.Source.ranges s))) {x = c.close-source.result.now} (search rules)
     (touched_so c.args.options.now held _ _ (rw (after, began) at c.close-source.ensures.touched))
 
-pub returns-clause-told_ranges : goal.returns-clause-told_ranges
-returns-clause-told_ranges g c =
-    let began : g.S.Source.ranges c.in_view-ended.result.view.start.value ≡ g.S.Source.ranges c.args.source.now = c.in_view-ended.ensures.ranges ∙ ap g.S.Source.ranges (c.new-plain.ensures.start ∙ c.of-start.ensures) in
-    subst (λ s. StaysTold (g.S.Source.ranges c.args.source.now) (g.S.Source.ranges s)) {x = c.close-source.result.now} (search rules)
-    (rw began at c.close-source.ensures.told)
+pub returns-clause-stays : goal.returns-clause-stays
+returns-clause-stays g c =
+    let began : g.S.Source.ranges c.in_view-ended.result.view.start.value ≡ g.S.Source.ranges c.args.source.now = c.in_view-ended.ensures.ranges ∙ ap g.S.Source.ranges (c.new-plain.ensures.start ∙ c.of-start.ensures) in (
+      subst (λ s. StaysTold (g.S.Source.ranges c.args.source.now) (g.S.Source.ranges s)) {x = c.close-source.result.now} (search rules)
+          (rw began at c.close-source.ensures.told),
+      search rules,
+    )
 
 pub returns-clause-unread : goal.returns-clause-unread
 returns-clause-unread g c = λ low. absurd (not_looked (c.in_ok-looked.ensures.cause.block low).0)
@@ -275,5 +277,5 @@ returns-clause-kept g c =
       held_is = ap g.S.Source.held c.close-source.ensures.left ∙ c.in_view-ended.ensures.held ∙ there;
       attached_is = ap g.S.Source.attached c.close-source.ensures.left ∙ c.in_view-ended.result.view.is_attached ∙ ap (λ (n : ℕ). Some n) (c.in_view-ended.ensures.file ∙ c.new-plain.ensures.file) ∙ sym c.requires.attached;
       source_counts = subst (λ (t : Tally). CountsKept t (g.S.Source.tally c.close-source.result.now)) began (subst (λ s. CountsKept (g.S.Source.tally c.in_view-ended.result.view.start.value) (g.S.Source.tally s)) (sym c.close-source.ensures.left) c.in_view-ended.result.view.failures.kept);
-      sink_counts = c.in_view-ended.ensures.sink_counts;
+      sink_counts = c.in_view-ended.ensures.stays.0;
     })

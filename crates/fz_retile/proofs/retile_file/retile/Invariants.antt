@@ -1,6 +1,6 @@
 -- The view and the sink are pinned to what they are when the view is handed to `pack`.
 use Rattle.fz_base.specs.Counts.{nameless}
-use Rattle.fz_view.specs.Looked.{buffers_of}
+use Rattle.fz_look.specs.Looked.{buffers_of}
 use Rattle.fz_retile.proofs.retile_file.retile.Given as goal
 
 abbrev pub ghosts-in_view-L-Origin : goal.ghosts-in_view-L-Origin

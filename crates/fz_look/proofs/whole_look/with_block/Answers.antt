@@ -1,0 +1,167 @@
+-- The first look stops, or knows the file, and then the look at the rows says the rest.
+use Rattle.std.proofs.Common.{◌≡◌, ℕ, ◌+◌, ◌≤◌, max, List, Option, None, IfSome, Result, Err, length, sum, refl, sym, ◌∙◌, subst, rules, arith}
+use Rattle.std.specs.Prelude.{IfOk, OnOk}
+use Rattle.fz_base.specs.Counts.{uncounted}
+use Rattle.fz_base.specs.Stop.{IfRefused, TellsLimit}
+use Rattle.fz_base.specs.Takings.{TellsFirstPast, first_past, highest, piled}
+use Rattle.fz_base.specs.declared.failure.Stop.{Stop}
+use Rattle.fz_files.specs.declared.job.Job.TheVariants.{Unpack}
+use Rattle.fz_job.specs.Surveys.{survey_takings}
+use Rattle.fz_job.specs.Workspace.{wanted_buffers}
+use Rattle.fz_job.specs.declared.checks.JobChecks.TheVariants.{Unpack as UnpackChecks}
+use Rattle.fz_job.specs.Clauses.{greatest_bound}
+use Rattle.fz_job.specs.Stages.{Works, later_takings, wants_for}
+use Rattle.fz_job.specs.Hdus.{ReadsHdus}
+use Rattle.fz_look.specs.Looked.{IsFaultAmong, IsLookFault, IsSeen}
+use Rattle.fz_look.specs.declared.whole_look.Found.{Found}
+use Rattle.fz_look.proofs.HduReads.{all_read, look_read}
+use Rattle.fz_look.proofs.Learnt.{Knows, header_refused, learnt, work_faulty, work_looked, work_sound}
+use Rattle.fz_look.proofs.Outcomes.{look_refused, ok_weaker}
+use Rattle.fz_look.proofs.whole_look.with_block.Goals as goal
+
+pub returns-in_err-survey-clause-first_fault : goal.returns-in_err-survey-clause-first_fault
+returns-in_err-survey-clause-first_fault g c =
+    let held : Option (List ℕ) = g.S.Source.held c.args.source.now in
+    let stop : Stop = c.in_err-survey.field-0.0 in
+    let stopped : c.from_residual.result ≡ Err stop = search rules in
+    subst (λ (r : Result Found Stop). IfRefused r (λ x. IfSome held (λ file. IsLookFault file x))) (sym stopped)
+    (header_refused Found held stop (c.stages_law.ensures.look.fault Unpack held stop (look_refused (c.known_law.ensures.refuse Unpack tt) held stop c.in_err-survey.ensures.exact)))
+
+pub returns-in_err-survey-clause-first_past : goal.returns-in_err-survey-clause-first_past
+returns-in_err-survey-clause-first_past g c =
+    let held : Option (List ℕ) = g.S.Source.held c.args.source.now in
+    let meter = c.args.meter.now in
+    let W : ℕ = c.args.window.now.workers in
+    let stop : Stop = c.in_err-survey.field-0.0 in
+    let stopped : c.from_residual.result ≡ Err stop = search rules in
+    subst (λ (r : Result Found Stop). IfSome held (λ file. TellsFirstPast meter.limit (later_takings Unpack file W) r)) (sym stopped)
+    (c.stages_law.ensures.look.first_past Unpack UnpackChecks held W meter.live meter.limit stop _ _ refl c.requires.one_block c.in_err-survey.ensures.cause.stop
+    (look_refused (c.known_law.ensures.refuse Unpack tt) held stop c.in_err-survey.ensures.exact) c.in_err-survey.ensures.first_past)
+
+pub returns-in_err-survey-clause-peak : goal.returns-in_err-survey-clause-peak
+returns-in_err-survey-clause-peak g c =
+    c.stages_law.ensures.peaks.look Unpack UnpackChecks (g.S.Source.held c.args.source.now) c.args.window.now.workers c.args.meter.now.live c.args.meter.now.peak c.survey_to_unpack.new.meter.peak refl c.requires.one_block
+    c.in_err-survey.ensures.peak
+
+pub returns-in_err-survey-clause-emptied : goal.returns-in_err-survey-clause-emptied
+returns-in_err-survey-clause-emptied g c = λ i. record { slots = c.requires.window i; workers = c.args.window.now.workers }
+
+pub returns-in_err-survey-clause-cause : goal.returns-in_err-survey-clause-cause
+returns-in_err-survey-clause-cause g c =
+    let source = g.S.Source.tally c.args.source.now in
+    let source' = g.S.Source.tally c.survey_to_unpack.new.source in
+    let stopped : c.from_residual.result ≡ Err c.in_err-survey.field-0.0 = search rules in
+    subst (λ (r : Result Found Stop). Works source source' uncounted uncounted c.args.meter.now.limit r) (sym stopped)
+    (c.stages_law.ensures.look.works source source' uncounted c.args.meter.now.limit c.in_err-survey.field-0.0 c.in_err-survey.ensures.cause)
+
+pub returns-in_err-survey-clause-most : goal.returns-in_err-survey-clause-most
+returns-in_err-survey-clause-most g c =
+    let W : ℕ = c.args.window.now.workers in
+    let meter = c.args.meter.now in
+    let stopped : c.from_residual.result ≡ Err c.in_err-survey.field-0.0 = search rules in
+    subst (λ (r : Result Found Stop). TellsLimit meter.limit (greatest_bound Unpack W) r) (sym stopped)
+    (c.stages_law.ensures.look.over_limit Unpack W meter.live meter.limit c.in_err-survey.field-0.0 c.requires.one_block c.in_err-survey.ensures.most)
+
+pub returns-in_err-survey-clause-peak_most : goal.returns-in_err-survey-clause-peak_most
+returns-in_err-survey-clause-peak_most g c =
+    let within = c.stages_law.ensures.sizes.look Unpack c.args.window.now.workers in
+    omega (arith, within, c.requires.one_block, c.in_err-survey.ensures.peak_most)
+
+pub returns-in_err-survey-clause-touched : goal.returns-in_err-survey-clause-touched
+returns-in_err-survey-clause-touched g c =
+    let held : Option (List ℕ) = g.S.Source.held c.args.source.now in
+    let new : Option (List (ℕ × ℕ)) = g.S.Source.ranges c.survey_to_unpack.new.source in
+    look_read held (g.S.Source.ranges c.args.source.now) new new (c.headers_law.ensures.look Unpack tt) c.in_err-survey.ensures.touched
+
+pub returns-clause-looked : goal.returns-clause-looked
+returns-clause-looked g c =
+    let held : Option (List ℕ) = g.S.Source.held c.args.source.now in
+    let same : g.S.Source.held c.survey_to_unpack.new.source ≡ held = search rules in
+    let s = c.in_ok-survey.survey in
+    let exact : IfSome held (Knows s) = c.in_ok-survey.ensures.exact in
+    let seen : IfOk c.with_survey.result (λ (f : Found). IfSome held (λ file. IsSeen file s f.seen)) = rw same at c.with_survey.ensures.seen in
+    let whole : length c.survey_to_unpack.new.block ≡ 2880 = search rules in
+    work_looked (c.known_law.ensures.know Unpack tt) s c.first_fault_law.ensures.only held c.args.length c.survey_to_unpack.new.block whole c.with_survey.result exact seen c.with_survey.ensures.sound
+
+pub returns-clause-sound : goal.returns-clause-sound
+returns-clause-sound g c =
+    let whole : length c.survey_to_unpack.new.block ≡ 2880 = search rules in
+    work_sound (c.known_law.ensures.know Unpack tt) c.in_ok-survey.survey c.args.length c.survey_to_unpack.new.block whole c.with_survey.result c.with_survey.ensures.sound
+
+pub returns-clause-first_fault : goal.returns-clause-first_fault
+returns-clause-first_fault g c =
+    let held : Option (List ℕ) = g.S.Source.held c.args.source.now in
+    let same : g.S.Source.held c.survey_to_unpack.new.source ≡ held = search rules in
+    let s = c.in_ok-survey.survey in
+    let exact : IfSome held (Knows s) = c.in_ok-survey.ensures.exact in
+    let fault : IfRefused c.with_survey.result (λ x. IfSome held (λ file. IsFaultAmong file s x)) = rw same at c.with_survey.ensures.fault in
+    work_faulty (c.known_law.ensures.know Unpack tt) s held c.with_survey.result exact fault
+
+pub returns-clause-exact_peak : goal.returns-clause-exact_peak
+returns-clause-exact_peak g c =
+    let held : Option (List ℕ) = g.S.Source.held c.args.source.now in
+    let meter = c.args.meter.now in
+    let W : ℕ = c.args.window.now.workers in
+    let s = c.in_ok-survey.survey in
+    let exact : IfSome held (Knows s) = c.in_ok-survey.ensures.exact in
+    let look : IfSome held (λ file. c.survey_to_unpack.new.meter.peak ≡ max meter.peak (highest (survey_takings UnpackChecks meter.live file))) = c.in_ok-survey.ensures.exact_peak in
+    let reached : OnOk c.with_survey.result (c.with_survey.new.meter.peak ≡ max c.survey_to_unpack.new.meter.peak (meter.live + sum (wanted_buffers (wants_for Unpack s) W))) = rw c.in_ok-survey.ensures.stays.1 at c.with_survey.ensures.exact_peak in
+    ok_weaker c.with_survey.result
+    (λ work. c.stages_law.ensures.reached.work Unpack UnpackChecks held W meter.live meter.peak c.survey_to_unpack.new.meter.peak c.with_survey.new.meter.peak s.header_len s.tile refl c.requires.one_block (learnt (c.known_law.ensures.know Unpack tt) s held exact) look work) reached
+
+pub returns-clause-first_past : goal.returns-clause-first_past
+returns-clause-first_past g c =
+    let held : Option (List ℕ) = g.S.Source.held c.args.source.now in
+    let meter = c.args.meter.now in
+    let W : ℕ = c.args.window.now.workers in
+    let s = c.in_ok-survey.survey in
+    let exact : IfSome held (Knows s) = c.in_ok-survey.ensures.exact in
+    let none : IfSome held (λ file. first_past meter.limit (survey_takings UnpackChecks meter.live file) ≡ None) = c.in_ok-survey.ensures.first_past in
+    let tells : TellsFirstPast meter.limit (piled meter.live (wanted_buffers (wants_for Unpack s) W)) c.with_survey.result =
+    rw (c.in_ok-survey.ensures.stays.1, c.in_ok-survey.ensures.stays.2) at c.with_survey.ensures.first_past in
+    c.stages_law.ensures.work.first_past Unpack UnpackChecks held W meter.live meter.limit s.header_len s.tile c.with_survey.result refl c.requires.one_block
+    (learnt (c.known_law.ensures.know Unpack tt) s held exact) none tells
+
+pub returns-clause-peak : goal.returns-clause-peak
+returns-clause-peak g c =
+    let held : Option (List ℕ) = g.S.Source.held c.args.source.now in
+    let meter = c.args.meter.now in
+    let W : ℕ = c.args.window.now.workers in
+    let s = c.in_ok-survey.survey in
+    let exact : IfSome held (Knows s) = c.in_ok-survey.ensures.exact in
+    let high : c.with_survey.new.meter.peak ≤ max c.survey_to_unpack.new.meter.peak (meter.live + sum (wanted_buffers (wants_for Unpack s) W)) = rw c.in_ok-survey.ensures.stays.1 at c.with_survey.ensures.peak in
+    c.stages_law.ensures.peaks.work Unpack UnpackChecks held W meter.live meter.peak c.survey_to_unpack.new.meter.peak c.with_survey.new.meter.peak s.header_len s.tile refl c.requires.one_block
+    (learnt (c.known_law.ensures.know Unpack tt) s held exact) c.in_ok-survey.ensures.peak high
+
+pub returns-clause-cause : goal.returns-clause-cause
+returns-clause-cause g c = rw (c.in_ok-survey.ensures.cause.ok, c.in_ok-survey.ensures.stays.2) at c.with_survey.ensures.cause
+
+pub returns-clause-most : goal.returns-clause-most
+returns-clause-most g c =
+    let W : ℕ = c.args.window.now.workers in
+    let meter = c.survey_to_unpack.new.meter in
+    let s = c.in_ok-survey.survey in
+    let most : TellsLimit meter.limit (greatest_bound Unpack W) c.with_survey.result =
+    c.stages_law.ensures.work.over_limit Unpack W meter.live meter.limit s.header_len s.tile _ _ _ _ c.with_survey.result tt (c.in_ok-survey.ensures.stays.1 ∙ c.requires.one_block) c.in_ok-survey.ensures.survey.header.1
+    c.in_ok-survey.ensures.survey.tile c.with_survey.ensures.cause.stop c.with_survey.ensures.first_past in
+    rw c.in_ok-survey.ensures.stays.2 at most
+
+pub returns-clause-peak_most : goal.returns-clause-peak_most
+returns-clause-peak_most g c =
+    let s = c.in_ok-survey.survey in
+    let W : ℕ = c.args.window.now.workers in
+    let look = c.stages_law.ensures.sizes.look Unpack W in
+    let work = c.stages_law.ensures.sizes.work Unpack W s.header_len s.tile tt c.in_ok-survey.ensures.survey.header.1 c.in_ok-survey.ensures.survey.tile in
+    omega (arith, look, work, c.requires.one_block, c.in_ok-survey.ensures.stays.1, c.in_ok-survey.ensures.peak_most, c.with_survey.ensures.peak)
+
+pub returns-clause-touched : goal.returns-clause-touched
+returns-clause-touched g c =
+    let held : Option (List ℕ) = g.S.Source.held c.args.source.now in
+    let same : g.S.Source.held c.survey_to_unpack.new.source ≡ held = search rules in
+    let old : Option (List (ℕ × ℕ)) = g.S.Source.ranges c.args.source.now in
+    let mid : Option (List (ℕ × ℕ)) = g.S.Source.ranges c.survey_to_unpack.new.source in
+    let new : Option (List (ℕ × ℕ)) = g.S.Source.ranges c.with_survey.new.source in
+    let exact : IfSome held (Knows c.in_ok-survey.survey) = c.in_ok-survey.ensures.exact in
+    let reads : IfSome held (λ file. ReadsHdus Unpack file c.in_ok-survey.survey mid new) = rw same at c.with_survey.ensures.read in
+    all_read held old mid new c.ranges_law.ensures.join (c.known_law.ensures.know Unpack tt) (c.hdus_law.ensures.known Unpack tt) c.in_ok-survey.survey exact
+    (look_read held old mid new (c.headers_law.ensures.look Unpack tt) c.in_ok-survey.ensures.touched) reads

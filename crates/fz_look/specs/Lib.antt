@@ -1,0 +1,9 @@
+pub mod Boxes
+pub mod Found
+pub mod Here
+pub mod Laws
+pub mod Looked
+pub mod Looks
+pub mod Marked
+pub mod Placing
+pub mod Scratch

@@ -1,7 +1,0 @@
--- A mark has room in the table.
-use Rattle.std.proofs.Common.{length}
-use Rattle.fz_view.proofs.Marking.{place_fits}
-use Rattle.fz_view.proofs.marked.place_of.Goals as goal
-
-pub returns-clause-within : goal.returns-clause-within
-returns-clause-within c = place_fits (length c.args.table.now) c.args.tile c.requires.room
