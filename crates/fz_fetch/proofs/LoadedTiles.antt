@@ -3,7 +3,7 @@ use Rattle.std.proofs.Common.{◌≡◌, ℕ, zero, suc, ◌+◌, ◌<◌, ◌�
 use Rattle.fz_base.specs.Ranges.{LiesIn, LogsIn, LogsAllLaw, LogsJoinLaw}
 use Rattle.fz_table.specs.Reads.{record_ranges, row_ranges, tile_ranges}
 use Rattle.fz_table.specs.Records.{record_at}
-use Rattle.fz_head.specs.declared.job_checks.PackedImage.{PackedImage}
+use Rattle.fz_checks.specs.declared.job_checks.PackedImage.{PackedImage}
 use Rattle.fz_files.specs.Restored.{tile_of}
 use Rattle.fz_pool.specs.Calls.{AreSameFrom}
 use Rattle.fz_pool.specs.Window.{IsPut, Pool}

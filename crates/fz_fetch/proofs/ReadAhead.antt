@@ -18,7 +18,7 @@ use Rattle.fz_table.specs.declared.record.Record.{Record}
 use Rattle.fz_table.specs.declared.record.Tile.{Tile}
 use Rattle.fz_table.specs.declared.row.Row.{Row}
 use Rattle.fz_table.specs.declared.table.Table.{Table}
-use Rattle.fz_head.specs.declared.job_checks.PackedImage.{PackedImage}
+use Rattle.fz_checks.specs.declared.job_checks.PackedImage.{PackedImage}
 use Rattle.fz_files.specs.Restored.{tile_of}
 use Rattle.fz_fetch.specs.Ahead.{AreOfRows, IsAhead, all_ranges, nothing_ahead}
 use Rattle.fz_fetch.specs.Loaded.{IsRecordIn}

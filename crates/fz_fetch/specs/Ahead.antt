@@ -3,7 +3,7 @@ use Rattle.std.specs.Prelude.{ℕ, ◌≡◌, ◌+◌, ◌*◌, ◌^◌, ◌<◌
 use Rattle.std.specs.List.{range_with_len}
 use Rattle.fz_base.specs.Ranges.{LiesIn}
 use Rattle.fz_table.specs.declared.table.Table.{Table}
-use Rattle.fz_head.specs.declared.job_checks.PackedImage.{PackedImage}
+use Rattle.fz_checks.specs.declared.job_checks.PackedImage.{PackedImage}
 use Rattle.fz_fetch.specs.Loaded.{tiles_ranges}
 use Rattle.fz_fetch.specs.Rows.{HasRowsOf}
 use Rattle.fz_fetch.specs.declared.ahead.Ahead.{Ahead}

@@ -5,7 +5,7 @@ use Rattle.fz_base.specs.declared.fault.Fault.{Fault}
 use Rattle.fz_table.specs.Reads.{tile_ranges}
 use Rattle.fz_table.specs.Records.{IsOfRow, record_at, record_bytes}
 use Rattle.fz_table.specs.declared.record.Record.{Record}
-use Rattle.fz_head.specs.declared.job_checks.PackedImage.{PackedImage}
+use Rattle.fz_checks.specs.declared.job_checks.PackedImage.{PackedImage}
 use Rattle.fz_files.specs.Restored.{tile_of}
 use Rattle.fz_pool.specs.Slots.{IsForDecoding, record_of}
 use Rattle.fz_pool.specs.Window.{Pool}

@@ -112,9 +112,8 @@ fn read_rows_on<S: Source>(
     requires ahead { IsAhead (S.held source.old) table.now buf.old ahead.old }
     ensures here { OnOk result ((ahead.new.first ≡ first) × (0 < ahead.new.count)) }
     ensures ahead { IsAhead (S.held source.new) table.now buf.new ahead.new }
-    ensures len { len buf.new ≡ len buf.old }
     ensures read { LogsIn (rows_ranges table.now (range_with_len 0 table.now.rows)) (S.ranges source.old) (S.ranges source.new) }
-    ensures source { SourceStays S.held S.attached S.ranges source.old source.new }
+    ensures stays { SourceStays S.held S.attached S.ranges source.old source.new × (len buf.new ≡ len buf.old) }
     ensures cause { ReadsOnly (S.tally source.old) (S.tally source.new) result }
     ensures unrefused { ¬ (IsRefused result) }
 {

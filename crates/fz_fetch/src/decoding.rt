@@ -21,8 +21,8 @@ use crate::fetching::{fetch_ahead, fetch_tiles};
 use crate::tiles::{MOST_TILES, number_tiles};
 use fz_base::{Gate, Source, Stop, ranges_law};
 use fz_block::Header;
+use fz_checks::PackedImage;
 use fz_grid::Grid;
-use fz_head::PackedImage;
 use fz_job::hdus_law;
 use fz_pool::{Crew, Window};
 use std::thread::Threads;
@@ -65,9 +65,8 @@ pub fn decode_tiles<R: Threads + Sync, S: Source, G: Gate>(
     ensures sound { OnOk result (IfSome (S.held source.old) (λ g. IsFirstRowFault g (rows_of g header.now) None)) }
     ensures fault { IfRefused result (λ x. IfSome (S.held source.old) (λ g. IsFirstRowFault g (rows_of g header.now) (Some x))) }
     ensures row { IfRefused result IsOfSomeRow }
-    ensures rows { len rows.new ≡ len rows.old }
-    ensures window { WindowStays window.old window.new }
-    ensures source { SourceStays S.held S.attached S.ranges source.old source.new }
+    ensures stays { SourceStays S.held S.attached S.ranges source.old source.new × WindowStays window.old window.new
+        × (len rows.new ≡ len rows.old) }
     ensures read { IfSome (S.held source.old) (λ g. LogsIn (image_ranges g header.now) (S.ranges source.old) (S.ranges source.new)) }
     ensures cause { Fetches (S.tally source.old) (S.tally source.new) result }
 {
@@ -99,10 +98,9 @@ fn decode_ahead<R: Threads + Sync, S: Source, G: Gate>(
     requires round { CanDecode (S.held source.old) (S.attached source.old) packed.header.now packed.image.now round.first round.count window.old }
     requires ahead { IsAhead (S.held source.old) packed.image.now.table rows.old ahead.old }
     ensures judged { JudgesRound (S.held source.old) packed.entry.header.now round.first round.count (S.ranges source.old) (S.ranges source.new) result }
-    ensures rows { len rows.new ≡ len rows.old }
     ensures ahead { IsAhead (S.held source.new) packed.entry.image.now.table rows.new ahead.new }
-    ensures window { WindowStays window.old window.new }
-    ensures source { SourceStays S.held S.attached S.ranges source.old source.new }
+    ensures stays { SourceStays S.held S.attached S.ranges source.old source.new × WindowStays window.old window.new
+        × (len rows.new ≡ len rows.old) }
     ensures cause { Fetches (S.tally source.old) (S.tally source.new) result }
 {
     hdus_law();
@@ -140,9 +138,8 @@ pub fn decode_round<R: Threads + Sync, S: Source, G: Gate>(
     ensures fault { IfRefused result (λ x. IfSome (S.held source.old)
         (λ g. IsFirstRowFault g (map (image_row packed.entry.header.now) (range_with_len round.first round.count)) (Some x))) }
     ensures row { IfRefused result IsOfSomeRow }
-    ensures rows { len rows.new ≡ len rows.old }
-    ensures window { WindowStays window.old window.new }
-    ensures source { SourceStays S.held S.attached S.ranges source.old source.new }
+    ensures stays { SourceStays S.held S.attached S.ranges source.old source.new × WindowStays window.old window.new
+        × (len rows.new ≡ len rows.old) }
     ensures read { IfSome (S.held source.old) (λ g. LogsIn (image_ranges g packed.entry.header.now) (S.ranges source.old) (S.ranges source.new)) }
     ensures cause { Fetches (S.tally source.old) (S.tally source.new) result }
 {

@@ -6,7 +6,7 @@ ghost use Rattle.fz_base.specs.Refusal.{refusal};
 ghost use Rattle.fz_base.specs.Stop.{IfRefused};
 ghost use Rattle.fz_base.specs.declared.failure.Stop.TheVariants.{Refused};
 ghost use Rattle.fz_base.specs.declared.fault.Place.TheVariants.{Row as AtRow};
-ghost use Rattle.fz_head.specs.TileKinds.{kind_of_tile};
+ghost use Rattle.fz_checks.specs.TileKinds.{kind_of_tile};
 ghost use Rattle.fz_pool.specs.Calls.{AreSameFrom};
 ghost use Rattle.fz_fetch.specs.Ahead.{IsAhead, image_tiles};
 ghost use Rattle.fz_fetch.specs.Fetched.{AreFetched, IsOfRowAmong, TellsRowFault};
@@ -20,7 +20,7 @@ use crate::loading::load_round;
 use crate::loading_ahead::load_round_ahead;
 use fz_base::{Fault, Gate, Place, Source, Stop};
 use fz_block::Header;
-use fz_head::{PackedImage, tile_kind};
+use fz_checks::{PackedImage, tile_kind};
 use fz_pool::{Crew, Window, decode_beside, decode_window, round_law, sizes_law};
 use fz_tile::TileFault;
 use std::thread::Threads;
@@ -54,10 +54,9 @@ pub fn fetch_tiles<R: Threads + Sync, S: Source, G: Gate>(
     ensures row { IfRefused result (IsOfRowAmong header.now.hdu tiles.now) }
     ensures fault { TellsRowFault (S.held source.old) header.now tiles.now result }
     ensures read { IfSome (S.held source.old) (λ g. LogsIn (fetched_ranges g header.now tiles.now) (S.ranges source.old) (S.ranges source.new)) }
-    ensures source { SourceStays S.held S.attached S.ranges source.old source.new }
-    ensures rows { len rows.new ≡ len rows.old }
     ensures others { AreSameFrom (len tiles.now) window.old.slots window.new.slots }
-    ensures window { WindowStays window.old window.new }
+    ensures stays { SourceStays S.held S.attached S.ranges source.old source.new × WindowStays window.old window.new
+        × (len rows.new ≡ len rows.old) }
     ensures cause { Fetches (S.tally source.old) (S.tally source.new) result }
 {
     round_law();
@@ -98,12 +97,11 @@ pub fn fetch_ahead<R: Threads + Sync, S: Source, G: Gate>(
     ensures row { IfRefused result (IsOfRowAmong header.now.hdu tiles.now) }
     ensures fault { TellsRowFault (S.held source.old) header.now tiles.now result }
     ensures ahead { IsAhead (S.held source.new) image.now.table buf.new ahead.new }
-    ensures buffer { len buf.new ≡ len buf.old }
     ensures read { IfSome (S.held source.old)
         (λ g. LogsIn (fetched_ranges g header.now (image_tiles image.now)) (S.ranges source.old) (S.ranges source.new)) }
-    ensures source { SourceStays S.held S.attached S.ranges source.old source.new }
     ensures others { AreSameFrom (len tiles.now) window.old.slots window.new.slots }
-    ensures window { WindowStays window.old window.new }
+    ensures stays { SourceStays S.held S.attached S.ranges source.old source.new × WindowStays window.old window.new
+        × (len buf.new ≡ len buf.old) }
     ensures cause { Fetches (S.tally source.old) (S.tally source.new) result }
 {
     round_law();
@@ -145,10 +143,9 @@ pub fn fetch_beside<R: Threads + Sync, S: Source, G: Gate, J: FnMut() -> B, B>(
     ensures row { IfRefused result.0 (IsOfRowAmong header.now.hdu tiles.now) }
     ensures fault { TellsRowFault (S.held source.old) header.now tiles.now result.0 }
     ensures read { IfSome (S.held source.old) (λ g. LogsIn (fetched_ranges g header.now tiles.now) (S.ranges source.old) (S.ranges source.new)) }
-    ensures source { SourceStays S.held S.attached S.ranges source.old source.new }
-    ensures rows { len rows.new ≡ len rows.old }
     ensures others { AreSameFrom (len tiles.now) window.old.slots window.new.slots }
-    ensures window { WindowStays window.old window.new }
+    ensures stays { SourceStays S.held S.attached S.ranges source.old source.new × WindowStays window.old window.new
+        × (len rows.new ≡ len rows.old) }
     ensures cause { Fetches (S.tally source.old) (S.tally source.new) result.0 }
     ensures job { J.step job.old result.1 job.new }
 {

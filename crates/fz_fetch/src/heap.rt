@@ -17,7 +17,7 @@ ghost use Rattle.fz_fetch.specs.Rows.{StandsWithin};
 use crate::ahead::{Ahead, ROWS_LEN, row_here};
 use crate::tiles::{PackedTile, known_tile};
 use fz_base::{Source, Stop, log_law, ranges_law};
-use fz_head::PackedImage;
+use fz_checks::PackedImage;
 use fz_table::{Record, read_record, record_of};
 
 /// Puts what is read of the record of a tile into the front of the code. If it was not read, it is read with the records
@@ -38,11 +38,10 @@ pub(crate) fn record_ahead<S: Source>(
     requires room { found.now.read ≤ len code.old }
     requires ahead { IsAhead (S.held source.old) tile.image.now.table buf.old ahead.old }
     ensures bytes { OnOk result (IfSome (S.held source.old) (λ g. take found.now.read code.new ≡ record_bytes g found.now)) }
-    ensures code { len code.new ≡ len code.old }
     ensures ahead { IsAhead (S.held source.new) tile.entry.image.now.table buf.new ahead.new }
-    ensures len { len buf.new ≡ len buf.old }
     ensures read { IfSome (S.held source.old) (λ g. LogsIn (all_ranges g tile.entry.hdu tile.entry.image.now) (S.ranges source.old) (S.ranges source.new)) }
-    ensures source { SourceStays S.held S.attached S.ranges source.old source.new }
+    ensures stays { SourceStays S.held S.attached S.ranges source.old source.new × (len code.new ≡ len code.old)
+        × (len buf.new ≡ len buf.old) }
     ensures cause { ReadsOnly (S.tally source.old) (S.tally source.new) result }
     ensures unrefused { ¬ (IsRefused result) }
 {
@@ -152,10 +151,9 @@ fn read_run<S: Source>(
     requires room { 4096 + count ≤ len buf.old }
     ensures here { OnOk result ((ahead.new.at ≡ at) × (ahead.new.len ≡ count)) }
     ensures ahead { (table : TableOf) → IsAhead (S.held source.old) table buf.old ahead.old → IsAhead (S.held source.new) table buf.new ahead.new }
-    ensures len { len buf.new ≡ len buf.old }
     ensures read { MayLog at count (S.ranges source.old) (S.ranges source.new) }
-    ensures held { S.held source.new ≡ S.held source.old }
-    ensures attached { S.attached source.new ≡ S.attached source.old }
+    ensures stays { (len buf.new ≡ len buf.old) × (S.held source.new ≡ S.held source.old)
+        × (S.attached source.new ≡ S.attached source.old) }
     ensures cause { ReadsOnly (S.tally source.old) (S.tally source.new) result }
     ensures unrefused { ¬ (IsRefused result) }
 {

@@ -21,7 +21,8 @@ ghost use Rattle.fz_fetch.specs.Tiles.{decoding_job};
 use crate::rows::{read_rows, row_of, rows_len, stand_together};
 use crate::tiles::{job_of, known_tile};
 use fz_base::{Fault, Source, Stop, log_law, ranges_law};
-use fz_head::{PackedImage, Plan};
+use fz_checks::PackedImage;
+use fz_head::Plan;
 use fz_pool::{Slot, Window, put_law, sizes_law};
 use fz_table::{Record, Table, read_record, record_of};
 
@@ -47,9 +48,8 @@ pub(crate) fn load_round<S: Source>(
     ensures loaded { IfOk result (LoadsTiles (S.held source.old) hdu image.now tiles.now window.new.slots) }
     ensures others { AreSameFrom (len tiles.now) window.old.slots window.new.slots }
     ensures read { IfSome (S.held source.old) (λ g. LogsIn (tiles_ranges g hdu image.now tiles.now) (S.ranges source.old) (S.ranges source.new)) }
-    ensures source { SourceStays S.held S.attached S.ranges source.old source.new }
-    ensures rows { len rows.new ≡ len rows.old }
-    ensures window { WindowStays window.old window.new }
+    ensures stays { SourceStays S.held S.attached S.ranges source.old source.new × WindowStays window.old window.new
+        × (len rows.new ≡ len rows.old) }
     ensures cause { ReadsOnly (S.tally source.old) (S.tally source.new) result }
     ensures unrefused { ¬ (IsRefused result) }
 {
@@ -77,8 +77,7 @@ fn load_tiles<S: Source>(
     ensures loaded { IfOk result (LoadsTiles (S.held source.old) hdu image.now tiles.now window.new.slots) }
     ensures others { AreSameFrom (len tiles.now) window.old.slots window.new.slots }
     ensures read { IfSome (S.held source.old) (λ g. LogsIn (tiles_ranges g hdu image.now tiles.now) (S.ranges source.old) (S.ranges source.new)) }
-    ensures source { SourceStays S.held S.attached S.ranges source.old source.new }
-    ensures window { WindowStays window.old window.new }
+    ensures stays { SourceStays S.held S.attached S.ranges source.old source.new × WindowStays window.old window.new }
     ensures cause { ReadsOnly (S.tally source.old) (S.tally source.new) result }
     ensures unrefused { ¬ (IsRefused result) }
 {
@@ -136,8 +135,7 @@ fn load_next<S: Source>(
     ensures same { IsRefused result → window.new ≡ window.old }
     ensures read { IfSome (S.held source.old) (λ g. LogsIn (tile_ranges g hdu image.now.table tile (tile_of image.now.plan tile))
         (S.ranges source.old) (S.ranges source.new)) }
-    ensures source { SourceStays S.held S.attached S.ranges source.old source.new }
-    ensures window { WindowStays window.old window.new }
+    ensures stays { SourceStays S.held S.attached S.ranges source.old source.new × WindowStays window.old window.new }
     ensures cause { ReadsOnly (S.tally source.old) (S.tally source.new) result }
 {
     sizes_law();
@@ -179,8 +177,8 @@ fn load_slot<S: Source>(
     ensures ready { OnOk result (IsForDecoding slot.new) }
     ensures bytes { OnOk result (IfSome (S.held source.old) (λ g. record_in_slot slot.new ≡ record_bytes g found.now)) }
     ensures read { LogsIn ((found.now.start, found.now.read) ∷ []) (S.ranges source.old) (S.ranges source.new) }
-    ensures size { slot_size slot.new ≡ slot_size slot.old }
-    ensures source { SourceStays S.held S.attached S.ranges source.old source.new }
+    ensures stays { SourceStays S.held S.attached S.ranges source.old source.new
+        × (slot_size slot.new ≡ slot_size slot.old) }
     ensures cause { ReadsOnly (S.tally source.old) (S.tally source.new) result }
     ensures unrefused { ¬ (IsRefused result) }
 {

@@ -21,7 +21,7 @@ use crate::heap::record_ahead;
 use crate::loading::{Loaded, refused_by};
 use crate::tiles::{PackedTile, job_of, known_tile};
 use fz_base::{Source, Stop, log_law, ranges_law};
-use fz_head::PackedImage;
+use fz_checks::PackedImage;
 use fz_pool::{Slot, Window, put_law, sizes_law};
 use fz_table::{Record, record_of};
 
@@ -40,10 +40,9 @@ pub(crate) fn load_round_ahead<S: Source>(
     ensures loaded { IfOk result (LoadsTiles (S.held source.old) hdu image.now tiles.now window.new.slots) }
     ensures others { AreSameFrom (len tiles.now) window.old.slots window.new.slots }
     ensures ahead { IsAhead (S.held source.new) image.now.table buf.new ahead.new }
-    ensures len { len buf.new ≡ len buf.old }
     ensures read { IfSome (S.held source.old) (λ g. LogsIn (all_ranges g hdu image.now) (S.ranges source.old) (S.ranges source.new)) }
-    ensures source { SourceStays S.held S.attached S.ranges source.old source.new }
-    ensures window { WindowStays window.old window.new }
+    ensures stays { SourceStays S.held S.attached S.ranges source.old source.new × WindowStays window.old window.new
+        × (len buf.new ≡ len buf.old) }
     ensures cause { ReadsOnly (S.tally source.old) (S.tally source.new) result }
     ensures unrefused { ¬ (IsRefused result) }
 {
@@ -141,11 +140,10 @@ fn load_slot_ahead<S: Source>(
     ensures job { OnOk result (slot.new.job ≡ decoding_job tile.entry.image.now.plan tile.entry.number found.now) }
     ensures ready { OnOk result (IsForDecoding slot.new) }
     ensures bytes { OnOk result (IfSome (S.held source.old) (λ g. record_in_slot slot.new ≡ record_bytes g found.now)) }
-    ensures size { slot_size slot.new ≡ slot_size slot.old }
     ensures ahead { IsAhead (S.held source.new) tile.entry.image.now.table buf.new ahead.new }
-    ensures len { len buf.new ≡ len buf.old }
     ensures read { IfSome (S.held source.old) (λ g. LogsIn (all_ranges g tile.entry.hdu tile.entry.image.now) (S.ranges source.old) (S.ranges source.new)) }
-    ensures source { SourceStays S.held S.attached S.ranges source.old source.new }
+    ensures stays { SourceStays S.held S.attached S.ranges source.old source.new
+        × (slot_size slot.new ≡ slot_size slot.old) × (len buf.new ≡ len buf.old) }
     ensures cause { ReadsOnly (S.tally source.old) (S.tally source.new) result }
     ensures unrefused { ¬ (IsRefused result) }
 {

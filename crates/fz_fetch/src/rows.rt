@@ -65,8 +65,7 @@ pub(crate) fn read_rows<S: Source>(
     requires bytes { 0 < len rows.old }
     ensures rows { OnOk result (HasRowsOf (S.held source.old) table.now rows.new tiles.now) }
     ensures read { LogsIn (rows_ranges table.now tiles.now) (S.ranges source.old) (S.ranges source.new) }
-    ensures len { len rows.new ≡ len rows.old }
-    ensures source { SourceStays S.held S.attached S.ranges source.old source.new }
+    ensures stays { SourceStays S.held S.attached S.ranges source.old source.new × (len rows.new ≡ len rows.old) }
     ensures cause { ReadsOnly (S.tally source.old) (S.tally source.new) result }
     ensures unrefused { ¬ (IsRefused result) }
 {

@@ -7,8 +7,9 @@ ghost use Rattle.fz_files.specs.Packed.{tiles_in};
 ghost use Rattle.fz_files.specs.Restored.{is_plain_codec, pixels_of, place_in as place_in_column, tile_of};
 ghost use Rattle.fz_fetch.specs.Tiles.{decoding_job};
 
+use fz_checks::PackedImage;
 use fz_grid::{Grid, place_law};
-use fz_head::{PackedImage, Plan};
+use fz_head::Plan;
 use fz_pool::Job;
 use fz_table::{Record, Tile, TileColumn};
 use fz_tile::{Codec, Place2, plain_len};

@@ -5,7 +5,7 @@ use Rattle.std.proofs.Math.Nat.{mul-le-mul_left, mul-zero}
 use Rattle.fz_base.specs.Sink.{written}
 use Rattle.fz_sum.specs.Pieces.{total_at}
 use Rattle.fz_tile.specs.TileCode.{TileCode}
-use Rattle.fz_head.specs.Greatest.{greatest}
+use Rattle.fz_checks.specs.Greatest.{greatest}
 use Rattle.fz_head.specs.PackedTable.{planned_row}
 use Rattle.fz_files.specs.Packed.{coded_count, heap_of, rows_from, stored_count}
 use Rattle.fz_image.specs.Layout.{IsLayout, heap_at_of, rows_len_of}

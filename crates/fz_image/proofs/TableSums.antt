@@ -15,7 +15,7 @@ use Rattle.fz_tile.specs.declared.coded.Place2.TheVariants.{Coded, Stored}
 use Rattle.fz_head.specs.declared.plan.Plan.{Plan}
 use Rattle.fz_head.specs.declared.totals.Totals.{Totals}
 use Rattle.fz_head.specs.Conditions.{AreShort}
-use Rattle.fz_head.specs.Greatest.{greatest}
+use Rattle.fz_checks.specs.Greatest.{greatest}
 use Rattle.fz_head.specs.PackedHeader.{packed_header, packed_with, sum_cards}
 use Rattle.fz_files.specs.Packed.{coded_count, heap_of, packed_data, rows_from, stored_count, table_header, with_sums}
 use Rattle.fz_image.specs.Image.{datasum_put, sum_cards_put}

@@ -3,7 +3,7 @@ use Rattle.std.specs.Prelude.{ℕ, ◌≡◌, ◌+◌, ◌*◌, ◌<◌, ◌≤�
 use Rattle.fz_base.specs.Sink.{written}
 use Rattle.fz_sum.specs.Pieces.{nothing, after}
 use Rattle.fz_tile.specs.TileCode.{TileCode}
-use Rattle.fz_head.specs.Greatest.{greatest}
+use Rattle.fz_checks.specs.Greatest.{greatest}
 use Rattle.fz_files.specs.Packed.{coded_count, heap_of, rows_from, stored_count}
 use Rattle.fz_pool.specs.Round.{coded_tiles}
 use Rattle.fz_pool.specs.Window.{Pool, IsFilled}

@@ -47,8 +47,7 @@ pub(crate) fn read_region<S: Source>(
         (places_of (lengths_of layout.now.plan.shape) (region_corner region.now) (region_lengths region.now)))) }
     ensures below { AreBelow (product (lengths_of layout.now.plan.shape))
         (places_of (lengths_of layout.now.plan.shape) (region_corner region.now) (region_lengths region.now)) }
-    ensures len { len into.new ≡ len into.old }
-    ensures source { SourceStays S.held S.attached S.ranges source.old source.new }
+    ensures stays { SourceStays S.held S.attached S.ranges source.old source.new × (len into.new ≡ len into.old) }
     ensures log { ReadsPixels layout.now (S.ranges source.old) (S.ranges source.new) }
     ensures cause { OnlyReads (S.tally source.old) (S.tally source.new) result }
 {
@@ -85,8 +84,7 @@ fn get_part<S: Source>(
     requires room { part.at + part.count ≤ len into.old }
     ensures part { OnOk result (IfSome (S.held source.old)
         (λ g. take (part.at + part.count) into.new ≡ take part.at into.old ++ take part.count (drop part.from g))) }
-    ensures len { len into.new ≡ len into.old }
-    ensures source { SourceStays S.held S.attached S.ranges source.old source.new }
+    ensures stays { SourceStays S.held S.attached S.ranges source.old source.new × (len into.new ≡ len into.old) }
     ensures log { LogsWithin part.from (part.from + part.count) (S.ranges source.old) (S.ranges source.new) }
     ensures cause { OnlyReads (S.tally source.old) (S.tally source.new) result }
 {
@@ -118,8 +116,7 @@ pub(crate) fn read_part<S: Source>(source: &mut S, part: Part, into: &mut [u8]) 
     requires room { part.at + part.count ≤ len into.old }
     ensures part { OnOk result (IfSome (S.held source.old)
         (λ g. take (part.at + part.count) into.new ≡ take part.at into.old ++ take part.count (drop part.from g))) }
-    ensures len { len into.new ≡ len into.old }
-    ensures source { SourceStays S.held S.attached S.ranges source.old source.new }
+    ensures stays { SourceStays S.held S.attached S.ranges source.old source.new × (len into.new ≡ len into.old) }
     ensures log { LogsWithin part.from (part.from + part.count) (S.ranges source.old) (S.ranges source.new) }
     ensures cause { OnlyReads (S.tally source.old) (S.tally source.new) result }
 {

@@ -36,9 +36,9 @@ pub fn load_round<S: Source>(
     requires strips { HasStrips (S.held source.old) strips.old ahead.old }
     ensures loaded { OnOk result (AreLoaded layout.now (S.held source.old) first count window.new) }
     ensures strips { HasStrips (S.held source.new) strips.new ahead.new }
-    ensures ahead { len ahead.new ≡ len ahead.old }
-    ensures window { WindowStays window.old window.new }
-    ensures stays { StaysLoading S.held S.attached S.ranges S.tally layout.now source.old source.new result }
+    ensures stays { WindowStays window.old window.new
+        × StaysLoading S.held S.attached S.ranges S.tally layout.now source.old source.new result
+        × (len ahead.new ≡ len ahead.old) }
 {
     log_law();
     put_law();
@@ -65,9 +65,9 @@ fn load_next<S: Source>(
     requires strips { HasStrips (S.held source.old) strips.old ahead.old }
     ensures put { OnOk result ((x : SlotOf) × IsPut window.old i x window.new × IsLoaded layout.now (S.held source.old) tile x) }
     ensures strips { HasStrips (S.held source.new) strips.new ahead.new }
-    ensures ahead { len ahead.new ≡ len ahead.old }
-    ensures window { WindowStays window.old window.new }
-    ensures stays { StaysLoading S.held S.attached S.ranges S.tally layout.now source.old source.new result }
+    ensures stays { WindowStays window.old window.new
+        × StaysLoading S.held S.attached S.ranges S.tally layout.now source.old source.new result
+        × (len ahead.new ≡ len ahead.old) }
 {
     sizes_law();
     put_law();
@@ -89,9 +89,8 @@ fn load_slot<S: Source>(
     requires strips { HasStrips (S.held source.old) strips.old ahead.old }
     ensures loaded { OnOk result (IsLoaded layout.now (S.held source.old) tile slot.new) }
     ensures strips { HasStrips (S.held source.new) strips.new ahead.new }
-    ensures ahead { len ahead.new ≡ len ahead.old }
-    ensures size { slot_size slot.new ≡ slot_size slot.old }
-    ensures stays { StaysLoading S.held S.attached S.ranges S.tally layout.now source.old source.new result }
+    ensures stays { StaysLoading S.held S.attached S.ranges S.tally layout.now source.old source.new result
+        × (len ahead.new ≡ len ahead.old) × (slot_size slot.new ≡ slot_size slot.old) }
 {
     slot.job = job_of(layout, tile, tile_pixels(layout, tile));
     let numbers = slot.numbers.as_mut_slice();
@@ -123,10 +122,8 @@ fn load_tile<S: Source>(
     requires strips { HasStrips (S.held source.old) strips.old ahead.old }
     ensures holds { OnOk result (HoldTile layout.now (S.held source.old) tile numbers.new) }
     ensures strips { HasStrips (S.held source.new) strips.new ahead.new }
-    ensures ahead { len ahead.new ≡ len ahead.old }
-    ensures numbers { len numbers.new ≡ len numbers.old }
-    ensures code { len code.new ≡ len code.old }
-    ensures stays { StaysLoading S.held S.attached S.ranges S.tally layout.now source.old source.new result }
+    ensures stays { StaysLoading S.held S.attached S.ranges S.tally layout.now source.old source.new result
+        × (len ahead.new ≡ len ahead.old) × (len numbers.new ≡ len numbers.old) × (len code.new ≡ len code.old) }
 {
     log_law();
     place_law();

@@ -65,9 +65,8 @@ pub fn encode_tiles<R: Threads + Sync, S: Source, G: Gate>(
     requires strips { HasStrips (S.held source.old) strips.old ahead.old }
     ensures encoded { OnOk result (AreEncodedTiles writing.now.layout (S.held source.old) first count window.new) }
     ensures strips { HasStrips (S.held source.new) strips.new ahead.new }
-    ensures ahead { len ahead.new ≡ len ahead.old }
-    ensures window { WindowStays window.old window.new }
-    ensures source { SourceStays S.held S.attached S.ranges source.old source.new }
+    ensures stays { SourceStays S.held S.attached S.ranges source.old source.new × WindowStays window.old window.new
+        × (len ahead.new ≡ len ahead.old) }
     ensures log { ReadsPixels writing.now.layout (S.ranges source.old) (S.ranges source.new) }
     ensures cause { Codes (S.tally source.old) (S.tally source.new) result }
 {
@@ -121,9 +120,8 @@ pub fn write_encoded<K: Sink>(
         ≡ tiles_written layout.now underway.old.progress (coded_tiles tiles window.now.slots)
         (contents_of layout.now underway.old held.old (K.contents sink.old))) }
     ensures held { OnOk result (AreHeldBack underway.new held.new) }
-    ensures sink { SinkStays K.created K.contents sink.old sink.new }
-    ensures rows { len rows.new ≡ len rows.old }
-    ensures room { len held.new ≡ len held.old }
+    ensures stays { SinkStays K.created K.contents sink.old sink.new × (len rows.new ≡ len rows.old)
+        × (len held.new ≡ len held.old) }
     ensures cause { Writes (K.tally sink.old) (K.tally sink.new) result }
 {
     output_law();
@@ -154,8 +152,7 @@ fn write_codes<K: Sink>(
         ≡ written (heap_at_of layout.now + underway.old.progress.heap) (heap_of (coded_tiles tiles window.now.slots))
         (contents_of layout.now underway.old held.old (K.contents sink.old))) }
     ensures held { OnOk result (AreHeldBack underway.new held.new) }
-    ensures room { len held.new ≡ len held.old }
-    ensures sink { SinkStays K.created K.contents sink.old sink.new }
+    ensures stays { SinkStays K.created K.contents sink.old sink.new × (len held.new ≡ len held.old) }
     ensures cause { Writes (K.tally sink.old) (K.tally sink.new) result }
 {
     output_law();

@@ -95,8 +95,7 @@ pub fn look_ahead<S: Source>(
     requires own { IsShape (axes_of region.now) }
     requires strips { HasStrips (S.held source.old) strips.old ahead.old }
     ensures strips { HasStrips (S.held source.new) strips.new ahead.new }
-    ensures ahead { len ahead.new ≡ len ahead.old }
-    ensures source { SourceStays S.held S.attached S.ranges source.old source.new }
+    ensures stays { SourceStays S.held S.attached S.ranges source.old source.new × (len ahead.new ≡ len ahead.old) }
     ensures log { ReadsPixels layout.now (S.ranges source.old) (S.ranges source.new) }
     ensures cause { OnlyReads (S.tally source.old) (S.tally source.new) result }
 {
@@ -224,8 +223,7 @@ fn read_strips<S: Source>(
     requires pixels { HasPixels (S.attached source.old) layout.now }
     requires strips { AreOfImage layout.now (len ahead.old) strips.now }
     ensures strips { OnOk result (HasStrips (S.held source.new) strips.now ahead.new) }
-    ensures ahead { len ahead.new ≡ len ahead.old }
-    ensures source { SourceStays S.held S.attached S.ranges source.old source.new }
+    ensures stays { SourceStays S.held S.attached S.ranges source.old source.new × (len ahead.new ≡ len ahead.old) }
     ensures log { ReadsPixels layout.now (S.ranges source.old) (S.ranges source.new) }
     ensures cause { OnlyReads (S.tally source.old) (S.tally source.new) result }
 {

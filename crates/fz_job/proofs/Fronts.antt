@@ -3,7 +3,7 @@ use Rattle.std.proofs.Common.{◌≡◌, ℕ, ◌+◌, ◌*◌, List, ◌++◌, 
 use Rattle.std.proofs.lemmas.List.{length-append, take-append-le}
 use Rattle.fz_base.specs.Source.{Reads}
 use Rattle.fz_block.specs.Facts.{IsHeaderOf}
-use Rattle.fz_head.specs.JobChecks.{image_to_unpack}
+use Rattle.fz_checks.specs.JobChecks.{image_to_unpack}
 use Rattle.fz_job.specs.Again.{IsAgain, IsUsable, header_at_front}
 use Rattle.fz_job.specs.declared.again.ReadHdu.{ReadHdu}
 

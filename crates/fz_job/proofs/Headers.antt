@@ -12,7 +12,7 @@ use Rattle.fz_files.specs.Laws.{ReachedAreFound, place_of}
 use Rattle.fz_files.specs.Reads.{header_ranges}
 use Rattle.fz_files.specs.Walks.{Reached, reached_after, reached_behind, reached_from}
 use Rattle.fz_files.specs.declared.job.Job.{Job}
-use Rattle.fz_head.specs.Judges.{unpack_judge}
+use Rattle.fz_checks.specs.Judges.{unpack_judge}
 use Rattle.fz_job.specs.SurveyReads.{IsWithinOne}
 use Rattle.fz_job.specs.Surveys.{hdu_places, places_from, survey_places}
 use Rattle.fz_job.specs.declared.checks.JobChecks.TheVariants.{Unpack as UnpackChecks}

@@ -12,7 +12,7 @@ use Rattle.fz_block.specs.Facts.{IsHeaderOf}
 use Rattle.fz_block.specs.Header.{next_start_of}
 use Rattle.fz_block.specs.Walk.{hdu_of}
 use Rattle.fz_block.specs.declared.header.Header.{Header}
-use Rattle.fz_head.specs.JobChecks.{is_after_empty}
+use Rattle.fz_checks.specs.JobChecks.{is_after_empty}
 use Rattle.fz_job.proofs.Judged.{IsHere}
 
 -- what stands in a file with its data is an HDU of it, which is a law of the headers

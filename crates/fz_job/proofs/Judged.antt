@@ -10,13 +10,13 @@ use Rattle.fz_base.specs.declared.failure.Stop.TheVariants.{Refused, ReadFault, 
 use Rattle.fz_block.specs.Checks.{unless_refused}
 use Rattle.fz_block.specs.Walk.{hdu_of}
 use Rattle.fz_block.specs.declared.header.Header.{Header}
-use Rattle.fz_head.specs.JobChecks.{amend_checks, cut_checks, data_fill, fill_in, image_in, image_to_amend, image_to_cut, image_to_unpack, is_after_empty, pack_header_checks, plan_to_pack, unpack_checks}
-use Rattle.fz_head.specs.declared.job_checks.PackedImage.{PackedImage}
+use Rattle.fz_checks.specs.JobChecks.{amend_checks, cut_checks, data_fill, fill_in, image_in, image_to_amend, image_to_cut, image_to_unpack, is_after_empty, pack_header_checks, plan_to_pack, unpack_checks}
+use Rattle.fz_checks.specs.declared.job_checks.PackedImage.{PackedImage}
 use Rattle.fz_head.specs.declared.plan.Plan.{Plan}
-use Rattle.fz_head.specs.Judges.{is_wanted}
+use Rattle.fz_checks.specs.Judges.{is_wanted}
 use Rattle.fz_head.specs.Packable.{is_packable, is_packed}
 use Rattle.fz_head.specs.Planned.{pack_plan_of}
-use Rattle.fz_head.specs.WorkBuffers.{pixels_of_tile}
+use Rattle.fz_checks.specs.WorkBuffers.{pixels_of_tile}
 use Rattle.fz_job.specs.Judges.{judge_of}
 use Rattle.fz_job.specs.Looks.{seen_as, tiled, tiled_plan, tiled_image, cut_image, look_of, hdu_look}
 use Rattle.fz_job.specs.Surveys.{is_primary_table, tile_pixels, looks_at_fill}

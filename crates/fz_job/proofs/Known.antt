@@ -17,8 +17,8 @@ use Rattle.fz_job.specs.declared.survey.Survey.{Survey}
 use Rattle.fz_job.specs.Known.{IsKnown, IsList}
 use Rattle.fz_job.proofs.UnpackJobs.{IsReader}
 use Rattle.fz_job.proofs.Walked.{AreMet, AreSound, BlocksLaw, PlacesLaw, largest_is, longest_is, walk_met, walk_sound, were_seen}
-use Rattle.fz_head.specs.Greatest.{greatest}
-use Rattle.fz_head.specs.Judges.{unpack_judge}
+use Rattle.fz_checks.specs.Greatest.{greatest}
+use Rattle.fz_checks.specs.Judges.{unpack_judge}
 use Rattle.fz_head.specs.PackedPlan.{plan_of_cards}
 
 -- the laws of headers that it stands on

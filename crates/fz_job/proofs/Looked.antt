@@ -14,7 +14,7 @@ use Rattle.fz_block.specs.Facts.{IsHeaderOf}
 use Rattle.fz_block.specs.Takings.{header_taking}
 use Rattle.fz_block.specs.declared.header.Header.{Header}
 use Rattle.fz_block.specs.Hdus.{size_at}
-use Rattle.fz_head.specs.JobChecks.{is_after_empty}
+use Rattle.fz_checks.specs.JobChecks.{is_after_empty}
 use Rattle.fz_job.specs.Looks.{hdu_look, looked, looked_by, with_header}
 use Rattle.fz_job.specs.SurveyReads.{IsWithinOne}
 use Rattle.fz_job.specs.Surveys.{fill_places, fill_places_in, hdu_places}

@@ -5,7 +5,7 @@ use Rattle.fz_base.specs.Source.{HoldsLength}
 use Rattle.fz_base.specs.declared.fault.Fault.{Fault}
 use Rattle.fz_block.specs.declared.header.Header.{Header}
 use Rattle.fz_grid.specs.declared.region.Region.{Region}
-use Rattle.fz_head.specs.JobChecks.{missing_hdu}
+use Rattle.fz_checks.specs.JobChecks.{missing_hdu}
 use Rattle.fz_job.specs.Surveys.{amend_surveyed, by_stop, cut_surveyed, stop_in, stop_or, surveyed, unless_missing}
 use Rattle.fz_job.specs.declared.checks.JobChecks.TheVariants.{Amend, Cut}
 use Rattle.fz_job.specs.declared.survey.Survey.{Survey}

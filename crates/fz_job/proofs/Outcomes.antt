@@ -10,7 +10,7 @@ use Rattle.fz_block.specs.Header.{next_start_of}
 use Rattle.fz_block.specs.Takings.{for_those_after, where_going_on}
 use Rattle.fz_block.specs.Walk.{is_stop}
 use Rattle.fz_block.specs.declared.header.Header.{Header}
-use Rattle.fz_head.specs.Greatest.{greatest}
+use Rattle.fz_checks.specs.Greatest.{greatest}
 use Rattle.fz_job.specs.Judges.{judge_of}
 use Rattle.fz_job.specs.Looks.{IsLooked, first_primary, joined, looked, looked_by, seen_as, with_header}
 use Rattle.fz_job.specs.Surveys.{header_len, is_primary_table, primary_at, stopped_at, survey_of, tile_pixels}

@@ -8,11 +8,11 @@ use Rattle.fz_base.specs.declared.fault.Fault.{Fault}
 use Rattle.fz_block.specs.Checks.{unless_refused}
 use Rattle.fz_block.specs.declared.header.Header.{Header}
 use Rattle.fz_grid.specs.Region.{lengths_of}
-use Rattle.fz_head.specs.JobChecks.{unpack_hdu_checks}
-use Rattle.fz_head.specs.Judges.{unpack_judge}
+use Rattle.fz_checks.specs.JobChecks.{unpack_hdu_checks}
+use Rattle.fz_checks.specs.Judges.{unpack_judge}
 use Rattle.fz_head.specs.PackedPlan.{numbered_in, plan_of_cards, said_axes, said_tile, size_of, tile_along}
 use Rattle.fz_head.specs.PlainHeader.{axis_count}
-use Rattle.fz_head.specs.WorkBuffers.{pixels_of_tile}
+use Rattle.fz_checks.specs.WorkBuffers.{pixels_of_tile}
 use Rattle.fz_head.specs.declared.plan.Plan.{Plan}
 use Rattle.fz_files.specs.Restored.{pixels_of}
 use Rattle.fz_job.proofs.Products.{product_of_tile}

@@ -5,7 +5,7 @@ use Rattle.fz_base.specs.Takings.{piled}
 use Rattle.fz_base.specs.declared.fault.Fault.{Fault}
 use Rattle.fz_block.specs.Checks.{Judge}
 use Rattle.fz_block.specs.Takings.{walk_takings}
-use Rattle.fz_head.specs.Judges.{pack_judge, unpack_judge, cut_judge}
+use Rattle.fz_checks.specs.Judges.{pack_judge, unpack_judge, cut_judge}
 use Rattle.fz_head.specs.declared.options.PackOptions.{PackOptions}
 use Rattle.fz_grid.specs.declared.sieve.Sieve.{Sieve}
 use Rattle.fz_files.specs.Buffers.{IsOfFile, file_takings, header_takings, job_bound, job_buffers, job_takings, largest_tile, longest_header, work_takings, workers_of}

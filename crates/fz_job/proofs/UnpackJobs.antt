@@ -5,9 +5,9 @@ use Rattle.std.specs.List.{filter}
 use Rattle.fz_base.specs.declared.fault.Fault.{Fault}
 use Rattle.fz_block.specs.Checks.{walk_of}
 use Rattle.fz_block.specs.declared.header.Header.{Header}
-use Rattle.fz_head.specs.Greatest.{greatest}
-use Rattle.fz_head.specs.Judges.{unpack_judge}
-use Rattle.fz_head.specs.WorkBuffers.{pixels_of_tile}
+use Rattle.fz_checks.specs.Greatest.{greatest}
+use Rattle.fz_checks.specs.Judges.{unpack_judge}
+use Rattle.fz_checks.specs.WorkBuffers.{pixels_of_tile}
 use Rattle.fz_files.specs.Buffers.{header_len, longest_header, plans_behind}
 use Rattle.fz_files.specs.Restored.{is_image, plan_in}
 use Rattle.fz_files.specs.Walks.{cut_end_fault, header_fault, headers_for, job_walk, reached_by, reached_from}

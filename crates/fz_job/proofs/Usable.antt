@@ -3,8 +3,8 @@ use Rattle.std.proofs.Common.{ℕ, ◌+◌, ◌≤◌, List, Option, Some, None,
 use Rattle.fz_block.specs.Header.{next_start_of}
 use Rattle.fz_block.specs.declared.header.Header.{Header}
 use Rattle.fz_table.specs.Rows.{IsTable}
-use Rattle.fz_head.specs.JobChecks.{IsImageOf}
-use Rattle.fz_head.specs.declared.job_checks.PackedImage.{PackedImage}
+use Rattle.fz_checks.specs.JobChecks.{IsImageOf}
+use Rattle.fz_checks.specs.declared.job_checks.PackedImage.{PackedImage}
 use Rattle.fz_job.specs.Again.{IsUsable}
 
 pub usable : (h : Header) (header : List ℕ) (len : ℕ) (image : Option PackedImage) → next_start_of h ≤ len → IfSome image (IsImageOf header h) → IfSome image (λ i. IsTable i.table) →

@@ -12,8 +12,8 @@ use Rattle.fz_block.specs.Hdus.{cards_of, hdu_bytes}
 use Rattle.fz_block.specs.Header.{data_start_of, next_start_of}
 use Rattle.fz_block.specs.Walk.{AreHeadersBetween, PassFrom, PassesAt, StandsAt, begins_hdu, hdu_of, is_stop, stops}
 use Rattle.fz_block.specs.declared.header.Header.{Header}
-use Rattle.fz_head.specs.JobChecks.{image_in, image_to_unpack, unpack_hdu_checks}
-use Rattle.fz_head.specs.declared.job_checks.PackedImage.{PackedImage}
+use Rattle.fz_checks.specs.JobChecks.{image_in, image_to_unpack, unpack_hdu_checks}
+use Rattle.fz_checks.specs.declared.job_checks.PackedImage.{PackedImage}
 use Rattle.fz_files.specs.Buffers.{found_len, header_len}
 use Rattle.fz_files.specs.Restored.{header_in, is_image, pixels_of, plan_in}
 use Rattle.fz_files.specs.Walks.{Reached, reached_after, reached_behind, reached_from}
@@ -21,9 +21,9 @@ use Rattle.fz_job.specs.Surveys.{tile_pixels as tile_seen, header_len as header_
 use Rattle.fz_job.specs.declared.checks.JobChecks.TheVariants.{Unpack as UnpackChecks}
 use Rattle.fz_job.specs.Again.{WasSeen, WereSeen}
 use Rattle.fz_job.proofs.Plans.{largest_within, passed_checks}
-use Rattle.fz_head.specs.WorkBuffers.{pixels_of_tile}
-use Rattle.fz_head.specs.Greatest.{greatest}
-use Rattle.fz_head.specs.Judges.{unpack_judge}
+use Rattle.fz_checks.specs.WorkBuffers.{pixels_of_tile}
+use Rattle.fz_checks.specs.Greatest.{greatest}
+use Rattle.fz_checks.specs.Judges.{unpack_judge}
 
 -- HDUs from number k on: that they are come to
 abbrev pub begun : ℕ → ℕ → List Header → List Reached

@@ -5,7 +5,7 @@ use Rattle.std.proofs.Math.Nat.{mul-le-mul_left}
 use Rattle.std.proofs.lemmas.Bool.Decides.{nat_tests}
 use Rattle.fz_base.specs.JobBuffers.{slots_buffers, buffer_bound}
 use Rattle.fz_base.specs.Takings.{first_past, piled}
-use Rattle.fz_head.specs.WorkBuffers.{tile_buffers, translated_buffers}
+use Rattle.fz_checks.specs.WorkBuffers.{tile_buffers, translated_buffers}
 use Rattle.fz_pool.specs.Laws.{AsksForFresh, AsksAlike}
 use Rattle.fz_pool.specs.Window.{Pool, asked_for, fresh_bytes}
 use Rattle.fz_job.specs.Workspace.{AreSizedFor, HasLengths, copy_len, held_bytes, pixels_of, slots_for, wanted_buffers, window_for}

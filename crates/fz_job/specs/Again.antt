@@ -9,8 +9,8 @@ use Rattle.fz_block.specs.Checks.{hdu_at, is_set}
 use Rattle.fz_block.specs.Facts.{IsHeaderOf}
 use Rattle.fz_block.specs.Header.{next_start_of}
 use Rattle.fz_block.specs.declared.header.Header.{Header}
-use Rattle.fz_head.specs.JobChecks.{IsImageOf, image_to_unpack, is_after_empty}
-use Rattle.fz_head.specs.declared.job_checks.PackedImage.{PackedImage}
+use Rattle.fz_checks.specs.JobChecks.{IsImageOf, image_to_unpack, is_after_empty}
+use Rattle.fz_checks.specs.declared.job_checks.PackedImage.{PackedImage}
 use Rattle.fz_files.specs.Restored.{header_in, pixels_of}
 use Rattle.fz_job.specs.Images.{IsReadable}
 use Rattle.fz_job.specs.declared.again.ReadHdu.{ReadHdu}

@@ -4,7 +4,7 @@ use Rattle.fz_block.specs.declared.header.Header.{Header}
 use Rattle.fz_grid.specs.Region.{IsDivided}
 use Rattle.fz_table.specs.Rows.{IsTable}
 use Rattle.fz_tile.specs.Codecs.{CanRead}
-use Rattle.fz_head.specs.declared.job_checks.PackedImage.{PackedImage}
+use Rattle.fz_checks.specs.declared.job_checks.PackedImage.{PackedImage}
 use Rattle.fz_files.specs.Packed.{tiles_in}
 use Rattle.fz_files.specs.Restored.{image_table, pixels_of, plan_in}
 use Rattle.fz_pool.specs.Window.{HasSlotsFor, Pool}

@@ -2,8 +2,8 @@
 -- section 10.1).
 use Rattle.std.specs.Prelude.{ℕ, List, ⊤}
 use Rattle.fz_block.specs.Checks.{Judge, unjudged}
-use Rattle.fz_head.specs.JobChecks.{IsBox}
-use Rattle.fz_head.specs.Judges.{pack_judge, unpack_judge, cut_judge, amend_judge}
+use Rattle.fz_checks.specs.JobChecks.{IsBox}
+use Rattle.fz_checks.specs.Judges.{pack_judge, unpack_judge, cut_judge, amend_judge}
 use Rattle.fz_head.specs.Planned.{AreOptions}
 use Rattle.fz_job.specs.declared.checks.JobChecks.{JobChecks}
 use Rattle.fz_job.specs.declared.checks.JobChecks.TheVariants.{Pack, Unpack, Cut, Amend, Every}

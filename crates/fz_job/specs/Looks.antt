@@ -6,10 +6,10 @@ use Rattle.fz_block.specs.Checks.{hdu_at}
 use Rattle.fz_block.specs.Header.{next_start_of}
 use Rattle.fz_grid.specs.declared.region.Region.{Region}
 use Rattle.fz_block.specs.declared.header.Header.{Header}
-use Rattle.fz_head.specs.JobChecks.{plan_to_pack, image_to_unpack, image_to_cut, image_to_amend}
-use Rattle.fz_head.specs.Judges.{is_wanted}
-use Rattle.fz_head.specs.WorkBuffers.{pixels_of_tile}
-use Rattle.fz_head.specs.declared.job_checks.PackedImage.{PackedImage}
+use Rattle.fz_checks.specs.JobChecks.{plan_to_pack, image_to_unpack, image_to_cut, image_to_amend}
+use Rattle.fz_checks.specs.Judges.{is_wanted}
+use Rattle.fz_checks.specs.WorkBuffers.{pixels_of_tile}
+use Rattle.fz_checks.specs.declared.job_checks.PackedImage.{PackedImage}
 use Rattle.fz_head.specs.declared.options.PackOptions.{PackOptions}
 use Rattle.fz_head.specs.declared.plan.Plan.{Plan}
 use Rattle.fz_job.specs.Judges.{judge_of}

@@ -4,7 +4,7 @@ use Rattle.std.specs.Result.{result_map_both}
 use Rattle.fz_block.specs.Checks.{Judge, unjudged, walk_of}
 use Rattle.fz_block.specs.Takings.{walk_takings}
 use Rattle.fz_grid.specs.declared.region.Region.{Region}
-use Rattle.fz_head.specs.Judges.{pack_judge, unpack_judge, cut_judge, amend_judge}
+use Rattle.fz_checks.specs.Judges.{pack_judge, unpack_judge, cut_judge, amend_judge}
 use Rattle.fz_head.specs.declared.options.PackOptions.{PackOptions}
 use Rattle.fz_job.specs.Surveys.{headers_seen, survey_of, surveyed, survey_takings}
 use Rattle.fz_job.specs.declared.checks.JobChecks.{JobChecks}

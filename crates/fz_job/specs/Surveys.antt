@@ -10,13 +10,13 @@ use Rattle.fz_block.specs.Takings.{for_those_after, walk_takings}
 use Rattle.fz_block.specs.Walk.{hdu_of, is_stop}
 use Rattle.fz_block.specs.declared.header.Header.{Header}
 use Rattle.fz_grid.specs.declared.region.Region.{Region}
-use Rattle.fz_head.specs.Greatest.{greatest}
-use Rattle.fz_head.specs.JobChecks.{data_end_of, missing_hdu}
-use Rattle.fz_head.specs.Judges.{is_wanted}
+use Rattle.fz_checks.specs.Greatest.{greatest}
+use Rattle.fz_checks.specs.JobChecks.{data_end_of, missing_hdu}
+use Rattle.fz_checks.specs.Judges.{is_wanted}
 use Rattle.fz_head.specs.Packable.{is_packable, is_packed}
 use Rattle.fz_head.specs.PackedPlan.{plan_of_cards}
 use Rattle.fz_head.specs.Planned.{pack_plan_of}
-use Rattle.fz_head.specs.WorkBuffers.{pixels_of_tile}
+use Rattle.fz_checks.specs.WorkBuffers.{pixels_of_tile}
 use Rattle.fz_job.specs.Judges.{judge_of, most_hdus}
 use Rattle.fz_job.specs.declared.checks.JobChecks.{JobChecks}
 use Rattle.fz_job.specs.declared.checks.JobChecks.TheVariants.{Pack, Unpack, Cut, Amend, Every}

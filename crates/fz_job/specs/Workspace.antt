@@ -3,7 +3,7 @@
 use Rattle.std.specs.Prelude.{ℕ, ◌≡◌, ◌+◌, ◌*◌, ◌<◌, ◌≤◌, List, [], length, replicate, sum, Option, Some, None}
 use Rattle.fz_base.specs.JobBuffers.{buffer_bound}
 use Rattle.fz_base.specs.Takings.{first_past, piled}
-use Rattle.fz_head.specs.WorkBuffers.{translated_buffers, work_buffers}
+use Rattle.fz_checks.specs.WorkBuffers.{translated_buffers, work_buffers}
 use Rattle.fz_pool.specs.Window.{Pool, asked_for, fresh_slot, slot_sizes}
 use Rattle.fz_pool.specs.declared.slot.Slot.{Slot}
 use Rattle.fz_job.specs.declared.workspace.Wants.{Wants}

@@ -9,7 +9,7 @@ ghost use Rattle.fz_base.specs.declared.fault.Place.TheVariants.{Card as AtCard}
 ghost use Rattle.fz_base.specs.declared.kind.Kind.TheVariants.{BadCard};
 ghost use Rattle.fz_block.specs.Checks.{header_touched};
 ghost use Rattle.fz_grid.specs.Region.{IsDivided};
-ghost use Rattle.fz_head.specs.JobChecks.{image_to_unpack as image_found};
+ghost use Rattle.fz_checks.specs.JobChecks.{image_to_unpack as image_found};
 ghost use Rattle.fz_files.specs.Restored.{pixels_of};
 ghost use Rattle.fz_job.specs.Again.{IsAgain, ReadsAsSeen, header_at_front, is_larger as is_larger_of};
 ghost use Rattle.fz_base.specs.Keeps.{SourceStays};
@@ -18,8 +18,8 @@ ghost use Rattle.fz_job.specs.Clauses.{IsChanged};
 use crate::survey::Begun;
 use fz_base::{Fault, Kind, Place, Source, Stop, log_law};
 use fz_block::{BLOCK_LEN, Header, again_law, header_again};
+use fz_checks::{PackedImage, image_to_unpack};
 use fz_grid::Grid;
-use fz_head::{PackedImage, image_to_unpack};
 
 /// An HDU whose header was read once more.
 #[derive(Clone, Copy, Debug)]
@@ -72,8 +72,7 @@ pub fn read_again<S: Source>(
     ensures small { IfOk result (λ a. IfSome a.image (λ i. pixels_of i.plan 0 ≤ tile)) }
     ensures as_seen { IfSome (S.held source.old) (λ g. ReadsAsSeen g begun.hdu begun.start begun.after_empty (len buf.old) tile result) }
     ensures refused { IfRefused result IsChanged }
-    ensures buf { len buf.new ≡ len buf.old }
-    ensures source { SourceStays S.held S.attached S.ranges source.old source.new }
+    ensures stays { SourceStays S.held S.attached S.ranges source.old source.new × (len buf.new ≡ len buf.old) }
     ensures read { IfSome (S.held source.old) (λ g. LogsWithin begun.start (header_touched begun.hdu begun.start g)
         (S.ranges source.old) (S.ranges source.new)) }
     ensures cause { ReadsOnly (S.tally source.old) (S.tally source.new) result }

@@ -32,9 +32,8 @@ pub fn copy_hdu<S: Source, K: Sink>(
     ensures copied { IfOk result (λ end. IfSome (S.held source.old)
         (λ g. HoldsCopy header.now g at end (K.contents sink.old) (K.contents sink.new))) }
     ensures end { IfOk result (λ end. (at < end) × (end + header.now.start ≡ at + next_start_of header.now)) }
-    ensures len { len buffer.new ≡ len buffer.old }
-    ensures source { SourceStays S.held S.attached S.ranges source.old source.new }
-    ensures sink { SinkStays K.created K.contents sink.old sink.new }
+    ensures stays { SourceStays S.held S.attached S.ranges source.old source.new
+        × SinkStays K.created K.contents sink.old sink.new × (len buffer.new ≡ len buffer.old) }
     ensures log { LogsWithin (data_start_of header.now) (next_start_of header.now) (S.ranges source.old) (S.ranges source.new) }
     ensures cause { ReadsAndWrites (S.tally source.old) (S.tally source.new) (K.tally sink.old) (K.tally sink.new) result }
 {

@@ -6,11 +6,11 @@ ghost use Rattle.fz_base.specs.Source.{LogsWithin};
 ghost use Rattle.fz_base.specs.Stop.{ReadsOnly, IsDefined};
 ghost use Rattle.fz_block.specs.Checks.{unless_refused};
 ghost use Rattle.fz_block.specs.Header.{next_start_of};
-ghost use Rattle.fz_head.specs.JobChecks.{data_end_of, data_fill, fill_in};
+ghost use Rattle.fz_checks.specs.JobChecks.{data_end_of, data_fill, fill_in};
 
 use fz_base::{Source, Stop, log_law};
 use fz_block::{Header, data_start, next_start};
-use fz_head::fill_check;
+use fz_checks::fill_check;
 
 /// Reads the fill after the data into the block, and checks that it is zeros (FITS 4.0, section 3.3.2).
 pub(crate) fn check_fill<S: Source>(

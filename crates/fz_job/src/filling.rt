@@ -23,8 +23,7 @@ pub fn write_fill<K: Sink>(
     ensures filled { OnOk result (K.contents sink.new ≡ written (data_at + data_len)
         (replicate (whole_blocks_of data_len - data_len) 0) (K.contents sink.old)) }
     ensures end { IfOk result (λ end. end ≡ data_at + whole_blocks_of data_len) }
-    ensures sink { SinkStays K.created K.contents sink.old sink.new }
-    ensures len { len zeros.new ≡ len zeros.old }
+    ensures stays { SinkStays K.created K.contents sink.old sink.new × (len zeros.new ≡ len zeros.old) }
     ensures cause { Writes (K.tally sink.old) (K.tally sink.new) result }
 {
     let filled = data_len.div_ceil(BLOCK_LEN as u64) * BLOCK_LEN as u64;

@@ -43,8 +43,7 @@ pub fn hold_piece<K: Sink>(
     ensures written { OnOk result (settled back.new held.new (K.contents sink.new) ≡ written at bytes.now
         (settled back.old held.old (K.contents sink.old))) }
     ensures kept { OnOk result (IsHeld back.new held.new) }
-    ensures len { len held.new ≡ len held.old }
-    ensures sink { SinkStays K.created K.contents sink.old sink.new }
+    ensures stays { SinkStays K.created K.contents sink.old sink.new × (len held.new ≡ len held.old) }
     ensures cause { Writes (K.tally sink.old) (K.tally sink.new) result }
 {
     if at == back.end {
@@ -70,8 +69,7 @@ fn hold_next<K: Sink>(
     ensures written { OnOk result (settled back.new held.new (K.contents sink.new) ≡ written at bytes.now
         (settled back.old held.old (K.contents sink.old))) }
     ensures kept { OnOk result (IsHeld back.new held.new) }
-    ensures len { len held.new ≡ len held.old }
-    ensures sink { SinkStays K.created K.contents sink.old sink.new }
+    ensures stays { SinkStays K.created K.contents sink.old sink.new × (len held.new ≡ len held.old) }
     ensures cause { Writes (K.tally sink.old) (K.tally sink.new) result }
 {
     hold_back(sink, at, bytes, held, &mut back.count)?;
@@ -106,8 +104,7 @@ pub fn hold_back<K: Sink>(
         (caught_up at count.old held.old (K.contents sink.old))) }
     ensures within { OnOk result (count.new ≤ len held.new) }
     ensures few { OnOk result (count.new ≤ count.old + len bytes.now) }
-    ensures len { len held.new ≡ len held.old }
-    ensures sink { SinkStays K.created K.contents sink.old sink.new }
+    ensures stays { SinkStays K.created K.contents sink.old sink.new × (len held.new ≡ len held.old) }
     ensures cause { Writes (K.tally sink.old) (K.tally sink.new) result }
 {
     if bytes.len() <= held.len() - *count {

@@ -6,10 +6,10 @@ ghost use Rattle.fz_base.specs.Stop.{ReadsOnly, IsDefined};
 ghost use Rattle.fz_block.specs.Facts.{IsHeaderOf};
 ghost use Rattle.fz_block.specs.Header.{next_start_of};
 ghost use Rattle.fz_grid.specs.Region.{IsDivided};
-ghost use Rattle.fz_head.specs.JobChecks.{IsBox, data_end_of, data_fill, fill_in, is_after_empty};
-ghost use Rattle.fz_head.specs.Judges.{is_wanted as is_wanted_of};
+ghost use Rattle.fz_checks.specs.JobChecks.{IsBox, data_end_of, data_fill, fill_in, is_after_empty};
+ghost use Rattle.fz_checks.specs.Judges.{is_wanted as is_wanted_of};
 ghost use Rattle.fz_head.specs.Planned.{AreOptions};
-ghost use Rattle.fz_head.specs.WorkBuffers.{pixels_of_tile};
+ghost use Rattle.fz_checks.specs.WorkBuffers.{pixels_of_tile};
 ghost use Rattle.fz_job.specs.Judges.{AreChecks};
 ghost use Rattle.fz_job.specs.Looks.{amend_look, cut_look, hdu_look, look_of, pack_look, unpack_look};
 ghost use Rattle.fz_job.specs.SurveyReads.{IsWithinOne};
@@ -19,11 +19,9 @@ use crate::checks::JobChecks;
 use crate::fill_check::check_fill;
 use fz_base::{Fault, Source, Stop};
 use fz_block::{Header, hdu_law};
+use fz_checks::{image_to_amend, image_to_cut, image_to_unpack, plan_to_pack};
 use fz_grid::{Region, volume};
-use fz_head::{
-    PackOptions, Plan, image_to_amend, image_to_cut, image_to_unpack, is_packable, is_packed,
-    plan_to_pack,
-};
+use fz_head::{PackOptions, Plan, is_packable, is_packed};
 
 /// What the checks of an HDU learn: the pixels of a tile, if the job works on its tiles, whether it is a packed primary, if
 /// the job makes the checks of `unpack`, and whether the job looks at no HDU after it.

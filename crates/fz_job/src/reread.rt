@@ -30,8 +30,7 @@ pub fn read_front<S: Source>(
     ensures small { IfOk result (λ a. IfSome a.image (λ i. pixels_of i.plan 0 ≤ survey.now.tile)) }
     ensures as_seen { IfSome (S.held source.old) (λ g. ReadsAsSeen g begun.hdu begun.start begun.after_empty survey.now.header_len survey.now.tile result) }
     ensures refused { IfRefused result IsChanged }
-    ensures header { len header.new ≡ len header.old }
-    ensures source { SourceStays S.held S.attached S.ranges source.old source.new }
+    ensures stays { SourceStays S.held S.attached S.ranges source.old source.new × (len header.new ≡ len header.old) }
     ensures read { IfSome (S.held source.old) (λ g. LogsWithin begun.start (header_touched begun.hdu begun.start g)
         (S.ranges source.old) (S.ranges source.new)) }
     ensures cause { ReadsOnly (S.tally source.old) (S.tally source.new) result }

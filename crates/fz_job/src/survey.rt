@@ -64,8 +64,6 @@ pub fn survey_headers<S: Source>(
     ensures exact { IfSome (S.held source.old) (λ g. IsDefined (surveyed checks.now g) result) }
     ensures survey { IfOk result (IsSurvey checks.now length) }
     ensures primary { IfOk result (λ s. IfSome s.packed_primary (λ start. (start < length) × (start ≤ 2 ^ 62))) }
-    ensures live { meter.new.live ≡ meter.old.live }
-    ensures limit { meter.new.limit ≡ meter.old.limit }
     ensures risen { meter.old.peak ≤ meter.new.peak }
     ensures first_past { IfSome (S.held source.old) (λ g. TellsFirstPast meter.old.limit (survey_takings checks.now meter.old.live g) result) }
     ensures peak { IfSome (S.held source.old) (λ g. meter.new.peak ≤ max meter.old.peak (highest (survey_takings checks.now meter.old.live g))) }
@@ -75,7 +73,8 @@ pub fn survey_headers<S: Source>(
     ensures peak_most { meter.new.peak ≤ max meter.old.peak (meter.old.live + 737280) }
     ensures touched { IfSome (S.held source.old) (λ g. LogsOnly (IsWithinOne (survey_places checks.now g)) (S.ranges source.old)
         (S.ranges source.new)) }
-    ensures source { SourceStays S.held S.attached S.ranges source.old source.new }
+    ensures stays { SourceStays S.held S.attached S.ranges source.old source.new × (meter.new.live ≡ meter.old.live)
+        × (meter.new.limit ≡ meter.old.limit) }
     ensures cause { ReadsAndTakes (S.tally source.old) (S.tally source.new) meter.old.limit result }
 {
     // The taking of an HDU, and then those after it.
@@ -145,8 +144,6 @@ fn look_at<S: Source>(
     ensures found { IfOk result (IsLooked length) }
     ensures empty { IfOk result (λ x. IfSome (S.held source.old) (λ g. begun.hdu ≡ 0 → begun.start ≡ 0 → x.header.axes.n ≡ size_at g 2)) }
     ensures len { len block.new ≡ 2880 }
-    ensures live { meter.new.live ≡ meter.old.live }
-    ensures limit { meter.new.limit ≡ meter.old.limit }
     ensures risen { meter.old.peak ≤ meter.new.peak }
     ensures first_past { IfSome (S.held source.old) (λ g. TellsFirstPast meter.old.limit
         (header_taking meter.old.live (header_blocks_of begun.hdu begun.start g)) result) }
@@ -158,7 +155,8 @@ fn look_at<S: Source>(
     ensures peak_most { meter.new.peak ≤ max meter.old.peak (meter.old.live + 737280) }
     ensures touched { IfSome (S.held source.old) (λ g. LogsOnly (IsWithinOne (hdu_places checks.now begun.hdu begun.start g))
         (S.ranges source.old) (S.ranges source.new)) }
-    ensures source { SourceStays S.held S.attached S.ranges source.old source.new }
+    ensures stays { SourceStays S.held S.attached S.ranges source.old source.new × (meter.new.live ≡ meter.old.live)
+        × (meter.new.limit ≡ meter.old.limit) }
     ensures cause { ReadsAndTakes (S.tally source.old) (S.tally source.new) meter.old.limit result }
 {
     // The header that was read has the blocks that were searched for its taking.

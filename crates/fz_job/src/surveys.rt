@@ -5,7 +5,7 @@ ghost use Rattle.fz_base.specs.Source.{LogsOnly};
 ghost use Rattle.fz_base.specs.Stop.{ReadsAndTakes, IsDefined, TellsLimit};
 ghost use Rattle.fz_base.specs.Takings.{TellsFirstPast, highest};
 ghost use Rattle.fz_block.specs.Header.{next_start_of};
-ghost use Rattle.fz_head.specs.JobChecks.{IsBox};
+ghost use Rattle.fz_checks.specs.JobChecks.{IsBox};
 ghost use Rattle.fz_head.specs.Planned.{AreOptions};
 ghost use Rattle.fz_job.specs.SurveyReads.{IsWithinOne};
 ghost use Rattle.fz_job.specs.Surveys.{IsSurvey, amend_surveyed, cut_surveyed, surveyed, survey_takings, survey_places};
@@ -15,8 +15,9 @@ use crate::checks::JobChecks;
 use crate::survey::{Survey, survey_headers};
 use fz_base::{Meter, Source, Stop};
 use fz_block::Header;
+use fz_checks::missing_hdu;
 use fz_grid::Region;
-use fz_head::{PackOptions, missing_hdu};
+use fz_head::PackOptions;
 
 /// The first look of `pack`, with these options. Block, headers and refusals as in `survey_headers`.
 ///
@@ -34,8 +35,6 @@ pub fn survey_to_pack<S: Source>(
     requires options { AreOptions options.now }
     ensures exact { IfSome (S.held source.old) (λ g. IsDefined (surveyed (Pack options.now) g) result) }
     ensures survey { IfOk result (IsSurvey (Pack options.now) length) }
-    ensures live { meter.new.live ≡ meter.old.live }
-    ensures limit { meter.new.limit ≡ meter.old.limit }
     ensures risen { meter.old.peak ≤ meter.new.peak }
     ensures first_past { IfSome (S.held source.old) (λ g. TellsFirstPast meter.old.limit
         (survey_takings (Pack options.now) meter.old.live g) result) }
@@ -47,7 +46,8 @@ pub fn survey_to_pack<S: Source>(
     ensures peak_most { meter.new.peak ≤ max meter.old.peak (meter.old.live + 737280) }
     ensures touched { IfSome (S.held source.old) (λ g. LogsOnly (IsWithinOne (survey_places (Pack options.now) g))
         (S.ranges source.old) (S.ranges source.new)) }
-    ensures source { SourceStays S.held S.attached S.ranges source.old source.new }
+    ensures stays { SourceStays S.held S.attached S.ranges source.old source.new × (meter.new.live ≡ meter.old.live)
+        × (meter.new.limit ≡ meter.old.limit) }
     ensures cause { ReadsAndTakes (S.tally source.old) (S.tally source.new) meter.old.limit result }
 {
     survey_headers(source, length, meter, block, &JobChecks::Pack(*options))
@@ -67,8 +67,6 @@ pub fn survey_to_unpack<S: Source>(
     ensures exact { IfSome (S.held source.old) (λ g. IsDefined (surveyed Unpack g) result) }
     ensures survey { IfOk result (IsSurvey Unpack length) }
     ensures primary { IfOk result (λ s. IfSome s.packed_primary (λ start. (start < length) × (start ≤ 2 ^ 62))) }
-    ensures live { meter.new.live ≡ meter.old.live }
-    ensures limit { meter.new.limit ≡ meter.old.limit }
     ensures risen { meter.old.peak ≤ meter.new.peak }
     ensures first_past { IfSome (S.held source.old) (λ g. TellsFirstPast meter.old.limit (survey_takings Unpack meter.old.live g) result) }
     ensures peak { IfSome (S.held source.old) (λ g. meter.new.peak ≤ max meter.old.peak (highest (survey_takings Unpack meter.old.live g))) }
@@ -77,7 +75,8 @@ pub fn survey_to_unpack<S: Source>(
     ensures most { TellsLimit meter.old.limit (meter.old.live + 737280) result }
     ensures peak_most { meter.new.peak ≤ max meter.old.peak (meter.old.live + 737280) }
     ensures touched { IfSome (S.held source.old) (λ g. LogsOnly (IsWithinOne (survey_places Unpack g)) (S.ranges source.old) (S.ranges source.new)) }
-    ensures source { SourceStays S.held S.attached S.ranges source.old source.new }
+    ensures stays { SourceStays S.held S.attached S.ranges source.old source.new × (meter.new.live ≡ meter.old.live)
+        × (meter.new.limit ≡ meter.old.limit) }
     ensures cause { ReadsAndTakes (S.tally source.old) (S.tally source.new) meter.old.limit result }
 {
     survey_headers(source, length, meter, block, &JobChecks::Unpack)
@@ -102,8 +101,6 @@ pub fn survey_to_cut<S: Source>(
     ensures exact { IfSome (S.held source.old) (λ g. IsDefined (cut_surveyed wanted region.now g) result) }
     ensures survey { IfOk result (IsSurvey (Cut wanted region.now) length) }
     ensures stopped { IfOk result (λ s. IsSome s.stopped) }
-    ensures live { meter.new.live ≡ meter.old.live }
-    ensures limit { meter.new.limit ≡ meter.old.limit }
     ensures risen { meter.old.peak ≤ meter.new.peak }
     ensures first_past { IfSome (S.held source.old) (λ g. TellsFirstPast meter.old.limit
         (survey_takings (Cut wanted region.now) meter.old.live g) result) }
@@ -115,7 +112,8 @@ pub fn survey_to_cut<S: Source>(
     ensures peak_most { meter.new.peak ≤ max meter.old.peak (meter.old.live + 737280) }
     ensures touched { IfSome (S.held source.old) (λ g. LogsOnly (IsWithinOne (survey_places (Cut wanted region.now) g))
         (S.ranges source.old) (S.ranges source.new)) }
-    ensures source { SourceStays S.held S.attached S.ranges source.old source.new }
+    ensures stays { SourceStays S.held S.attached S.ranges source.old source.new × (meter.new.live ≡ meter.old.live)
+        × (meter.new.limit ≡ meter.old.limit) }
     ensures cause { ReadsAndTakes (S.tally source.old) (S.tally source.new) meter.old.limit result }
 {
     let checks = JobChecks::Cut {
@@ -141,8 +139,6 @@ pub fn survey_every<S: Source>(
     requires block { len block.old ≡ 2880 }
     ensures exact { IfSome (S.held source.old) (λ g. IsDefined (surveyed Every g) result) }
     ensures survey { IfOk result (IsSurvey Every length) }
-    ensures live { meter.new.live ≡ meter.old.live }
-    ensures limit { meter.new.limit ≡ meter.old.limit }
     ensures risen { meter.old.peak ≤ meter.new.peak }
     ensures first_past { IfSome (S.held source.old) (λ g. TellsFirstPast meter.old.limit
         (survey_takings Every meter.old.live g) result) }
@@ -154,7 +150,8 @@ pub fn survey_every<S: Source>(
     ensures peak_most { meter.new.peak ≤ max meter.old.peak (meter.old.live + 737280) }
     ensures touched { IfSome (S.held source.old) (λ g. LogsOnly (IsWithinOne (survey_places Every g))
         (S.ranges source.old) (S.ranges source.new)) }
-    ensures source { SourceStays S.held S.attached S.ranges source.old source.new }
+    ensures stays { SourceStays S.held S.attached S.ranges source.old source.new × (meter.new.live ≡ meter.old.live)
+        × (meter.new.limit ≡ meter.old.limit) }
     ensures cause { ReadsAndTakes (S.tally source.old) (S.tally source.new) meter.old.limit result }
 {
     survey_headers(source, length, meter, block, &JobChecks::Every)
@@ -176,8 +173,6 @@ pub fn survey_to_amend<S: Source>(
     requires block { len block.old ≡ 2880 }
     ensures exact { IfSome (S.held source.old) (λ g. IsDefined (amend_surveyed wanted g) result) }
     ensures inside { IfOk result (λ h. (next_start_of h ≤ length) × (next_start_of h ≤ 2 ^ 62)) }
-    ensures live { meter.new.live ≡ meter.old.live }
-    ensures limit { meter.new.limit ≡ meter.old.limit }
     ensures risen { meter.old.peak ≤ meter.new.peak }
     ensures first_past { IfSome (S.held source.old) (λ g. TellsFirstPast meter.old.limit
         (survey_takings (Amend wanted) meter.old.live g) result) }
@@ -189,7 +184,8 @@ pub fn survey_to_amend<S: Source>(
     ensures peak_most { meter.new.peak ≤ max meter.old.peak (meter.old.live + 737280) }
     ensures touched { IfSome (S.held source.old) (λ g. LogsOnly (IsWithinOne (survey_places (Amend wanted) g))
         (S.ranges source.old) (S.ranges source.new)) }
-    ensures source { SourceStays S.held S.attached S.ranges source.old source.new }
+    ensures stays { SourceStays S.held S.attached S.ranges source.old source.new × (meter.new.live ≡ meter.old.live)
+        × (meter.new.limit ≡ meter.old.limit) }
     ensures cause { ReadsAndTakes (S.tally source.old) (S.tally source.new) meter.old.limit result }
 {
     let checks = JobChecks::Amend { wanted };

@@ -2,7 +2,7 @@
 ghost use Rattle.std.specs.Prelude.{◌≡◌, ◌+◌, ◌*◌, ◌≤◌, [], ◌∷◌, ◌++◌, Some, sum, length as len, IfOk, OnOk, OnErr};
 ghost use Rattle.fz_base.specs.Meter.{handed_back};
 ghost use Rattle.fz_base.specs.JobBuffers.{slots_buffers};
-ghost use Rattle.fz_head.specs.WorkBuffers.{tile_buffers, translated_buffers};
+ghost use Rattle.fz_checks.specs.WorkBuffers.{tile_buffers, translated_buffers};
 ghost use Rattle.fz_pool.specs.Window.{IsEmpty};
 ghost use Rattle.fz_job.specs.Takes.{Takes};
 ghost use Rattle.fz_job.specs.Workspace.{HasLengths, copy_len, held_bytes, wanted_buffers, window_for};

@@ -5,7 +5,7 @@ use Rattle.fz_block.specs.declared.header.Header.{Header}
 use Rattle.fz_table.specs.Reads.{tile_ranges}
 use Rattle.fz_table.specs.Records.{record_at}
 use Rattle.fz_table.specs.declared.table.Table.{Table}
-use Rattle.fz_head.specs.declared.job_checks.PackedImage.{PackedImage}
+use Rattle.fz_checks.specs.declared.job_checks.PackedImage.{PackedImage}
 use Rattle.fz_head.specs.declared.plan.Plan.{Plan}
 use Rattle.fz_files.specs.Cutout.{ranges_of_row}
 use Rattle.fz_files.specs.FirstFault.{image_row}

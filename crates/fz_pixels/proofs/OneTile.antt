@@ -18,8 +18,8 @@ use Rattle.fz_tile.specs.Refusals.{IsFault}
 use Rattle.fz_tile.specs.declared.codec.Codec.{Codec}
 use Rattle.fz_tile.specs.declared.coded.Place2.{Place2}
 use Rattle.fz_tile.specs.declared.fault.TileFault.{TileFault}
-use Rattle.fz_head.specs.TileKinds.{kind_of_tile}
-use Rattle.fz_head.specs.declared.job_checks.PackedImage.{PackedImage}
+use Rattle.fz_checks.specs.TileKinds.{kind_of_tile}
+use Rattle.fz_checks.specs.declared.job_checks.PackedImage.{PackedImage}
 use Rattle.fz_head.specs.declared.plan.Plan.{Plan}
 use Rattle.fz_files.specs.FirstFault.{IsRowFault, image_row}
 use Rattle.fz_files.specs.Packed.{pixel_bits}

@@ -22,7 +22,7 @@ use Rattle.fz_tile.specs.Record.{IsRecord, read_len}
 use Rattle.fz_tile.specs.declared.codec.Codec.{Codec}
 use Rattle.fz_tile.specs.declared.codec.Codec.TheVariants.{Rice, Plio, Plain}
 use Rattle.fz_tile.specs.declared.coded.Place2.TheVariants as place
-use Rattle.fz_head.specs.declared.job_checks.PackedImage.{PackedImage}
+use Rattle.fz_checks.specs.declared.job_checks.PackedImage.{PackedImage}
 use Rattle.fz_head.specs.declared.plan.Plan.{Plan}
 use Rattle.fz_files.specs.Packed.{pixel_bits}
 use Rattle.fz_files.specs.Restored.{RecordMeans, RowStandsFor, image_table, pixels_of, place_in, plan_in, tile_of}

@@ -6,7 +6,7 @@ use Rattle.fz_table.specs.Records.{record_bytes}
 use Rattle.fz_table.specs.declared.record.Record.{Record}
 use Rattle.fz_table.specs.declared.record.TileColumn.TheVariants.{Coded, Stored}
 use Rattle.fz_tile.specs.Record.{read_len}
-use Rattle.fz_head.specs.declared.job_checks.PackedImage.{PackedImage}
+use Rattle.fz_checks.specs.declared.job_checks.PackedImage.{PackedImage}
 use Rattle.fz_files.specs.Restored.{pixels_of}
 use Rattle.fz_fetch.specs.Loaded.{IsRecordIn}
 use Rattle.fz_pixels.specs.Parts.{IsRestRead, IsStoredIn, bytes_before}

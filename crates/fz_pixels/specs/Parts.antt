@@ -12,7 +12,7 @@ use Rattle.fz_tile.specs.Record.{IsRecord, read_len}
 use Rattle.fz_tile.specs.declared.codec.Codec.{Codec}
 use Rattle.fz_tile.specs.declared.codec.Codec.TheVariants.{Rice, Plio, Plain}
 use Rattle.fz_tile.specs.declared.coded.Place2.TheVariants as place
-use Rattle.fz_head.specs.declared.job_checks.PackedImage.{PackedImage}
+use Rattle.fz_checks.specs.declared.job_checks.PackedImage.{PackedImage}
 use Rattle.fz_files.specs.Restored.{pixels_of}
 use Rattle.fz_fetch.specs.Loaded.{IsRecordIn}
 use Rattle.fz_pixels.specs.Marks.{HasBlocks, part_start}

@@ -21,8 +21,9 @@ ghost use Rattle.fz_fetch.specs.Rows.{StandsWithin};
 use crate::bytes::place_count;
 use fz_base::{Source, Stop, log_law, ranges_law};
 use fz_block::Header;
+use fz_checks::PackedImage;
 use fz_fetch::{faulty, known_tile, place_in, row_of};
-use fz_head::{PackedImage, Plan};
+use fz_head::Plan;
 use fz_table::{Record, read_record, record_of};
 use fz_tile::{TileFault, decode_tile};
 
@@ -48,9 +49,8 @@ pub fn fetch_tile<S: Source>(
     ensures row { IfRefused result (IsOfRow header.now.hdu tile) }
     ensures fault { IfRefused result (λ x. IfSome (S.held source.old) (λ g. IsRowFault g (image_row header.now tile) x)) }
     ensures read { IfSome (S.held source.old) (λ g. LogsIn (fetched_ranges g header.now (tile ∷ [])) (S.ranges source.old) (S.ranges source.new)) }
-    ensures source { SourceStays S.held S.attached S.ranges source.old source.new }
-    ensures numbers { len numbers.new ≡ len numbers.old }
-    ensures code { len code.new ≡ len code.old }
+    ensures stays { SourceStays S.held S.attached S.ranges source.old source.new × (len numbers.new ≡ len numbers.old)
+        × (len code.new ≡ len code.old) }
     ensures cause { ReadsOnly (S.tally source.old) (S.tally source.new) result }
 {
     let found = read_tile(source, header.hdu, image, tile, code)?;
@@ -81,8 +81,7 @@ fn read_tile<S: Source>(
     ensures refused { IfRefused result (λ x. IfSome (S.held source.old) (λ g. IsRefusedIn g hdu image.now tile x)) }
     ensures read { IfSome (S.held source.old) (λ g. LogsIn (tile_ranges g hdu image.now.table tile (tile_of image.now.plan tile))
         (S.ranges source.old) (S.ranges source.new)) }
-    ensures source { SourceStays S.held S.attached S.ranges source.old source.new }
-    ensures code { len code.new ≡ len code.old }
+    ensures stays { SourceStays S.held S.attached S.ranges source.old source.new × (len code.new ≡ len code.old) }
     ensures cause { ReadsOnly (S.tally source.old) (S.tally source.new) result }
 {
     ranges_law();

@@ -21,8 +21,9 @@ use crate::marks::{TileMark, bytes_before, part_start};
 use crate::one::find_tile;
 use fz_base::{Source, Stop, log_law, ranges_law};
 use fz_block::Header;
+use fz_checks::PackedImage;
 use fz_fetch::known_tile;
-use fz_head::{PackedImage, Plan};
+use fz_head::Plan;
 use fz_table::{Record, TileColumn, read_rest};
 use fz_tile::{Codec, Mark, decode_part, first_part_mark};
 
@@ -64,9 +65,8 @@ pub fn fetch_part<S: Source>(
     ensures row { IfRefused result (IsOfRow header.now.hdu tile) }
     ensures fault { IfRefused result (λ x. IfSome (S.held source.old) (λ g. IsRowFault g (image_row header.now tile) x)) }
     ensures read { IfSome (S.held source.old) (λ g. LogsIn (fetched_ranges g header.now (tile ∷ [])) (S.ranges source.old) (S.ranges source.new)) }
-    ensures source { SourceStays S.held S.attached S.ranges source.old source.new }
-    ensures numbers { len numbers.new ≡ len numbers.old }
-    ensures code { len code.new ≡ len code.old }
+    ensures stays { SourceStays S.held S.attached S.ranges source.old source.new × (len numbers.new ≡ len numbers.old)
+        × (len code.new ≡ len code.old) }
     ensures cause { ReadsOnly (S.tally source.old) (S.tally source.new) result }
 {
     ranges_law();
@@ -103,8 +103,7 @@ fn read_code<S: Source>(
     ensures refused { IfRefused result (λ x. IfSome (S.held source.old) (λ g. IsRefusedIn g hdu image.now tile x)) }
     ensures read { IfSome (S.held source.old) (λ g. LogsIn (tile_ranges g hdu image.now.table tile (tile_of image.now.plan tile))
         (S.ranges source.old) (S.ranges source.new)) }
-    ensures source { SourceStays S.held S.attached S.ranges source.old source.new }
-    ensures code { len code.new ≡ len code.old }
+    ensures stays { SourceStays S.held S.attached S.ranges source.old source.new × (len code.new ≡ len code.old) }
     ensures cause { ReadsOnly (S.tally source.old) (S.tally source.new) result }
 {
     ranges_law();

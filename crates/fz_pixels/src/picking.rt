@@ -50,8 +50,7 @@ pub fn scatter_picks<K: Sink>(
     ensures written { OnOk result ((pixels : List (List ℤ)) → HaveTiles plan.now tiles.now window.old.slots pixels
         → K.contents sink.new ≡ parts_written plan.now sieve.now data_at tiles.now pixels (K.contents sink.old)) }
     ensures others { AreSameFrom (len tiles.now) window.old.slots window.new.slots }
-    ensures sink { SinkStays K.created K.contents sink.old sink.new }
-    ensures window { WindowStays window.old window.new }
+    ensures stays { SinkStays K.created K.contents sink.old sink.new × WindowStays window.old window.new }
     ensures cause { Writes (K.tally sink.old) (K.tally sink.new) result }
 {
     sizes_law();
@@ -80,8 +79,7 @@ fn scatter_next<K: Sink>(
     ensures written { OnOk result ((xs : List ℤ) → ((d : SlotOf) → HasTile plan.now tile (slice_index_or window.old.slots i d) xs)
         → K.contents sink.new ≡ part_written plan.now sieve.now data_at tile xs (K.contents sink.old)) }
     ensures others { (k : ℕ) (d : SlotOf) → k ≢ i → slice_index_or window.new.slots k d ≡ slice_index_or window.old.slots k d }
-    ensures sink { SinkStays K.created K.contents sink.old sink.new }
-    ensures window { WindowStays window.old window.new }
+    ensures stays { SinkStays K.created K.contents sink.old sink.new × WindowStays window.old window.new }
     ensures cause { Writes (K.tally sink.old) (K.tally sink.new) result }
 {
     sizes_law();
@@ -103,8 +101,7 @@ fn scatter_part<K: Sink>(
     requires pixels { (xs : List ℤ) × HasTile plan.now tile slot.old xs }
     ensures written { OnOk result ((xs : List ℤ) → HasTile plan.now tile slot.old xs
         → K.contents sink.new ≡ part_written plan.now sieve.now data_at tile xs (K.contents sink.old)) }
-    ensures sink { SinkStays K.created K.contents sink.old sink.new }
-    ensures size { slot_size slot.new ≡ slot_size slot.old }
+    ensures stays { SinkStays K.created K.contents sink.old sink.new × (slot_size slot.new ≡ slot_size slot.old) }
     ensures cause { Writes (K.tally sink.old) (K.tally sink.new) result }
 {
     tile_pixels_law();
@@ -138,8 +135,7 @@ fn write_part<K: Sink>(
     requires pixels { (xs : List ℤ) × HoldsPixels plan.now tile numbers.now xs }
     ensures written { OnOk result ((xs : List ℤ) → HoldsPixels plan.now tile numbers.now xs
         → K.contents sink.new ≡ part_written plan.now sieve.now data_at tile xs (K.contents sink.old)) }
-    ensures sink { SinkStays K.created K.contents sink.old sink.new }
-    ensures len { len code.new ≡ len code.old }
+    ensures stays { SinkStays K.created K.contents sink.old sink.new × (len code.new ≡ len code.old) }
     ensures cause { Writes (K.tally sink.old) (K.tally sink.new) result }
 {
     cutout_law();

@@ -47,8 +47,7 @@ pub(crate) fn write_region<K: Sink>(
         ≡ pieces_written places.pixel_len places.data_at (places_of (lengths_of places.shape) (region_corner region.now) (region_lengths region.now))
         bytes.now (settled back.old held.old (K.contents sink.old))) }
     ensures kept { OnOk result (IsHeld back.new held.new) }
-    ensures room { len held.new ≡ len held.old }
-    ensures sink { SinkStays K.created K.contents sink.old sink.new }
+    ensures stays { SinkStays K.created K.contents sink.old sink.new × (len held.new ≡ len held.old) }
     ensures cause { Writes (K.tally sink.old) (K.tally sink.new) result }
 {
     output_law();

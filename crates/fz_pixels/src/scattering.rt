@@ -53,8 +53,7 @@ pub fn scatter_tiles<K: Sink>(
     ensures written { OnOk result ((pixels : List (List ℤ)) → HaveTiles plan.now tiles.now window.old.slots pixels
         → K.contents sink.new ≡ tiles_written plan.now data_at tiles.now pixels (K.contents sink.old)) }
     ensures others { AreSameFrom (len tiles.now) window.old.slots window.new.slots }
-    ensures sink { SinkStays K.created K.contents sink.old sink.new }
-    ensures window { WindowStays window.old window.new }
+    ensures stays { SinkStays K.created K.contents sink.old sink.new × WindowStays window.old window.new }
     ensures cause { Writes (K.tally sink.old) (K.tally sink.new) result }
 {
     let mut back = Held::none();
@@ -87,10 +86,9 @@ pub fn scatter_held<K: Sink>(
         → settled back.new held.new (K.contents sink.new)
         ≡ tiles_written plan.now data_at tiles.now pixels (settled back.old held.old (K.contents sink.old))) }
     ensures kept { OnOk result (IsHeld back.new held.new) }
-    ensures room { len held.new ≡ len held.old }
     ensures others { AreSameFrom (len tiles.now) window.old.slots window.new.slots }
-    ensures sink { SinkStays K.created K.contents sink.old sink.new }
-    ensures window { WindowStays window.old window.new }
+    ensures stays { SinkStays K.created K.contents sink.old sink.new × WindowStays window.old window.new
+        × (len held.new ≡ len held.old) }
     ensures cause { Writes (K.tally sink.old) (K.tally sink.new) result }
 {
     sizes_law();
@@ -122,10 +120,9 @@ fn scatter_next<K: Sink>(
         → settled back.new held.new (K.contents sink.new)
         ≡ tile_written image.entry.plan.now image.entry.data_at tile xs (settled back.old held.old (K.contents sink.old))) }
     ensures kept { OnOk result (IsHeld back.new held.new) }
-    ensures room { len held.new ≡ len held.old }
     ensures others { (k : ℕ) (d : SlotOf) → k ≢ i → slice_index_or window.new.slots k d ≡ slice_index_or window.old.slots k d }
-    ensures sink { SinkStays K.created K.contents sink.old sink.new }
-    ensures window { WindowStays window.old window.new }
+    ensures stays { SinkStays K.created K.contents sink.old sink.new × WindowStays window.old window.new
+        × (len held.new ≡ len held.old) }
     ensures cause { Writes (K.tally sink.old) (K.tally sink.new) result }
 {
     sizes_law();
@@ -150,9 +147,8 @@ fn scatter_tile<K: Sink>(
         → settled back.new held.new (K.contents sink.new)
         ≡ tile_written image.entry.plan.now image.entry.data_at tile xs (settled back.old held.old (K.contents sink.old))) }
     ensures kept { OnOk result (IsHeld back.new held.new) }
-    ensures room { len held.new ≡ len held.old }
-    ensures sink { SinkStays K.created K.contents sink.old sink.new }
-    ensures size { slot_size slot.new ≡ slot_size slot.old }
+    ensures stays { SinkStays K.created K.contents sink.old sink.new × (len held.new ≡ len held.old)
+        × (slot_size slot.new ≡ slot_size slot.old) }
     ensures cause { Writes (K.tally sink.old) (K.tally sink.new) result }
 {
     tile_pixels_law();
@@ -189,9 +185,8 @@ fn write_tile<K: Sink>(
         → settled back.new held.new (K.contents sink.new)
         ≡ tile_written image.entry.plan.now image.entry.data_at tile xs (settled back.old held.old (K.contents sink.old))) }
     ensures kept { OnOk result (IsHeld back.new held.new) }
-    ensures room { len held.new ≡ len held.old }
-    ensures len { len code.new ≡ len code.old }
-    ensures sink { SinkStays K.created K.contents sink.old sink.new }
+    ensures stays { SinkStays K.created K.contents sink.old sink.new × (len held.new ≡ len held.old)
+        × (len code.new ≡ len code.old) }
     ensures cause { Writes (K.tally sink.old) (K.tally sink.new) result }
 {
     place_law();

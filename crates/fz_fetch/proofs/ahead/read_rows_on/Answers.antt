@@ -66,10 +66,10 @@ returns-clause-ahead g c =
     let size : n ≡ t.row_bytes * count = c.rows_len.ensures.len ∙ ap (λ k. t.row_bytes * k) long in
     let few : count ≤ 128 = omega (arith, c.min-count.ensures) in
     let near : n ≤ 4096 = omega (arith, c.rows_len.ensures.most, long, few) in
-    let whole : length c.read_rows.new.rows ≡ n = omega (arith, c.read_rows.ensures.len, near, c.requires.ahead.room, length-take {A = ℕ}) in
+    let whole : length c.read_rows.new.rows ≡ n = omega (arith, c.read_rows.ensures.stays.1, near, c.requires.ahead.room, length-take {A = ℕ}) in
     let a = c.args.ahead.now in
     let now : List ℕ = c.read_rows.new.rows ++ drop n c.args.buf.now in
-    subst (λ (h : Option (List ℕ)). IsAhead h t now (record a { first = c.args.first; count = count })) (sym c.in_ok-read_rows.ensures.source.held_is)
+    subst (λ (h : Option (List ℕ)). IsAhead h t now (record a { first = c.args.first; count = count })) (sym c.in_ok-read_rows.ensures.stays.0.held_is)
     (rows_found held t c.args.buf.now c.read_rows.new.rows n c.args.ahead.now c.number_tiles.new.tiles c.args.first count c.requires.ahead size few near whole
     are c.in_ok-read_rows.ensures.rows)
 
@@ -85,10 +85,10 @@ returns-in_err-read_rows-clause-ahead g c =
     let n : ℕ = c.rows_len.result in
     let few : count ≤ 128 = omega (arith, c.min-count.ensures) in
     let near : n ≤ 4096 = omega (arith, c.rows_len.ensures.most, long, few) in
-    let whole : length c.read_rows.new.rows ≡ n = omega (arith, c.read_rows.ensures.len, near, c.requires.ahead.room, length-take {A = ℕ}) in
+    let whole : length c.read_rows.new.rows ≡ n = omega (arith, c.read_rows.ensures.stays.1, near, c.requires.ahead.room, length-take {A = ℕ}) in
     let a = c.args.ahead.now in
     let now : List ℕ = c.read_rows.new.rows ++ drop n c.args.buf.now in
-    subst (λ (h : Option (List ℕ)). IsAhead h t now (record a { count = 0 })) (sym c.in_err-read_rows.ensures.source.held_is)
+    subst (λ (h : Option (List ℕ)). IsAhead h t now (record a { count = 0 })) (sym c.in_err-read_rows.ensures.stays.0.held_is)
     (rows_lost held t c.args.buf.now c.read_rows.new.rows n c.args.ahead.now c.requires.ahead near whole)
 
 -- ---- what is read

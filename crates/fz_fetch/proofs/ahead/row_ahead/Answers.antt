@@ -46,5 +46,5 @@ row_here-requires-2-clause-here g c = let here = c.in_ok-read_rows_on.ensures.he
 
 pub returns-clause-exact : goal.returns-clause-exact
 returns-clause-exact g c =
-    subst (λ (h : Option (List ℕ)). IfSome h (λ file. c.row_here-2.result ≡ row_at file c.args.table.now c.args.tile)) c.in_ok-read_rows_on.ensures.source.held_is
+    subst (λ (h : Option (List ℕ)). IfSome h (λ file. c.row_here-2.result ≡ row_at file c.args.table.now c.args.tile)) c.in_ok-read_rows_on.ensures.stays.0.held_is
     (c.row_here-2.ensures.told (g.S.Source.held c.read_rows_on.new.source) c.in_ok-read_rows_on.ensures.ahead)

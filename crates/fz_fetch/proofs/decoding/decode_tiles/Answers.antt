@@ -47,12 +47,12 @@ loop-first-preserved g c =
       held = search rules;
       attached = search rules;
       reads = search rules;
-      told = λ told. c.in_ok-decode_ahead.ensures.source.told (old.told told);
+      told = λ told. c.in_ok-decode_ahead.ensures.stays.0.told (old.told told);
       read = join_told c.ranges_law.ensures.join held (λ file. image_ranges file h) (g.S.Source.ranges c.args.source.now) (g.S.Source.ranges c.loop-first.source) (g.S.Source.ranges c.decode_ahead.new.source) old.read
           (subst (λ (l : Option (List ℕ)). IfSome l (λ file. LogsIn (image_ranges file h) (g.S.Source.ranges c.loop-first.source) (g.S.Source.ranges c.decode_ahead.new.source))) old.held c.in_ok-decode_ahead.ensures.judged.read);
-      window = record { sizes = c.in_ok-decode_ahead.ensures.window.sizes ∙ old.window.sizes; workers = c.in_ok-decode_ahead.ensures.window.workers ∙ old.window.workers };
-      rows = c.in_ok-decode_ahead.ensures.rows ∙ old.rows;
-      ahead = subst (λ (l : Option (List ℕ)). IsAhead l c.args.image.now.table c.decode_ahead.new.rows c.decode_ahead.new.ahead) (c.in_ok-decode_ahead.ensures.source.held_is ∙ old.held) c.in_ok-decode_ahead.ensures.ahead;
+      window = record { sizes = c.in_ok-decode_ahead.ensures.stays.1.sizes ∙ old.window.sizes; workers = c.in_ok-decode_ahead.ensures.stays.1.workers ∙ old.window.workers };
+      rows = c.in_ok-decode_ahead.ensures.stays.2 ∙ old.rows;
+      ahead = subst (λ (l : Option (List ℕ)). IsAhead l c.args.image.now.table c.decode_ahead.new.rows c.decode_ahead.new.ahead) (c.in_ok-decode_ahead.ensures.stays.0.held_is ∙ old.held) c.in_ok-decode_ahead.ensures.ahead;
       within = omega (arith, c.min-count.ensures, old.within);
       sound = more_sound held h first count old.sound round;
     }

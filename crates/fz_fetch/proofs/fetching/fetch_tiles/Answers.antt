@@ -3,7 +3,7 @@ use Rattle.std.proofs.Common.{◌≡◌, ℕ, ◌+◌, ◌*◌, List, Option, So
 use Rattle.std.specs.Prelude.{⊤}
 use Rattle.fz_base.specs.Refusal.{refusal}
 use Rattle.fz_base.specs.declared.fault.Place.TheVariants.{Row as AtRow}
-use Rattle.fz_head.specs.TileKinds.{kind_of_tile}
+use Rattle.fz_checks.specs.TileKinds.{kind_of_tile}
 use Rattle.fz_pool.specs.Calls.{HaveNumbers, IsLowestFault}
 use Rattle.fz_pool.specs.declared.slot.Slot.{Slot}
 use Rattle.fz_fetch.specs.Loaded.{StopsAt}
@@ -14,7 +14,7 @@ pub decode_window-requires-clause-filled : goal.decode_window-requires-clause-fi
 decode_window-requires-clause-filled g c κs within =
     let n : ℕ = c.requires.window.0 in
     c.sizes_law.ensures.many c.load_round.new.window.slots (2 * c.load_round.new.window.workers) (2 * n, 8 * n + 64)
-    (c.load_round.ensures.window.sizes ∙ c.requires.window.1 ∙ ap (λ (k : ℕ). replicate {A = ℕ × ℕ} (2 * k) (2 * n, 8 * n + 64)) (sym c.load_round.ensures.window.workers))
+    (c.load_round.ensures.stays.1.sizes ∙ c.requires.window.1 ∙ ap (λ (k : ℕ). replicate {A = ℕ × ℕ} (2 * k) (2 * n, 8 * n + 64)) (sym c.load_round.ensures.stays.1.workers))
 
 pub decode_window-requires-clause-ready : goal.decode_window-requires-clause-ready
 decode_window-requires-clause-ready g c κs within =
@@ -37,7 +37,7 @@ returns-in-None-clause-fetched g c =
     let all : count ≡ length tiles = subst (StopsAt held h.hdu image tiles count) none is.stops in
     let have : HaveNumbers count old new = search rules in
     let many : length old ≡ 2 * c.args.window.now.workers =
-    c.sizes_law.ensures.many old (2 * c.args.window.now.workers) (2 * n, 8 * n + 64) (c.load_round.ensures.window.sizes ∙ c.requires.window.1) in
+    c.sizes_law.ensures.many old (2 * c.args.window.now.workers) (2 * n, 8 * n + 64) (c.load_round.ensures.stays.1.sizes ∙ c.requires.window.1) in
     let same : length new ≡ length old = c.decode_window.ensures.kept.slots in
     fetched h image tiles c.round_law.ensures.decoded held c.requires.said count old new all (omega (arith, all, many, c.requires.few)) (omega (arith, all, many, same, c.requires.few)) is.loaded have
 

@@ -41,17 +41,21 @@ returns-then-run-found-clause-read g c =
     (omega (arith, c.requires.image.rows, c.requires.tile)) c.requires.told)
     (may_log c.read_record.result found.start found.read old new c.read_record.ensures.read c.read_record.ensures.failed)
 
-pub returns-then-run-found-clause-source : goal.returns-then-run-found-clause-source
-returns-then-run-found-clause-source g c = record {
-  held_is = search rules;
-  attached_is = search rules;
-  told =
-      let found = c.args.found.now in
-      let old = g.S.Source.ranges c.args.source.now in
-      let new = g.S.Source.ranges c.read_record.new.source in
-      may_told c.log_law.ensures.told c.ranges_law.ensures.some found.start found.read old new
-      (may_log c.read_record.result found.start found.read old new c.read_record.ensures.read c.read_record.ensures.failed);
-}
+pub returns-then-run-found-clause-stays : goal.returns-then-run-found-clause-stays
+returns-then-run-found-clause-stays g c = (
+  record {
+    held_is = search rules;
+    attached_is = search rules;
+    told =
+        let found = c.args.found.now in
+        let old = g.S.Source.ranges c.args.source.now in
+        let new = g.S.Source.ranges c.read_record.new.source in
+        may_told c.log_law.ensures.told c.ranges_law.ensures.some found.start found.read old new
+        (may_log c.read_record.result found.start found.read old new c.read_record.ensures.read c.read_record.ensures.failed);
+  },
+  search rules,
+  search rules,
+)
 
 -- ---- it is read with others
 
@@ -79,7 +83,7 @@ returns-clause-bytes g c =
     let found = c.args.found.now in
     let is = c.read_run.ensures.ahead c.args.tile.image.now.table c.requires.ahead in
     let here = c.in_ok-read_run.ensures.here in
-    subst (λ (h : Option (List ℕ)). IfSome h (λ file. take found.read c.take_record-2.new.code ≡ record_bytes file found)) c.read_run.ensures.held
+    subst (λ (h : Option (List ℕ)). IfSome h (λ file. take found.read c.take_record-2.new.code ≡ record_bytes file found)) c.read_run.ensures.stays.1
     (record_taken (g.S.Source.held c.read_run.new.source) c.args.tile.image.now.table c.read_run.new.buf c.take_record-2.new.code c.read_run.new.ahead found is
     (omega (arith, here.0)) (omega (arith, here.0, here.1, c.run_len-run.ensures.least)) c.take_record-2.ensures.bytes)
 
@@ -97,20 +101,28 @@ returns-in_err-read_run-clause-read g c =
     (g.S.Source.ranges c.read_run.new.source)
     (c.run_len-run.ensures.told held c.requires.ahead c.requires.told) c.read_run.ensures.read
 
-pub returns-clause-source : goal.returns-clause-source
-returns-clause-source g c = record {
-  held_is = search rules;
-  attached_is = search rules;
-  told =
-      may_told c.log_law.ensures.told c.ranges_law.ensures.some c.args.found.now.start c.run_len-run.result (g.S.Source.ranges c.args.source.now)
-      (g.S.Source.ranges c.read_run.new.source) c.read_run.ensures.read;
-}
+pub returns-clause-stays : goal.returns-clause-stays
+returns-clause-stays g c = (
+  record {
+    held_is = search rules;
+    attached_is = search rules;
+    told =
+        may_told c.log_law.ensures.told c.ranges_law.ensures.some c.args.found.now.start c.run_len-run.result (g.S.Source.ranges c.args.source.now)
+        (g.S.Source.ranges c.read_run.new.source) c.read_run.ensures.read;
+  },
+  search rules,
+  search rules,
+)
 
-pub returns-in_err-read_run-clause-source : goal.returns-in_err-read_run-clause-source
-returns-in_err-read_run-clause-source g c = record {
-  held_is = search rules;
-  attached_is = search rules;
-  told =
-      may_told c.log_law.ensures.told c.ranges_law.ensures.some c.args.found.now.start c.run_len-run.result (g.S.Source.ranges c.args.source.now)
-      (g.S.Source.ranges c.read_run.new.source) c.read_run.ensures.read;
-}
+pub returns-in_err-read_run-clause-stays : goal.returns-in_err-read_run-clause-stays
+returns-in_err-read_run-clause-stays g c = (
+  record {
+    held_is = search rules;
+    attached_is = search rules;
+    told =
+        may_told c.log_law.ensures.told c.ranges_law.ensures.some c.args.found.now.start c.run_len-run.result (g.S.Source.ranges c.args.source.now)
+        (g.S.Source.ranges c.read_run.new.source) c.read_run.ensures.read;
+  },
+  search rules,
+  search rules,
+)

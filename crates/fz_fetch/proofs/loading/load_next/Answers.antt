@@ -27,7 +27,7 @@ load_slot-requires-clause-room g c =
 pub returns-clause-put : goal.returns-clause-put
 returns-clause-put g c =
     let came : c.record_of.result ≡ Ok c.in_ok-found.found = search rules in
-    let put = c.put_law.ensures.put c.args.window.now c.args.i c.slot_mut.result.now c.load_slot.new.slot c.slot_mut.ensures.value c.load_slot.ensures.size in
+    let put = c.put_law.ensures.put c.args.window.now c.args.i c.slot_mut.result.now c.load_slot.new.slot c.slot_mut.ensures.value c.load_slot.ensures.stays.1 in
     all_three c.load_slot.result c.load_slot.ensures.job c.load_slot.ensures.ready c.load_slot.ensures.bytes
     (λ job ready bytes. (
       c.load_slot.new.slot,

@@ -33,10 +33,10 @@ loop-i-preserved g c =
       held = search rules;
       attached = search rules;
       counts = search rules;
-      sizes = c.load_next.ensures.window.sizes ∙ c.loop-i.invariant.sizes;
-      workers = c.load_next.ensures.window.workers ∙ c.loop-i.invariant.workers;
+      sizes = c.load_next.ensures.stays.1.sizes ∙ c.loop-i.invariant.sizes;
+      workers = c.load_next.ensures.stays.1.workers ∙ c.loop-i.invariant.workers;
       others = same_then c.loop-i.i (c.loop-i.i + 1) (c.loop-i.i + 1) c.args.window.now.slots c.loop-i.window.slots c.load_next.new.window.slots (omega arith) (omega arith) c.loop-i.invariant.others c.load_next.ensures.others;
-      told_ranges = λ told. c.load_next.ensures.source.told (c.loop-i.invariant.told_ranges told);
+      told_ranges = λ told. c.load_next.ensures.stays.0.told (c.loop-i.invariant.told_ranges told);
       read = read_more c.ranges_law.ensures.join held (g.S.Source.held c.loop-i.source) c.args.hdu c.args.image.now tiles c.loop-i.i
           (g.S.Source.ranges c.args.source.now) (g.S.Source.ranges c.loop-i.source) (g.S.Source.ranges c.load_next.new.source) near c.loop-i.invariant.held c.loop-i.invariant.read c.load_next.ensures.read;
       loaded = loaded_more held c.args.hdu c.args.image.now tiles c.loop-i.i c.loop-i.window c.load_next.new.window put.0 put.1 now c.loop-i.invariant.loaded;

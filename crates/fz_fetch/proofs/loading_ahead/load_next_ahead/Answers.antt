@@ -60,7 +60,7 @@ pub returns-clause-put : goal.returns-clause-put
 returns-clause-put g c =
     let came : c.record_of.result ≡ Ok c.in_ok-found.found = search rules in
     let put = c.put_law.ensures.put c.args.window.now c.args.i c.slot_mut.result.now c.load_slot_ahead.new.slot c.slot_mut.ensures.value
-    c.load_slot_ahead.ensures.size in
+    c.load_slot_ahead.ensures.stays.1 in
     all_three c.load_slot_ahead.result c.load_slot_ahead.ensures.job c.load_slot_ahead.ensures.ready c.load_slot_ahead.ensures.bytes
     (λ job ready bytes. (
       c.load_slot_ahead.new.slot,

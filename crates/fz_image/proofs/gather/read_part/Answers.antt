@@ -12,13 +12,16 @@ read_told law (Ok x) at count old new ok err = law ((at, count) ∷ []) old new 
 read_told law (Err e) at count old new ok (inl same) = λ told. subst IsSome (sym same) told
 read_told law (Err e) at count old new ok (inr more) = law ((at, count) ∷ []) old new more
 
-pub returns-clause-source : goal.returns-clause-source
-returns-clause-source g c = record {
-  held_is = search rules;
-  attached_is = search rules;
-  told =
-      read_told c.log_law.ensures.told c.read_at.result c.args.part.from _ (g.S.Source.ranges c.args.source.now) (g.S.Source.ranges c.read_at.new.self) c.read_at.ensures.logged c.read_at.ensures.log_err;
-}
+pub returns-clause-stays : goal.returns-clause-stays
+returns-clause-stays g c = (
+  record {
+    held_is = search rules;
+    attached_is = search rules;
+    told =
+        read_told c.log_law.ensures.told c.read_at.result c.args.part.from _ (g.S.Source.ranges c.args.source.now) (g.S.Source.ranges c.read_at.new.self) c.read_at.ensures.logged c.read_at.ensures.log_err;
+  },
+  search rules,
+)
 
 -- what one read logs, whatever it answers
 read_logs : {T E : Type 0} (result : Result T E) (at count : ℕ) (old new : Option (List (ℕ × ℕ))) → OnOk result (new ≡ logged at count old) → OnErr result (MayLog at count old new) → MayLog at count old new

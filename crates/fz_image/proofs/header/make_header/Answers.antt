@@ -10,7 +10,7 @@ use Rattle.fz_block.specs.declared.header.Header.{Header}
 use Rattle.fz_sum.specs.Cards.{blank_checksum_card, datasum_card}
 use Rattle.fz_sum.specs.Sums.{carried}
 use Rattle.fz_head.specs.Conditions.{AreShort, IsPackPlan}
-use Rattle.fz_head.specs.Greatest.{greatest}
+use Rattle.fz_checks.specs.Greatest.{greatest}
 use Rattle.fz_head.specs.PackedHeader.{packed_header, packed_with, sum_cards}
 use Rattle.fz_head.specs.ThereAndBack.{IsPacking}
 use Rattle.fz_head.specs.declared.totals.Totals.{Totals}

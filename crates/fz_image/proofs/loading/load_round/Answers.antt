@@ -43,15 +43,15 @@ loop-i-preserved g c =
     let put = c.in_ok-load_next.ensures.put in
     let now : IsLoaded l held (c.args.first + c.loop-i.i) put.0 = subst (λ (h : Option (List ℕ)). IsLoaded l h (c.args.first + c.loop-i.i) put.0) c.loop-i.invariant.held put.2 in
     record {
-      held = c.in_ok-load_next.ensures.stays.source.held_is ∙ c.loop-i.invariant.held;
-      attached = c.in_ok-load_next.ensures.stays.source.attached_is ∙ c.loop-i.invariant.attached;
-      log = c.log_law.ensures.both l.pixels_at (l.pixels_at + pixel_bytes_of l) (g.S.Source.ranges c.args.source.now) (g.S.Source.ranges c.loop-i.source) (g.S.Source.ranges c.load_next.new.source) c.loop-i.invariant.log c.in_ok-load_next.ensures.stays.log;
-      told_ranges = λ told. c.in_ok-load_next.ensures.stays.source.told (c.loop-i.invariant.told_ranges told);
-      reads = c.in_ok-load_next.ensures.stays.cause.ok ∙ c.loop-i.invariant.reads;
-      sizes = c.in_ok-load_next.ensures.window.sizes ∙ c.loop-i.invariant.sizes;
-      strips = subst (λ (h : Option (List ℕ)). HasStrips h c.load_next.new.strips c.load_next.new.ahead) (c.in_ok-load_next.ensures.stays.source.held_is ∙ c.loop-i.invariant.held) c.in_ok-load_next.ensures.strips;
-      ahead = c.in_ok-load_next.ensures.ahead ∙ c.loop-i.invariant.ahead;
-      workers = c.in_ok-load_next.ensures.window.workers ∙ c.loop-i.invariant.workers;
+      held = c.in_ok-load_next.ensures.stays.1.source.held_is ∙ c.loop-i.invariant.held;
+      attached = c.in_ok-load_next.ensures.stays.1.source.attached_is ∙ c.loop-i.invariant.attached;
+      log = c.log_law.ensures.both l.pixels_at (l.pixels_at + pixel_bytes_of l) (g.S.Source.ranges c.args.source.now) (g.S.Source.ranges c.loop-i.source) (g.S.Source.ranges c.load_next.new.source) c.loop-i.invariant.log c.in_ok-load_next.ensures.stays.1.log;
+      told_ranges = λ told. c.in_ok-load_next.ensures.stays.1.source.told (c.loop-i.invariant.told_ranges told);
+      reads = c.in_ok-load_next.ensures.stays.1.cause.ok ∙ c.loop-i.invariant.reads;
+      sizes = c.in_ok-load_next.ensures.stays.0.sizes ∙ c.loop-i.invariant.sizes;
+      strips = subst (λ (h : Option (List ℕ)). HasStrips h c.load_next.new.strips c.load_next.new.ahead) (c.in_ok-load_next.ensures.stays.1.source.held_is ∙ c.loop-i.invariant.held) c.in_ok-load_next.ensures.strips;
+      ahead = c.in_ok-load_next.ensures.stays.2 ∙ c.loop-i.invariant.ahead;
+      workers = c.in_ok-load_next.ensures.stays.0.workers ∙ c.loop-i.invariant.workers;
       loaded = loaded_more l held c.args.first c.loop-i.i c.loop-i.window c.load_next.new.window put.0 put.1 now c.loop-i.invariant.loaded c.put_law.ensures.ready;
     }
 
@@ -67,22 +67,28 @@ pub returns-in_err-load_next-clause-stays : goal.returns-in_err-load_next-clause
 returns-in_err-load_next-clause-stays g c =
     let l = c.args.layout.now in
     let old = c.loop-i.invariant in
-    let stays = c.in_err-load_next.ensures.stays in
-    record {
-      source = record {
-        held_is = stays.source.held_is ∙ old.held;
-        attached_is = stays.source.attached_is ∙ old.attached;
-        told = λ told. stays.source.told (old.told_ranges told);
-      };
-      log = c.log_law.ensures.both l.pixels_at (l.pixels_at + pixel_bytes_of l) (g.S.Source.ranges c.args.source.now) (g.S.Source.ranges c.loop-i.source) (g.S.Source.ranges c.load_next.new.source) old.log stays.log;
-      cause = search rules;
-    }
+    let stays = c.in_err-load_next.ensures.stays.1 in (
+      search rules,
+      record {
+        source = record {
+          held_is = stays.source.held_is ∙ old.held;
+          attached_is = stays.source.attached_is ∙ old.attached;
+          told = λ told. stays.source.told (old.told_ranges told);
+        };
+        log = c.log_law.ensures.both l.pixels_at (l.pixels_at + pixel_bytes_of l) (g.S.Source.ranges c.args.source.now) (g.S.Source.ranges c.loop-i.source) (g.S.Source.ranges c.load_next.new.source) old.log stays.log;
+        cause = search rules;
+      },
+      search rules,
+    )
 
 pub returns-clause-stays : goal.returns-clause-stays
 returns-clause-stays g c =
-    let old = c.loop-i.invariant in
-    record {
-      source = record { held_is = old.held; attached_is = old.attached; told = old.told_ranges };
-      log = old.log;
-      cause = search rules;
-    }
+    let old = c.loop-i.invariant in (
+      search rules,
+      record {
+        source = record { held_is = old.held; attached_is = old.attached; told = old.told_ranges };
+        log = old.log;
+        cause = search rules;
+      },
+      search rules,
+    )

@@ -72,8 +72,8 @@ loop-i-preserved g c =
     record {
       created = search rules;
       writes = search rules;
-      shut = λ shut. c.in_ok-hold_back.ensures.sink.shut (c.loop-i.invariant.shut shut);
-      told_contents = λ told. c.in_ok-hold_back.ensures.sink.told (c.loop-i.invariant.told_contents told);
+      shut = λ shut. c.in_ok-hold_back.ensures.stays.0.shut (c.loop-i.invariant.shut shut);
+      told_contents = λ told. c.in_ok-hold_back.ensures.stays.0.told (c.loop-i.invariant.told_contents told);
       progress = heap_step l w c.loop-i.underway.progress c.add_tile.new.self (coded_tiles c.loop-i.i slots) (coded_tiles (c.loop-i.i + 1) slots) (coded_tile x) c.sum_law.ensures.joined c.loop-i.invariant.progress more c.add_tile.ensures;
       contents = held_step l w c.loop-i.underway.progress c.add_tile.new.self (coded_tiles c.loop-i.i slots) (coded_tiles (c.loop-i.i + 1) slots) (coded_tile x) c.code_of.result.now (c.heap_at.result + c.loop-i.underway.progress.heap)
           c.loop-i.underway.held_back c.hold_back.new.count c.loop-i.held c.hold_back.new.held

@@ -65,12 +65,12 @@ loop-i-preserved g c =
     record {
       held = search rules;
       attached = search rules;
-      told_ranges = λ told. c.in_ok-read_part.ensures.source.told (c.loop-i.invariant.told_ranges told);
+      told_ranges = λ told. c.in_ok-read_part.ensures.stays.0.told (c.loop-i.invariant.told_ranges told);
       log = c.log_law.ensures.both l.pixels_at end (g.S.Source.ranges c.args.source.now) mid new c.loop-i.invariant.log
           (c.log_law.ensures.wider (strip_at s i) (strip_at s i + s.len) l.pixels_at end mid new (omega (arith, c.requires.strips.low))
           (c.requires.strips.high i near) c.in_ok-read_part.ensures.log);
       reads = search rules;
-      long = c.in_ok-read_part.ensures.len ∙ c.loop-i.invariant.long;
+      long = c.in_ok-read_part.ensures.stays.1 ∙ c.loop-i.invariant.long;
       read = read_one (g.S.Source.held c.args.source.now) (g.S.Source.held c.loop-i.source) s i c.loop-i.ahead c.read_part.new.into c.loop-i.invariant.held
           (omega (arith, most, c.requires.strips.room_is, c.loop-i.invariant.long)) c.loop-i.invariant.read c.in_ok-read_part.ensures.part;
     }

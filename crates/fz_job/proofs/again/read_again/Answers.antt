@@ -4,7 +4,7 @@ use Rattle.fz_base.specs.Source.{Reads}
 use Rattle.fz_base.specs.declared.failure.Stop.{Stop}
 use Rattle.fz_block.specs.Header.{next_start_of}
 use Rattle.fz_table.specs.Rows.{IsTable}
-use Rattle.fz_head.specs.JobChecks.{IsImageOf, image_to_unpack}
+use Rattle.fz_checks.specs.JobChecks.{IsImageOf, image_to_unpack}
 use Rattle.fz_job.specs.Again.{is_larger}
 use Rattle.fz_job.proofs.Seen.{IsReadAgain, answered, front, no_fault, no_larger, no_other_answer, no_refusal}
 use Rattle.fz_job.proofs.Usable.{usable}

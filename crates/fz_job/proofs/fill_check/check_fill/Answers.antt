@@ -2,7 +2,7 @@
 use Rattle.std.proofs.Common.{◌+◌, ◌-◌, arith}
 use Rattle.std.proofs.lemmas.List.{length-take}
 use Rattle.fz_block.specs.Header.{next_start_of}
-use Rattle.fz_head.specs.JobChecks.{data_end_of}
+use Rattle.fz_checks.specs.JobChecks.{data_end_of}
 use Rattle.fz_job.proofs.Places.{read_logs}
 use Rattle.fz_job.proofs.fill_check.check_fill.Goals as goal
 

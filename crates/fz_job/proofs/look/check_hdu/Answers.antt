@@ -4,7 +4,7 @@ use Rattle.fz_base.specs.Source.{HoldsLength}
 use Rattle.fz_base.specs.Stop.{IsDefined}
 use Rattle.fz_base.specs.declared.failure.Stop.{Stop}
 use Rattle.fz_block.specs.Header.{next_start_of}
-use Rattle.fz_head.specs.JobChecks.{data_end_of}
+use Rattle.fz_checks.specs.JobChecks.{data_end_of}
 use Rattle.fz_job.specs.Looks.{hdu_look}
 use Rattle.fz_job.specs.Surveys.{looks_at_fill}
 use Rattle.fz_job.proofs.Here.{stands_here}

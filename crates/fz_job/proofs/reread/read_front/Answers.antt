@@ -18,7 +18,7 @@ returns-clause-again g c =
 pub returns-clause-room : goal.returns-clause-room
 returns-clause-room g c =
     let long : length (take c.args.survey.now.header_len c.args.header.now) ≡ c.args.survey.now.header_len = length-take-le c.args.survey.now.header_len c.args.header.now c.requires.header in
-    IfOk-weaker c.read_again.result _ _ (λ a w. let room = w.room in omega (arith, room, long, c.read_again.ensures.buf)) c.read_again.ensures.again
+    IfOk-weaker c.read_again.result _ _ (λ a w. let room = w.room in omega (arith, room, long, c.read_again.ensures.stays.1)) c.read_again.ensures.again
 
 pub returns-clause-as_seen : goal.returns-clause-as_seen
 returns-clause-as_seen g c =

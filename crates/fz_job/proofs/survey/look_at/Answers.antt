@@ -80,29 +80,41 @@ pub returns-in-Ok-clause-empty : goal.returns-in-Ok-clause-empty
 returns-in-Ok-clause-empty g c =
     first_axes (g.S.Source.held c.args.source.now) c.args.begun.hdu c.args.begun.start c.in_ok-read.read.bytes c.in_ok-read.read.facts c.in_ok-read.ensures.facts.0 c.in_ok-read.ensures.bytes
 
-pub returns-in_err-read-clause-source : goal.returns-in_err-read-clause-source
-returns-in_err-read-clause-source g c = record {
-  held_is = search rules;
-  attached_is = search rules;
-  told = more_told c.header_at.ensures.log.0 (g.S.Source.ranges c.args.source.now) (g.S.Source.ranges c.header_at.new.source) c.header_at.ensures.log.2;
-}
+pub returns-in_err-read-clause-stays : goal.returns-in_err-read-clause-stays
+returns-in_err-read-clause-stays g c = (
+  record {
+    held_is = search rules;
+    attached_is = search rules;
+    told = more_told c.header_at.ensures.log.0 (g.S.Source.ranges c.args.source.now) (g.S.Source.ranges c.header_at.new.source) c.header_at.ensures.log.2;
+  },
+  search rules,
+  search rules,
+)
 
-pub returns-in-Ok-clause-source : goal.returns-in-Ok-clause-source
-returns-in-Ok-clause-source g c = record {
-  held_is = search rules;
-  attached_is = search rules;
-  told =
-      both_told (g.S.Source.ranges c.args.source.now) (g.S.Source.ranges c.header_at.new.source) (g.S.Source.ranges c.check_hdu-answer.new.source)
-      (more_told c.header_at.ensures.log.0 (g.S.Source.ranges c.args.source.now) (g.S.Source.ranges c.header_at.new.source) c.header_at.ensures.log.2)
-      (more_told c.check_hdu-answer.ensures.log.0 (g.S.Source.ranges c.header_at.new.source) (g.S.Source.ranges c.check_hdu-answer.new.source) c.check_hdu-answer.ensures.log.2);
-}
+pub returns-in-Ok-clause-stays : goal.returns-in-Ok-clause-stays
+returns-in-Ok-clause-stays g c = (
+  record {
+    held_is = search rules;
+    attached_is = search rules;
+    told =
+        both_told (g.S.Source.ranges c.args.source.now) (g.S.Source.ranges c.header_at.new.source) (g.S.Source.ranges c.check_hdu-answer.new.source)
+        (more_told c.header_at.ensures.log.0 (g.S.Source.ranges c.args.source.now) (g.S.Source.ranges c.header_at.new.source) c.header_at.ensures.log.2)
+        (more_told c.check_hdu-answer.ensures.log.0 (g.S.Source.ranges c.header_at.new.source) (g.S.Source.ranges c.check_hdu-answer.new.source) c.check_hdu-answer.ensures.log.2);
+  },
+  search rules,
+  search rules,
+)
 
-pub returns-in-Err-clause-source : goal.returns-in-Err-clause-source
-returns-in-Err-clause-source g c = record {
-  held_is = search rules;
-  attached_is = search rules;
-  told =
-      both_told (g.S.Source.ranges c.args.source.now) (g.S.Source.ranges c.header_at.new.source) (g.S.Source.ranges c.check_hdu-answer.new.source)
-      (more_told c.header_at.ensures.log.0 (g.S.Source.ranges c.args.source.now) (g.S.Source.ranges c.header_at.new.source) c.header_at.ensures.log.2)
-      (more_told c.check_hdu-answer.ensures.log.0 (g.S.Source.ranges c.header_at.new.source) (g.S.Source.ranges c.check_hdu-answer.new.source) c.check_hdu-answer.ensures.log.2);
-}
+pub returns-in-Err-clause-stays : goal.returns-in-Err-clause-stays
+returns-in-Err-clause-stays g c = (
+  record {
+    held_is = search rules;
+    attached_is = search rules;
+    told =
+        both_told (g.S.Source.ranges c.args.source.now) (g.S.Source.ranges c.header_at.new.source) (g.S.Source.ranges c.check_hdu-answer.new.source)
+        (more_told c.header_at.ensures.log.0 (g.S.Source.ranges c.args.source.now) (g.S.Source.ranges c.header_at.new.source) c.header_at.ensures.log.2)
+        (more_told c.check_hdu-answer.ensures.log.0 (g.S.Source.ranges c.header_at.new.source) (g.S.Source.ranges c.check_hdu-answer.new.source) c.check_hdu-answer.ensures.log.2);
+  },
+  search rules,
+  search rules,
+)

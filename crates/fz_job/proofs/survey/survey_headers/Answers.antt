@@ -112,21 +112,29 @@ returns-in_err-found-clause-touched g c =
     c.loop-hdu.invariant.held c.look_at.ensures.touched in
     touched_more b c.loop-hdu.hdu c.loop-hdu.start c.loop-hdu.meter.peak (g.S.Source.ranges c.loop-hdu.source) c.loop-hdu.seen held (g.S.Source.ranges c.look_at.new.source) c.loop-hdu.invariant.walked few logs
 
-pub returns-in_err-found-clause-source : goal.returns-in_err-found-clause-source
-returns-in_err-found-clause-source g c = record {
-  held_is = search rules;
-  attached_is = search rules;
-  told =
-      both_told (g.S.Source.ranges c.args.source.now) (g.S.Source.ranges c.loop-hdu.source) (g.S.Source.ranges c.look_at.new.source) c.loop-hdu.invariant.told c.look_at.ensures.source.told;
-}
+pub returns-in_err-found-clause-stays : goal.returns-in_err-found-clause-stays
+returns-in_err-found-clause-stays g c = (
+  record {
+    held_is = search rules;
+    attached_is = search rules;
+    told =
+        both_told (g.S.Source.ranges c.args.source.now) (g.S.Source.ranges c.loop-hdu.source) (g.S.Source.ranges c.look_at.new.source) c.loop-hdu.invariant.told c.look_at.ensures.stays.0.told;
+  },
+  search rules,
+  search rules,
+)
 
-pub returns-then-is_last-clause-source : goal.returns-then-is_last-clause-source
-returns-then-is_last-clause-source g c = record {
-  held_is = search rules;
-  attached_is = search rules;
-  told =
-      both_told (g.S.Source.ranges c.args.source.now) (g.S.Source.ranges c.loop-hdu.source) (g.S.Source.ranges c.look_at.new.source) c.loop-hdu.invariant.told c.look_at.ensures.source.told;
-}
+pub returns-then-is_last-clause-stays : goal.returns-then-is_last-clause-stays
+returns-then-is_last-clause-stays g c = (
+  record {
+    held_is = search rules;
+    attached_is = search rules;
+    told =
+        both_told (g.S.Source.ranges c.args.source.now) (g.S.Source.ranges c.loop-hdu.source) (g.S.Source.ranges c.look_at.new.source) c.loop-hdu.invariant.told c.look_at.ensures.stays.0.told;
+  },
+  search rules,
+  search rules,
+)
 
 pub returns-then-is_last-clause-peak : goal.returns-then-is_last-clause-peak
 returns-then-is_last-clause-peak g c =
@@ -214,7 +222,7 @@ loop-hdu-preserved g c =
     record {
       held = search rules;
       attached = search rules;
-      told = both_told (g.S.Source.ranges c.args.source.now) (g.S.Source.ranges c.loop-hdu.source) (g.S.Source.ranges c.look_at.new.source) c.loop-hdu.invariant.told c.look_at.ensures.source.told;
+      told = both_told (g.S.Source.ranges c.args.source.now) (g.S.Source.ranges c.loop-hdu.source) (g.S.Source.ranges c.look_at.new.source) c.loop-hdu.invariant.told c.look_at.ensures.stays.0.told;
       tally = search rules;
       block = search rules;
       live = search rules;

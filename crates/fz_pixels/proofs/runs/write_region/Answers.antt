@@ -52,7 +52,7 @@ loop-first-preserved g c =
       inside = inside.1;
       left = omega (arith, fits.1, size);
       kept = c.in_ok-hold_piece.ensures.kept;
-      room = c.in_ok-hold_piece.ensures.len ∙ c.loop-first.invariant.room;
+      room = c.in_ok-hold_piece.ensures.stays.1 ∙ c.loop-first.invariant.room;
       rest = write_more c.output_law.ensures.next w c.args.places.data_at done c.in-Some.first c.in-Some.count (c.args.places.data_at + c.from-in-loop-first.result * c.in-Some.first) len bytes run
           (runs_left c.loop-first.first-iterator) (runs_left c.next.new.self) before now _ next place size room piece put c.loop-first.invariant.rest;
     }

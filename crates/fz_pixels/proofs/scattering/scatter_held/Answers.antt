@@ -41,7 +41,7 @@ loop-i-preserved g c =
       workers = search rules;
       sizes = search rules;
       kept = c.in_ok-scatter_next.ensures.kept;
-      room = c.in_ok-scatter_next.ensures.room ∙ c.loop-i.invariant.room;
+      room = c.in_ok-scatter_next.ensures.stays.2 ∙ c.loop-i.invariant.room;
       left = λ k d from.
           let apart : k ≢ i = λ same. omega (arith, from, same) in
           c.in_ok-scatter_next.ensures.others k d apart ∙ c.loop-i.invariant.left k d (omega (arith, from));

@@ -13,6 +13,6 @@ returns-clause-written g c =
     let now : Option (List ℕ) = g.K.Sink.contents c.scatter_held.new.sink in
     both_then c.scatter_held.result c.scatter_held.ensures.written c.scatter_held.ensures.kept
     (λ put kept pixels have.
-    sym (none_stays c.scatter_held.new.back c.scatter_held.new.held now kept c.scatter_held.ensures.room)
+    sym (none_stays c.scatter_held.new.back c.scatter_held.new.held now kept c.scatter_held.ensures.stays.2)
     ∙ put pixels have
     ∙ ap (tiles_written c.args.plan.now c.args.data_at c.args.tiles.now pixels) (c.none-back.ensures.settled _ before))
