@@ -96,8 +96,8 @@ fn print_found<T: Text>(text: &mut T, found: Result<bool, Fault>) -> Result<bool
     ensures refused { IfRefused result (λ x. found ≡ Err x) }
     ensures over_limit { IfOverLimit result ((T.contents text.new ≡ T.contents text.old) × (T.tally text.new ≡ T.tally text.old)) }
     ensures cause { (source : Tally) (limit : ℕ) → ComparesFor source source (T.tally text.old) (T.tally text.new) limit result }
-    ensures told { StaysTold (T.contents text.old) (T.contents text.new) }
-    ensures counts { CountsKept (T.tally text.old) (T.tally text.new) }
+    ensures stays { StaysTold (T.contents text.old) (T.contents text.new)
+        × CountsKept (T.tally text.old) (T.tally text.new) }
 {
     let same = found.map_err(Stop::Refused)?;
     text.put(strict_line(same)).map_err(Stop::writing)?;

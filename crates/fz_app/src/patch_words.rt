@@ -138,8 +138,8 @@ fn attach_both<S: Source, D: Store>(
     store: &mut D,
 ) -> Result<(u64, u64), Stop>
     ensures attached { IfOk result (λ lengths. (D.attached store.new ≡ Some lengths.0) × (S.attached patch.new ≡ Some lengths.1)) }
-    ensures held { (D.held store.new ≡ D.held store.old) × (S.held patch.new ≡ S.held patch.old) }
-    ensures ranges { (D.ranges store.new ≡ D.ranges store.old) × (S.ranges patch.new ≡ S.ranges patch.old) }
+    ensures stays { ((D.held store.new ≡ D.held store.old) × (S.held patch.new ≡ S.held patch.old))
+        × ((D.ranges store.new ≡ D.ranges store.old) × (S.ranges patch.new ≡ S.ranges patch.old)) }
     ensures names { PatchNames request.now.file.now request.now.patch.now (D.tally store.old).names (D.tally store.new).names
         (S.tally patch.old).names (S.tally patch.new).names result }
     ensures cause { OpensBoth (nameless (D.tally store.old)) (nameless (D.tally store.new)) (nameless (S.tally patch.old))

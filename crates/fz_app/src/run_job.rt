@@ -106,9 +106,8 @@ pub fn run<R: Threads + Sync, S: Source, K: Sink, T: Text, G: Gate>(
     ensures unmade { IsUnmadeFor (texts_of words.now) (S.held source.old) meter.old.limit ((K.created sink.new ≡ K.created sink.old)
         × (K.contents sink.new ≡ K.contents sink.old)) result }
 
-    ensures held { S.held source.new ≡ S.held source.old }
-    ensures told_ranges { StaysTold (S.ranges source.old) (S.ranges source.new) }
-    ensures told_contents { StaysTold (K.contents sink.old) (K.contents sink.new) }
+    ensures stays { StaysTold (S.ranges source.old) (S.ranges source.new)
+        × StaysTold (K.contents sink.old) (K.contents sink.new) × (S.held source.new ≡ S.held source.old) }
     ensures counts { AreCountsKept (nameless (S.tally source.old)) (nameless (S.tally source.new)) (nameless (K.tally sink.old))
         (nameless (K.tally sink.new)) (T.tally text.old) (T.tally text.new) }
     ensures names { AreNamed (texts_of words.now) (S.tally source.old).names (S.tally source.new).names (K.tally sink.old).names
@@ -389,15 +388,14 @@ fn compare<R: Threads + Sync, S: Source, T: Text, G: Gate>(
         result }
     ensures first_past { IfSome (S.held source.old) (λ g. TellsFirstPast meter.old.limit (strict_takings g) result) }
     ensures live { meter.new.live ≡ 0 }
-    ensures limit { meter.new.limit ≡ meter.old.limit }
     ensures peak { IfSome (S.held source.old) (λ g. meter.new.peak ≤ max meter.old.peak (job_bound Verify g 1)) }
     ensures most { meter.new.peak ≤ max meter.old.peak (greatest_bound Verify 1) }
     ensures exact_peak { OnOk result (IfSome (S.held source.old) (λ g. meter.new.peak ≡ max meter.old.peak (highest (strict_takings g)))) }
     ensures kept { KeepsSource (S.held source.old) (S.held source.new) (S.attached source.old) (S.attached source.new)
         (S.tally source.old) (S.tally source.new) (T.tally text.old) (T.tally text.new) }
     ensures touched { ReadsTouched Verify (S.held source.old) (S.ranges source.old) (S.ranges source.new) }
-    ensures told_ranges { StaysTold (S.ranges source.old) (S.ranges source.new) }
-    ensures told_contents { StaysTold (T.contents text.old) (T.contents text.new) }
+    ensures stays { StaysTold (S.ranges source.old) (S.ranges source.new)
+        × StaysTold (T.contents text.old) (T.contents text.new) × (meter.new.limit ≡ meter.old.limit) }
 {
     let same = strict(host.rt, source, length, meter, window, host.gate)?;
     text.put(strict_line(same)).map_err(Stop::writing)?;
@@ -459,8 +457,7 @@ pub(crate) fn begin<S: Source>(
     ensures attached { IfOk result (λ begun. (S.attached source.new ≡ Some begun.0) × (begun.0 ≤ 2 ^ 62) × HoldsLength (S.held source.old) begun.0) }
     ensures window { IfOk result (λ begun. begun.1 ≡ record { slots = []; workers = workers }) }
     ensures narrowed { meter.new ≡ narrowed meter.old request.now.memory }
-    ensures held { S.held source.new ≡ S.held source.old }
-    ensures ranges { S.ranges source.new ≡ S.ranges source.old }
+    ensures stays { (S.held source.new ≡ S.held source.old) × (S.ranges source.new ≡ S.ranges source.old) }
     ensures names { NamesOnce request.now.input.now (S.tally source.old).names (S.tally source.new).names result }
     ensures cause { Codes (nameless (S.tally source.old)) (nameless (S.tally source.new)) result }
 {
@@ -474,8 +471,7 @@ fn attach<S: Source>(request: &Request<'_>, source: &mut S, meter: &mut Meter) -
     requires unused { (meter.old.live ≡ 0) × (meter.old.peak ≡ 0) }
     ensures attached { IfOk result (λ length. (S.attached source.new ≡ Some length) × (length ≤ 2 ^ 62) × HoldsLength (S.held source.old) length) }
     ensures narrowed { meter.new ≡ narrowed meter.old request.now.memory }
-    ensures held { S.held source.new ≡ S.held source.old }
-    ensures ranges { S.ranges source.new ≡ S.ranges source.old }
+    ensures stays { (S.held source.new ≡ S.held source.old) × (S.ranges source.new ≡ S.ranges source.old) }
     ensures names { NamesOnce request.now.input.now (S.tally source.old).names (S.tally source.new).names result }
     ensures cause { Codes (nameless (S.tally source.old)) (nameless (S.tally source.new)) result }
 {
@@ -486,8 +482,7 @@ fn attach<S: Source>(request: &Request<'_>, source: &mut S, meter: &mut Meter) -
 /// Attaches a source by this name, and answers its length.
 pub(crate) fn attach_by_name<S: Source>(source: &mut S, name: &str) -> Result<u64, Stop>
     ensures attached { IfOk result (λ length. (S.attached source.new ≡ Some length) × (length ≤ 2 ^ 62) × HoldsLength (S.held source.old) length) }
-    ensures held { S.held source.new ≡ S.held source.old }
-    ensures ranges { S.ranges source.new ≡ S.ranges source.old }
+    ensures stays { (S.held source.new ≡ S.held source.old) × (S.ranges source.new ≡ S.ranges source.old) }
     ensures names { NamesOnce name.now (S.tally source.old).names (S.tally source.new).names result }
     ensures cause { Codes (nameless (S.tally source.old)) (nameless (S.tally source.new)) result }
 {

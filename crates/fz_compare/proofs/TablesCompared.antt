@@ -12,7 +12,7 @@ use Rattle.fz_job.specs.Images.{HaveRoom, IsReadable, IsSaid}
 use Rattle.fz_files.specs.Packed.{heap_of, pixel_bits, rows_from, tiles_in}
 use Rattle.fz_files.specs.Restored.{RecordMeans, RowStandsFor, pixels_of as tile_pixels_of, place_in, plan_in}
 use Rattle.fz_head.specs.PackedTable.{planned_row}
-use Rattle.fz_head.specs.declared.job_checks.PackedImage.{PackedImage}
+use Rattle.fz_checks.specs.declared.job_checks.PackedImage.{PackedImage}
 use Rattle.fz_head.specs.declared.plan.Plan.{Plan}
 use Rattle.fz_pool.specs.Window.{HasSlotsFor, Pool}
 use Rattle.fz_pool.specs.declared.slot.Slot.{Slot}

@@ -19,8 +19,7 @@ pub fn has_bytes<S: Source>(
     requires near { at + len bytes.now < 2 ^ 64 }
     requires piece { 0 < len piece.old }
     ensures same { IfOk result (λ yes. IfSome (S.held source.old) (λ g. yes ≡ has_bytes_of g at end bytes.now)) }
-    ensures piece { len piece.new ≡ len piece.old }
-    ensures source { SourceStays S.held S.attached S.ranges source.old source.new }
+    ensures stays { SourceStays S.held S.attached S.ranges source.old source.new × (len piece.new ≡ len piece.old) }
     ensures read { LogsWithin at end (S.ranges source.old) (S.ranges source.new) }
     ensures cause { OnlyReads (S.tally source.old) (S.tally source.new) result }
 {

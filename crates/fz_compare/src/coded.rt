@@ -52,9 +52,8 @@ pub(crate) fn compare_round<R: Threads + Sync, S: Source, G: Gate>(
     requires near { coming.count ≤ 2 * window.old.workers }
     requires copy { 4096 < len copy.old }
     ensures compared { IfOk result (ComparesRound (S.held source.old) coming.end layout.now progress coming.count window.old.slots) }
-    ensures copy { len copy.new ≡ len copy.old }
-    ensures window { WindowStays window.old window.new }
-    ensures source { SourceStays S.held S.attached S.ranges source.old source.new }
+    ensures stays { SourceStays S.held S.attached S.ranges source.old source.new × WindowStays window.old window.new
+        × (len copy.new ≡ len copy.old) }
     ensures read { LogsWithin 0 coming.end (S.ranges source.old) (S.ranges source.new) }
     ensures cause { Codes (S.tally source.old) (S.tally source.new) result }
 {
@@ -127,9 +126,8 @@ fn compare_coded<S: Source>(
     ensures compared { IfOk result (λ c. IfSome (S.held source.old) (λ g. ComparesCodes g coming.end layout.now progress
         (coded_tiles coming.count window.now.slots) c)) }
     ensures progress { IfOk result (λ c. IfSome c (λ w. w ≡ with_tiles layout.now progress (coded_tiles coming.count window.now.slots))) }
-    ensures rows { len rows.new ≡ len rows.old }
-    ensures piece { len piece.new ≡ len piece.old }
-    ensures source { SourceStays S.held S.attached S.ranges source.old source.new }
+    ensures stays { SourceStays S.held S.attached S.ranges source.old source.new × (len rows.new ≡ len rows.old)
+        × (len piece.new ≡ len piece.old) }
     ensures read { LogsWithin 0 coming.end (S.ranges source.old) (S.ranges source.new) }
     ensures cause { OnlyReads (S.tally source.old) (S.tally source.new) result }
 {
@@ -166,8 +164,7 @@ fn compare_codes<S: Source>(
     ensures compared { IfOk result (λ c. IfSome (S.held source.old) (λ g. ComparesHeap g coming.end layout.now progress
         (coded_tiles coming.count window.now.slots) c)) }
     ensures progress { IfOk result (λ c. IfSome c (λ w. w ≡ with_heap layout.now progress (coded_tiles coming.count window.now.slots))) }
-    ensures piece { len piece.new ≡ len piece.old }
-    ensures source { SourceStays S.held S.attached S.ranges source.old source.new }
+    ensures stays { SourceStays S.held S.attached S.ranges source.old source.new × (len piece.new ≡ len piece.old) }
     ensures read { LogsWithin 0 coming.end (S.ranges source.old) (S.ranges source.new) }
     ensures cause { OnlyReads (S.tally source.old) (S.tally source.new) result }
 {

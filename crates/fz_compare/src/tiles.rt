@@ -18,9 +18,9 @@ ghost use Rattle.fz_compare.specs.Reads.{table_ranges};
 use crate::coded::{Coming, compare_round};
 use fz_base::{Gate, Source, Stop, log_law, ranges_law};
 use fz_block::{Header, next_start};
+use fz_checks::PackedImage;
 use fz_fetch::{ImageIn, Round, decode_round};
 use fz_grid::Grid;
-use fz_head::PackedImage;
 use fz_image::{Layout, Progress};
 use fz_pool::{Crew, Window};
 use fz_sum::sum_law;
@@ -54,9 +54,8 @@ pub fn compare_tiles<R: Threads + Sync, S: Source, G: Gate>(
     ensures sound { OnOk result (IfSome (S.held source.old) (λ g. IsFirstRowFault g (rows_of g header.now) None)) }
     ensures fault { IfRefused result (λ x. IfSome (S.held source.old) (λ g. IsFirstRowFault g (rows_of g header.now) (Some x))) }
     ensures row { IfRefused result IsOfSomeRow }
-    ensures copy { len copy.new ≡ len copy.old }
-    ensures window { WindowStays window.old window.new }
-    ensures source { SourceStays S.held S.attached S.ranges source.old source.new }
+    ensures stays { SourceStays S.held S.attached S.ranges source.old source.new × WindowStays window.old window.new
+        × (len copy.new ≡ len copy.old) }
     ensures read { IfSome (S.held source.old) (λ g. LogsIn (table_ranges g header.now) (S.ranges source.old) (S.ranges source.new)) }
     ensures cause { Fetches (S.tally source.old) (S.tally source.new) result }
 {
@@ -106,9 +105,8 @@ fn compare_next<R: Threads + Sync, S: Source, G: Gate>(
     requires near { coming.count ≤ 2 * window.old.workers }
     requires copy { 4096 < len copy.old }
     ensures compared { IfOk result (ComparesNext (S.held source.old) coming.end layout.now progress coming.count window.old.slots) }
-    ensures copy { len copy.new ≡ len copy.old }
-    ensures window { WindowStays window.old window.new }
-    ensures source { SourceStays S.held S.attached S.ranges source.old source.new }
+    ensures stays { SourceStays S.held S.attached S.ranges source.old source.new × WindowStays window.old window.new
+        × (len copy.new ≡ len copy.old) }
     ensures read { LogsWithin 0 coming.end (S.ranges source.old) (S.ranges source.new) }
     ensures cause { Codes (S.tally source.old) (S.tally source.new) result }
 {

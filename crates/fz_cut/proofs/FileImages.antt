@@ -8,9 +8,9 @@ use Rattle.fz_block.specs.declared.header.Header.{Header}
 use Rattle.fz_grid.specs.declared.region.Region.{Region}
 use Rattle.fz_grid.specs.declared.sieve.Sieve.{Sieve}
 use Rattle.fz_table.specs.Tables.{table_in}
-use Rattle.fz_head.specs.JobChecks.{cut_checks, image_in, image_to_cut}
+use Rattle.fz_checks.specs.JobChecks.{cut_checks, image_in, image_to_cut}
 use Rattle.fz_head.specs.PackedPlan.{plan_of_cards}
-use Rattle.fz_head.specs.declared.job_checks.PackedImage.{PackedImage}
+use Rattle.fz_checks.specs.declared.job_checks.PackedImage.{PackedImage}
 use Rattle.fz_files.specs.CutoutBytes.{cutout_cards}
 use Rattle.fz_files.specs.Restored.{header_in}
 use Rattle.fz_job.specs.Images.{IsSaid}

@@ -12,10 +12,10 @@ use Rattle.fz_grid.specs.Laws.{DividedArraysHaveTiles, TilesHaveAtMostTheirLengt
 use Rattle.fz_grid.specs.Region.{IsDivided, lengths_of}
 use Rattle.fz_grid.specs.declared.region.Region.{Region}
 use Rattle.fz_grid.specs.declared.sieve.Sieve.{Sieve}
-use Rattle.fz_head.specs.Greatest.{greatest}
-use Rattle.fz_head.specs.JobChecks.{IsImageOf, cut_checks, cut_hdu_checks, image_in, image_to_cut, is_after_empty, missing_hdu}
-use Rattle.fz_head.specs.Judges.{cut_judge, is_wanted}
-use Rattle.fz_head.specs.WorkBuffers.{pixels_of_tile}
+use Rattle.fz_checks.specs.Greatest.{greatest}
+use Rattle.fz_checks.specs.JobChecks.{IsImageOf, cut_checks, cut_hdu_checks, image_in, image_to_cut, is_after_empty, missing_hdu}
+use Rattle.fz_checks.specs.Judges.{cut_judge, is_wanted}
+use Rattle.fz_checks.specs.WorkBuffers.{pixels_of_tile}
 use Rattle.fz_head.specs.declared.plan.Plan.{Plan}
 use Rattle.fz_files.specs.Buffers.{header_len, plans_behind}
 use Rattle.fz_files.specs.Restored.{header_in, pixels_of, plan_in}

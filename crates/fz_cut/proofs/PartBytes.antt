@@ -13,7 +13,7 @@ use Rattle.fz_grid.specs.CutoutLaws.{CutoutsAreWhole}
 use Rattle.fz_tile.specs.Laws.{HasPlainLen}
 use Rattle.fz_tile.specs.Pixels.{IsBitpix}
 use Rattle.fz_tile.specs.Plain.{plain_bytes}
-use Rattle.fz_head.specs.declared.job_checks.PackedImage.{PackedImage}
+use Rattle.fz_checks.specs.declared.job_checks.PackedImage.{PackedImage}
 use Rattle.fz_head.specs.declared.plan.Plan.{Plan}
 use Rattle.fz_files.specs.CutoutBytes.{cutout_cards}
 use Rattle.fz_files.specs.Packed.{pixel_bits, zero_filled}

@@ -11,8 +11,8 @@ use Rattle.fz_block.specs.Again.{hdu_again_at}
 use Rattle.fz_block.specs.Checks.{hdu_at}
 use Rattle.fz_block.specs.declared.header.Header.{Header}
 use Rattle.fz_grid.specs.declared.region.Region.{Region}
-use Rattle.fz_head.specs.JobChecks.{image_to_cut, is_after_empty}
-use Rattle.fz_head.specs.declared.job_checks.PackedImage.{PackedImage}
+use Rattle.fz_checks.specs.JobChecks.{image_to_cut, is_after_empty}
+use Rattle.fz_checks.specs.declared.job_checks.PackedImage.{PackedImage}
 use Rattle.fz_files.specs.Restored.{header_in, pixels_of}
 use Rattle.fz_cut.specs.Again.{ReadsAsSeen, WasSeen}
 use Rattle.fz_cut.specs.declared.again.Again.{Again}

@@ -15,7 +15,7 @@ use Rattle.fz_grid.specs.Region.{lengths_of}
 use Rattle.fz_grid.specs.Sieve.{sieve_hi, sieve_lo, sieve_step}
 use Rattle.fz_grid.specs.declared.region.Region.{Region}
 use Rattle.fz_grid.specs.declared.sieve.Sieve.{Sieve}
-use Rattle.fz_head.specs.JobChecks.{axis_inside, box_checks, cut_checks, image_checks, not_packed, packed_card_checks}
+use Rattle.fz_checks.specs.JobChecks.{axis_inside, box_checks, cut_checks, image_checks, not_packed, packed_card_checks}
 use Rattle.fz_head.specs.Packable.{is_packed, is_table}
 use Rattle.fz_head.specs.PackedPlan.{numbered_in, plan_of_cards, said_axes, size_of}
 use Rattle.fz_head.specs.PlainHeader.{axis_count}

@@ -8,8 +8,8 @@ use Rattle.fz_block.specs.Checks.{Judge, by_judgement, followed_by, hdu_at, judg
 use Rattle.fz_block.specs.Header.{next_start_of}
 use Rattle.fz_block.specs.Walk.{is_stop, stops}
 use Rattle.fz_block.specs.declared.header.Header.{Header}
-use Rattle.fz_head.specs.JobChecks.{unpack_hdu_checks}
-use Rattle.fz_head.specs.Judges.{unpack_judge}
+use Rattle.fz_checks.specs.JobChecks.{unpack_hdu_checks}
+use Rattle.fz_checks.specs.Judges.{unpack_judge}
 use Rattle.fz_cut.proofs.Walks.{or_parts}
 
 -- `unpack` stops at no HDU

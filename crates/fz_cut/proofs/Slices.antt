@@ -10,8 +10,8 @@ use Rattle.fz_block.specs.Walk.{AreHeadersBetween, RefusesNone, is_stop, stops}
 use Rattle.fz_block.specs.declared.header.Header.{Header}
 use Rattle.fz_grid.specs.Region.{lengths_of}
 use Rattle.fz_grid.specs.declared.sieve.Sieve.{Sieve}
-use Rattle.fz_head.specs.JobChecks.{cut_hdu_checks, is_after_empty, missing_hdu}
-use Rattle.fz_head.specs.Judges.{cut_judge, unpack_judge}
+use Rattle.fz_checks.specs.JobChecks.{cut_hdu_checks, is_after_empty, missing_hdu}
+use Rattle.fz_checks.specs.Judges.{cut_judge, unpack_judge}
 use Rattle.fz_grid.specs.Cutout.{Sifts, picked_numbers}
 use Rattle.fz_files.specs.CutoutBytes.{IsCutout, cutout_bytes}
 use Rattle.fz_files.specs.FirstFault.{IsFaultBehind}

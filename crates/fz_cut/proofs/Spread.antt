@@ -17,7 +17,7 @@ use Rattle.fz_grid.specs.Whole.{AreTiles, joined}
 use Rattle.fz_grid.specs.declared.sieve.Sieve.{Sieve}
 use Rattle.fz_grid.specs.Cutout.{Sifts}
 use Rattle.fz_tile.specs.Pixels.{IsBitpix}
-use Rattle.fz_head.specs.declared.job_checks.PackedImage.{PackedImage}
+use Rattle.fz_checks.specs.declared.job_checks.PackedImage.{PackedImage}
 use Rattle.fz_head.specs.declared.plan.Plan.{Plan}
 use Rattle.fz_files.specs.FirstFault.{picked_tiles_of}
 use Rattle.fz_files.specs.Packed.{tiles_in}

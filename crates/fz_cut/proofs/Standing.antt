@@ -8,12 +8,12 @@ use Rattle.fz_block.specs.Hdus.{cards_of}
 use Rattle.fz_block.specs.declared.header.Header.{Header}
 use Rattle.fz_grid.specs.declared.region.Region.{Region}
 use Rattle.fz_table.specs.Tables.{table_checks}
-use Rattle.fz_head.specs.JobChecks.{box_checks, cut_checks, image_checks, image_in, image_to_cut, packed_card_checks}
+use Rattle.fz_checks.specs.JobChecks.{box_checks, cut_checks, image_checks, image_in, image_to_cut, packed_card_checks}
 use Rattle.fz_head.specs.PackedChecks.{at_word, bitpix_checks, codec_checks, has_word, line_list_check, must_be, packed_checks, parameter_checks, row_check, scaling_check, shape_checks, sort_checks}
 use Rattle.fz_head.specs.PackedPlan.{word_in}
 use Rattle.fz_base.specs.declared.kind.Kind.TheVariants.{BadCard, MisplacedPrimary}
 use Rattle.fz_card.specs.Reading.{is_text, logical_of, text_of}
-use Rattle.fz_head.specs.declared.job_checks.PackedImage.{PackedImage}
+use Rattle.fz_checks.specs.declared.job_checks.PackedImage.{PackedImage}
 
 -- ---- checks of two lists, of which none refuses
 

@@ -8,7 +8,7 @@ use Rattle.fz_block.specs.Checks.{Judge, walk_of}
 use Rattle.fz_block.specs.Walk.{AreHeadersBetween, RefusesNone}
 use Rattle.fz_block.specs.declared.header.Header.{Header}
 use Rattle.fz_grid.specs.declared.sieve.Sieve.{Sieve}
-use Rattle.fz_head.specs.Judges.{cut_judge}
+use Rattle.fz_checks.specs.Judges.{cut_judge}
 use Rattle.fz_files.specs.Cutout.{header_range, ranges_of_row, rows_touched, touched}
 use Rattle.fz_files.specs.FirstFault.{picked_rows}
 use Rattle.fz_files.specs.Walks.{box_of, fault_of_walk, found_headers, header_fault, job_walk, last_of, reached_from}

@@ -16,7 +16,7 @@ use Rattle.fz_job.specs.Judges.{judge_of}
 use Rattle.fz_job.specs.Surveys.{header_len as header_len_seen, hdu_places, places_from, stopped_at}
 use Rattle.fz_job.specs.declared.checks.JobChecks.TheVariants.{Cut as CutChecks}
 use Rattle.fz_grid.specs.declared.region.Region.{Region}
-use Rattle.fz_head.specs.Greatest.{greatest}
+use Rattle.fz_checks.specs.Greatest.{greatest}
 
 -- where an HDU begins
 abbrev pub place_of : Header → Reached

@@ -9,8 +9,8 @@ use Rattle.fz_block.specs.declared.header.Header.{Header}
 use Rattle.fz_grid.specs.Region.{IsWithin}
 use Rattle.fz_grid.specs.declared.region.Region.{Region}
 use Rattle.fz_head.specs.Conditions.{IsPackedPlan}
-use Rattle.fz_head.specs.JobChecks.{image_to_cut, is_after_empty}
-use Rattle.fz_head.specs.declared.job_checks.PackedImage.{PackedImage}
+use Rattle.fz_checks.specs.JobChecks.{image_to_cut, is_after_empty}
+use Rattle.fz_checks.specs.declared.job_checks.PackedImage.{PackedImage}
 use Rattle.fz_files.specs.Restored.{header_in, pixels_of}
 use Rattle.fz_job.specs.Images.{IsReadable}
 use Rattle.fz_cut.specs.declared.again.Again.{Again}

@@ -10,14 +10,14 @@ ghost use Rattle.fz_base.specs.declared.kind.Kind.TheVariants.{BadCard};
 ghost use Rattle.fz_block.specs.Checks.{header_touched};
 ghost use Rattle.fz_files.specs.Restored.{pixels_of};
 ghost use Rattle.fz_grid.specs.Region.{IsDivided};
-ghost use Rattle.fz_head.specs.JobChecks.{IsBox};
+ghost use Rattle.fz_checks.specs.JobChecks.{IsBox};
 ghost use Rattle.fz_job.specs.Clauses.{IsChanged};
 ghost use Rattle.fz_cut.specs.Again.{IsAgain, ReadsAsSeen};
 
 use fz_base::{Fault, Kind, Place, Source, Stop, log_law};
 use fz_block::{BLOCK_LEN, Header, again_law, header_again};
+use fz_checks::{PackedImage, image_to_cut};
 use fz_grid::{Grid, Region};
-use fz_head::{PackedImage, image_to_cut};
 
 /// The HDU that is cut from, whose header was read once more, and its image.
 #[derive(Clone, Copy, Debug)]
@@ -47,8 +47,7 @@ pub(crate) fn read_again<S: Source>(
     ensures refused { IfRefused result IsChanged }
     ensures touched { IfSome (S.held source.old) (λ g. LogsWithin from.now.start (header_touched from.now.hdu from.now.start g)
         (S.ranges source.old) (S.ranges source.new)) }
-    ensures buf { len buf.new ≡ len buf.old }
-    ensures source { SourceStays S.held S.attached S.ranges source.old source.new }
+    ensures stays { SourceStays S.held S.attached S.ranges source.old source.new × (len buf.new ≡ len buf.old) }
     ensures cause { ReadsOnly (S.tally source.old) (S.tally source.new) result }
 {
     again_law();

@@ -2,7 +2,7 @@
 ghost use Rattle.std.specs.Prelude.{◌≡◌, length as len};
 ghost use Rattle.fz_files.specs.CutoutBytes.{picked_region};
 ghost use Rattle.fz_files.specs.Walks.{box_of};
-ghost use Rattle.fz_head.specs.JobChecks.{IsBox};
+ghost use Rattle.fz_checks.specs.JobChecks.{IsBox};
 ghost use Rattle.fz_files.specs.Picks.{HasPicks};
 
 use fz_grid::{Region, Sieve};

@@ -80,8 +80,8 @@ pub fn cut<R: Threads + Sync, S: Source, K: Sink, G: Gate>(
     ensures unread { meter.old.limit < 2880 → S.ranges source.new ≡ S.ranges source.old }
     ensures kept { KeepsSource (S.held source.old) (S.held source.new) (S.attached source.old) (S.attached source.new)
         (S.tally source.old) (S.tally source.new) (nameless (K.tally sink.old)) (nameless (K.tally sink.new)) }
-    ensures told_ranges { StaysTold (S.ranges source.old) (S.ranges source.new) }
-    ensures told_contents { StaysTold (K.contents sink.old) (K.contents sink.new) }
+    ensures stays { StaysTold (S.ranges source.old) (S.ranges source.new)
+        × StaysTold (K.contents sink.old) (K.contents sink.new) }
 {
     // How the promises of the job follow from its stages.
     stages_law::<()>();
@@ -131,11 +131,10 @@ fn with_block<R: Threads + Sync, S: Source, K: Sink, G: Gate>(
         (λ g. meter.new.peak ≡ max meter.old.peak (highest (later_takings (Cut asked.now.hdu asked.now.sieve) g window.old.workers)))) }
     ensures most { TellsLimit meter.old.limit (greatest_bound (Cut asked.now.hdu asked.now.sieve) window.old.workers) result }
     ensures peak_most { meter.new.peak ≤ max meter.old.peak (greatest_bound (Cut asked.now.hdu asked.now.sieve) window.old.workers) }
-    ensures live { meter.new.live ≡ meter.old.live }
-    ensures limit { meter.new.limit ≡ meter.old.limit }
     ensures emptied { window.new ≡ record { slots = []; workers = window.old.workers } }
-    ensures source { SourceStays S.held S.attached S.ranges source.old source.new }
-    ensures told_contents { StaysTold (K.contents sink.old) (K.contents sink.new) }
+    ensures stays { SourceStays S.held S.attached S.ranges source.old source.new
+        × StaysTold (K.contents sink.old) (K.contents sink.new) × (meter.new.live ≡ meter.old.live)
+        × (meter.new.limit ≡ meter.old.limit) }
     ensures cause { Works (S.tally source.old) (S.tally source.new) (nameless (K.tally sink.old)) (nameless (K.tally sink.new))
         meter.old.limit result }
     ensures names { NamesOnce asked.now.name.now (K.tally sink.old).names (K.tally sink.new).names result }
@@ -191,12 +190,11 @@ fn work<R: Threads + Sync, S: Source, K: Sink, G: Gate>(
         (wanted_buffers (wants_for (Cut None asked.now.sieve) found.now.survey) window.old.workers)) }
     ensures exact_peak { OnOk result (meter.new.peak ≡ max meter.old.peak
         (meter.old.live + sum (wanted_buffers (wants_for (Cut None asked.now.sieve) found.now.survey) window.old.workers))) }
-    ensures live { meter.new.live ≡ meter.old.live }
-    ensures limit { meter.new.limit ≡ meter.old.limit }
     ensures emptied { window.new ≡ record { slots = []; workers = window.old.workers } }
-    ensures source { SourceStays S.held S.attached S.ranges source.old source.new }
     ensures late { IfRefused result (ComesLate (Cut None asked.now.sieve)) }
-    ensures told_contents { StaysTold (K.contents sink.old) (K.contents sink.new) }
+    ensures stays { SourceStays S.held S.attached S.ranges source.old source.new
+        × StaysTold (K.contents sink.old) (K.contents sink.new) × (meter.new.live ≡ meter.old.live)
+        × (meter.new.limit ≡ meter.old.limit) }
     ensures cause { Works (S.tally source.old) (S.tally source.new) (nameless (K.tally sink.old)) (nameless (K.tally sink.new))
         meter.old.limit result }
     ensures names { NamesOnce asked.now.name.now (K.tally sink.old).names (K.tally sink.new).names result }

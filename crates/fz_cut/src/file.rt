@@ -36,8 +36,8 @@ use crate::part_header::make_header;
 use crate::picks::{Picking, write_picks};
 use fz_base::{Gate, Sink, Source, Stop, output_law, ranges_law, seal, write_behind};
 use fz_block::{BLOCK_LEN, Header};
+use fz_checks::PackedImage;
 use fz_grid::{Sieve, cutout_axes, cutout_law, shape_law, volume};
-use fz_head::PackedImage;
 use fz_job::{Survey, Workspace, write_fill};
 use fz_pool::{Crew, Window};
 use fz_tile::{plain_law, plain_len};
@@ -132,10 +132,9 @@ fn write_cutout<R: Threads + Sync, S: Source, K: Sink, G: Gate>(
     ensures fault { IfRefused result (λ x. IfSome (S.held source.old) (λ g. IsPickFault g again.now.header asked.now.sieve x)) }
     ensures touched { IfSome (S.held source.old) (λ g. LogsIn (picked_ranges g again.now.header asked.now.sieve) (S.ranges source.old)
         (S.ranges source.new)) }
-    ensures space { SpaceStays space.old space.new }
-    ensures window { WindowStays window.old window.new }
-    ensures source { SourceStays S.held S.attached S.ranges source.old source.new }
-    ensures sink { SinkStays K.created K.contents sink.old sink.new }
+    ensures stays { SourceStays S.held S.attached S.ranges source.old source.new
+        × SinkStays K.created K.contents sink.old sink.new × SpaceStays space.old space.new
+        × WindowStays window.old window.new }
     ensures row { IfRefused result IsOfSomeRow }
     ensures cause { Rewrites (S.tally source.old) (S.tally source.new) (K.tally sink.old) (K.tally sink.new) result }
 {
@@ -178,8 +177,7 @@ fn write_header<K: Sink>(
     ensures header { IfOk result (λ end. HoldsBytes (header_bytes (cutout_cards sieve.now (cards_of packed.now))) 0 end
         (K.contents sink.old) (K.contents sink.new)) }
     ensures end { IfOk result (λ end. (0 < end) × (end ≤ 2 ^ 20)) }
-    ensures len { len made.new ≡ len made.old }
-    ensures sink { SinkStays K.created K.contents sink.old sink.new }
+    ensures stays { SinkStays K.created K.contents sink.old sink.new × (len made.new ≡ len made.old) }
     ensures cause { Writes (K.tally sink.old) (K.tally sink.new) result }
 {
     let len = make_header(packed, header, image, sieve, made);

@@ -7,9 +7,9 @@ ghost use Rattle.fz_cut.specs.Known.{SurveysKnow, SurveysRefuse};
 use crate::boxes::tables_law;
 use fz_block::{found_hdus_law, hdu_at_law, walk_law};
 use fz_card::{card_laws, first_of_name_law};
+use fz_checks::packed_image_law;
 use fz_files::one_cutout_law;
 use fz_grid::{Sieve, shape_law, tile_pixels_law};
-use fz_head::packed_image_law;
 
 /// A survey of a file that a part is cut from knows the HDU, the longest header and the largest tile; a fault that it
 /// gives is the first of the file's headers.

@@ -11,8 +11,9 @@ ghost use Rattle.fz_files.specs.Picks.{HasPicks};
 use crate::boxes::{picked_region, tables_law};
 use crate::moved::move_pixels;
 use fz_block::Header;
+use fz_checks::PackedImage;
 use fz_grid::Sieve;
-use fz_head::{PackedImage, to_cut, whole_cards_law};
+use fz_head::{to_cut, whole_cards_law};
 
 /// Makes the header of the part that a sieve picks of an image, and answers its length in bytes. The buffer is a block
 /// longer than the packed header.

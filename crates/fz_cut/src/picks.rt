@@ -18,9 +18,9 @@ ghost use Rattle.fz_pool.specs.Window.{WindowStays};
 
 use fz_base::{Gate, Sink, Source, Stop, ranges_law};
 use fz_block::Header;
+use fz_checks::PackedImage;
 use fz_fetch::{MOST_TILES, fetch_tiles};
 use fz_grid::{Grid, Sieve, cutout_axes, shape_law, tiles_law};
-use fz_head::PackedImage;
 use fz_pixels::{scatter_picks, scattered_law};
 use fz_pool::{Crew, Window};
 use std::thread::Threads;
@@ -59,10 +59,9 @@ pub(crate) fn write_picks<R: Threads + Sync, S: Source, K: Sink, G: Gate>(
     ensures fault { IfRefused result (λ x. IfSome (S.held source.old) (λ g. IsPickFault g picking.now.header picking.now.sieve x)) }
     ensures touched { IfSome (S.held source.old) (λ g. LogsIn (picked_ranges g picking.now.header picking.now.sieve)
         (S.ranges source.old) (S.ranges source.new)) }
-    ensures rows { len rows.new ≡ len rows.old }
-    ensures window { WindowStays window.old window.new }
-    ensures source { SourceStays S.held S.attached S.ranges source.old source.new }
-    ensures sink { SinkStays K.created K.contents sink.old sink.new }
+    ensures stays { SourceStays S.held S.attached S.ranges source.old source.new
+        × SinkStays K.created K.contents sink.old sink.new × WindowStays window.old window.new
+        × (len rows.new ≡ len rows.old) }
     ensures row { IfRefused result IsOfSomeRow }
     ensures cause { Rewrites (S.tally source.old) (S.tally source.new) (K.tally sink.old) (K.tally sink.new) result }
 {
@@ -118,10 +117,9 @@ fn write_round<R: Threads + Sync, S: Source, K: Sink, G: Gate>(
         (λ g. IsFirstRowFault g (map (image_row picking.now.header) tiles.now) (Some x))) }
     ensures touched { IfSome (S.held source.old)
         (λ g. LogsIn (fetched_ranges g picking.now.header tiles.now) (S.ranges source.old) (S.ranges source.new)) }
-    ensures rows { len rows.new ≡ len rows.old }
-    ensures window { WindowStays window.old window.new }
-    ensures source { SourceStays S.held S.attached S.ranges source.old source.new }
-    ensures sink { SinkStays K.created K.contents sink.old sink.new }
+    ensures stays { SourceStays S.held S.attached S.ranges source.old source.new
+        × SinkStays K.created K.contents sink.old sink.new × WindowStays window.old window.new
+        × (len rows.new ≡ len rows.old) }
     ensures row { IfRefused result IsOfSomeRow }
     ensures cause { Rewrites (S.tally source.old) (S.tally source.new) (K.tally sink.old) (K.tally sink.new) result }
 {

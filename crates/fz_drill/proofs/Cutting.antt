@@ -24,15 +24,15 @@ use Rattle.fz_grid.specs.declared.sieve.Sieve.{Sieve}
 use Rattle.fz_tile.specs.Plain.{AreBytes}
 use Rattle.fz_head.specs.Accepted.{IsAccepted}
 use Rattle.fz_head.specs.EmptyPrimary.{empty_primary}
-use Rattle.fz_head.specs.Greatest.{greatest}
-use Rattle.fz_head.specs.JobChecks.{axis_inside, box_checks, cut_checks, cut_hdu_checks, image_checks, missing_hdu, not_packed, packed_card_checks}
-use Rattle.fz_head.specs.Judges.{cut_judge}
+use Rattle.fz_checks.specs.Greatest.{greatest}
+use Rattle.fz_checks.specs.JobChecks.{axis_inside, box_checks, cut_checks, cut_hdu_checks, image_checks, missing_hdu, not_packed, packed_card_checks}
+use Rattle.fz_checks.specs.Judges.{cut_judge}
 use Rattle.fz_head.specs.Packable.{is_table}
 use Rattle.fz_head.specs.PackedPlan.{numbered_in, plan_of_cards, said_axes, size_of}
 use Rattle.fz_head.specs.PlainHeader.{axis_count}
 use Rattle.fz_head.specs.Planned.{pack_plan_of}
 use Rattle.fz_head.specs.TableChecks.{compressed_table, repeated_table_names, table_card_checks}
-use Rattle.fz_head.specs.WorkBuffers.{pixels_of_tile}
+use Rattle.fz_checks.specs.WorkBuffers.{pixels_of_tile}
 use Rattle.fz_head.specs.declared.options.CodecWord.{CodecWord}
 use Rattle.fz_head.specs.declared.plan.Plan.{Plan}
 use Rattle.fz_files.specs.Buffers.{found_len, header_len, largest_tile, longest_header, plans_behind}

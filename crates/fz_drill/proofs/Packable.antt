@@ -21,8 +21,8 @@ use Rattle.fz_block.specs.Hdus.{Hdu, behind_end, cards_of}
 use Rattle.fz_block.specs.Header.{whole_blocks_of}
 use Rattle.fz_block.specs.Walk.{hdu_of}
 use Rattle.fz_block.specs.declared.header.Header.{Header}
-use Rattle.fz_head.specs.JobChecks.{already_packed, data_fill, fill_in, pack_hdu_checks, pack_header_checks}
-use Rattle.fz_head.specs.Judges.{pack_judge}
+use Rattle.fz_checks.specs.JobChecks.{already_packed, data_fill, fill_in, pack_hdu_checks, pack_header_checks}
+use Rattle.fz_checks.specs.Judges.{pack_judge}
 use Rattle.fz_head.specs.PackChecks.{fill_place, is_offset, is_plio, is_reserved_card, limit_checks, name_checks, no_totals, offset_check, pack_checks}
 use Rattle.fz_head.specs.Packable.{is_packable}
 use Rattle.fz_head.specs.PackedHeader.{flag_card, number_card, numbered_number_card, packed_header}

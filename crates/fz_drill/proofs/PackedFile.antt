@@ -16,8 +16,8 @@ use Rattle.fz_table.specs.declared.table.Table.{Table}
 use Rattle.fz_tile.specs.Plain.{AreBytes}
 use Rattle.fz_head.specs.Accepted.{IsAccepted}
 use Rattle.fz_head.specs.EmptyPrimary.{empty_primary}
-use Rattle.fz_head.specs.JobChecks.{image_checks, is_after_empty, unpack_checks}
-use Rattle.fz_head.specs.Judges.{unpack_judge}
+use Rattle.fz_checks.specs.JobChecks.{image_checks, is_after_empty, unpack_checks}
+use Rattle.fz_checks.specs.Judges.{unpack_judge}
 use Rattle.fz_head.specs.Packable.{is_packable, is_packed, is_table}
 use Rattle.fz_head.specs.PackedChecks.{packed_checks, plan_answer}
 use Rattle.fz_head.specs.PackedPlan.{plan_of_cards}

@@ -21,7 +21,7 @@ use Rattle.fz_tile.specs.Laws.{FillsColumn, HasPlainLen}
 use Rattle.fz_tile.specs.Plain.{AreBytes}
 use Rattle.fz_tile.specs.TileCode.{TileCode, tile_code}
 use Rattle.fz_tile.specs.declared.codec.Codec.TheVariants as sort
-use Rattle.fz_head.specs.JobChecks.{IsImageToPack}
+use Rattle.fz_checks.specs.JobChecks.{IsImageToPack}
 use Rattle.fz_head.specs.Planned.{pack_plan_of}
 use Rattle.fz_head.specs.declared.options.CodecWord.{CodecWord}
 use Rattle.fz_head.specs.declared.options.CodecWord.TheVariants as word

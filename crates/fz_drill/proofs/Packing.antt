@@ -6,11 +6,11 @@ use Rattle.fz_base.specs.JobBuffers.{buffer_bound}
 use Rattle.fz_block.specs.Checks.{walk_of}
 use Rattle.fz_block.specs.Hdus.{AreHdusOf, Hdu}
 use Rattle.fz_block.specs.declared.header.Header.{Header}
-use Rattle.fz_head.specs.Greatest.{greatest}
-use Rattle.fz_head.specs.Judges.{pack_judge}
+use Rattle.fz_checks.specs.Greatest.{greatest}
+use Rattle.fz_checks.specs.Judges.{pack_judge}
 use Rattle.fz_head.specs.Packable.{is_packable}
 use Rattle.fz_head.specs.Planned.{pack_plan_of}
-use Rattle.fz_head.specs.WorkBuffers.{pixels_of_tile}
+use Rattle.fz_checks.specs.WorkBuffers.{pixels_of_tile}
 use Rattle.fz_head.specs.declared.options.CodecWord.{CodecWord}
 use Rattle.fz_head.specs.declared.options.PackOptions.{PackOptions}
 use Rattle.fz_files.specs.Buffers.{found_len, header_len, largest_tile, longest_header, plans_behind}

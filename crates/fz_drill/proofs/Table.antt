@@ -15,7 +15,7 @@ use Rattle.fz_tile.specs.Plain.{AreBytes}
 use Rattle.fz_tile.specs.TileCode.{TileCode}
 use Rattle.fz_head.specs.Accepted.{IsAccepted}
 use Rattle.fz_head.specs.Conditions.{AreShort}
-use Rattle.fz_head.specs.Greatest.{greatest}
+use Rattle.fz_checks.specs.Greatest.{greatest}
 use Rattle.fz_head.specs.PackChecks.{pack_answer, pack_checks}
 use Rattle.fz_head.specs.PackedHeader.{packed_header, packed_with}
 use Rattle.fz_head.specs.PackedTable.{coded_unit}

@@ -2,9 +2,9 @@
 ghost use Rattle.fz_drill.specs.Lengths.{DrillsAreBounded, PackedFilesAreShort, PlainFilesAreLong, StoredFilesAreLong};
 
 use crate::law::{cuts_law, packed_laws, packs_law, unpacks_law};
+use fz_checks::image_to_pack_law;
 use fz_files::buffers_law;
 use fz_grid::{shape_law, tile_pixels_law, tiles_law};
-use fz_head::image_to_pack_law;
 use fz_tile::column_law;
 
 /// How long the file of so many rows is; that a packed one is no longer than if all its pixels are stored, as they are

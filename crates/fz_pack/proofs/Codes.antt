@@ -9,7 +9,7 @@ use Rattle.fz_tile.specs.TileCode.{TileCode}
 use Rattle.fz_tile.specs.declared.coded.Place2.{Place2}
 use Rattle.fz_tile.specs.declared.coded.Place2.TheVariants.{Coded, Stored}
 use Rattle.fz_head.specs.declared.plan.Plan.{Plan}
-use Rattle.fz_head.specs.Greatest.{greatest}
+use Rattle.fz_checks.specs.Greatest.{greatest}
 use Rattle.fz_head.specs.PackedTable.{planned_row}
 use Rattle.fz_files.specs.Packed.{coded_count, described, heap_of, row_of, rows_from, stored_count}
 

@@ -13,7 +13,7 @@ use Rattle.fz_block.specs.Hdus.{hdu_bytes}
 use Rattle.fz_block.specs.Walk.{hdu_of}
 use Rattle.fz_block.specs.declared.header.Header.{Header}
 use Rattle.fz_block.specs.declared.header.Sort.TheVariants.{BinTable, Image, Other}
-use Rattle.fz_head.specs.JobChecks.{pack_header_checks, plan_to_pack}
+use Rattle.fz_checks.specs.JobChecks.{pack_header_checks, plan_to_pack}
 use Rattle.fz_head.specs.Packable.{is_packable, is_primary}
 use Rattle.fz_head.specs.Planned.{pack_plan_of}
 use Rattle.fz_head.specs.declared.options.PackOptions.{PackOptions}

@@ -21,9 +21,9 @@ use Rattle.fz_job.specs.declared.survey.Survey.{Survey}
 use Rattle.fz_pack.specs.Known.{IsKnown}
 use Rattle.fz_pack.specs.Written.{IsList}
 use Rattle.fz_pack.proofs.Walked.{AreMet, AreSound, BlocksLaw, PlacesLaw, largest_is, longest_is, never_stops, walk_met, walk_sound, were_seen}
-use Rattle.fz_head.specs.WorkBuffers.{pixels_of_tile}
-use Rattle.fz_head.specs.Greatest.{greatest}
-use Rattle.fz_head.specs.Judges.{pack_judge}
+use Rattle.fz_checks.specs.WorkBuffers.{pixels_of_tile}
+use Rattle.fz_checks.specs.Greatest.{greatest}
+use Rattle.fz_checks.specs.Judges.{pack_judge}
 
 -- the laws of headers that it stands on
 pub record TheLaws : Type 0 where

@@ -8,14 +8,14 @@ use Rattle.fz_block.specs.Checks.{unless_refused}
 use Rattle.fz_block.specs.Walk.{hdu_of}
 use Rattle.fz_block.specs.declared.header.Header.{Header}
 use Rattle.fz_grid.specs.Region.{lengths_of}
-use Rattle.fz_head.specs.JobChecks.{data_fill, fill_in, pack_hdu_checks, pack_header_checks}
+use Rattle.fz_checks.specs.JobChecks.{data_fill, fill_in, pack_hdu_checks, pack_header_checks}
 use Rattle.fz_head.specs.Packable.{is_packable}
 use Rattle.fz_head.specs.Planned.{asked_tile, cut_tile, pack_plan_of}
 use Rattle.fz_head.specs.declared.options.PackOptions.{PackOptions}
 use Rattle.fz_head.specs.declared.plan.Plan.{Plan}
 use Rattle.fz_pack.specs.Again.{largest_of}
-use Rattle.fz_head.specs.Judges.{pack_judge}
-use Rattle.fz_head.specs.WorkBuffers.{pixels_of_tile}
+use Rattle.fz_checks.specs.Judges.{pack_judge}
+use Rattle.fz_checks.specs.WorkBuffers.{pixels_of_tile}
 use Rattle.fz_pack.proofs.Products.{product_of_tile}
 
 -- the first of several checks refuse nothing where all do not

@@ -6,7 +6,7 @@ use Rattle.std.proofs.Math.Nat.{mul-add, mul-le-mul_left, mul-zero}
 use Rattle.fz_base.specs.Sink.{written}
 use Rattle.fz_sum.specs.Pieces.{total_at}
 use Rattle.fz_tile.specs.TileCode.{TileCode, tile_code}
-use Rattle.fz_head.specs.Greatest.{greatest}
+use Rattle.fz_checks.specs.Greatest.{greatest}
 use Rattle.fz_head.specs.PackedTable.{planned_row}
 use Rattle.fz_files.specs.Packed.{coded_count, heap_of, pixel_bits, rows_from, stored_count}
 use Rattle.fz_pool.specs.Round.{coded_tiles}

@@ -12,7 +12,7 @@ use Rattle.fz_block.specs.Cards.{card_at}
 use Rattle.fz_block.specs.Checks.{hdu_at, is_set}
 use Rattle.fz_block.specs.Walk.{hdu_of}
 use Rattle.fz_block.specs.declared.header.Header.{Header}
-use Rattle.fz_head.specs.JobChecks.{plan_to_pack}
+use Rattle.fz_checks.specs.JobChecks.{plan_to_pack}
 use Rattle.fz_head.specs.declared.options.PackOptions.{PackOptions}
 use Rattle.fz_head.specs.declared.plan.Plan.{Plan}
 use Rattle.fz_pack.specs.Again.{ReadsAsSeen, WasSeen, is_larger, largest_of}

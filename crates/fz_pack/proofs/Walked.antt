@@ -12,7 +12,7 @@ use Rattle.fz_block.specs.Hdus.{hdu_bytes}
 use Rattle.fz_block.specs.Header.{data_start_of, next_start_of}
 use Rattle.fz_block.specs.Walk.{AreHeadersBetween, PassFrom, PassesAt, StandsAt, begins_hdu, hdu_of, is_stop, stops}
 use Rattle.fz_block.specs.declared.header.Header.{Header}
-use Rattle.fz_head.specs.JobChecks.{pack_hdu_checks, plan_to_pack}
+use Rattle.fz_checks.specs.JobChecks.{pack_hdu_checks, plan_to_pack}
 use Rattle.fz_head.specs.Packable.{is_packable}
 use Rattle.fz_head.specs.Planned.{pack_plan_of}
 use Rattle.fz_head.specs.declared.options.PackOptions.{PackOptions}
@@ -22,9 +22,9 @@ use Rattle.fz_job.specs.Surveys.{tile_pixels as tile_seen, header_len as header_
 use Rattle.fz_job.specs.declared.checks.JobChecks.TheVariants.{Pack as PackChecks}
 use Rattle.fz_pack.specs.Again.{WasSeen, WereSeen}
 use Rattle.fz_pack.proofs.Plans.{largest_within, passed_checks}
-use Rattle.fz_head.specs.WorkBuffers.{pixels_of_tile}
-use Rattle.fz_head.specs.Greatest.{greatest}
-use Rattle.fz_head.specs.Judges.{pack_judge}
+use Rattle.fz_checks.specs.WorkBuffers.{pixels_of_tile}
+use Rattle.fz_checks.specs.Greatest.{greatest}
+use Rattle.fz_checks.specs.Judges.{pack_judge}
 
 -- HDUs from number k on: that they are come to
 abbrev pub begun : ℕ → ℕ → List Header → List Reached

@@ -14,7 +14,7 @@ use Rattle.fz_grid.specs.Arrays.{product}
 use Rattle.fz_grid.specs.Grid.{tile_lengths}
 use Rattle.fz_grid.specs.Region.{lengths_of}
 use Rattle.fz_head.specs.Conditions.{IsPackPlan}
-use Rattle.fz_head.specs.JobChecks.{plan_to_pack}
+use Rattle.fz_checks.specs.JobChecks.{plan_to_pack}
 use Rattle.fz_head.specs.declared.options.PackOptions.{PackOptions}
 use Rattle.fz_head.specs.declared.plan.Plan.{Plan}
 use Rattle.fz_pack.specs.declared.again.Again.{Again}

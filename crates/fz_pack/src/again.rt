@@ -18,8 +18,9 @@ use crate::file::Packing;
 use fz_base::{Fault, Kind, Place, Source, Stop, log_law};
 use fz_block::{BLOCK_LEN, Header, again_law, card, header_again};
 use fz_card::Name;
+use fz_checks::plan_to_pack;
 use fz_grid::Grid;
-use fz_head::{Plan, plan_to_pack};
+use fz_head::Plan;
 
 /// An HDU whose header was read once more, and how it is packed, if it is.
 #[derive(Clone, Copy, Debug)]
@@ -49,8 +50,7 @@ pub(crate) fn read_again<R, S: Source, G>(
     ensures small { IfOk result (λ a. IfSome a.plan (λ p. largest_of p ≤ tile)) }
     ensures as_seen { IfSome (S.held source.old) (λ g. ReadsAsSeen asked.now.options g hdu start (len buf.old) tile result) }
     ensures refused { IfRefused result IsChanged }
-    ensures buf { len buf.new ≡ len buf.old }
-    ensures source { SourceStays S.held S.attached S.ranges source.old source.new }
+    ensures stays { SourceStays S.held S.attached S.ranges source.old source.new × (len buf.new ≡ len buf.old) }
     ensures read { IfSome (S.held source.old) (λ g. LogsWithin start (header_touched hdu start g) (S.ranges source.old) (S.ranges source.new)) }
     ensures cause { ReadsOnly (S.tally source.old) (S.tally source.new) result }
 {

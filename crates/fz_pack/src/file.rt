@@ -59,12 +59,10 @@ pub(crate) fn write_file<R: Threads + Sync, S: Source, K: Sink, G: Gate>(
     ensures finished { OnOk result (K.finished sink.new ≡ true) }
     ensures shut { AreShutOrWhole asked.now.options survey.now (S.held source.old) (K.contents sink.new) result }
     ensures block { len block.new ≡ 2880 }
-    ensures space { SpaceStays space.old space.new }
-    ensures window { WindowStays window.old window.new }
-    ensures source { SourceStays S.held S.attached S.ranges source.old source.new }
     ensures changed { IfRefused result IsChanged }
     ensures read { IfSome (S.held source.old) (λ g. ReadsHdus asked.now.options g survey.now (S.ranges source.old) (S.ranges source.new)) }
-    ensures told_contents { StaysTold (K.contents sink.old) (K.contents sink.new) }
+    ensures stays { SourceStays S.held S.attached S.ranges source.old source.new × SpaceStays space.old space.new
+        × WindowStays window.old window.new × StaysTold (K.contents sink.old) (K.contents sink.new) }
     ensures cause { Rewrites (S.tally source.old) (S.tally source.new) (nameless (K.tally sink.old)) (nameless (K.tally sink.new)) result }
     ensures names { NamesOnce asked.now.name.now (K.tally sink.old).names (K.tally sink.new).names result }
 {
@@ -97,10 +95,9 @@ fn write_hdus<R: Threads + Sync, S: Source, K: Sink, G: Gate>(
     ensures written { IfSome (S.held source.old) (λ g. RewritesSeen asked.now.options g survey.now.header_len survey.now.tile
         survey.now.hdus (K.contents sink.old) (K.contents sink.new) result) }
     ensures block { len block.new ≡ 2880 }
-    ensures space { SpaceStays space.old space.new }
-    ensures window { WindowStays window.old window.new }
-    ensures source { SourceStays S.held S.attached S.ranges source.old source.new }
-    ensures sink { SinkStays K.created K.contents sink.old sink.new }
+    ensures stays { SourceStays S.held S.attached S.ranges source.old source.new
+        × SinkStays K.created K.contents sink.old sink.new × SpaceStays space.old space.new
+        × WindowStays window.old window.new }
     ensures changed { IfRefused result IsChanged }
     ensures read { IfSome (S.held source.old) (λ g. ReadsHdus asked.now.options g survey.now (S.ranges source.old) (S.ranges source.new)) }
     ensures cause { Rewrites (S.tally source.old) (S.tally source.new) (K.tally sink.old) (K.tally sink.new) result }

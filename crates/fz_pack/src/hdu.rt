@@ -54,10 +54,9 @@ pub(crate) fn write_hdu<R: Threads + Sync, S: Source, K: Sink, G: Gate>(
         (λ g. HoldsHdu asked.now.options again.now.header g at end (K.contents sink.old) (K.contents sink.new))) }
     ensures end { IfOk result (EndsNear again.now.header at) }
     ensures block { len block.new ≡ 2880 }
-    ensures space { SpaceStays space.old space.new }
-    ensures window { WindowStays window.old window.new }
-    ensures source { SourceStays S.held S.attached S.ranges source.old source.new }
-    ensures sink { SinkStays K.created K.contents sink.old sink.new }
+    ensures stays { SourceStays S.held S.attached S.ranges source.old source.new
+        × SinkStays K.created K.contents sink.old sink.new × SpaceStays space.old space.new
+        × WindowStays window.old window.new }
     ensures log { LogsWithin (data_start_of again.now.header) (next_start_of again.now.header) (S.ranges source.old) (S.ranges source.new) }
     ensures cause { CodesAndWrites (S.tally source.old) (S.tally source.new) (K.tally sink.old) (K.tally sink.new) result }
 {
@@ -126,10 +125,9 @@ fn write_table<R: Threads + Sync, S: Source, K: Sink, G: Gate>(
     ensures table { IfOk result (λ end. IfSome (S.held source.old)
         (λ g. HoldsTable asked.now.options.sums table.plan table.header g table.at end (K.contents sink.old) (K.contents sink.new))) }
     ensures end { IfOk result (λ end. (table.at ≤ end) × (end ≤ table.at + 2 ^ 45)) }
-    ensures space { SpaceStays space.old space.new }
-    ensures window { WindowStays window.old window.new }
-    ensures source { SourceStays S.held S.attached S.ranges source.old source.new }
-    ensures sink { SinkStays K.created K.contents sink.old sink.new }
+    ensures stays { SourceStays S.held S.attached S.ranges source.old source.new
+        × SinkStays K.created K.contents sink.old sink.new × SpaceStays space.old space.new
+        × WindowStays window.old window.new }
     ensures log { LogsWithin (data_start_of table.header) (next_start_of table.header) (S.ranges source.old) (S.ranges source.new) }
     ensures cause { CodesAndWrites (S.tally source.old) (S.tally source.new) (K.tally sink.old) (K.tally sink.new) result }
 {

@@ -25,7 +25,8 @@ ghost use Rattle.fz_image.specs.Working.{CanPack, StaysPacking};
 use crate::turns::{has_turns, write_by_turns};
 use fz_base::{Gate, Sink, Source, Stop, log_law, output_law, write_behind};
 use fz_block::{Header, cards_law};
-use fz_head::{Plan, Totals, pack_plan_law, sizes_law, sum_cards_law, to_packed, whole_cards_law};
+use fz_checks::pack_plan_law;
+use fz_head::{Plan, Totals, sizes_law, sum_cards_law, to_packed, whole_cards_law};
 use fz_image::{
     Layout, Progress, Strips, Underway, Writing, encode_tiles, make_header, round_len,
     write_encoded,
@@ -83,11 +84,9 @@ pub fn write_image<R: Threads + Sync, S: Source, K: Sink, G: Gate>(
     ensures table { IfOk result (λ end. IfSome (S.held source.old)
         (λ g. HoldsTable image.now.sums image.now.plan image.now.header g image.now.at end (K.contents sink.old) (K.contents sink.new))) }
     ensures end { IfOk result (λ end. (image.now.at ≤ end) × (end ≤ image.now.at + 2 ^ 45)) }
-    ensures sink { SinkStays K.created K.contents sink.old sink.new }
-    ensures made { len made.new ≡ len made.old }
-    ensures copy { len copy.new ≡ len copy.old }
-    ensures window { WindowStays window.old window.new }
-    ensures source { SourceStays S.held S.attached S.ranges source.old source.new }
+    ensures stays { SourceStays S.held S.attached S.ranges source.old source.new
+        × SinkStays K.created K.contents sink.old sink.new × WindowStays window.old window.new
+        × (len made.new ≡ len made.old) × (len copy.new ≡ len copy.old) }
     ensures log { LogsWithin (data_start_of image.now.header) (next_start_of image.now.header) (S.ranges source.old) (S.ranges source.new) }
     ensures cause { CodesAndWrites (S.tally source.old) (S.tally source.new) (K.tally sink.old) (K.tally sink.new) result }
 {
@@ -126,11 +125,9 @@ fn write_table<R: Threads + Sync, S: Source, K: Sink, G: Gate>(
         (λ g. HoldsCodes image.now.sums writing.now.layout (cards_of image.now.buf.now)
         (codes_from writing.now.layout g 0 writing.now.layout.tiles) image.now.at end (K.contents sink.old) (K.contents sink.new))) }
     ensures end { IfOk result (λ end. (writing.now.layout.rows_at ≤ end) × (end ≤ writing.now.layout.rows_at + 2 ^ 44)) }
-    ensures made { len made.new ≡ len made.old }
-    ensures copy { len copy.new ≡ len copy.old }
-    ensures window { WindowStays window.old window.new }
-    ensures stays { StaysPacking S.held S.attached S.ranges S.tally K.created K.contents K.tally
-        writing.now.layout source.old source.new sink.old sink.new result }
+    ensures stays { WindowStays window.old window.new
+        × StaysPacking S.held S.attached S.ranges S.tally K.created K.contents K.tally writing.now.layout source.old
+        source.new sink.old sink.new result × (len made.new ≡ len made.old) × (len copy.new ≡ len copy.old) }
 {
     output_law();
     let layout = &writing.layout;
@@ -162,10 +159,9 @@ fn write_tiles<R: Threads + Sync, S: Source, K: Sink, G: Gate>(
     requires copy { 4096 ≤ len copy.old }
     ensures written { IfOk result (λ w. IsWritten writing.now.layout (S.held source.old) (K.contents sink.old) (K.contents sink.new) w
         × (w.tiles ≡ writing.now.layout.tiles)) }
-    ensures copy { len copy.new ≡ len copy.old }
-    ensures window { WindowStays window.old window.new }
-    ensures stays { StaysPacking S.held S.attached S.ranges S.tally K.created K.contents K.tally
-        writing.now.layout source.old source.new sink.old sink.new result }
+    ensures stays { WindowStays window.old window.new
+        × StaysPacking S.held S.attached S.ranges S.tally K.created K.contents K.tally writing.now.layout source.old
+        source.new sink.old sink.new result × (len copy.new ≡ len copy.old) }
 {
     let (rows, more) = copy.split_at_mut(ROWS_LEN);
     let half = ahead_len(more.len(), &writing.layout, window);
@@ -208,12 +204,10 @@ fn write_rounds<R: Threads + Sync, S: Source, K: Sink, G: Gate>(
     ensures written { IfOk result (λ u. IsUnderwayFrom writing.now.layout (S.held source.old) (K.contents sink.old) u held.new
         (K.contents sink.new) × (u.progress.tiles ≡ writing.now.layout.tiles)) }
     ensures last { IfOk result (λ u. AreHeldBack u held.new) }
-    ensures ahead { len ahead.new ≡ len ahead.old }
-    ensures rows { len rows.new ≡ len rows.old }
-    ensures room { len held.new ≡ len held.old }
-    ensures window { WindowStays window.old window.new }
-    ensures stays { StaysPacking S.held S.attached S.ranges S.tally K.created K.contents K.tally
-        writing.now.layout source.old source.new sink.old sink.new result }
+    ensures stays { WindowStays window.old window.new
+        × StaysPacking S.held S.attached S.ranges S.tally K.created K.contents K.tally writing.now.layout source.old
+        source.new sink.old sink.new result × (len ahead.new ≡ len ahead.old) × (len rows.new ≡ len rows.old)
+        × (len held.new ≡ len held.old) }
 {
     log_law();
     output_law();

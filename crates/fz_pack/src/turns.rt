@@ -51,11 +51,9 @@ pub(crate) fn write_by_turns<R: Threads + Sync, S: Source, K: Sink, G: Gate>(
     ensures written { IfOk result (λ u. IsUnderwayFrom writing.now.layout (S.held source.old) (K.contents sink.old) u held.new
         (K.contents sink.new) × (u.progress.tiles ≡ writing.now.layout.tiles)) }
     ensures last { IfOk result (λ u. AreHeldBack u held.new) }
-    ensures rows { len rows.new ≡ len rows.old }
-    ensures room { len held.new ≡ len held.old }
-    ensures window { WindowStays window.old window.new }
-    ensures stays { StaysPacking S.held S.attached S.ranges S.tally K.created K.contents K.tally
-        writing.now.layout source.old source.new sink.old sink.new result }
+    ensures stays { WindowStays window.old window.new
+        × StaysPacking S.held S.attached S.ranges S.tally K.created K.contents K.tally writing.now.layout source.old
+        source.new sink.old sink.new result × (len rows.new ≡ len rows.old) × (len held.new ≡ len held.old) }
 {
     sizes_law();
     halves_law();
@@ -84,12 +82,10 @@ fn write_turns<R: Threads + Sync, S: Source, K: Sink, G: Gate>(
     ensures written { IfOk result (λ u. IsUnderwayFrom writing.now.layout (S.held source.old) (K.contents sink.old) u held.new
         (K.contents sink.new) × (u.progress.tiles ≡ writing.now.layout.tiles)) }
     ensures last { IfOk result (λ u. AreHeldBack u held.new) }
-    ensures rows { len rows.new ≡ len rows.old }
-    ensures room { len held.new ≡ len held.old }
     ensures windows { (size : ℕ × ℕ) → AreAlike size first.old → AreAlike size second.old → AreAlike size first.new × AreAlike size second.new }
-    ensures workers { first.new.workers + second.new.workers ≡ first.old.workers + second.old.workers }
-    ensures stays { StaysPacking S.held S.attached S.ranges S.tally K.created K.contents K.tally
-        writing.now.layout source.old source.new sink.old sink.new result }
+    ensures stays { StaysPacking S.held S.attached S.ranges S.tally K.created K.contents K.tally writing.now.layout
+        source.old source.new sink.old sink.new result × (len rows.new ≡ len rows.old) × (len held.new ≡ len held.old)
+        × (first.new.workers + second.new.workers ≡ first.old.workers + second.old.workers) }
 {
     log_law();
     sizes_law();
@@ -143,12 +139,10 @@ fn take_turn<R: Threads + Sync, S: Source, K: Sink, G: Gate>(
         × (turn.new.coded ≡ turn.old.loaded)) }
     ensures loaded { OnOk result (underway.old.progress.tiles + turn.old.coded + turn.old.loaded < writing.now.layout.tiles
         → 0 < turn.new.loaded) }
-    ensures rows { len rows.new ≡ len rows.old }
-    ensures room { len held.new ≡ len held.old }
     ensures windows { (size : ℕ × ℕ) → AreAlike size first.old → AreAlike size second.old → AreAlike size first.new × AreAlike size second.new }
-    ensures workers { first.new.workers + second.new.workers ≡ first.old.workers + second.old.workers }
-    ensures stays { StaysPacking S.held S.attached S.ranges S.tally K.created K.contents K.tally
-        writing.now.layout source.old source.new sink.old sink.new result }
+    ensures stays { StaysPacking S.held S.attached S.ranges S.tally K.created K.contents K.tally writing.now.layout
+        source.old source.new sink.old sink.new result × (len rows.new ≡ len rows.old) × (len held.new ≡ len held.old)
+        × (first.new.workers + second.new.workers ≡ first.old.workers + second.old.workers) }
 {
     output_law();
     sum_law();

@@ -6,7 +6,7 @@ use Rattle.fz_block.specs.Hdus.{pcount_index}
 use Rattle.fz_table.specs.Columns.{tform_card}
 use Rattle.fz_table.specs.declared.row.Row.{Row}
 use Rattle.fz_tile.specs.TileCode.{TileCode}
-use Rattle.fz_head.specs.Greatest.{greatest}
+use Rattle.fz_checks.specs.Greatest.{greatest}
 use Rattle.fz_head.specs.PackedHeader.{coded_letter, descriptor_form, number_card, numbered_word_card, stored_letter}
 use Rattle.fz_files.specs.Packed.{coded_count, heap_of, stored_count}
 use Rattle.fz_files.specs.Restored.{header_in}

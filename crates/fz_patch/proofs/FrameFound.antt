@@ -12,8 +12,8 @@ use Rattle.fz_block.specs.Walk.{hdu_of, is_stop, stops}
 use Rattle.fz_block.specs.declared.header.Header.{Header}
 use Rattle.fz_card.specs.Reading.{is_text, logical_of, text_of}
 use Rattle.fz_table.specs.Tables.{table_checks}
-use Rattle.fz_head.specs.JobChecks.{image_checks, is_after_empty, missing_hdu, packed_card_checks}
-use Rattle.fz_head.specs.Judges.{is_wanted}
+use Rattle.fz_checks.specs.JobChecks.{image_checks, is_after_empty, missing_hdu, packed_card_checks}
+use Rattle.fz_checks.specs.Judges.{is_wanted}
 use Rattle.fz_head.specs.PackedChecks.{at_word, bitpix_checks, codec_checks, has_word, line_list_check, must_be, packed_checks, parameter_checks, row_check, scaling_check, shape_checks, sort_checks}
 use Rattle.fz_head.specs.PackedPlan.{word_in}
 use Rattle.fz_files.specs.Restored.{header_in}

@@ -20,7 +20,7 @@ use Rattle.fz_block.specs.declared.header.Header.{Header}
 use Rattle.fz_grid.specs.Arrays.{product}
 use Rattle.fz_grid.specs.Grid.{tile_lengths}
 use Rattle.fz_grid.specs.Region.{IsDivided, lengths_of}
-use Rattle.fz_head.specs.WorkBuffers.{pixels_of_tile, work_buffers}
+use Rattle.fz_checks.specs.WorkBuffers.{pixels_of_tile, work_buffers}
 use Rattle.fz_head.specs.declared.plan.Plan.{Plan}
 use Rattle.fz_files.specs.Restored.{header_in, pixels_of, plan_in}
 use Rattle.fz_job.specs.Workspace.{BoundGrows, PassesWithinAll, StaysInBound}
@@ -35,7 +35,7 @@ use Rattle.fz_patch.specs.Jobs.{ForJobs, IsWanted}
 use Rattle.fz_laws.specs.PatchForm.{has_form, is_wide_table}
 use Rattle.fz_laws.specs.Grown.{IsFoundHeader}
 use Rattle.fz_table.specs.Tables.{table_in}
-use Rattle.fz_head.specs.declared.job_checks.PackedImage.{PackedImage}
+use Rattle.fz_checks.specs.declared.job_checks.PackedImage.{PackedImage}
 use Rattle.fz_target.specs.Targets.{HasHeader, IsFoundBy, IsGivenTo, IsOwnImage, IsTarget, IsTargetIn, given_taking, job_at}
 use Rattle.fz_target.specs.Told.{IfBoth}
 use Rattle.fz_target.specs.declared.target.Target.{Target}

@@ -15,7 +15,7 @@ use Rattle.fz_tile.specs.TileCode.{TileCode}
 use Rattle.fz_files.specs.FirstFault.{picked_tiles_of}
 use Rattle.fz_files.specs.Packed.{coded_count, heap_of, stored_count}
 use Rattle.fz_files.specs.Restored.{image_table}
-use Rattle.fz_head.specs.Greatest.{greatest}
+use Rattle.fz_checks.specs.Greatest.{greatest}
 use Rattle.fz_head.specs.declared.plan.Plan.{Plan}
 use Rattle.fz_pool.specs.Window.{Pool}
 use Rattle.fz_laws.specs.FirstPatchFault.{BoxHasNumbers, RowsHaveNumbers}

@@ -1,7 +1,7 @@
 -- One tile: its old pixels are fetched, those of PATCH put over them, and the new ones encoded (FITS 4.0, section 10.1.3).
 use Rattle.std.proofs.Common.{◌≡◌, ◌+◌, ◌*◌, replicate, sym, ap, ◌∙◌}
 use Rattle.fz_job.specs.Images.{HaveRoom}
-use Rattle.fz_head.specs.declared.job_checks.PackedImage.{PackedImage}
+use Rattle.fz_checks.specs.declared.job_checks.PackedImage.{PackedImage}
 use Rattle.fz_pool.specs.Window.{Pool, slot_sizes}
 
 -- ---- what a call keeps

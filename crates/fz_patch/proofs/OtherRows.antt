@@ -15,7 +15,7 @@ use Rattle.fz_grid.specs.declared.sieve.Sieve.{Sieve}
 use Rattle.fz_table.specs.Rows.{IsTable, RowInLaw, row_at, row_in, row_start}
 use Rattle.fz_table.specs.declared.row.Row.{Row}
 use Rattle.fz_table.specs.declared.table.Table.{Table}
-use Rattle.fz_head.specs.Greatest.{greatest}
+use Rattle.fz_checks.specs.Greatest.{greatest}
 use Rattle.fz_head.specs.declared.plan.Plan.{Plan}
 use Rattle.fz_files.specs.FirstFault.{picked_tiles_of}
 use Rattle.fz_files.specs.Packed.{tiles_in}

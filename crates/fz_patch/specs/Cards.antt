@@ -12,7 +12,7 @@ use Rattle.fz_patch.specs.declared.column.Forms.{Forms}
 use Rattle.fz_target.specs.declared.measure.Measure.{Measure}
 use Rattle.fz_patch.specs.declared.places.Places.{Places}
 use Rattle.fz_target.specs.declared.target.Target.{Target}
-use Rattle.fz_head.specs.Greatest.{greatest}
+use Rattle.fz_checks.specs.Greatest.{greatest}
 use Rattle.fz_table.specs.declared.row.Row.{Row}
 use Rattle.fz_target.specs.Measures.{counted_with_all, form_for}
 

@@ -38,8 +38,7 @@ pub(crate) fn find_forms<D: Source>(
     ensures forms { IfOk result (λ forms. IfSome (D.held store.old) (λ f. forms ≡ forms_for (said_most_of buf.now 1) (said_most_of buf.now 2) found.now
         (other_rows f target.now.image.table (picked_tiles_of target.now.image.plan target.now.sieve)))) }
     ensures small { IfOk result (λ forms. IfSome forms.coded (λ n. n < 2 ^ 64) × IfSome forms.stored (λ n. n < 2 ^ 64)) }
-    ensures copy { len copy.new ≡ len copy.old }
-    ensures store { SourceStays D.held D.attached D.ranges store.old store.new }
+    ensures stays { SourceStays D.held D.attached D.ranges store.old store.new × (len copy.new ≡ len copy.old) }
     ensures cause { OnlyReads (D.tally store.old) (D.tally store.new) result }
 {
     let coded = said_most(&target.header, buf, 1) < found.coded;
@@ -77,8 +76,7 @@ fn with_other_rows<D: Source>(
     requires copy { 4096 ≤ len copy.old }
     ensures all { IfOk result (λ m. IfSome (D.held store.old) (λ f. m ≡ counted_with_all found.now
         (other_rows f target.now.image.table (picked_tiles_of target.now.image.plan target.now.sieve)))) }
-    ensures copy { len copy.new ≡ len copy.old }
-    ensures store { SourceStays D.held D.attached D.ranges store.old store.new }
+    ensures stays { SourceStays D.held D.attached D.ranges store.old store.new × (len copy.new ≡ len copy.old) }
     ensures cause { OnlyReads (D.tally store.old) (D.tally store.new) result }
 {
     let table = &target.image.table;
@@ -106,8 +104,7 @@ fn with_rows<D: Source>(
     requires rows { (first ≤ end) × (end ≤ table.now.rows) }
     requires copy { 4096 ≤ len copy.old }
     ensures counted { IfOk result (λ m. IfSome (D.held store.old) (λ f. m ≡ counted_rows found.now f table.now first (end - first))) }
-    ensures copy { len copy.new ≡ len copy.old }
-    ensures store { SourceStays D.held D.attached D.ranges store.old store.new }
+    ensures stays { SourceStays D.held D.attached D.ranges store.old store.new × (len copy.new ≡ len copy.old) }
     ensures cause { OnlyReads (D.tally store.old) (D.tally store.new) result }
 {
     let most = copy.len() / table.row_bytes as usize;
@@ -136,8 +133,7 @@ fn with_neighbours<D: Source>(
     requires rows { first + count ≤ table.now.rows }
     requires copy { table.now.row_bytes * count ≤ len copy.old }
     ensures counted { IfOk result (λ m. IfSome (D.held store.old) (λ f. m ≡ counted_rows found.now f table.now first count)) }
-    ensures copy { len copy.new ≡ len copy.old }
-    ensures store { SourceStays D.held D.attached D.ranges store.old store.new }
+    ensures stays { SourceStays D.held D.attached D.ranges store.old store.new × (len copy.new ≡ len copy.old) }
     ensures cause { OnlyReads (D.tally store.old) (D.tally store.new) result }
 {
     row_in_law();

@@ -13,7 +13,7 @@ ghost use Rattle.fz_block.specs.Facts.{IsHeaderOf};
 ghost use Rattle.fz_block.specs.Header.{next_start_of};
 ghost use Rattle.fz_block.specs.Takings.{header_taking};
 ghost use Rattle.fz_files.specs.Restored.{header_in, pixels_of};
-ghost use Rattle.fz_head.specs.WorkBuffers.{work_buffers};
+ghost use Rattle.fz_checks.specs.WorkBuffers.{work_buffers};
 ghost use Rattle.fz_job.specs.Clauses.{IfOverLimit};
 ghost use Rattle.fz_laws.specs.PatchBuffers.{given_takings, patch_takings};
 ghost use Rattle.fz_laws.specs.PatchChecks.{own_checks};
@@ -92,9 +92,9 @@ pub fn patch<R: Threads + Sync, D: Store, S: Source>(
         (S.tally patch.old) (S.tally patch.new) meter.old.limit result }
     ensures buffers { KeepsPatchBuffers (job_at hdu corner.now) (D.held store.old) (S.held patch.old) meter.old meter.new }
     ensures reach { KeepsReach (D.attached store.old) (D.attached store.new) }
-    ensures told { StaysTold (D.held store.old) (D.held store.new) }
     ensures counts { StoreKept (D.tally store.old) (D.tally store.new) × CountsKept (S.tally patch.old) (S.tally patch.new) }
-    ensures kept { SourceStays S.held S.attached S.ranges patch.old patch.new }
+    ensures stays { SourceStays S.held S.attached S.ranges patch.old patch.new
+        × StaysTold (D.held store.old) (D.held store.new) }
 {
     // No taking passes the bound.
     patch_buffers_law();
@@ -138,12 +138,11 @@ fn with_block<R: Threads + Sync, D: Store, S: Source>(
         (λ g p. meter.new.peak ≤ max meter.old.peak (highest (later_takings g p (job_at hdu patching.now.asked.corner.now)))) }
     ensures most { TellsLimit meter.old.limit greatest_patch_bound result }
     ensures peak_most { meter.new.peak ≤ max meter.old.peak greatest_patch_bound }
-    ensures live { meter.new.live ≡ meter.old.live }
-    ensures limit { meter.new.limit ≡ meter.old.limit }
     ensures risen { meter.old.peak ≤ meter.new.peak }
     ensures reach { KeepsReach (D.attached store.old) (D.attached store.new) }
-    ensures told { StaysTold (D.held store.old) (D.held store.new) }
-    ensures patch { SourceStays S.held S.attached S.ranges patch.old patch.new }
+    ensures stays { SourceStays S.held S.attached S.ranges patch.old patch.new
+        × StaysTold (D.held store.old) (D.held store.new) × (meter.new.live ≡ meter.old.live)
+        × (meter.new.limit ≡ meter.old.limit) }
     ensures cause { WorksInPlace (D.tally store.old) (D.tally store.new) (S.tally patch.old) (S.tally patch.new) meter.old.limit result }
 {
     // The first look goes over all headers, and the second up to the HDU that is wanted, which is found where it begins.
@@ -248,13 +247,11 @@ fn with_header<R: Threads + Sync, D: Store, S: Source>(
     ensures most { meter.old.live ≤ 2880 + 737280 → TellsLimit meter.old.limit greatest_patch_bound result }
     ensures peak_most { meter.old.live ≤ 2880 + 737280 → meter.new.peak ≤ max meter.old.peak greatest_patch_bound }
     ensures late { IfRefused result (λ x. ((D.held store.new ≡ D.held store.old) × (D.tally store.new ≡ D.tally store.old)) ⊎ ComesInWork header.now.hdu x) }
-    ensures buf { len buf.new ≡ len buf.old }
-    ensures live { meter.new.live ≡ meter.old.live }
-    ensures limit { meter.new.limit ≡ meter.old.limit }
     ensures risen { meter.old.peak ≤ meter.new.peak }
     ensures reach { KeepsReach (D.attached store.old) (D.attached store.new) }
-    ensures told { StaysTold (D.held store.old) (D.held store.new) }
-    ensures patch { SourceStays S.held S.attached S.ranges patch.old patch.new }
+    ensures stays { SourceStays S.held S.attached S.ranges patch.old patch.new
+        × StaysTold (D.held store.old) (D.held store.new) × (len buf.new ≡ len buf.old)
+        × (meter.new.live ≡ meter.old.live) × (meter.new.limit ≡ meter.old.limit) }
     ensures cause { WorksInPlace (D.tally store.old) (D.tally store.new) (S.tally patch.old) (S.tally patch.new) meter.old.limit result }
 {
     // The HDU that is wanted passes the checks of its image; and no taking passes the bound.
@@ -303,13 +300,11 @@ fn work<R: Threads + Sync, D: Store, S: Source>(
         (meter.old.live + sum (work_buffers 0 false (Some (pixels_of target.now.image.plan 0)) 1)) }
     ensures late { IfRefused result (λ x. ((D.held store.new ≡ D.held store.old) × (D.tally store.new ≡ D.tally store.old))
         ⊎ ComesInWork target.now.header.hdu x) }
-    ensures buf { len buf.new ≡ len buf.old }
-    ensures live { meter.new.live ≡ meter.old.live }
-    ensures limit { meter.new.limit ≡ meter.old.limit }
     ensures risen { meter.old.peak ≤ meter.new.peak }
     ensures reach { KeepsReach (D.attached store.old) (D.attached store.new) }
-    ensures told { StaysTold (D.held store.old) (D.held store.new) }
-    ensures patch { SourceStays S.held S.attached S.ranges patch.old patch.new }
+    ensures stays { SourceStays S.held S.attached S.ranges patch.old patch.new
+        × StaysTold (D.held store.old) (D.held store.new) × (len buf.new ≡ len buf.old)
+        × (meter.new.live ≡ meter.old.live) × (meter.new.limit ≡ meter.old.limit) }
     ensures cause { WorksInPlace (D.tally store.old) (D.tally store.new) (S.tally patch.old) (S.tally patch.new) meter.old.limit result }
 {
     // How long the slots are that were filled, and that what was taken comes back.

@@ -83,11 +83,9 @@ pub(crate) fn write_rows<R: Threads + Sync, D: Store, S: Source>(
         (D.held store.old) (D.held store.new) (D.tally store.old).amended.writes (D.tally store.new).amended.writes) }
     ensures late { IfRefused result (ComesInWork target.now.header.hdu) }
     ensures header { OnOk result (KeepsHeader target.now.header (D.held store.old) (D.held store.new)) }
-    ensures window { WindowStays window.old window.new }
-    ensures copy { len copy.new ≡ len copy.old }
     ensures reach { KeepsReach (D.attached store.old) (D.attached store.new) }
-    ensures told { StaysTold (D.held store.old) (D.held store.new) }
-    ensures patch { SourceStays S.held S.attached S.ranges patch.old patch.new }
+    ensures stays { SourceStays S.held S.attached S.ranges patch.old patch.new × WindowStays window.old window.new
+        × StaysTold (D.held store.old) (D.held store.new) × (len copy.new ≡ len copy.old) }
     ensures cause { Patches (D.tally store.old) (D.tally store.new) (S.tally patch.old) (S.tally patch.new) result }
 {
     let end = target.image.table.heap_len;

@@ -35,8 +35,7 @@ pub(crate) fn write_sums<D: Store>(
         (D.tally store.old).amended.writes (D.tally store.new).amended.writes)) }
     ensures some { IfSome (D.held store.old) (λ f. WroteSome (sums_writes header.now f buf.old) (D.held store.old) (D.held store.new)
         (D.tally store.old).amended.writes (D.tally store.new).amended.writes) }
-    ensures len { len buf.new ≡ len buf.old }
-    ensures copy { len copy.new ≡ len copy.old }
+    ensures stays { (len buf.new ≡ len buf.old) × (len copy.new ≡ len copy.old) }
     ensures reach { KeepsReach (D.attached store.old) (D.attached store.new) }
     ensures cause { AmendsStore (D.tally store.old) (D.tally store.new) result }
 {
@@ -85,8 +84,7 @@ fn sum_of<D: Source>(store: &mut D, start: u64, end: u64, copy: &mut [u8]) -> Re
     requires copy { 0 < len copy.old }
     ensures sum { IfOk result (λ sum. IfSome (D.held store.old) (λ f. sum ≡ after nothing 0 (take (end - start) (drop start f)))) }
     ensures few { IfOk result (λ sum. sum.count ≡ end - start) }
-    ensures copy { len copy.new ≡ len copy.old }
-    ensures store { SourceStays D.held D.attached D.ranges store.old store.new }
+    ensures stays { SourceStays D.held D.attached D.ranges store.old store.new × (len copy.new ≡ len copy.old) }
     ensures cause { OnlyReads (D.tally store.old) (D.tally store.new) result }
 {
     sum_law();

@@ -14,10 +14,10 @@ use Rattle.fz_block.specs.declared.header.Header.{Header}
 use Rattle.fz_files.specs.Restored.{header_in, plan_in}
 use Rattle.fz_grid.specs.Region.{IsDivided, lengths_of}
 use Rattle.fz_head.specs.Conditions.{IsPackPlan}
-use Rattle.fz_head.specs.JobChecks.{IsImageOf, image_in}
+use Rattle.fz_checks.specs.JobChecks.{IsImageOf, image_in}
 use Rattle.fz_head.specs.PackChecks.{pack_answer, pack_checks}
 use Rattle.fz_head.specs.Planned.{is_wide, pack_plan_of}
-use Rattle.fz_head.specs.declared.job_checks.PackedImage.{PackedImage}
+use Rattle.fz_checks.specs.declared.job_checks.PackedImage.{PackedImage}
 use Rattle.fz_head.specs.declared.options.PackOptions.{PackOptions}
 use Rattle.fz_head.specs.declared.plan.Plan.{Plan}
 use Rattle.fz_image.specs.Layout.{IsLayout, IsPlan, layout_of}

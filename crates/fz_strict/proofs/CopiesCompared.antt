@@ -9,8 +9,8 @@ use Rattle.fz_block.specs.Hdus.{hdu_bytes}
 use Rattle.fz_block.specs.Header.{data_start_of, next_start_of, whole_blocks_of}
 use Rattle.fz_block.specs.Walk.{hdu_of}
 use Rattle.fz_block.specs.declared.header.Header.{Header}
-use Rattle.fz_head.specs.JobChecks.{plan_to_pack}
-use Rattle.fz_head.specs.declared.job_checks.PackedImage.{PackedImage}
+use Rattle.fz_checks.specs.JobChecks.{plan_to_pack}
+use Rattle.fz_checks.specs.declared.job_checks.PackedImage.{PackedImage}
 use Rattle.fz_head.specs.declared.options.PackOptions.{PackOptions}
 use Rattle.fz_head.specs.declared.plan.Plan.{Plan}
 use Rattle.fz_job.specs.Again.{IsAgain, header_at_front}

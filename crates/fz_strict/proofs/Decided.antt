@@ -17,7 +17,7 @@ use Rattle.fz_files.specs.Packed.{before_table, heap_of, packed_data, packed_tab
 use Rattle.fz_files.specs.Restored.{RowsStandFor, header_in, plan_in}
 use Rattle.fz_grid.specs.Arrays.{NumberArray}
 use Rattle.fz_head.specs.EmptyPrimary.{empty_primary}
-use Rattle.fz_head.specs.JobChecks.{plan_to_pack}
+use Rattle.fz_checks.specs.JobChecks.{plan_to_pack}
 use Rattle.fz_head.specs.Packable.{is_packable, is_primary}
 use Rattle.fz_head.specs.PlainHeader.{plain_header}
 use Rattle.fz_head.specs.Planned.{pack_plan_of}

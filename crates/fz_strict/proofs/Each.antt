@@ -10,8 +10,8 @@ use Rattle.fz_block.specs.Facts.{IsHeaderOf, facts_of}
 use Rattle.fz_block.specs.Hdus.{AreHdusOf, Hdu, hdu_bytes}
 use Rattle.fz_block.specs.Walk.{PassFrom, PassesAt, RefusesNone, facts_from, hdu_of}
 use Rattle.fz_block.specs.declared.header.Header.{Header}
-use Rattle.fz_head.specs.JobChecks.{data_fill, fill_in, pack_hdu_checks, pack_header_checks, plan_to_pack}
-use Rattle.fz_head.specs.Judges.{pack_judge}
+use Rattle.fz_checks.specs.JobChecks.{data_fill, fill_in, pack_hdu_checks, pack_header_checks, plan_to_pack}
+use Rattle.fz_checks.specs.Judges.{pack_judge}
 use Rattle.fz_head.specs.Packable.{is_packable}
 use Rattle.fz_head.specs.Planned.{pack_plan_of}
 use Rattle.fz_head.specs.declared.options.PackOptions.{PackOptions}

@@ -18,7 +18,7 @@ use Rattle.fz_grid.specs.Region.{lengths_of}
 use Rattle.fz_tile.specs.Codecs.{CanRead}
 use Rattle.fz_tile.specs.Laws.{HasPlainLen}
 use Rattle.fz_tile.specs.Plain.{plain_bytes}
-use Rattle.fz_head.specs.JobChecks.{data_end_of, data_fill, fill_in}
+use Rattle.fz_checks.specs.JobChecks.{data_end_of, data_fill, fill_in}
 use Rattle.fz_head.specs.Packable.{has_integers, is_image as holds_image, is_packable}
 use Rattle.fz_head.specs.PlainHeader.{plain_header}
 use Rattle.fz_head.specs.Planned.{pack_plan_of}

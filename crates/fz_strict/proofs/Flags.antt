@@ -7,7 +7,7 @@ use Rattle.fz_card.specs.Reading.{integer_of}
 use Rattle.fz_block.specs.Cards.{card_at}
 use Rattle.fz_block.specs.Hdus.{axes_of, naxis_of, size_at, size_in}
 use Rattle.fz_block.specs.declared.header.Header.{Header}
-use Rattle.fz_head.specs.JobChecks.{is_after_empty}
+use Rattle.fz_checks.specs.JobChecks.{is_after_empty}
 use Rattle.fz_files.specs.Restored.{header_in}
 use Rattle.fz_job.specs.Again.{WasSeen, WereSeen, is_empty_primary}
 use Rattle.std.specs.Prelude.{Bool, ⊤}

@@ -1,7 +1,7 @@
 -- A header at the front of a longer buffer.
 use Rattle.std.proofs.Common.{ℕ, List, Option, Some, None, IfSome, arith}
 use Rattle.fz_head.specs.Planned.{IsTile}
-use Rattle.fz_head.specs.declared.job_checks.PackedImage.{PackedImage}
+use Rattle.fz_checks.specs.declared.job_checks.PackedImage.{PackedImage}
 use Rattle.fz_tile.specs.Codecs.{ReadsCodes}
 use Rattle.fz_job.specs.Again.{IsAgain, IsUsable, header_at_front}
 use Rattle.fz_job.specs.declared.again.ReadHdu.{ReadHdu}

@@ -14,7 +14,7 @@ use Rattle.fz_files.specs.Restored.{header_in, is_image, plan_in}
 use Rattle.fz_grid.specs.Region.{lengths_of}
 use Rattle.fz_head.specs.PackedPlan.{plan_of_cards, said_tile}
 use Rattle.fz_head.specs.Planned.{IsTile}
-use Rattle.fz_head.specs.declared.job_checks.PackedImage.{PackedImage}
+use Rattle.fz_checks.specs.declared.job_checks.PackedImage.{PackedImage}
 use Rattle.fz_head.specs.declared.plan.Plan.{Plan}
 use Rattle.fz_tile.specs.declared.codec.Codec.{Codec}
 use Rattle.fz_strict.specs.FoundOptions.{block_of, codec_found, has_sums, options_of, sums_found, sums_in, tile_found, wider, widest, word_of}

@@ -9,8 +9,8 @@ use Rattle.fz_block.specs.Hdus.{Hdu, hdu_bytes}
 use Rattle.fz_block.specs.Header.{next_start_of}
 use Rattle.fz_block.specs.Walk.{AreHeadersBetween, PassFrom, PassesAt, RefusesNone, hdu_of, is_stop, stops}
 use Rattle.fz_block.specs.declared.header.Header.{Header}
-use Rattle.fz_head.specs.JobChecks.{IsImageOf, image_in, is_after_empty, unpack_checks, unpack_hdu_checks}
-use Rattle.fz_head.specs.Judges.{unpack_judge}
+use Rattle.fz_checks.specs.JobChecks.{IsImageOf, image_in, is_after_empty, unpack_checks, unpack_hdu_checks}
+use Rattle.fz_checks.specs.Judges.{unpack_judge}
 use Rattle.fz_head.specs.Packable.{is_packed}
 use Rattle.fz_files.specs.FirstFault.{IsFirstFault}
 use Rattle.fz_files.specs.Restored.{header_in, is_image, is_packed_primary, standing}

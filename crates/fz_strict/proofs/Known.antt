@@ -11,10 +11,10 @@ use Rattle.fz_block.specs.Hdus.{IsHeader, axes_of, cards_of, data_len_of, gcount
 use Rattle.fz_block.specs.declared.header.Header.{Header}
 use Rattle.fz_block.specs.declared.header.Sort.TheVariants.{Primary}
 use Rattle.fz_grid.specs.Arrays.{NumberArray}
-use Rattle.fz_head.specs.JobChecks.{image_in, image_to_unpack, is_after_empty}
+use Rattle.fz_checks.specs.JobChecks.{image_in, image_to_unpack, is_after_empty}
 use Rattle.fz_head.specs.PackedPlan.{plan_of_cards}
 use Rattle.fz_head.specs.PlainHeader.{was_primary}
-use Rattle.fz_head.specs.declared.job_checks.PackedImage.{PackedImage}
+use Rattle.fz_checks.specs.declared.job_checks.PackedImage.{PackedImage}
 use Rattle.fz_head.specs.declared.options.PackOptions.{PackOptions}
 use Rattle.fz_files.specs.FirstFault.{IsFirstFault, IsFirstRowFault, IsFaultBehind, all_rows}
 use Rattle.fz_files.specs.Restored.{HdusStandFor, RowsStandFor, StandsForAs, header_in, is_image, is_packed_primary, plan_in, standing}

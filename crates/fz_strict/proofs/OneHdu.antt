@@ -20,7 +20,7 @@ use Rattle.fz_tile.specs.Pixels.{IsBitpix}
 use Rattle.fz_tile.specs.Record.{IsRecord}
 use Rattle.fz_tile.specs.declared.codec.Codec.{Codec}
 use Rattle.fz_tile.specs.declared.coded.Place2.{Place2}
-use Rattle.fz_head.specs.JobChecks.{IsImageOf, image_in}
+use Rattle.fz_checks.specs.JobChecks.{IsImageOf, image_in}
 use Rattle.fz_head.specs.PlainHeader.{plain_header}
 use Rattle.fz_head.specs.declared.plan.Plan.{Plan}
 use Rattle.fz_files.specs.Packed.{pixel_bits}

@@ -25,7 +25,7 @@ use Rattle.fz_grid.specs.Region.{lengths_of}
 use Rattle.fz_tile.specs.Laws.{GivesPixelsAgain, HasPlainLen, SlicesPixels}
 use Rattle.fz_tile.specs.Pixels.{IsBitpix}
 use Rattle.fz_tile.specs.Plain.{pixel_of, plain_bytes, stored_pixels}
-use Rattle.fz_head.specs.JobChecks.{IsImageOf, already_packed, image_in, pack_header_checks, plan_to_pack}
+use Rattle.fz_checks.specs.JobChecks.{IsImageOf, already_packed, image_in, pack_header_checks, plan_to_pack}
 use Rattle.fz_head.specs.PackChecks.{pack_checks}
 use Rattle.fz_head.specs.Packable.{is_packable}
 use Rattle.fz_head.specs.PlainHeader.{plain_header}

@@ -13,7 +13,7 @@ use Rattle.fz_block.specs.Cards.{end_of}
 use Rattle.fz_block.specs.Checks.{block_checks, blocks_to_end, header_room, hdu_at, header_blocks_of, header_in, unless_refused}
 use Rattle.fz_block.specs.Header.{next_start_of}
 use Rattle.fz_block.specs.declared.header.Header.{Header}
-use Rattle.fz_head.specs.JobChecks.{is_after_empty}
+use Rattle.fz_checks.specs.JobChecks.{is_after_empty}
 use Rattle.fz_job.specs.declared.survey.Survey.{Survey}
 use Rattle.fz_job.specs.Again.{ReadsAsSeen, WasSeen, WereSeen, is_empty_primary}
 use Rattle.fz_job.specs.Known.{IsList}

@@ -12,7 +12,7 @@ use Rattle.fz_grid.specs.Arrays.{NumberArray, product}
 use Rattle.fz_grid.specs.Grid.{tile}
 use Rattle.fz_grid.specs.Laws.{TilesHaveAPixel, TilesHaveAtMostTheirLengths}
 use Rattle.fz_grid.specs.Region.{lengths_of}
-use Rattle.fz_head.specs.JobChecks.{IsImageOf, image_in}
+use Rattle.fz_checks.specs.JobChecks.{IsImageOf, image_in}
 use Rattle.fz_head.specs.declared.plan.Plan.{Plan}
 use Rattle.fz_image.specs.Layout.{IsLayout}
 use Rattle.fz_image.specs.Tiles.{AreCodesFrom, codes_from, image_in as image_of, pixels_of, tile_in}

@@ -14,7 +14,7 @@ use Rattle.fz_block.specs.Cards.{end_of}
 use Rattle.fz_block.specs.Checks.{begin_checks, blocks_looked_at, blocks_to_end, hdu_at, header_blocks_of, header_room, header_touched, unless_refused}
 use Rattle.fz_block.specs.Header.{data_start_of, next_start_of}
 use Rattle.fz_block.specs.declared.header.Header.{Header}
-use Rattle.fz_head.specs.declared.job_checks.PackedImage.{PackedImage}
+use Rattle.fz_checks.specs.declared.job_checks.PackedImage.{PackedImage}
 use Rattle.fz_files.specs.Touched.{data_range, data_touched, image_ranges, packed_ranges}
 use Rattle.fz_files.specs.Restored.{is_image}
 use Rattle.fz_files.specs.declared.job.Job.TheVariants.{Verify}

@@ -6,7 +6,7 @@ use Rattle.fz_block.specs.Cards.{card_at}
 use Rattle.fz_block.specs.Checks.{header_of, is_set}
 use Rattle.fz_block.specs.Facts.{IsHeaderOf}
 use Rattle.fz_block.specs.declared.header.Header.{Header}
-use Rattle.fz_head.specs.JobChecks.{plan_to_pack}
+use Rattle.fz_checks.specs.JobChecks.{plan_to_pack}
 use Rattle.fz_head.specs.declared.options.PackOptions.{PackOptions}
 use Rattle.fz_head.specs.declared.plan.Plan.{Plan}
 use Rattle.fz_strict.specs.Origins.{IsRestored, restored_bytes}

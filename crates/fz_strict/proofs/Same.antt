@@ -9,8 +9,8 @@ use Rattle.fz_block.specs.Hdus.{Hdu, cards_of, hdu_bytes}
 use Rattle.fz_block.specs.Header.{next_start_of}
 use Rattle.fz_block.specs.Walk.{AreHeadersBetween, RefusesNone, hdu_of, is_stop, stops}
 use Rattle.fz_block.specs.declared.header.Header.{Header}
-use Rattle.fz_head.specs.JobChecks.{already_packed, data_fill, fill_in, pack_hdu_checks}
-use Rattle.fz_head.specs.Judges.{pack_judge}
+use Rattle.fz_checks.specs.JobChecks.{already_packed, data_fill, fill_in, pack_hdu_checks}
+use Rattle.fz_checks.specs.Judges.{pack_judge}
 use Rattle.fz_head.specs.PackChecks.{limit_checks, name_checks, offset_check, pack_checks}
 use Rattle.fz_head.specs.Packable.{is_packable}
 use Rattle.fz_head.specs.Planned.{AreOptions, pack_plan_of}

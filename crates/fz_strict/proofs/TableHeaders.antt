@@ -11,7 +11,7 @@ use Rattle.fz_block.specs.Hdus.{HasBlankFill, IsCardBeforeEnd, IsHeader, cards_o
 use Rattle.fz_block.specs.declared.header.Header.{Header}
 use Rattle.fz_files.specs.Packed.{coded_count, heap_of, packed_data, stored_count, sum_before, table_header, totals_of, with_sums}
 use Rattle.fz_head.specs.Conditions.{AreShort, IsPackPlan}
-use Rattle.fz_head.specs.Greatest.{greatest}
+use Rattle.fz_checks.specs.Greatest.{greatest}
 use Rattle.fz_head.specs.PackedHeader.{packed_header, packed_with, sum_cards}
 use Rattle.fz_head.specs.SumCards.{AreSumCards, IsSumCard}
 use Rattle.fz_head.specs.ThereAndBack.{IsPacking}

@@ -12,7 +12,7 @@ use Rattle.fz_block.specs.Facts.{facts_of}
 use Rattle.fz_block.specs.Hdus.{AreHdusOf}
 use Rattle.fz_block.specs.Header.{next_start_of}
 use Rattle.fz_block.specs.declared.header.Header.{Header}
-use Rattle.fz_head.specs.Judges.{pack_judge, unpack_judge}
+use Rattle.fz_checks.specs.Judges.{pack_judge, unpack_judge}
 use Rattle.fz_head.specs.Packable.{is_packable, is_packed}
 use Rattle.fz_files.specs.FirstFault.{IsFaultBehind, IsFirstFault, IsFirstRowFault, all_rows, rows_of}
 use Rattle.fz_files.specs.HandMade.{block_of, empty_cards}

@@ -17,7 +17,7 @@ use Rattle.fz_block.specs.Header.{next_start_of, whole_blocks_of}
 use Rattle.fz_block.specs.declared.header.Header.{Header}
 use Rattle.fz_tile.specs.Plain.{AreBytes}
 use Rattle.fz_head.specs.EmptyPrimary.{empty_primary}
-use Rattle.fz_head.specs.Judges.{pack_judge}
+use Rattle.fz_checks.specs.Judges.{pack_judge}
 use Rattle.fz_head.specs.Packable.{is_packable}
 use Rattle.fz_head.specs.PackedHeader.{packed_header}
 use Rattle.fz_head.specs.Planned.{pack_plan_of}

@@ -6,13 +6,12 @@ use Rattle.fz_block.specs.Checks.{headers_of}
 use Rattle.fz_block.specs.Hdus.{AreHdusOf, Hdu, hdu_bytes}
 use Rattle.fz_block.specs.Walk.{PassFrom, facts_from, hdu_of}
 use Rattle.fz_block.specs.declared.header.Header.{Header}
-use Rattle.fz_head.specs.Judges.{unpack_judge}
+use Rattle.fz_checks.specs.Judges.{unpack_judge}
 use Rattle.fz_files.specs.FirstFault.{IsFirstFault}
-use Rattle.fz_files.specs.Restored.{is_image}
+use Rattle.fz_files.specs.Restored.{is_image, plan_in}
 use Rattle.fz_files.specs.Walks.{header_fault, headers_for}
 use Rattle.fz_files.specs.declared.job.Job.TheVariants.{Unpack}
 use Rattle.fz_strict.specs.FoundOptions.{found_options, images_agree, images_in, is_image_by, is_plan_by, is_same_flag, options_of, sums_in}
-use Rattle.fz_files.specs.Restored.{plan_in}
 use Rattle.fz_strict.proofs.HeadersRead.{never_stops, one_answer, unpack_headers, unpack_walk}
 use Rattle.fz_strict.specs.Taken.{WalkLaws}
 use Rattle.fz_strict.proofs.Same.{no_header_fault}

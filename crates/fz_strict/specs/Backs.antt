@@ -8,7 +8,7 @@ use Rattle.fz_block.specs.Hdus.{cards_of}
 use Rattle.fz_block.specs.declared.header.Header.{Header}
 use Rattle.fz_files.specs.Restored.{header_in, plan_in}
 use Rattle.fz_head.specs.Conditions.{IsPackPlan}
-use Rattle.fz_head.specs.JobChecks.{IsImageOf, image_in}
+use Rattle.fz_checks.specs.JobChecks.{IsImageOf, image_in}
 use Rattle.fz_head.specs.declared.options.PackOptions.{PackOptions}
 use Rattle.fz_head.specs.declared.plan.Plan.{Plan}
 use Rattle.fz_image.specs.Layout.{IsLayout, layout_of}

@@ -11,7 +11,7 @@ use Rattle.fz_base.specs.declared.failure.Stop.TheVariants.{Refused, ReadFault, 
 use Rattle.fz_files.specs.Buffers.{header_takings, job_bound, largest_tile, longest_header}
 use Rattle.fz_files.specs.Walks.{header_fault}
 use Rattle.fz_files.specs.declared.job.Job.TheVariants.{Verify}
-use Rattle.fz_head.specs.WorkBuffers.{work_buffers}
+use Rattle.fz_checks.specs.WorkBuffers.{work_buffers}
 use Rattle.fz_job.specs.Clauses.{ComesLate, IsAnswer, greatest_bound}
 use Rattle.fz_job.specs.Surveys.{survey_takings}
 use Rattle.fz_job.specs.declared.checks.JobChecks.TheVariants.{Unpack as UnpackChecks}

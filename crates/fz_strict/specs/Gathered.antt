@@ -13,7 +13,7 @@ use Rattle.fz_tile.specs.Codecs.{ReadsCodes}
 use Rattle.fz_tile.specs.declared.codec.Codec.{Codec}
 use Rattle.fz_tile.specs.declared.codec.Codec.TheVariants.{Rice}
 use Rattle.fz_head.specs.Planned.{IsTile}
-use Rattle.fz_head.specs.declared.job_checks.PackedImage.{PackedImage}
+use Rattle.fz_checks.specs.declared.job_checks.PackedImage.{PackedImage}
 use Rattle.fz_head.specs.declared.options.PackOptions.{PackOptions}
 use Rattle.fz_head.specs.declared.plan.Plan.{Plan}
 use Rattle.fz_job.specs.declared.survey.Survey.{Survey}

@@ -10,7 +10,7 @@ use Rattle.fz_block.specs.Walk.{PassesAt, hdu_of}
 use Rattle.fz_block.specs.declared.header.Header.{Header}
 use Rattle.fz_grid.specs.Arrays.{NumberArray}
 use Rattle.fz_tile.specs.Plain.{AreBytes, plain_bytes}
-use Rattle.fz_head.specs.JobChecks.{plan_to_pack}
+use Rattle.fz_checks.specs.JobChecks.{plan_to_pack}
 use Rattle.fz_head.specs.PlainHeader.{plain_header}
 use Rattle.fz_head.specs.Planned.{AreOptions}
 use Rattle.fz_head.specs.declared.options.PackOptions.{PackOptions}

@@ -22,8 +22,9 @@ use crate::laws::one_hdu_law;
 use crate::origin::Origin;
 use fz_base::{Gate, Source, Stop, ranges_law};
 use fz_block::{BLOCK_LEN, hdu_at_law, next_start};
+use fz_checks::packed_primary_law;
 use fz_fetch::ImageIn;
-use fz_head::{PackOptions, packed_primary_law};
+use fz_head::PackOptions;
 use fz_job::{Begun, ReadHdu, Survey, Workspace, hdus_law, read_front};
 use fz_laws::restored_file_law;
 use fz_pool::{Crew, Window};
@@ -59,10 +60,8 @@ pub(crate) fn compare_hdus<R: Threads + Sync, S: Source, G: Gate>(
     requires copy { 4096 + 2880 ≤ len space.old.copy }
     ensures compared { IfSome (S.held source.old) (λ g. ComparesSeen asked.now.options g asked.now.survey result) }
     ensures late { IfRefused result (ComesLate Verify) }
-    ensures plain { len plain.new ≡ len plain.old }
-    ensures space { SpaceStays space.old space.new }
-    ensures window { WindowStays window.old window.new }
-    ensures source { SourceStays S.held S.attached S.ranges source.old source.new }
+    ensures stays { SourceStays S.held S.attached S.ranges source.old source.new × SpaceStays space.old space.new
+        × WindowStays window.old window.new × (len plain.new ≡ len plain.old) }
     ensures read { IfSome (S.held source.old) (λ g. ReadsKnown g asked.now.survey (S.ranges source.old) (S.ranges source.new)) }
     ensures cause { Fetches (S.tally source.old) (S.tally source.new) result }
 {
@@ -117,10 +116,8 @@ fn compare_hdu<R: Threads + Sync, S: Source, G: Gate>(
     ensures sound { OnOk result (IfSome (S.held source.old) (λ g. IsHduSound g again.now.header)) }
     ensures fault { IfRefused result (λ x. IfSome (S.held source.old) (λ g. IsHduFault g again.now.header x)) }
     ensures row { IfRefused result IsOfSomeRow }
-    ensures plain { len plain.new ≡ len plain.old }
-    ensures space { SpaceStays space.old space.new }
-    ensures window { WindowStays window.old window.new }
-    ensures source { SourceStays S.held S.attached S.ranges source.old source.new }
+    ensures stays { SourceStays S.held S.attached S.ranges source.old source.new × SpaceStays space.old space.new
+        × WindowStays window.old window.new × (len plain.new ≡ len plain.old) }
     ensures read { IfSome (S.held source.old) (λ g. LogsIn (hdu_ranges g again.now.header) (S.ranges source.old) (S.ranges source.new)) }
     ensures cause { Fetches (S.tally source.old) (S.tally source.new) result }
 {

@@ -2,7 +2,7 @@
 ghost use Rattle.std.specs.Prelude.{ℕ, ◌≡◌, ◌+◌, ◌*◌, ◌<◌, ◌≤◌, ◌^◌, true, false, codes, Ok, Some, take, length as len, IfSome, IsNone};
 ghost use Rattle.fz_block.specs.Cards.{card_at};
 ghost use Rattle.fz_block.specs.Checks.{header_of, is_set};
-ghost use Rattle.fz_head.specs.JobChecks.{plan_to_pack as plan_to_pack_of};
+ghost use Rattle.fz_checks.specs.JobChecks.{plan_to_pack as plan_to_pack_of};
 ghost use Rattle.fz_block.specs.Facts.{IsHeaderOf};
 ghost use Rattle.fz_block.specs.Header.{next_start_of};
 ghost use Rattle.fz_block.specs.Hdus.{cards_of};
@@ -15,7 +15,8 @@ use crate::origin::{MAX_PLACE, Origin};
 use crate::plans::is_plan;
 use fz_block::{Header, buffered_header, card, cards_law};
 use fz_card::Name;
-use fz_head::{PackOptions, Plan, plan_to_pack, to_plain, whole_cards_law};
+use fz_checks::plan_to_pack;
+use fz_head::{PackOptions, Plan, to_plain, whole_cards_law};
 
 /// Restores the header of a packed image, and answers its facts, if an image with this header can follow these HDUs and
 /// `pack` packs it by the same plan.

@@ -32,9 +32,10 @@ use crate::image_law::image_law;
 use crate::origin::Origin;
 use fz_base::{Gate, Source, Stop, log_law, ranges_law};
 use fz_block::{BLOCK_LEN, Header, data_start, next_start};
+use fz_checks::pack_plan_law;
 use fz_compare::{compare_tiles, has_bytes};
 use fz_fetch::ImageIn;
-use fz_head::{PackOptions, Plan, pack_plan_law, to_empty_primary};
+use fz_head::{PackOptions, Plan, to_empty_primary};
 use fz_image::{Layout, Progress, make_header, table_law};
 use fz_job::Workspace;
 use fz_pool::Window;
@@ -86,10 +87,8 @@ pub(crate) fn compare_image<R: Threads + Sync, S: Source, G: Gate>(
     ensures sound { OnOk result (IfSome (S.held source.old) (λ g. IsHduSound g packed.entry.header.now)) }
     ensures fault { IfRefused result (λ x. IfSome (S.held source.old) (λ g. IsHduFault g packed.entry.header.now x)) }
     ensures row { IfRefused result IsOfSomeRow }
-    ensures plain { len plain.new ≡ len plain.old }
-    ensures space { SpaceStays space.old space.new }
-    ensures window { WindowStays window.old window.new }
-    ensures source { SourceStays S.held S.attached S.ranges source.old source.new }
+    ensures stays { SourceStays S.held S.attached S.ranges source.old source.new × SpaceStays space.old space.new
+        × WindowStays window.old window.new × (len plain.new ≡ len plain.old) }
     ensures read { IfSome (S.held source.old) (λ g. LogsIn (table_ranges g packed.entry.header.now) (S.ranges source.old) (S.ranges source.new)) }
     ensures cause { Fetches (S.tally source.old) (S.tally source.new) result }
 {
@@ -187,9 +186,8 @@ fn compare_rest<S: Source>(
     ensures compared { IfOk result (λ now. IfSome (S.held source.old) (λ g. ComparesRest g frame.entry.header.now frame.entry.sums frame.entry.plain.now
         restored.now progress now)) }
     ensures origin { IfOk result (λ o. IfSome o IsOrigin) }
-    ensures made { len made.new ≡ len made.old }
-    ensures piece { len piece.new ≡ len piece.old }
-    ensures source { SourceStays S.held S.attached S.ranges source.old source.new }
+    ensures stays { SourceStays S.held S.attached S.ranges source.old source.new × (len made.new ≡ len made.old)
+        × (len piece.new ≡ len piece.old) }
     ensures read { LogsWithin 0 (next_start_of frame.entry.header.now) (S.ranges source.old) (S.ranges source.new) }
     ensures cause { OnlyReads (S.tally source.old) (S.tally source.new) result }
 {
@@ -222,9 +220,8 @@ fn compare_frame<S: Source>(
     ensures compared { IfOk result (λ now. IfSome (S.held source.old) (λ g. ComparesRest g frame.entry.header.now frame.entry.sums frame.entry.plain.now
         (Some restored.now) (Some progress) now)) }
     ensures origin { IfOk result (λ o. IfSome o IsOrigin) }
-    ensures made { len made.new ≡ len made.old }
-    ensures piece { len piece.new ≡ len piece.old }
-    ensures source { SourceStays S.held S.attached S.ranges source.old source.new }
+    ensures stays { SourceStays S.held S.attached S.ranges source.old source.new × (len made.new ≡ len made.old)
+        × (len piece.new ≡ len piece.old) }
     ensures read { LogsWithin 0 (next_start_of frame.entry.header.now) (S.ranges source.old) (S.ranges source.new) }
     ensures cause { OnlyReads (S.tally source.old) (S.tally source.new) result }
 {
@@ -286,8 +283,7 @@ fn has_fill<S: Source>(
     requires heap { heap ≤ 2 ^ 43 }
     requires piece { 0 < len piece.old }
     ensures same { IfOk result (λ yes. IfSome (S.held source.old) (λ g. yes ≡ has_fill_of g end layout.now heap)) }
-    ensures piece { len piece.new ≡ len piece.old }
-    ensures source { SourceStays S.held S.attached S.ranges source.old source.new }
+    ensures stays { SourceStays S.held S.attached S.ranges source.old source.new × (len piece.new ≡ len piece.old) }
     ensures read { LogsWithin 0 end (S.ranges source.old) (S.ranges source.new) }
     ensures cause { OnlyReads (S.tally source.old) (S.tally source.new) result }
 {
@@ -324,8 +320,7 @@ fn has_header<S: Source>(
     requires bytes { len bytes.now < 2 ^ 63 }
     requires piece { 0 < len piece.old }
     ensures same { IfOk result (λ yes. IfSome (S.held source.old) (λ g. yes ≡ has_header_of g header.now bytes.now)) }
-    ensures piece { len piece.new ≡ len piece.old }
-    ensures source { SourceStays S.held S.attached S.ranges source.old source.new }
+    ensures stays { SourceStays S.held S.attached S.ranges source.old source.new × (len piece.new ≡ len piece.old) }
     ensures read { LogsWithin 0 (next_start_of header.now) (S.ranges source.old) (S.ranges source.new) }
     ensures cause { OnlyReads (S.tally source.old) (S.tally source.new) result }
 {
@@ -350,9 +345,8 @@ fn begins_right<S: Source>(
     requires made { 2880 ≤ len made.old }
     requires piece { 0 < len piece.old }
     ensures same { IfOk result (λ yes. IfSome (S.held source.old) (λ g. yes ≡ begins_right_of primary g header.now)) }
-    ensures made { len made.new ≡ len made.old }
-    ensures piece { len piece.new ≡ len piece.old }
-    ensures source { SourceStays S.held S.attached S.ranges source.old source.new }
+    ensures stays { SourceStays S.held S.attached S.ranges source.old source.new × (len made.new ≡ len made.old)
+        × (len piece.new ≡ len piece.old) }
     ensures read { LogsWithin 0 (next_start_of header.now) (S.ranges source.old) (S.ranges source.new) }
     ensures cause { OnlyReads (S.tally source.old) (S.tally source.new) result }
 {

@@ -2,8 +2,9 @@
 ghost use Rattle.fz_strict.specs.Backs.{ImagesAreCompared};
 
 use fz_block::cards_law;
+use fz_checks::{plan_to_pack_law, primary_law};
 use fz_grid::{one_tile_law, shape_law, tile_pixels_law, tiles_law};
-use fz_head::{plan_to_pack_law, primary_law, sum_cards_law, whole_cards_law};
+use fz_head::{sum_cards_law, whole_cards_law};
 use fz_image::table_law;
 use fz_sum::sum_law;
 use fz_tile::{column_law, plain_law, slice_law};

@@ -5,9 +5,10 @@ ghost use Rattle.fz_strict.specs.Taken.{WalkLaws};
 ghost use Rattle.fz_laws.specs.RoundTrip.{RestoredAreBytes};
 
 use fz_block::{cards_law, found_hdus_law, hdu_list_law, passing_law, walk_law};
+use fz_checks::packed_image_law;
 use fz_files::{packed_hdu_law, table_law};
 use fz_grid::{one_tile_law, shape_law, tiles_law};
-use fz_head::{packed_image_law, whole_cards_law};
+use fz_head::whole_cards_law;
 use fz_laws::{packed_hdus_law, restored_bytes_law};
 use fz_tile::{one_record_law, plain_law, slice_law};
 

@@ -47,8 +47,7 @@ pub(crate) fn find_options<S: Source>(
     ensures options { IfSome (S.held source.old) (λ g. FindsOptions g survey.now result) }
     ensures allowed { IfOk result AreOptions }
     ensures changed { IfRefused result IsChanged }
-    ensures header { len header.new ≡ len header.old }
-    ensures source { SourceStays S.held S.attached S.ranges source.old source.new }
+    ensures stays { SourceStays S.held S.attached S.ranges source.old source.new × (len header.new ≡ len header.old) }
     ensures read { IfSome (S.held source.old) (λ g. ReadsHdus Verify g survey.now (S.ranges source.old) (S.ranges source.new)) }
     ensures cause { ReadsOnly (S.tally source.old) (S.tally source.new) result }
 {

@@ -6,7 +6,8 @@ ghost use Rattle.fz_head.specs.Planned.{AreOptions};
 ghost use Rattle.fz_strict.specs.Origins.{no_origin, with_copied as with_copied_of, with_hdu as with_hdu_of};
 
 use fz_block::Header;
-use fz_head::{PackOptions, plan_to_pack};
+use fz_checks::plan_to_pack;
+use fz_head::PackOptions;
 
 /// The last place of a file at which data may end.
 pub(crate) const MAX_PLACE: u64 = 1 << 62;

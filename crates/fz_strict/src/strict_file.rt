@@ -162,8 +162,7 @@ fn look<S: Source>(source: &mut S, length: u64, meter: &mut Meter) -> Result<Sur
     ensures block { meter.old.limit < 2880 → IsErrOf result (OverLimit 0 2880 meter.old.limit) × (S.tally source.new ≡ S.tally source.old) }
     ensures unread { meter.old.limit < 2880 → S.ranges source.new ≡ S.ranges source.old }
     ensures live { meter.new.live ≡ 0 }
-    ensures limit { meter.new.limit ≡ meter.old.limit }
-    ensures source { SourceStays S.held S.attached S.ranges source.old source.new }
+    ensures stays { SourceStays S.held S.attached S.ranges source.old source.new × (meter.new.limit ≡ meter.old.limit) }
     ensures read { IfSome (S.held source.old) (λ g. LogsIn (header_ranges Verify g) (S.ranges source.old) (S.ranges source.new)) }
     ensures cause { ReadsAndTakes (S.tally source.old) (S.tally source.new) meter.old.limit result }
 {
@@ -192,13 +191,12 @@ fn compare<R: Threads + Sync, S: Source, G: Gate>(
     requires short { survey.now.header_len ≤ 737280 }
     ensures compared { IfSome (S.held source.old) (λ g. ComparesFound g survey.now result) }
     ensures live { meter.new.live ≡ 0 }
-    ensures limit { meter.new.limit ≡ meter.old.limit }
     ensures peak { meter.new.peak ≤ max meter.old.peak (sum (strict_buffers survey.now.header_len survey.now.tile window.old.workers)) }
     ensures exact_peak { OnOk result (meter.new.peak ≡ max meter.old.peak (sum (strict_buffers survey.now.header_len survey.now.tile window.old.workers))) }
     ensures first_past { TellsFirstPast meter.old.limit (piled 0 (strict_buffers survey.now.header_len survey.now.tile window.old.workers)) result }
     ensures emptied { window.new ≡ record { slots = []; workers = window.old.workers } }
     ensures late { IfRefused result (ComesLate Verify) }
-    ensures source { SourceStays S.held S.attached S.ranges source.old source.new }
+    ensures stays { SourceStays S.held S.attached S.ranges source.old source.new × (meter.new.limit ≡ meter.old.limit) }
     ensures read { IfSome (S.held source.old) (λ g. ReadsKnown g survey.now (S.ranges source.old) (S.ranges source.new)) }
     ensures cause { ReadsAndTakes (S.tally source.old) (S.tally source.new) meter.old.limit result }
 {
@@ -234,16 +232,14 @@ fn with_plain<R: Threads + Sync, S: Source, G: Gate>(
     requires short { survey.now.header_len ≤ 737280 }
     requires plain { len plain.old ≡ survey.now.header_len + 2880 }
     ensures compared { IfSome (S.held source.old) (λ g. ComparesFound g survey.now result) }
-    ensures plain { len plain.new ≡ len plain.old }
-    ensures live { meter.new.live ≡ meter.old.live }
-    ensures limit { meter.new.limit ≡ meter.old.limit }
     ensures peak { meter.new.peak ≤ max meter.old.peak (meter.old.live + sum (wanted_buffers (strict_wants survey.now) window.old.workers)) }
     ensures exact_peak { OnOk result (meter.new.peak
         ≡ max meter.old.peak (meter.old.live + sum (wanted_buffers (strict_wants survey.now) window.old.workers))) }
     ensures first_past { TellsFirstPast meter.old.limit (piled meter.old.live (wanted_buffers (strict_wants survey.now) window.old.workers)) result }
     ensures emptied { window.new ≡ record { slots = []; workers = window.old.workers } }
     ensures late { IfRefused result (ComesLate Verify) }
-    ensures source { SourceStays S.held S.attached S.ranges source.old source.new }
+    ensures stays { SourceStays S.held S.attached S.ranges source.old source.new × (len plain.new ≡ len plain.old)
+        × (meter.new.live ≡ meter.old.live) × (meter.new.limit ≡ meter.old.limit) }
     ensures read { IfSome (S.held source.old) (λ g. ReadsKnown g survey.now (S.ranges source.old) (S.ranges source.new)) }
     ensures cause { ReadsAndTakes (S.tally source.old) (S.tally source.new) meter.old.limit result }
 {
@@ -281,10 +277,8 @@ fn compare_file<R: Threads + Sync, S: Source, G: Gate>(
     requires copy { 4096 + 2880 ≤ len space.old.copy }
     ensures compared { IfSome (S.held source.old) (λ g. ComparesFound g survey.now result) }
     ensures late { IfRefused result (ComesLate Verify) }
-    ensures plain { len plain.new ≡ len plain.old }
-    ensures space { SpaceStays space.old space.new }
-    ensures window { WindowStays window.old window.new }
-    ensures source { SourceStays S.held S.attached S.ranges source.old source.new }
+    ensures stays { SourceStays S.held S.attached S.ranges source.old source.new × SpaceStays space.old space.new
+        × WindowStays window.old window.new × (len plain.new ≡ len plain.old) }
     ensures read { IfSome (S.held source.old) (λ g. ReadsKnown g survey.now (S.ranges source.old) (S.ranges source.new)) }
     ensures cause { Fetches (S.tally source.old) (S.tally source.new) result }
 {

@@ -33,10 +33,10 @@ use Rattle.fz_files.specs.Packed.{pixel_bits}
 use Rattle.fz_files.specs.Restored.{header_in, image_table, plan_in}
 use Rattle.fz_head.specs.PackedTable.{coded_unit}
 use Rattle.fz_head.specs.Planned.{pixel_len}
-use Rattle.fz_head.specs.JobChecks.{axes_check, axis_inside, image_in, image_to_amend}
+use Rattle.fz_checks.specs.JobChecks.{axes_check, axis_inside, image_in, image_to_amend}
 use Rattle.fz_head.specs.PackedPlan.{numbered_in, plan_of_cards, said_axes, size_of}
 use Rattle.fz_head.specs.PlainHeader.{axis_count}
-use Rattle.fz_head.specs.declared.job_checks.PackedImage.{PackedImage}
+use Rattle.fz_checks.specs.declared.job_checks.PackedImage.{PackedImage}
 use Rattle.fz_head.specs.declared.plan.Plan.{Plan}
 use Rattle.fz_laws.specs.PatchChecks.{find_checks, given_check, if_patchable, inside_checks, may_be_given, own_checks, target_checks}
 use Rattle.fz_laws.specs.PatchForm.{has_form, has_heap_after_rows, has_letters, has_pixel_codes, has_two_columns, has_wide, is_wide_table}

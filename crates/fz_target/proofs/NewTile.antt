@@ -13,7 +13,7 @@ use Rattle.fz_fetch.specs.Stops.{StoppedFetching}
 use Rattle.fz_files.specs.FirstFault.{IsFirstRowFault, image_row}
 use Rattle.fz_files.specs.Packed.{pixel_bits}
 use Rattle.fz_files.specs.Restored.{RowStandsFor, pixels_of}
-use Rattle.fz_head.specs.declared.job_checks.PackedImage.{PackedImage}
+use Rattle.fz_checks.specs.declared.job_checks.PackedImage.{PackedImage}
 use Rattle.fz_head.specs.declared.plan.Plan.{Plan}
 use Rattle.fz_job.specs.Clauses.{IsOfSomeRow}
 use Rattle.fz_laws.specs.NewNumbers.{new_numbers}

@@ -2,7 +2,7 @@
 use Rattle.std.specs.Prelude.{ℕ, ◌≡◌, ◌+◌, ◌-◌, ◌^◌, ◌≤◌, ◌&&◌, ◌||◌, max, Bool, true, List, length, map, Option, Some, None, nat_le, nat_lt, if◌then◌else◌}
 use Rattle.std.specs.List.{range_with_len}
 use Rattle.fz_files.specs.Packed.{coded_count, heap_of, stored_count}
-use Rattle.fz_head.specs.Greatest.{greatest}
+use Rattle.fz_checks.specs.Greatest.{greatest}
 use Rattle.fz_head.specs.declared.plan.Plan.{Plan}
 use Rattle.fz_table.specs.Rows.{row_at}
 use Rattle.fz_table.specs.declared.row.Row.{Row}

@@ -22,9 +22,9 @@ use Rattle.fz_grid.specs.Region.{lengths_of, region_corner, region_lengths}
 use Rattle.fz_grid.specs.Sieve.{IsSieveOf, sieve_lengths}
 use Rattle.fz_grid.specs.declared.region.Region.{Region}
 use Rattle.fz_grid.specs.declared.sieve.Sieve.{Sieve}
-use Rattle.fz_head.specs.JobChecks.{IsImageOf, image_in}
+use Rattle.fz_checks.specs.JobChecks.{IsImageOf, image_in}
 use Rattle.fz_head.specs.PackedTable.{coded_unit}
-use Rattle.fz_head.specs.declared.job_checks.PackedImage.{PackedImage}
+use Rattle.fz_checks.specs.declared.job_checks.PackedImage.{PackedImage}
 use Rattle.fz_head.specs.PackedPlan.{plan_of_cards}
 use Rattle.fz_head.specs.declared.plan.Plan.{Plan}
 use Rattle.fz_laws.specs.PatchChecks.{find_checks, may_be_given}

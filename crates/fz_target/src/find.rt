@@ -21,8 +21,8 @@ use crate::given::read_given;
 use crate::target::Target;
 use fz_base::{Fault, Kind, Meter, Place, Source, Stop};
 use fz_block::{Axes, Header, data_start};
+use fz_checks::{PackedImage, check_axes, check_ends, image_to_amend};
 use fz_grid::{Region, Sieve, cutout_axes, shape_law};
-use fz_head::{PackedImage, check_axes, check_ends, image_to_amend};
 use fz_laws::form_law;
 use fz_tile::{plain_law, slice_law};
 
@@ -62,8 +62,6 @@ pub fn find_target<S: Source>(
     ensures said { IfOk result (λ t. (file : List ℕ) → HasHeader asked.now.length header.now buf.now file → IsTargetIn file t) }
     ensures given { IfOk result (λ t. GivesWithin (S.attached patch.old) t × IfSome (S.held patch.old) (λ p. IsGivenTo asked.now.corner.now p t)) }
     ensures block { len block.new ≡ 2880 }
-    ensures live { meter.new.live ≡ meter.old.live }
-    ensures limit { meter.new.limit ≡ meter.old.limit }
     ensures risen { meter.old.peak ≤ meter.new.peak }
     ensures first_past { (file : List ℕ) (wanted : Option ℕ) → HasHeader asked.now.length header.now buf.now file
         → IfSome (S.held patch.old) (λ p. TellsFirstPast meter.old.limit
@@ -73,7 +71,8 @@ pub fn find_target<S: Source>(
         (highest (given_taking meter.old.live p (first_refusal (own_checks file header.now (job_at wanted asked.now.corner.now)))))) }
     ensures most { TellsLimit meter.old.limit (meter.old.live + 737280) result }
     ensures peak_most { meter.new.peak ≤ max meter.old.peak (meter.old.live + 737280) }
-    ensures source { SourceStays S.held S.attached S.ranges patch.old patch.new }
+    ensures stays { SourceStays S.held S.attached S.ranges patch.old patch.new × (meter.new.live ≡ meter.old.live)
+        × (meter.new.limit ≡ meter.old.limit) }
     ensures cause { ReadsAndTakes (S.tally patch.old) (S.tally patch.new) meter.old.limit result }
 {
     form_law();

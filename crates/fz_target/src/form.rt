@@ -6,7 +6,7 @@ ghost use Rattle.fz_base.specs.declared.kind.Kind.TheVariants.{Unpatchable as Is
 ghost use Rattle.fz_block.specs.Facts.{IsHeaderOf};
 ghost use Rattle.fz_block.specs.Hdus.{size_in as size_in_of};
 ghost use Rattle.fz_block.specs.Header.{next_start_of};
-ghost use Rattle.fz_head.specs.JobChecks.{IsImageOf};
+ghost use Rattle.fz_checks.specs.JobChecks.{IsImageOf};
 ghost use Rattle.fz_table.specs.Columns.{field_count as field_count_of};
 ghost use Rattle.fz_table.specs.Rows.{IsTable};
 ghost use Rattle.fz_laws.specs.PatchForm.{has_form, has_letters as has_letters_of};
@@ -15,7 +15,8 @@ ghost use Rattle.fz_laws.specs.PatchForm.{has_pixel_codes as has_pixel_codes_of,
 use fz_base::{Fault, Kind, Place};
 use fz_block::{Header, card, next_start};
 use fz_card::Name;
-use fz_head::{PackedImage, coded_letter, stored_letter};
+use fz_checks::PackedImage;
+use fz_head::{coded_letter, stored_letter};
 use fz_table::{Column, first_named, is_called, is_described};
 use fz_tile::Codec;
 

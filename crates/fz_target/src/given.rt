@@ -35,8 +35,6 @@ pub(crate) fn read_given<S: Source>(
     ensures given { IfOk result (IsGivenImage plan.now) }
     ensures within { IfOk result (λ q. (next_start_of q ≤ patch_length) × (next_start_of q ≤ 2 ^ 62)) }
     ensures block { len block.new ≡ 2880 }
-    ensures live { meter.new.live ≡ meter.old.live }
-    ensures limit { meter.new.limit ≡ meter.old.limit }
     ensures risen { meter.old.peak ≤ meter.new.peak }
     ensures first_past { IfSome (S.held patch.old)
         (λ p. TellsFirstPast meter.old.limit (header_taking meter.old.live (header_blocks_of 0 0 p)) result) }
@@ -44,7 +42,8 @@ pub(crate) fn read_given<S: Source>(
         (λ p. meter.new.peak ≤ max meter.old.peak (highest (header_taking meter.old.live (header_blocks_of 0 0 p)))) }
     ensures most { TellsLimit meter.old.limit (meter.old.live + 737280) result }
     ensures peak_most { meter.new.peak ≤ max meter.old.peak (meter.old.live + 737280) }
-    ensures source { SourceStays S.held S.attached S.ranges patch.old patch.new }
+    ensures stays { SourceStays S.held S.attached S.ranges patch.old patch.new × (meter.new.live ≡ meter.old.live)
+        × (meter.new.limit ≡ meter.old.limit) }
     ensures cause { ReadsAndTakes (S.tally patch.old) (S.tally patch.new) meter.old.limit result }
 {
     let read = match header_at(patch, patch_length, 0, 0, meter, block) {

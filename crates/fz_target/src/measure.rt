@@ -67,10 +67,9 @@ pub fn measure_codes<R: Threads + Sync, D: Source, S: Source>(
     ensures room { IfOk result (λ m. HasRoom target.now m) }
     ensures fault { IfRefused result (λ x. IfBoth (D.held store.old) (S.held patch.old) (λ f p. (corner : List ℕ)
         → IsGivenTo corner p target.now → IsBoxFault f target.now.header (given_at corner p) (Some x))) }
-    ensures window { WindowStays window.old window.new }
-    ensures copy { len copy.new ≡ len copy.old }
-    ensures store { SourceStays D.held D.attached D.ranges store.old store.new }
-    ensures patch { SourceStays S.held S.attached S.ranges patch.old patch.new }
+    ensures stays { SourceStays D.held D.attached D.ranges store.old store.new
+        × SourceStays S.held S.attached S.ranges patch.old patch.new × WindowStays window.old window.new
+        × (len copy.new ≡ len copy.old) }
     ensures cause { ReadsTiles (D.tally store.old) (D.tally store.new) (S.tally patch.old) (S.tally patch.new) result }
 {
     let mut found = Measure {

@@ -38,9 +38,8 @@ pub(crate) fn put_given<S: Source>(
         → HoldsPixels target.now.image.plan tile numbers.old xs
         → HoldsPixels target.now.image.plan tile numbers.new (new_numbers target.now.image.plan (given_at corner p) tile xs))) }
     ensures pixels { OnOk result ((xs : List ℤ) × HoldsPixels target.now.image.plan tile numbers.new xs) }
-    ensures numbers { len numbers.new ≡ len numbers.old }
-    ensures copy { len copy.new ≡ len copy.old }
-    ensures source { SourceStays S.held S.attached S.ranges patch.old patch.new }
+    ensures stays { SourceStays S.held S.attached S.ranges patch.old patch.new × (len numbers.new ≡ len numbers.old)
+        × (len copy.new ≡ len copy.old) }
     ensures cause { OnlyReads (S.tally patch.old) (S.tally patch.new) result }
 {
     new_numbers_law();
@@ -71,9 +70,8 @@ fn put_line<S: Source>(
     requires step { line.now.step ≡ 1 }
     requires copy { 4096 ≤ len copy.old }
     ensures piece { OnOk result (HasPiece target.now line.now.in_tile line.now.in_cutout line.now.count (S.held patch.old) numbers.old numbers.new) }
-    ensures numbers { len numbers.new ≡ len numbers.old }
-    ensures copy { len copy.new ≡ len copy.old }
-    ensures source { SourceStays S.held S.attached S.ranges patch.old patch.new }
+    ensures stays { SourceStays S.held S.attached S.ranges patch.old patch.new × (len numbers.new ≡ len numbers.old)
+        × (len copy.new ≡ len copy.old) }
     ensures cause { OnlyReads (S.tally patch.old) (S.tally patch.new) result }
 {
     let count = u64::from(line.count);
@@ -112,9 +110,8 @@ fn put_piece<S: Source>(
     requires here { from + count ≤ product (sieve_lengths target.now.sieve) }
     requires there { (to + count ≤ 2 ^ 26) × (2 * (to + count) ≤ len numbers.old) }
     ensures piece { OnOk result (HasPiece target.now to from count (S.held patch.old) numbers.old numbers.new) }
-    ensures numbers { len numbers.new ≡ len numbers.old }
-    ensures copy { len copy.new ≡ len copy.old }
-    ensures source { SourceStays S.held S.attached S.ranges patch.old patch.new }
+    ensures stays { SourceStays S.held S.attached S.ranges patch.old patch.new × (len numbers.new ≡ len numbers.old)
+        × (len copy.new ≡ len copy.old) }
     ensures cause { OnlyReads (S.tally patch.old) (S.tally patch.new) result }
 {
     plain_law();

@@ -4,8 +4,8 @@ ghost use Rattle.fz_laws.specs.Writes.{grown_end};
 ghost use Rattle.fz_target.specs.Targets.{IsTarget, grown_by};
 
 use fz_block::{BLOCK_LEN, Header, data_start};
+use fz_checks::PackedImage;
 use fz_grid::{Grid, Sieve};
-use fz_head::PackedImage;
 
 /// The packed image that is patched, and what is put into it.
 #[derive(Clone, Copy, Debug)]

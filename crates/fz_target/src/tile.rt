@@ -51,10 +51,9 @@ pub fn prepare_tile<R: Threads + Sync, D: Source, S: Source>(
     ensures fault { IfRefused result (λ x. IfSome (D.held store.old) (λ f. IsFirstRowFault f (image_row target.now.header tile ∷ []) (Some x))) }
     ensures row { IfRefused result IsOfSomeRow }
     ensures unrefused { IsRefused result → IfSome (D.held store.old) (λ f. (xs : List ℤ) → ¬ RowStandsFor f target.now.header tile xs) }
-    ensures window { WindowStays window.old window.new }
-    ensures copy { len copy.new ≡ len copy.old }
-    ensures store { SourceStays D.held D.attached D.ranges store.old store.new }
-    ensures patch { SourceStays S.held S.attached S.ranges patch.old patch.new }
+    ensures stays { SourceStays D.held D.attached D.ranges store.old store.new
+        × SourceStays S.held S.attached S.ranges patch.old patch.new × WindowStays window.old window.new
+        × (len copy.new ≡ len copy.old) }
     ensures cause { ReadsTiles (D.tally store.old) (D.tally store.new) (S.tally patch.old) (S.tally patch.new) result }
 {
     one_fault_law();
@@ -97,9 +96,8 @@ fn fill_first<S: Source>(
     requires copy { 4096 ≤ len copy.old }
     ensures put { OnOk result ((x : SlotOf) × (y : SlotOf) × (slice_get window.old.slots 0 ≡ Some x) × IsPut window.old 0 y window.new
         × IsFilledSlot target.now tile (S.held patch.old) x y) }
-    ensures window { WindowStays window.old window.new }
-    ensures copy { len copy.new ≡ len copy.old }
-    ensures patch { SourceStays S.held S.attached S.ranges patch.old patch.new }
+    ensures stays { SourceStays S.held S.attached S.ranges patch.old patch.new × WindowStays window.old window.new
+        × (len copy.new ≡ len copy.old) }
     ensures cause { OnlyReads (S.tally patch.old) (S.tally patch.new) result }
 {
     put_law();
@@ -122,9 +120,8 @@ fn fill_slot<S: Source>(
     requires pixels { (xs : List ℤ) × HasTile target.now.image.plan tile slot.old xs }
     requires copy { 4096 ≤ len copy.old }
     ensures filled { OnOk result (IsFilledSlot target.now tile (S.held patch.old) slot.old slot.new) }
-    ensures size { slot_size slot.new ≡ slot_size slot.old }
-    ensures copy { len copy.new ≡ len copy.old }
-    ensures patch { SourceStays S.held S.attached S.ranges patch.old patch.new }
+    ensures stays { SourceStays S.held S.attached S.ranges patch.old patch.new
+        × (slot_size slot.new ≡ slot_size slot.old) × (len copy.new ≡ len copy.old) }
     ensures cause { OnlyReads (S.tally patch.old) (S.tally patch.new) result }
 {
     shape_law();

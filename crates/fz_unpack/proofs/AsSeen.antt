@@ -7,7 +7,7 @@ use Rattle.fz_base.specs.Source.{HoldsLength}
 use Rattle.fz_base.specs.declared.failure.Stop.{Stop}
 use Rattle.fz_block.specs.declared.header.Header.{Header}
 use Rattle.fz_files.specs.Restored.{is_packed_primary, standing}
-use Rattle.fz_head.specs.JobChecks.{is_after_empty}
+use Rattle.fz_checks.specs.JobChecks.{is_after_empty}
 use Rattle.fz_job.specs.declared.survey.Survey.{Survey}
 use Rattle.fz_job.specs.Again.{IsAgain, ReadsAsSeen, WereSeen, was_primary_image}
 use Rattle.fz_job.specs.declared.again.ReadHdu.{ReadHdu}

@@ -15,7 +15,7 @@ use Rattle.fz_tile.specs.Laws.{HasPlainLen}
 use Rattle.fz_tile.specs.Pixels.{IsBitpix}
 use Rattle.fz_tile.specs.Plain.{plain_bytes}
 use Rattle.fz_head.specs.PlainHeader.{plain_header}
-use Rattle.fz_head.specs.declared.job_checks.PackedImage.{PackedImage}
+use Rattle.fz_checks.specs.declared.job_checks.PackedImage.{PackedImage}
 use Rattle.fz_head.specs.declared.plan.Plan.{Plan}
 use Rattle.fz_files.specs.FirstFault.{IsFirstRowFault, rows_of}
 use Rattle.fz_files.specs.Packed.{pixel_bits, zero_filled}

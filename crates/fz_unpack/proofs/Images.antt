@@ -9,11 +9,11 @@ use Rattle.fz_block.specs.Hdus.{cards_of, hdu_bytes, header_bytes}
 use Rattle.fz_block.specs.Walk.{hdu_of}
 use Rattle.fz_block.specs.declared.header.Header.{Header}
 use Rattle.fz_table.specs.Tables.{table_in}
-use Rattle.fz_head.specs.JobChecks.{image_in, image_to_unpack, unpack_checks}
+use Rattle.fz_checks.specs.JobChecks.{image_in, image_to_unpack, unpack_checks}
 use Rattle.fz_head.specs.Packable.{is_packed}
 use Rattle.fz_head.specs.PackedPlan.{plan_of_cards}
 use Rattle.fz_head.specs.PlainHeader.{plain_header, was_primary}
-use Rattle.fz_head.specs.declared.job_checks.PackedImage.{PackedImage}
+use Rattle.fz_checks.specs.declared.job_checks.PackedImage.{PackedImage}
 use Rattle.fz_files.specs.Restored.{StandsForAs, header_in, is_image, is_packed_primary}
 use Rattle.fz_job.specs.Images.{IsSaid}
 use Rattle.fz_job.specs.Again.{IsAgain, header_at_front, was_primary_image}

@@ -2,9 +2,9 @@
 use Rattle.std.proofs.Common.{◌≡◌, ℕ, Bool, true, if◌then◌else◌, List, ◌∷◌, drop, Some, None, Ok, ap, ◌∙◌}
 use Rattle.fz_block.specs.Hdus.{cards_of, header_bytes}
 use Rattle.fz_block.specs.declared.header.Header.{Header}
-use Rattle.fz_head.specs.JobChecks.{image_in, image_to_unpack}
+use Rattle.fz_checks.specs.JobChecks.{image_in, image_to_unpack}
 use Rattle.fz_head.specs.PlainHeader.{plain_header}
-use Rattle.fz_head.specs.declared.job_checks.PackedImage.{PackedImage}
+use Rattle.fz_checks.specs.declared.job_checks.PackedImage.{PackedImage}
 use Rattle.fz_unpack.specs.Laws.{IsPackedPrimary}
 use Rattle.fz_unpack.proofs.Images.{image_if, primary_said}
 

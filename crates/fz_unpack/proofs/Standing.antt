@@ -4,7 +4,7 @@ use Rattle.std.proofs.lemmas.Bool.Decides.{nat_tests}
 use Rattle.fz_block.specs.Hdus.{cards_of, size_at}
 use Rattle.fz_block.specs.Header.{next_start_of}
 use Rattle.fz_block.specs.declared.header.Header.{Header}
-use Rattle.fz_head.specs.JobChecks.{is_after_empty}
+use Rattle.fz_checks.specs.JobChecks.{is_after_empty}
 use Rattle.fz_head.specs.PlainHeader.{was_primary}
 use Rattle.fz_files.specs.Restored.{header_in, is_image, is_packed_primary}
 use Rattle.fz_job.specs.Surveys.{primary_at}

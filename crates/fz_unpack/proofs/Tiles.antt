@@ -11,7 +11,7 @@ use Rattle.fz_grid.specs.Laws.{JoinedHasTheTiles, JoinedIsArray}
 use Rattle.fz_grid.specs.Region.{IsDivided, lengths_of}
 use Rattle.fz_grid.specs.Whole.{AreTiles, joined}
 use Rattle.fz_tile.specs.Pixels.{IsBitpix}
-use Rattle.fz_head.specs.declared.job_checks.PackedImage.{PackedImage}
+use Rattle.fz_checks.specs.declared.job_checks.PackedImage.{PackedImage}
 use Rattle.fz_head.specs.declared.plan.Plan.{Plan}
 use Rattle.fz_files.specs.FirstFault.{ImageRow, IsFirstRowFault, image_row, rows_of}
 use Rattle.fz_files.specs.Packed.{tiles_in}

@@ -5,7 +5,7 @@ use Rattle.fz_base.specs.declared.fault.Fault.{Fault}
 use Rattle.fz_base.specs.declared.failure.Stop.{Stop}
 use Rattle.fz_block.specs.Header.{next_start_of}
 use Rattle.fz_block.specs.declared.header.Header.{Header}
-use Rattle.fz_head.specs.JobChecks.{is_after_empty}
+use Rattle.fz_checks.specs.JobChecks.{is_after_empty}
 use Rattle.fz_files.specs.FirstFault.{IsFirstRowFault, all_rows}
 use Rattle.fz_files.specs.Restored.{HduStandsFor, HdusStandFor, IsImageOf, standing}
 use Rattle.fz_job.specs.Behind.{HoldsBytes, written_behind}

@@ -2,10 +2,10 @@
 use Rattle.std.specs.Prelude.{ℕ, ◌≡◌, Bool, true, List, ◌∷◌, Option, Ok}
 use Rattle.fz_block.specs.Hdus.{cards_of, header_bytes}
 use Rattle.fz_block.specs.declared.header.Header.{Header}
-use Rattle.fz_head.specs.JobChecks.{image_to_unpack}
+use Rattle.fz_checks.specs.JobChecks.{image_to_unpack}
 use Rattle.fz_head.specs.Packable.{is_packed}
 use Rattle.fz_head.specs.PlainHeader.{plain_header, was_primary}
-use Rattle.fz_head.specs.declared.job_checks.PackedImage.{PackedImage}
+use Rattle.fz_checks.specs.declared.job_checks.PackedImage.{PackedImage}
 
 -- no check refuses the header of a packed primary
 pub record IsPackedPrimary (h : Header) (header : List ℕ) (after_empty : Bool) : Type 0 where

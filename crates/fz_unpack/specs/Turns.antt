@@ -8,7 +8,7 @@ use Rattle.fz_block.specs.declared.header.Header.{Header}
 use Rattle.fz_grid.specs.Arrays.{product}
 use Rattle.fz_grid.specs.Region.{IsDivided, lengths_of}
 use Rattle.fz_tile.specs.Pixels.{IsBitpix}
-use Rattle.fz_head.specs.declared.job_checks.PackedImage.{PackedImage}
+use Rattle.fz_checks.specs.declared.job_checks.PackedImage.{PackedImage}
 use Rattle.fz_head.specs.declared.plan.Plan.{Plan}
 use Rattle.fz_files.specs.Packed.{pixel_bits, tiles_in}
 use Rattle.fz_files.specs.Restored.{pixels_of}

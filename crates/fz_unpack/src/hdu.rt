@@ -42,10 +42,9 @@ pub(crate) fn write_hdu<R: Threads + Sync, S: Source, K: Sink, G: Gate>(
         (λ g. HoldsHdu again.now.header g at end (K.contents sink.old) (K.contents sink.new))) }
     ensures fault { IfRefused result (λ x. IfSome (S.held source.old) (λ g. IsHduFault g again.now.header x)) }
     ensures end { IfOk result (EndsNear again.now.header at) }
-    ensures space { SpaceStays space.old space.new }
-    ensures window { WindowStays window.old window.new }
-    ensures source { SourceStays S.held S.attached S.ranges source.old source.new }
-    ensures sink { SinkStays K.created K.contents sink.old sink.new }
+    ensures stays { SourceStays S.held S.attached S.ranges source.old source.new
+        × SinkStays K.created K.contents sink.old sink.new × SpaceStays space.old space.new
+        × WindowStays window.old window.new }
     ensures row { IfRefused result IsOfSomeRow }
     ensures read { IfSome (S.held source.old) (λ g. LogsIn (data_touched Unpack g again.now.header) (S.ranges source.old) (S.ranges source.new)) }
     ensures cause { Rewrites (S.tally source.old) (S.tally source.new) (K.tally sink.old) (K.tally sink.new) result }

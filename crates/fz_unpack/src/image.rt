@@ -33,9 +33,10 @@ use crate::restore::Restoring;
 use crate::turns::write_by_turns;
 use fz_base::{Gate, Sink, Source, Stop, output_law, ranges_law, write_behind};
 use fz_block::{BLOCK_LEN, Header};
+use fz_checks::PackedImage;
 use fz_fetch::{Ahead, MOST_TILES, ROWS_LEN, fetch_ahead, number_tiles};
 use fz_grid::{Grid, shape_law, tiles_law, volume};
-use fz_head::{PackedImage, Plan, to_plain};
+use fz_head::{Plan, to_plain};
 use fz_job::{Held, Workspace, hdus_law, left_for_last, write_fill, write_pieces};
 use fz_pixels::{scatter_held, scattered_law};
 use fz_pool::{BY_TURNS, Crew, Window};
@@ -78,10 +79,9 @@ pub(crate) fn write_image<R: Threads + Sync, S: Source, K: Sink, G: Gate>(
         (λ g. HoldsImage header.now g at end (K.contents sink.old) (K.contents sink.new))) }
     ensures fault { IfRefused result (λ x. IfSome (S.held source.old) (λ g. IsHduFault g header.now x)) }
     ensures end { IfOk result (λ end. (at < end) × (end ≤ at + 2 ^ 45)) }
-    ensures space { SpaceStays space.old space.new }
-    ensures window { WindowStays window.old window.new }
-    ensures source { SourceStays S.held S.attached S.ranges source.old source.new }
-    ensures sink { SinkStays K.created K.contents sink.old sink.new }
+    ensures stays { SourceStays S.held S.attached S.ranges source.old source.new
+        × SinkStays K.created K.contents sink.old sink.new × SpaceStays space.old space.new
+        × WindowStays window.old window.new }
     ensures row { IfRefused result IsOfSomeRow }
     ensures read { IfSome (S.held source.old) (λ g. LogsIn (image_ranges g header.now) (S.ranges source.old) (S.ranges source.new)) }
     ensures cause { Rewrites (S.tally source.old) (S.tally source.new) (K.tally sink.old) (K.tally sink.new) result }
@@ -122,8 +122,7 @@ fn write_plain_header<K: Sink>(
     ensures header { IfOk result (λ end. HoldsBytes (header_bytes (plain_header (cards_of buf.now))) at end (K.contents sink.old)
         (K.contents sink.new)) }
     ensures end { IfOk result (λ end. (at < end) × (end ≤ at + 2 ^ 20)) }
-    ensures len { len made.new ≡ len made.old }
-    ensures sink { SinkStays K.created K.contents sink.old sink.new }
+    ensures stays { SinkStays K.created K.contents sink.old sink.new × (len made.new ≡ len made.old) }
     ensures cause { Writes (K.tally sink.old) (K.tally sink.new) result }
 {
     let len = to_plain(buf, header, plan, made);
@@ -169,10 +168,9 @@ fn write_tiles<R: Threads + Sync, S: Source, K: Sink, G: Gate>(
     ensures pixels { OnOk result (IfSome (S.held source.old)
         (λ g. HoldsPixels g asked.now.header asked.now.data_at (K.contents sink.old) (K.contents sink.new))) }
     ensures fault { IfRefused result (λ x. IfSome (S.held source.old) (λ g. IsFirstRowFault g (rows_of g asked.now.header) (Some x))) }
-    ensures rows { len rows.new ≡ len rows.old }
-    ensures window { WindowStays window.old window.new }
-    ensures stays { StaysRestoring S.held S.attached S.ranges S.tally K.created K.contents K.tally
-        asked.now.header source.old source.new sink.old sink.new result }
+    ensures stays { WindowStays window.old window.new
+        × StaysRestoring S.held S.attached S.ranges S.tally K.created K.contents K.tally asked.now.header source.old
+        source.new sink.old sink.new result × (len rows.new ≡ len rows.old) }
 {
     scattered_law();
     shape_law();
@@ -201,10 +199,9 @@ fn write_gathered<R: Threads + Sync, S: Source, K: Sink, G: Gate>(
         (λ g. AreWrittenTiles g asked.now.header asked.now.image.plan asked.now.data_at (range_with_len 0 asked.now.tiles) (K.contents sink.old)
         (K.contents sink.new))) }
     ensures fault { IfRefused result (λ x. IfSome (S.held source.old) (λ g. IsFirstRowFault g (rows_of g asked.now.header) (Some x))) }
-    ensures copy { len copy.new ≡ len copy.old }
-    ensures window { WindowStays window.old window.new }
-    ensures stays { StaysRestoring S.held S.attached S.ranges S.tally K.created K.contents K.tally
-        asked.now.header source.old source.new sink.old sink.new result }
+    ensures stays { WindowStays window.old window.new
+        × StaysRestoring S.held S.attached S.ranges S.tally K.created K.contents K.tally asked.now.header source.old
+        source.new sink.old sink.new result × (len copy.new ≡ len copy.old) }
 {
     let half = ROWS_LEN + (copy.len() - ROWS_LEN) / 2;
     let (buf, held) = copy.split_at_mut(half);
@@ -233,11 +230,9 @@ fn write_rounds<R: Threads + Sync, S: Source, K: Sink, G: Gate>(
         (settled back.old held.old (K.contents sink.old)) (settled back.new held.new (K.contents sink.new)))) }
     ensures kept { OnOk result (IsHeld back.new held.new) }
     ensures fault { IfRefused result (λ x. IfSome (S.held source.old) (λ g. IsFirstRowFault g (rows_of g asked.now.header) (Some x))) }
-    ensures buffer { len buf.new ≡ len buf.old }
-    ensures room { len held.new ≡ len held.old }
-    ensures window { WindowStays window.old window.new }
-    ensures stays { StaysRestoring S.held S.attached S.ranges S.tally K.created K.contents K.tally
-        asked.now.header source.old source.new sink.old sink.new result }
+    ensures stays { WindowStays window.old window.new
+        × StaysRestoring S.held S.attached S.ranges S.tally K.created K.contents K.tally asked.now.header source.old
+        source.new sink.old sink.new result × (len buf.new ≡ len buf.old) × (len held.new ≡ len held.old) }
 {
     ranges_law();
     scattered_law();
@@ -284,11 +279,9 @@ fn write_round<R: Threads + Sync, S: Source, K: Sink, G: Gate>(
     ensures fault { IfRefused result (λ x. IfSome (S.held source.old)
         (λ g. IsFirstRowFault g (map (image_row asked.now.header) (range_with_len round.old.first round.old.count)) (Some x))) }
     ensures ahead { IsAhead (S.held source.new) asked.now.image.table buf.new round.new.ahead }
-    ensures buffer { len buf.new ≡ len buf.old }
-    ensures room { len held.new ≡ len held.old }
-    ensures window { WindowStays window.old window.new }
-    ensures stays { StaysRestoring S.held S.attached S.ranges S.tally K.created K.contents K.tally
-        asked.now.header source.old source.new sink.old sink.new result }
+    ensures stays { WindowStays window.old window.new
+        × StaysRestoring S.held S.attached S.ranges S.tally K.created K.contents K.tally asked.now.header source.old
+        source.new sink.old sink.new result × (len buf.new ≡ len buf.old) × (len held.new ≡ len held.old) }
 {
     hdus_law();
     let mut numbers = [0; MOST_TILES];

@@ -1,7 +1,7 @@
 //! What the tiles of an image are restored with.
 
 use fz_block::Header;
-use fz_head::PackedImage;
+use fz_checks::PackedImage;
 use fz_pool::Crew;
 
 /// An image that is restored, and by whom.

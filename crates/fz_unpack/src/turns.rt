@@ -59,10 +59,9 @@ pub(crate) fn write_by_turns<R: Threads + Sync, S: Source, K: Sink, G: Gate>(
         (λ g. AreWrittenTiles g asked.now.header asked.now.image.plan asked.now.data_at (range_with_len 0 asked.now.tiles) (K.contents sink.old)
         (K.contents sink.new))) }
     ensures fault { IfRefused result (λ x. IfSome (S.held source.old) (λ g. IsFirstRowFault g (rows_of g asked.now.header) (Some x))) }
-    ensures rows { len rows.new ≡ len rows.old }
-    ensures window { WindowStays window.old window.new }
-    ensures stays { StaysRestoring S.held S.attached S.ranges S.tally K.created K.contents K.tally
-        asked.now.header source.old source.new sink.old sink.new result }
+    ensures stays { WindowStays window.old window.new
+        × StaysRestoring S.held S.attached S.ranges S.tally K.created K.contents K.tally asked.now.header source.old
+        source.new sink.old sink.new result × (len rows.new ≡ len rows.old) }
 {
     halves_law();
     sizes_law();
@@ -91,11 +90,10 @@ fn write_turns<R: Threads + Sync, S: Source, K: Sink, G: Gate>(
         (λ g. AreWrittenTiles g asked.now.header asked.now.image.plan asked.now.data_at (range_with_len 0 asked.now.tiles) (K.contents sink.old)
         (K.contents sink.new))) }
     ensures fault { IfRefused result (λ x. IfSome (S.held source.old) (λ g. IsFirstRowFault g (rows_of g asked.now.header) (Some x))) }
-    ensures rows { len rows.new ≡ len rows.old }
-    ensures stays { StaysRestoring S.held S.attached S.ranges S.tally K.created K.contents K.tally
-        asked.now.header source.old source.new sink.old sink.new result }
     ensures windows { (size : ℕ × ℕ) → AreAlike size first.old → AreAlike size second.old → AreAlike size first.new × AreAlike size second.new }
-    ensures workers { first.new.workers + second.new.workers ≡ first.old.workers + second.old.workers }
+    ensures stays { StaysRestoring S.held S.attached S.ranges S.tally K.created K.contents K.tally asked.now.header
+        source.old source.new sink.old sink.new result × (len rows.new ≡ len rows.old)
+        × (first.new.workers + second.new.workers ≡ first.old.workers + second.old.workers) }
 {
     ranges_law();
     scattered_law();
@@ -132,11 +130,10 @@ fn take_turn<R: Threads + Sync, S: Source, K: Sink, G: Gate>(
     ensures turn { OnOk result ((turn.new.written ≡ turn.old.written + turn.old.decoded) × (turn.new.written < asked.now.tiles → 0 < turn.new.decoded)) }
     ensures fault { IfRefused result (λ x. IfSome (S.held source.old) (λ g. (more : ℕ) × (turn.old.written + more ≤ asked.now.tiles)
         × IsFirstRowFault g (map (image_row asked.now.header) (range_with_len turn.old.written more)) (Some x))) }
-    ensures rows { len rows.new ≡ len rows.old }
-    ensures stays { StaysRestoring S.held S.attached S.ranges S.tally K.created K.contents K.tally
-        asked.now.header source.old source.new sink.old sink.new result }
     ensures windows { (size : ℕ × ℕ) → AreAlike size first.old → AreAlike size second.old → AreAlike size first.new × AreAlike size second.new }
-    ensures workers { first.new.workers + second.new.workers ≡ first.old.workers + second.old.workers }
+    ensures stays { StaysRestoring S.held S.attached S.ranges S.tally K.created K.contents K.tally asked.now.header
+        source.old source.new sink.old sink.new result × (len rows.new ≡ len rows.old)
+        × (first.new.workers + second.new.workers ≡ first.old.workers + second.old.workers) }
 {
     let next = turn.written + turn.decoded;
     let count = (2 * first.workers()).min(asked.tiles - next);
@@ -180,10 +177,9 @@ fn fetch_and_scatter<R: Threads + Sync, S: Source, K: Sink, G: Gate>(
     ensures fault { TellsRowFault (S.held source.old) asked.now.header step.now.fetching.now result }
     ensures scattered { HasScattered asked.now.image.plan asked.now.data_at step.now.scattering.now second.old second.new (K.created sink.old)
         (K.created sink.new) (K.contents sink.old) (K.contents sink.new) result }
-    ensures first { WindowStays first.old first.new }
-    ensures rows { len rows.new ≡ len rows.old }
     ensures row { IfRefused result IsOfSomeRow }
-    ensures source { SourceStays S.held S.attached S.ranges source.old source.new }
+    ensures stays { SourceStays S.held S.attached S.ranges source.old source.new × WindowStays first.old first.new
+        × (len rows.new ≡ len rows.old) }
     ensures read { IfSome (S.held source.old) (λ g. LogsIn (image_ranges g asked.now.header) (S.ranges source.old) (S.ranges source.new)) }
     ensures cause { Rewrites (S.tally source.old) (S.tally source.new) (K.tally sink.old) (K.tally sink.new) result }
 {

@@ -10,7 +10,7 @@ use Rattle.fz_base.specs.declared.fault.Fault.{Fault}
 use Rattle.fz_base.specs.declared.failure.Stop.{Stop}
 use Rattle.fz_base.specs.declared.failure.Stop.TheVariants.{Refused, ReadFault, WriteFault, OverLimit, NoMemory}
 use Rattle.fz_block.specs.declared.header.Header.{Header}
-use Rattle.fz_head.specs.declared.job_checks.PackedImage.{PackedImage}
+use Rattle.fz_checks.specs.declared.job_checks.PackedImage.{PackedImage}
 use Rattle.fz_job.specs.Images.{IsSaid}
 use Rattle.fz_files.specs.FirstFault.{IsFirstRowFault, rows_of}
 use Rattle.fz_files.specs.Lines.{has_wrong_sum, is_wrong, verify_line}

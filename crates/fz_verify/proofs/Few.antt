@@ -15,7 +15,7 @@ use Rattle.fz_block.specs.Hdus.{axes_of, naxis_of}
 use Rattle.fz_block.specs.Mandatory.{axis_checks, bitpix_check, count_checks, extension_checks, is_size, must, naxis_checks}
 use Rattle.fz_block.specs.declared.header.Header.{Header}
 use Rattle.fz_grid.specs.Region.{IsDivided}
-use Rattle.fz_head.specs.declared.job_checks.PackedImage.{PackedImage}
+use Rattle.fz_checks.specs.declared.job_checks.PackedImage.{PackedImage}
 use Rattle.fz_job.specs.Again.{IsAgain, IsUsable, header_at_front}
 use Rattle.fz_job.specs.declared.again.ReadHdu.{ReadHdu}
 use Rattle.fz_verify.proofs.Flags.{axes_are}

@@ -6,7 +6,7 @@ use Rattle.fz_base.specs.Source.{LogsWithin}
 use Rattle.fz_block.specs.Checks.{header_touched}
 use Rattle.fz_block.specs.Header.{data_start_of, next_start_of}
 use Rattle.fz_block.specs.declared.header.Header.{Header}
-use Rattle.fz_head.specs.declared.job_checks.PackedImage.{PackedImage}
+use Rattle.fz_checks.specs.declared.job_checks.PackedImage.{PackedImage}
 use Rattle.fz_files.specs.Reads.{header_ranges}
 use Rattle.fz_files.specs.Walks.{header_fault}
 use Rattle.fz_files.specs.declared.job.Job.TheVariants.{Verify}

@@ -5,7 +5,7 @@ use Rattle.std.specs.List.{flat_map, list_all}
 use Rattle.std.proofs.lemmas.Grind.{flat_map-append}
 use Rattle.std.proofs.lemmas.List.{append-nil, length-append}
 use Rattle.fz_base.specs.Sink.{MayAppend, appended}
-use Rattle.fz_head.specs.declared.job_checks.PackedImage.{PackedImage}
+use Rattle.fz_checks.specs.declared.job_checks.PackedImage.{PackedImage}
 use Rattle.fz_files.specs.Packed.{tiles_in}
 use Rattle.fz_verify.specs.Lines.{verdicts_text}
 use Rattle.fz_verify.specs.Reported.{AreNumbered, Grew, Reported, Reports, ReportsFrom, is_right, reported_line}

@@ -10,8 +10,8 @@ use Rattle.fz_base.specs.declared.kind.Kind.TheVariants.{DescriptorRange, TileSi
 use Rattle.fz_base.specs.declared.fault.Fault.{Fault}
 use Rattle.fz_block.specs.Checks.{unless_refused}
 use Rattle.fz_block.specs.declared.header.Header.{Header}
-use Rattle.fz_head.specs.JobChecks.{image_to_unpack, is_after_empty}
-use Rattle.fz_head.specs.declared.job_checks.PackedImage.{PackedImage}
+use Rattle.fz_checks.specs.JobChecks.{image_to_unpack, is_after_empty}
+use Rattle.fz_checks.specs.declared.job_checks.PackedImage.{PackedImage}
 use Rattle.fz_table.specs.Records.{chosen_column, chosen_record, described_in, has_none, is_plain, missing_kind, record_of, unit_in}
 use Rattle.fz_table.specs.Rows.{row_at}
 use Rattle.fz_table.specs.declared.array.Descriptor.{Descriptor}

@@ -8,9 +8,9 @@ use Rattle.fz_base.specs.Source.{Reads}
 use Rattle.fz_base.specs.declared.fault.Fault.{Fault}
 use Rattle.fz_block.specs.Checks.{unless_refused}
 use Rattle.fz_block.specs.declared.header.Header.{Header}
-use Rattle.fz_head.specs.JobChecks.{image_in, image_to_unpack, unpack_checks}
+use Rattle.fz_checks.specs.JobChecks.{image_in, image_to_unpack, unpack_checks}
 use Rattle.fz_head.specs.Packable.{is_packed}
-use Rattle.fz_head.specs.declared.job_checks.PackedImage.{PackedImage}
+use Rattle.fz_checks.specs.declared.job_checks.PackedImage.{PackedImage}
 use Rattle.fz_job.specs.Images.{IsSaid}
 use Rattle.fz_files.specs.Lines.{list_line, other_text, packed_text, sizes_text, tiles_text, verdict_word, verify_line}
 use Rattle.fz_files.specs.Packed.{tiles_in}

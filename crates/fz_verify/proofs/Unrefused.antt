@@ -13,7 +13,7 @@ use Rattle.fz_tile.specs.Laws.{StandsUnrefused}
 use Rattle.fz_tile.specs.Pixels.{IsBitpix}
 use Rattle.fz_tile.specs.Refusals.{IsFault}
 use Rattle.fz_tile.specs.declared.codec.Codec.{Codec}
-use Rattle.fz_head.specs.JobChecks.{IsImageOf, image_in, image_to_unpack, unpack_checks}
+use Rattle.fz_checks.specs.JobChecks.{IsImageOf, image_in, image_to_unpack, unpack_checks}
 use Rattle.fz_head.specs.Packable.{is_packed}
 use Rattle.fz_head.specs.declared.plan.Plan.{Plan}
 use Rattle.fz_files.specs.FirstFault.{ImageRow, IsRowFault, IsRowSound, image_row}

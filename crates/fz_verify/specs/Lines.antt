@@ -1,7 +1,7 @@
 -- The line of an HDU, by what was read of its header and judged of its sums (FITS 4.0, sections 4.4.1, 4.4.2.7 and 7).
 use Rattle.std.specs.Prelude.{ℕ, List, ◌++◌, codes, decimal, Option, Some, None}
 use Rattle.fz_block.specs.declared.header.Header.{Header}
-use Rattle.fz_head.specs.declared.job_checks.PackedImage.{PackedImage}
+use Rattle.fz_checks.specs.declared.job_checks.PackedImage.{PackedImage}
 use Rattle.fz_files.specs.Lines.{other_text, packed_text, sizes_text, verdict_word}
 use Rattle.fz_files.specs.Packed.{tiles_in}
 use Rattle.fz_verify.specs.declared.sums.Verdicts.{Verdicts}

@@ -3,7 +3,7 @@ use Rattle.std.specs.Prelude.{ℕ, ◌≡◌, Bool, true, List, [], ◌∷◌, S
 use Rattle.fz_base.specs.declared.fault.Fault.{Fault}
 use Rattle.fz_block.specs.declared.header.Header.{Header}
 use Rattle.fz_block.specs.Facts.{IsHeaderOf}
-use Rattle.fz_head.specs.JobChecks.{image_to_unpack}
+use Rattle.fz_checks.specs.JobChecks.{image_to_unpack}
 use Rattle.fz_files.specs.FirstFault.{IsFirstRowFault, IsRowFault, IsRowSound, all_rows, image_row}
 use Rattle.fz_files.specs.Restored.{header_in, is_image}
 

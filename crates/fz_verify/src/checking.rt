@@ -57,11 +57,9 @@ pub(crate) fn verify_hdus<R: Threads + Sync, S: Source, T: Text, G: Gate>(
     ensures reported { IfOk result (Reports (T.contents text.old) (T.contents text.new)) }
     ensures grown { Grew (T.contents text.old) (T.contents text.new) }
     ensures late { IfRefused result (ComesLate Verify) }
-    ensures space { SpaceStays space.old space.new }
-    ensures window { WindowStays window.old window.new }
-    ensures source { SourceStays S.held S.attached S.ranges source.old source.new }
     ensures read { IfSome (S.held source.old) (λ g. ReadsHdus Verify g survey.now (S.ranges source.old) (S.ranges source.new)) }
-    ensures told_contents { StaysTold (T.contents text.old) (T.contents text.new) }
+    ensures stays { SourceStays S.held S.attached S.ranges source.old source.new × SpaceStays space.old space.new
+        × WindowStays window.old window.new × StaysTold (T.contents text.old) (T.contents text.new) }
     ensures cause { Rewrites (S.tally source.old) (S.tally source.new) (T.tally text.old) (T.tally text.new) result }
 {
     none_refused_law();
@@ -117,11 +115,9 @@ fn print_verified<R: Threads + Sync, S: Source, T: Text, G: Gate>(
     ensures reported { IfOk result (ReportsFrom again.now.header.hdu 1 (T.contents text.old) (T.contents text.new)) }
     ensures grown { Grew (T.contents text.old) (T.contents text.new) }
     ensures row { IfRefused result IsOfSomeRow }
-    ensures space { SpaceStays space.old space.new }
-    ensures window { WindowStays window.old window.new }
-    ensures source { SourceStays S.held S.attached S.ranges source.old source.new }
     ensures read { IfSome (S.held source.old) (λ g. LogsIn (data_touched Verify g again.now.header) (S.ranges source.old) (S.ranges source.new)) }
-    ensures told_contents { StaysTold (T.contents text.old) (T.contents text.new) }
+    ensures stays { SourceStays S.held S.attached S.ranges source.old source.new × SpaceStays space.old space.new
+        × WindowStays window.old window.new × StaysTold (T.contents text.old) (T.contents text.new) }
     ensures cause { Rewrites (S.tally source.old) (S.tally source.new) (T.tally text.old) (T.tally text.new) result }
 {
     let verdicts = verify_hdu(crew, source, window, again, space, decoded)?;

@@ -39,9 +39,8 @@ pub(crate) fn verify_hdu<R: Threads + Sync, S: Source, G: Gate>(
     ensures verdicts { IfOk result (λ v. IfSome (S.held source.old) (λ g. AreVerdictsOn g again.now.header v × IsHduSound g again.now.header)) }
     ensures fault { IfRefused result (λ x. IfSome (S.held source.old) (λ g. IsHduFault g again.now.header x)) }
     ensures row { IfRefused result IsOfSomeRow }
-    ensures space { SpaceStays space.old space.new }
-    ensures window { WindowStays window.old window.new }
-    ensures source { SourceStays S.held S.attached S.ranges source.old source.new }
+    ensures stays { SourceStays S.held S.attached S.ranges source.old source.new × SpaceStays space.old space.new
+        × WindowStays window.old window.new }
     ensures read { IfSome (S.held source.old) (λ g. LogsIn (data_touched Verify g again.now.header) (S.ranges source.old) (S.ranges source.new)) }
     ensures cause { Fetches (S.tally source.old) (S.tally source.new) result }
 {
@@ -69,9 +68,8 @@ fn decode_hdu<R: Threads + Sync, S: Source, G: Gate>(
     ensures sound { OnOk result (IfSome (S.held source.old) (λ g. IsHduSound g again.now.header)) }
     ensures fault { IfRefused result (λ x. IfSome (S.held source.old) (λ g. IsHduFault g again.now.header x)) }
     ensures row { IfRefused result IsOfSomeRow }
-    ensures rows { len rows.new ≡ len rows.old }
-    ensures window { WindowStays window.old window.new }
-    ensures source { SourceStays S.held S.attached S.ranges source.old source.new }
+    ensures stays { SourceStays S.held S.attached S.ranges source.old source.new × WindowStays window.old window.new
+        × (len rows.new ≡ len rows.old) }
     ensures read { IfSome (S.held source.old) (λ g. LogsIn (data_touched Verify g again.now.header) (S.ranges source.old) (S.ranges source.new)) }
     ensures cause { Fetches (S.tally source.old) (S.tally source.new) result }
 {

@@ -1,7 +1,7 @@
 //! What the rows of a packed image are: no code runs.
 ghost use Rattle.fz_verify.specs.Rows.{SoundRowsAreNotRefused};
 
-use fz_head::packed_image_law;
+use fz_checks::packed_image_law;
 use fz_tile::one_fault_law;
 
 /// No row of a packed image that stands for pixels is refused.

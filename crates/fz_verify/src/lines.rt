@@ -14,8 +14,9 @@ use crate::sums::Verdicts;
 use arrayvec::ArrayString;
 use fz_base::{Stop, Text};
 use fz_block::{Axes, BLOCK_LEN, Header, Sort, data_start, next_start};
+use fz_checks::PackedImage;
 use fz_grid::Grid;
-use fz_head::{PackedImage, Plan, codec_name};
+use fz_head::{Plan, codec_name};
 use fz_sum::Verdict;
 use itoa::Buffer;
 

@@ -55,8 +55,8 @@ pub fn list<S: Source, T: Text>(
     ensures unread { meter.old.limit < 2880 → S.ranges source.new ≡ S.ranges source.old }
     ensures kept { KeepsSource (S.held source.old) (S.held source.new) (S.attached source.old) (S.attached source.new)
         (S.tally source.old) (S.tally source.new) (T.tally text.old) (T.tally text.new) }
-    ensures told_ranges { StaysTold (S.ranges source.old) (S.ranges source.new) }
-    ensures told_contents { StaysTold (T.contents text.old) (T.contents text.new) }
+    ensures stays { StaysTold (S.ranges source.old) (S.ranges source.new)
+        × StaysTold (T.contents text.old) (T.contents text.new) }
 {
     // How the promises of the job follow from its stages.
     stages_law::<()>();
@@ -87,10 +87,9 @@ fn list_with_block<S: Source, T: Text>(
     ensures exact_peak { OnOk result (IfSome (S.held source.old) (λ g. meter.new.peak ≡ max meter.old.peak (highest (later_takings ListHdus g 1)))) }
     ensures most { TellsLimit meter.old.limit (greatest_bound ListHdus 1) result }
     ensures peak_most { meter.new.peak ≤ max meter.old.peak (greatest_bound ListHdus 1) }
-    ensures live { meter.new.live ≡ meter.old.live }
-    ensures limit { meter.new.limit ≡ meter.old.limit }
-    ensures source { SourceStays S.held S.attached S.ranges source.old source.new }
-    ensures told_contents { StaysTold (T.contents text.old) (T.contents text.new) }
+    ensures stays { SourceStays S.held S.attached S.ranges source.old source.new
+        × StaysTold (T.contents text.old) (T.contents text.new) × (meter.new.live ≡ meter.old.live)
+        × (meter.new.limit ≡ meter.old.limit) }
     ensures cause { Works (S.tally source.old) (S.tally source.new) (T.tally text.old) (T.tally text.new) meter.old.limit result }
     ensures touched { IfSome (S.held source.old) (λ g. LogsIn (header_ranges ListHdus g) (S.ranges source.old) (S.ranges source.new)) }
 {
@@ -123,12 +122,11 @@ fn list_seen<S: Source, T: Text>(
         → (T.contents text.new ≡ T.contents text.old) × (T.tally text.new ≡ T.tally text.old) }
     ensures peak { meter.new.peak ≤ max meter.old.peak (meter.old.live + sum (wanted_buffers (wants_for ListHdus survey.now) 1)) }
     ensures exact_peak { OnOk result (meter.new.peak ≡ max meter.old.peak (meter.old.live + sum (wanted_buffers (wants_for ListHdus survey.now) 1))) }
-    ensures live { meter.new.live ≡ meter.old.live }
-    ensures limit { meter.new.limit ≡ meter.old.limit }
     ensures changed { IfRefused result IsChanged }
     ensures read { IfSome (S.held source.old) (λ g. ReadsHeaders g survey.now (S.ranges source.old) (S.ranges source.new)) }
-    ensures source { SourceStays S.held S.attached S.ranges source.old source.new }
-    ensures told_contents { StaysTold (T.contents text.old) (T.contents text.new) }
+    ensures stays { SourceStays S.held S.attached S.ranges source.old source.new
+        × StaysTold (T.contents text.old) (T.contents text.new) × (meter.new.live ≡ meter.old.live)
+        × (meter.new.limit ≡ meter.old.limit) }
     ensures cause { Works (S.tally source.old) (S.tally source.new) (T.tally text.old) (T.tally text.new) meter.old.limit result }
 {
     // How the promises of the job follow from its stages.

@@ -34,9 +34,8 @@ pub(crate) fn list_hdus<S: Source, T: Text>(
     ensures grown { Grew (T.contents text.old) (T.contents text.new) }
     ensures changed { IfRefused result IsChanged }
     ensures read { IfSome (S.held source.old) (λ g. ReadsHeaders g survey.now (S.ranges source.old) (S.ranges source.new)) }
-    ensures buf { len buf.new ≡ len buf.old }
-    ensures source { SourceStays S.held S.attached S.ranges source.old source.new }
-    ensures told_contents { StaysTold (T.contents text.old) (T.contents text.new) }
+    ensures stays { SourceStays S.held S.attached S.ranges source.old source.new
+        × StaysTold (T.contents text.old) (T.contents text.new) × (len buf.new ≡ len buf.old) }
     ensures cause { Rewrites (S.tally source.old) (S.tally source.new) (T.tally text.old) (T.tally text.new) result }
 {
     ranges_law();

@@ -56,8 +56,7 @@ pub(crate) fn judge_sums<S: Source>(
     requires read { Reads (S.held source.old) header.now.start buf.now }
     requires copy { 0 < len copy.old }
     ensures verdicts { IfOk result (λ v. IfSome (S.held source.old) (λ g. AreVerdictsOn g header.now v)) }
-    ensures copy { len copy.new ≡ len copy.old }
-    ensures source { SourceStays S.held S.attached S.ranges source.old source.new }
+    ensures stays { SourceStays S.held S.attached S.ranges source.old source.new × (len copy.new ≡ len copy.old) }
     ensures read { LogsWithin (data_start_of header.now) (next_start_of header.now) (S.ranges source.old) (S.ranges source.new) }
     ensures cause { OnlyReads (S.tally source.old) (S.tally source.new) result }
 {
@@ -84,8 +83,7 @@ fn add_data<S: Source>(
     requires sum { sum.old ≡ nothing }
     ensures added { OnOk result (IfSome (S.held source.old) (λ g. HasAdded (hdu_of g header.now).payload sum.new)) }
     ensures few { OnOk result (sum.new.count ≤ 2 ^ 62) }
-    ensures copy { len copy.new ≡ len copy.old }
-    ensures source { SourceStays S.held S.attached S.ranges source.old source.new }
+    ensures stays { SourceStays S.held S.attached S.ranges source.old source.new × (len copy.new ≡ len copy.old) }
     ensures read { LogsWithin (data_start_of header.now) (next_start_of header.now) (S.ranges source.old) (S.ranges source.new) }
     ensures cause { OnlyReads (S.tally source.old) (S.tally source.new) result }
 {

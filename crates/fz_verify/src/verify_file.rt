@@ -75,8 +75,8 @@ pub fn verify<R: Threads + Sync, S: Source, T: Text, G: Gate>(
     ensures unread { meter.old.limit < 2880 → S.ranges source.new ≡ S.ranges source.old }
     ensures kept { KeepsSource (S.held source.old) (S.held source.new) (S.attached source.old) (S.attached source.new)
         (S.tally source.old) (S.tally source.new) (T.tally text.old) (T.tally text.new) }
-    ensures told_ranges { StaysTold (S.ranges source.old) (S.ranges source.new) }
-    ensures told_contents { StaysTold (T.contents text.old) (T.contents text.new) }
+    ensures stays { StaysTold (S.ranges source.old) (S.ranges source.new)
+        × StaysTold (T.contents text.old) (T.contents text.new) }
 {
     let workers = window.workers();
     let crew = Crew { rt, gate, workers };
@@ -145,12 +145,11 @@ fn verify_with_block<R: Threads + Sync, S: Source, T: Text, G: Gate>(
     ensures exact_peak { OnOk result (IfSome (S.held source.old) (λ g. meter.new.peak ≡ max meter.old.peak (highest (later_takings Verify g 1)))) }
     ensures most { TellsLimit meter.old.limit (greatest_bound Verify 1) result }
     ensures peak_most { meter.new.peak ≤ max meter.old.peak (greatest_bound Verify 1) }
-    ensures live { meter.new.live ≡ meter.old.live }
-    ensures limit { meter.new.limit ≡ meter.old.limit }
     ensures emptied { window.new ≡ record { slots = []; workers = window.old.workers } }
-    ensures source { SourceStays S.held S.attached S.ranges source.old source.new }
     ensures touched { IfSome (S.held source.old) (λ g. LogsIn (touched_by Verify g) (S.ranges source.old) (S.ranges source.new)) }
-    ensures told_contents { StaysTold (T.contents text.old) (T.contents text.new) }
+    ensures stays { SourceStays S.held S.attached S.ranges source.old source.new
+        × StaysTold (T.contents text.old) (T.contents text.new) × (meter.new.live ≡ meter.old.live)
+        × (meter.new.limit ≡ meter.old.limit) }
     ensures cause { Works (S.tally source.old) (S.tally source.new) (T.tally text.old) (T.tally text.new) meter.old.limit result }
 {
     // What the survey reads and says of the file, and what follows from it for the job.
@@ -189,13 +188,12 @@ fn verify_seen<R: Threads + Sync, S: Source, T: Text, G: Gate>(
     ensures peak { meter.new.peak ≤ max meter.old.peak (meter.old.live + sum (wanted_buffers (wants_for Verify survey.now) window.old.workers)) }
     ensures exact_peak { OnOk result (meter.new.peak ≡ max meter.old.peak
         (meter.old.live + sum (wanted_buffers (wants_for Verify survey.now) window.old.workers))) }
-    ensures live { meter.new.live ≡ meter.old.live }
-    ensures limit { meter.new.limit ≡ meter.old.limit }
     ensures emptied { window.new ≡ record { slots = []; workers = window.old.workers } }
     ensures late { IfRefused result (ComesLate Verify) }
-    ensures source { SourceStays S.held S.attached S.ranges source.old source.new }
     ensures read { IfSome (S.held source.old) (λ g. ReadsHdus Verify g survey.now (S.ranges source.old) (S.ranges source.new)) }
-    ensures told_contents { StaysTold (T.contents text.old) (T.contents text.new) }
+    ensures stays { SourceStays S.held S.attached S.ranges source.old source.new
+        × StaysTold (T.contents text.old) (T.contents text.new) × (meter.new.live ≡ meter.old.live)
+        × (meter.new.limit ≡ meter.old.limit) }
     ensures cause { Works (S.tally source.old) (S.tally source.new) (T.tally text.old) (T.tally text.new) meter.old.limit result }
 {
     // How long the slots are that were filled, and that what was taken comes back.

@@ -11,13 +11,13 @@ use Rattle.fz_app.proofs.patch_words.patch_asked.Goals as goal
 pub returns-in_err-length-clause-ends : goal.returns-in_err-length-clause-ends
 returns-in_err-length-clause-ends g c =
     unopened (patch_asked_of c.args.request.now) _ _ _ _ _ _ _ c.args.meter.now _ c.from_residual.result c.in_err-length.field-0.0 (search rules)
-    c.attach_both.ensures.held.0 c.narrow.ensures c.in_err-length.ensures.cause c.in_err-length.ensures.names c.requires.unused.0
+    c.attach_both.ensures.stays.0.0 c.narrow.ensures c.in_err-length.ensures.cause c.in_err-length.ensures.names c.requires.unused.0
 
 pub returns-clause-ends : goal.returns-clause-ends
 returns-clause-ends g c =
     let asked : PatchAsked = patch_asked_of c.args.request.now in
-    let held : g.D.Source.held c.attach_both.new.store ≡ g.D.Source.held c.args.store.now = c.attach_both.ensures.held.0 in
-    let given : g.S.Source.held c.attach_both.new.patch ≡ g.S.Source.held c.args.patch.now = c.attach_both.ensures.held.1 in
+    let held : g.D.Source.held c.attach_both.new.store ≡ g.D.Source.held c.args.store.now = c.attach_both.ensures.stays.0.0 in
+    let given : g.S.Source.held c.attach_both.new.patch ≡ g.S.Source.held c.args.patch.now = c.attach_both.ensures.stays.0.1 in
     let meter : c.narrow.new.self ≡ narrowed c.args.meter.now c.args.request.now.memory = c.narrow.ensures in
     let job : job_at c.args.request.now.hdu (take c.args.request.now.at.n c.corner_of-corner.result) ≡ job_asked asked = λ i. record { wanted = c.args.request.now.hdu; corner = c.corner_of-corner.ensures i } in
     attached asked (g.D.Source.held c.args.store.now) (g.D.Source.held c.patch.new.store) (g.S.Source.held c.args.patch.now)
@@ -37,9 +37,9 @@ returns-clause-ends g c =
     })
 
 pub returns-in_err-length-clause-unread : goal.returns-in_err-length-clause-unread
-returns-in_err-length-clause-unread g c = λ low. c.attach_both.ensures.ranges
+returns-in_err-length-clause-unread g c = λ low. c.attach_both.ensures.stays.1
 
 pub returns-clause-unread : goal.returns-clause-unread
 returns-clause-unread g c = λ low.
     let unread = c.patch.ensures.unread (subst (λ (m : Gauge). m.limit < 2880) (sym c.narrow.ensures) low) in
-    (unread.0 ∙ c.attach_both.ensures.ranges.0, unread.1 ∙ c.attach_both.ensures.ranges.1)
+    (unread.0 ∙ c.attach_both.ensures.stays.1.0, unread.1 ∙ c.attach_both.ensures.stays.1.1)

@@ -19,8 +19,8 @@ use Rattle.fz_app.proofs.run_job.run_list.Goals as goal
 pub returns : goal.returns
 returns g c = record {
   promised = λ sink empty.
-      let held : g.S.Source.held c.attach.new.source ≡ g.S.Source.held c.args.source.now = c.attach.ensures.held in
-      let ranges : g.S.Source.ranges c.attach.new.source ≡ g.S.Source.ranges c.args.source.now = c.attach.ensures.ranges in
+      let held : g.S.Source.held c.attach.new.source ≡ g.S.Source.held c.args.source.now = c.attach.ensures.stays.0 in
+      let ranges : g.S.Source.ranges c.attach.new.source ≡ g.S.Source.ranges c.args.source.now = c.attach.ensures.stays.1 in
       let tally : nameless (g.S.Source.tally c.attach.new.source) ≡ nameless (g.S.Source.tally c.args.source.now) = c.in_ok-length.ensures.cause.ok in
       let meter : c.attach.new.meter ≡ narrowed c.args.meter.now c.args.request.now.memory = c.attach.ensures.narrowed in
       let limit : c.attach.new.meter.limit ≡ min c.args.meter.now.limit c.args.request.now.memory = ap (λ (m : Gauge). m.limit) meter in
@@ -44,8 +44,8 @@ returns g c = record {
         most = rw none at c.list.ensures.buffers.most;
         held_is = rw held at c.list.ensures.kept.held_is;
         touched = rw (held, ranges) at c.list.ensures.touched;
-        told_ranges = rw ranges at c.list.ensures.told_ranges;
-        told = c.list.ensures.told_contents;
+        told_ranges = rw ranges at c.list.ensures.stays.0;
+        told = c.list.ensures.stays.1;
         source_counts = kept_from (g.S.Source.tally c.args.source.now) (g.S.Source.tally c.attach.new.source) (g.S.Source.tally c.list.new.source) tally c.list.ensures.kept.source_counts;
         text_counts = c.list.ensures.kept.sink_counts;
       })));
@@ -57,6 +57,6 @@ returns-in_err-length-clause-promised g c = λ sink empty.
     let held : Option (List ℕ) = g.S.Source.held c.args.source.now in
     let old : Option (List (ℕ × ℕ)) = g.S.Source.ranges c.args.source.now in
     let new : Option (List (ℕ × ℕ)) = g.S.Source.ranges c.attach.new.source in
-    let asked : ReadsTouched c.args.request.now.job held old new = nothing_read c.args.request.now.job held old new c.attach.ensures.ranges in
-    let of_list : IfSome held (λ file. LogsIn (header_ranges ListHdus file) old new) = nothing_read ListHdus held old new c.attach.ensures.ranges in
+    let asked : ReadsTouched c.args.request.now.job held old new = nothing_read c.args.request.now.job held old new c.attach.ensures.stays.1 in
+    let of_list : IfSome held (λ file. LogsIn (header_ranges ListHdus file) old new) = nothing_read ListHdus held old new c.attach.ensures.stays.1 in
     search rules

@@ -16,8 +16,8 @@ use Rattle.fz_app.proofs.run_job.run_retile.Goals as goal
 
 pub returns : goal.returns
 returns g c =
-    let held : g.S.Source.held c.begin.new.source ≡ g.S.Source.held c.args.source.now = c.begin.ensures.held in
-    let ranges : g.S.Source.ranges c.begin.new.source ≡ g.S.Source.ranges c.args.source.now = c.begin.ensures.ranges in
+    let held : g.S.Source.held c.begin.new.source ≡ g.S.Source.held c.args.source.now = c.begin.ensures.stays.0 in
+    let ranges : g.S.Source.ranges c.begin.new.source ≡ g.S.Source.ranges c.args.source.now = c.begin.ensures.stays.1 in
     let tally : nameless (g.S.Source.tally c.begin.new.source) ≡ nameless (g.S.Source.tally c.args.source.now) = c.in_ok-length.ensures.cause.ok in
     let meter : c.begin.new.meter ≡ narrowed c.args.meter.now c.args.request.now.memory = c.begin.ensures.narrowed in
     let limit : c.begin.new.meter.limit ≡ min c.args.meter.now.limit c.args.request.now.memory = ap (λ (m : Gauge). m.limit) meter in
@@ -52,8 +52,8 @@ returns g c =
             most = rw (none, workers) at c.retile.ensures.buffers.most;
             held_is = rw held at c.retile.ensures.kept.held_is;
             touched = rw (held, ranges) at c.retile.ensures.touched;
-            told_ranges = rw ranges at c.retile.ensures.told_ranges;
-            told_contents = c.retile.ensures.told_contents;
+            told_ranges = rw ranges at c.retile.ensures.stays.0;
+            told_contents = c.retile.ensures.stays.1;
             source_counts = kept_from (g.S.Source.tally c.args.source.now) (g.S.Source.tally c.begin.new.source) (g.S.Source.tally c.retile.new.source) tally c.retile.ensures.kept.source_counts;
             sink_counts = c.retile.ensures.kept.sink_counts;
             text_counts = kept_by text.tally text.tally refl;

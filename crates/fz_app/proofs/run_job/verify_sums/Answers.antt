@@ -20,8 +20,8 @@ use Rattle.fz_app.proofs.run_job.verify_sums.Goals as goal
 
 pub returns-in_err-right-clause-promised : goal.returns-in_err-right-clause-promised
 returns-in_err-right-clause-promised g c = λ sink empty.
-    let held : g.S.Source.held c.begin.new.source ≡ g.S.Source.held c.args.source.now = c.begin.ensures.held in
-    let ranges : g.S.Source.ranges c.begin.new.source ≡ g.S.Source.ranges c.args.source.now = c.begin.ensures.ranges in
+    let held : g.S.Source.held c.begin.new.source ≡ g.S.Source.held c.args.source.now = c.begin.ensures.stays.0 in
+    let ranges : g.S.Source.ranges c.begin.new.source ≡ g.S.Source.ranges c.args.source.now = c.begin.ensures.stays.1 in
     let tally : nameless (g.S.Source.tally c.begin.new.source) ≡ nameless (g.S.Source.tally c.args.source.now) = c.in_ok-length.ensures.cause.ok in
     let meter : c.begin.new.meter ≡ narrowed c.args.meter.now c.args.request.now.memory = c.begin.ensures.narrowed in
     let limit : c.begin.new.meter.limit ≡ min c.args.meter.now.limit c.args.request.now.memory = ap (λ (m : Gauge). m.limit) meter in
@@ -49,16 +49,16 @@ returns-in_err-right-clause-promised g c = λ sink empty.
       most = rw none at c.verify.ensures.buffers.most;
       held_is = rw held at c.verify.ensures.kept.held_is;
       touched = rw (held, ranges) at c.verify.ensures.touched;
-      told_ranges = rw ranges at c.verify.ensures.told_ranges;
-      told = c.verify.ensures.told_contents;
+      told_ranges = rw ranges at c.verify.ensures.stays.0;
+      told = c.verify.ensures.stays.1;
       source_counts = kept_from (g.S.Source.tally c.args.source.now) (g.S.Source.tally c.begin.new.source) (g.S.Source.tally c.verify.new.source) tally c.verify.ensures.kept.source_counts;
       text_counts = c.verify.ensures.kept.sink_counts;
     }))))
 
 pub returns-clause-promised : goal.returns-clause-promised
 returns-clause-promised g c = λ sink empty.
-    let held : g.S.Source.held c.begin.new.source ≡ g.S.Source.held c.args.source.now = c.begin.ensures.held in
-    let ranges : g.S.Source.ranges c.begin.new.source ≡ g.S.Source.ranges c.args.source.now = c.begin.ensures.ranges in
+    let held : g.S.Source.held c.begin.new.source ≡ g.S.Source.held c.args.source.now = c.begin.ensures.stays.0 in
+    let ranges : g.S.Source.ranges c.begin.new.source ≡ g.S.Source.ranges c.args.source.now = c.begin.ensures.stays.1 in
     let tally : nameless (g.S.Source.tally c.begin.new.source) ≡ nameless (g.S.Source.tally c.args.source.now) = c.in_ok-length.ensures.cause.ok in
     let meter : c.begin.new.meter ≡ narrowed c.args.meter.now c.args.request.now.memory = c.begin.ensures.narrowed in
     let limit : c.begin.new.meter.limit ≡ min c.args.meter.now.limit c.args.request.now.memory = ap (λ (m : Gauge). m.limit) meter in
@@ -84,8 +84,8 @@ returns-clause-promised g c = λ sink empty.
       most = rw none at c.verify.ensures.buffers.most;
       held_is = rw held at c.verify.ensures.kept.held_is;
       touched = rw (held, ranges) at c.verify.ensures.touched;
-      told_ranges = rw ranges at c.verify.ensures.told_ranges;
-      told = c.verify.ensures.told_contents;
+      told_ranges = rw ranges at c.verify.ensures.stays.0;
+      told = c.verify.ensures.stays.1;
       source_counts = kept_from (g.S.Source.tally c.args.source.now) (g.S.Source.tally c.begin.new.source) (g.S.Source.tally c.verify.new.source) tally c.verify.ensures.kept.source_counts;
       text_counts = c.verify.ensures.kept.sink_counts;
     })))
@@ -109,6 +109,6 @@ returns-in_err-length-clause-promised g c = λ sink empty.
     let held : Option (List ℕ) = g.S.Source.held c.args.source.now in
     let old : Option (List (ℕ × ℕ)) = g.S.Source.ranges c.args.source.now in
     let new : Option (List (ℕ × ℕ)) = g.S.Source.ranges c.begin.new.source in
-    let asked : ReadsTouched c.args.request.now.job held old new = nothing_read c.args.request.now.job held old new c.begin.ensures.ranges in
-    let of_verify : IfSome held (λ file. LogsIn (hdus_touched Verify file) old new) = nothing_read Verify held old new c.begin.ensures.ranges in
+    let asked : ReadsTouched c.args.request.now.job held old new = nothing_read c.args.request.now.job held old new c.begin.ensures.stays.1 in
+    let of_verify : IfSome held (λ file. LogsIn (hdus_touched Verify file) old new) = nothing_read Verify held old new c.begin.ensures.stays.1 in
     search rules

@@ -43,7 +43,7 @@ returns-clause-compared g c =
     let place : at ≡ l.rows_at + l.row_len * w.tiles = λ i. l.rows_at + c.from.ensures i * c.from-2.ensures i in
     let many : length es ≡ count = coded_count_is count c.args.window.now c.requires.next.filled c.requires.next.near in
     let same : IfSome held (λ file. true ≡ has_bytes file at c.args.coming.end c.put_rows.new.into) = search rules in
-    let stays : g.S.Source.held c.has_bytes.new.source ≡ held = c.in_ok-same.ensures.source.held_is in
+    let stays : g.S.Source.held c.has_bytes.new.source ≡ held = c.in_ok-same.ensures.stays.0.held_is in
     IfOk-weaker c.compare_codes.result _ _
     (λ now compared. codes_same c.args.coming.end l w es c.put_rows.new.into at c.put_rows.ensures place held c.add_rows.new.self count now c.add_rows.ensures many same
     (subst (λ (k : Option (List ℕ)). IfSome k (λ file. ComparesHeap file c.args.coming.end l c.add_rows.new.self es now)) stays compared))

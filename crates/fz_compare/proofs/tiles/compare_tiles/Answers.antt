@@ -48,7 +48,7 @@ compare_next-requires-clause-ready g c κs within =
     let fetched : AreFetched held h image.plan (range_with_len first count) window.slots =
     subst (λ (k : Option (List ℕ)). AreFetched k h image.plan (range_with_len first count) window.slots) old.held c.in_ok-decode_round.ensures.fetched in
     let room = room_stays (pixels_of image.plan 0) c.args.window.now window c.requires.window
-    (record { sizes = c.in_ok-decode_round.ensures.window.sizes ∙ old.window.sizes; workers = c.in_ok-decode_round.ensures.window.workers ∙ old.window.workers }) in
+    (record { sizes = c.in_ok-decode_round.ensures.stays.1.sizes ∙ old.window.sizes; workers = c.in_ok-decode_round.ensures.stays.1.workers ∙ old.window.workers }) in
     ready_now c.one_record_law.ensures c.sum_law.ensures.joined h image c.requires.image first count few window.slots held c.args.layout.now c.loop-first.progress window refl c.requires.layout room fetched old.so_far
 
 pub loop-first-preserved : goal.loop-first-preserved
@@ -66,7 +66,7 @@ loop-first-preserved g c =
     subst (λ (l : Option (List ℕ)). IfSome l (λ file. IsFirstRowFault file (map (image_row h) (range_with_len first count)) None)) old.held c.in_ok-decode_round.ensures.sound in
     let fetched : AreFetched held h image.plan (range_with_len first count) window.slots =
     subst (λ (k : Option (List ℕ)). AreFetched k h image.plan (range_with_len first count) window.slots) old.held c.in_ok-decode_round.ensures.fetched in
-    let told : g.S.Source.held c.decode_round.new.source ≡ held = c.in_ok-decode_round.ensures.source.held_is ∙ old.held in
+    let told : g.S.Source.held c.decode_round.new.source ≡ held = c.in_ok-decode_round.ensures.stays.0.held_is ∙ old.held in
     let next : ComparesNext held (next_start_of h) c.args.layout.now c.loop-first.progress count window.slots c.in_ok-progress.progress =
     subst (λ end. ComparesNext held end c.args.layout.now c.loop-first.progress count window.slots c.in_ok-progress.progress) c.next_start-end.ensures
     (subst (λ (k : Option (List ℕ)). ComparesNext k c.next_start-end.result c.args.layout.now c.loop-first.progress count window.slots c.in_ok-progress.progress) told c.in_ok-progress.ensures.compared) in
@@ -81,13 +81,13 @@ loop-first-preserved g c =
       held = search rules;
       attached = search rules;
       reads = search rules;
-      told = λ told. c.in_ok-progress.ensures.source.told (c.in_ok-decode_round.ensures.source.told (old.told told));
+      told = λ told. c.in_ok-progress.ensures.stays.0.told (c.in_ok-decode_round.ensures.stays.0.told (old.told told));
       read = join_told c.ranges_law.ensures.join held (λ file. table_ranges file h) before two three decoded table;
       window = record {
-        sizes = c.in_ok-progress.ensures.window.sizes ∙ c.in_ok-decode_round.ensures.window.sizes ∙ old.window.sizes;
-        workers = c.in_ok-progress.ensures.window.workers ∙ c.in_ok-decode_round.ensures.window.workers ∙ old.window.workers;
+        sizes = c.in_ok-progress.ensures.stays.1.sizes ∙ c.in_ok-decode_round.ensures.stays.1.sizes ∙ old.window.sizes;
+        workers = c.in_ok-progress.ensures.stays.1.workers ∙ c.in_ok-decode_round.ensures.stays.1.workers ∙ old.window.workers;
       };
-      copy = c.in_ok-progress.ensures.copy ∙ c.in_ok-decode_round.ensures.rows ∙ old.copy;
+      copy = c.in_ok-progress.ensures.stays.2 ∙ c.in_ok-decode_round.ensures.stays.2 ∙ old.copy;
       within = omega (arith, c.min-count.ensures, old.within);
       sound = more_sound held h first count old.sound round;
       so_far = next_compared c.one_record_law.ensures c.sum_law.ensures.joined h image c.requires.image first count few window.slots held c.args.layout.now c.loop-first.progress c.in_ok-progress.progress c.requires.layout c.requires.said fetched old.so_far next;

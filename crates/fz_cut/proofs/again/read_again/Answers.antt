@@ -5,7 +5,7 @@ use Rattle.fz_base.specs.declared.failure.Stop.{Stop}
 use Rattle.fz_block.specs.Header.{next_start_of}
 use Rattle.fz_grid.specs.Region.{IsWithin}
 use Rattle.fz_table.specs.Rows.{IsTable}
-use Rattle.fz_head.specs.JobChecks.{IsImageOf, image_to_cut}
+use Rattle.fz_checks.specs.JobChecks.{IsImageOf, image_to_cut}
 use Rattle.fz_files.specs.Restored.{pixels_of}
 use Rattle.fz_cut.proofs.Seen.{IsReadAgain, answered, front, no_fault, no_larger, no_other_answer, no_refusal, no_start}
 use Rattle.fz_cut.proofs.again.read_again.Goals as goal

@@ -128,21 +128,18 @@ returns-clause-exact_peak g c =
     (c.stages_law.ensures.back.given c.args.meter.now c.take.new.meter c.give_back.new.meter (sum (wanted_buffers wants c.args.window.now.workers)) (held_bytes c.write_file-answer.new.space c.write_file-answer.new.window)
     c.in_ok-space.ensures.takings.all.1 held c.give_back.ensures.given).2
 
-pub returns-clause-live : goal.returns-clause-live
-returns-clause-live g c =
+pub returns-clause-stays : goal.returns-clause-stays
+returns-clause-stays g c =
     let wants : Wants = wants_for (Cut None c.args.asked.now.sieve) c.args.found.now.survey in
     let held = c.stages_law.ensures.back.kept wants c.in_ok-space.space c.write_file-answer.new.space c.args.window.now.workers c.take.new.window c.write_file-answer.new.window
-    c.in_ok-space.ensures.lengths c.write_file-answer.ensures.space c.in_ok-space.ensures.filled c.write_file-answer.ensures.window in
-    (c.stages_law.ensures.back.given c.args.meter.now c.take.new.meter c.give_back.new.meter (sum (wanted_buffers wants c.args.window.now.workers)) (held_bytes c.write_file-answer.new.space c.write_file-answer.new.window)
-    c.in_ok-space.ensures.takings.all.1 held c.give_back.ensures.given).0
-
-pub returns-clause-limit : goal.returns-clause-limit
-returns-clause-limit g c =
-    let wants : Wants = wants_for (Cut None c.args.asked.now.sieve) c.args.found.now.survey in
-    let held = c.stages_law.ensures.back.kept wants c.in_ok-space.space c.write_file-answer.new.space c.args.window.now.workers c.take.new.window c.write_file-answer.new.window
-    c.in_ok-space.ensures.lengths c.write_file-answer.ensures.space c.in_ok-space.ensures.filled c.write_file-answer.ensures.window in
-    (c.stages_law.ensures.back.given c.args.meter.now c.take.new.meter c.give_back.new.meter (sum (wanted_buffers wants c.args.window.now.workers)) (held_bytes c.write_file-answer.new.space c.write_file-answer.new.window)
-    c.in_ok-space.ensures.takings.all.1 held c.give_back.ensures.given).1
+    c.in_ok-space.ensures.lengths c.write_file-answer.ensures.space c.in_ok-space.ensures.filled c.write_file-answer.ensures.window in (
+      search rules,
+      search rules,
+      (c.stages_law.ensures.back.given c.args.meter.now c.take.new.meter c.give_back.new.meter (sum (wanted_buffers wants c.args.window.now.workers)) (held_bytes c.write_file-answer.new.space c.write_file-answer.new.window)
+          c.in_ok-space.ensures.takings.all.1 held c.give_back.ensures.given).0,
+      (c.stages_law.ensures.back.given c.args.meter.now c.take.new.meter c.give_back.new.meter (sum (wanted_buffers wants c.args.window.now.workers)) (held_bytes c.write_file-answer.new.space c.write_file-answer.new.window)
+          c.in_ok-space.ensures.takings.all.1 held c.give_back.ensures.given).1,
+    )
 
 pub returns-clause-emptied : goal.returns-clause-emptied
 returns-clause-emptied g c =

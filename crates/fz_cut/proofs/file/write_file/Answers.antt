@@ -24,7 +24,7 @@ write_cutout-requires-clause-again g c κs within =
       few,
       attached,
       again_of held (g.S.Source.held c.read_again.new.source) c.args.asked.now.length c.args.asked.now.sieve c.box_of-region.result c.args.space.now.header c.as_mut_slice-buf.result.now c.read_again.new.buf c.in_ok-again.again
-          stays c.box_of-region.ensures.exact c.as_mut_slice-buf.ensures.value c.in_ok-again.ensures.buf c.in_ok-again.ensures.again,
+          stays c.box_of-region.ensures.exact c.as_mut_slice-buf.ensures.value c.in_ok-again.ensures.stays.1 c.in_ok-again.ensures.again,
     )
 
 pub returns-clause-written : goal.returns-clause-written
@@ -58,7 +58,7 @@ returns-clause-shut g c =
     let seen : IfSome held (λ f. ReadsAsSeen f (box_of sieve) most tile from (Ok c.in_ok-again.again)) =
     seen_of held sieve c.box_of-region.result c.as_mut_slice-buf.result.now c.args.space.now.header tile from (Ok c.in_ok-again.again) c.box_of-region.ensures.exact c.as_mut_slice-buf.ensures.value c.in_ok-again.ensures.as_seen in
     let part : IfSome held (λ f. HoldsPart f c.in_ok-again.again.header sieve made mid) = search rules in
-    let shut : IsShut mid = c.in_ok-write_cutout.ensures.sink.shut (subst IsShut (sym empty) (c.output_law.ensures.empty old)) in
+    let shut : IsShut mid = c.in_ok-write_cutout.ensures.stays.1.shut (subst IsShut (sym empty) (c.output_law.ensures.empty old)) in
     sealed_or_shut c.parts_law.ensures c.output_law.ensures.sealed sieve most tile from old made mid (g.K.Sink.contents c.seal.new.sink) empty c.seal.result
     (g.K.Sink.tally c.write_cutout.new.sink) (g.K.Sink.tally c.seal.new.sink) held shut (behind_by sieve most tile from made mid held c.in_ok-again.again seen part) c.seal.ensures.cause.stop c.seal.ensures.stopped
 

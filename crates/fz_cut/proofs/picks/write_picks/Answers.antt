@@ -195,11 +195,11 @@ loop-tile-preserved g c =
     let room : c.if-count-most.count < length tiles = omega (arith, few, c.workers.ensures.some, old.table) in
     record {
       held = elim c.if-count-most.branch [
-        | then-count-most+in_ok-write_round w ↦ ap g.S.Source.held w.source-is ∙ w.in_ok-write_round.ensures.source.held_is ∙ old.held
+        | then-count-most+in_ok-write_round w ↦ ap g.S.Source.held w.source-is ∙ w.in_ok-write_round.ensures.stays.0.held_is ∙ old.held
         | else-count-most w ↦ ap g.S.Source.held w.source-is ∙ old.held
       ];
       attached = elim c.if-count-most.branch [
-        | then-count-most+in_ok-write_round w ↦ ap g.S.Source.attached w.source-is ∙ w.in_ok-write_round.ensures.source.attached_is ∙ old.attached
+        | then-count-most+in_ok-write_round w ↦ ap g.S.Source.attached w.source-is ∙ w.in_ok-write_round.ensures.stays.0.attached_is ∙ old.attached
         | else-count-most w ↦ ap g.S.Source.attached w.source-is ∙ old.attached
       ];
       reads = elim c.if-count-most.branch [
@@ -211,25 +211,25 @@ loop-tile-preserved g c =
         | else-count-most w ↦ ap g.K.Sink.tally w.sink-is ∙ old.writes
       ];
       created = elim c.if-count-most.branch [
-        | then-count-most+in_ok-write_round w ↦ ap g.K.Sink.created w.sink-is ∙ w.in_ok-write_round.ensures.sink.created_is ∙ old.created
+        | then-count-most+in_ok-write_round w ↦ ap g.K.Sink.created w.sink-is ∙ w.in_ok-write_round.ensures.stays.1.created_is ∙ old.created
         | else-count-most w ↦ ap g.K.Sink.created w.sink-is ∙ old.created
       ];
       shut = elim c.if-count-most.branch [
-        | then-count-most+in_ok-write_round w ↦ subst (StaysShut before) (sym (ap g.K.Sink.contents w.sink-is)) (λ shut. w.in_ok-write_round.ensures.sink.shut (old.shut shut))
+        | then-count-most+in_ok-write_round w ↦ subst (StaysShut before) (sym (ap g.K.Sink.contents w.sink-is)) (λ shut. w.in_ok-write_round.ensures.stays.1.shut (old.shut shut))
         | else-count-most w ↦ subst (StaysShut before) (sym (ap g.K.Sink.contents w.sink-is)) old.shut
       ];
       told_ranges = elim c.if-count-most.branch [
-        | then-count-most+in_ok-write_round w ↦ subst (λ (r : Option (List (ℕ × ℕ))). StaysTold start r) (sym (ap g.S.Source.ranges w.source-is)) (λ told. w.in_ok-write_round.ensures.source.told (old.told_ranges told))
+        | then-count-most+in_ok-write_round w ↦ subst (λ (r : Option (List (ℕ × ℕ))). StaysTold start r) (sym (ap g.S.Source.ranges w.source-is)) (λ told. w.in_ok-write_round.ensures.stays.0.told (old.told_ranges told))
         | else-count-most w ↦ subst (λ (r : Option (List (ℕ × ℕ))). StaysTold start r) (sym (ap g.S.Source.ranges w.source-is)) old.told_ranges
       ];
       told_contents = elim c.if-count-most.branch [
-        | then-count-most+in_ok-write_round w ↦ subst (λ (r : Option (List ℕ)). StaysTold before r) (sym (ap g.K.Sink.contents w.sink-is)) (λ told. w.in_ok-write_round.ensures.sink.told (old.told_contents told))
+        | then-count-most+in_ok-write_round w ↦ subst (λ (r : Option (List ℕ)). StaysTold before r) (sym (ap g.K.Sink.contents w.sink-is)) (λ told. w.in_ok-write_round.ensures.stays.1.told (old.told_contents told))
         | else-count-most w ↦ subst (λ (r : Option (List ℕ)). StaysTold before r) (sym (ap g.K.Sink.contents w.sink-is)) old.told_contents
       ];
       window = elim c.if-count-most.branch [
         | then-count-most+in_ok-write_round w ↦ subst (WindowStays c.args.window.now) (sym w.window-is) (record {
-          sizes = w.in_ok-write_round.ensures.window.sizes ∙ old.window.sizes;
-          workers = w.in_ok-write_round.ensures.window.workers ∙ old.window.workers;
+          sizes = w.in_ok-write_round.ensures.stays.2.sizes ∙ old.window.sizes;
+          workers = w.in_ok-write_round.ensures.stays.2.workers ∙ old.window.workers;
         })
         | else-count-most w ↦ subst (WindowStays c.args.window.now) (sym w.window-is) old.window
       ];

@@ -3,7 +3,7 @@ use Rattle.std.proofs.Common.{ℕ, ◌≡◌, ◌*◌, ◌≤◌, ◌||◌, nat_
 use Rattle.fz_base.specs.declared.failure.Stop.{Stop}
 use Rattle.fz_block.specs.Cards.{card_at}
 use Rattle.fz_block.specs.Checks.{is_set}
-use Rattle.fz_head.specs.JobChecks.{plan_to_pack}
+use Rattle.fz_checks.specs.JobChecks.{plan_to_pack}
 use Rattle.fz_pack.specs.Again.{is_larger}
 use Rattle.fz_pack.proofs.Seen.{IsReadAgain, answered, front, no_fault, no_larger, no_other, no_other_answer, no_refusal}
 use Rattle.fz_pack.proofs.again.read_again.Goals.{then-is_larger-via-then-is_larger, then-is_larger-via-else-is_larger+then-not-begins_file}

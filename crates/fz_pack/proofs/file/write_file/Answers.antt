@@ -20,7 +20,7 @@ returns-clause-shut g c =
     let old : Option (List ℕ) = g.K.Sink.contents c.args.sink.now in
     let made : Option (List ℕ) = g.K.Sink.contents c.create.new.self in
     let empty : made ≡ emptied old = search rules in
-    let shut : IsShut (g.K.Sink.contents c.write_hdus.new.sink) = c.in_ok-write_hdus.ensures.sink.shut (subst IsShut (sym empty) (c.output_law.ensures.empty old)) in
+    let shut : IsShut (g.K.Sink.contents c.write_hdus.new.sink) = c.in_ok-write_hdus.ensures.stays.1.shut (subst IsShut (sym empty) (c.output_law.ensures.empty old)) in
     sealed_or_shut c.args.asked.now.options c.args.survey.now old made (g.K.Sink.contents c.write_hdus.new.sink) (g.K.Sink.contents c.seal.new.sink) c.in_ok-write_hdus.field-0 c.seal.result
     (g.K.Sink.tally c.write_hdus.new.sink) (g.K.Sink.tally c.seal.new.sink) (g.S.Source.held c.args.source.now)
     c.output_law.ensures.sealed c.requires.some empty shut c.in_ok-write_hdus.ensures.written c.seal.ensures.cause.stop c.seal.ensures.stopped

@@ -85,7 +85,7 @@ returns-then-start-length-clause-written g c =
     subst (λ n. IfSome held (λ f. ReadsAsSeen o f k start n s.tile (Ok a))) long
     (subst (λ (h : Option (List ℕ)). IfSome h (λ f. ReadsAsSeen o f k start (length c.as_mut_slice-buf.result.now) s.tile (Ok a))) c.loop-hdu.invariant.held c.in_ok-again.ensures.as_seen) in
     let holds : IfSome held (λ f. HoldsHdu o a.header f at end mid now) =
-    subst (λ (h : Option (List ℕ)). IfSome h (λ f. HoldsHdu o a.header f at end mid now)) (c.in_ok-again.ensures.source.held_is ∙ c.loop-hdu.invariant.held) c.in_ok-at.ensures.written in
+    subst (λ (h : Option (List ℕ)). IfSome h (λ f. HoldsHdu o a.header f at end mid now)) (c.in_ok-again.ensures.stays.0.held_is ∙ c.loop-hdu.invariant.held) c.in_ok-at.ensures.written in
     let more : IfSome held (IsUnderway o s.header_len s.tile s.hdus (k + 1) (next_start_of a.header) end before now) =
     more_written o s.header_len s.tile s.hdus before c.output_law.ensures.next held k start at end mid now a few c.loop-hdu.invariant.written seen c.in_ok-again.ensures.place.0 holds in
     let told : HoldsLength held c.args.asked.now.length = g.met.S.Source.agrees c.args.source.now c.args.asked.now.length c.requires.attached in
@@ -113,7 +113,7 @@ loop-hdu-preserved g c =
     subst (λ n. IfSome held (λ f. ReadsAsSeen o f k start n s.tile (Ok a))) long
     (subst (λ (h : Option (List ℕ)). IfSome h (λ f. ReadsAsSeen o f k start (length c.as_mut_slice-buf.result.now) s.tile (Ok a))) old.held c.in_ok-again.ensures.as_seen) in
     let holds : IfSome held (λ f. HoldsHdu o a.header f at end mid now) =
-    subst (λ (h : Option (List ℕ)). IfSome h (λ f. HoldsHdu o a.header f at end mid now)) (c.in_ok-again.ensures.source.held_is ∙ old.held) c.in_ok-at.ensures.written in
+    subst (λ (h : Option (List ℕ)). IfSome h (λ f. HoldsHdu o a.header f at end mid now)) (c.in_ok-again.ensures.stays.0.held_is ∙ old.held) c.in_ok-at.ensures.written in
     let more : IfSome held (IsUnderway o s.header_len s.tile s.hdus (k + 1) (next_start_of a.header) end before now) =
     more_written o s.header_len s.tile s.hdus before c.output_law.ensures.next held k start at end mid now a few old.written seen c.in_ok-again.ensures.place.0 holds in
     let place : a.header.start ≡ start = c.in_ok-again.ensures.place.1 in
@@ -133,16 +133,16 @@ loop-hdu-preserved g c =
       reads = search rules;
       writes = search rules;
       created = search rules;
-      shut = λ shut. c.in_ok-at.ensures.sink.shut (old.shut shut);
-      told_ranges = λ told. c.in_ok-at.ensures.source.told (c.in_ok-again.ensures.source.told (old.told_ranges told));
-      told_contents = λ told. c.in_ok-at.ensures.sink.told (old.told_contents told);
+      shut = λ shut. c.in_ok-at.ensures.stays.1.shut (old.shut shut);
+      told_ranges = λ told. c.in_ok-at.ensures.stays.0.told (c.in_ok-again.ensures.stays.0.told (old.told_ranges told));
+      told_contents = λ told. c.in_ok-at.ensures.stays.1.told (old.told_contents told);
       read = one_hdu o s zero c.ranges_law.ensures.within c.ranges_law.ensures.join k start c.loop-hdu.at before mid few two three held a old.written seen c.in_ok-at.ensures.log header;
       space = record {
-        header = omega (arith, c.in_ok-at.ensures.space.header, old.space.header, c.in_ok-again.ensures.buf, length-take {A = ℕ}, length-append {A = ℕ}, length-drop {A = ℕ});
-        translated = c.in_ok-at.ensures.space.translated ∙ old.space.translated;
-        copy = c.in_ok-at.ensures.space.copy ∙ old.space.copy;
+        header = omega (arith, c.in_ok-at.ensures.stays.2.header, old.space.header, c.in_ok-again.ensures.stays.1, length-take {A = ℕ}, length-append {A = ℕ}, length-drop {A = ℕ});
+        translated = c.in_ok-at.ensures.stays.2.translated ∙ old.space.translated;
+        copy = c.in_ok-at.ensures.stays.2.copy ∙ old.space.copy;
       };
-      window = record { sizes = c.in_ok-at.ensures.window.sizes ∙ old.window.sizes; workers = c.in_ok-at.ensures.window.workers ∙ old.window.workers };
+      window = record { sizes = c.in_ok-at.ensures.stays.3.sizes ∙ old.window.sizes; workers = c.in_ok-at.ensures.stays.3.workers ∙ old.window.workers };
       block = c.in_ok-at.ensures.block;
       within = λ left. inl (not_at_end c.next_start-start.result c.args.asked.now.length (k + 1) s.hdus c.if-start-length.false left (omega (arith, next, inside)));
       first = λ e. absurd (omega (arith, e));

@@ -69,4 +69,4 @@ returns-clause-log g c =
     let low : l.pixels_at ≡ data_start_of h = ap (λ (k : Layout). k.pixels_at) c.of-layout.ensures in
     let long : pixel_bytes_of l ≡ pixel_bytes_of (layout_of h p rows_at) = ap pixel_bytes_of c.of-layout.ensures in
     c.log_law.ensures.wider l.pixels_at (l.pixels_at + pixel_bytes_of l) (data_start_of h) n (g.S.Source.ranges c.args.source.now) (g.S.Source.ranges c.write_table.new.source)
-    (omega (arith, low)) (omega (arith, low, long, inside.2, there)) c.write_table.ensures.stays.log
+    (omega (arith, low)) (omega (arith, low, long, inside.2, there)) c.write_table.ensures.stays.1.log

@@ -52,7 +52,7 @@ pub write_encoded-requires-clause-next : goal.write_encoded-requires-clause-next
 write_encoded-requires-clause-next g c =
     let l = c.args.writing.now.layout in
     let u = c.loop-underway.underway in
-    let near : c.round_len-tiles.result ≤ 2 * c.encode_tiles.new.window.workers = omega (arith, c.in_ok-encode_tiles.ensures.window.workers, c.round_len-tiles.ensures.near) in
+    let near : c.round_len-tiles.result ≤ 2 * c.encode_tiles.new.window.workers = omega (arith, c.in_ok-encode_tiles.ensures.stays.1.workers, c.round_len-tiles.ensures.near) in
     are_next l (g.S.Source.held c.args.source.now) (g.S.Source.held c.loop-underway.source) (g.K.Sink.contents c.args.sink.now) (heap_caught_up l u.progress u.held_back c.loop-underway.held (g.K.Sink.contents c.loop-underway.sink)) u.progress
     c.round_len-tiles.result c.encode_tiles.new.window c.requires.can.layout c.loop-underway.invariant.written c.in_ok-encode_tiles.ensures.encoded near c.round_len-tiles.ensures.within
 
@@ -89,16 +89,16 @@ loop-underway-preserved g c =
       reads = search rules;
       created = search rules;
       writes = search rules;
-      shut = λ shut. c.in_ok-write_encoded.ensures.sink.shut (old.shut shut);
+      shut = λ shut. c.in_ok-write_encoded.ensures.stays.0.shut (old.shut shut);
       log = c.log_law.ensures.both l.pixels_at (l.pixels_at + pixel_bytes_of l) (g.S.Source.ranges c.args.source.now) (g.S.Source.ranges c.loop-underway.source) (g.S.Source.ranges c.encode_tiles.new.source) old.log c.in_ok-encode_tiles.ensures.log;
-      told_ranges = λ told. c.in_ok-encode_tiles.ensures.source.told (old.told_ranges told);
-      told_contents = λ told. c.in_ok-write_encoded.ensures.sink.told (old.told_contents told);
-      sizes = c.in_ok-encode_tiles.ensures.window.sizes ∙ old.sizes;
-      workers = c.in_ok-encode_tiles.ensures.window.workers ∙ old.workers;
-      strips = subst (λ (h : Option (List ℕ)). HasStrips h c.encode_tiles.new.strips c.encode_tiles.new.ahead) (c.in_ok-encode_tiles.ensures.source.held_is ∙ old.held) c.in_ok-encode_tiles.ensures.strips;
-      ahead = c.in_ok-encode_tiles.ensures.ahead ∙ old.ahead;
-      rows = c.in_ok-write_encoded.ensures.rows ∙ old.rows;
-      room = c.in_ok-write_encoded.ensures.room ∙ old.room;
+      told_ranges = λ told. c.in_ok-encode_tiles.ensures.stays.0.told (old.told_ranges told);
+      told_contents = λ told. c.in_ok-write_encoded.ensures.stays.0.told (old.told_contents told);
+      sizes = c.in_ok-encode_tiles.ensures.stays.1.sizes ∙ old.sizes;
+      workers = c.in_ok-encode_tiles.ensures.stays.1.workers ∙ old.workers;
+      strips = subst (λ (h : Option (List ℕ)). HasStrips h c.encode_tiles.new.strips c.encode_tiles.new.ahead) (c.in_ok-encode_tiles.ensures.stays.0.held_is ∙ old.held) c.in_ok-encode_tiles.ensures.strips;
+      ahead = c.in_ok-encode_tiles.ensures.stays.2 ∙ old.ahead;
+      rows = c.in_ok-write_encoded.ensures.stays.1 ∙ old.rows;
+      room = c.in_ok-write_encoded.ensures.stays.2 ∙ old.room;
       last = c.in_ok-write_encoded.ensures.held;
       within = written_few l held before next v.progress now;
       written = now;
@@ -114,45 +114,60 @@ pub returns-in_err-encode_tiles-clause-stays : goal.returns-in_err-encode_tiles-
 returns-in_err-encode_tiles-clause-stays g c =
     let l = c.args.writing.now.layout in
     let old = c.loop-underway.invariant in
-    let coded = c.in_err-encode_tiles.ensures in
-    record {
-      source = record {
-        held_is = coded.source.held_is ∙ old.held;
-        attached_is = coded.source.attached_is ∙ old.attached;
-        told = λ told. coded.source.told (old.told_ranges told);
-      };
-      sink = record { created_is = old.created; shut = old.shut; told = old.told_contents };
-      log = c.log_law.ensures.both l.pixels_at (l.pixels_at + pixel_bytes_of l) (g.S.Source.ranges c.args.source.now) (g.S.Source.ranges c.loop-underway.source) (g.S.Source.ranges c.encode_tiles.new.source) old.log coded.log;
-      cause = search rules;
-    }
+    let coded = c.in_err-encode_tiles.ensures in (
+      search rules,
+      record {
+        source = record {
+          held_is = coded.stays.0.held_is ∙ old.held;
+          attached_is = coded.stays.0.attached_is ∙ old.attached;
+          told = λ told. coded.stays.0.told (old.told_ranges told);
+        };
+        sink = record { created_is = old.created; shut = old.shut; told = old.told_contents };
+        log = c.log_law.ensures.both l.pixels_at (l.pixels_at + pixel_bytes_of l) (g.S.Source.ranges c.args.source.now) (g.S.Source.ranges c.loop-underway.source) (g.S.Source.ranges c.encode_tiles.new.source) old.log coded.log;
+        cause = search rules;
+      },
+      search rules,
+      search rules,
+      search rules,
+    )
 
 pub returns-in_err-write_encoded-clause-stays : goal.returns-in_err-write_encoded-clause-stays
 returns-in_err-write_encoded-clause-stays g c =
     let l = c.args.writing.now.layout in
     let old = c.loop-underway.invariant in
     let coded = c.in_ok-encode_tiles.ensures in
-    let put = c.in_err-write_encoded.ensures in
-    record {
-      source = record {
-        held_is = coded.source.held_is ∙ old.held;
-        attached_is = coded.source.attached_is ∙ old.attached;
-        told = λ told. coded.source.told (old.told_ranges told);
-      };
-      sink = record {
-        created_is = put.sink.created_is ∙ old.created;
-        shut = λ shut. put.sink.shut (old.shut shut);
-        told = λ told. put.sink.told (old.told_contents told);
-      };
-      log = c.log_law.ensures.both l.pixels_at (l.pixels_at + pixel_bytes_of l) (g.S.Source.ranges c.args.source.now) (g.S.Source.ranges c.loop-underway.source) (g.S.Source.ranges c.encode_tiles.new.source) old.log coded.log;
-      cause = search rules;
-    }
+    let put = c.in_err-write_encoded.ensures in (
+      search rules,
+      record {
+        source = record {
+          held_is = coded.stays.0.held_is ∙ old.held;
+          attached_is = coded.stays.0.attached_is ∙ old.attached;
+          told = λ told. coded.stays.0.told (old.told_ranges told);
+        };
+        sink = record {
+          created_is = put.stays.0.created_is ∙ old.created;
+          shut = λ shut. put.stays.0.shut (old.shut shut);
+          told = λ told. put.stays.0.told (old.told_contents told);
+        };
+        log = c.log_law.ensures.both l.pixels_at (l.pixels_at + pixel_bytes_of l) (g.S.Source.ranges c.args.source.now) (g.S.Source.ranges c.loop-underway.source) (g.S.Source.ranges c.encode_tiles.new.source) old.log coded.log;
+        cause = search rules;
+      },
+      search rules,
+      search rules,
+      search rules,
+    )
 
 pub returns-clause-stays : goal.returns-clause-stays
 returns-clause-stays g c =
-    let old = c.loop-underway.invariant in
-    record {
-      source = record { held_is = old.held; attached_is = old.attached; told = old.told_ranges };
-      sink = record { created_is = old.created; shut = old.shut; told = old.told_contents };
-      log = old.log;
-      cause = search rules;
-    }
+    let old = c.loop-underway.invariant in (
+      search rules,
+      record {
+        source = record { held_is = old.held; attached_is = old.attached; told = old.told_ranges };
+        sink = record { created_is = old.created; shut = old.shut; told = old.told_contents };
+        log = old.log;
+        cause = search rules;
+      },
+      search rules,
+      search rules,
+      search rules,
+    )

@@ -51,20 +51,20 @@ returns-clause-end g c =
 
 pub returns-in_err-progress-clause-stays : goal.returns-in_err-progress-clause-stays
 returns-in_err-progress-clause-stays g c =
-    let stays = c.in_err-progress.ensures.stays in
-    record { source = stays.source; sink = stays.sink; log = stays.log; cause = search rules }
+    let stays = c.in_err-progress.ensures.stays.1 in
+    (search rules, record { source = stays.source; sink = stays.sink; log = stays.log; cause = search rules }, search rules, search rules)
 
 pub returns-in_err-end-clause-stays : goal.returns-in_err-end-clause-stays
 returns-in_err-end-clause-stays g c =
-    let stays = c.in_ok-progress.ensures.stays in
-    record { source = stays.source; sink = search rules; log = stays.log; cause = search rules }
+    let stays = c.in_ok-progress.ensures.stays.1 in
+    (search rules, record { source = stays.source; sink = search rules; log = stays.log; cause = search rules }, search rules, search rules)
 
 pub returns-in_err-write_behind-clause-stays : goal.returns-in_err-write_behind-clause-stays
 returns-in_err-write_behind-clause-stays g c =
-    let stays = c.in_ok-progress.ensures.stays in
-    record { source = stays.source; sink = search rules; log = stays.log; cause = search rules }
+    let stays = c.in_ok-progress.ensures.stays.1 in
+    (search rules, record { source = stays.source; sink = search rules; log = stays.log; cause = search rules }, search rules, search rules)
 
 pub returns-clause-stays : goal.returns-clause-stays
 returns-clause-stays g c =
-    let stays = c.in_ok-progress.ensures.stays in
-    record { source = stays.source; sink = search rules; log = stays.log; cause = search rules }
+    let stays = c.in_ok-progress.ensures.stays.1 in
+    (search rules, record { source = stays.source; sink = search rules; log = stays.log; cause = search rules }, search rules, search rules)

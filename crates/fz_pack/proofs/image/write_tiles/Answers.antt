@@ -31,35 +31,41 @@ returns-clause-written g c =
 
 pub returns-in_err-underway-clause-stays : goal.returns-in_err-underway-clause-stays
 returns-in_err-underway-clause-stays g c =
-    let stays = c.in_err-underway.ensures.stays in
-    record { source = stays.source; sink = stays.sink; log = stays.log; cause = search rules }
+    let stays = c.in_err-underway.ensures.stays.1 in
+    (search rules, record { source = stays.source; sink = stays.sink; log = stays.log; cause = search rules }, search rules)
 
 pub returns-in_err-write_held-clause-stays : goal.returns-in_err-write_held-clause-stays
 returns-in_err-write_held-clause-stays g c =
-    let stays = c.in_ok-underway.ensures.stays in
-    let put = c.in_err-write_held.ensures.sink in
-    record {
-      source = stays.source;
-      sink = record {
-        created_is = put.created_is ∙ stays.sink.created_is;
-        shut = λ shut. put.shut (stays.sink.shut shut);
-        told = λ told. put.told (stays.sink.told told);
-      };
-      log = stays.log;
-      cause = search rules;
-    }
+    let stays = c.in_ok-underway.ensures.stays.1 in
+    let put = c.in_err-write_held.ensures.sink in (
+      search rules,
+      record {
+        source = stays.source;
+        sink = record {
+          created_is = put.created_is ∙ stays.sink.created_is;
+          shut = λ shut. put.shut (stays.sink.shut shut);
+          told = λ told. put.told (stays.sink.told told);
+        };
+        log = stays.log;
+        cause = search rules;
+      },
+      search rules,
+    )
 
 pub returns-clause-stays : goal.returns-clause-stays
 returns-clause-stays g c =
-    let stays = c.in_ok-underway.ensures.stays in
-    let put = c.in_ok-write_held.ensures.sink in
-    record {
-      source = stays.source;
-      sink = record {
-        created_is = put.created_is ∙ stays.sink.created_is;
-        shut = λ shut. put.shut (stays.sink.shut shut);
-        told = λ told. put.told (stays.sink.told told);
-      };
-      log = stays.log;
-      cause = search rules;
-    }
+    let stays = c.in_ok-underway.ensures.stays.1 in
+    let put = c.in_ok-write_held.ensures.sink in (
+      search rules,
+      record {
+        source = stays.source;
+        sink = record {
+          created_is = put.created_is ∙ stays.sink.created_is;
+          shut = λ shut. put.shut (stays.sink.shut shut);
+          told = λ told. put.told (stays.sink.told told);
+        };
+        log = stays.log;
+        cause = search rules;
+      },
+      search rules,
+    )

@@ -36,21 +36,29 @@ returns-clause-more g c = λ before was.
 pub returns-in_err-encode_and_move-clause-stays : goal.returns-in_err-encode_and_move-clause-stays
 returns-in_err-encode_and_move-clause-stays g c =
     let moved = c.in_err-encode_and_move.ensures.moved in
-    let ends = moved.ends in
-    record {
-      source = record { held_is = ends.held_is; attached_is = ends.attached_is; told = ends.told_ranges };
-      sink = record { created_is = ends.created_is; shut = ends.shut; told = ends.told_contents };
-      log = moved.log;
-      cause = search rules;
-    }
+    let ends = moved.ends in (
+      record {
+        source = record { held_is = ends.held_is; attached_is = ends.attached_is; told = ends.told_ranges };
+        sink = record { created_is = ends.created_is; shut = ends.shut; told = ends.told_contents };
+        log = moved.log;
+        cause = search rules;
+      },
+      search rules,
+      search rules,
+      search rules,
+    )
 
 pub returns-clause-stays : goal.returns-clause-stays
 returns-clause-stays g c =
     let moved = c.in_ok-encode_and_move.ensures.moved in
-    let ends = moved.ends in
-    record {
-      source = record { held_is = ends.held_is; attached_is = ends.attached_is; told = ends.told_ranges };
-      sink = record { created_is = ends.created_is; shut = ends.shut; told = ends.told_contents };
-      log = moved.log;
-      cause = search rules;
-    }
+    let ends = moved.ends in (
+      record {
+        source = record { held_is = ends.held_is; attached_is = ends.attached_is; told = ends.told_ranges };
+        sink = record { created_is = ends.created_is; shut = ends.shut; told = ends.told_contents };
+        log = moved.log;
+        cause = search rules;
+      },
+      search rules,
+      search rules,
+      search rules,
+    )

@@ -69,20 +69,20 @@ loop-underway-preserved g c =
     let now : IsWritten l held before next new.underway.progress =
     subst (λ (h : Option (List ℕ)). IsWritten l h before next new.underway.progress) old.held more in
     record {
-      held = done.stays.source.held_is ∙ old.held;
-      attached = done.stays.source.attached_is ∙ old.attached;
-      reads = done.stays.cause.ok.0 ∙ old.reads;
-      created = done.stays.sink.created_is ∙ old.created;
-      writes = done.stays.cause.ok.1 ∙ old.writes;
-      shut = λ shut. done.stays.sink.shut (old.shut shut);
-      log = c.log_law.ensures.both l.pixels_at (l.pixels_at + pixel_bytes_of l) (g.S.Source.ranges c.args.source.now) (g.S.Source.ranges c.loop-underway.source) (g.S.Source.ranges c.take_turn.new.source) c.loop-underway.invariant.log done.stays.log;
-      told_ranges = λ told. done.stays.source.told (old.told_ranges told);
-      told_contents = λ told. done.stays.sink.told (old.told_contents told);
+      held = done.stays.0.source.held_is ∙ old.held;
+      attached = done.stays.0.source.attached_is ∙ old.attached;
+      reads = done.stays.0.cause.ok.0 ∙ old.reads;
+      created = done.stays.0.sink.created_is ∙ old.created;
+      writes = done.stays.0.cause.ok.1 ∙ old.writes;
+      shut = λ shut. done.stays.0.sink.shut (old.shut shut);
+      log = c.log_law.ensures.both l.pixels_at (l.pixels_at + pixel_bytes_of l) (g.S.Source.ranges c.args.source.now) (g.S.Source.ranges c.loop-underway.source) (g.S.Source.ranges c.take_turn.new.source) c.loop-underway.invariant.log done.stays.0.log;
+      told_ranges = λ told. done.stays.0.source.told (old.told_ranges told);
+      told_contents = λ told. done.stays.0.sink.told (old.told_contents told);
       rooms = still_rooms l c.loop-underway.first c.loop-underway.second new.first new.second old.rooms done.windows;
       windows = λ size one other. let both = old.windows size one other in done.windows size both.0 both.1;
-      workers = done.workers ∙ old.workers;
-      rows = done.rows ∙ old.rows;
-      room = done.room ∙ old.room;
+      workers = done.stays.3 ∙ old.workers;
+      rows = done.stays.1 ∙ old.rows;
+      room = done.stays.2 ∙ old.room;
       last = done.held;
       ready = subst (λ (h : Option (List ℕ)). StandReady l h new.underway.progress new.turn.coded new.turn.loaded new.first new.second) old.held done.ready;
       written = now;
@@ -92,21 +92,25 @@ pub returns-in_err-take_turn-clause-stays : goal.returns-in_err-take_turn-clause
 returns-in_err-take_turn-clause-stays g c =
     let l = c.args.writing.now.layout in
     let old = c.loop-underway.invariant in
-    let stays = c.in_err-take_turn.ensures.stays in
-    record {
-      source = record {
-        held_is = stays.source.held_is ∙ old.held;
-        attached_is = stays.source.attached_is ∙ old.attached;
-        told = λ told. stays.source.told (old.told_ranges told);
-      };
-      sink = record {
-        created_is = stays.sink.created_is ∙ old.created;
-        shut = λ shut. stays.sink.shut (old.shut shut);
-        told = λ told. stays.sink.told (old.told_contents told);
-      };
-      log = c.log_law.ensures.both l.pixels_at (l.pixels_at + pixel_bytes_of l) (g.S.Source.ranges c.args.source.now) (g.S.Source.ranges c.loop-underway.source) (g.S.Source.ranges c.take_turn.new.source) old.log stays.log;
-      cause = search rules;
-    }
+    let stays = c.in_err-take_turn.ensures.stays.0 in (
+      record {
+        source = record {
+          held_is = stays.source.held_is ∙ old.held;
+          attached_is = stays.source.attached_is ∙ old.attached;
+          told = λ told. stays.source.told (old.told_ranges told);
+        };
+        sink = record {
+          created_is = stays.sink.created_is ∙ old.created;
+          shut = λ shut. stays.sink.shut (old.shut shut);
+          told = λ told. stays.sink.told (old.told_contents told);
+        };
+        log = c.log_law.ensures.both l.pixels_at (l.pixels_at + pixel_bytes_of l) (g.S.Source.ranges c.args.source.now) (g.S.Source.ranges c.loop-underway.source) (g.S.Source.ranges c.take_turn.new.source) old.log stays.log;
+        cause = search rules;
+      },
+      search rules,
+      search rules,
+      search rules,
+    )
 
 pub take_turn-requires-clause-can : goal.take_turn-requires-clause-can
 take_turn-requires-clause-can g c κs within =
@@ -120,10 +124,14 @@ take_turn-requires-clause-can g c κs within =
 
 pub returns-clause-stays : goal.returns-clause-stays
 returns-clause-stays g c =
-    let old = c.loop-underway.invariant in
-    record {
-      source = record { held_is = old.held; attached_is = old.attached; told = old.told_ranges };
-      sink = record { created_is = old.created; shut = old.shut; told = old.told_contents };
-      log = old.log;
-      cause = search rules;
-    }
+    let old = c.loop-underway.invariant in (
+      record {
+        source = record { held_is = old.held; attached_is = old.attached; told = old.told_ranges };
+        sink = record { created_is = old.created; shut = old.shut; told = old.told_contents };
+        log = old.log;
+        cause = search rules;
+      },
+      search rules,
+      search rules,
+      search rules,
+    )

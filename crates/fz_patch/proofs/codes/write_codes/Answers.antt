@@ -69,7 +69,7 @@ code_slot-slot-requires-clause-code g c = (c.in-Some.tile, c.in_ok-prepare_tile.
 
 pub amend_at-requires-clause-within : goal.amend_at-requires-clause-within
 amend_at-requires-clause-within g c =
-    subst (λ (a : Option ℕ). HasAtLeast a c.loop-tile.at) (sym c.in_ok-prepare_tile.ensures.store.attached_is) c.loop-tile.invariant.reach
+    subst (λ (a : Option ℕ). HasAtLeast a c.loop-tile.at) (sym c.in_ok-prepare_tile.ensures.stays.0.attached_is) c.loop-tile.invariant.reach
 
 pub amend_at-requires-clause-near : goal.amend_at-requires-clause-near
 amend_at-requires-clause-near g c =
@@ -100,20 +100,20 @@ loop-tile-preserved g c =
     subst (λ (s : Option (List ℕ)). IfBoth (g.D.Source.held start) s (λ f p. (corner : List ℕ) → IsGivenTo corner p t → HasNewCode f t.header t.image.plan (given_at corner p) tile w)) old.given done.new in
     let same_counts = same-is (g.D.Source.tally start) (g.D.Source.tally read) done.cause.ok.0 in
     let count : length bytes ≡ c.from-count.result = c.code_in.ensures.count ∙ sym c.from-count.ensures in
-    let made : g.D.Source.held now ≡ written at bytes (g.D.Source.held start) = put.amended ∙ ap (written at bytes) done.store.held_is in
+    let made : g.D.Source.held now ≡ written at bytes (g.D.Source.held start) = put.amended ∙ ap (written at bytes) done.stays.0.held_is in
     let reach : HasAtLeast (g.D.Source.attached now) (at + length bytes) = reach_end at (length bytes) (g.D.Source.attached read) (g.D.Source.attached now) _ put.reach in
     record {
-      given = done.patch.held_is ∙ old.given;
-      given_len = done.patch.attached_is ∙ old.given_len;
-      given_told = λ told. done.patch.told (old.given_told told);
+      given = done.stays.1.held_is ∙ old.given;
+      given_len = done.stays.1.attached_is ∙ old.given_len;
+      given_told = λ told. done.stays.1.told (old.given_told told);
       given_tally = done.cause.ok.1 ∙ old.given_tally;
-      window = record { sizes = done.window.sizes ∙ old.window.sizes; workers = done.window.workers ∙ old.window.workers };
-      copy = done.copy ∙ old.copy;
+      window = record { sizes = done.stays.2.sizes ∙ old.window.sizes; workers = done.stays.2.workers ∙ old.window.workers };
+      copy = done.stays.3 ∙ old.copy;
       low = omega (arith, old.low);
       high = omega (arith, old.high);
       reach = subst (λ k. HasAtLeast (g.D.Source.attached now) (at + k)) count reach;
-      grows = reach-then _ _ _ old.grows (reach-then _ _ _ (reach-is _ _ done.store.attached_is) (reach-of at (length bytes) _ _ _ put.reach));
-      told = told-then _ _ _ old.told (told-then _ _ _ (told-is _ _ done.store.held_is) (told-written at bytes _ _ put.amended));
+      grows = reach-then _ _ _ old.grows (reach-then _ _ _ (reach-is _ _ done.stays.0.attached_is) (reach-of at (length bytes) _ _ _ put.reach));
+      told = told-then _ _ _ old.told (told-then _ _ _ (told-is _ _ done.stays.0.held_is) (told-written at bytes _ _ put.amended));
       kept = kept-then _ _ _ old.kept (kept-then _ _ _ (kept-read _ _ done.cause.store_kept) put.cause.kept);
       counts = same-then _ _ _ old.counts (same-then _ _ _ same_counts (same-amended _ _ _ put.cause.ok));
       boxes = later_boxes t tile left after next old.boxes;
@@ -137,7 +137,7 @@ returns-in_err-prepare_tile-clause-some g c =
     let state = c.loop-tile.invariant.state in
     let stopped = c.in_err-prepare_tile.ensures in
     some_codes_same t given held (g.D.Source.held c.loop-tile.store) (g.D.Source.held c.prepare_tile.new.store) log (g.D.Source.tally c.loop-tile.store).amended.writes (g.D.Source.tally c.prepare_tile.new.store).amended.writes
-    stopped.store.held_is (read_writes (g.D.Source.tally c.loop-tile.store) (g.D.Source.tally c.prepare_tile.new.store) stopped.cause.store_kept)
+    stopped.stays.0.held_is (read_writes (g.D.Source.tally c.loop-tile.store) (g.D.Source.tally c.prepare_tile.new.store) stopped.cause.store_kept)
     (codes_stop t held given (g.D.Source.held c.loop-tile.store) log (g.D.Source.tally c.loop-tile.store).amended.writes state.front (sieve_tiles_left c.loop-tile.tile-iterator) c.loop-tile.at state.parts c.requires.said state.have)
 
 pub returns-in_err-prepare_tile-clause-unrefused : goal.returns-in_err-prepare_tile-clause-unrefused
@@ -189,7 +189,7 @@ returns-then-count-room-clause-some g c =
     let state = c.loop-tile.invariant.state in
     let done = c.in_ok-prepare_tile.ensures in
     some_codes_same t given held (g.D.Source.held c.loop-tile.store) (g.D.Source.held c.prepare_tile.new.store) log (g.D.Source.tally c.loop-tile.store).amended.writes (g.D.Source.tally c.prepare_tile.new.store).amended.writes
-    done.store.held_is (read_writes (g.D.Source.tally c.loop-tile.store) (g.D.Source.tally c.prepare_tile.new.store) done.cause.store_kept)
+    done.stays.0.held_is (read_writes (g.D.Source.tally c.loop-tile.store) (g.D.Source.tally c.prepare_tile.new.store) done.cause.store_kept)
     (codes_stop t held given (g.D.Source.held c.loop-tile.store) log (g.D.Source.tally c.loop-tile.store).amended.writes state.front (sieve_tiles_left c.loop-tile.tile-iterator) c.loop-tile.at state.parts c.requires.said state.have)
 
 pub returns-then-count-room-clause-unrefused : goal.returns-then-count-room-clause-unrefused
@@ -226,10 +226,10 @@ returns-then-count-room-clause-cause g c =
     (same-then s s' s'' old.counts (same-is s' s'' done.cause.ok.0)) (done.cause.ok.1 ∙ old.given_tally))
 
 pub returns-then-count-room-clause-reach : goal.returns-then-count-room-clause-reach
-returns-then-count-room-clause-reach g c = reach-then _ _ _ c.loop-tile.invariant.grows (reach-is _ _ c.in_ok-prepare_tile.ensures.store.attached_is)
+returns-then-count-room-clause-reach g c = reach-then _ _ _ c.loop-tile.invariant.grows (reach-is _ _ c.in_ok-prepare_tile.ensures.stays.0.attached_is)
 
 pub returns-in_err-prepare_tile-clause-reach : goal.returns-in_err-prepare_tile-clause-reach
-returns-in_err-prepare_tile-clause-reach g c = reach-then _ _ _ c.loop-tile.invariant.grows (reach-is _ _ c.in_err-prepare_tile.ensures.store.attached_is)
+returns-in_err-prepare_tile-clause-reach g c = reach-then _ _ _ c.loop-tile.invariant.grows (reach-is _ _ c.in_err-prepare_tile.ensures.stays.0.attached_is)
 
 -- ---- a code is not written
 
@@ -258,7 +258,7 @@ returns-in_err-amend_at-clause-some g c =
     codes_failed t held given (g.D.Source.held start) (g.D.Source.held now) log (g.D.Source.tally start).amended.writes (g.D.Source.tally now).amended.writes state.front tile after c.loop-tile.at bytes w c.requires.target
     (state.parts ∙ ap (λ l. state.front ++ l) next) (row_of_tile t tile c.requires.target (next_box t tile left after next old.boxes)) c.requires.said state.still new
     (λ code has. c.code_in.ensures.bytes ∙ ap (λ (e : TileCode). e.bytes) (first_has w slot code c.code_slot-slot.ensures.first has).0)
-    (subst (λ (h : Option (List ℕ)). MayAmend c.loop-tile.at (length bytes) h (g.D.Source.held now)) done.store.held_is put.partly)
+    (subst (λ (h : Option (List ℕ)). MayAmend c.loop-tile.at (length bytes) h (g.D.Source.held now)) done.stays.0.held_is put.partly)
     (put.cause.unlogged ∙ read_writes (g.D.Source.tally start) (g.D.Source.tally read) done.cause.store_kept) state.have
 
 pub returns-in_err-amend_at-clause-unrefused : goal.returns-in_err-amend_at-clause-unrefused
@@ -291,7 +291,7 @@ returns-in_err-amend_at-clause-cause g c =
 
 pub returns-in_err-amend_at-clause-reach : goal.returns-in_err-amend_at-clause-reach
 returns-in_err-amend_at-clause-reach g c =
-    reach-then _ _ _ c.loop-tile.invariant.grows (reach-then _ _ _ (reach-is _ _ c.in_ok-prepare_tile.ensures.store.attached_is) (reach-of c.loop-tile.at (length c.code_in.result.now) _ _ _ c.in_err-amend_at.ensures.reach))
+    reach-then _ _ _ c.loop-tile.invariant.grows (reach-then _ _ _ (reach-is _ _ c.in_ok-prepare_tile.ensures.stays.0.attached_is) (reach-of c.loop-tile.at (length c.code_in.result.now) _ _ _ c.in_err-amend_at.ensures.reach))
 
 -- ---- all codes are shorter than was measured
 

@@ -40,7 +40,7 @@ loop-tile-preserved g c =
     record {
       held = search rules;
       attached = search rules;
-      told = λ told. c.in_ok-greatest.ensures.store.told (c.loop-tile.invariant.told told);
+      told = λ told. c.in_ok-greatest.ensures.stays.0.told (c.loop-tile.invariant.told told);
       reads = search rules;
       copy = search rules;
       others = others_step t.image.plan t.sieve t.image.table c.args.found.now (g.D.Source.held c.args.store.now) c.loop-tile.greatest c.in_ok-greatest.greatest c.loop-tile.first c.in-Some.tile (sieve_tiles_left c.loop-tile.tile-iterator) (sieve_tiles_left c.next.new.self)

@@ -7,7 +7,7 @@ pub loop-done-preserved : goal.loop-done-preserved
 loop-done-preserved g c = record {
   held = search rules;
   attached = search rules;
-  told = λ told. c.in_ok-greatest.ensures.store.told (c.loop-done.invariant.told told);
+  told = λ told. c.in_ok-greatest.ensures.stays.0.told (c.loop-done.invariant.told told);
   reads = search rules;
   copy = search rules;
   few = search rules;

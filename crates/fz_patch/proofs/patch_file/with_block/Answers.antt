@@ -109,8 +109,8 @@ returns-in_err-found-clause-reach g c =
 pub returns-in_err-found-clause-first_fault : goal.returns-in_err-found-clause-first_fault
 returns-in_err-found-clause-first_fault g c =
     let stopped : c.from_residual-in_err-found.result ≡ Err c.in_err-found.field-0.0 = search rules in
-    let live1 : c.survey_every.new.meter.live ≡ c.args.meter.now.live = c.in_ok-survey_every.ensures.live in
-    let limit1 : c.survey_every.new.meter.limit ≡ c.args.meter.now.limit = c.in_ok-survey_every.ensures.limit in
+    let live1 : c.survey_every.new.meter.live ≡ c.args.meter.now.live = c.in_ok-survey_every.ensures.stays.1 in
+    let limit1 : c.survey_every.new.meter.limit ≡ c.args.meter.now.limit = c.in_ok-survey_every.ensures.stays.2 in
     let look : IfSome (g.D.Source.held c.args.store.now) (HasLooked c.args.meter.now.live c.args.meter.now.limit) = looked c.survey_law.ensures.every c.args.meter.now.live c.args.meter.now.limit (g.D.Source.held c.args.store.now) _ c.requires.one_block c.in_ok-survey_every.ensures.exact c.in_ok-survey_every.ensures.first_past in
     let held1 : g.D.Source.held c.survey_every.new.source ≡ g.D.Source.held c.args.store.now = search rules in
     let exact : IfSome (g.D.Source.held c.args.store.now) (λ f. IsDefined {X = Header} (amend_surveyed c.args.hdu f) (Err c.in_err-found.field-0.0)) = rw held1 at c.in_err-found.ensures.exact in
@@ -121,8 +121,8 @@ pub returns-in_err-found-clause-first_past : goal.returns-in_err-found-clause-fi
 returns-in_err-found-clause-first_past g c =
     let stopped : c.from_residual-in_err-found.result ≡ Err c.in_err-found.field-0.0 = search rules in
     let meter = c.args.meter.now in
-    let live1 : c.survey_every.new.meter.live ≡ c.args.meter.now.live = c.in_ok-survey_every.ensures.live in
-    let limit1 : c.survey_every.new.meter.limit ≡ c.args.meter.now.limit = c.in_ok-survey_every.ensures.limit in
+    let live1 : c.survey_every.new.meter.live ≡ c.args.meter.now.live = c.in_ok-survey_every.ensures.stays.1 in
+    let limit1 : c.survey_every.new.meter.limit ≡ c.args.meter.now.limit = c.in_ok-survey_every.ensures.stays.2 in
     let look : IfSome (g.D.Source.held c.args.store.now) (HasLooked c.args.meter.now.live c.args.meter.now.limit) = looked c.survey_law.ensures.every c.args.meter.now.live c.args.meter.now.limit (g.D.Source.held c.args.store.now) _ c.requires.one_block c.in_ok-survey_every.ensures.exact c.in_ok-survey_every.ensures.first_past in
     let held1 : g.D.Source.held c.survey_every.new.source ≡ g.D.Source.held c.args.store.now = search rules in
     let exact : IfSome (g.D.Source.held c.args.store.now) (λ f. IsDefined {X = Header} (amend_surveyed c.args.hdu f) (Err c.in_err-found.field-0.0)) = rw held1 at c.in_err-found.ensures.exact in
@@ -137,8 +137,8 @@ returns-in_err-found-clause-first_past g c =
 pub returns-in_err-found-clause-peak : goal.returns-in_err-found-clause-peak
 returns-in_err-found-clause-peak g c =
     let meter = c.args.meter.now in
-    let live1 : c.survey_every.new.meter.live ≡ c.args.meter.now.live = c.in_ok-survey_every.ensures.live in
-    let limit1 : c.survey_every.new.meter.limit ≡ c.args.meter.now.limit = c.in_ok-survey_every.ensures.limit in
+    let live1 : c.survey_every.new.meter.live ≡ c.args.meter.now.live = c.in_ok-survey_every.ensures.stays.1 in
+    let limit1 : c.survey_every.new.meter.limit ≡ c.args.meter.now.limit = c.in_ok-survey_every.ensures.stays.2 in
     let look : IfSome (g.D.Source.held c.args.store.now) (HasLooked c.args.meter.now.live c.args.meter.now.limit) = looked c.survey_law.ensures.every c.args.meter.now.live c.args.meter.now.limit (g.D.Source.held c.args.store.now) _ c.requires.one_block c.in_ok-survey_every.ensures.exact c.in_ok-survey_every.ensures.first_past in
     let held1 : g.D.Source.held c.survey_every.new.source ≡ g.D.Source.held c.args.store.now = search rules in
     let first : IfSome (g.D.Source.held c.args.store.now) (λ f. c.survey_every.new.meter.peak ≤ max c.args.meter.now.peak (highest (survey_takings Every c.args.meter.now.live f))) = c.in_ok-survey_every.ensures.peak in
@@ -149,13 +149,13 @@ pub returns-in_err-found-clause-most : goal.returns-in_err-found-clause-most
 returns-in_err-found-clause-most g c =
     let stopped : c.from_residual-in_err-found.result ≡ Err c.in_err-found.field-0.0 = search rules in
     let meter = c.args.meter.now in
-    let tells : TellsLimit {X = Header} meter.limit (c.survey_every.new.meter.live + 737280) (Err c.in_err-found.field-0.0) = subst (λ (n : ℕ). TellsLimit {X = Header} n (c.survey_every.new.meter.live + 737280) (Err c.in_err-found.field-0.0)) c.in_ok-survey_every.ensures.limit c.in_err-found.ensures.most in
+    let tells : TellsLimit {X = Header} meter.limit (c.survey_every.new.meter.live + 737280) (Err c.in_err-found.field-0.0) = subst (λ (n : ℕ). TellsLimit {X = Header} n (c.survey_every.new.meter.live + 737280) (Err c.in_err-found.field-0.0)) c.in_ok-survey_every.ensures.stays.2 c.in_err-found.ensures.most in
     subst (λ (r : Result (Unit {0}) Stop). TellsLimit meter.limit greatest_patch_bound r) (sym stopped)
-    (stop_limit (Unit {0}) Header meter.limit (c.survey_every.new.meter.live + 737280) greatest_patch_bound c.in_err-found.field-0.0 (omega (arith, c.in_ok-survey_every.ensures.live, c.requires.one_block, bound_headers)) tells)
+    (stop_limit (Unit {0}) Header meter.limit (c.survey_every.new.meter.live + 737280) greatest_patch_bound c.in_err-found.field-0.0 (omega (arith, c.in_ok-survey_every.ensures.stays.1, c.requires.one_block, bound_headers)) tells)
 
 pub returns-in_err-found-clause-peak_most : goal.returns-in_err-found-clause-peak_most
 returns-in_err-found-clause-peak_most g c =
-    omega (arith, c.requires.one_block, bound_headers, c.in_ok-survey_every.ensures.live, c.in_ok-survey_every.ensures.peak_most, c.in_err-found.ensures.peak_most)
+    omega (arith, c.requires.one_block, bound_headers, c.in_ok-survey_every.ensures.stays.1, c.in_ok-survey_every.ensures.peak_most, c.in_err-found.ensures.peak_most)
 
 pub returns-in_err-found-clause-cause : goal.returns-in_err-found-clause-cause
 returns-in_err-found-clause-cause g c =
@@ -165,7 +165,7 @@ returns-in_err-found-clause-cause g c =
     let s' : Tally = g.D.Source.tally c.survey_to_amend.new.source in
     let p : Tally = g.S.Source.tally c.args.patch.now in
     let part : ReadsAndTakes {X = Header} s s' meter.limit (Err c.in_err-found.field-0.0) =
-    subst (λ (t : Tally). ReadsAndTakes {X = Header} t s' meter.limit (Err c.in_err-found.field-0.0)) c.in_ok-survey_every.ensures.cause.ok (subst (λ (n : ℕ). ReadsAndTakes {X = Header} (g.D.Source.tally c.survey_every.new.source) s' n (Err c.in_err-found.field-0.0)) c.in_ok-survey_every.ensures.limit c.in_err-found.ensures.cause) in
+    subst (λ (t : Tally). ReadsAndTakes {X = Header} t s' meter.limit (Err c.in_err-found.field-0.0)) c.in_ok-survey_every.ensures.cause.ok (subst (λ (n : ℕ). ReadsAndTakes {X = Header} (g.D.Source.tally c.survey_every.new.source) s' n (Err c.in_err-found.field-0.0)) c.in_ok-survey_every.ensures.stays.2 c.in_err-found.ensures.cause) in
     subst (λ (r : Result (Unit {0}) Stop). WorksInPlace s s' p p meter.limit r) (sym stopped) (store_works {X = Unit {0}} {Y = Header} s s' p meter.limit c.in_err-found.field-0.0 part)
 
 -- ---- the header was not read again
@@ -190,12 +190,12 @@ returns-in_err-kept-clause-reach g c =
 pub returns-in_err-kept-clause-first_fault : goal.returns-in_err-kept-clause-first_fault
 returns-in_err-kept-clause-first_fault g c =
     let stopped : c.from_residual-in_err-kept.result ≡ Err c.in_err-kept.field-0.0 = search rules in
-    let live1 : c.survey_every.new.meter.live ≡ c.args.meter.now.live = c.in_ok-survey_every.ensures.live in
-    let limit1 : c.survey_every.new.meter.limit ≡ c.args.meter.now.limit = c.in_ok-survey_every.ensures.limit in
+    let live1 : c.survey_every.new.meter.live ≡ c.args.meter.now.live = c.in_ok-survey_every.ensures.stays.1 in
+    let limit1 : c.survey_every.new.meter.limit ≡ c.args.meter.now.limit = c.in_ok-survey_every.ensures.stays.2 in
     let look : IfSome (g.D.Source.held c.args.store.now) (HasLooked c.args.meter.now.live c.args.meter.now.limit) = looked c.survey_law.ensures.every c.args.meter.now.live c.args.meter.now.limit (g.D.Source.held c.args.store.now) _ c.requires.one_block c.in_ok-survey_every.ensures.exact c.in_ok-survey_every.ensures.first_past in
     let held1 : g.D.Source.held c.survey_every.new.source ≡ g.D.Source.held c.args.store.now = search rules in
-    let live2 : c.survey_to_amend.new.meter.live ≡ c.args.meter.now.live = c.in_ok-found.ensures.live ∙ live1 in
-    let limit2 : c.survey_to_amend.new.meter.limit ≡ c.args.meter.now.limit = c.in_ok-found.ensures.limit ∙ limit1 in
+    let live2 : c.survey_to_amend.new.meter.live ≡ c.args.meter.now.live = c.in_ok-found.ensures.stays.1 ∙ live1 in
+    let limit2 : c.survey_to_amend.new.meter.limit ≡ c.args.meter.now.limit = c.in_ok-found.ensures.stays.2 ∙ limit1 in
     let exact2 : IfSome (g.D.Source.held c.args.store.now) (λ f. amend_surveyed c.args.hdu f ≡ Ok c.in_ok-found.found) = rw held1 at c.in_ok-found.ensures.exact in
     let none2 : IfSome (g.D.Source.held c.args.store.now) (λ f. first_past c.args.meter.now.limit (survey_takings (AmendLook c.args.hdu) c.args.meter.now.live f) ≡ None) = rw (held1, live1, limit1) at c.in_ok-found.ensures.first_past in
     let known : IfSome (g.D.Source.held c.args.store.now) (HasFound c.args.meter.now.live c.args.meter.now.limit c.args.hdu c.in_ok-found.found) = found c.hdu_at_law.ensures.walk c.found_hdus_law.ensures.last c.survey_law.ensures.amend c.args.meter.now.live c.args.meter.now.limit c.args.hdu c.in_ok-found.found (g.D.Source.held c.args.store.now) c.requires.one_block look exact2 none2 in
@@ -208,12 +208,12 @@ pub returns-in_err-kept-clause-first_past : goal.returns-in_err-kept-clause-firs
 returns-in_err-kept-clause-first_past g c =
     let stopped : c.from_residual-in_err-kept.result ≡ Err c.in_err-kept.field-0.0 = search rules in
     let meter = c.args.meter.now in
-    let live1 : c.survey_every.new.meter.live ≡ c.args.meter.now.live = c.in_ok-survey_every.ensures.live in
-    let limit1 : c.survey_every.new.meter.limit ≡ c.args.meter.now.limit = c.in_ok-survey_every.ensures.limit in
+    let live1 : c.survey_every.new.meter.live ≡ c.args.meter.now.live = c.in_ok-survey_every.ensures.stays.1 in
+    let limit1 : c.survey_every.new.meter.limit ≡ c.args.meter.now.limit = c.in_ok-survey_every.ensures.stays.2 in
     let look : IfSome (g.D.Source.held c.args.store.now) (HasLooked c.args.meter.now.live c.args.meter.now.limit) = looked c.survey_law.ensures.every c.args.meter.now.live c.args.meter.now.limit (g.D.Source.held c.args.store.now) _ c.requires.one_block c.in_ok-survey_every.ensures.exact c.in_ok-survey_every.ensures.first_past in
     let held1 : g.D.Source.held c.survey_every.new.source ≡ g.D.Source.held c.args.store.now = search rules in
-    let live2 : c.survey_to_amend.new.meter.live ≡ c.args.meter.now.live = c.in_ok-found.ensures.live ∙ live1 in
-    let limit2 : c.survey_to_amend.new.meter.limit ≡ c.args.meter.now.limit = c.in_ok-found.ensures.limit ∙ limit1 in
+    let live2 : c.survey_to_amend.new.meter.live ≡ c.args.meter.now.live = c.in_ok-found.ensures.stays.1 ∙ live1 in
+    let limit2 : c.survey_to_amend.new.meter.limit ≡ c.args.meter.now.limit = c.in_ok-found.ensures.stays.2 ∙ limit1 in
     let exact2 : IfSome (g.D.Source.held c.args.store.now) (λ f. amend_surveyed c.args.hdu f ≡ Ok c.in_ok-found.found) = rw held1 at c.in_ok-found.ensures.exact in
     let none2 : IfSome (g.D.Source.held c.args.store.now) (λ f. first_past c.args.meter.now.limit (survey_takings (AmendLook c.args.hdu) c.args.meter.now.live f) ≡ None) = rw (held1, live1, limit1) at c.in_ok-found.ensures.first_past in
     let known : IfSome (g.D.Source.held c.args.store.now) (HasFound c.args.meter.now.live c.args.meter.now.limit c.args.hdu c.in_ok-found.found) = found c.hdu_at_law.ensures.walk c.found_hdus_law.ensures.last c.survey_law.ensures.amend c.args.meter.now.live c.args.meter.now.limit c.args.hdu c.in_ok-found.found (g.D.Source.held c.args.store.now) c.requires.one_block look exact2 none2 in
@@ -229,12 +229,12 @@ returns-in_err-kept-clause-first_past g c =
 
 pub returns-in_err-kept-clause-peak : goal.returns-in_err-kept-clause-peak
 returns-in_err-kept-clause-peak g c =
-    let live1 : c.survey_every.new.meter.live ≡ c.args.meter.now.live = c.in_ok-survey_every.ensures.live in
-    let limit1 : c.survey_every.new.meter.limit ≡ c.args.meter.now.limit = c.in_ok-survey_every.ensures.limit in
+    let live1 : c.survey_every.new.meter.live ≡ c.args.meter.now.live = c.in_ok-survey_every.ensures.stays.1 in
+    let limit1 : c.survey_every.new.meter.limit ≡ c.args.meter.now.limit = c.in_ok-survey_every.ensures.stays.2 in
     let look : IfSome (g.D.Source.held c.args.store.now) (HasLooked c.args.meter.now.live c.args.meter.now.limit) = looked c.survey_law.ensures.every c.args.meter.now.live c.args.meter.now.limit (g.D.Source.held c.args.store.now) _ c.requires.one_block c.in_ok-survey_every.ensures.exact c.in_ok-survey_every.ensures.first_past in
     let held1 : g.D.Source.held c.survey_every.new.source ≡ g.D.Source.held c.args.store.now = search rules in
-    let live2 : c.survey_to_amend.new.meter.live ≡ c.args.meter.now.live = c.in_ok-found.ensures.live ∙ live1 in
-    let limit2 : c.survey_to_amend.new.meter.limit ≡ c.args.meter.now.limit = c.in_ok-found.ensures.limit ∙ limit1 in
+    let live2 : c.survey_to_amend.new.meter.live ≡ c.args.meter.now.live = c.in_ok-found.ensures.stays.1 ∙ live1 in
+    let limit2 : c.survey_to_amend.new.meter.limit ≡ c.args.meter.now.limit = c.in_ok-found.ensures.stays.2 ∙ limit1 in
     let exact2 : IfSome (g.D.Source.held c.args.store.now) (λ f. amend_surveyed c.args.hdu f ≡ Ok c.in_ok-found.found) = rw held1 at c.in_ok-found.ensures.exact in
     let none2 : IfSome (g.D.Source.held c.args.store.now) (λ f. first_past c.args.meter.now.limit (survey_takings (AmendLook c.args.hdu) c.args.meter.now.live f) ≡ None) = rw (held1, live1, limit1) at c.in_ok-found.ensures.first_past in
     let known : IfSome (g.D.Source.held c.args.store.now) (HasFound c.args.meter.now.live c.args.meter.now.limit c.args.hdu c.in_ok-found.found) = found c.hdu_at_law.ensures.walk c.found_hdus_law.ensures.last c.survey_law.ensures.amend c.args.meter.now.live c.args.meter.now.limit c.args.hdu c.in_ok-found.found (g.D.Source.held c.args.store.now) c.requires.one_block look exact2 none2 in
@@ -248,14 +248,14 @@ pub returns-in_err-kept-clause-most : goal.returns-in_err-kept-clause-most
 returns-in_err-kept-clause-most g c =
     let stopped : c.from_residual-in_err-kept.result ≡ Err c.in_err-kept.field-0.0 = search rules in
     let meter = c.args.meter.now in
-    let live : c.survey_to_amend.new.meter.live ≡ meter.live = c.in_ok-found.ensures.live ∙ c.in_ok-survey_every.ensures.live in
-    let tells : TellsLimit {X = ReadHeader} meter.limit (c.survey_to_amend.new.meter.live + 737280) (Err c.in_err-kept.field-0.0) = subst (λ (n : ℕ). TellsLimit {X = ReadHeader} n (c.survey_to_amend.new.meter.live + 737280) (Err c.in_err-kept.field-0.0)) (c.in_ok-found.ensures.limit ∙ c.in_ok-survey_every.ensures.limit) c.in_err-kept.ensures.most in
+    let live : c.survey_to_amend.new.meter.live ≡ meter.live = c.in_ok-found.ensures.stays.1 ∙ c.in_ok-survey_every.ensures.stays.1 in
+    let tells : TellsLimit {X = ReadHeader} meter.limit (c.survey_to_amend.new.meter.live + 737280) (Err c.in_err-kept.field-0.0) = subst (λ (n : ℕ). TellsLimit {X = ReadHeader} n (c.survey_to_amend.new.meter.live + 737280) (Err c.in_err-kept.field-0.0)) (c.in_ok-found.ensures.stays.2 ∙ c.in_ok-survey_every.ensures.stays.2) c.in_err-kept.ensures.most in
     subst (λ (r : Result (Unit {0}) Stop). TellsLimit meter.limit greatest_patch_bound r) (sym stopped)
     (stop_limit (Unit {0}) ReadHeader meter.limit (c.survey_to_amend.new.meter.live + 737280) greatest_patch_bound c.in_err-kept.field-0.0 (omega (arith, live, c.requires.one_block, bound_headers)) tells)
 
 pub returns-in_err-kept-clause-peak_most : goal.returns-in_err-kept-clause-peak_most
 returns-in_err-kept-clause-peak_most g c =
-    omega (arith, c.requires.one_block, bound_headers, c.in_ok-survey_every.ensures.live, c.in_ok-survey_every.ensures.peak_most, c.in_ok-found.ensures.live, c.in_ok-found.ensures.peak_most, c.in_err-kept.ensures.peak_most)
+    omega (arith, c.requires.one_block, bound_headers, c.in_ok-survey_every.ensures.stays.1, c.in_ok-survey_every.ensures.peak_most, c.in_ok-found.ensures.stays.1, c.in_ok-found.ensures.peak_most, c.in_err-kept.ensures.peak_most)
 
 pub returns-in_err-kept-clause-cause : goal.returns-in_err-kept-clause-cause
 returns-in_err-kept-clause-cause g c =
@@ -265,7 +265,7 @@ returns-in_err-kept-clause-cause g c =
     let s' : Tally = g.D.Source.tally c.read_again.new.store in
     let p : Tally = g.S.Source.tally c.args.patch.now in
     let part : ReadsAndTakes {X = ReadHeader} s s' meter.limit (Err c.in_err-kept.field-0.0) =
-    subst (λ (t : Tally). ReadsAndTakes {X = ReadHeader} t s' meter.limit (Err c.in_err-kept.field-0.0)) (c.in_ok-found.ensures.cause.ok ∙ c.in_ok-survey_every.ensures.cause.ok) (subst (λ (n : ℕ). ReadsAndTakes {X = ReadHeader} (g.D.Source.tally c.survey_to_amend.new.source) s' n (Err c.in_err-kept.field-0.0)) (c.in_ok-found.ensures.limit ∙ c.in_ok-survey_every.ensures.limit) c.in_err-kept.ensures.cause) in
+    subst (λ (t : Tally). ReadsAndTakes {X = ReadHeader} t s' meter.limit (Err c.in_err-kept.field-0.0)) (c.in_ok-found.ensures.cause.ok ∙ c.in_ok-survey_every.ensures.cause.ok) (subst (λ (n : ℕ). ReadsAndTakes {X = ReadHeader} (g.D.Source.tally c.survey_to_amend.new.source) s' n (Err c.in_err-kept.field-0.0)) (c.in_ok-found.ensures.stays.2 ∙ c.in_ok-survey_every.ensures.stays.2) c.in_err-kept.ensures.cause) in
     subst (λ (r : Result (Unit {0}) Stop). WorksInPlace s s' p p meter.limit r) (sym stopped) (store_works {X = Unit {0}} {Y = ReadHeader} s s' p meter.limit c.in_err-kept.field-0.0 part)
 
 -- ---- the rest
@@ -282,12 +282,12 @@ with_header-answer-requires-clause-read g c = λ lifetimes lives.
 
 pub returns-clause-patched : goal.returns-clause-patched
 returns-clause-patched g c =
-    let live1 : c.survey_every.new.meter.live ≡ c.args.meter.now.live = c.in_ok-survey_every.ensures.live in
-    let limit1 : c.survey_every.new.meter.limit ≡ c.args.meter.now.limit = c.in_ok-survey_every.ensures.limit in
+    let live1 : c.survey_every.new.meter.live ≡ c.args.meter.now.live = c.in_ok-survey_every.ensures.stays.1 in
+    let limit1 : c.survey_every.new.meter.limit ≡ c.args.meter.now.limit = c.in_ok-survey_every.ensures.stays.2 in
     let look : IfSome (g.D.Source.held c.args.store.now) (HasLooked c.args.meter.now.live c.args.meter.now.limit) = looked c.survey_law.ensures.every c.args.meter.now.live c.args.meter.now.limit (g.D.Source.held c.args.store.now) _ c.requires.one_block c.in_ok-survey_every.ensures.exact c.in_ok-survey_every.ensures.first_past in
     let held1 : g.D.Source.held c.survey_every.new.source ≡ g.D.Source.held c.args.store.now = search rules in
-    let live2 : c.survey_to_amend.new.meter.live ≡ c.args.meter.now.live = c.in_ok-found.ensures.live ∙ live1 in
-    let limit2 : c.survey_to_amend.new.meter.limit ≡ c.args.meter.now.limit = c.in_ok-found.ensures.limit ∙ limit1 in
+    let live2 : c.survey_to_amend.new.meter.live ≡ c.args.meter.now.live = c.in_ok-found.ensures.stays.1 ∙ live1 in
+    let limit2 : c.survey_to_amend.new.meter.limit ≡ c.args.meter.now.limit = c.in_ok-found.ensures.stays.2 ∙ limit1 in
     let exact2 : IfSome (g.D.Source.held c.args.store.now) (λ f. amend_surveyed c.args.hdu f ≡ Ok c.in_ok-found.found) = rw held1 at c.in_ok-found.ensures.exact in
     let none2 : IfSome (g.D.Source.held c.args.store.now) (λ f. first_past c.args.meter.now.limit (survey_takings (AmendLook c.args.hdu) c.args.meter.now.live f) ≡ None) = rw (held1, live1, limit1) at c.in_ok-found.ensures.first_past in
     let known : IfSome (g.D.Source.held c.args.store.now) (HasFound c.args.meter.now.live c.args.meter.now.limit c.args.hdu c.in_ok-found.found) = found c.hdu_at_law.ensures.walk c.found_hdus_law.ensures.last c.survey_law.ensures.amend c.args.meter.now.live c.args.meter.now.limit c.args.hdu c.in_ok-found.found (g.D.Source.held c.args.store.now) c.requires.one_block look exact2 none2 in
@@ -302,12 +302,12 @@ returns-clause-patched g c =
 
 pub returns-clause-safe : goal.returns-clause-safe
 returns-clause-safe g c =
-    let live1 : c.survey_every.new.meter.live ≡ c.args.meter.now.live = c.in_ok-survey_every.ensures.live in
-    let limit1 : c.survey_every.new.meter.limit ≡ c.args.meter.now.limit = c.in_ok-survey_every.ensures.limit in
+    let live1 : c.survey_every.new.meter.live ≡ c.args.meter.now.live = c.in_ok-survey_every.ensures.stays.1 in
+    let limit1 : c.survey_every.new.meter.limit ≡ c.args.meter.now.limit = c.in_ok-survey_every.ensures.stays.2 in
     let look : IfSome (g.D.Source.held c.args.store.now) (HasLooked c.args.meter.now.live c.args.meter.now.limit) = looked c.survey_law.ensures.every c.args.meter.now.live c.args.meter.now.limit (g.D.Source.held c.args.store.now) _ c.requires.one_block c.in_ok-survey_every.ensures.exact c.in_ok-survey_every.ensures.first_past in
     let held1 : g.D.Source.held c.survey_every.new.source ≡ g.D.Source.held c.args.store.now = search rules in
-    let live2 : c.survey_to_amend.new.meter.live ≡ c.args.meter.now.live = c.in_ok-found.ensures.live ∙ live1 in
-    let limit2 : c.survey_to_amend.new.meter.limit ≡ c.args.meter.now.limit = c.in_ok-found.ensures.limit ∙ limit1 in
+    let live2 : c.survey_to_amend.new.meter.live ≡ c.args.meter.now.live = c.in_ok-found.ensures.stays.1 ∙ live1 in
+    let limit2 : c.survey_to_amend.new.meter.limit ≡ c.args.meter.now.limit = c.in_ok-found.ensures.stays.2 ∙ limit1 in
     let exact2 : IfSome (g.D.Source.held c.args.store.now) (λ f. amend_surveyed c.args.hdu f ≡ Ok c.in_ok-found.found) = rw held1 at c.in_ok-found.ensures.exact in
     let none2 : IfSome (g.D.Source.held c.args.store.now) (λ f. first_past c.args.meter.now.limit (survey_takings (AmendLook c.args.hdu) c.args.meter.now.live f) ≡ None) = rw (held1, live1, limit1) at c.in_ok-found.ensures.first_past in
     let known : IfSome (g.D.Source.held c.args.store.now) (HasFound c.args.meter.now.live c.args.meter.now.limit c.args.hdu c.in_ok-found.found) = found c.hdu_at_law.ensures.walk c.found_hdus_law.ensures.last c.survey_law.ensures.amend c.args.meter.now.live c.args.meter.now.limit c.args.hdu c.in_ok-found.found (g.D.Source.held c.args.store.now) c.requires.one_block look exact2 none2 in
@@ -322,12 +322,12 @@ returns-clause-safe g c =
 
 pub returns-clause-unwritten : goal.returns-clause-unwritten
 returns-clause-unwritten g c =
-    let live1 : c.survey_every.new.meter.live ≡ c.args.meter.now.live = c.in_ok-survey_every.ensures.live in
-    let limit1 : c.survey_every.new.meter.limit ≡ c.args.meter.now.limit = c.in_ok-survey_every.ensures.limit in
+    let live1 : c.survey_every.new.meter.live ≡ c.args.meter.now.live = c.in_ok-survey_every.ensures.stays.1 in
+    let limit1 : c.survey_every.new.meter.limit ≡ c.args.meter.now.limit = c.in_ok-survey_every.ensures.stays.2 in
     let look : IfSome (g.D.Source.held c.args.store.now) (HasLooked c.args.meter.now.live c.args.meter.now.limit) = looked c.survey_law.ensures.every c.args.meter.now.live c.args.meter.now.limit (g.D.Source.held c.args.store.now) _ c.requires.one_block c.in_ok-survey_every.ensures.exact c.in_ok-survey_every.ensures.first_past in
     let held1 : g.D.Source.held c.survey_every.new.source ≡ g.D.Source.held c.args.store.now = search rules in
-    let live2 : c.survey_to_amend.new.meter.live ≡ c.args.meter.now.live = c.in_ok-found.ensures.live ∙ live1 in
-    let limit2 : c.survey_to_amend.new.meter.limit ≡ c.args.meter.now.limit = c.in_ok-found.ensures.limit ∙ limit1 in
+    let live2 : c.survey_to_amend.new.meter.live ≡ c.args.meter.now.live = c.in_ok-found.ensures.stays.1 ∙ live1 in
+    let limit2 : c.survey_to_amend.new.meter.limit ≡ c.args.meter.now.limit = c.in_ok-found.ensures.stays.2 ∙ limit1 in
     let exact2 : IfSome (g.D.Source.held c.args.store.now) (λ f. amend_surveyed c.args.hdu f ≡ Ok c.in_ok-found.found) = rw held1 at c.in_ok-found.ensures.exact in
     let none2 : IfSome (g.D.Source.held c.args.store.now) (λ f. first_past c.args.meter.now.limit (survey_takings (AmendLook c.args.hdu) c.args.meter.now.live f) ≡ None) = rw (held1, live1, limit1) at c.in_ok-found.ensures.first_past in
     let known : IfSome (g.D.Source.held c.args.store.now) (HasFound c.args.meter.now.live c.args.meter.now.limit c.args.hdu c.in_ok-found.found) = found c.hdu_at_law.ensures.walk c.found_hdus_law.ensures.last c.survey_law.ensures.amend c.args.meter.now.live c.args.meter.now.limit c.args.hdu c.in_ok-found.found (g.D.Source.held c.args.store.now) c.requires.one_block look exact2 none2 in
@@ -363,12 +363,12 @@ returns-clause-unwritten g c =
 
 pub returns-clause-first_fault : goal.returns-clause-first_fault
 returns-clause-first_fault g c =
-    let live1 : c.survey_every.new.meter.live ≡ c.args.meter.now.live = c.in_ok-survey_every.ensures.live in
-    let limit1 : c.survey_every.new.meter.limit ≡ c.args.meter.now.limit = c.in_ok-survey_every.ensures.limit in
+    let live1 : c.survey_every.new.meter.live ≡ c.args.meter.now.live = c.in_ok-survey_every.ensures.stays.1 in
+    let limit1 : c.survey_every.new.meter.limit ≡ c.args.meter.now.limit = c.in_ok-survey_every.ensures.stays.2 in
     let look : IfSome (g.D.Source.held c.args.store.now) (HasLooked c.args.meter.now.live c.args.meter.now.limit) = looked c.survey_law.ensures.every c.args.meter.now.live c.args.meter.now.limit (g.D.Source.held c.args.store.now) _ c.requires.one_block c.in_ok-survey_every.ensures.exact c.in_ok-survey_every.ensures.first_past in
     let held1 : g.D.Source.held c.survey_every.new.source ≡ g.D.Source.held c.args.store.now = search rules in
-    let live2 : c.survey_to_amend.new.meter.live ≡ c.args.meter.now.live = c.in_ok-found.ensures.live ∙ live1 in
-    let limit2 : c.survey_to_amend.new.meter.limit ≡ c.args.meter.now.limit = c.in_ok-found.ensures.limit ∙ limit1 in
+    let live2 : c.survey_to_amend.new.meter.live ≡ c.args.meter.now.live = c.in_ok-found.ensures.stays.1 ∙ live1 in
+    let limit2 : c.survey_to_amend.new.meter.limit ≡ c.args.meter.now.limit = c.in_ok-found.ensures.stays.2 ∙ limit1 in
     let exact2 : IfSome (g.D.Source.held c.args.store.now) (λ f. amend_surveyed c.args.hdu f ≡ Ok c.in_ok-found.found) = rw held1 at c.in_ok-found.ensures.exact in
     let none2 : IfSome (g.D.Source.held c.args.store.now) (λ f. first_past c.args.meter.now.limit (survey_takings (AmendLook c.args.hdu) c.args.meter.now.live f) ≡ None) = rw (held1, live1, limit1) at c.in_ok-found.ensures.first_past in
     let known : IfSome (g.D.Source.held c.args.store.now) (HasFound c.args.meter.now.live c.args.meter.now.limit c.args.hdu c.in_ok-found.found) = found c.hdu_at_law.ensures.walk c.found_hdus_law.ensures.last c.survey_law.ensures.amend c.args.meter.now.live c.args.meter.now.limit c.args.hdu c.in_ok-found.found (g.D.Source.held c.args.store.now) c.requires.one_block look exact2 none2 in
@@ -381,12 +381,12 @@ returns-clause-first_fault g c =
 
 pub returns-clause-first_past : goal.returns-clause-first_past
 returns-clause-first_past g c =
-    let live1 : c.survey_every.new.meter.live ≡ c.args.meter.now.live = c.in_ok-survey_every.ensures.live in
-    let limit1 : c.survey_every.new.meter.limit ≡ c.args.meter.now.limit = c.in_ok-survey_every.ensures.limit in
+    let live1 : c.survey_every.new.meter.live ≡ c.args.meter.now.live = c.in_ok-survey_every.ensures.stays.1 in
+    let limit1 : c.survey_every.new.meter.limit ≡ c.args.meter.now.limit = c.in_ok-survey_every.ensures.stays.2 in
     let look : IfSome (g.D.Source.held c.args.store.now) (HasLooked c.args.meter.now.live c.args.meter.now.limit) = looked c.survey_law.ensures.every c.args.meter.now.live c.args.meter.now.limit (g.D.Source.held c.args.store.now) _ c.requires.one_block c.in_ok-survey_every.ensures.exact c.in_ok-survey_every.ensures.first_past in
     let held1 : g.D.Source.held c.survey_every.new.source ≡ g.D.Source.held c.args.store.now = search rules in
-    let live2 : c.survey_to_amend.new.meter.live ≡ c.args.meter.now.live = c.in_ok-found.ensures.live ∙ live1 in
-    let limit2 : c.survey_to_amend.new.meter.limit ≡ c.args.meter.now.limit = c.in_ok-found.ensures.limit ∙ limit1 in
+    let live2 : c.survey_to_amend.new.meter.live ≡ c.args.meter.now.live = c.in_ok-found.ensures.stays.1 ∙ live1 in
+    let limit2 : c.survey_to_amend.new.meter.limit ≡ c.args.meter.now.limit = c.in_ok-found.ensures.stays.2 ∙ limit1 in
     let exact2 : IfSome (g.D.Source.held c.args.store.now) (λ f. amend_surveyed c.args.hdu f ≡ Ok c.in_ok-found.found) = rw held1 at c.in_ok-found.ensures.exact in
     let none2 : IfSome (g.D.Source.held c.args.store.now) (λ f. first_past c.args.meter.now.limit (survey_takings (AmendLook c.args.hdu) c.args.meter.now.live f) ≡ None) = rw (held1, live1, limit1) at c.in_ok-found.ensures.first_past in
     let known : IfSome (g.D.Source.held c.args.store.now) (HasFound c.args.meter.now.live c.args.meter.now.limit c.args.hdu c.in_ok-found.found) = found c.hdu_at_law.ensures.walk c.found_hdus_law.ensures.last c.survey_law.ensures.amend c.args.meter.now.live c.args.meter.now.limit c.args.hdu c.in_ok-found.found (g.D.Source.held c.args.store.now) c.requires.one_block look exact2 none2 in
@@ -406,12 +406,12 @@ returns-clause-first_past g c =
 
 pub returns-clause-peak : goal.returns-clause-peak
 returns-clause-peak g c =
-    let live1 : c.survey_every.new.meter.live ≡ c.args.meter.now.live = c.in_ok-survey_every.ensures.live in
-    let limit1 : c.survey_every.new.meter.limit ≡ c.args.meter.now.limit = c.in_ok-survey_every.ensures.limit in
+    let live1 : c.survey_every.new.meter.live ≡ c.args.meter.now.live = c.in_ok-survey_every.ensures.stays.1 in
+    let limit1 : c.survey_every.new.meter.limit ≡ c.args.meter.now.limit = c.in_ok-survey_every.ensures.stays.2 in
     let look : IfSome (g.D.Source.held c.args.store.now) (HasLooked c.args.meter.now.live c.args.meter.now.limit) = looked c.survey_law.ensures.every c.args.meter.now.live c.args.meter.now.limit (g.D.Source.held c.args.store.now) _ c.requires.one_block c.in_ok-survey_every.ensures.exact c.in_ok-survey_every.ensures.first_past in
     let held1 : g.D.Source.held c.survey_every.new.source ≡ g.D.Source.held c.args.store.now = search rules in
-    let live2 : c.survey_to_amend.new.meter.live ≡ c.args.meter.now.live = c.in_ok-found.ensures.live ∙ live1 in
-    let limit2 : c.survey_to_amend.new.meter.limit ≡ c.args.meter.now.limit = c.in_ok-found.ensures.limit ∙ limit1 in
+    let live2 : c.survey_to_amend.new.meter.live ≡ c.args.meter.now.live = c.in_ok-found.ensures.stays.1 ∙ live1 in
+    let limit2 : c.survey_to_amend.new.meter.limit ≡ c.args.meter.now.limit = c.in_ok-found.ensures.stays.2 ∙ limit1 in
     let exact2 : IfSome (g.D.Source.held c.args.store.now) (λ f. amend_surveyed c.args.hdu f ≡ Ok c.in_ok-found.found) = rw held1 at c.in_ok-found.ensures.exact in
     let none2 : IfSome (g.D.Source.held c.args.store.now) (λ f. first_past c.args.meter.now.limit (survey_takings (AmendLook c.args.hdu) c.args.meter.now.live f) ≡ None) = rw (held1, live1, limit1) at c.in_ok-found.ensures.first_past in
     let known : IfSome (g.D.Source.held c.args.store.now) (HasFound c.args.meter.now.live c.args.meter.now.limit c.args.hdu c.in_ok-found.found) = found c.hdu_at_law.ensures.walk c.found_hdus_law.ensures.last c.survey_law.ensures.amend c.args.meter.now.live c.args.meter.now.limit c.args.hdu c.in_ok-found.found (g.D.Source.held c.args.store.now) c.requires.one_block look exact2 none2 in
@@ -439,8 +439,8 @@ returns-clause-reach g c =
 
 pub returns-clause-most : goal.returns-clause-most
 returns-clause-most g c =
-    let live2 : c.survey_to_amend.new.meter.live ≡ c.args.meter.now.live = c.in_ok-found.ensures.live ∙ c.in_ok-survey_every.ensures.live in
-    let limit2 : c.survey_to_amend.new.meter.limit ≡ c.args.meter.now.limit = c.in_ok-found.ensures.limit ∙ c.in_ok-survey_every.ensures.limit in
+    let live2 : c.survey_to_amend.new.meter.live ≡ c.args.meter.now.live = c.in_ok-found.ensures.stays.1 ∙ c.in_ok-survey_every.ensures.stays.1 in
+    let limit2 : c.survey_to_amend.new.meter.limit ≡ c.args.meter.now.limit = c.in_ok-found.ensures.stays.2 ∙ c.in_ok-survey_every.ensures.stays.2 in
     let took : c.read_again.new.meter ≡ taken c.survey_to_amend.new.meter (length c.in_ok-kept.kept.bytes) = c.in_ok-kept.ensures.taken.1 in
     let live3 : c.read_again.new.meter.live ≡ 2880 + length c.in_ok-kept.kept.bytes = ap (λ (m : Gauge). m.live) took ∙ ap (λ n. n + length c.in_ok-kept.kept.bytes) (live2 ∙ c.requires.one_block) in
     let limit3 : c.read_again.new.meter.limit ≡ c.args.meter.now.limit = ap (λ (m : Gauge). m.limit) took ∙ limit2 in
@@ -449,33 +449,28 @@ returns-clause-most g c =
 
 pub returns-clause-peak_most : goal.returns-clause-peak_most
 returns-clause-peak_most g c =
-    let live2 : c.survey_to_amend.new.meter.live ≡ c.args.meter.now.live = c.in_ok-found.ensures.live ∙ c.in_ok-survey_every.ensures.live in
-    let limit2 : c.survey_to_amend.new.meter.limit ≡ c.args.meter.now.limit = c.in_ok-found.ensures.limit ∙ c.in_ok-survey_every.ensures.limit in
+    let live2 : c.survey_to_amend.new.meter.live ≡ c.args.meter.now.live = c.in_ok-found.ensures.stays.1 ∙ c.in_ok-survey_every.ensures.stays.1 in
+    let limit2 : c.survey_to_amend.new.meter.limit ≡ c.args.meter.now.limit = c.in_ok-found.ensures.stays.2 ∙ c.in_ok-survey_every.ensures.stays.2 in
     let took : c.read_again.new.meter ≡ taken c.survey_to_amend.new.meter (length c.in_ok-kept.kept.bytes) = c.in_ok-kept.ensures.taken.1 in
     let live3 : c.read_again.new.meter.live ≡ 2880 + length c.in_ok-kept.kept.bytes = ap (λ (m : Gauge). m.live) took ∙ ap (λ n. n + length c.in_ok-kept.kept.bytes) (live2 ∙ c.requires.one_block) in
     let limit3 : c.read_again.new.meter.limit ≡ c.args.meter.now.limit = ap (λ (m : Gauge). m.limit) took ∙ limit2 in
     let short : length c.in_ok-kept.kept.bytes ≤ 737280 = c.in_ok-kept.ensures.again.short in
     let back : c.give_bytes.new.self.peak ≡ c.with_header-answer.new.meter.peak = ap (λ (m : Gauge). m.peak) c.give_bytes.ensures in
-    omega (arith, back, c.requires.one_block, bound_headers, c.in_ok-survey_every.ensures.live, c.in_ok-survey_every.ensures.peak_most, c.in_ok-found.ensures.live, c.in_ok-found.ensures.peak_most, c.in_ok-kept.ensures.peak_most, c.with_header-answer.ensures.peak_most (omega (arith, live3, short)))
+    omega (arith, back, c.requires.one_block, bound_headers, c.in_ok-survey_every.ensures.stays.1, c.in_ok-survey_every.ensures.peak_most, c.in_ok-found.ensures.stays.1, c.in_ok-found.ensures.peak_most, c.in_ok-kept.ensures.peak_most, c.with_header-answer.ensures.peak_most (omega (arith, live3, short)))
 
-pub returns-clause-live : goal.returns-clause-live
-returns-clause-live g c =
-    let live2 : c.survey_to_amend.new.meter.live ≡ c.args.meter.now.live = c.in_ok-found.ensures.live ∙ c.in_ok-survey_every.ensures.live in
-    let limit2 : c.survey_to_amend.new.meter.limit ≡ c.args.meter.now.limit = c.in_ok-found.ensures.limit ∙ c.in_ok-survey_every.ensures.limit in
+pub returns-clause-stays : goal.returns-clause-stays
+returns-clause-stays g c =
+    let live2 : c.survey_to_amend.new.meter.live ≡ c.args.meter.now.live = c.in_ok-found.ensures.stays.1 ∙ c.in_ok-survey_every.ensures.stays.1 in
+    let limit2 : c.survey_to_amend.new.meter.limit ≡ c.args.meter.now.limit = c.in_ok-found.ensures.stays.2 ∙ c.in_ok-survey_every.ensures.stays.2 in
     let took : c.read_again.new.meter ≡ taken c.survey_to_amend.new.meter (length c.in_ok-kept.kept.bytes) = c.in_ok-kept.ensures.taken.1 in
     let live3 : c.read_again.new.meter.live ≡ 2880 + length c.in_ok-kept.kept.bytes = ap (λ (m : Gauge). m.live) took ∙ ap (λ n. n + length c.in_ok-kept.kept.bytes) (live2 ∙ c.requires.one_block) in
     let limit3 : c.read_again.new.meter.limit ≡ c.args.meter.now.limit = ap (λ (m : Gauge). m.limit) took ∙ limit2 in
-    let gave : c.give_bytes.new.self.live ≡ c.with_header-answer.new.meter.live - length (refilled c.in_ok-kept.kept.bytes c.with_header-answer.new.buf) = ap (λ (m : Gauge). m.live) c.give_bytes.ensures in
-    omega (arith, gave, refilled_len c.in_ok-kept.kept.bytes c.with_header-answer.new.buf, live3, c.with_header-answer.ensures.live, c.requires.one_block)
-
-pub returns-clause-limit : goal.returns-clause-limit
-returns-clause-limit g c =
-    let live2 : c.survey_to_amend.new.meter.live ≡ c.args.meter.now.live = c.in_ok-found.ensures.live ∙ c.in_ok-survey_every.ensures.live in
-    let limit2 : c.survey_to_amend.new.meter.limit ≡ c.args.meter.now.limit = c.in_ok-found.ensures.limit ∙ c.in_ok-survey_every.ensures.limit in
-    let took : c.read_again.new.meter ≡ taken c.survey_to_amend.new.meter (length c.in_ok-kept.kept.bytes) = c.in_ok-kept.ensures.taken.1 in
-    let live3 : c.read_again.new.meter.live ≡ 2880 + length c.in_ok-kept.kept.bytes = ap (λ (m : Gauge). m.live) took ∙ ap (λ n. n + length c.in_ok-kept.kept.bytes) (live2 ∙ c.requires.one_block) in
-    let limit3 : c.read_again.new.meter.limit ≡ c.args.meter.now.limit = ap (λ (m : Gauge). m.limit) took ∙ limit2 in
-    ap (λ (m : Gauge). m.limit) c.give_bytes.ensures ∙ c.with_header-answer.ensures.limit ∙ limit3
+    let gave : c.give_bytes.new.self.live ≡ c.with_header-answer.new.meter.live - length (refilled c.in_ok-kept.kept.bytes c.with_header-answer.new.buf) = ap (λ (m : Gauge). m.live) c.give_bytes.ensures in (
+      search rules,
+      search rules,
+      omega (arith, gave, refilled_len c.in_ok-kept.kept.bytes c.with_header-answer.new.buf, live3, c.with_header-answer.ensures.stays.3, c.requires.one_block),
+      ap (λ (m : Gauge). m.limit) c.give_bytes.ensures ∙ c.with_header-answer.ensures.stays.4 ∙ limit3,
+    )
 
 pub returns-clause-risen : goal.returns-clause-risen
 returns-clause-risen g c =
@@ -485,8 +480,8 @@ returns-clause-risen g c =
 
 pub returns-clause-cause : goal.returns-clause-cause
 returns-clause-cause g c =
-    let live2 : c.survey_to_amend.new.meter.live ≡ c.args.meter.now.live = c.in_ok-found.ensures.live ∙ c.in_ok-survey_every.ensures.live in
-    let limit2 : c.survey_to_amend.new.meter.limit ≡ c.args.meter.now.limit = c.in_ok-found.ensures.limit ∙ c.in_ok-survey_every.ensures.limit in
+    let live2 : c.survey_to_amend.new.meter.live ≡ c.args.meter.now.live = c.in_ok-found.ensures.stays.1 ∙ c.in_ok-survey_every.ensures.stays.1 in
+    let limit2 : c.survey_to_amend.new.meter.limit ≡ c.args.meter.now.limit = c.in_ok-found.ensures.stays.2 ∙ c.in_ok-survey_every.ensures.stays.2 in
     let took : c.read_again.new.meter ≡ taken c.survey_to_amend.new.meter (length c.in_ok-kept.kept.bytes) = c.in_ok-kept.ensures.taken.1 in
     let live3 : c.read_again.new.meter.live ≡ 2880 + length c.in_ok-kept.kept.bytes = ap (λ (m : Gauge). m.live) took ∙ ap (λ n. n + length c.in_ok-kept.kept.bytes) (live2 ∙ c.requires.one_block) in
     let limit3 : c.read_again.new.meter.limit ≡ c.args.meter.now.limit = ap (λ (m : Gauge). m.limit) took ∙ limit2 in

@@ -10,7 +10,7 @@ use Rattle.fz_base.specs.declared.failure.Stop.{Stop}
 use Rattle.fz_block.specs.Facts.{IsHeaderOf}
 use Rattle.fz_block.specs.declared.header.Header.{Header}
 use Rattle.fz_files.specs.Restored.{header_in, pixels_of}
-use Rattle.fz_head.specs.WorkBuffers.{work_buffers}
+use Rattle.fz_checks.specs.WorkBuffers.{work_buffers}
 use Rattle.fz_laws.specs.PatchBuffers.{given_takings}
 use Rattle.fz_laws.specs.PatchChecks.{if_patchable, own_checks, patch_target}
 use Rattle.fz_patch.specs.Clauses.{IsPatchedBy, IsUnpassed, LeavesSafe, TellsPatchFault, greatest_patch_bound}
@@ -134,7 +134,7 @@ work-requires-clause-found g c = λ lifetimes lives.
     }
 
 pub work-requires-clause-given : goal.work-requires-clause-given
-work-requires-clause-given g c = λ lifetimes lives. subst (λ (n : Option ℕ). GivesWithin n c.in_ok-target.target) (sym c.in_ok-target.ensures.source.attached_is) c.in_ok-target.ensures.given.0
+work-requires-clause-given g c = λ lifetimes lives. subst (λ (n : Option ℕ). GivesWithin n c.in_ok-target.target) (sym c.in_ok-target.ensures.stays.0.attached_is) c.in_ok-target.ensures.given.0
 
 on_ok : {X : Type 0} {P Q : Type 0} (r : Result X Stop) → (P → Q) → OnOk r P → OnOk r Q
 on_ok (Ok x) f p = f p
@@ -146,24 +146,24 @@ returns-clause-patched g c =
     let s' : Tally = g.D.Source.tally c.work.new.store in
     on_ok c.work.result
     (of_jobs (g.D.Source.held c.args.store.now) (g.S.Source.held c.args.patch.now) (g.S.Source.held c.find_target.new.patch) c.in_ok-target.target c.args.header.now c.args.patching.now.asked.corner.now
-    (λ job. IsPatchedBy job (g.D.Source.held c.work.new.store) s.amended.writes s'.amended.writes) (c.in_ok-target.ensures.source.held_is) (c.in_ok-target.ensures.given.1) (if_both (g.D.Source.held c.args.store.now) (g.S.Source.held c.args.patch.now) _ (λ f p is by wanted w. target_is c.args.header.now f p c.args.patching.now.asked.corner.now wanted w ∙ some_of (g.S.Source.held c.args.patch.now) (λ q. if_patchable f q (job_at wanted c.args.patching.now.asked.corner.now) (Ok c.args.header.now) ≡ Ok c.in_ok-target.target.header) p by (c.in_ok-target.ensures.exact f wanted (has_of c.hdu_at_law.ensures.walk c.found_hdus_law.ensures.last (g.D.Source.held c.args.store.now) c.args.patching.now.asked.length c.args.header.now c.args.buf.now (g.met.D.Source.agrees c.args.store.now c.args.patching.now.asked.length c.requires.attached) c.requires.read f wanted is w))))) c.work.ensures.patched
+    (λ job. IsPatchedBy job (g.D.Source.held c.work.new.store) s.amended.writes s'.amended.writes) (c.in_ok-target.ensures.stays.0.held_is) (c.in_ok-target.ensures.given.1) (if_both (g.D.Source.held c.args.store.now) (g.S.Source.held c.args.patch.now) _ (λ f p is by wanted w. target_is c.args.header.now f p c.args.patching.now.asked.corner.now wanted w ∙ some_of (g.S.Source.held c.args.patch.now) (λ q. if_patchable f q (job_at wanted c.args.patching.now.asked.corner.now) (Ok c.args.header.now) ≡ Ok c.in_ok-target.target.header) p by (c.in_ok-target.ensures.exact f wanted (has_of c.hdu_at_law.ensures.walk c.found_hdus_law.ensures.last (g.D.Source.held c.args.store.now) c.args.patching.now.asked.length c.args.header.now c.args.buf.now (g.met.D.Source.agrees c.args.store.now c.args.patching.now.asked.length c.requires.attached) c.requires.read f wanted is w))))) c.work.ensures.patched
 
 pub returns-clause-safe : goal.returns-clause-safe
 returns-clause-safe g c =
     let s : Tally = g.D.Source.tally c.args.store.now in
     let s' : Tally = g.D.Source.tally c.work.new.store in
     of_jobs (g.D.Source.held c.args.store.now) (g.S.Source.held c.args.patch.now) (g.S.Source.held c.find_target.new.patch) c.in_ok-target.target c.args.header.now c.args.patching.now.asked.corner.now
-    (λ job. LeavesSafe job (g.D.Source.held c.work.new.store) s.amended.writes s'.amended.writes) (c.in_ok-target.ensures.source.held_is) (c.in_ok-target.ensures.given.1) (if_both (g.D.Source.held c.args.store.now) (g.S.Source.held c.args.patch.now) _ (λ f p is by wanted w. target_is c.args.header.now f p c.args.patching.now.asked.corner.now wanted w ∙ some_of (g.S.Source.held c.args.patch.now) (λ q. if_patchable f q (job_at wanted c.args.patching.now.asked.corner.now) (Ok c.args.header.now) ≡ Ok c.in_ok-target.target.header) p by (c.in_ok-target.ensures.exact f wanted (has_of c.hdu_at_law.ensures.walk c.found_hdus_law.ensures.last (g.D.Source.held c.args.store.now) c.args.patching.now.asked.length c.args.header.now c.args.buf.now (g.met.D.Source.agrees c.args.store.now c.args.patching.now.asked.length c.requires.attached) c.requires.read f wanted is w)))) c.work.ensures.safe
+    (λ job. LeavesSafe job (g.D.Source.held c.work.new.store) s.amended.writes s'.amended.writes) (c.in_ok-target.ensures.stays.0.held_is) (c.in_ok-target.ensures.given.1) (if_both (g.D.Source.held c.args.store.now) (g.S.Source.held c.args.patch.now) _ (λ f p is by wanted w. target_is c.args.header.now f p c.args.patching.now.asked.corner.now wanted w ∙ some_of (g.S.Source.held c.args.patch.now) (λ q. if_patchable f q (job_at wanted c.args.patching.now.asked.corner.now) (Ok c.args.header.now) ≡ Ok c.in_ok-target.target.header) p by (c.in_ok-target.ensures.exact f wanted (has_of c.hdu_at_law.ensures.walk c.found_hdus_law.ensures.last (g.D.Source.held c.args.store.now) c.args.patching.now.asked.length c.args.header.now c.args.buf.now (g.met.D.Source.agrees c.args.store.now c.args.patching.now.asked.length c.requires.attached) c.requires.read f wanted is w)))) c.work.ensures.safe
 
 pub returns-clause-unwritten : goal.returns-clause-unwritten
 returns-clause-unwritten g c = λ refused.
     of_jobs (g.D.Source.held c.args.store.now) (g.S.Source.held c.args.patch.now) (g.S.Source.held c.find_target.new.patch) c.in_ok-target.target c.args.header.now c.args.patching.now.asked.corner.now
-    (λ job f p. (g.D.Source.held c.work.new.store ≡ g.D.Source.held c.args.store.now) × (g.D.Source.tally c.work.new.store ≡ g.D.Source.tally c.args.store.now)) (c.in_ok-target.ensures.source.held_is) (c.in_ok-target.ensures.given.1) (if_both (g.D.Source.held c.args.store.now) (g.S.Source.held c.args.patch.now) _ (λ f p is by wanted w. target_is c.args.header.now f p c.args.patching.now.asked.corner.now wanted w ∙ some_of (g.S.Source.held c.args.patch.now) (λ q. if_patchable f q (job_at wanted c.args.patching.now.asked.corner.now) (Ok c.args.header.now) ≡ Ok c.in_ok-target.target.header) p by (c.in_ok-target.ensures.exact f wanted (has_of c.hdu_at_law.ensures.walk c.found_hdus_law.ensures.last (g.D.Source.held c.args.store.now) c.args.patching.now.asked.length c.args.header.now c.args.buf.now (g.met.D.Source.agrees c.args.store.now c.args.patching.now.asked.length c.requires.attached) c.requires.read f wanted is w)))) (c.work.ensures.unwritten refused)
+    (λ job f p. (g.D.Source.held c.work.new.store ≡ g.D.Source.held c.args.store.now) × (g.D.Source.tally c.work.new.store ≡ g.D.Source.tally c.args.store.now)) (c.in_ok-target.ensures.stays.0.held_is) (c.in_ok-target.ensures.given.1) (if_both (g.D.Source.held c.args.store.now) (g.S.Source.held c.args.patch.now) _ (λ f p is by wanted w. target_is c.args.header.now f p c.args.patching.now.asked.corner.now wanted w ∙ some_of (g.S.Source.held c.args.patch.now) (λ q. if_patchable f q (job_at wanted c.args.patching.now.asked.corner.now) (Ok c.args.header.now) ≡ Ok c.in_ok-target.target.header) p by (c.in_ok-target.ensures.exact f wanted (has_of c.hdu_at_law.ensures.walk c.found_hdus_law.ensures.last (g.D.Source.held c.args.store.now) c.args.patching.now.asked.length c.args.header.now c.args.buf.now (g.met.D.Source.agrees c.args.store.now c.args.patching.now.asked.length c.requires.attached) c.requires.read f wanted is w)))) (c.work.ensures.unwritten refused)
 
 pub returns-clause-first_fault : goal.returns-clause-first_fault
 returns-clause-first_fault g c =
     of_jobs (g.D.Source.held c.args.store.now) (g.S.Source.held c.args.patch.now) (g.S.Source.held c.find_target.new.patch) c.in_ok-target.target c.args.header.now c.args.patching.now.asked.corner.now
-    (λ job f p. TellsPatchFault job (Some f) (Some p) c.work.result) (c.in_ok-target.ensures.source.held_is) (c.in_ok-target.ensures.given.1) (if_both (g.D.Source.held c.args.store.now) (g.S.Source.held c.args.patch.now) _ (λ f p is by wanted w. target_is c.args.header.now f p c.args.patching.now.asked.corner.now wanted w ∙ some_of (g.S.Source.held c.args.patch.now) (λ q. if_patchable f q (job_at wanted c.args.patching.now.asked.corner.now) (Ok c.args.header.now) ≡ Ok c.in_ok-target.target.header) p by (c.in_ok-target.ensures.exact f wanted (has_of c.hdu_at_law.ensures.walk c.found_hdus_law.ensures.last (g.D.Source.held c.args.store.now) c.args.patching.now.asked.length c.args.header.now c.args.buf.now (g.met.D.Source.agrees c.args.store.now c.args.patching.now.asked.length c.requires.attached) c.requires.read f wanted is w)))) c.work.ensures.first_fault
+    (λ job f p. TellsPatchFault job (Some f) (Some p) c.work.result) (c.in_ok-target.ensures.stays.0.held_is) (c.in_ok-target.ensures.given.1) (if_both (g.D.Source.held c.args.store.now) (g.S.Source.held c.args.patch.now) _ (λ f p is by wanted w. target_is c.args.header.now f p c.args.patching.now.asked.corner.now wanted w ∙ some_of (g.S.Source.held c.args.patch.now) (λ q. if_patchable f q (job_at wanted c.args.patching.now.asked.corner.now) (Ok c.args.header.now) ≡ Ok c.in_ok-target.target.header) p by (c.in_ok-target.ensures.exact f wanted (has_of c.hdu_at_law.ensures.walk c.found_hdus_law.ensures.last (g.D.Source.held c.args.store.now) c.args.patching.now.asked.length c.args.header.now c.args.buf.now (g.met.D.Source.agrees c.args.store.now c.args.patching.now.asked.length c.requires.attached) c.requires.read f wanted is w)))) c.work.ensures.first_fault
 
 pub returns-clause-late : goal.returns-clause-late
 returns-clause-late g c =
@@ -179,7 +179,7 @@ returns-clause-first_past g c =
     let meter = c.args.meter.now in
     let n : ℕ = pixels_of c.in_ok-target.target.image.plan 0 in
     let tells : TellsFirstPast meter.limit (piled meter.live (work_buffers 0 false (Some n) 1)) c.work.result =
-    rw (c.in_ok-target.ensures.live, c.in_ok-target.ensures.limit) at c.work.ensures.first_past in
+    rw (c.in_ok-target.ensures.stays.1, c.in_ok-target.ensures.stays.2) at c.work.ensures.first_past in
     if_both (g.D.Source.held c.args.store.now) (g.S.Source.held c.args.patch.now) _
     (λ f p is by wanted w live.
     let job = job_at wanted corner in
@@ -197,7 +197,7 @@ returns-clause-unpassed g c =
     let n : ℕ = pixels_of c.in_ok-target.target.image.plan 0 in
     let passed : IsUnpassed ((g.D.Source.held c.work.new.store ≡ g.D.Source.held store) × (g.D.Source.tally c.work.new.store ≡ g.D.Source.tally store))
     meter.limit (piled meter.live (work_buffers 0 false (Some n) 1)) =
-    rw (c.in_ok-target.ensures.live, c.in_ok-target.ensures.limit) at c.work.ensures.unpassed in
+    rw (c.in_ok-target.ensures.stays.1, c.in_ok-target.ensures.stays.2) at c.work.ensures.unpassed in
     if_both (g.D.Source.held store) (g.S.Source.held c.args.patch.now) _
     (λ f p is by wanted w live.
     let job = job_at wanted corner in
@@ -222,7 +222,7 @@ returns-clause-peak g c =
     let header : Header = c.args.header.now in
     let meter = c.args.meter.now in
     let n : ℕ = pixels_of c.in_ok-target.target.image.plan 0 in
-    let high : c.work.new.meter.peak ≤ max c.find_target.new.meter.peak (meter.live + sum (work_buffers 0 false (Some n) 1)) = rw c.in_ok-target.ensures.live at c.work.ensures.peak in
+    let high : c.work.new.meter.peak ≤ max c.find_target.new.meter.peak (meter.live + sum (work_buffers 0 false (Some n) 1)) = rw c.in_ok-target.ensures.stays.1 at c.work.ensures.peak in
     if_both (g.D.Source.held c.args.store.now) (g.S.Source.held c.args.patch.now) _
     (λ f p is by wanted w live.
     let job = job_at wanted corner in
@@ -236,8 +236,8 @@ pub returns-clause-most : goal.returns-clause-most
 returns-clause-most g c = λ low.
     let meter = c.args.meter.now in
     let t : Target = c.in_ok-target.target in
-    let tells : TellsFirstPast meter.limit (piled meter.live (work_buffers 0 false (Some (pixels_of t.image.plan 0)) 1)) c.work.result = rw (c.in_ok-target.ensures.live, c.in_ok-target.ensures.limit) at c.work.ensures.first_past in
-    let works : WorksInPlace _ _ _ _ meter.limit c.work.result = rw c.in_ok-target.ensures.limit at c.work.ensures.cause in
+    let tells : TellsFirstPast meter.limit (piled meter.live (work_buffers 0 false (Some (pixels_of t.image.plan 0)) 1)) c.work.result = rw (c.in_ok-target.ensures.stays.1, c.in_ok-target.ensures.stays.2) at c.work.ensures.first_past in
+    let works : WorksInPlace _ _ _ _ meter.limit c.work.result = rw c.in_ok-target.ensures.stays.2 at c.work.ensures.cause in
     work_limit {X = Unit {0}} c.workspace_law.ensures.bound c.workspace_law.ensures.grows c.workspace_law.ensures.past _ _ _ _ meter.limit meter.live (pixels_of t.image.plan 0) c.work.result (few_pixels t.image.plan c.in_ok-target.ensures.target.0.readable.divided) low works tells
 
 pub returns-clause-peak_most : goal.returns-clause-peak_most
@@ -245,7 +245,7 @@ returns-clause-peak_most g c = λ low.
     let meter = c.args.meter.now in
     let t : Target = c.in_ok-target.target in
     let bound = bound_work c.workspace_law.ensures.bound c.workspace_law.ensures.grows (pixels_of t.image.plan 0) meter.live (few_pixels t.image.plan c.in_ok-target.ensures.target.0.readable.divided) low in
-    omega (arith, low, bound, bound_headers, c.in_ok-target.ensures.live, c.in_ok-target.ensures.peak_most, c.work.ensures.peak)
+    omega (arith, low, bound, bound_headers, c.in_ok-target.ensures.stays.1, c.in_ok-target.ensures.peak_most, c.work.ensures.peak)
 
 pub returns-clause-cause : goal.returns-clause-cause
 returns-clause-cause g c =
@@ -254,4 +254,4 @@ returns-clause-cause g c =
     let p' : Tally = g.S.Source.tally c.work.new.patch in
     let same : g.S.Source.tally c.find_target.new.patch ≡ g.S.Source.tally c.args.patch.now = c.in_ok-target.ensures.cause.ok in
     subst (λ (p : Tally). WorksInPlace s s' p p' c.args.meter.now.limit c.work.result) same
-    (subst (λ (n : ℕ). WorksInPlace s s' (g.S.Source.tally c.find_target.new.patch) p' n c.work.result) c.in_ok-target.ensures.limit c.work.ensures.cause)
+    (subst (λ (n : ℕ). WorksInPlace s s' (g.S.Source.tally c.find_target.new.patch) p' n c.work.result) c.in_ok-target.ensures.stays.2 c.work.ensures.cause)

@@ -12,7 +12,7 @@ use Rattle.fz_grid.specs.Grid.{tile_lengths}
 use Rattle.fz_grid.specs.Region.{lengths_of}
 use Rattle.fz_pool.specs.Window.{Pool}
 use Rattle.fz_files.specs.Restored.{pixels_of}
-use Rattle.fz_head.specs.WorkBuffers.{work_buffers}
+use Rattle.fz_checks.specs.WorkBuffers.{work_buffers}
 use Rattle.fz_job.specs.Workspace.{wanted_buffers}
 use Rattle.fz_job.specs.declared.workspace.Wants.{Wants}
 use Rattle.fz_job.specs.declared.workspace.Workspace.{Workspace}
@@ -159,25 +159,20 @@ returns-clause-peak g c =
     let reached = (meter_back c.args.meter.now c.take.new.meter c.give_back.new.meter _ _ c.in_ok-space.ensures.takings.all.1 held c.give_back.ensures.given).2 in
     omega (arith, reached, total)
 
-pub returns-clause-live : goal.returns-clause-live
-returns-clause-live g c =
+pub returns-clause-stays : goal.returns-clause-stays
+returns-clause-stays g c =
     let space : Workspace = c.in_ok-space.space in
     let wants : Wants = record { header_len = 0; translates = false; tile = Some c.largest.result } in
     let copy : List ℕ = refilled space.copy c.write_patch-answer.new.copy in
     let space' : Workspace = record { header = space.header; translated = space.translated; copy = copy } in
     let held = still_held c.workspace_law.ensures.held wants space space' c.in-Ok.window.workers c.take.new.window c.write_patch-answer.new.window c.in_ok-space.ensures.lengths
-    (record { header = refl; translated = refl; copy = refilled_len space.copy c.write_patch-answer.new.copy }) c.in_ok-space.ensures.filled c.write_patch-answer.ensures.window in
-    (meter_back c.args.meter.now c.take.new.meter c.give_back.new.meter _ _ c.in_ok-space.ensures.takings.all.1 held c.give_back.ensures.given).0
-
-pub returns-clause-limit : goal.returns-clause-limit
-returns-clause-limit g c =
-    let space : Workspace = c.in_ok-space.space in
-    let wants : Wants = record { header_len = 0; translates = false; tile = Some c.largest.result } in
-    let copy : List ℕ = refilled space.copy c.write_patch-answer.new.copy in
-    let space' : Workspace = record { header = space.header; translated = space.translated; copy = copy } in
-    let held = still_held c.workspace_law.ensures.held wants space space' c.in-Ok.window.workers c.take.new.window c.write_patch-answer.new.window c.in_ok-space.ensures.lengths
-    (record { header = refl; translated = refl; copy = refilled_len space.copy c.write_patch-answer.new.copy }) c.in_ok-space.ensures.filled c.write_patch-answer.ensures.window in
-    (meter_back c.args.meter.now c.take.new.meter c.give_back.new.meter _ _ c.in_ok-space.ensures.takings.all.1 held c.give_back.ensures.given).1
+    (record { header = refl; translated = refl; copy = refilled_len space.copy c.write_patch-answer.new.copy }) c.in_ok-space.ensures.filled c.write_patch-answer.ensures.window in (
+      search rules,
+      search rules,
+      search rules,
+      (meter_back c.args.meter.now c.take.new.meter c.give_back.new.meter _ _ c.in_ok-space.ensures.takings.all.1 held c.give_back.ensures.given).0,
+      (meter_back c.args.meter.now c.take.new.meter c.give_back.new.meter _ _ c.in_ok-space.ensures.takings.all.1 held c.give_back.ensures.given).1,
+    )
 
 pub returns-clause-risen : goal.returns-clause-risen
 returns-clause-risen g c =

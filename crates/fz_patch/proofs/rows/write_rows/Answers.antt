@@ -103,7 +103,7 @@ write_tile-requires-clause-reach g c =
     let read = c.prepare_tile.new.store in
     let back = c.has_bytes.new.source in
     at-least (g.D.Source.attached back) (heap_end_of t) (row_start t.image.table tile)
-    (subst (λ (a : Option ℕ). HasAtLeast a (heap_end_of t)) (sym (c.in_ok-is_there.ensures.source.attached_is ∙ c.in_ok-prepare_tile.ensures.store.attached_is)) old.reach)
+    (subst (λ (a : Option ℕ). HasAtLeast a (heap_end_of t)) (sym (c.in_ok-is_there.ensures.source.attached_is ∙ c.in_ok-prepare_tile.ensures.stays.0.attached_is)) old.reach)
     (row_in_file t tile c.requires.target less)
 
 -- ---- what is compared lies in the file
@@ -112,7 +112,7 @@ pub has_bytes-requires-clause-within : goal.has_bytes-requires-clause-within
 has_bytes-requires-clause-within g c =
     let t = c.args.target.now in
     let reach = c.loop-tile.invariant.reach in
-    at-least (g.D.Source.attached c.prepare_tile.new.store) (heap_end_of t) _ (subst (λ (a : Option ℕ). HasAtLeast a (heap_end_of t)) (sym c.in_ok-prepare_tile.ensures.store.attached_is) reach)
+    at-least (g.D.Source.attached c.prepare_tile.new.store) (heap_end_of t) _ (subst (λ (a : Option ℕ). HasAtLeast a (heap_end_of t)) (sym c.in_ok-prepare_tile.ensures.stays.0.attached_is) reach)
     (omega (arith, c.code_in.ensures.count, c.if-count-room.false, c.loop-tile.invariant.high, c.from-count.ensures))
 
 pub has_bytes-requires-clause-near : goal.has_bytes-requires-clause-near
@@ -123,7 +123,7 @@ has_bytes-requires-clause-near g c =
     omega (arith, near, reach.2, c.code_in.ensures.count, c.if-count-room.false, c.loop-tile.invariant.high, c.from-count.ensures)
 
 pub has_bytes-requires-clause-piece : goal.has_bytes-requires-clause-piece
-has_bytes-requires-clause-piece g c = omega (arith, c.requires.copy, c.loop-tile.invariant.copy, c.in_ok-prepare_tile.ensures.copy)
+has_bytes-requires-clause-piece g c = omega (arith, c.requires.copy, c.loop-tile.invariant.copy, c.in_ok-prepare_tile.ensures.stays.3)
 
 pub loop-tile-preserved : goal.loop-tile-preserved
 loop-tile-preserved g c =
@@ -156,8 +156,8 @@ loop-tile-preserved g c =
     let seen = c.in_ok-is_there.ensures in
     let back = c.has_bytes.new.source in
     let same_counts = same-is (g.D.Source.tally now) (g.D.Source.tally back) (seen.cause.ok ∙ done.cause.ok.0) in
-    let held_is : g.D.Source.held back ≡ g.D.Source.held now = seen.source.held_is ∙ done.store.held_is in
-    let attached_is : g.D.Source.attached back ≡ g.D.Source.attached now = seen.source.attached_is ∙ done.store.attached_is in
+    let held_is : g.D.Source.held back ≡ g.D.Source.held now = seen.source.held_is ∙ done.stays.0.held_is in
+    let attached_is : g.D.Source.attached back ≡ g.D.Source.attached now = seen.source.attached_is ∙ done.stays.0.attached_is in
     let logged : (g.D.Source.tally back).amended.writes ≡ (g.D.Source.tally now).amended.writes =
     read_writes (g.D.Source.tally read) (g.D.Source.tally back) seen.cause.kept ∙ read_writes (g.D.Source.tally now) (g.D.Source.tally read) done.cause.store_kept in
     let made : g.D.Source.held new_store ≡ written (row_start t.image.table tile) bytes (g.D.Source.held now) = put.amended ∙ ap (written (row_start t.image.table tile) bytes) held_is in
@@ -165,18 +165,18 @@ loop-tile-preserved g c =
     let size : length code.bytes ≡ slot.job.len = ap length (sym c.code_in.ensures.bytes) ∙ c.code_in.ensures.count in
     let is_there : c.in_ok-is_there.is_there ≡ true = search rules in
     let found : IfSome (g.D.Source.held now) (λ f. true ≡ has_bytes f (t.image.table.heap_at + offset) code.bytes) =
-    subst (λ (h : Option (List ℕ)). IfSome h (λ f. true ≡ has_bytes f (t.image.table.heap_at + offset) code.bytes)) done.store.held_is
+    subst (λ (h : Option (List ℕ)). IfSome h (λ f. true ≡ has_bytes f (t.image.table.heap_at + offset) code.bytes)) done.stays.0.held_is
     (subst (λ b. IfSome (g.D.Source.held read) (λ f. b ≡ has_bytes f (t.image.table.heap_at + offset) code.bytes)) is_there
     (subst (λ l. IfSome (g.D.Source.held read) (λ f. c.in_ok-is_there.is_there ≡ has_bytes f (t.image.table.heap_at + offset) l)) c.code_in.ensures.bytes c.in_ok-is_there.ensures.same)) in
     let few : is_measured t.image.plan c.args.found.now code ≡ true = search rules in
     let within : offset + length code.bytes ≤ t.image.table.heap_len = omega (arith, size, c.if-count-room.false, old.high, c.from-count.ensures) in
     record {
-      given = done.patch.held_is ∙ old.given;
-      given_len = done.patch.attached_is ∙ old.given_len;
-      given_told = λ told. done.patch.told (old.given_told told);
+      given = done.stays.1.held_is ∙ old.given;
+      given_len = done.stays.1.attached_is ∙ old.given_len;
+      given_told = λ told. done.stays.1.told (old.given_told told);
       given_tally = done.cause.ok.1 ∙ old.given_tally;
-      window = record { sizes = done.window.sizes ∙ old.window.sizes; workers = done.window.workers ∙ old.window.workers };
-      copy = seen.piece ∙ done.copy ∙ old.copy;
+      window = record { sizes = done.stays.2.sizes ∙ old.window.sizes; workers = done.stays.2.workers ∙ old.window.workers };
+      copy = seen.piece ∙ done.stays.3 ∙ old.copy;
       high = omega (arith, old.high);
       reach = put.reach (heap_end_of t) (subst (λ (a : Option ℕ). HasAtLeast a (heap_end_of t)) (sym attached_is) old.reach);
       grows = reach-then _ _ _ old.grows (reach-then _ _ _ (reach-is _ _ attached_is) put.reach);
@@ -214,7 +214,7 @@ returns-in_err-prepare_tile-clause-some g c =
     let read = c.prepare_tile.new.store in
     let stopped = c.in_err-prepare_tile.ensures in
     some_rows_same t start given held (g.D.Source.held now) (g.D.Source.held read) log (g.D.Source.tally now).amended.writes (g.D.Source.tally read).amended.writes
-    stopped.store.held_is (read_writes (g.D.Source.tally now) (g.D.Source.tally read) stopped.cause.store_kept)
+    stopped.stays.0.held_is (read_writes (g.D.Source.tally now) (g.D.Source.tally read) stopped.cause.store_kept)
     (rows_stop t start held given (g.D.Source.held now) log (g.D.Source.tally now).amended.writes state.front left offset state.parts c.requires.said state.have)
 
 pub returns-in_err-prepare_tile-clause-unrefused : goal.returns-in_err-prepare_tile-clause-unrefused
@@ -253,7 +253,7 @@ returns-in_err-prepare_tile-clause-late g c =
 
 pub returns-in_err-prepare_tile-clause-reach : goal.returns-in_err-prepare_tile-clause-reach
 returns-in_err-prepare_tile-clause-reach g c =
-    reach-then _ _ _ c.loop-tile.invariant.grows (reach-is _ _ c.in_err-prepare_tile.ensures.store.attached_is)
+    reach-then _ _ _ c.loop-tile.invariant.grows (reach-is _ _ c.in_err-prepare_tile.ensures.stays.0.attached_is)
 
 pub returns-in_err-prepare_tile-clause-cause : goal.returns-in_err-prepare_tile-clause-cause
 returns-in_err-prepare_tile-clause-cause g c =
@@ -277,7 +277,7 @@ returns-in_err-prepare_tile-clause-described g c =
     let now = c.loop-tile.store in
     let read = c.prepare_tile.new.store in
     let stopped = c.in_err-prepare_tile.ensures in
-    described_stop t c.args.found.now start held (g.D.Source.held now) (g.D.Source.held read) log (g.D.Source.tally now).amended.writes (g.D.Source.tally read).amended.writes offset (stopped.store.held_is) (read_writes (g.D.Source.tally now) (g.D.Source.tally read) stopped.cause.store_kept) old.described
+    described_stop t c.args.found.now start held (g.D.Source.held now) (g.D.Source.held read) log (g.D.Source.tally now).amended.writes (g.D.Source.tally read).amended.writes offset (stopped.stays.0.held_is) (read_writes (g.D.Source.tally now) (g.D.Source.tally read) stopped.cause.store_kept) old.described
 
 -- ---- a code is longer than what is left for it
 
@@ -296,7 +296,7 @@ returns-then-count-room-clause-some g c =
     let read = c.prepare_tile.new.store in
     let stopped = c.in_ok-prepare_tile.ensures in
     some_rows_same t start given held (g.D.Source.held now) (g.D.Source.held read) log (g.D.Source.tally now).amended.writes (g.D.Source.tally read).amended.writes
-    stopped.store.held_is (read_writes (g.D.Source.tally now) (g.D.Source.tally read) stopped.cause.store_kept)
+    stopped.stays.0.held_is (read_writes (g.D.Source.tally now) (g.D.Source.tally read) stopped.cause.store_kept)
     (rows_stop t start held given (g.D.Source.held now) log (g.D.Source.tally now).amended.writes state.front left offset state.parts c.requires.said state.have)
 
 pub returns-then-count-room-clause-unrefused : goal.returns-then-count-room-clause-unrefused
@@ -330,7 +330,7 @@ returns-then-count-room-clause-unrefused g c =
 
 pub returns-then-count-room-clause-reach : goal.returns-then-count-room-clause-reach
 returns-then-count-room-clause-reach g c =
-    reach-then _ _ _ c.loop-tile.invariant.grows (reach-is _ _ c.in_ok-prepare_tile.ensures.store.attached_is)
+    reach-then _ _ _ c.loop-tile.invariant.grows (reach-is _ _ c.in_ok-prepare_tile.ensures.stays.0.attached_is)
 
 pub returns-then-count-room-clause-cause : goal.returns-then-count-room-clause-cause
 returns-then-count-room-clause-cause g c =
@@ -355,7 +355,7 @@ returns-then-count-room-clause-described g c =
     let now = c.loop-tile.store in
     let read = c.prepare_tile.new.store in
     let done = c.in_ok-prepare_tile.ensures in
-    described_stop t c.args.found.now start held (g.D.Source.held now) (g.D.Source.held read) log (g.D.Source.tally now).amended.writes (g.D.Source.tally read).amended.writes offset (done.store.held_is) (read_writes (g.D.Source.tally now) (g.D.Source.tally read) done.cause.store_kept) old.described
+    described_stop t c.args.found.now start held (g.D.Source.held now) (g.D.Source.held read) log (g.D.Source.tally now).amended.writes (g.D.Source.tally read).amended.writes offset (done.stays.0.held_is) (read_writes (g.D.Source.tally now) (g.D.Source.tally read) done.cause.store_kept) old.described
 
 -- ---- a code has more elements than was measured
 
@@ -374,7 +374,7 @@ returns-then-not-is_measured-clause-some g c =
     let read = c.prepare_tile.new.store in
     let stopped = c.in_ok-prepare_tile.ensures in
     some_rows_same t start given held (g.D.Source.held now) (g.D.Source.held read) log (g.D.Source.tally now).amended.writes (g.D.Source.tally read).amended.writes
-    stopped.store.held_is (read_writes (g.D.Source.tally now) (g.D.Source.tally read) stopped.cause.store_kept)
+    stopped.stays.0.held_is (read_writes (g.D.Source.tally now) (g.D.Source.tally read) stopped.cause.store_kept)
     (rows_stop t start held given (g.D.Source.held now) log (g.D.Source.tally now).amended.writes state.front left offset state.parts c.requires.said state.have)
 
 pub returns-then-not-is_measured-clause-unrefused : goal.returns-then-not-is_measured-clause-unrefused
@@ -409,7 +409,7 @@ returns-then-not-is_measured-clause-unrefused g c =
 
 pub returns-then-not-is_measured-clause-reach : goal.returns-then-not-is_measured-clause-reach
 returns-then-not-is_measured-clause-reach g c =
-    reach-then _ _ _ c.loop-tile.invariant.grows (reach-is _ _ c.in_ok-prepare_tile.ensures.store.attached_is)
+    reach-then _ _ _ c.loop-tile.invariant.grows (reach-is _ _ c.in_ok-prepare_tile.ensures.stays.0.attached_is)
 
 pub returns-then-not-is_measured-clause-cause : goal.returns-then-not-is_measured-clause-cause
 returns-then-not-is_measured-clause-cause g c =
@@ -434,7 +434,7 @@ returns-then-not-is_measured-clause-described g c =
     let now = c.loop-tile.store in
     let read = c.prepare_tile.new.store in
     let done = c.in_ok-prepare_tile.ensures in
-    described_stop t c.args.found.now start held (g.D.Source.held now) (g.D.Source.held read) log (g.D.Source.tally now).amended.writes (g.D.Source.tally read).amended.writes offset (done.store.held_is) (read_writes (g.D.Source.tally now) (g.D.Source.tally read) done.cause.store_kept) old.described
+    described_stop t c.args.found.now start held (g.D.Source.held now) (g.D.Source.held read) log (g.D.Source.tally now).amended.writes (g.D.Source.tally read).amended.writes offset (done.stays.0.held_is) (read_writes (g.D.Source.tally now) (g.D.Source.tally read) done.cause.store_kept) old.described
 
 -- ---- a code is not read back
 
@@ -455,7 +455,7 @@ returns-in_err-is_there-clause-some g c =
     let done = c.in_ok-prepare_tile.ensures in
     let seen = c.in_err-is_there.ensures in
     some_rows_same t start given held (g.D.Source.held now) (g.D.Source.held back) log (g.D.Source.tally now).amended.writes (g.D.Source.tally back).amended.writes
-    (seen.source.held_is ∙ done.store.held_is) (read_writes (g.D.Source.tally read) (g.D.Source.tally back) seen.cause.kept ∙ read_writes (g.D.Source.tally now) (g.D.Source.tally read) done.cause.store_kept)
+    (seen.source.held_is ∙ done.stays.0.held_is) (read_writes (g.D.Source.tally read) (g.D.Source.tally back) seen.cause.kept ∙ read_writes (g.D.Source.tally now) (g.D.Source.tally read) done.cause.store_kept)
     (rows_stop t start held given (g.D.Source.held now) log (g.D.Source.tally now).amended.writes state.front left offset state.parts c.requires.said state.have)
 
 pub returns-in_err-is_there-clause-unrefused : goal.returns-in_err-is_there-clause-unrefused
@@ -482,7 +482,7 @@ returns-in_err-is_there-clause-late g c =
 
 pub returns-in_err-is_there-clause-reach : goal.returns-in_err-is_there-clause-reach
 returns-in_err-is_there-clause-reach g c =
-    reach-then _ _ _ c.loop-tile.invariant.grows (reach-is _ _ (c.in_err-is_there.ensures.source.attached_is ∙ c.in_ok-prepare_tile.ensures.store.attached_is))
+    reach-then _ _ _ c.loop-tile.invariant.grows (reach-is _ _ (c.in_err-is_there.ensures.source.attached_is ∙ c.in_ok-prepare_tile.ensures.stays.0.attached_is))
 
 pub returns-in_err-is_there-clause-cause : goal.returns-in_err-is_there-clause-cause
 returns-in_err-is_there-clause-cause g c =
@@ -513,7 +513,7 @@ returns-in_err-is_there-clause-described g c =
     let back = c.has_bytes.new.source in
     let done = c.in_ok-prepare_tile.ensures in
     let seen = c.in_err-is_there.ensures in
-    described_stop t c.args.found.now start held (g.D.Source.held now) (g.D.Source.held back) log (g.D.Source.tally now).amended.writes (g.D.Source.tally back).amended.writes offset (seen.source.held_is ∙ done.store.held_is) (read_writes (g.D.Source.tally read) (g.D.Source.tally back) seen.cause.kept ∙ read_writes (g.D.Source.tally now) (g.D.Source.tally read) done.cause.store_kept) old.described
+    described_stop t c.args.found.now start held (g.D.Source.held now) (g.D.Source.held back) log (g.D.Source.tally now).amended.writes (g.D.Source.tally back).amended.writes offset (seen.source.held_is ∙ done.stays.0.held_is) (read_writes (g.D.Source.tally read) (g.D.Source.tally back) seen.cause.kept ∙ read_writes (g.D.Source.tally now) (g.D.Source.tally read) done.cause.store_kept) old.described
 
 -- ---- another code lies there
 
@@ -534,7 +534,7 @@ returns-then-not-is_there-clause-some g c =
     let done = c.in_ok-prepare_tile.ensures in
     let seen = c.in_ok-is_there.ensures in
     some_rows_same t start given held (g.D.Source.held now) (g.D.Source.held back) log (g.D.Source.tally now).amended.writes (g.D.Source.tally back).amended.writes
-    (seen.source.held_is ∙ done.store.held_is) (read_writes (g.D.Source.tally read) (g.D.Source.tally back) seen.cause.kept ∙ read_writes (g.D.Source.tally now) (g.D.Source.tally read) done.cause.store_kept)
+    (seen.source.held_is ∙ done.stays.0.held_is) (read_writes (g.D.Source.tally read) (g.D.Source.tally back) seen.cause.kept ∙ read_writes (g.D.Source.tally now) (g.D.Source.tally read) done.cause.store_kept)
     (rows_stop t start held given (g.D.Source.held now) log (g.D.Source.tally now).amended.writes state.front left offset state.parts c.requires.said state.have)
 
 pub returns-then-not-is_there-clause-unrefused : goal.returns-then-not-is_there-clause-unrefused
@@ -566,7 +566,7 @@ returns-then-not-is_there-clause-unrefused g c =
     let not_there : c.in_ok-is_there.is_there ≡ false = search rules in
     let end : start + c.args.found.now.bytes ≡ t.image.table.heap_len = omega (arith, c.requires.heap) in
     let other : IfSome (g.D.Source.held now) (λ f. false ≡ has_bytes f (t.image.table.heap_at + offset) bytes) =
-    subst (λ (h : Option (List ℕ)). IfSome h (λ f. false ≡ has_bytes f (t.image.table.heap_at + offset) bytes)) done.store.held_is
+    subst (λ (h : Option (List ℕ)). IfSome h (λ f. false ≡ has_bytes f (t.image.table.heap_at + offset) bytes)) done.stays.0.held_is
     (subst (λ b. IfSome (g.D.Source.held read) (λ f. b ≡ has_bytes f (t.image.table.heap_at + offset) bytes)) not_there c.in_ok-is_there.ensures.same) in
     by_heap {X = Unit {0}} t c.args.found.now held given (Err c.changed-then-not-is_there.result)
     (row_other t start state.next c.args.found.now held given (g.D.Source.held now) log (g.D.Source.tally now).amended.writes state.front tile after offset bytes w c.requires.target parts low less c.requires.said
@@ -574,7 +574,7 @@ returns-then-not-is_there-clause-unrefused g c =
 
 pub returns-then-not-is_there-clause-reach : goal.returns-then-not-is_there-clause-reach
 returns-then-not-is_there-clause-reach g c =
-    reach-then _ _ _ c.loop-tile.invariant.grows (reach-is _ _ (c.in_ok-is_there.ensures.source.attached_is ∙ c.in_ok-prepare_tile.ensures.store.attached_is))
+    reach-then _ _ _ c.loop-tile.invariant.grows (reach-is _ _ (c.in_ok-is_there.ensures.source.attached_is ∙ c.in_ok-prepare_tile.ensures.stays.0.attached_is))
 
 pub returns-then-not-is_there-clause-cause : goal.returns-then-not-is_there-clause-cause
 returns-then-not-is_there-clause-cause g c =
@@ -604,7 +604,7 @@ returns-then-not-is_there-clause-described g c =
     let back = c.has_bytes.new.source in
     let done = c.in_ok-prepare_tile.ensures in
     let seen = c.in_ok-is_there.ensures in
-    described_stop t c.args.found.now start held (g.D.Source.held now) (g.D.Source.held back) log (g.D.Source.tally now).amended.writes (g.D.Source.tally back).amended.writes offset (seen.source.held_is ∙ done.store.held_is) (read_writes (g.D.Source.tally read) (g.D.Source.tally back) seen.cause.kept ∙ read_writes (g.D.Source.tally now) (g.D.Source.tally read) done.cause.store_kept) old.described
+    described_stop t c.args.found.now start held (g.D.Source.held now) (g.D.Source.held back) log (g.D.Source.tally now).amended.writes (g.D.Source.tally back).amended.writes offset (seen.source.held_is ∙ done.stays.0.held_is) (read_writes (g.D.Source.tally read) (g.D.Source.tally back) seen.cause.kept ∙ read_writes (g.D.Source.tally now) (g.D.Source.tally read) done.cause.store_kept) old.described
 
 -- ---- a row is not written
 
@@ -641,7 +641,7 @@ returns-in_err-write_tile-clause-some g c =
     rows_failed t start held given (g.D.Source.held now) (g.D.Source.held new_store) log (g.D.Source.tally now).amended.writes (g.D.Source.tally new_store).amended.writes state.front tile after state.next offset bytes slot.job.len w
     c.requires.target parts low less c.requires.said state.still new
     (λ code has. (ap (row_of (plan_to_write t) offset) (first_has w slot code c.code_slot-slot.ensures.first has).0, (first_has w slot code c.code_slot-slot.ensures.first has).1))
-    (subst (λ (h : Option (List ℕ)). MayAmend (row_start t.image.table tile) (length bytes) h (g.D.Source.held new_store)) (seen.source.held_is ∙ done.store.held_is) put.partly)
+    (subst (λ (h : Option (List ℕ)). MayAmend (row_start t.image.table tile) (length bytes) h (g.D.Source.held new_store)) (seen.source.held_is ∙ done.stays.0.held_is) put.partly)
     (put.cause.unlogged ∙ read_writes (g.D.Source.tally read) (g.D.Source.tally back) seen.cause.kept ∙ read_writes (g.D.Source.tally now) (g.D.Source.tally read) done.cause.store_kept) state.have
 
 pub returns-in_err-write_tile-clause-unrefused : goal.returns-in_err-write_tile-clause-unrefused
@@ -660,7 +660,7 @@ returns-in_err-write_tile-clause-unrefused g c =
 pub returns-in_err-write_tile-clause-reach : goal.returns-in_err-write_tile-clause-reach
 returns-in_err-write_tile-clause-reach g c =
     reach-then _ _ _ c.loop-tile.invariant.grows
-    (reach-then _ _ _ (reach-is _ _ (c.in_ok-is_there.ensures.source.attached_is ∙ c.in_ok-prepare_tile.ensures.store.attached_is)) c.in_err-write_tile.ensures.reach)
+    (reach-then _ _ _ (reach-is _ _ (c.in_ok-is_there.ensures.source.attached_is ∙ c.in_ok-prepare_tile.ensures.stays.0.attached_is)) c.in_err-write_tile.ensures.reach)
 
 pub returns-in_err-write_tile-clause-cause : goal.returns-in_err-write_tile-clause-cause
 returns-in_err-write_tile-clause-cause g c =
@@ -707,14 +707,14 @@ returns-in_err-write_tile-clause-described g c =
     let size : length code.bytes ≡ slot.job.len = ap length (sym c.code_in.ensures.bytes) ∙ c.code_in.ensures.count in
     let is_there : c.in_ok-is_there.is_there ≡ true = search rules in
     let found : IfSome (g.D.Source.held now) (λ f. true ≡ has_bytes f (t.image.table.heap_at + offset) code.bytes) =
-    subst (λ (h : Option (List ℕ)). IfSome h (λ f. true ≡ has_bytes f (t.image.table.heap_at + offset) code.bytes)) done.store.held_is
+    subst (λ (h : Option (List ℕ)). IfSome h (λ f. true ≡ has_bytes f (t.image.table.heap_at + offset) code.bytes)) done.stays.0.held_is
     (subst (λ b. IfSome (g.D.Source.held read) (λ f. b ≡ has_bytes f (t.image.table.heap_at + offset) code.bytes)) is_there
     (subst (λ l. IfSome (g.D.Source.held read) (λ f. c.in_ok-is_there.is_there ≡ has_bytes f (t.image.table.heap_at + offset) l)) c.code_in.ensures.bytes c.in_ok-is_there.ensures.same)) in
     let few : is_measured t.image.plan c.args.found.now code ≡ true = search rules in
     let within : offset + length code.bytes ≤ t.image.table.heap_len = omega (arith, size, c.if-count-room.false, old.high, c.from-count.ensures) in
     let bytes : List ℕ = row_of (plan_to_write t) offset code in
     described_failed t c.args.found.now start state.next log (g.D.Source.tally now).amended.writes (g.D.Source.tally new_store).amended.writes tile offset code few held (g.D.Source.held now) (g.D.Source.held new_store) c.requires.said state.still low less within found
-    (subst (λ (h : Option (List ℕ)). MayAmend (row_start t.image.table tile) (length bytes) h (g.D.Source.held new_store)) (seen.source.held_is ∙ done.store.held_is) put.partly)
+    (subst (λ (h : Option (List ℕ)). MayAmend (row_start t.image.table tile) (length bytes) h (g.D.Source.held new_store)) (seen.source.held_is ∙ done.stays.0.held_is) put.partly)
     (put.cause.unlogged ∙ read_writes (g.D.Source.tally read) (g.D.Source.tally back) seen.cause.kept ∙ read_writes (g.D.Source.tally now) (g.D.Source.tally read) done.cause.store_kept) old.described
 
 -- ---- all codes are shorter than was measured

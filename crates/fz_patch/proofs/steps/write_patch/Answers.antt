@@ -57,17 +57,17 @@ measure_codes-requires-clause-said g c κs within =
 
 pub find_forms-requires-clause-within : goal.find_forms-requires-clause-within
 find_forms-requires-clause-within g c =
-    subst (λ (a : Option ℕ). StandsWithin a c.args.target.now.image.table) (sym c.in_ok-found.ensures.store.attached_is)
+    subst (λ (a : Option ℕ). StandsWithin a c.args.target.now.image.table) (sym c.in_ok-found.ensures.stays.0.attached_is)
     (stands_at c.args.target.now (g.D.Source.attached c.args.store.now) c.requires.found.attached.0 c.requires.found.target c.requires.found.attached.1 c.requires.found.attached.2)
 
 pub write_codes-requires-clause-within : goal.write_codes-requires-clause-within
 write_codes-requires-clause-within g c κs within =
-    subst (λ (a : Option ℕ). StandsWithin a c.args.target.now.image.table) (sym (c.in_ok-forms.ensures.store.attached_is ∙ c.in_ok-found.ensures.store.attached_is))
+    subst (λ (a : Option ℕ). StandsWithin a c.args.target.now.image.table) (sym (c.in_ok-forms.ensures.stays.0.attached_is ∙ c.in_ok-found.ensures.stays.0.attached_is))
     (stands_at c.args.target.now (g.D.Source.attached c.args.store.now) c.requires.found.attached.0 c.requires.found.target c.requires.found.attached.1 c.requires.found.attached.2)
 
 pub write_codes-requires-clause-said : goal.write_codes-requires-clause-said
 write_codes-requires-clause-said g c κs within =
-    subst (λ (h : Option (List ℕ)). IfSome h (λ f. IsTargetIn f c.args.target.now)) (sym (c.in_ok-forms.ensures.store.held_is ∙ c.in_ok-found.ensures.store.held_is))
+    subst (λ (h : Option (List ℕ)). IfSome h (λ f. IsTargetIn f c.args.target.now)) (sym (c.in_ok-forms.ensures.stays.0.held_is ∙ c.in_ok-found.ensures.stays.0.held_is))
     (if_some_map (g.D.Source.held c.args.store.now) _ _ (λ f said. said.0) c.requires.found.said)
 
 -- ---- the new codes are not measured
@@ -79,7 +79,7 @@ returns-in_err-found-clause-safe g c =
     let held : Option (List ℕ) = g.D.Source.held c.args.store.now in
     let given : Option (List ℕ) = g.S.Source.held c.args.patch.now in
     let log : Option (List Amend) = (g.D.Source.tally c.args.store.now).amended.writes in
-    let same : g.D.Source.held c.measure_codes.new.store ≡ held = c.in_err-found.ensures.store.held_is in
+    let same : g.D.Source.held c.measure_codes.new.store ≡ held = c.in_err-found.ensures.stays.0.held_is in
     for_jobs held given t (λ job. LeavesSafe job (g.D.Source.held c.measure_codes.new.store) log (g.D.Source.tally c.measure_codes.new.store).amended.writes) (λ f p is by wanted corner to target. inl (same ∙ is, read_writes (g.D.Source.tally c.args.store.now) (g.D.Source.tally c.measure_codes.new.store) c.in_err-found.ensures.cause.store_kept))
 
 pub returns-in_err-found-clause-first_fault : goal.returns-in_err-found-clause-first_fault
@@ -105,7 +105,7 @@ returns-in_err-found-clause-unwritten g c =
     let stopped : c.from_residual.result ≡ Err stop = search rules in
     λ refused.
     let again : IsRefused {X = Measure} (Err stop) = is_refused_as stop (subst (λ (r : Result (Unit {0}) Stop). IsRefused r) stopped refused) in
-    for_jobs held given t (λ job file by. (g.D.Source.held c.measure_codes.new.store ≡ held) × (g.D.Source.tally c.measure_codes.new.store ≡ g.D.Source.tally c.args.store.now)) (λ f p is by wanted corner to target. (c.in_err-found.ensures.store.held_is, refused_tile (g.D.Source.tally c.args.store.now) (g.D.Source.tally c.measure_codes.new.store) (g.S.Source.tally c.args.patch.now) (g.S.Source.tally c.measure_codes.new.patch) (Err stop) c.in_err-found.ensures.cause again))
+    for_jobs held given t (λ job file by. (g.D.Source.held c.measure_codes.new.store ≡ held) × (g.D.Source.tally c.measure_codes.new.store ≡ g.D.Source.tally c.args.store.now)) (λ f p is by wanted corner to target. (c.in_err-found.ensures.stays.0.held_is, refused_tile (g.D.Source.tally c.args.store.now) (g.D.Source.tally c.measure_codes.new.store) (g.S.Source.tally c.args.patch.now) (g.S.Source.tally c.measure_codes.new.patch) (Err stop) c.in_err-found.ensures.cause again))
 
 pub returns-in_err-found-clause-late : goal.returns-in_err-found-clause-late
 returns-in_err-found-clause-late g c =
@@ -117,7 +117,7 @@ returns-in_err-found-clause-late g c =
     let stop : Stop = c.in_err-found.field-0.0 in
     let stopped : c.from_residual.result ≡ Err stop = search rules in
     subst (λ (r : Result (Unit {0}) Stop). IfRefused r (λ x. ((g.D.Source.held c.measure_codes.new.store ≡ held) × (g.D.Source.tally c.measure_codes.new.store ≡ g.D.Source.tally c.args.store.now)) ⊎ ComesInWork t.header.hdu x)) (sym stopped)
-    (refused_as Measure (Unit {0}) (λ x. ((g.D.Source.held c.measure_codes.new.store ≡ held) × (g.D.Source.tally c.measure_codes.new.store ≡ g.D.Source.tally c.args.store.now)) ⊎ ComesInWork t.header.hdu x) stop (late_tile {X = Measure} (ComesInWork t.header.hdu) (g.D.Source.tally c.args.store.now) (g.D.Source.tally c.measure_codes.new.store) (g.S.Source.tally c.args.patch.now) (g.S.Source.tally c.measure_codes.new.patch) held (g.D.Source.held c.measure_codes.new.store) stop c.in_err-found.ensures.store.held_is c.in_err-found.ensures.cause))
+    (refused_as Measure (Unit {0}) (λ x. ((g.D.Source.held c.measure_codes.new.store ≡ held) × (g.D.Source.tally c.measure_codes.new.store ≡ g.D.Source.tally c.args.store.now)) ⊎ ComesInWork t.header.hdu x) stop (late_tile {X = Measure} (ComesInWork t.header.hdu) (g.D.Source.tally c.args.store.now) (g.D.Source.tally c.measure_codes.new.store) (g.S.Source.tally c.args.patch.now) (g.S.Source.tally c.measure_codes.new.patch) held (g.D.Source.held c.measure_codes.new.store) stop c.in_err-found.ensures.stays.0.held_is c.in_err-found.ensures.cause))
 
 pub returns-in_err-found-clause-cause : goal.returns-in_err-found-clause-cause
 returns-in_err-found-clause-cause g c =
@@ -134,7 +134,7 @@ returns-in_err-found-clause-cause g c =
 
 pub returns-in_err-found-clause-reach : goal.returns-in_err-found-clause-reach
 returns-in_err-found-clause-reach g c =
-    reach-is _ _ c.in_err-found.ensures.store.attached_is
+    reach-is _ _ c.in_err-found.ensures.stays.0.attached_is
 
 -- ---- the rows are not read
 
@@ -145,7 +145,7 @@ returns-in_err-forms-clause-safe g c =
     let held : Option (List ℕ) = g.D.Source.held c.args.store.now in
     let given : Option (List ℕ) = g.S.Source.held c.args.patch.now in
     let log : Option (List Amend) = (g.D.Source.tally c.args.store.now).amended.writes in
-    let same : g.D.Source.held c.find_forms.new.store ≡ held = c.in_err-forms.ensures.store.held_is ∙ c.in_ok-found.ensures.store.held_is in
+    let same : g.D.Source.held c.find_forms.new.store ≡ held = c.in_err-forms.ensures.stays.0.held_is ∙ c.in_ok-found.ensures.stays.0.held_is in
     for_jobs held given t (λ job. LeavesSafe job (g.D.Source.held c.find_forms.new.store) log (g.D.Source.tally c.find_forms.new.store).amended.writes) (λ f p is by wanted corner to target. inl (same ∙ is, read_writes (g.D.Source.tally c.measure_codes.new.store) (g.D.Source.tally c.find_forms.new.store) c.in_err-forms.ensures.cause.kept ∙ ap (λ (k : Tally). k.amended.writes) c.in_ok-found.ensures.cause.ok.0))
 
 pub returns-in_err-forms-clause-first_fault : goal.returns-in_err-forms-clause-first_fault
@@ -206,7 +206,7 @@ returns-in_err-forms-clause-cause g c =
 
 pub returns-in_err-forms-clause-reach : goal.returns-in_err-forms-clause-reach
 returns-in_err-forms-clause-reach g c =
-    reach-then _ _ _ (reach-is _ _ c.in_ok-found.ensures.store.attached_is) (reach-is _ _ c.in_err-forms.ensures.store.attached_is)
+    reach-then _ _ _ (reach-is _ _ c.in_ok-found.ensures.stays.0.attached_is) (reach-is _ _ c.in_err-forms.ensures.stays.0.attached_is)
 
 -- ---- a code is not written
 
@@ -218,9 +218,9 @@ returns-in_err-write_codes-clause-safe g c =
     let given : Option (List ℕ) = g.S.Source.held c.args.patch.now in
     let log : Option (List Amend) = (g.D.Source.tally c.args.store.now).amended.writes in
     let m : Measure = c.in_ok-found.found in
-    let held2 : g.D.Source.held c.find_forms.new.store ≡ held = c.in_ok-forms.ensures.store.held_is ∙ c.in_ok-found.ensures.store.held_is in
+    let held2 : g.D.Source.held c.find_forms.new.store ≡ held = c.in_ok-forms.ensures.stays.0.held_is ∙ c.in_ok-found.ensures.stays.0.held_is in
     let log2 : (g.D.Source.tally c.find_forms.new.store).amended.writes ≡ log = ap (λ (k : Tally). k.amended.writes) (c.in_ok-forms.ensures.cause.ok ∙ c.in_ok-found.ensures.cause.ok.0) in
-    let given1 : g.S.Source.held c.measure_codes.new.patch ≡ given = c.in_ok-found.ensures.patch.held_is in
+    let given1 : g.S.Source.held c.measure_codes.new.patch ≡ given = c.in_ok-found.ensures.stays.1.held_is in
     for_jobs held given t (λ job. LeavesSafe job (g.D.Source.held c.write_codes.new.store) log (g.D.Source.tally c.write_codes.new.store).amended.writes) (λ f p is by wanted corner to target.
     let r : Ready t f p wanted corner m = ready_of t m buf held given f p wanted corner is by to target c.requires.found.said c.in_ok-found.ensures.sound c.in_ok-found.ensures.room c.in_ok-found.ensures.measured in
     let st : Steps = steps t f p wanted corner m r in
@@ -243,9 +243,9 @@ returns-in_err-write_codes-clause-first_fault g c =
     let given : Option (List ℕ) = g.S.Source.held c.args.patch.now in
     let log : Option (List Amend) = (g.D.Source.tally c.args.store.now).amended.writes in
     let m : Measure = c.in_ok-found.found in
-    let held2 : g.D.Source.held c.find_forms.new.store ≡ held = c.in_ok-forms.ensures.store.held_is ∙ c.in_ok-found.ensures.store.held_is in
+    let held2 : g.D.Source.held c.find_forms.new.store ≡ held = c.in_ok-forms.ensures.stays.0.held_is ∙ c.in_ok-found.ensures.stays.0.held_is in
     let log2 : (g.D.Source.tally c.find_forms.new.store).amended.writes ≡ log = ap (λ (k : Tally). k.amended.writes) (c.in_ok-forms.ensures.cause.ok ∙ c.in_ok-found.ensures.cause.ok.0) in
-    let given1 : g.S.Source.held c.measure_codes.new.patch ≡ given = c.in_ok-found.ensures.patch.held_is in
+    let given1 : g.S.Source.held c.measure_codes.new.patch ≡ given = c.in_ok-found.ensures.stays.1.held_is in
     let stop : Stop = c.in_err-write_codes.field-0.0 in
     let stopped : c.from_residual-in_err-write_codes.result ≡ Err stop = search rules in
     subst (λ (r : Result (Unit {0}) Stop). ForJobs held given t (λ job file by. TellsPatchFault job (Some file) (Some by) r)) (sym stopped)
@@ -267,9 +267,9 @@ returns-in_err-write_codes-clause-unwritten g c =
     let given : Option (List ℕ) = g.S.Source.held c.args.patch.now in
     let log : Option (List Amend) = (g.D.Source.tally c.args.store.now).amended.writes in
     let m : Measure = c.in_ok-found.found in
-    let held2 : g.D.Source.held c.find_forms.new.store ≡ held = c.in_ok-forms.ensures.store.held_is ∙ c.in_ok-found.ensures.store.held_is in
+    let held2 : g.D.Source.held c.find_forms.new.store ≡ held = c.in_ok-forms.ensures.stays.0.held_is ∙ c.in_ok-found.ensures.stays.0.held_is in
     let log2 : (g.D.Source.tally c.find_forms.new.store).amended.writes ≡ log = ap (λ (k : Tally). k.amended.writes) (c.in_ok-forms.ensures.cause.ok ∙ c.in_ok-found.ensures.cause.ok.0) in
-    let given1 : g.S.Source.held c.measure_codes.new.patch ≡ given = c.in_ok-found.ensures.patch.held_is in
+    let given1 : g.S.Source.held c.measure_codes.new.patch ≡ given = c.in_ok-found.ensures.stays.1.held_is in
     let stop : Stop = c.in_err-write_codes.field-0.0 in
     let stopped : c.from_residual-in_err-write_codes.result ≡ Err stop = search rules in
     λ refused. for_jobs held given t (λ job file by. (g.D.Source.held c.write_codes.new.store ≡ held) × (g.D.Source.tally c.write_codes.new.store ≡ g.D.Source.tally c.args.store.now)) (λ f p is by wanted corner to target.
@@ -310,7 +310,7 @@ returns-in_err-write_codes-clause-cause g c =
 
 pub returns-in_err-write_codes-clause-reach : goal.returns-in_err-write_codes-clause-reach
 returns-in_err-write_codes-clause-reach g c =
-    reach-then _ _ _ (reach-is _ _ c.in_ok-found.ensures.store.attached_is) (reach-then _ _ _ (reach-is _ _ c.in_ok-forms.ensures.store.attached_is) c.in_err-write_codes.ensures.reach)
+    reach-then _ _ _ (reach-is _ _ c.in_ok-found.ensures.stays.0.attached_is) (reach-then _ _ _ (reach-is _ _ c.in_ok-forms.ensures.stays.0.attached_is) c.in_err-write_codes.ensures.reach)
 
 -- ---- a card is not written
 
@@ -322,9 +322,9 @@ returns-in_err-write_cards-clause-safe g c =
     let given : Option (List ℕ) = g.S.Source.held c.args.patch.now in
     let log : Option (List Amend) = (g.D.Source.tally c.args.store.now).amended.writes in
     let m : Measure = c.in_ok-found.found in
-    let held2 : g.D.Source.held c.find_forms.new.store ≡ held = c.in_ok-forms.ensures.store.held_is ∙ c.in_ok-found.ensures.store.held_is in
+    let held2 : g.D.Source.held c.find_forms.new.store ≡ held = c.in_ok-forms.ensures.stays.0.held_is ∙ c.in_ok-found.ensures.stays.0.held_is in
     let log2 : (g.D.Source.tally c.find_forms.new.store).amended.writes ≡ log = ap (λ (k : Tally). k.amended.writes) (c.in_ok-forms.ensures.cause.ok ∙ c.in_ok-found.ensures.cause.ok.0) in
-    let given1 : g.S.Source.held c.measure_codes.new.patch ≡ given = c.in_ok-found.ensures.patch.held_is in
+    let given1 : g.S.Source.held c.measure_codes.new.patch ≡ given = c.in_ok-found.ensures.stays.1.held_is in
     for_jobs held given t (λ job. LeavesSafe job (g.D.Source.held c.write_cards.new.store) log (g.D.Source.tally c.write_cards.new.store).amended.writes) (λ f p is by wanted corner to target.
     let r : Ready t f p wanted corner m = ready_of t m buf held given f p wanted corner is by to target c.requires.found.said c.in_ok-found.ensures.sound c.in_ok-found.ensures.room c.in_ok-found.ensures.measured in
     let st : Steps = steps t f p wanted corner m r in
@@ -340,7 +340,7 @@ returns-in_err-write_cards-clause-safe g c =
     let put = forms_writes t places m forms in
     let cards_is : st.pcount ++ st.forms ≡ put =
     cards_are t f p wanted corner m r places forms (subst (λ l. HasPlaces l places) (sym header_is) c.find_places-places.ensures) (pcount_place buf t.header c.requires.found.header ∙ ap pcount_index (sym header_is))
-    (some_of (g.D.Source.held c.measure_codes.new.store) _ f (c.in_ok-found.ensures.store.held_is ∙ is) c.in_ok-forms.ensures.forms
+    (some_of (g.D.Source.held c.measure_codes.new.store) _ f (c.in_ok-found.ensures.stays.0.held_is ∙ is) c.in_ok-forms.ensures.forms
     ∙ (λ j. forms_for (said_most (sym header_is j) 1) (said_most (sym header_is j) 2) m (other_rows f t.image.table (picked_tiles_of t.image.plan (to.sieve j))))) in
     stops t f p wanted corner m r c.safe_patch_law.ensures fb pb (g.D.Source.held c.write_cards.new.store) log (g.D.Source.tally c.write_cards.new.store).amended.writes
     (subst (λ ws. WroteSome ws (Some f) (g.D.Source.held c.write_cards.new.store) log (g.D.Source.tally c.write_cards.new.store).amended.writes) (all_is t f p wanted corner m r put st.rows cards_is refl)
@@ -355,9 +355,9 @@ returns-in_err-write_cards-clause-first_fault g c =
     let given : Option (List ℕ) = g.S.Source.held c.args.patch.now in
     let log : Option (List Amend) = (g.D.Source.tally c.args.store.now).amended.writes in
     let m : Measure = c.in_ok-found.found in
-    let held2 : g.D.Source.held c.find_forms.new.store ≡ held = c.in_ok-forms.ensures.store.held_is ∙ c.in_ok-found.ensures.store.held_is in
+    let held2 : g.D.Source.held c.find_forms.new.store ≡ held = c.in_ok-forms.ensures.stays.0.held_is ∙ c.in_ok-found.ensures.stays.0.held_is in
     let log2 : (g.D.Source.tally c.find_forms.new.store).amended.writes ≡ log = ap (λ (k : Tally). k.amended.writes) (c.in_ok-forms.ensures.cause.ok ∙ c.in_ok-found.ensures.cause.ok.0) in
-    let given1 : g.S.Source.held c.measure_codes.new.patch ≡ given = c.in_ok-found.ensures.patch.held_is in
+    let given1 : g.S.Source.held c.measure_codes.new.patch ≡ given = c.in_ok-found.ensures.stays.1.held_is in
     let stop : Stop = c.in_err-write_cards.field-0.0 in
     let stopped : c.from_residual-in_err-write_cards.result ≡ Err stop = search rules in
     subst (λ (r : Result (Unit {0}) Stop). ForJobs held given t (λ job file by. TellsPatchFault job (Some file) (Some by) r)) (sym stopped)
@@ -378,9 +378,9 @@ returns-in_err-write_cards-clause-unwritten g c =
     let given : Option (List ℕ) = g.S.Source.held c.args.patch.now in
     let log : Option (List Amend) = (g.D.Source.tally c.args.store.now).amended.writes in
     let m : Measure = c.in_ok-found.found in
-    let held2 : g.D.Source.held c.find_forms.new.store ≡ held = c.in_ok-forms.ensures.store.held_is ∙ c.in_ok-found.ensures.store.held_is in
+    let held2 : g.D.Source.held c.find_forms.new.store ≡ held = c.in_ok-forms.ensures.stays.0.held_is ∙ c.in_ok-found.ensures.stays.0.held_is in
     let log2 : (g.D.Source.tally c.find_forms.new.store).amended.writes ≡ log = ap (λ (k : Tally). k.amended.writes) (c.in_ok-forms.ensures.cause.ok ∙ c.in_ok-found.ensures.cause.ok.0) in
-    let given1 : g.S.Source.held c.measure_codes.new.patch ≡ given = c.in_ok-found.ensures.patch.held_is in
+    let given1 : g.S.Source.held c.measure_codes.new.patch ≡ given = c.in_ok-found.ensures.stays.1.held_is in
     let stop : Stop = c.in_err-write_cards.field-0.0 in
     let stopped : c.from_residual-in_err-write_cards.result ≡ Err stop = search rules in
     λ refused. for_jobs held given t (λ job file by. (g.D.Source.held c.write_cards.new.store ≡ held) × (g.D.Source.tally c.write_cards.new.store ≡ g.D.Source.tally c.args.store.now)) (λ f p is by wanted corner to target.
@@ -423,13 +423,13 @@ returns-in_err-write_cards-clause-cause g c =
 
 pub returns-in_err-write_cards-clause-reach : goal.returns-in_err-write_cards-clause-reach
 returns-in_err-write_cards-clause-reach g c =
-    reach-then _ _ _ (reach-is _ _ c.in_ok-found.ensures.store.attached_is) (reach-then _ _ _ (reach-is _ _ c.in_ok-forms.ensures.store.attached_is) (reach-then _ _ _ c.in_ok-write_codes.ensures.reach c.in_err-write_cards.ensures.reach))
+    reach-then _ _ _ (reach-is _ _ c.in_ok-found.ensures.stays.0.attached_is) (reach-then _ _ _ (reach-is _ _ c.in_ok-forms.ensures.stays.0.attached_is) (reach-then _ _ _ c.in_ok-write_codes.ensures.reach c.in_err-write_cards.ensures.reach))
 
 pub returns-in_err-write_cards-clause-patch : goal.returns-in_err-write_cards-clause-patch
 returns-in_err-write_cards-clause-patch g c = record {
-  held_is = c.in_ok-write_codes.ensures.patch.held_is ∙ c.in_ok-found.ensures.patch.held_is;
-  attached_is = c.in_ok-write_codes.ensures.patch.attached_is ∙ c.in_ok-found.ensures.patch.attached_is;
-  told = λ told. c.in_ok-write_codes.ensures.patch.told (c.in_ok-found.ensures.patch.told told);
+  held_is = c.in_ok-write_codes.ensures.stays.0.held_is ∙ c.in_ok-found.ensures.stays.1.held_is;
+  attached_is = c.in_ok-write_codes.ensures.stays.0.attached_is ∙ c.in_ok-found.ensures.stays.1.attached_is;
+  told = λ told. c.in_ok-write_codes.ensures.stays.0.told (c.in_ok-found.ensures.stays.1.told told);
 }
 
 -- ---- a row is not written
@@ -442,9 +442,9 @@ returns-in_err-write_rows-clause-safe g c =
     let given : Option (List ℕ) = g.S.Source.held c.args.patch.now in
     let log : Option (List Amend) = (g.D.Source.tally c.args.store.now).amended.writes in
     let m : Measure = c.in_ok-found.found in
-    let held2 : g.D.Source.held c.find_forms.new.store ≡ held = c.in_ok-forms.ensures.store.held_is ∙ c.in_ok-found.ensures.store.held_is in
+    let held2 : g.D.Source.held c.find_forms.new.store ≡ held = c.in_ok-forms.ensures.stays.0.held_is ∙ c.in_ok-found.ensures.stays.0.held_is in
     let log2 : (g.D.Source.tally c.find_forms.new.store).amended.writes ≡ log = ap (λ (k : Tally). k.amended.writes) (c.in_ok-forms.ensures.cause.ok ∙ c.in_ok-found.ensures.cause.ok.0) in
-    let given1 : g.S.Source.held c.measure_codes.new.patch ≡ given = c.in_ok-found.ensures.patch.held_is in
+    let given1 : g.S.Source.held c.measure_codes.new.patch ≡ given = c.in_ok-found.ensures.stays.1.held_is in
     for_jobs held given t (λ job. LeavesSafe job (g.D.Source.held c.write_rows.new.store) log (g.D.Source.tally c.write_rows.new.store).amended.writes) (λ f p is by wanted corner to target.
     let r : Ready t f p wanted corner m = ready_of t m buf held given f p wanted corner is by to target c.requires.found.said c.in_ok-found.ensures.sound c.in_ok-found.ensures.room c.in_ok-found.ensures.measured in
     let st : Steps = steps t f p wanted corner m r in
@@ -460,7 +460,7 @@ returns-in_err-write_rows-clause-safe g c =
     let put = forms_writes t places m forms in
     let cards_is : st.pcount ++ st.forms ≡ put =
     cards_are t f p wanted corner m r places forms (subst (λ l. HasPlaces l places) (sym header_is) c.find_places-places.ensures) (pcount_place buf t.header c.requires.found.header ∙ ap pcount_index (sym header_is))
-    (some_of (g.D.Source.held c.measure_codes.new.store) _ f (c.in_ok-found.ensures.store.held_is ∙ is) c.in_ok-forms.ensures.forms
+    (some_of (g.D.Source.held c.measure_codes.new.store) _ f (c.in_ok-found.ensures.stays.0.held_is ∙ is) c.in_ok-forms.ensures.forms
     ∙ (λ j. forms_for (said_most (sym header_is j) 1) (said_most (sym header_is j) 2) m (other_rows f t.image.table (picked_tiles_of t.image.plan (to.sieve j))))) in
     let laws : StepLaws = record {
       count = c.grown_header_law.ensures.count;
@@ -490,7 +490,7 @@ returns-in_err-write_rows-clause-safe g c =
     still_numbers t f p wanted corner m r c.safe_patch_law.ensures fb pb x (grown_by t m.bytes).header front_is now_is (said4.said.plan ∙ sym r.said.said.plan) in
     let to4 : IsGivenTo corner p (grown_by t m.bytes) = record { sieve = to.sieve; fits = to.fits; numbers = to.numbers } in
     let rows_put = row_writes (grown_by t m.bytes).image.table (plan_to_write (grown_by t m.bytes)) ((grown_by t m.bytes).image.table.heap_len - m.bytes) (zip (box_tiles t.image.plan (given_at corner p)) (es t f p wanted corner m r)) in
-    let given3 : g.S.Source.held c.write_codes.new.patch ≡ given = c.in_ok-write_codes.ensures.patch.held_is ∙ given1 in
+    let given3 : g.S.Source.held c.write_codes.new.patch ≡ given = c.in_ok-write_codes.ensures.stays.0.held_is ∙ given1 in
     let three : WroteSome rows_put (g.D.Source.held c.write_cards.new.store) (g.D.Source.held c.write_rows.new.store) (g.D.Source.tally c.write_cards.new.store).amended.writes (g.D.Source.tally c.write_rows.new.store).amended.writes =
     both_of (g.D.Source.held c.write_cards.new.store) (g.S.Source.held c.write_codes.new.patch) _ x p x_is (given3 ∙ by)
     (subst (λ (u : Target). IfBoth (g.D.Source.held c.write_cards.new.store) (g.S.Source.held c.write_codes.new.patch) (λ f p. (corner : List ℕ) (olds : List (List ℤ)) → IsGivenTo corner p u → BoxHasNumbers f u.header (given_at corner p) olds →
@@ -509,9 +509,9 @@ returns-in_err-write_rows-clause-first_fault g c =
     let given : Option (List ℕ) = g.S.Source.held c.args.patch.now in
     let log : Option (List Amend) = (g.D.Source.tally c.args.store.now).amended.writes in
     let m : Measure = c.in_ok-found.found in
-    let held2 : g.D.Source.held c.find_forms.new.store ≡ held = c.in_ok-forms.ensures.store.held_is ∙ c.in_ok-found.ensures.store.held_is in
+    let held2 : g.D.Source.held c.find_forms.new.store ≡ held = c.in_ok-forms.ensures.stays.0.held_is ∙ c.in_ok-found.ensures.stays.0.held_is in
     let log2 : (g.D.Source.tally c.find_forms.new.store).amended.writes ≡ log = ap (λ (k : Tally). k.amended.writes) (c.in_ok-forms.ensures.cause.ok ∙ c.in_ok-found.ensures.cause.ok.0) in
-    let given1 : g.S.Source.held c.measure_codes.new.patch ≡ given = c.in_ok-found.ensures.patch.held_is in
+    let given1 : g.S.Source.held c.measure_codes.new.patch ≡ given = c.in_ok-found.ensures.stays.1.held_is in
     let stop : Stop = c.in_err-write_rows.field-0.0 in
     let stopped : c.from_residual-in_err-write_rows.result ≡ Err stop = search rules in
     subst (λ (r : Result (Unit {0}) Stop). ForJobs held given t (λ job file by. TellsPatchFault job (Some file) (Some by) r)) (sym stopped)
@@ -530,7 +530,7 @@ returns-in_err-write_rows-clause-first_fault g c =
     let put = forms_writes t places m forms in
     let cards_is : st.pcount ++ st.forms ≡ put =
     cards_are t f p wanted corner m r places forms (subst (λ l. HasPlaces l places) (sym header_is) c.find_places-places.ensures) (pcount_place buf t.header c.requires.found.header ∙ ap pcount_index (sym header_is))
-    (some_of (g.D.Source.held c.measure_codes.new.store) _ f (c.in_ok-found.ensures.store.held_is ∙ is) c.in_ok-forms.ensures.forms
+    (some_of (g.D.Source.held c.measure_codes.new.store) _ f (c.in_ok-found.ensures.stays.0.held_is ∙ is) c.in_ok-forms.ensures.forms
     ∙ (λ j. forms_for (said_most (sym header_is j) 1) (said_most (sym header_is j) 2) m (other_rows f t.image.table (picked_tiles_of t.image.plan (to.sieve j))))) in
     let laws : StepLaws = record {
       count = c.grown_header_law.ensures.count;
@@ -560,7 +560,7 @@ returns-in_err-write_rows-clause-first_fault g c =
     still_numbers t f p wanted corner m r c.safe_patch_law.ensures fb pb x (grown_by t m.bytes).header front_is now_is (said4.said.plan ∙ sym r.said.said.plan) in
     let to4 : IsGivenTo corner p (grown_by t m.bytes) = record { sieve = to.sieve; fits = to.fits; numbers = to.numbers } in
     let rows_put = row_writes (grown_by t m.bytes).image.table (plan_to_write (grown_by t m.bytes)) ((grown_by t m.bytes).image.table.heap_len - m.bytes) (zip (box_tiles t.image.plan (given_at corner p)) (es t f p wanted corner m r)) in
-    let given3 : g.S.Source.held c.write_codes.new.patch ≡ given = c.in_ok-write_codes.ensures.patch.held_is ∙ given1 in
+    let given3 : g.S.Source.held c.write_codes.new.patch ≡ given = c.in_ok-write_codes.ensures.stays.0.held_is ∙ given1 in
     let near : heap_end_of t ≤ length f =
     some_of held _ f is (told_long held (g.D.Source.attached c.args.store.now) (heap_end_of t) (λ n at. g.met.D.Source.agrees c.args.store.now n at)
     (start_reach (g.D.Source.attached c.args.store.now) t.image.table (stands_at t (g.D.Source.attached c.args.store.now) c.requires.found.attached.0 c.requires.found.target c.requires.found.attached.1 c.requires.found.attached.2))) in
@@ -584,9 +584,9 @@ returns-in_err-write_rows-clause-unwritten g c =
     let given : Option (List ℕ) = g.S.Source.held c.args.patch.now in
     let log : Option (List Amend) = (g.D.Source.tally c.args.store.now).amended.writes in
     let m : Measure = c.in_ok-found.found in
-    let held2 : g.D.Source.held c.find_forms.new.store ≡ held = c.in_ok-forms.ensures.store.held_is ∙ c.in_ok-found.ensures.store.held_is in
+    let held2 : g.D.Source.held c.find_forms.new.store ≡ held = c.in_ok-forms.ensures.stays.0.held_is ∙ c.in_ok-found.ensures.stays.0.held_is in
     let log2 : (g.D.Source.tally c.find_forms.new.store).amended.writes ≡ log = ap (λ (k : Tally). k.amended.writes) (c.in_ok-forms.ensures.cause.ok ∙ c.in_ok-found.ensures.cause.ok.0) in
-    let given1 : g.S.Source.held c.measure_codes.new.patch ≡ given = c.in_ok-found.ensures.patch.held_is in
+    let given1 : g.S.Source.held c.measure_codes.new.patch ≡ given = c.in_ok-found.ensures.stays.1.held_is in
     let stop : Stop = c.in_err-write_rows.field-0.0 in
     let stopped : c.from_residual-in_err-write_rows.result ≡ Err stop = search rules in
     λ refused. for_jobs held given t (λ job file by. (g.D.Source.held c.write_rows.new.store ≡ held) × (g.D.Source.tally c.write_rows.new.store ≡ g.D.Source.tally c.args.store.now)) (λ f p is by wanted corner to target.
@@ -604,7 +604,7 @@ returns-in_err-write_rows-clause-unwritten g c =
     let put = forms_writes t places m forms in
     let cards_is : st.pcount ++ st.forms ≡ put =
     cards_are t f p wanted corner m r places forms (subst (λ l. HasPlaces l places) (sym header_is) c.find_places-places.ensures) (pcount_place buf t.header c.requires.found.header ∙ ap pcount_index (sym header_is))
-    (some_of (g.D.Source.held c.measure_codes.new.store) _ f (c.in_ok-found.ensures.store.held_is ∙ is) c.in_ok-forms.ensures.forms
+    (some_of (g.D.Source.held c.measure_codes.new.store) _ f (c.in_ok-found.ensures.stays.0.held_is ∙ is) c.in_ok-forms.ensures.forms
     ∙ (λ j. forms_for (said_most (sym header_is j) 1) (said_most (sym header_is j) 2) m (other_rows f t.image.table (picked_tiles_of t.image.plan (to.sieve j))))) in
     let laws : StepLaws = record {
       count = c.grown_header_law.ensures.count;
@@ -634,7 +634,7 @@ returns-in_err-write_rows-clause-unwritten g c =
     still_numbers t f p wanted corner m r c.safe_patch_law.ensures fb pb x (grown_by t m.bytes).header front_is now_is (said4.said.plan ∙ sym r.said.said.plan) in
     let to4 : IsGivenTo corner p (grown_by t m.bytes) = record { sieve = to.sieve; fits = to.fits; numbers = to.numbers } in
     let rows_put = row_writes (grown_by t m.bytes).image.table (plan_to_write (grown_by t m.bytes)) ((grown_by t m.bytes).image.table.heap_len - m.bytes) (zip (box_tiles t.image.plan (given_at corner p)) (es t f p wanted corner m r)) in
-    let given3 : g.S.Source.held c.write_codes.new.patch ≡ given = c.in_ok-write_codes.ensures.patch.held_is ∙ given1 in
+    let given3 : g.S.Source.held c.write_codes.new.patch ≡ given = c.in_ok-write_codes.ensures.stays.0.held_is ∙ given1 in
     let near : heap_end_of t ≤ length f =
     some_of held _ f is (told_long held (g.D.Source.attached c.args.store.now) (heap_end_of t) (λ n at. g.met.D.Source.agrees c.args.store.now n at)
     (start_reach (g.D.Source.attached c.args.store.now) t.image.table (stands_at t (g.D.Source.attached c.args.store.now) c.requires.found.attached.0 c.requires.found.target c.requires.found.attached.1 c.requires.found.attached.2))) in
@@ -683,7 +683,7 @@ returns-in_err-write_rows-clause-cause g c =
 
 pub returns-in_err-write_rows-clause-reach : goal.returns-in_err-write_rows-clause-reach
 returns-in_err-write_rows-clause-reach g c =
-    reach-then _ _ _ (reach-is _ _ c.in_ok-found.ensures.store.attached_is) (reach-then _ _ _ (reach-is _ _ c.in_ok-forms.ensures.store.attached_is) (reach-then _ _ _ c.in_ok-write_codes.ensures.reach (reach-then _ _ _ c.in_ok-write_cards.ensures.reach c.in_err-write_rows.ensures.reach)))
+    reach-then _ _ _ (reach-is _ _ c.in_ok-found.ensures.stays.0.attached_is) (reach-then _ _ _ (reach-is _ _ c.in_ok-forms.ensures.stays.0.attached_is) (reach-then _ _ _ c.in_ok-write_codes.ensures.reach (reach-then _ _ _ c.in_ok-write_cards.ensures.reach c.in_err-write_rows.ensures.reach)))
 
 -- ---- the end
 
@@ -695,9 +695,9 @@ returns-clause-safe g c =
     let given : Option (List ℕ) = g.S.Source.held c.args.patch.now in
     let log : Option (List Amend) = (g.D.Source.tally c.args.store.now).amended.writes in
     let m : Measure = c.in_ok-found.found in
-    let held2 : g.D.Source.held c.find_forms.new.store ≡ held = c.in_ok-forms.ensures.store.held_is ∙ c.in_ok-found.ensures.store.held_is in
+    let held2 : g.D.Source.held c.find_forms.new.store ≡ held = c.in_ok-forms.ensures.stays.0.held_is ∙ c.in_ok-found.ensures.stays.0.held_is in
     let log2 : (g.D.Source.tally c.find_forms.new.store).amended.writes ≡ log = ap (λ (k : Tally). k.amended.writes) (c.in_ok-forms.ensures.cause.ok ∙ c.in_ok-found.ensures.cause.ok.0) in
-    let given1 : g.S.Source.held c.measure_codes.new.patch ≡ given = c.in_ok-found.ensures.patch.held_is in
+    let given1 : g.S.Source.held c.measure_codes.new.patch ≡ given = c.in_ok-found.ensures.stays.1.held_is in
     for_jobs held given t (λ job. LeavesSafe job (g.D.Source.held c.write_sums.new.store) log (g.D.Source.tally c.write_sums.new.store).amended.writes) (λ f p is by wanted corner to target.
     let r : Ready t f p wanted corner m = ready_of t m buf held given f p wanted corner is by to target c.requires.found.said c.in_ok-found.ensures.sound c.in_ok-found.ensures.room c.in_ok-found.ensures.measured in
     let st : Steps = steps t f p wanted corner m r in
@@ -713,7 +713,7 @@ returns-clause-safe g c =
     let put = forms_writes t places m forms in
     let cards_is : st.pcount ++ st.forms ≡ put =
     cards_are t f p wanted corner m r places forms (subst (λ l. HasPlaces l places) (sym header_is) c.find_places-places.ensures) (pcount_place buf t.header c.requires.found.header ∙ ap pcount_index (sym header_is))
-    (some_of (g.D.Source.held c.measure_codes.new.store) _ f (c.in_ok-found.ensures.store.held_is ∙ is) c.in_ok-forms.ensures.forms
+    (some_of (g.D.Source.held c.measure_codes.new.store) _ f (c.in_ok-found.ensures.stays.0.held_is ∙ is) c.in_ok-forms.ensures.forms
     ∙ (λ j. forms_for (said_most (sym header_is j) 1) (said_most (sym header_is j) 2) m (other_rows f t.image.table (picked_tiles_of t.image.plan (to.sieve j))))) in
     let laws : StepLaws = record {
       count = c.grown_header_law.ensures.count;
@@ -743,7 +743,7 @@ returns-clause-safe g c =
     still_numbers t f p wanted corner m r c.safe_patch_law.ensures fb pb x (grown_by t m.bytes).header front_is now_is (said4.said.plan ∙ sym r.said.said.plan) in
     let to4 : IsGivenTo corner p (grown_by t m.bytes) = record { sieve = to.sieve; fits = to.fits; numbers = to.numbers } in
     let rows_put = row_writes (grown_by t m.bytes).image.table (plan_to_write (grown_by t m.bytes)) ((grown_by t m.bytes).image.table.heap_len - m.bytes) (zip (box_tiles t.image.plan (given_at corner p)) (es t f p wanted corner m r)) in
-    let given3 : g.S.Source.held c.write_codes.new.patch ≡ given = c.in_ok-write_codes.ensures.patch.held_is ∙ given1 in
+    let given3 : g.S.Source.held c.write_codes.new.patch ≡ given = c.in_ok-write_codes.ensures.stays.0.held_is ∙ given1 in
     let three : Wrote rows_put (g.D.Source.held c.write_cards.new.store) (g.D.Source.held c.write_rows.new.store) (g.D.Source.tally c.write_cards.new.store).amended.writes (g.D.Source.tally c.write_rows.new.store).amended.writes =
     both_of (g.D.Source.held c.write_cards.new.store) (g.S.Source.held c.write_codes.new.patch) _ x p x_is (given3 ∙ by)
     (subst (λ (u : Target). IfBoth (g.D.Source.held c.write_cards.new.store) (g.S.Source.held c.write_codes.new.patch) (λ f p. (corner : List ℕ) (olds : List (List ℤ)) → IsGivenTo corner p u → BoxHasNumbers f u.header (given_at corner p) olds →
@@ -777,9 +777,9 @@ returns-clause-patched g c =
     let given : Option (List ℕ) = g.S.Source.held c.args.patch.now in
     let log : Option (List Amend) = (g.D.Source.tally c.args.store.now).amended.writes in
     let m : Measure = c.in_ok-found.found in
-    let held2 : g.D.Source.held c.find_forms.new.store ≡ held = c.in_ok-forms.ensures.store.held_is ∙ c.in_ok-found.ensures.store.held_is in
+    let held2 : g.D.Source.held c.find_forms.new.store ≡ held = c.in_ok-forms.ensures.stays.0.held_is ∙ c.in_ok-found.ensures.stays.0.held_is in
     let log2 : (g.D.Source.tally c.find_forms.new.store).amended.writes ≡ log = ap (λ (k : Tally). k.amended.writes) (c.in_ok-forms.ensures.cause.ok ∙ c.in_ok-found.ensures.cause.ok.0) in
-    let given1 : g.S.Source.held c.measure_codes.new.patch ≡ given = c.in_ok-found.ensures.patch.held_is in
+    let given1 : g.S.Source.held c.measure_codes.new.patch ≡ given = c.in_ok-found.ensures.stays.1.held_is in
     on_ok_weaker c.write_sums.result (λ wrote.
     for_jobs held given t (λ job. IsPatchedBy job (g.D.Source.held c.write_sums.new.store) log (g.D.Source.tally c.write_sums.new.store).amended.writes) (λ f p is by wanted corner to target.
     let r : Ready t f p wanted corner m = ready_of t m buf held given f p wanted corner is by to target c.requires.found.said c.in_ok-found.ensures.sound c.in_ok-found.ensures.room c.in_ok-found.ensures.measured in
@@ -796,7 +796,7 @@ returns-clause-patched g c =
     let put = forms_writes t places m forms in
     let cards_is : st.pcount ++ st.forms ≡ put =
     cards_are t f p wanted corner m r places forms (subst (λ l. HasPlaces l places) (sym header_is) c.find_places-places.ensures) (pcount_place buf t.header c.requires.found.header ∙ ap pcount_index (sym header_is))
-    (some_of (g.D.Source.held c.measure_codes.new.store) _ f (c.in_ok-found.ensures.store.held_is ∙ is) c.in_ok-forms.ensures.forms
+    (some_of (g.D.Source.held c.measure_codes.new.store) _ f (c.in_ok-found.ensures.stays.0.held_is ∙ is) c.in_ok-forms.ensures.forms
     ∙ (λ j. forms_for (said_most (sym header_is j) 1) (said_most (sym header_is j) 2) m (other_rows f t.image.table (picked_tiles_of t.image.plan (to.sieve j))))) in
     let laws : StepLaws = record {
       count = c.grown_header_law.ensures.count;
@@ -826,7 +826,7 @@ returns-clause-patched g c =
     still_numbers t f p wanted corner m r c.safe_patch_law.ensures fb pb x (grown_by t m.bytes).header front_is now_is (said4.said.plan ∙ sym r.said.said.plan) in
     let to4 : IsGivenTo corner p (grown_by t m.bytes) = record { sieve = to.sieve; fits = to.fits; numbers = to.numbers } in
     let rows_put = row_writes (grown_by t m.bytes).image.table (plan_to_write (grown_by t m.bytes)) ((grown_by t m.bytes).image.table.heap_len - m.bytes) (zip (box_tiles t.image.plan (given_at corner p)) (es t f p wanted corner m r)) in
-    let given3 : g.S.Source.held c.write_codes.new.patch ≡ given = c.in_ok-write_codes.ensures.patch.held_is ∙ given1 in
+    let given3 : g.S.Source.held c.write_codes.new.patch ≡ given = c.in_ok-write_codes.ensures.stays.0.held_is ∙ given1 in
     let three : Wrote rows_put (g.D.Source.held c.write_cards.new.store) (g.D.Source.held c.write_rows.new.store) (g.D.Source.tally c.write_cards.new.store).amended.writes (g.D.Source.tally c.write_rows.new.store).amended.writes =
     both_of (g.D.Source.held c.write_cards.new.store) (g.S.Source.held c.write_codes.new.patch) _ x p x_is (given3 ∙ by)
     (subst (λ (u : Target). IfBoth (g.D.Source.held c.write_cards.new.store) (g.S.Source.held c.write_codes.new.patch) (λ f p. (corner : List ℕ) (olds : List (List ℤ)) → IsGivenTo corner p u → BoxHasNumbers f u.header (given_at corner p) olds →
@@ -865,9 +865,9 @@ returns-clause-first_fault g c =
     let given : Option (List ℕ) = g.S.Source.held c.args.patch.now in
     let log : Option (List Amend) = (g.D.Source.tally c.args.store.now).amended.writes in
     let m : Measure = c.in_ok-found.found in
-    let held2 : g.D.Source.held c.find_forms.new.store ≡ held = c.in_ok-forms.ensures.store.held_is ∙ c.in_ok-found.ensures.store.held_is in
+    let held2 : g.D.Source.held c.find_forms.new.store ≡ held = c.in_ok-forms.ensures.stays.0.held_is ∙ c.in_ok-found.ensures.stays.0.held_is in
     let log2 : (g.D.Source.tally c.find_forms.new.store).amended.writes ≡ log = ap (λ (k : Tally). k.amended.writes) (c.in_ok-forms.ensures.cause.ok ∙ c.in_ok-found.ensures.cause.ok.0) in
-    let given1 : g.S.Source.held c.measure_codes.new.patch ≡ given = c.in_ok-found.ensures.patch.held_is in
+    let given1 : g.S.Source.held c.measure_codes.new.patch ≡ given = c.in_ok-found.ensures.stays.1.held_is in
     let never : IsRefused c.write_sums.result → ⊥ = amends_unrefused (g.D.Source.tally c.write_rows.new.store) (g.D.Source.tally c.write_sums.new.store) c.write_sums.result c.write_sums.ensures.cause in
     for_jobs held given t (λ job file by. TellsPatchFault {X = Unit {0}} job (Some file) (Some by) c.write_sums.result) (λ f p is by wanted corner to target.
     let r : Ready t f p wanted corner m = ready_of t m buf held given f p wanted corner is by to target c.requires.found.said c.in_ok-found.ensures.sound c.in_ok-found.ensures.room c.in_ok-found.ensures.measured in
@@ -908,7 +908,7 @@ returns-clause-cause g c =
 
 pub returns-clause-reach : goal.returns-clause-reach
 returns-clause-reach g c =
-    reach-then _ _ _ (reach-is _ _ c.in_ok-found.ensures.store.attached_is) (reach-then _ _ _ (reach-is _ _ c.in_ok-forms.ensures.store.attached_is) (reach-then _ _ _ c.in_ok-write_codes.ensures.reach (reach-then _ _ _ c.in_ok-write_cards.ensures.reach (reach-then _ _ _ c.in_ok-write_rows.ensures.reach c.write_sums.ensures.reach))))
+    reach-then _ _ _ (reach-is _ _ c.in_ok-found.ensures.stays.0.attached_is) (reach-then _ _ _ (reach-is _ _ c.in_ok-forms.ensures.stays.0.attached_is) (reach-then _ _ _ c.in_ok-write_codes.ensures.reach (reach-then _ _ _ c.in_ok-write_cards.ensures.reach (reach-then _ _ _ c.in_ok-write_rows.ensures.reach c.write_sums.ensures.reach))))
 
 -- ---- what the parts require
 
@@ -916,11 +916,11 @@ pub find_places-places-requires-clause-some : goal.find_places-places-requires-c
 find_places-places-requires-clause-some g c = let long = c.requires.found.header.whole.blocks in omega (arith, long)
 
 pub write_codes-requires-clause-given : goal.write_codes-requires-clause-given
-write_codes-requires-clause-given g c κs within = subst (λ (a : Option ℕ). GivesWithin a c.args.target.now) (sym c.in_ok-found.ensures.patch.attached_is) c.requires.given
+write_codes-requires-clause-given g c κs within = subst (λ (a : Option ℕ). GivesWithin a c.args.target.now) (sym c.in_ok-found.ensures.stays.1.attached_is) c.requires.given
 
 pub write_codes-requires-clause-window : goal.write_codes-requires-clause-window
 write_codes-requires-clause-window g c κs within =
-    room_still c.args.target.now.image c.args.window.now c.measure_codes.new.window c.in_ok-found.ensures.window.sizes c.in_ok-found.ensures.window.workers c.requires.window
+    room_still c.args.target.now.image c.args.window.now c.measure_codes.new.window c.in_ok-found.ensures.stays.2.sizes c.in_ok-found.ensures.stays.2.workers c.requires.window
 
 pub write_cards-requires-clause-within : goal.write_cards-requires-clause-within
 write_cards-requires-clause-within g c =
@@ -971,7 +971,7 @@ write_rows-requires-clause-said g c κs within =
     let buf : List ℕ = c.args.buf.now in
     let held : Option (List ℕ) = g.D.Source.held c.args.store.now in
     let m : Measure = c.in_ok-found.found in
-    let held2 : g.D.Source.held c.find_forms.new.store ≡ held = c.in_ok-forms.ensures.store.held_is ∙ c.in_ok-found.ensures.store.held_is in
+    let held2 : g.D.Source.held c.find_forms.new.store ≡ held = c.in_ok-forms.ensures.stays.0.held_is ∙ c.in_ok-found.ensures.stays.0.held_is in
     let places = c.find_places-places.result in
     let forms = c.in_ok-forms.forms in
     let put = forms_writes t places m forms in
@@ -995,7 +995,7 @@ write_rows-requires-clause-said g c κs within =
 pub write_rows-requires-clause-given : goal.write_rows-requires-clause-given
 write_rows-requires-clause-given g c κs within =
     subst (λ (u : Target). GivesWithin (g.S.Source.attached c.write_codes.new.patch) u) (sym c.grown-grown.ensures.same)
-    (subst (λ (a : Option ℕ). GivesWithin a (grown_by c.args.target.now c.in_ok-found.found.bytes)) (sym (c.in_ok-write_codes.ensures.patch.attached_is ∙ c.in_ok-found.ensures.patch.attached_is)) c.requires.given)
+    (subst (λ (a : Option ℕ). GivesWithin a (grown_by c.args.target.now c.in_ok-found.found.bytes)) (sym (c.in_ok-write_codes.ensures.stays.0.attached_is ∙ c.in_ok-found.ensures.stays.1.attached_is)) c.requires.given)
 
 pub write_rows-requires-clause-heap : goal.write_rows-requires-clause-heap
 write_rows-requires-clause-heap g c κs within =
@@ -1013,8 +1013,8 @@ write_rows-requires-clause-room g c κs within =
 pub write_rows-requires-clause-window : goal.write_rows-requires-clause-window
 write_rows-requires-clause-window g c κs within =
     let t = c.args.target.now in
-    let first = room_still t.image c.args.window.now c.measure_codes.new.window c.in_ok-found.ensures.window.sizes c.in_ok-found.ensures.window.workers c.requires.window in
-    let second = room_still t.image c.measure_codes.new.window c.write_codes.new.window c.in_ok-write_codes.ensures.window.sizes c.in_ok-write_codes.ensures.window.workers first in
+    let first = room_still t.image c.args.window.now c.measure_codes.new.window c.in_ok-found.ensures.stays.2.sizes c.in_ok-found.ensures.stays.2.workers c.requires.window in
+    let second = room_still t.image c.measure_codes.new.window c.write_codes.new.window c.in_ok-write_codes.ensures.stays.1.sizes c.in_ok-write_codes.ensures.stays.1.workers first in
     subst (λ (u : Target). HaveRoom u.image c.write_codes.new.window) (sym c.grown-grown.ensures.same) second
 
 pub write_sums-requires-clause-header : goal.write_sums-requires-clause-header
@@ -1052,26 +1052,26 @@ write_sums-requires-clause-end g c =
 
 pub returns-in_err-write_codes-clause-told : goal.returns-in_err-write_codes-clause-told
 returns-in_err-write_codes-clause-told g c =
-    let same : g.D.Source.held c.find_forms.new.store ≡ g.D.Source.held c.args.store.now = c.in_ok-forms.ensures.store.held_is ∙ c.in_ok-found.ensures.store.held_is in
-    told-then _ _ _ (told-is _ _ same) c.in_err-write_codes.ensures.told
+    let same : g.D.Source.held c.find_forms.new.store ≡ g.D.Source.held c.args.store.now = c.in_ok-forms.ensures.stays.0.held_is ∙ c.in_ok-found.ensures.stays.0.held_is in
+    told-then _ _ _ (told-is _ _ same) c.in_err-write_codes.ensures.stays.2
 
 pub returns-in_err-write_cards-clause-told : goal.returns-in_err-write_cards-clause-told
 returns-in_err-write_cards-clause-told g c =
-    let same : g.D.Source.held c.find_forms.new.store ≡ g.D.Source.held c.args.store.now = c.in_ok-forms.ensures.store.held_is ∙ c.in_ok-found.ensures.store.held_is in
-    told-then _ _ _ (told-then _ _ _ (told-is _ _ same) c.in_ok-write_codes.ensures.told) (told-some _ _ _ _ _ c.in_err-write_cards.ensures.some)
+    let same : g.D.Source.held c.find_forms.new.store ≡ g.D.Source.held c.args.store.now = c.in_ok-forms.ensures.stays.0.held_is ∙ c.in_ok-found.ensures.stays.0.held_is in
+    told-then _ _ _ (told-then _ _ _ (told-is _ _ same) c.in_ok-write_codes.ensures.stays.2) (told-some _ _ _ _ _ c.in_err-write_cards.ensures.some)
 
 pub returns-in_err-write_rows-clause-told : goal.returns-in_err-write_rows-clause-told
 returns-in_err-write_rows-clause-told g c =
-    let same : g.D.Source.held c.find_forms.new.store ≡ g.D.Source.held c.args.store.now = c.in_ok-forms.ensures.store.held_is ∙ c.in_ok-found.ensures.store.held_is in
-    told-then _ _ _ (told-then _ _ _ (told-then _ _ _ (told-is _ _ same) c.in_ok-write_codes.ensures.told) (told-some _ _ _ _ _ c.in_ok-write_cards.ensures.some)) c.in_err-write_rows.ensures.told
+    let same : g.D.Source.held c.find_forms.new.store ≡ g.D.Source.held c.args.store.now = c.in_ok-forms.ensures.stays.0.held_is ∙ c.in_ok-found.ensures.stays.0.held_is in
+    told-then _ _ _ (told-then _ _ _ (told-then _ _ _ (told-is _ _ same) c.in_ok-write_codes.ensures.stays.2) (told-some _ _ _ _ _ c.in_ok-write_cards.ensures.some)) c.in_err-write_rows.ensures.stays.2
 
 pub returns-clause-told : goal.returns-clause-told
 returns-clause-told g c =
-    let same : g.D.Source.held c.find_forms.new.store ≡ g.D.Source.held c.args.store.now = c.in_ok-forms.ensures.store.held_is ∙ c.in_ok-found.ensures.store.held_is in
+    let same : g.D.Source.held c.find_forms.new.store ≡ g.D.Source.held c.args.store.now = c.in_ok-forms.ensures.stays.0.held_is ∙ c.in_ok-found.ensures.stays.0.held_is in
     let before : Option (List ℕ) = g.D.Source.held c.write_rows.new.store in
     let now : Option (List ℕ) = g.D.Source.held c.write_sums.new.store in
     let log : Option (List Amend) = (g.D.Source.tally c.write_rows.new.store).amended.writes in
     let log' : Option (List Amend) = (g.D.Source.tally c.write_sums.new.store).amended.writes in
     told-then _ _ _
-    (told-then _ _ _ (told-then _ _ _ (told-then _ _ _ (told-is _ _ same) c.in_ok-write_codes.ensures.told) (told-some _ _ _ _ _ c.in_ok-write_cards.ensures.some)) c.in_ok-write_rows.ensures.told)
+    (told-then _ _ _ (told-then _ _ _ (told-then _ _ _ (told-is _ _ same) c.in_ok-write_codes.ensures.stays.2) (told-some _ _ _ _ _ c.in_ok-write_cards.ensures.some)) c.in_ok-write_rows.ensures.stays.2)
     (told-if before now (λ f. WroteSome (sums_writes c.grown-grown.result.header f c.write_cards.new.buf) before now log log') (λ f is some. told-some _ before now log log' some) c.write_sums.ensures.some)

@@ -44,7 +44,7 @@ returns-in_err-payload-clause-some g c =
     let log : Option (List Amend) = (g.D.Source.tally c.args.store.now).amended.writes in
     let log' : Option (List Amend) = (g.D.Source.tally c.sum_of.new.store).amended.writes in
     let stopped = c.in_err-payload.ensures in
-    if_some held _ (λ f is. some_same (sums_writes c.args.header.now f c.args.buf.now) held held now log log log' stopped.store.held_is (read_writes _ _ stopped.cause.kept) (wrote-nothing (sums_writes c.args.header.now f c.args.buf.now) held log))
+    if_some held _ (λ f is. some_same (sums_writes c.args.header.now f c.args.buf.now) held held now log log log' stopped.stays.0.held_is (read_writes _ _ stopped.cause.kept) (wrote-nothing (sums_writes c.args.header.now f c.args.buf.now) held log))
 
 pub returns-in_err-payload-clause-cause : goal.returns-in_err-payload-clause-cause
 returns-in_err-payload-clause-cause g c =
@@ -59,7 +59,7 @@ pub write_datasum-requires-clause-within : goal.write_datasum-requires-clause-wi
 write_datasum-requires-clause-within g c =
     let h = c.args.header.now in
     let long = header_long c.args.buf.now h c.requires.header in
-    subst (λ (a : Option ℕ). HasAtLeast a (h.start + length c.args.buf.now)) (sym c.in_ok-payload.ensures.store.attached_is) (at-least _ _ _ c.requires.within (omega (arith, long)))
+    subst (λ (a : Option ℕ). HasAtLeast a (h.start + length c.args.buf.now)) (sym c.in_ok-payload.ensures.stays.0.attached_is) (at-least _ _ _ c.requires.within (omega (arith, long)))
 
 pub write_datasum-requires-clause-near : goal.write_datasum-requires-clause-near
 write_datasum-requires-clause-near g c = omega (arith, header_long c.args.buf.now c.args.header.now c.requires.header, c.requires.end)
@@ -69,7 +69,7 @@ write_checksum-requires-clause-within g c =
     let h = c.args.header.now in
     let long = header_long c.args.buf.now h c.requires.header in
     let start : HasAtLeast (g.D.Source.attached c.sum_of.new.store) (h.start + length c.args.buf.now) =
-    subst (λ (a : Option ℕ). HasAtLeast a (h.start + length c.args.buf.now)) (sym c.in_ok-payload.ensures.store.attached_is) (at-least _ _ _ c.requires.within (omega (arith, long))) in
+    subst (λ (a : Option ℕ). HasAtLeast a (h.start + length c.args.buf.now)) (sym c.in_ok-payload.ensures.stays.0.attached_is) (at-least _ _ _ c.requires.within (omega (arith, long))) in
     subst (λ k. HasAtLeast (g.D.Source.attached c.write_datasum.new.store) (h.start + k)) (sym c.in_ok-write_datasum.ensures.len) (c.in_ok-write_datasum.ensures.reach _ start)
 
 pub write_checksum-requires-clause-near : goal.write_checksum-requires-clause-near
@@ -95,7 +95,7 @@ returns-in_err-write_datasum-clause-some g c =
     some_of held _ f is read.sum ∙ ap (after nothing 0) (data_between h f c.data_start.result c.next_start.result c.data_start.ensures c.next_start.ensures) in
     let value : c.value.result ≡ ones_sum (hdu_of f h).payload = c.value.ensures ∙ data_sum c.sum_law.ensures.whole (hdu_of f h).payload c.in_ok-payload.payload sum in
     sums_front h f c.args.buf.now c.told_sum-datasum.result c.value.result held (g.D.Source.held c.write_datasum.new.store) log (g.D.Source.tally c.write_datasum.new.store).amended.writes c.told_sum-datasum.ensures.place value
-    (subst (λ (l : Option (List Amend)). WroteSome (datasum_write h c.told_sum-datasum.result c.value.result) held (g.D.Source.held c.write_datasum.new.store) l (g.D.Source.tally c.write_datasum.new.store).amended.writes) log_same (subst (λ (k : Option (List ℕ)). WroteSome (datasum_write h c.told_sum-datasum.result c.value.result) k (g.D.Source.held c.write_datasum.new.store) (g.D.Source.tally c.sum_of.new.store).amended.writes (g.D.Source.tally c.write_datasum.new.store).amended.writes) read.store.held_is c.in_err-write_datasum.ensures.some)))
+    (subst (λ (l : Option (List Amend)). WroteSome (datasum_write h c.told_sum-datasum.result c.value.result) held (g.D.Source.held c.write_datasum.new.store) l (g.D.Source.tally c.write_datasum.new.store).amended.writes) log_same (subst (λ (k : Option (List ℕ)). WroteSome (datasum_write h c.told_sum-datasum.result c.value.result) k (g.D.Source.held c.write_datasum.new.store) (g.D.Source.tally c.sum_of.new.store).amended.writes (g.D.Source.tally c.write_datasum.new.store).amended.writes) read.stays.0.held_is c.in_err-write_datasum.ensures.some)))
 
 pub returns-in_err-write_datasum-clause-cause : goal.returns-in_err-write_datasum-clause-cause
 returns-in_err-write_datasum-clause-cause g c =
@@ -123,7 +123,7 @@ returns-in_err-write_checksum-clause-some g c =
     let value : c.value.result ≡ ones_sum (hdu_of f h).payload = c.value.ensures ∙ data_sum c.sum_law.ensures.whole (hdu_of f h).payload c.in_ok-payload.payload sum in
     sums_back h f c.args.buf.now c.write_datasum.new.buf c.told_sum-datasum.result c.told_sum-checksum.result c.value.result held (g.D.Source.held mid) (g.D.Source.held new) log (g.D.Source.tally mid).amended.writes (g.D.Source.tally new).amended.writes
     c.told_sum-datasum.ensures.place c.told_sum-checksum.ensures.place value one.header
-    (subst (λ (l : Option (List Amend)). Wrote (datasum_write h c.told_sum-datasum.result c.value.result) held (g.D.Source.held c.write_datasum.new.store) l (g.D.Source.tally c.write_datasum.new.store).amended.writes) log_same (subst (λ (k : Option (List ℕ)). Wrote (datasum_write h c.told_sum-datasum.result c.value.result) k (g.D.Source.held c.write_datasum.new.store) (g.D.Source.tally c.sum_of.new.store).amended.writes (g.D.Source.tally c.write_datasum.new.store).amended.writes) read.store.held_is one.wrote))
+    (subst (λ (l : Option (List Amend)). Wrote (datasum_write h c.told_sum-datasum.result c.value.result) held (g.D.Source.held c.write_datasum.new.store) l (g.D.Source.tally c.write_datasum.new.store).amended.writes) log_same (subst (λ (k : Option (List ℕ)). Wrote (datasum_write h c.told_sum-datasum.result c.value.result) k (g.D.Source.held c.write_datasum.new.store) (g.D.Source.tally c.sum_of.new.store).amended.writes (g.D.Source.tally c.write_datasum.new.store).amended.writes) read.stays.0.held_is one.wrote))
     (c.in_err-write_checksum.ensures.some (hdu_of f h).payload sum))
 
 pub returns-in_err-write_checksum-clause-cause : goal.returns-in_err-write_checksum-clause-cause
@@ -142,7 +142,7 @@ returns-in_err-write_checksum-clause-cause g c =
 pub settle-requires : goal.settle-requires
 settle-requires g c =
     let end : ℕ = next_start_of c.args.header.now in
-    let read : HasAtLeast (g.D.Source.attached c.sum_of.new.store) end = subst (λ (a : Option ℕ). HasAtLeast a end) (sym c.in_ok-payload.ensures.store.attached_is) c.requires.within in
+    let read : HasAtLeast (g.D.Source.attached c.sum_of.new.store) end = subst (λ (a : Option ℕ). HasAtLeast a end) (sym c.in_ok-payload.ensures.stays.0.attached_is) c.requires.within in
     let has : HasAtLeast (g.D.Source.attached c.write_checksum.new.store) end = c.in_ok-write_checksum.ensures.reach end (c.in_ok-write_datasum.ensures.reach end read) in
     ap is_some has.1
 
@@ -168,7 +168,7 @@ returns-clause-wrote g c =
     (settled_writes (g.D.Source.tally new) (g.D.Source.tally end) c.settle.result c.settle.ensures.cause)
     (sums_wrote h f c.args.buf.now c.write_datasum.new.buf c.told_sum-datasum.result c.told_sum-checksum.result c.value.result held (g.D.Source.held mid) (g.D.Source.held new) log (g.D.Source.tally mid).amended.writes (g.D.Source.tally new).amended.writes
     c.told_sum-datasum.ensures.place c.told_sum-checksum.ensures.place value one.header
-    (subst (λ (l : Option (List Amend)). Wrote (datasum_write h c.told_sum-datasum.result c.value.result) held (g.D.Source.held c.write_datasum.new.store) l (g.D.Source.tally c.write_datasum.new.store).amended.writes) log_same (subst (λ (k : Option (List ℕ)). Wrote (datasum_write h c.told_sum-datasum.result c.value.result) k (g.D.Source.held c.write_datasum.new.store) (g.D.Source.tally c.sum_of.new.store).amended.writes (g.D.Source.tally c.write_datasum.new.store).amended.writes) read.store.held_is one.wrote))
+    (subst (λ (l : Option (List Amend)). Wrote (datasum_write h c.told_sum-datasum.result c.value.result) held (g.D.Source.held c.write_datasum.new.store) l (g.D.Source.tally c.write_datasum.new.store).amended.writes) log_same (subst (λ (k : Option (List ℕ)). Wrote (datasum_write h c.told_sum-datasum.result c.value.result) k (g.D.Source.held c.write_datasum.new.store) (g.D.Source.tally c.sum_of.new.store).amended.writes (g.D.Source.tally c.write_datasum.new.store).amended.writes) read.stays.0.held_is one.wrote))
     (c.in_ok-write_checksum.ensures.wrote (hdu_of f h).payload sum)))) c.settle.ensures.cause.ok
 
 pub returns-clause-some : goal.returns-clause-some
@@ -190,7 +190,7 @@ returns-clause-some g c =
     (settled_writes (g.D.Source.tally new) (g.D.Source.tally end) c.settle.result c.settle.ensures.cause)
     (wrote-all _ _ _ _ _ (sums_wrote h f c.args.buf.now c.write_datasum.new.buf c.told_sum-datasum.result c.told_sum-checksum.result c.value.result held (g.D.Source.held mid) (g.D.Source.held new) log (g.D.Source.tally mid).amended.writes (g.D.Source.tally new).amended.writes
     c.told_sum-datasum.ensures.place c.told_sum-checksum.ensures.place value one.header
-    (subst (λ (l : Option (List Amend)). Wrote (datasum_write h c.told_sum-datasum.result c.value.result) held (g.D.Source.held c.write_datasum.new.store) l (g.D.Source.tally c.write_datasum.new.store).amended.writes) log_same (subst (λ (k : Option (List ℕ)). Wrote (datasum_write h c.told_sum-datasum.result c.value.result) k (g.D.Source.held c.write_datasum.new.store) (g.D.Source.tally c.sum_of.new.store).amended.writes (g.D.Source.tally c.write_datasum.new.store).amended.writes) read.store.held_is one.wrote))
+    (subst (λ (l : Option (List Amend)). Wrote (datasum_write h c.told_sum-datasum.result c.value.result) held (g.D.Source.held c.write_datasum.new.store) l (g.D.Source.tally c.write_datasum.new.store).amended.writes) log_same (subst (λ (k : Option (List ℕ)). Wrote (datasum_write h c.told_sum-datasum.result c.value.result) k (g.D.Source.held c.write_datasum.new.store) (g.D.Source.tally c.sum_of.new.store).amended.writes (g.D.Source.tally c.write_datasum.new.store).amended.writes) read.stays.0.held_is one.wrote))
     (c.in_ok-write_checksum.ensures.wrote (hdu_of f h).payload sum))))
 
 pub returns-clause-cause : goal.returns-clause-cause
@@ -208,4 +208,4 @@ returns-clause-cause g c =
 
 pub returns-clause-reach : goal.returns-clause-reach
 returns-clause-reach g c =
-    reach-then _ _ _ (reach-is _ _ c.in_ok-payload.ensures.store.attached_is) (reach-then _ _ _ c.in_ok-write_datasum.ensures.reach (reach-then _ _ _ c.in_ok-write_checksum.ensures.reach (reach-is _ _ c.settle.ensures.store.attached_is)))
+    reach-then _ _ _ (reach-is _ _ c.in_ok-payload.ensures.stays.0.attached_is) (reach-then _ _ _ c.in_ok-write_datasum.ensures.reach (reach-then _ _ _ c.in_ok-write_checksum.ensures.reach (reach-is _ _ c.settle.ensures.store.attached_is)))

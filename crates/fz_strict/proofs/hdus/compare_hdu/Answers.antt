@@ -2,7 +2,7 @@
 use Rattle.std.proofs.Common.{ℕ, List, Option, subst}
 use Rattle.std.proofs.lemmas.Result.{IfOk-weaker}
 use Rattle.fz_base.specs.Source.{HoldsLength}
-use Rattle.fz_head.specs.declared.job_checks.PackedImage.{PackedImage}
+use Rattle.fz_checks.specs.declared.job_checks.PackedImage.{PackedImage}
 use Rattle.fz_job.specs.Again.{IsAgain}
 use Rattle.fz_compare.specs.Reads.{hdu_ranges}
 use Rattle.fz_strict.proofs.CopiesCompared.{copy_compared, image_compares}

@@ -64,7 +64,7 @@ returns-in_err-now-clause-compared g c =
     let stopped : c.from_residual-in_err-now.result ≡ Err c.in_err-now.field-0.0 = search rules in
     let seen : IfSome held (λ f. ReadsAsSeen f c.loop-hdu.hdu c.loop-hdu.start c.loop-hdu.after_empty s.header_len s.tile (Ok a)) =
     subst (λ (h : Option (List ℕ)). IfSome h (λ f. ReadsAsSeen f c.loop-hdu.hdu c.loop-hdu.start c.loop-hdu.after_empty s.header_len s.tile (Ok a))) old.held c.in_ok-again.ensures.as_seen in
-    let there : g.S.Source.held c.read_front.new.source ≡ held = c.in_ok-again.ensures.source.held_is ∙ old.held in
+    let there : g.S.Source.held c.read_front.new.source ≡ held = c.in_ok-again.ensures.stays.0.held_is ∙ old.held in
     let fault : IfRefused {X = Option Origin} (Err c.in_err-now.field-0.0) (λ x. IfSome held (λ f. IsHduFault f a.header x)) =
     subst (λ (h : Option (List ℕ)). IfRefused {X = Option Origin} (Err c.in_err-now.field-0.0) (λ x. IfSome h (λ f. IsHduFault f a.header x))) there c.in_err-now.ensures.fault in
     subst (λ (r : Result Bool Stop). IfSome held (λ f. ComparesSeen o f s r)) (sym stopped)
@@ -85,7 +85,7 @@ returns-then-start-length-clause-compared g c =
     let now : Option Origin = c.in_ok-now.now in
     let seen : IfSome held (λ f. ReadsAsSeen f k start flag s.header_len s.tile (Ok a)) =
     subst (λ (h : Option (List ℕ)). IfSome h (λ f. ReadsAsSeen f k start flag s.header_len s.tile (Ok a))) old.held c.in_ok-again.ensures.as_seen in
-    let there : g.S.Source.held c.read_front.new.source ≡ held = c.in_ok-again.ensures.source.held_is ∙ old.held in
+    let there : g.S.Source.held c.read_front.new.source ≡ held = c.in_ok-again.ensures.stays.0.held_is ∙ old.held in
     let sound : IfSome held (λ f. IsHduSound f a.header) = subst (λ (h : Option (List ℕ)). IfSome h (λ f. IsHduSound f a.header)) there c.in_ok-now.ensures.sound in
     let compared : IfSome held (λ f. ComparesHdu o f a.header c.loop-hdu.origin now) = subst (λ (h : Option (List ℕ)). IfSome h (λ f. ComparesHdu o f a.header c.loop-hdu.origin now)) there c.in_ok-now.ensures.compared in
     let more : IfSome held (IsComparing o s (k + 1) (next_start_of a.header) (is_empty_primary a.header) now) =
@@ -112,7 +112,7 @@ loop-hdu-preserved g c =
     let now : Option Origin = c.in_ok-now.now in
     let seen : IfSome held (λ f. ReadsAsSeen f k start flag s.header_len s.tile (Ok a)) =
     subst (λ (h : Option (List ℕ)). IfSome h (λ f. ReadsAsSeen f k start flag s.header_len s.tile (Ok a))) old.held c.in_ok-again.ensures.as_seen in
-    let there : g.S.Source.held c.read_front.new.source ≡ held = c.in_ok-again.ensures.source.held_is ∙ old.held in
+    let there : g.S.Source.held c.read_front.new.source ≡ held = c.in_ok-again.ensures.stays.0.held_is ∙ old.held in
     let sound : IfSome held (λ f. IsHduSound f a.header) = subst (λ (h : Option (List ℕ)). IfSome h (λ f. IsHduSound f a.header)) there c.in_ok-now.ensures.sound in
     let compared : IfSome held (λ f. ComparesHdu o f a.header c.loop-hdu.origin now) = subst (λ (h : Option (List ℕ)). IfSome h (λ f. ComparesHdu o f a.header c.loop-hdu.origin now)) there c.in_ok-now.ensures.compared in
     let more : IfSome held (IsComparing o s (k + 1) (next_start_of a.header) (is_empty_primary a.header) now) =
@@ -134,18 +134,18 @@ loop-hdu-preserved g c =
     let reads : IfSome held (λ file. ReadsKnown file s first three) =
     hdu_compared s first o c.ranges_law.ensures.join held k start flag c.loop-hdu.origin two three few old.comparing c.hdu_at_law.ensures.blocks a seen body header in
     record {
-      held = c.in_ok-now.ensures.source.held_is ∙ there;
-      attached = c.in_ok-now.ensures.source.attached_is ∙ c.in_ok-again.ensures.source.attached_is ∙ old.attached;
+      held = c.in_ok-now.ensures.stays.0.held_is ∙ there;
+      attached = c.in_ok-now.ensures.stays.0.attached_is ∙ c.in_ok-again.ensures.stays.0.attached_is ∙ old.attached;
       reads = c.in_ok-now.ensures.cause.ok ∙ c.in_ok-again.ensures.cause.ok ∙ old.reads;
-      told = λ told. c.in_ok-now.ensures.source.told (c.in_ok-again.ensures.source.told (old.told told));
+      told = λ told. c.in_ok-now.ensures.stays.0.told (c.in_ok-again.ensures.stays.0.told (old.told told));
       read = reads;
-      plain = c.in_ok-now.ensures.plain ∙ old.plain;
+      plain = c.in_ok-now.ensures.stays.3 ∙ old.plain;
       space = record {
-        header = omega (arith, c.in_ok-now.ensures.space.header, old.space.header, c.in_ok-again.ensures.header, length-take {A = ℕ}, length-append {A = ℕ}, length-drop {A = ℕ});
-        translated = c.in_ok-now.ensures.space.translated ∙ old.space.translated;
-        copy = c.in_ok-now.ensures.space.copy ∙ old.space.copy;
+        header = omega (arith, c.in_ok-now.ensures.stays.1.header, old.space.header, c.in_ok-again.ensures.stays.1, length-take {A = ℕ}, length-append {A = ℕ}, length-drop {A = ℕ});
+        translated = c.in_ok-now.ensures.stays.1.translated ∙ old.space.translated;
+        copy = c.in_ok-now.ensures.stays.1.copy ∙ old.space.copy;
       };
-      window = record { sizes = c.in_ok-now.ensures.window.sizes ∙ old.window.sizes; workers = c.in_ok-now.ensures.window.workers ∙ old.window.workers };
+      window = record { sizes = c.in_ok-now.ensures.stays.2.sizes ∙ old.window.sizes; workers = c.in_ok-now.ensures.stays.2.workers ∙ old.window.workers };
       within = λ left. inl before;
       origin = c.in_ok-now.ensures.origin;
       comparing = subst (λ b. IfSome held (IsComparing o s (k + 1) c.next_start-start.result b now)) (sym says)
@@ -203,7 +203,7 @@ returns-in_err-now-clause-read g c =
     let a = c.in_ok-again.again in
     let seen : IfSome held (λ f. ReadsAsSeen f k start flag s.header_len s.tile (Ok a)) =
     subst (λ (h : Option (List ℕ)). IfSome h (λ f. ReadsAsSeen f k start flag s.header_len s.tile (Ok a))) old.held c.in_ok-again.ensures.as_seen in
-    let there : g.S.Source.held c.read_front.new.source ≡ held = c.in_ok-again.ensures.source.held_is ∙ old.held in
+    let there : g.S.Source.held c.read_front.new.source ≡ held = c.in_ok-again.ensures.stays.0.held_is ∙ old.held in
     let three : Option (List (ℕ × ℕ)) = g.S.Source.ranges c.compare_hdu.new.source in
     let body : IfSome held (λ file. LogsIn (hdu_ranges file a.header) two three) =
     subst (λ (h : Option (List ℕ)). IfSome h (λ file. LogsIn (hdu_ranges file a.header) two three)) there c.in_err-now.ensures.read in
@@ -231,7 +231,7 @@ returns-then-start-length-clause-read g c =
     let a = c.in_ok-again.again in
     let seen : IfSome held (λ f. ReadsAsSeen f k start flag s.header_len s.tile (Ok a)) =
     subst (λ (h : Option (List ℕ)). IfSome h (λ f. ReadsAsSeen f k start flag s.header_len s.tile (Ok a))) old.held c.in_ok-again.ensures.as_seen in
-    let there : g.S.Source.held c.read_front.new.source ≡ held = c.in_ok-again.ensures.source.held_is ∙ old.held in
+    let there : g.S.Source.held c.read_front.new.source ≡ held = c.in_ok-again.ensures.stays.0.held_is ∙ old.held in
     let three : Option (List (ℕ × ℕ)) = g.S.Source.ranges c.compare_hdu.new.source in
     let body : IfSome held (λ file. LogsIn (hdu_ranges file a.header) two three) =
     subst (λ (h : Option (List ℕ)). IfSome h (λ file. LogsIn (hdu_ranges file a.header) two three)) there c.in_ok-now.ensures.read in

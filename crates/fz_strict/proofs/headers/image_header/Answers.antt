@@ -2,7 +2,7 @@
 use Rattle.std.proofs.Common.{◌≡◌, ◌^◌, Ok, Some, sym, ◌∙◌, subst, arith, rules}
 use Rattle.fz_block.specs.Checks.{header_of}
 use Rattle.fz_head.specs.Conditions.{IsPackPlan}
-use Rattle.fz_head.specs.JobChecks.{plan_to_pack}
+use Rattle.fz_checks.specs.JobChecks.{plan_to_pack}
 use Rattle.fz_head.specs.declared.plan.Plan.{Plan}
 use Rattle.fz_strict.proofs.Pieces.{not_both}
 use Rattle.fz_strict.proofs.PlansMade.{no_plan}

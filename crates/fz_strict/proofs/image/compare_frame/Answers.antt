@@ -18,7 +18,7 @@ has_fill-requires-clause-heap g c =
 
 pub make_header-len-requires-clause-room : goal.make_header-len-requires-clause-room
 make_header-len-requires-clause-room g c =
-    omega (arith, length-take (2880 * c.args.restored.now.header.blocks) c.args.frame.plain.now, c.in_ok-begins.ensures.made, c.requires.made)
+    omega (arith, length-take (2880 * c.args.restored.now.header.blocks) c.args.frame.plain.now, c.in_ok-begins.ensures.stays.1, c.requires.made)
 
 pub returns-then-not-fills-clause-compared : goal.returns-then-not-fills-clause-compared
 returns-then-not-fills-clause-compared g c =
@@ -35,7 +35,7 @@ returns-then-not-begins-clause-compared g c =
     let h = f.header.now in
     let x = c.args.restored.now in
     let l = x.layout in
-    let first : g.S.Source.held c.has_fill.new.source ≡ held = c.in_ok-fills.ensures.source.held_is in
+    let first : g.S.Source.held c.has_fill.new.source ≡ held = c.in_ok-fills.ensures.stays.0.held_is in
     let fill : IfSome held (λ file. true ≡ has_fill file (next_start_of h) l c.args.progress.heap) = search rules in
     let there : IfSome (g.S.Source.held c.has_fill.new.source) (λ file. false ≡ begins_right l.plan.primary file h) = search rules in
     some_rest held h f.sums f.plain.now x c.args.progress false None refl
@@ -50,8 +50,8 @@ returns-clause-compared g c =
     let l = x.layout in
     let w = c.args.progress in
     let made : List ℕ = take c.make_header-len.result c.make_header-len.new.made in
-    let first : g.S.Source.held c.has_fill.new.source ≡ held = c.in_ok-fills.ensures.source.held_is in
-    let second : g.S.Source.held c.begins_right.new.source ≡ held = c.in_ok-begins.ensures.source.held_is ∙ first in
+    let first : g.S.Source.held c.has_fill.new.source ≡ held = c.in_ok-fills.ensures.stays.0.held_is in
+    let second : g.S.Source.held c.begins_right.new.source ≡ held = c.in_ok-begins.ensures.stays.0.held_is ∙ first in
     let fill : IfSome held (λ file. true ≡ has_fill file (next_start_of h) l w.heap) = search rules in
     let there : IfSome (g.S.Source.held c.has_fill.new.source) (λ file. true ≡ begins_right l.plan.primary file h) = search rules in
     let begins : IfSome held (λ file. true ≡ begins_right l.plan.primary file h) = subst (λ (k : Option (List ℕ)). IfSome k (λ file. true ≡ begins_right l.plan.primary file h)) first there in

@@ -62,7 +62,7 @@ compare_tiles-requires-clause-layout g c κs within =
     layout_back c.args.asked.now.options.sums (cards_of front) c.args.packed.image.now.plan c.restored_image-restored.new.plain c.restored_image-restored.result c.layout_of-layout.result c.layout_of-layout.ensures c.restored_image-restored.ensures.back
 
 pub compare_rest-requires-clause-within : goal.compare_rest-requires-clause-within
-compare_rest-requires-clause-within g c = (c.requires.again.0, c.in_ok-written.ensures.source.attached_is ∙ c.requires.again.2, c.requires.again.3.inside)
+compare_rest-requires-clause-within g c = (c.requires.again.0, c.in_ok-written.ensures.stays.0.attached_is ∙ c.requires.again.2, c.requires.again.3.inside)
 
 pub compare_rest-requires-clause-end : goal.compare_rest-requires-clause-end
 compare_rest-requires-clause-end g c = c.requires.again.3.near
@@ -112,7 +112,7 @@ returns-clause-compared g c =
     IfOk-weaker c.compare_rest.result _ _
     (λ now rest. image_told c.image_law.ensures o n c.args.space.now.header h c.args.packed.image.now c.args.origin.now c.requires.origin r plain w now held c.requires.again.3
     (g.met.S.Source.agrees c.args.source.now n c.requires.again.2) restored back table
-    (subst (λ (k : Option (List ℕ)). IfSome k (λ file. ComparesRest file h c.args.asked.now.options.sums plain r w now)) c.in_ok-written.ensures.source.held_is rest))
+    (subst (λ (k : Option (List ℕ)). IfSome k (λ file. ComparesRest file h c.args.asked.now.options.sums plain r w now)) c.in_ok-written.ensures.stays.0.held_is rest))
     c.compare_rest.ensures.compared
 
 pub returns-clause-sound : goal.returns-clause-sound

@@ -97,12 +97,12 @@ loop-hdu-preserved g c =
     let reads : IfSome held (λ file. ReadsHdus Verify file s first last) =
     header_gathered s first (c.hdus_law.ensures.header Verify) c.ranges_law.ensures.join held c.loop-hdu.hdu c.loop-hdu.start c.loop-hdu.after_empty c.loop-hdu.found mid last few old.gathered one old.read in
     record {
-      held = c.in_ok-again.ensures.source.held_is ∙ old.held;
-      attached = c.in_ok-again.ensures.source.attached_is ∙ old.attached;
+      held = c.in_ok-again.ensures.stays.0.held_is ∙ old.held;
+      attached = c.in_ok-again.ensures.stays.0.attached_is ∙ old.attached;
       reads = c.in_ok-again.ensures.cause.ok ∙ old.reads;
-      told = λ told. c.in_ok-again.ensures.source.told (old.told told);
+      told = λ told. c.in_ok-again.ensures.stays.0.told (old.told told);
       read = reads;
-      header = c.in_ok-again.ensures.header ∙ old.header;
+      header = c.in_ok-again.ensures.stays.1 ∙ old.header;
       within = λ left. inl before;
       found = c.with_hdu-found.ensures.found;
       gathered = subst (λ b. IfSome held (IsGathering s (k + 1) c.next_start-start.result b c.with_hdu-found.result)) (sym says)

@@ -105,10 +105,13 @@ returns-clause-live g c =
     let long : length plain ≡ n = ap length c.in_ok-plain.ensures.bytes ∙ length-replicate {A = ℕ} n 0 in
     let took : c.bytes.new.self.live ≡ c.args.meter.now.live + n = ap (λ (x : Gauge). x.live) c.in_ok-plain.ensures.taken.1 in
     let gave : c.give_bytes.new.self.live ≡ c.with_plain-answer.new.meter.live - length (refilled plain left) = ap (λ (x : Gauge). x.live) c.give_bytes.ensures in
-    omega (arith, gave, refilled_len plain left, long, took, c.with_plain-answer.ensures.live, c.requires.nothing_live)
+    omega (arith, gave, refilled_len plain left, long, took, c.with_plain-answer.ensures.stays.2, c.requires.nothing_live)
 
-pub returns-clause-limit : goal.returns-clause-limit
-returns-clause-limit g c = ap (λ (x : Gauge). x.limit) c.give_bytes.ensures ∙ c.with_plain-answer.ensures.limit ∙ ap (λ (x : Gauge). x.limit) c.in_ok-plain.ensures.taken.1
+pub returns-clause-stays : goal.returns-clause-stays
+returns-clause-stays g c = (
+  search rules,
+  ap (λ (x : Gauge). x.limit) c.give_bytes.ensures ∙ c.with_plain-answer.ensures.stays.3 ∙ ap (λ (x : Gauge). x.limit) c.in_ok-plain.ensures.taken.1,
+)
 
 pub returns-clause-cause : goal.returns-clause-cause
 returns-clause-cause g c =

@@ -33,7 +33,7 @@ returns-in_err-options-clause-cause g c =
 pub returns-clause-compared : goal.returns-clause-compared
 returns-clause-compared g c =
     let held : Option (List ℕ) = g.S.Source.held c.args.source.now in
-    let same : g.S.Source.held c.find_options.new.source ≡ held = c.in_ok-options.ensures.source.held_is in
+    let same : g.S.Source.held c.find_options.new.source ≡ held = c.in_ok-options.ensures.stays.0.held_is in
     let compared : IfSome held (λ file. ComparesSeen c.in_ok-options.options file c.args.survey.now c.compare_hdus.result) = rw same at c.compare_hdus.ensures.compared in
     found_compared held c.args.survey.now c.in_ok-options.options c.compare_hdus.result c.in_ok-options.ensures.options compared
 
@@ -47,6 +47,6 @@ returns-clause-read g c =
     let old : Option (List (ℕ × ℕ)) = g.S.Source.ranges c.args.source.now in
     let mid : Option (List (ℕ × ℕ)) = g.S.Source.ranges c.find_options.new.source in
     let new : Option (List (ℕ × ℕ)) = g.S.Source.ranges c.compare_hdus.new.source in
-    let same : g.S.Source.held c.find_options.new.source ≡ held = c.in_ok-options.ensures.source.held_is in
+    let same : g.S.Source.held c.find_options.new.source ≡ held = c.in_ok-options.ensures.stays.0.held_is in
     let next : IfSome held (λ file. ReadsKnown file c.args.survey.now mid new) = rw same at c.compare_hdus.ensures.read in
     then_compared c.args.survey.now old c.ranges_law.ensures.join held mid new c.in_ok-options.ensures.read next

@@ -120,10 +120,13 @@ returns-clause-live g c =
     let long : length block ≡ 2880 = ap length c.in_ok-block.ensures.bytes ∙ length-replicate {A = ℕ} 2880 0 in
     let took : c.bytes.new.self.live ≡ c.args.meter.now.live + 2880 = ap (λ (m : Gauge). m.live) c.in_ok-block.ensures.taken.1 in
     let gave : c.give_bytes.new.self.live ≡ c.survey_to_unpack-answer.new.meter.live - length (refilled block left) = ap (λ (m : Gauge). m.live) c.give_bytes.ensures in
-    omega (arith, gave, refilled_len block left, long, took, c.survey_to_unpack-answer.ensures.live, c.requires.nothing_live)
+    omega (arith, gave, refilled_len block left, long, took, c.survey_to_unpack-answer.ensures.stays.1, c.requires.nothing_live)
 
-pub returns-clause-limit : goal.returns-clause-limit
-returns-clause-limit g c = ap (λ (m : Gauge). m.limit) c.give_bytes.ensures ∙ c.survey_to_unpack-answer.ensures.limit ∙ ap (λ (m : Gauge). m.limit) c.in_ok-block.ensures.taken.1
+pub returns-clause-stays : goal.returns-clause-stays
+returns-clause-stays g c = (
+  search rules,
+  ap (λ (m : Gauge). m.limit) c.give_bytes.ensures ∙ c.survey_to_unpack-answer.ensures.stays.2 ∙ ap (λ (m : Gauge). m.limit) c.in_ok-block.ensures.taken.1,
+)
 
 pub returns-clause-cause : goal.returns-clause-cause
 returns-clause-cause g c =

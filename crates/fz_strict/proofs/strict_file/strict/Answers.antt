@@ -56,7 +56,7 @@ returns-in_err-survey-clause-buffers g c =
     let within = c.stages_law.ensures.sizes.look Verify 1 in
     record {
       live = c.in_err-survey.ensures.live;
-      limit = c.in_err-survey.ensures.limit;
+      limit = c.in_err-survey.ensures.stays.1;
       peak = look_within c.survey_law.ensures.unpack held c.args.meter.now.peak c.look.new.meter.peak (headers_within c.stages_law.ensures.peaks held) c.in_err-survey.ensures.peak;
       most = omega (arith, within, c.in_err-survey.ensures.peak_most);
       window_is = λ i. record { slots = c.requires.window i; workers = c.args.window.now.workers };
@@ -67,8 +67,8 @@ returns-in_err-survey-clause-late g c = if_refused _ c.from_residual.result (λ 
 
 pub returns-in_err-survey-clause-kept : goal.returns-in_err-survey-clause-kept
 returns-in_err-survey-clause-kept g c = record {
-  held_is = c.in_err-survey.ensures.source.held_is;
-  attached_is = c.in_err-survey.ensures.source.attached_is;
+  held_is = c.in_err-survey.ensures.stays.0.held_is;
+  attached_is = c.in_err-survey.ensures.stays.0.attached_is;
   source_counts = c.in_err-survey.ensures.cause.kept;
   sink_counts = c.in_err-survey.ensures.cause.kept;
 }
@@ -82,7 +82,7 @@ returns-in_err-survey-clause-touched g c =
 pub returns-clause-right : goal.returns-clause-right
 returns-clause-right g c =
     let held : Option (List ℕ) = g.S.Source.held c.args.source.now in
-    let same : g.S.Source.held c.look.new.source ≡ held = c.in_ok-survey.ensures.source.held_is in
+    let same : g.S.Source.held c.look.new.source ≡ held = c.in_ok-survey.ensures.stays.0.held_is in
     let exact : IfSome held (Knows c.in_ok-survey.survey) = c.in_ok-survey.ensures.exact in
     let compared : IfSome held (λ file. ComparesFound file c.in_ok-survey.survey c.compare.result) = rw same at c.compare.ensures.compared in
     work_right (c.known_law.ensures.know Unpack tt) c.same_hdus_law.ensures.found c.in_ok-survey.survey held c.compare.result exact compared
@@ -90,7 +90,7 @@ returns-clause-right g c =
 pub returns-clause-first_fault : goal.returns-clause-first_fault
 returns-clause-first_fault g c =
     let held : Option (List ℕ) = g.S.Source.held c.args.source.now in
-    let same : g.S.Source.held c.look.new.source ≡ held = c.in_ok-survey.ensures.source.held_is in
+    let same : g.S.Source.held c.look.new.source ≡ held = c.in_ok-survey.ensures.stays.0.held_is in
     let exact : IfSome held (Knows c.in_ok-survey.survey) = c.in_ok-survey.ensures.exact in
     let compared : IfSome held (λ file. ComparesFound file c.in_ok-survey.survey c.compare.result) = rw same at c.compare.ensures.compared in
     work_faulty (c.known_law.ensures.know Unpack tt) c.same_faults_law.ensures.verify c.in_ok-survey.survey held c.compare.result exact compared
@@ -104,8 +104,8 @@ returns-clause-cause g c =
     let limit : ℕ = c.args.meter.now.limit in
     let exact : IfSome held (Knows s) = c.in_ok-survey.ensures.exact in
     let none : IfSome held (λ file. first_past limit (look_takings file) ≡ None) = c.in_ok-survey.ensures.first_past in
-    let takes : ReadsAndTakes before now limit c.compare.result = rw (c.in_ok-survey.ensures.cause.ok, c.in_ok-survey.ensures.limit) at c.compare.ensures.cause in
-    let tells : TellsFirstPast limit (piled 0 (strict_buffers s.header_len s.tile 1)) c.compare.result = rw (c.in_ok-survey.ensures.limit, c.requires.one_worker) at c.compare.ensures.first_past in
+    let takes : ReadsAndTakes before now limit c.compare.result = rw (c.in_ok-survey.ensures.cause.ok, c.in_ok-survey.ensures.stays.1) at c.compare.ensures.cause in
+    let tells : TellsFirstPast limit (piled 0 (strict_buffers s.header_len s.tile 1)) c.compare.result = rw (c.in_ok-survey.ensures.stays.1, c.requires.one_worker) at c.compare.ensures.first_past in
     cause_of held before now limit c.compare.result takes
     (compare_limit c.workspace_law.ensures.past before now limit (greatest_bound Verify 1) (strict_buffers s.header_len s.tile 1) c.compare.result
     (buffers_most c.workspace_law.ensures.grows s.header_len s.tile c.in_ok-survey.ensures.survey.header.1 c.in_ok-survey.ensures.survey.tile) takes tells)
@@ -130,7 +130,7 @@ returns-clause-buffers g c =
     let most = buffers_most c.workspace_law.ensures.grows s.header_len s.tile c.in_ok-survey.ensures.survey.header.1 c.in_ok-survey.ensures.survey.tile in
     record {
       live = c.compare.ensures.live;
-      limit = c.compare.ensures.limit ∙ c.in_ok-survey.ensures.limit;
+      limit = c.compare.ensures.stays.1 ∙ c.in_ok-survey.ensures.stays.1;
       peak = compare_within c.survey_law.ensures.unpack held s.header_len s.tile c.args.meter.now.peak c.look.new.meter.peak c.compare.new.meter.peak largest look high;
       most = omega (arith, within, most, high, c.in_ok-survey.ensures.peak_most);
       window_is = c.compare.ensures.emptied;
@@ -156,14 +156,14 @@ pub returns-clause-kept : goal.returns-clause-kept
 returns-clause-kept g c =
     let counts = rw c.in_ok-survey.ensures.cause.ok at c.compare.ensures.cause.kept in
     record {
-      held_is = c.compare.ensures.source.held_is ∙ c.in_ok-survey.ensures.source.held_is;
-      attached_is = c.compare.ensures.source.attached_is ∙ c.in_ok-survey.ensures.source.attached_is;
+      held_is = c.compare.ensures.stays.0.held_is ∙ c.in_ok-survey.ensures.stays.0.held_is;
+      attached_is = c.compare.ensures.stays.0.attached_is ∙ c.in_ok-survey.ensures.stays.0.attached_is;
       source_counts = counts;
       sink_counts = counts;
     }
 
 pub returns-clause-told : goal.returns-clause-told
-returns-clause-told g c = λ told. c.compare.ensures.source.told (c.in_ok-survey.ensures.source.told told)
+returns-clause-told g c = λ told. c.compare.ensures.stays.0.told (c.in_ok-survey.ensures.stays.0.told told)
 
 pub returns-clause-touched : goal.returns-clause-touched
 returns-clause-touched g c =
@@ -171,7 +171,7 @@ returns-clause-touched g c =
     let old : Option (List (ℕ × ℕ)) = g.S.Source.ranges c.args.source.now in
     let mid : Option (List (ℕ × ℕ)) = g.S.Source.ranges c.look.new.source in
     let new : Option (List (ℕ × ℕ)) = g.S.Source.ranges c.compare.new.source in
-    let same : g.S.Source.held c.look.new.source ≡ held = c.in_ok-survey.ensures.source.held_is in
+    let same : g.S.Source.held c.look.new.source ≡ held = c.in_ok-survey.ensures.stays.0.held_is in
     let exact : IfSome held (Knows c.in_ok-survey.survey) = c.in_ok-survey.ensures.exact in
     let next : IfSome held (λ file. ReadsKnown file c.in_ok-survey.survey mid new) = rw same at c.compare.ensures.read in
     all_read c.ranges_law.ensures.join (c.known_law.ensures.know Verify tt) (c.known_law.ensures.know Unpack tt) (c.hdus_law.ensures.known Verify tt) c.in_ok-survey.survey held old mid new exact

@@ -11,7 +11,7 @@ use Rattle.fz_grid.specs.Region.{IsWithin, lengths_of}
 use Rattle.fz_grid.specs.Sieve.{sieve_lengths}
 use Rattle.fz_grid.specs.declared.region.Region.{Region}
 use Rattle.fz_grid.specs.declared.sieve.Sieve.{Sieve}
-use Rattle.fz_head.specs.declared.job_checks.PackedImage.{PackedImage}
+use Rattle.fz_checks.specs.declared.job_checks.PackedImage.{PackedImage}
 use Rattle.fz_laws.specs.PatchChecks.{if_patchable, own_checks}
 use Rattle.fz_laws.specs.PatchForm.{has_wide}
 use Rattle.fz_laws.specs.Given.{box_region, box_sieve}

@@ -1,8 +1,8 @@
 -- The header, the form of its table, and the axes of the corner.
 use Rattle.std.proofs.Common.{◌≡◌, true, Ok, sym, ap, ◌∙◌, rules}
 use Rattle.fz_block.specs.Hdus.{cards_of}
-use Rattle.fz_head.specs.JobChecks.{image_to_amend}
-use Rattle.fz_head.specs.declared.job_checks.PackedImage.{PackedImage}
+use Rattle.fz_checks.specs.JobChecks.{image_to_amend}
+use Rattle.fz_checks.specs.declared.job_checks.PackedImage.{PackedImage}
 use Rattle.fz_target.proofs.Found.{axes_stop, form_passes, form_stops, header_passes, image_passes, own_pass}
 use Rattle.fz_target.proofs.FoundTargets.{shape_is}
 use Rattle.fz_target.proofs.find.own_image.Goals as goal

@@ -76,14 +76,14 @@ loop-tile-preserved g c =
     record {
       held = search rules;
       attached = search rules;
-      told = λ told. done.store.told (old.told told);
+      told = λ told. done.stays.0.told (old.told told);
       tally = search rules;
       given = search rules;
       given_len = search rules;
-      given_told = λ told. done.patch.told (old.given_told told);
+      given_told = λ told. done.stays.1.told (old.given_told told);
       given_tally = search rules;
-      window = record { sizes = done.window.sizes ∙ old.window.sizes; workers = done.window.workers ∙ old.window.workers };
-      copy = done.copy ∙ old.copy;
+      window = record { sizes = done.stays.2.sizes ∙ old.window.sizes; workers = done.stays.2.workers ∙ old.window.workers };
+      copy = done.stays.3 ∙ old.copy;
       boxes = later_boxes t tile left after next old.boxes;
       state = measure_go_on t given held tile after c.loop-tile.found c.with_tile-found.result code w c.requires.said new sound (λ e has. (first_has w slot e c.code_slot-slot.ensures.first has).0)
           c.with_tile-found.ensures (omega (arith, count, c.code_slot-slot.ensures.most)) (coded_low t.image.plan code) (stored_low t.image.plan code) (subst (λ (l : List ℕ). MeasureState t given held l c.loop-tile.found) next old.state);

@@ -85,7 +85,7 @@ loop-line-preserved g c =
     record {
       held = search rules;
       attached = search rules;
-      told = λ told. c.in_ok-put_line.ensures.source.told (c.loop-line.invariant.told told);
+      told = λ told. c.in_ok-put_line.ensures.stays.0.told (c.loop-line.invariant.told told);
       reads = search rules;
       copy = search rules;
       numbers = search rules;

@@ -69,7 +69,7 @@ loop-done-preserved g c =
     record {
       held = search rules;
       attached = search rules;
-      told = λ told. c.in_ok-put_piece.ensures.source.told (c.loop-done.invariant.told told);
+      told = λ told. c.in_ok-put_piece.ensures.stays.0.told (c.loop-done.invariant.told told);
       reads = search rules;
       copy = search rules;
       numbers = search rules;

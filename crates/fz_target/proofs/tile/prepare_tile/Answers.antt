@@ -16,8 +16,8 @@ fetch_tiles-requires-clause-said g c κs within = said_of c.args.target.now (g.D
 
 pub fill_first-requires-clause-window : goal.fill_first-requires-clause-window
 fill_first-requires-clause-window g c = (
-  room_still c.args.target.now.image c.args.window.now c.fetch_tiles.new.window c.fetch_tiles.ensures.window.sizes c.fetch_tiles.ensures.window.workers c.requires.window,
-  omega (arith, c.workers.ensures.value, c.workers.ensures.some.0, c.fetch_tiles.ensures.window.workers),
+  room_still c.args.target.now.image c.args.window.now c.fetch_tiles.new.window c.fetch_tiles.ensures.stays.1.sizes c.fetch_tiles.ensures.stays.1.workers c.requires.window,
+  omega (arith, c.workers.ensures.value, c.workers.ensures.some.0, c.fetch_tiles.ensures.stays.1.workers),
 )
 
 pub fill_first-requires-clause-pixels : goal.fill_first-requires-clause-pixels
@@ -27,8 +27,8 @@ fill_first-requires-clause-pixels g c =
 pub encode_window-requires-clause-filled : goal.encode_window-requires-clause-filled
 encode_window-requires-clause-filled g c κs within =
     let image = c.args.target.now.image in
-    let first = room_still image c.args.window.now c.fetch_tiles.new.window c.fetch_tiles.ensures.window.sizes c.fetch_tiles.ensures.window.workers c.requires.window in
-    let room : HaveRoom image c.fill_first.new.window = room_still image c.fetch_tiles.new.window c.fill_first.new.window c.in_ok-fill_first.ensures.window.sizes c.in_ok-fill_first.ensures.window.workers first in
+    let first = room_still image c.args.window.now c.fetch_tiles.new.window c.fetch_tiles.ensures.stays.1.sizes c.fetch_tiles.ensures.stays.1.workers c.requires.window in
+    let room : HaveRoom image c.fill_first.new.window = room_still image c.fetch_tiles.new.window c.fill_first.new.window c.in_ok-fill_first.ensures.stays.1.sizes c.in_ok-fill_first.ensures.stays.1.workers first in
     c.sizes_law.ensures.many c.fill_first.new.window.slots (2 * c.fill_first.new.window.workers) _ room.1
 
 pub encode_window-requires-clause-ready : goal.encode_window-requires-clause-ready
@@ -46,12 +46,12 @@ pub returns-in-Ok-clause-code : goal.returns-in-Ok-clause-code
 returns-in-Ok-clause-code g c =
     let put = c.in_ok-fill_first.ensures.put in
     let image = c.args.target.now.image in
-    let first = room_still image c.args.window.now c.fetch_tiles.new.window c.fetch_tiles.ensures.window.sizes c.fetch_tiles.ensures.window.workers c.requires.window in
-    let room : HaveRoom image c.fill_first.new.window = room_still image c.fetch_tiles.new.window c.fill_first.new.window c.in_ok-fill_first.ensures.window.sizes c.in_ok-fill_first.ensures.window.workers first in
+    let first = room_still image c.args.window.now c.fetch_tiles.new.window c.fetch_tiles.ensures.stays.1.sizes c.fetch_tiles.ensures.stays.1.workers c.requires.window in
+    let room : HaveRoom image c.fill_first.new.window = room_still image c.fetch_tiles.new.window c.fill_first.new.window c.in_ok-fill_first.ensures.stays.1.sizes c.in_ok-fill_first.ensures.stays.1.workers first in
     let full : IsFilled c.fill_first.new.window = c.sizes_law.ensures.many c.fill_first.new.window.slots (2 * c.fill_first.new.window.workers) _ room.1 in
     some_code c.args.target.now c.args.tile (g.S.Source.held c.args.patch.now) put.0 put.1 c.fetch_tiles.new.window c.fill_first.new.window c.encode_window.new.window put.3 put.4 c.in-Ok.ensures.encoded
     (c.encode_window.ensures.kept.slots ∙ (full ∙ ap (λ n. 2 * n) (sym c.encode_window.ensures.kept.workers)))
-    (omega (arith, c.workers.ensures.value, c.workers.ensures.some.0, c.fetch_tiles.ensures.window.workers, c.in_ok-fill_first.ensures.window.workers, c.encode_window.ensures.kept.workers))
+    (omega (arith, c.workers.ensures.value, c.workers.ensures.some.0, c.fetch_tiles.ensures.stays.1.workers, c.in_ok-fill_first.ensures.stays.1.workers, c.encode_window.ensures.kept.workers))
 
 pub returns-in-Ok-clause-sound : goal.returns-in-Ok-clause-sound
 returns-in-Ok-clause-sound g c =

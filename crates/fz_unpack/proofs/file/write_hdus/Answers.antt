@@ -85,7 +85,7 @@ returns-in_err-at-clause-written g c =
     subst (λ n. IfSome held (λ f. ReadsAsSeen f k start flag n s.tile (Ok a))) long
     (subst (λ (h : Option (List ℕ)). IfSome h (λ f. ReadsAsSeen f k start flag (length c.as_mut_slice-buf.result.now) s.tile (Ok a))) old.held c.in_ok-again.ensures.as_seen) in
     let fault : IfRefused {X = ℕ} (Err c.in_err-at.field-0.0) (λ x. IfSome held (λ f. IsHduFault f a.header x)) =
-    subst (λ (h : Option (List ℕ)). IfRefused {X = ℕ} (Err c.in_err-at.field-0.0) (λ x. IfSome h (λ f. IsHduFault f a.header x))) (c.in_ok-again.ensures.source.held_is ∙ old.held) c.in_err-at.ensures.fault in
+    subst (λ (h : Option (List ℕ)). IfRefused {X = ℕ} (Err c.in_err-at.field-0.0) (λ x. IfSome h (λ f. IsHduFault f a.header x))) (c.in_ok-again.ensures.stays.0.held_is ∙ old.held) c.in_err-at.ensures.fault in
     subst (λ (r : Result (Unit {0}) Stop). IfSome held (λ f. RestoresSeen f s before now r)) (sym stopped)
     (stops_writing s before (Unit {0}) held c.in_err-at.field-0.0 k start at flag mid now a few old.written seen fault)
 
@@ -139,7 +139,7 @@ returns-then-not-is_last_as_seen-clause-written g c =
     subst (λ n. IfSome held (λ f. ReadsAsSeen f k start flag n s.tile (Ok a))) long
     (subst (λ (h : Option (List ℕ)). IfSome h (λ f. ReadsAsSeen f k start flag (length c.as_mut_slice-buf.result.now) s.tile (Ok a))) old.held c.in_ok-again.ensures.as_seen) in
     let holds : IfSome held (λ f. HoldsHdu a.header f at end mid now) =
-    subst (λ (h : Option (List ℕ)). IfSome h (λ f. HoldsHdu a.header f at end mid now)) (c.in_ok-again.ensures.source.held_is ∙ old.held) c.in_ok-at.ensures.written in
+    subst (λ (h : Option (List ℕ)). IfSome h (λ f. HoldsHdu a.header f at end mid now)) (c.in_ok-again.ensures.stays.0.held_is ∙ old.held) c.in_ok-at.ensures.written in
     let more : IfSome held (IsUnderway s (k + 1) (next_start_of a.header) end (is_empty_primary a.header) before now) =
     more_written s before c.output_law.ensures.next held k start at end flag (is_empty_primary a.header) mid now a few old.written seen holds refl in
     let told : HoldsLength held c.args.asked.now.length = g.met.S.Source.agrees c.args.source.now c.args.asked.now.length c.requires.attached in
@@ -168,7 +168,7 @@ loop-hdu-preserved g c =
     subst (λ n. IfSome held (λ f. ReadsAsSeen f k start flag n s.tile (Ok a))) long
     (subst (λ (h : Option (List ℕ)). IfSome h (λ f. ReadsAsSeen f k start flag (length c.as_mut_slice-buf.result.now) s.tile (Ok a))) old.held c.in_ok-again.ensures.as_seen) in
     let holds : IfSome held (λ f. HoldsHdu a.header f at end mid now) =
-    subst (λ (h : Option (List ℕ)). IfSome h (λ f. HoldsHdu a.header f at end mid now)) (c.in_ok-again.ensures.source.held_is ∙ old.held) c.in_ok-at.ensures.written in
+    subst (λ (h : Option (List ℕ)). IfSome h (λ f. HoldsHdu a.header f at end mid now)) (c.in_ok-again.ensures.stays.0.held_is ∙ old.held) c.in_ok-at.ensures.written in
     let more : IfSome held (IsUnderway s (k + 1) (next_start_of a.header) end (is_empty_primary a.header) before now) =
     more_written s before c.output_law.ensures.next held k start at end flag (is_empty_primary a.header) mid now a few old.written seen holds refl in
     let place : a.header.start ≡ start = c.in_ok-again.ensures.place.1 in
@@ -185,23 +185,23 @@ loop-hdu-preserved g c =
     let header : IfSome held (λ f. ReadsHdus Unpack f s zero two) = one_header s zero c.ranges_law.ensures.join k start c.loop-hdu.at flag before mid few one two (c.hdus_law.ensures.header Unpack) held old.written reads old.read in
     let three : Option (List (ℕ × ℕ)) = g.S.Source.ranges c.write_hdu.new.source in
     let body : IfSome held (λ f. LogsIn (data_touched Unpack f a.header) two three) =
-    subst (λ (h : Option (List ℕ)). IfSome h (λ f. LogsIn (data_touched Unpack f a.header) two three)) (c.in_ok-again.ensures.source.held_is ∙ old.held) c.in_ok-at.ensures.read in
+    subst (λ (h : Option (List ℕ)). IfSome h (λ f. LogsIn (data_touched Unpack f a.header) two three)) (c.in_ok-again.ensures.stays.0.held_is ∙ old.held) c.in_ok-at.ensures.read in
     record {
       held = search rules;
       attached = search rules;
       reads = search rules;
       writes = search rules;
       created = search rules;
-      shut = λ shut. c.in_ok-at.ensures.sink.shut (old.shut shut);
-      told_ranges = λ told. c.in_ok-at.ensures.source.told (c.in_ok-again.ensures.source.told (old.told_ranges told));
-      told_contents = λ told. c.in_ok-at.ensures.sink.told (old.told_contents told);
+      shut = λ shut. c.in_ok-at.ensures.stays.1.shut (old.shut shut);
+      told_ranges = λ told. c.in_ok-at.ensures.stays.0.told (c.in_ok-again.ensures.stays.0.told (old.told_ranges told));
+      told_contents = λ told. c.in_ok-at.ensures.stays.1.told (old.told_contents told);
       read = one_hdu s zero c.ranges_law.ensures.join k start c.loop-hdu.at flag before mid few two three (c.hdus_law.ensures.payload Unpack) held a old.written seen body header;
       space = record {
-        header = omega (arith, c.in_ok-at.ensures.space.header, old.space.header, c.in_ok-again.ensures.buf, length-take {A = ℕ}, length-append {A = ℕ}, length-drop {A = ℕ});
-        translated = c.in_ok-at.ensures.space.translated ∙ old.space.translated;
-        copy = c.in_ok-at.ensures.space.copy ∙ old.space.copy;
+        header = omega (arith, c.in_ok-at.ensures.stays.2.header, old.space.header, c.in_ok-again.ensures.stays.1, length-take {A = ℕ}, length-append {A = ℕ}, length-drop {A = ℕ});
+        translated = c.in_ok-at.ensures.stays.2.translated ∙ old.space.translated;
+        copy = c.in_ok-at.ensures.stays.2.copy ∙ old.space.copy;
       };
-      window = record { sizes = c.in_ok-at.ensures.window.sizes ∙ old.window.sizes; workers = c.in_ok-at.ensures.window.workers ∙ old.window.workers };
+      window = record { sizes = c.in_ok-at.ensures.stays.3.sizes ∙ old.window.sizes; workers = c.in_ok-at.ensures.stays.3.workers ∙ old.window.workers };
       within = λ more. inl (not_at_end c.next_start-start.result c.args.asked.now.length (k + 1) s.hdus (omega (arith, next, inside)) last more);
       early = omega (arith, next, early);
       near = omega (arith, next, near, place, old.near);
@@ -269,7 +269,7 @@ returns-in_err-at-clause-read g c =
     (subst (λ (h : Option (List ℕ)). IfSome h (λ f. ReadsAsSeen f k start flag (length c.as_mut_slice-buf.result.now) s.tile (Ok a))) old.held c.in_ok-again.ensures.as_seen) in
     let three : Option (List (ℕ × ℕ)) = g.S.Source.ranges c.write_hdu.new.source in
     let body : IfSome held (λ f. LogsIn (data_touched Unpack f a.header) two three) =
-    subst (λ (h : Option (List ℕ)). IfSome h (λ f. LogsIn (data_touched Unpack f a.header) two three)) (c.in_ok-again.ensures.source.held_is ∙ old.held) c.in_err-at.ensures.read in
+    subst (λ (h : Option (List ℕ)). IfSome h (λ f. LogsIn (data_touched Unpack f a.header) two three)) (c.in_ok-again.ensures.stays.0.held_is ∙ old.held) c.in_err-at.ensures.read in
     one_hdu s zero c.ranges_law.ensures.join k start c.loop-hdu.at flag before mid few two three (c.hdus_law.ensures.payload Unpack) held a old.written seen body header
 
 pub returns-then-not-is_last_as_seen-clause-read : goal.returns-then-not-is_last_as_seen-clause-read
@@ -295,5 +295,5 @@ returns-then-not-is_last_as_seen-clause-read g c =
     (subst (λ (h : Option (List ℕ)). IfSome h (λ f. ReadsAsSeen f k start flag (length c.as_mut_slice-buf.result.now) s.tile (Ok a))) old.held c.in_ok-again.ensures.as_seen) in
     let three : Option (List (ℕ × ℕ)) = g.S.Source.ranges c.write_hdu.new.source in
     let body : IfSome held (λ f. LogsIn (data_touched Unpack f a.header) two three) =
-    subst (λ (h : Option (List ℕ)). IfSome h (λ f. LogsIn (data_touched Unpack f a.header) two three)) (c.in_ok-again.ensures.source.held_is ∙ old.held) c.in_ok-at.ensures.read in
+    subst (λ (h : Option (List ℕ)). IfSome h (λ f. LogsIn (data_touched Unpack f a.header) two three)) (c.in_ok-again.ensures.stays.0.held_is ∙ old.held) c.in_ok-at.ensures.read in
     one_hdu s zero c.ranges_law.ensures.join k start c.loop-hdu.at flag before mid few two three (c.hdus_law.ensures.payload Unpack) held a old.written seen body header

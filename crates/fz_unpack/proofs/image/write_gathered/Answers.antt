@@ -23,21 +23,24 @@ returns-clause-pixels g c =
 
 pub returns-in_err-write_rounds-clause-stays : goal.returns-in_err-write_rounds-clause-stays
 returns-in_err-write_rounds-clause-stays g c =
-    let stays = c.in_err-write_rounds.ensures.stays in
-    record { source = stays.source; sink = stays.sink; row = search rules; read = stays.read; cause = search rules }
+    let stays = c.in_err-write_rounds.ensures.stays.1 in
+    (search rules, record { source = stays.source; sink = stays.sink; row = search rules; read = stays.read; cause = search rules }, search rules)
 
 pub returns-clause-stays : goal.returns-clause-stays
 returns-clause-stays g c =
-    let stays = c.in_ok-write_rounds.ensures.stays in
-    let put = c.write_pieces.ensures.sink in
-    record {
-      source = stays.source;
-      sink = record {
-        created_is = put.created_is ∙ stays.sink.created_is;
-        shut = λ shut. put.shut (stays.sink.shut shut);
-        told = λ told. put.told (stays.sink.told told);
-      };
-      row = search rules;
-      read = stays.read;
-      cause = search rules;
-    }
+    let stays = c.in_ok-write_rounds.ensures.stays.1 in
+    let put = c.write_pieces.ensures.sink in (
+      search rules,
+      record {
+        source = stays.source;
+        sink = record {
+          created_is = put.created_is ∙ stays.sink.created_is;
+          shut = λ shut. put.shut (stays.sink.shut shut);
+          told = λ told. put.told (stays.sink.told told);
+        };
+        row = search rules;
+        read = stays.read;
+        cause = search rules;
+      },
+      search rules,
+    )

@@ -34,26 +34,34 @@ returns-clause-pixels g c =
 
 pub returns-in_err-fetch_ahead-clause-stays : goal.returns-in_err-fetch_ahead-clause-stays
 returns-in_err-fetch_ahead-clause-stays g c =
-    let image = c.args.asked.now.image in
-    record {
-      source = c.in_err-fetch_ahead.ensures.source;
-      sink = record { created_is = refl; shut = λ shut. shut; told = λ told. told };
-      row = search rules;
-      read = round_read c.hdus_law.ensures.tiles (g.S.Source.held c.args.source.now) c.args.asked.now.header image (image_tiles image) (g.S.Source.ranges c.args.source.now)
-          (g.S.Source.ranges c.fetch_ahead.new.source) c.requires.image.said
-          (tiles_of_image image 0 image.table.rows (image_tiles image) refl (omega (arith, c.requires.image.readable.rows))) c.in_err-fetch_ahead.ensures.read;
-      cause = search rules;
-    }
+    let image = c.args.asked.now.image in (
+      search rules,
+      record {
+        source = c.in_err-fetch_ahead.ensures.stays.0;
+        sink = record { created_is = refl; shut = λ shut. shut; told = λ told. told };
+        row = search rules;
+        read = round_read c.hdus_law.ensures.tiles (g.S.Source.held c.args.source.now) c.args.asked.now.header image (image_tiles image) (g.S.Source.ranges c.args.source.now)
+            (g.S.Source.ranges c.fetch_ahead.new.source) c.requires.image.said
+            (tiles_of_image image 0 image.table.rows (image_tiles image) refl (omega (arith, c.requires.image.readable.rows))) c.in_err-fetch_ahead.ensures.read;
+        cause = search rules;
+      },
+      search rules,
+      search rules,
+    )
 
 pub returns-clause-stays : goal.returns-clause-stays
 returns-clause-stays g c =
-    let image = c.args.asked.now.image in
-    record {
-      source = c.in_ok-fetch_ahead.ensures.source;
-      sink = c.scatter_held.ensures.sink;
-      row = search rules;
-      read = round_read c.hdus_law.ensures.tiles (g.S.Source.held c.args.source.now) c.args.asked.now.header image (image_tiles image) (g.S.Source.ranges c.args.source.now)
-          (g.S.Source.ranges c.fetch_ahead.new.source) c.requires.image.said
-          (tiles_of_image image 0 image.table.rows (image_tiles image) refl (omega (arith, c.requires.image.readable.rows))) c.in_ok-fetch_ahead.ensures.read;
-      cause = search rules;
-    }
+    let image = c.args.asked.now.image in (
+      search rules,
+      record {
+        source = c.in_ok-fetch_ahead.ensures.stays.0;
+        sink = c.scatter_held.ensures.stays.0;
+        row = search rules;
+        read = round_read c.hdus_law.ensures.tiles (g.S.Source.held c.args.source.now) c.args.asked.now.header image (image_tiles image) (g.S.Source.ranges c.args.source.now)
+            (g.S.Source.ranges c.fetch_ahead.new.source) c.requires.image.said
+            (tiles_of_image image 0 image.table.rows (image_tiles image) refl (omega (arith, c.requires.image.readable.rows))) c.in_ok-fetch_ahead.ensures.read;
+        cause = search rules;
+      },
+      search rules,
+      search rules,
+    )

@@ -64,28 +64,28 @@ loop-first-preserved g c =
     subst (λ (l : Option (List ℕ)). IfSome l (λ file. AreWrittenTiles file h p at (range_with_len first count) mid now)) old.held
     c.in_ok-write_round.ensures.pixels in
     record {
-      held = c.in_ok-write_round.ensures.stays.source.held_is ∙ old.held;
-      attached = c.in_ok-write_round.ensures.stays.source.attached_is ∙ old.attached;
-      reads = c.in_ok-write_round.ensures.stays.cause.ok.0 ∙ old.reads;
-      writes = c.in_ok-write_round.ensures.stays.cause.ok.1 ∙ old.writes;
-      created = c.in_ok-write_round.ensures.stays.sink.created_is ∙ old.created;
-      shut = λ shut. c.in_ok-write_round.ensures.stays.sink.shut (old.shut shut);
-      told_ranges = λ told. c.in_ok-write_round.ensures.stays.source.told (old.told_ranges told);
-      told_contents = λ told. c.in_ok-write_round.ensures.stays.sink.told (old.told_contents told);
+      held = c.in_ok-write_round.ensures.stays.1.source.held_is ∙ old.held;
+      attached = c.in_ok-write_round.ensures.stays.1.source.attached_is ∙ old.attached;
+      reads = c.in_ok-write_round.ensures.stays.1.cause.ok.0 ∙ old.reads;
+      writes = c.in_ok-write_round.ensures.stays.1.cause.ok.1 ∙ old.writes;
+      created = c.in_ok-write_round.ensures.stays.1.sink.created_is ∙ old.created;
+      shut = λ shut. c.in_ok-write_round.ensures.stays.1.sink.shut (old.shut shut);
+      told_ranges = λ told. c.in_ok-write_round.ensures.stays.1.source.told (old.told_ranges told);
+      told_contents = λ told. c.in_ok-write_round.ensures.stays.1.sink.told (old.told_contents told);
       read = join_told c.ranges_law.ensures.join held (λ file. image_ranges file h) (g.S.Source.ranges c.args.source.now)
           (g.S.Source.ranges c.loop-first.source) (g.S.Source.ranges c.write_round.new.source) old.read
           (subst (λ (l : Option (List ℕ)). IfSome l (λ file. LogsIn (image_ranges file h) (g.S.Source.ranges c.loop-first.source)
-          (g.S.Source.ranges c.write_round.new.source))) old.held c.in_ok-write_round.ensures.stays.read);
+          (g.S.Source.ranges c.write_round.new.source))) old.held c.in_ok-write_round.ensures.stays.1.read);
       window = record {
-        sizes = c.in_ok-write_round.ensures.window.sizes ∙ old.window.sizes;
-        workers = c.in_ok-write_round.ensures.window.workers
+        sizes = c.in_ok-write_round.ensures.stays.0.sizes ∙ old.window.sizes;
+        workers = c.in_ok-write_round.ensures.stays.0.workers
             ∙ old.window.workers;
       };
-      buffer = c.in_ok-write_round.ensures.buffer ∙ old.buffer;
-      room = c.in_ok-write_round.ensures.room ∙ old.room;
+      buffer = c.in_ok-write_round.ensures.stays.2 ∙ old.buffer;
+      room = c.in_ok-write_round.ensures.stays.3 ∙ old.room;
       kept = c.in_ok-write_round.ensures.kept;
       ahead = subst (λ (l : Option (List ℕ)). IsAhead l c.args.asked.now.image.table c.write_round.new.buf c.write_round.new.round.ahead)
-          (c.in_ok-write_round.ensures.stays.source.held_is ∙ old.held) c.in_ok-write_round.ensures.ahead;
+          (c.in_ok-write_round.ensures.stays.1.source.held_is ∙ old.held) c.in_ok-write_round.ensures.ahead;
       within = omega (arith, c.min-count.ensures, old.within);
       written = more_tiles c.scattered_law.ensures.rounds held h p at first count before mid now old.written round;
     }
@@ -127,33 +127,41 @@ returns-in_err-write_round-clause-stays g c =
     let held : Option (List ℕ) = g.S.Source.held c.args.source.now in
     let h = c.args.asked.now.header in
     let old = c.loop-first.invariant in
-    let stays = c.in_err-write_round.ensures.stays in
-    record {
-      source = record {
-        held_is = stays.source.held_is ∙ old.held;
-        attached_is = stays.source.attached_is ∙ old.attached;
-        told = λ told. stays.source.told (old.told_ranges told);
-      };
-      sink = record {
-        created_is = stays.sink.created_is ∙ old.created;
-        shut = λ shut. stays.sink.shut (old.shut shut);
-        told = λ told. stays.sink.told (old.told_contents told);
-      };
-      row = search rules;
-      read = join_told c.ranges_law.ensures.join held (λ file. image_ranges file h) (g.S.Source.ranges c.args.source.now) (g.S.Source.ranges c.loop-first.source)
-          (g.S.Source.ranges c.write_round.new.source) old.read
-          (subst (λ (l : Option (List ℕ)). IfSome l (λ file. LogsIn (image_ranges file h) (g.S.Source.ranges c.loop-first.source)
-          (g.S.Source.ranges c.write_round.new.source))) old.held stays.read);
-      cause = search rules;
-    }
+    let stays = c.in_err-write_round.ensures.stays.1 in (
+      search rules,
+      record {
+        source = record {
+          held_is = stays.source.held_is ∙ old.held;
+          attached_is = stays.source.attached_is ∙ old.attached;
+          told = λ told. stays.source.told (old.told_ranges told);
+        };
+        sink = record {
+          created_is = stays.sink.created_is ∙ old.created;
+          shut = λ shut. stays.sink.shut (old.shut shut);
+          told = λ told. stays.sink.told (old.told_contents told);
+        };
+        row = search rules;
+        read = join_told c.ranges_law.ensures.join held (λ file. image_ranges file h) (g.S.Source.ranges c.args.source.now) (g.S.Source.ranges c.loop-first.source)
+            (g.S.Source.ranges c.write_round.new.source) old.read
+            (subst (λ (l : Option (List ℕ)). IfSome l (λ file. LogsIn (image_ranges file h) (g.S.Source.ranges c.loop-first.source)
+            (g.S.Source.ranges c.write_round.new.source))) old.held stays.read);
+        cause = search rules;
+      },
+      search rules,
+      search rules,
+    )
 
 pub returns-clause-stays : goal.returns-clause-stays
 returns-clause-stays g c =
-    let old = c.loop-first.invariant in
-    record {
-      source = record { held_is = old.held; attached_is = old.attached; told = old.told_ranges };
-      sink = record { created_is = old.created; shut = old.shut; told = old.told_contents };
-      row = tt;
-      read = old.read;
-      cause = search rules;
-    }
+    let old = c.loop-first.invariant in (
+      search rules,
+      record {
+        source = record { held_is = old.held; attached_is = old.attached; told = old.told_ranges };
+        sink = record { created_is = old.created; shut = old.shut; told = old.told_contents };
+        row = tt;
+        read = old.read;
+        cause = search rules;
+      },
+      search rules,
+      search rules,
+    )

@@ -66,10 +66,16 @@ returns-in_err-fetch_and_scatter-clause-fault g c =
 
 pub returns-in_err-fetch_and_scatter-clause-stays : goal.returns-in_err-fetch_and_scatter-clause-stays
 returns-in_err-fetch_and_scatter-clause-stays g c =
-    let done = c.in_err-fetch_and_scatter.ensures in
-    record { source = done.source; sink = record { created_is = done.scattered.created_is; shut = done.scattered.shut; told = done.scattered.told }; row = search rules; read = done.read; cause = search rules }
+    let done = c.in_err-fetch_and_scatter.ensures in (
+      record { source = done.stays.0; sink = record { created_is = done.scattered.created_is; shut = done.scattered.shut; told = done.scattered.told }; row = search rules; read = done.read; cause = search rules },
+      search rules,
+      search rules,
+    )
 
 pub returns-clause-stays : goal.returns-clause-stays
 returns-clause-stays g c =
-    let done = c.in_ok-fetch_and_scatter.ensures in
-    record { source = done.source; sink = record { created_is = done.scattered.created_is; shut = done.scattered.shut; told = done.scattered.told }; row = tt; read = done.read; cause = search rules }
+    let done = c.in_ok-fetch_and_scatter.ensures in (
+      record { source = done.stays.0; sink = record { created_is = done.scattered.created_is; shut = done.scattered.shut; told = done.scattered.told }; row = tt; read = done.read; cause = search rules },
+      search rules,
+      search rules,
+    )

@@ -62,20 +62,20 @@ loop-turn-preserved g c =
     let round : IfSome held (λ file. AreWrittenTiles file h p at (range_with_len first count) mid now) =
     subst (λ (l : Option (List ℕ)). IfSome l (λ file. AreWrittenTiles file h p at (range_with_len first count) mid now)) old.held done.pixels in
     record {
-      held = done.stays.source.held_is ∙ old.held;
-      attached = done.stays.source.attached_is ∙ old.attached;
-      reads = done.stays.cause.ok.0 ∙ old.reads;
-      writes = done.stays.cause.ok.1 ∙ old.writes;
-      created = done.stays.sink.created_is ∙ old.created;
-      shut = λ shut. done.stays.sink.shut (old.shut shut);
-      told_ranges = λ told. done.stays.source.told (old.told_ranges told);
-      told_contents = λ told. done.stays.sink.told (old.told_contents told);
+      held = done.stays.0.source.held_is ∙ old.held;
+      attached = done.stays.0.source.attached_is ∙ old.attached;
+      reads = done.stays.0.cause.ok.0 ∙ old.reads;
+      writes = done.stays.0.cause.ok.1 ∙ old.writes;
+      created = done.stays.0.sink.created_is ∙ old.created;
+      shut = λ shut. done.stays.0.sink.shut (old.shut shut);
+      told_ranges = λ told. done.stays.0.source.told (old.told_ranges told);
+      told_contents = λ told. done.stays.0.sink.told (old.told_contents told);
       read = join_told c.ranges_law.ensures.join held (λ file. image_ranges file h) (g.S.Source.ranges c.args.source.now) (g.S.Source.ranges c.loop-turn.source) (g.S.Source.ranges c.take_turn.new.source) old.read
-          (subst (λ (l : Option (List ℕ)). IfSome l (λ file. LogsIn (image_ranges file h) (g.S.Source.ranges c.loop-turn.source) (g.S.Source.ranges c.take_turn.new.source))) old.held done.stays.read);
+          (subst (λ (l : Option (List ℕ)). IfSome l (λ file. LogsIn (image_ranges file h) (g.S.Source.ranges c.loop-turn.source) (g.S.Source.ranges c.take_turn.new.source))) old.held done.stays.0.read);
       rooms = still_rooms c.args.asked.now.image c.loop-turn.first c.loop-turn.second new.first new.second old.rooms done.windows;
       windows = λ size one other. let both = old.windows size one other in done.windows size both.0 both.1;
-      workers = done.workers ∙ old.workers;
-      rows = done.rows ∙ old.rows;
+      workers = done.stays.2 ∙ old.workers;
+      rows = done.stays.1 ∙ old.rows;
       stand = subst (λ (l : Option (List ℕ)). StandFetched l h p new.turn.written new.turn.decoded c.args.asked.now.tiles new.second) old.held done.stand;
       written = subst (λ (n : ℕ). IfSome held (λ file. AreWrittenTiles file h p at (range_with_len 0 n) before now)) (sym done.turn.0) (more_tiles c.scattered_law.ensures.rounds held h p at first count before mid now old.written round);
     }
@@ -108,31 +108,37 @@ returns-in_err-take_turn-clause-stays g c =
     let held : Option (List ℕ) = g.S.Source.held c.args.source.now in
     let h = c.args.asked.now.header in
     let old = c.loop-turn.invariant in
-    let stays = c.in_err-take_turn.ensures.stays in
-    record {
-      source = record {
-        held_is = stays.source.held_is ∙ old.held;
-        attached_is = stays.source.attached_is ∙ old.attached;
-        told = λ told. stays.source.told (old.told_ranges told);
-      };
-      sink = record {
-        created_is = stays.sink.created_is ∙ old.created;
-        shut = λ shut. stays.sink.shut (old.shut shut);
-        told = λ told. stays.sink.told (old.told_contents told);
-      };
-      row = search rules;
-      read = join_told c.ranges_law.ensures.join held (λ file. image_ranges file h) (g.S.Source.ranges c.args.source.now) (g.S.Source.ranges c.loop-turn.source) (g.S.Source.ranges c.take_turn.new.source) old.read
-          (subst (λ (l : Option (List ℕ)). IfSome l (λ file. LogsIn (image_ranges file h) (g.S.Source.ranges c.loop-turn.source) (g.S.Source.ranges c.take_turn.new.source))) old.held stays.read);
-      cause = search rules;
-    }
+    let stays = c.in_err-take_turn.ensures.stays.0 in (
+      record {
+        source = record {
+          held_is = stays.source.held_is ∙ old.held;
+          attached_is = stays.source.attached_is ∙ old.attached;
+          told = λ told. stays.source.told (old.told_ranges told);
+        };
+        sink = record {
+          created_is = stays.sink.created_is ∙ old.created;
+          shut = λ shut. stays.sink.shut (old.shut shut);
+          told = λ told. stays.sink.told (old.told_contents told);
+        };
+        row = search rules;
+        read = join_told c.ranges_law.ensures.join held (λ file. image_ranges file h) (g.S.Source.ranges c.args.source.now) (g.S.Source.ranges c.loop-turn.source) (g.S.Source.ranges c.take_turn.new.source) old.read
+            (subst (λ (l : Option (List ℕ)). IfSome l (λ file. LogsIn (image_ranges file h) (g.S.Source.ranges c.loop-turn.source) (g.S.Source.ranges c.take_turn.new.source))) old.held stays.read);
+        cause = search rules;
+      },
+      search rules,
+      search rules,
+    )
 
 pub returns-clause-stays : goal.returns-clause-stays
 returns-clause-stays g c =
-    let old = c.loop-turn.invariant in
-    record {
-      source = record { held_is = old.held; attached_is = old.attached; told = old.told_ranges };
-      sink = record { created_is = old.created; shut = old.shut; told = old.told_contents };
-      row = tt;
-      read = old.read;
-      cause = search rules;
-    }
+    let old = c.loop-turn.invariant in (
+      record {
+        source = record { held_is = old.held; attached_is = old.attached; told = old.told_ranges };
+        sink = record { created_is = old.created; shut = old.shut; told = old.told_contents };
+        row = tt;
+        read = old.read;
+        cause = search rules;
+      },
+      search rules,
+      search rules,
+    )

@@ -94,8 +94,8 @@ returns-clause-buffers g c =
     let gave : c.give_bytes.new.self.live ≡ c.with_block-answer.new.meter.live - length (refilled block left) = ap (λ (m : Gauge). m.live) c.give_bytes.ensures in
     let back : c.give_bytes.new.self.peak ≡ c.with_block-answer.new.meter.peak = ap (λ (m : Gauge). m.peak) c.give_bytes.ensures in
     record {
-      live = omega (arith, gave, refilled_len block left, long, took, c.with_block-answer.ensures.live, c.requires.nothing_live);
-      limit = ap (λ (m : Gauge). m.limit) c.give_bytes.ensures ∙ c.with_block-answer.ensures.limit ∙ ap (λ (m : Gauge). m.limit) c.in_ok-block.ensures.taken.1;
+      live = omega (arith, gave, refilled_len block left, long, took, c.with_block-answer.ensures.stays.2, c.requires.nothing_live);
+      limit = ap (λ (m : Gauge). m.limit) c.give_bytes.ensures ∙ c.with_block-answer.ensures.stays.3 ∙ ap (λ (m : Gauge). m.limit) c.in_ok-block.ensures.taken.1;
       peak = rw back (c.stages_law.ensures.peaks.block Unpack held W c.args.meter.now.peak c.bytes.new.self.peak c.with_block-answer.new.meter.peak (omega (arith, begun, c.requires.nothing_live)) low);
       most = omega (arith, back, begun, c.requires.nothing_live, c.with_block-answer.ensures.peak_most, c.stages_law.ensures.sizes.look Unpack W);
       window_is = c.with_block-answer.ensures.emptied;

@@ -94,7 +94,7 @@ returns-clause-unmade g c =
     let exact : IfSome held (Knows s) = c.in_ok-survey.ensures.exact in
     let none : IfSome held (λ file. first_past meter.limit (survey_takings UnpackChecks meter.live file) ≡ None) = c.in_ok-survey.ensures.first_past in
     let past : IsSome (first_past meter.limit (piled meter.live (wanted_buffers (wants_for Unpack s) W))) → (g.K.Sink.created c.work.new.sink ≡ g.K.Sink.created c.args.sink.now) × (g.K.Sink.contents c.work.new.sink ≡ g.K.Sink.contents c.args.sink.now) =
-    past_at c.survey_to_unpack.new.meter.limit meter.limit c.survey_to_unpack.new.meter.live meter.live (wanted_buffers (wants_for Unpack s) W) _ c.in_ok-survey.ensures.limit c.in_ok-survey.ensures.live c.work.ensures.past in
+    past_at c.survey_to_unpack.new.meter.limit meter.limit c.survey_to_unpack.new.meter.live meter.live (wanted_buffers (wants_for Unpack s) W) _ c.in_ok-survey.ensures.stays.2 c.in_ok-survey.ensures.stays.1 c.work.ensures.past in
     let passes = c.stages_law.ensures.passes.look Unpack UnpackChecks held W meter.live meter.limit s.header_len s.tile refl c.requires.one_block (learnt (c.known_law.ensures.know Unpack tt) s held exact) none in
     work_unmade (c.known_law.ensures.know Unpack tt) s held meter.limit (λ file. later_takings Unpack file W) _ c.work.result exact
     (past_by held (λ file. first_past meter.limit (later_takings Unpack file W)) (first_past meter.limit (piled meter.live (wanted_buffers (wants_for Unpack s) W))) _ passes past) c.work.ensures.unmade c.work.ensures.late
@@ -107,7 +107,7 @@ returns-clause-exact_peak g c =
     let s = c.in_ok-survey.survey in
     let exact : IfSome held (Knows s) = c.in_ok-survey.ensures.exact in
     let look : IfSome held (λ file. c.survey_to_unpack.new.meter.peak ≡ max meter.peak (highest (survey_takings UnpackChecks meter.live file))) = c.in_ok-survey.ensures.exact_peak in
-    let reached : OnOk c.work.result (c.work.new.meter.peak ≡ max c.survey_to_unpack.new.meter.peak (meter.live + sum (wanted_buffers (wants_for Unpack s) W))) = rw c.in_ok-survey.ensures.live at c.work.ensures.exact_peak in
+    let reached : OnOk c.work.result (c.work.new.meter.peak ≡ max c.survey_to_unpack.new.meter.peak (meter.live + sum (wanted_buffers (wants_for Unpack s) W))) = rw c.in_ok-survey.ensures.stays.1 at c.work.ensures.exact_peak in
     ok_weaker c.work.result
     (λ work. c.stages_law.ensures.reached.work Unpack UnpackChecks held W meter.live meter.peak c.survey_to_unpack.new.meter.peak c.work.new.meter.peak s.header_len s.tile refl c.requires.one_block (learnt (c.known_law.ensures.know Unpack tt) s held exact) look work) reached
 
@@ -119,7 +119,7 @@ returns-clause-first_past g c =
     let exact : IfSome held (Knows c.in_ok-survey.survey) = c.in_ok-survey.ensures.exact in
     let none : IfSome held (λ file. first_past meter.limit (survey_takings UnpackChecks meter.live file) ≡ None) = c.in_ok-survey.ensures.first_past in
     let tells : TellsFirstPast meter.limit (piled meter.live (wanted_buffers (wants_for Unpack c.in_ok-survey.survey) W)) c.work.result =
-    rw (c.in_ok-survey.ensures.live, c.in_ok-survey.ensures.limit) at c.work.ensures.first_past in
+    rw (c.in_ok-survey.ensures.stays.1, c.in_ok-survey.ensures.stays.2) at c.work.ensures.first_past in
     c.stages_law.ensures.work.first_past Unpack UnpackChecks held W meter.live meter.limit c.in_ok-survey.survey.header_len c.in_ok-survey.survey.tile c.work.result refl c.requires.one_block
     (learnt (c.known_law.ensures.know Unpack tt) c.in_ok-survey.survey held exact) none tells
 
@@ -129,12 +129,12 @@ returns-clause-peak g c =
     let meter = c.args.meter.now in
     let W : ℕ = c.args.window.now.workers in
     let exact : IfSome held (Knows c.in_ok-survey.survey) = c.in_ok-survey.ensures.exact in
-    let high : c.work.new.meter.peak ≤ max c.survey_to_unpack.new.meter.peak (meter.live + sum (wanted_buffers (wants_for Unpack c.in_ok-survey.survey) W)) = rw c.in_ok-survey.ensures.live at c.work.ensures.peak in
+    let high : c.work.new.meter.peak ≤ max c.survey_to_unpack.new.meter.peak (meter.live + sum (wanted_buffers (wants_for Unpack c.in_ok-survey.survey) W)) = rw c.in_ok-survey.ensures.stays.1 at c.work.ensures.peak in
     c.stages_law.ensures.peaks.work Unpack UnpackChecks held W meter.live meter.peak c.survey_to_unpack.new.meter.peak c.work.new.meter.peak c.in_ok-survey.survey.header_len c.in_ok-survey.survey.tile refl c.requires.one_block
     (learnt (c.known_law.ensures.know Unpack tt) c.in_ok-survey.survey held exact) c.in_ok-survey.ensures.peak high
 
 pub returns-clause-cause : goal.returns-clause-cause
-returns-clause-cause g c = rw (c.in_ok-survey.ensures.cause.ok, c.in_ok-survey.ensures.limit) at c.work.ensures.cause
+returns-clause-cause g c = rw (c.in_ok-survey.ensures.cause.ok, c.in_ok-survey.ensures.stays.2) at c.work.ensures.cause
 
 pub returns-in_err-survey-clause-most : goal.returns-in_err-survey-clause-most
 returns-in_err-survey-clause-most g c =
@@ -155,9 +155,9 @@ returns-clause-most g c =
     let meter = c.survey_to_unpack.new.meter in
     let s = c.in_ok-survey.survey in
     let most : TellsLimit meter.limit (greatest_bound Unpack W) c.work.result =
-    c.stages_law.ensures.work.over_limit Unpack W meter.live meter.limit s.header_len s.tile _ _ _ _ c.work.result tt (c.in_ok-survey.ensures.live ∙ c.requires.one_block) c.in_ok-survey.ensures.survey.header.1
+    c.stages_law.ensures.work.over_limit Unpack W meter.live meter.limit s.header_len s.tile _ _ _ _ c.work.result tt (c.in_ok-survey.ensures.stays.1 ∙ c.requires.one_block) c.in_ok-survey.ensures.survey.header.1
     c.in_ok-survey.ensures.survey.tile c.work.ensures.cause.stop c.work.ensures.first_past in
-    rw c.in_ok-survey.ensures.limit at most
+    rw c.in_ok-survey.ensures.stays.2 at most
 
 pub returns-clause-peak_most : goal.returns-clause-peak_most
 returns-clause-peak_most g c =
@@ -165,7 +165,7 @@ returns-clause-peak_most g c =
     let W : ℕ = c.args.window.now.workers in
     let look = c.stages_law.ensures.sizes.look Unpack W in
     let work = c.stages_law.ensures.sizes.work Unpack W s.header_len s.tile tt c.in_ok-survey.ensures.survey.header.1 c.in_ok-survey.ensures.survey.tile in
-    omega (arith, look, work, c.requires.one_block, c.in_ok-survey.ensures.live, c.in_ok-survey.ensures.peak_most, c.work.ensures.peak)
+    omega (arith, look, work, c.requires.one_block, c.in_ok-survey.ensures.stays.1, c.in_ok-survey.ensures.peak_most, c.work.ensures.peak)
 
 pub returns-in_err-survey-clause-touched : goal.returns-in_err-survey-clause-touched
 returns-in_err-survey-clause-touched g c =

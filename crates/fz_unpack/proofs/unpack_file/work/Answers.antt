@@ -58,7 +58,7 @@ pub give_back-requires : goal.give_back-requires
 give_back-requires g c =
     let wants : Wants = wants_for Unpack c.args.survey.now in
     let held = c.stages_law.ensures.back.kept wants c.in_ok-space.space c.write_file-answer.new.space c.args.window.now.workers c.take.new.window c.write_file-answer.new.window
-    c.in_ok-space.ensures.lengths c.write_file-answer.ensures.space c.in_ok-space.ensures.filled c.write_file-answer.ensures.window in
+    c.in_ok-space.ensures.lengths c.write_file-answer.ensures.stays.1 c.in_ok-space.ensures.filled c.write_file-answer.ensures.stays.2 in
     let live = ap (λ m. m.live) c.in_ok-space.ensures.takings.all.1 in
     omega (arith, held, live)
 
@@ -75,7 +75,7 @@ pub returns-clause-peak : goal.returns-clause-peak
 returns-clause-peak g c =
     let wants : Wants = wants_for Unpack c.args.survey.now in
     let held = c.stages_law.ensures.back.kept wants c.in_ok-space.space c.write_file-answer.new.space c.args.window.now.workers c.take.new.window c.write_file-answer.new.window
-    c.in_ok-space.ensures.lengths c.write_file-answer.ensures.space c.in_ok-space.ensures.filled c.write_file-answer.ensures.window in
+    c.in_ok-space.ensures.lengths c.write_file-answer.ensures.stays.1 c.in_ok-space.ensures.filled c.write_file-answer.ensures.stays.2 in
     let reached = (c.stages_law.ensures.back.given c.args.meter.now c.take.new.meter c.give_back.new.meter (sum (wanted_buffers wants c.args.window.now.workers)) (held_bytes c.write_file-answer.new.space c.write_file-answer.new.window)
     c.in_ok-space.ensures.takings.all.1 held c.give_back.ensures.given).2 in
     omega (arith, reached)
@@ -84,31 +84,28 @@ pub returns-clause-exact_peak : goal.returns-clause-exact_peak
 returns-clause-exact_peak g c =
     let wants : Wants = wants_for Unpack c.args.survey.now in
     let held = c.stages_law.ensures.back.kept wants c.in_ok-space.space c.write_file-answer.new.space c.args.window.now.workers c.take.new.window c.write_file-answer.new.window
-    c.in_ok-space.ensures.lengths c.write_file-answer.ensures.space c.in_ok-space.ensures.filled c.write_file-answer.ensures.window in
+    c.in_ok-space.ensures.lengths c.write_file-answer.ensures.stays.1 c.in_ok-space.ensures.filled c.write_file-answer.ensures.stays.2 in
     ok_always c.write_file-answer.result _
     (c.stages_law.ensures.back.given c.args.meter.now c.take.new.meter c.give_back.new.meter (sum (wanted_buffers wants c.args.window.now.workers)) (held_bytes c.write_file-answer.new.space c.write_file-answer.new.window)
     c.in_ok-space.ensures.takings.all.1 held c.give_back.ensures.given).2
 
-pub returns-clause-live : goal.returns-clause-live
-returns-clause-live g c =
+pub returns-clause-stays : goal.returns-clause-stays
+returns-clause-stays g c =
     let wants : Wants = wants_for Unpack c.args.survey.now in
     let held = c.stages_law.ensures.back.kept wants c.in_ok-space.space c.write_file-answer.new.space c.args.window.now.workers c.take.new.window c.write_file-answer.new.window
-    c.in_ok-space.ensures.lengths c.write_file-answer.ensures.space c.in_ok-space.ensures.filled c.write_file-answer.ensures.window in
-    (c.stages_law.ensures.back.given c.args.meter.now c.take.new.meter c.give_back.new.meter (sum (wanted_buffers wants c.args.window.now.workers)) (held_bytes c.write_file-answer.new.space c.write_file-answer.new.window)
-    c.in_ok-space.ensures.takings.all.1 held c.give_back.ensures.given).0
-
-pub returns-clause-limit : goal.returns-clause-limit
-returns-clause-limit g c =
-    let wants : Wants = wants_for Unpack c.args.survey.now in
-    let held = c.stages_law.ensures.back.kept wants c.in_ok-space.space c.write_file-answer.new.space c.args.window.now.workers c.take.new.window c.write_file-answer.new.window
-    c.in_ok-space.ensures.lengths c.write_file-answer.ensures.space c.in_ok-space.ensures.filled c.write_file-answer.ensures.window in
-    (c.stages_law.ensures.back.given c.args.meter.now c.take.new.meter c.give_back.new.meter (sum (wanted_buffers wants c.args.window.now.workers)) (held_bytes c.write_file-answer.new.space c.write_file-answer.new.window)
-    c.in_ok-space.ensures.takings.all.1 held c.give_back.ensures.given).1
+    c.in_ok-space.ensures.lengths c.write_file-answer.ensures.stays.1 c.in_ok-space.ensures.filled c.write_file-answer.ensures.stays.2 in (
+      search rules,
+      search rules,
+      (c.stages_law.ensures.back.given c.args.meter.now c.take.new.meter c.give_back.new.meter (sum (wanted_buffers wants c.args.window.now.workers)) (held_bytes c.write_file-answer.new.space c.write_file-answer.new.window)
+          c.in_ok-space.ensures.takings.all.1 held c.give_back.ensures.given).0,
+      (c.stages_law.ensures.back.given c.args.meter.now c.take.new.meter c.give_back.new.meter (sum (wanted_buffers wants c.args.window.now.workers)) (held_bytes c.write_file-answer.new.space c.write_file-answer.new.window)
+          c.in_ok-space.ensures.takings.all.1 held c.give_back.ensures.given).1,
+    )
 
 pub returns-clause-emptied : goal.returns-clause-emptied
 returns-clause-emptied g c =
     let filled : c.take.new.window.workers ≡ c.args.window.now.workers = ap (λ (p : Pool). p.workers) c.in_ok-space.ensures.filled in
-    c.give_back.ensures.emptied ∙ (λ i. record { slots = []; workers = (c.write_file-answer.ensures.window.workers ∙ filled) i })
+    c.give_back.ensures.emptied ∙ (λ i. record { slots = []; workers = (c.write_file-answer.ensures.stays.2.workers ∙ filled) i })
 
 pub returns-clause-cause : goal.returns-clause-cause
 returns-clause-cause g c = c.stages_law.ensures.work.works _ _ _ _ c.args.meter.now.limit c.write_file-answer.result c.write_file-answer.ensures.cause

@@ -78,7 +78,7 @@ returns-in_err-sound-clause-verified g c =
     (subst (λ (h : Option (List ℕ)). IfSome h (λ f. ReadsAsSeen f k start flag (length c.as_mut_slice-buf.result.now) s.tile (Ok a))) old.held c.in_ok-again.ensures.as_seen) in
     let stopped : c.from_residual-in_err-sound.result ≡ Err c.in_err-sound.field-0.0 = search rules in
     let checked : IfSome held (λ f. ChecksHdu f a.header mid now (Err c.in_err-sound.field-0.0)) =
-    subst (λ (h : Option (List ℕ)). IfSome h (λ f. ChecksHdu f a.header mid now (Err c.in_err-sound.field-0.0))) (c.in_ok-again.ensures.source.held_is ∙ old.held) c.in_err-sound.ensures.checked in
+    subst (λ (h : Option (List ℕ)). IfSome h (λ f. ChecksHdu f a.header mid now (Err c.in_err-sound.field-0.0))) (c.in_ok-again.ensures.stays.0.held_is ∙ old.held) c.in_err-sound.ensures.checked in
     subst (λ (r : Result Bool Stop). IfSome held (λ f. VerifiesSeen f s before now r)) (sym stopped)
     (stops_checking c.none_refused_law.ensures s before held c.in_err-sound.field-0.0 k start flag right mid now a few old.checked seen checked)
 
@@ -102,7 +102,7 @@ returns-then-start-length-clause-verified g c =
     (subst (λ (h : Option (List ℕ)). IfSome h (λ f. ReadsAsSeen f k start flag (length c.as_mut_slice-buf.result.now) s.tile (Ok a))) old.held c.in_ok-again.ensures.as_seen) in
     let sound : Bool = c.in_ok-sound.sound in
     let checked : IfSome held (λ f. ChecksHdu f a.header mid now (Ok sound)) =
-    subst (λ (h : Option (List ℕ)). IfSome h (λ f. ChecksHdu f a.header mid now (Ok sound))) (c.in_ok-again.ensures.source.held_is ∙ old.held) c.in_ok-sound.ensures.checked in
+    subst (λ (h : Option (List ℕ)). IfSome h (λ f. ChecksHdu f a.header mid now (Ok sound))) (c.in_ok-again.ensures.stays.0.held_is ∙ old.held) c.in_ok-sound.ensures.checked in
     let more : IfSome held (IsChecking s (k + 1) (next_start_of a.header) (is_empty_primary a.header) (right && sound) before now) =
     more_checked c.none_refused_law.ensures s before held k start flag (is_empty_primary a.header) right sound mid now a few old.checked seen checked refl in
     let told : HoldsLength held c.args.asked.now.length = g.met.S.Source.agrees c.args.source.now c.args.asked.now.length c.requires.attached in
@@ -130,7 +130,7 @@ loop-hdu-preserved g c =
     (subst (λ (h : Option (List ℕ)). IfSome h (λ f. ReadsAsSeen f k start flag (length c.as_mut_slice-buf.result.now) s.tile (Ok a))) old.held c.in_ok-again.ensures.as_seen) in
     let sound : Bool = c.in_ok-sound.sound in
     let checked : IfSome held (λ f. ChecksHdu f a.header mid now (Ok sound)) =
-    subst (λ (h : Option (List ℕ)). IfSome h (λ f. ChecksHdu f a.header mid now (Ok sound))) (c.in_ok-again.ensures.source.held_is ∙ old.held) c.in_ok-sound.ensures.checked in
+    subst (λ (h : Option (List ℕ)). IfSome h (λ f. ChecksHdu f a.header mid now (Ok sound))) (c.in_ok-again.ensures.stays.0.held_is ∙ old.held) c.in_ok-sound.ensures.checked in
     let more : IfSome held (IsChecking s (k + 1) (next_start_of a.header) (is_empty_primary a.header) (right && sound) before now) =
     more_checked c.none_refused_law.ensures s before held k start flag (is_empty_primary a.header) right sound mid now a few old.checked seen checked refl in
     let next : c.next_start-start.result ≡ next_start_of a.header = c.next_start-start.ensures in
@@ -144,20 +144,20 @@ loop-hdu-preserved g c =
     let header : IfSome held (λ f. ReadsHdus Verify f s first two) = one_header s first c.ranges_law.ensures.join k start flag right before mid few one two (c.hdus_law.ensures.header Verify) held old.checked reads old.read in
     let three : Option (List (ℕ × ℕ)) = g.S.Source.ranges c.print_verified.new.source in
     let body : IfSome held (λ f. LogsIn (data_touched Verify f a.header) two three) =
-    subst (λ (h : Option (List ℕ)). IfSome h (λ f. LogsIn (data_touched Verify f a.header) two three)) (c.in_ok-again.ensures.source.held_is ∙ old.held) c.in_ok-sound.ensures.read in
+    subst (λ (h : Option (List ℕ)). IfSome h (λ f. LogsIn (data_touched Verify f a.header) two three)) (c.in_ok-again.ensures.stays.0.held_is ∙ old.held) c.in_ok-sound.ensures.read in
     record {
       held = search rules;
       attached = search rules;
       reads = search rules;
       prints = search rules;
-      told_ranges = λ told. c.in_ok-sound.ensures.source.told (c.in_ok-again.ensures.source.told (old.told_ranges told));
-      told_contents = λ told. c.in_ok-sound.ensures.told_contents (old.told_contents told);
+      told_ranges = λ told. c.in_ok-sound.ensures.stays.0.told (c.in_ok-again.ensures.stays.0.told (old.told_ranges told));
+      told_contents = λ told. c.in_ok-sound.ensures.stays.3 (old.told_contents told);
       space = record {
-        header = omega (arith, c.in_ok-sound.ensures.space.header, old.space.header, c.in_ok-again.ensures.buf, length-take {A = ℕ}, length-append {A = ℕ}, length-drop {A = ℕ});
-        translated = c.in_ok-sound.ensures.space.translated ∙ old.space.translated;
-        copy = c.in_ok-sound.ensures.space.copy ∙ old.space.copy;
+        header = omega (arith, c.in_ok-sound.ensures.stays.1.header, old.space.header, c.in_ok-again.ensures.stays.1, length-take {A = ℕ}, length-append {A = ℕ}, length-drop {A = ℕ});
+        translated = c.in_ok-sound.ensures.stays.1.translated ∙ old.space.translated;
+        copy = c.in_ok-sound.ensures.stays.1.copy ∙ old.space.copy;
       };
-      window = record { sizes = c.in_ok-sound.ensures.window.sizes ∙ old.window.sizes; workers = c.in_ok-sound.ensures.window.workers ∙ old.window.workers };
+      window = record { sizes = c.in_ok-sound.ensures.stays.2.sizes ∙ old.window.sizes; workers = c.in_ok-sound.ensures.stays.2.workers ∙ old.window.workers };
       within = λ left. inl (not_at_end c.next_start-start.result c.args.asked.now.length (k + 1) s.hdus c.if-start-length.false left (omega (arith, next, inside)));
       early = omega (arith, next, early);
       checked = subst (λ b. IfSome held (IsChecking s (k + 1) c.next_start-start.result b (right && sound) before now)) (sym says)
@@ -238,7 +238,7 @@ returns-in_err-sound-clause-read g c =
     (subst (λ (h : Option (List ℕ)). IfSome h (λ f. ReadsAsSeen f k start flag (length c.as_mut_slice-buf.result.now) s.tile (Ok a))) old.held c.in_ok-again.ensures.as_seen) in
     let three : Option (List (ℕ × ℕ)) = g.S.Source.ranges c.print_verified.new.source in
     let body : IfSome held (λ f. LogsIn (data_touched Verify f a.header) two three) =
-    subst (λ (h : Option (List ℕ)). IfSome h (λ f. LogsIn (data_touched Verify f a.header) two three)) (c.in_ok-again.ensures.source.held_is ∙ old.held) c.in_err-sound.ensures.read in
+    subst (λ (h : Option (List ℕ)). IfSome h (λ f. LogsIn (data_touched Verify f a.header) two three)) (c.in_ok-again.ensures.stays.0.held_is ∙ old.held) c.in_err-sound.ensures.read in
     one_hdu s first c.ranges_law.ensures.join k start flag right before now few two three (c.hdus_law.ensures.payload Verify) held a old.checked seen body header
 
 pub returns-then-start-length-clause-read : goal.returns-then-start-length-clause-read
@@ -265,7 +265,7 @@ returns-then-start-length-clause-read g c =
     (subst (λ (h : Option (List ℕ)). IfSome h (λ f. ReadsAsSeen f k start flag (length c.as_mut_slice-buf.result.now) s.tile (Ok a))) old.held c.in_ok-again.ensures.as_seen) in
     let three : Option (List (ℕ × ℕ)) = g.S.Source.ranges c.print_verified.new.source in
     let body : IfSome held (λ f. LogsIn (data_touched Verify f a.header) two three) =
-    subst (λ (h : Option (List ℕ)). IfSome h (λ f. LogsIn (data_touched Verify f a.header) two three)) (c.in_ok-again.ensures.source.held_is ∙ old.held) c.in_ok-sound.ensures.read in
+    subst (λ (h : Option (List ℕ)). IfSome h (λ f. LogsIn (data_touched Verify f a.header) two three)) (c.in_ok-again.ensures.stays.0.held_is ∙ old.held) c.in_ok-sound.ensures.read in
     one_hdu s first c.ranges_law.ensures.join k start flag right before now few two three (c.hdus_law.ensures.payload Verify) held a old.checked seen body header
 
 pub print_verified-requires-clause-sound : goal.print_verified-requires-clause-sound
@@ -285,5 +285,5 @@ print_verified-requires-clause-sound g c κs within = λ done.
     let seen : IfSome held (λ f. ReadsAsSeen f k start flag s.header_len s.tile (Ok a)) =
     subst (λ n. IfSome held (λ f. ReadsAsSeen f k start flag n s.tile (Ok a))) long
     (subst (λ (h : Option (List ℕ)). IfSome h (λ f. ReadsAsSeen f k start flag (length c.as_mut_slice-buf.result.now) s.tile (Ok a))) old.held c.in_ok-again.ensures.as_seen) in
-    let there : g.S.Source.held c.read_again.new.source ≡ held = c.in_ok-again.ensures.source.held_is ∙ old.held in
+    let there : g.S.Source.held c.read_again.new.source ≡ held = c.in_ok-again.ensures.stays.0.held_is ∙ old.held in
     subst (λ (h : Option (List ℕ)). IfSome h (λ f. IsHduSound f a.header)) (sym there) (next_sound c.none_refused_law.ensures s before held k start flag right mid a few old.checked seen (c.requires.sound done))

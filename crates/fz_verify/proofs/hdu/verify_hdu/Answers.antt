@@ -18,7 +18,7 @@ returns-clause-verdicts g c =
     IfOk-weaker c.judge_sums.result
     (λ v. IfSome mid (λ f. AreVerdictsOn f h v))
     (λ v. IfSome held (λ f. AreVerdictsOn f h v × IsHduSound f h))
-    (λ v are. both_told held (λ f. AreVerdictsOn f h v) (λ f. IsHduSound f h) (subst (λ (l : Option (List ℕ)). IfSome l (λ f. AreVerdictsOn f h v)) c.in_ok-decode_hdu.ensures.source.held_is are) c.in_ok-decode_hdu.ensures.sound)
+    (λ v are. both_told held (λ f. AreVerdictsOn f h v) (λ f. IsHduSound f h) (subst (λ (l : Option (List ℕ)). IfSome l (λ f. AreVerdictsOn f h v)) c.in_ok-decode_hdu.ensures.stays.0.held_is are) c.in_ok-decode_hdu.ensures.sound)
     c.judge_sums.ensures.verdicts
 
 pub returns-clause-read : goal.returns-clause-read

@@ -77,19 +77,20 @@ returns-clause-exact_peak g c =
     let reached : c.give_bytes.new.self.peak ≡ max c.args.meter.now.peak (c.args.meter.now.live + sum (wanted_buffers (wants_for ListHdus c.args.survey.now) 1)) = omega (arith, took, back, is, sum_of_one c.args.survey.now) in
     ok_always c.list_hdus-answer.result _ reached
 
-pub returns-clause-live : goal.returns-clause-live
-returns-clause-live g c =
+pub returns-clause-stays : goal.returns-clause-stays
+returns-clause-stays g c =
     let is : c.from.result ≡ c.args.survey.now.header_len = search rules in
     let n : ℕ = c.from.result in
     let buffer : List ℕ = c.in_ok-header.header in
     let left : List ℕ = c.list_hdus-answer.new.buf in
     let long : length buffer ≡ n = ap length c.in_ok-header.ensures.bytes ∙ length-replicate {A = ℕ} n 0 in
     let took : c.bytes.new.self.live ≡ c.args.meter.now.live + n = ap (λ (m : Gauge). m.live) c.in_ok-header.ensures.taken.1 in
-    let gave = ap (λ (m : Gauge). m.live) c.give_bytes.ensures in
-    omega (arith, gave, refilled_len buffer left, long, took)
-
-pub returns-clause-limit : goal.returns-clause-limit
-returns-clause-limit g c = ap (λ (m : Gauge). m.limit) c.give_bytes.ensures ∙ ap (λ (m : Gauge). m.limit) c.in_ok-header.ensures.taken.1
+    let gave = ap (λ (m : Gauge). m.live) c.give_bytes.ensures in (
+      search rules,
+      search rules,
+      omega (arith, gave, refilled_len buffer left, long, took),
+      ap (λ (m : Gauge). m.limit) c.give_bytes.ensures ∙ ap (λ (m : Gauge). m.limit) c.in_ok-header.ensures.taken.1,
+    )
 
 pub returns-clause-cause : goal.returns-clause-cause
 returns-clause-cause g c = c.stages_law.ensures.work.works _ _ _ _ c.args.meter.now.limit c.list_hdus-answer.result c.list_hdus-answer.ensures.cause

@@ -99,7 +99,7 @@ returns-clause-silent g c =
     let exact : IfSome held (Knows s) = c.in_ok-survey.ensures.exact in
     let none : IfSome held (λ file. first_past meter.limit (survey_takings UnpackChecks meter.live file) ≡ None) = c.in_ok-survey.ensures.first_past in
     let past : IsSome (first_past meter.limit (piled meter.live (wanted_buffers (wants_for ListHdus s) W))) → (g.T.Text.contents c.list_seen.new.text ≡ g.T.Text.contents c.args.text.now) × (g.T.Text.tally c.list_seen.new.text ≡ g.T.Text.tally c.args.text.now) =
-    past_at c.survey_to_unpack.new.meter.limit meter.limit c.survey_to_unpack.new.meter.live meter.live (wanted_buffers (wants_for ListHdus s) W) _ c.in_ok-survey.ensures.limit c.in_ok-survey.ensures.live c.list_seen.ensures.past in
+    past_at c.survey_to_unpack.new.meter.limit meter.limit c.survey_to_unpack.new.meter.live meter.live (wanted_buffers (wants_for ListHdus s) W) _ c.in_ok-survey.ensures.stays.2 c.in_ok-survey.ensures.stays.1 c.list_seen.ensures.past in
     let passes = c.stages_law.ensures.passes.look ListHdus UnpackChecks held W meter.live meter.limit s.header_len 0 refl c.requires.one_block (list_learnt (c.known_law.ensures.know ListHdus tt) s held exact) none in
     work_silent ListHdus (c.known_law.ensures.know ListHdus tt) s held meter.limit (λ file. later_takings ListHdus file W) _ c.list_seen.result exact
     (past_by held (λ file. first_past meter.limit (later_takings ListHdus file W)) (first_past meter.limit (piled meter.live (wanted_buffers (wants_for ListHdus s) W))) _ passes past) c.list_seen.ensures.silent c.list_seen.ensures.changed
@@ -112,7 +112,7 @@ returns-clause-exact_peak g c =
     let s = c.in_ok-survey.survey in
     let exact : IfSome held (Knows s) = c.in_ok-survey.ensures.exact in
     let look : IfSome held (λ file. c.survey_to_unpack.new.meter.peak ≡ max meter.peak (highest (survey_takings UnpackChecks meter.live file))) = c.in_ok-survey.ensures.exact_peak in
-    let reached : OnOk c.list_seen.result (c.list_seen.new.meter.peak ≡ max c.survey_to_unpack.new.meter.peak (meter.live + sum (wanted_buffers (wants_for ListHdus s) W))) = rw c.in_ok-survey.ensures.live at c.list_seen.ensures.exact_peak in
+    let reached : OnOk c.list_seen.result (c.list_seen.new.meter.peak ≡ max c.survey_to_unpack.new.meter.peak (meter.live + sum (wanted_buffers (wants_for ListHdus s) W))) = rw c.in_ok-survey.ensures.stays.1 at c.list_seen.ensures.exact_peak in
     ok_weaker c.list_seen.result
     (λ work. c.stages_law.ensures.reached.work ListHdus UnpackChecks held W meter.live meter.peak c.survey_to_unpack.new.meter.peak c.list_seen.new.meter.peak s.header_len 0 refl c.requires.one_block (list_learnt (c.known_law.ensures.know ListHdus tt) s held exact) look work) reached
 
@@ -124,7 +124,7 @@ returns-clause-first_past g c =
     let exact : IfSome held (Knows s) = c.in_ok-survey.ensures.exact in
     let none : IfSome held (λ file. first_past meter.limit (survey_takings UnpackChecks meter.live file) ≡ None) = c.in_ok-survey.ensures.first_past in
     let tells : TellsFirstPast meter.limit (piled meter.live (wanted_buffers (wants_for ListHdus s) 1)) c.list_seen.result =
-    rw (c.in_ok-survey.ensures.live, c.in_ok-survey.ensures.limit) at c.list_seen.ensures.first_past in
+    rw (c.in_ok-survey.ensures.stays.1, c.in_ok-survey.ensures.stays.2) at c.list_seen.ensures.first_past in
     c.stages_law.ensures.work.first_past ListHdus UnpackChecks held 1 meter.live meter.limit s.header_len 0 c.list_seen.result refl c.requires.one_block (list_learnt (c.known_law.ensures.know ListHdus tt) s held exact) none tells
 
 pub returns-clause-peak : goal.returns-clause-peak
@@ -133,7 +133,7 @@ returns-clause-peak g c =
     let meter = c.args.meter.now in
     let s = c.in_ok-survey.survey in
     let exact : IfSome held (Knows s) = c.in_ok-survey.ensures.exact in
-    let high : c.list_seen.new.meter.peak ≤ max c.survey_to_unpack.new.meter.peak (meter.live + sum (wanted_buffers (wants_for ListHdus s) 1)) = rw c.in_ok-survey.ensures.live at c.list_seen.ensures.peak in
+    let high : c.list_seen.new.meter.peak ≤ max c.survey_to_unpack.new.meter.peak (meter.live + sum (wanted_buffers (wants_for ListHdus s) 1)) = rw c.in_ok-survey.ensures.stays.1 at c.list_seen.ensures.peak in
     c.stages_law.ensures.peaks.work ListHdus UnpackChecks held 1 meter.live meter.peak c.survey_to_unpack.new.meter.peak c.list_seen.new.meter.peak s.header_len 0 refl c.requires.one_block
     (list_learnt (c.known_law.ensures.know ListHdus tt) s held exact) c.in_ok-survey.ensures.peak high
 
@@ -143,19 +143,19 @@ returns-clause-most g c =
     let s = c.in_ok-survey.survey in
     let tells : TellsFirstPast meter.limit (piled meter.live (wanted_buffers (wants_for ListHdus s) 1)) c.list_seen.result = c.list_seen.ensures.first_past in
     let most : TellsLimit meter.limit (greatest_bound ListHdus 1) c.list_seen.result =
-    c.stages_law.ensures.work.over_limit ListHdus 1 meter.live meter.limit s.header_len 0 _ _ _ _ c.list_seen.result tt (c.in_ok-survey.ensures.live ∙ c.requires.one_block) c.in_ok-survey.ensures.survey.header.1
+    c.stages_law.ensures.work.over_limit ListHdus 1 meter.live meter.limit s.header_len 0 _ _ _ _ c.list_seen.result tt (c.in_ok-survey.ensures.stays.1 ∙ c.requires.one_block) c.in_ok-survey.ensures.survey.header.1
     (omega arith) c.list_seen.ensures.cause.stop tells in
-    rw c.in_ok-survey.ensures.limit at most
+    rw c.in_ok-survey.ensures.stays.2 at most
 
 pub returns-clause-peak_most : goal.returns-clause-peak_most
 returns-clause-peak_most g c =
     let s = c.in_ok-survey.survey in
     let look = c.stages_law.ensures.sizes.look ListHdus 1 in
     let work = c.stages_law.ensures.sizes.work ListHdus 1 s.header_len 0 tt c.in_ok-survey.ensures.survey.header.1 (omega arith) in
-    omega (arith, look, work, c.requires.one_block, c.in_ok-survey.ensures.live, c.in_ok-survey.ensures.peak_most, c.list_seen.ensures.peak)
+    omega (arith, look, work, c.requires.one_block, c.in_ok-survey.ensures.stays.1, c.in_ok-survey.ensures.peak_most, c.list_seen.ensures.peak)
 
 pub returns-clause-cause : goal.returns-clause-cause
-returns-clause-cause g c = rw (c.in_ok-survey.ensures.cause.ok, c.in_ok-survey.ensures.limit) at c.list_seen.ensures.cause
+returns-clause-cause g c = rw (c.in_ok-survey.ensures.cause.ok, c.in_ok-survey.ensures.stays.2) at c.list_seen.ensures.cause
 
 pub returns-in_err-survey-clause-touched : goal.returns-in_err-survey-clause-touched
 returns-in_err-survey-clause-touched g c =

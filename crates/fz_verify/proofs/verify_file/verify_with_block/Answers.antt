@@ -113,7 +113,7 @@ returns-clause-silent g c =
     let exact : IfSome held (Knows s) = c.in_ok-survey.ensures.exact in
     let none : IfSome held (λ file. first_past meter.limit (survey_takings UnpackChecks meter.live file) ≡ None) = c.in_ok-survey.ensures.first_past in
     let at_workers : IsSome (first_past meter.limit (piled meter.live (wanted_buffers (wants_for Verify s) c.args.window.now.workers))) → (g.T.Text.contents c.verify_seen.new.text ≡ g.T.Text.contents c.args.text.now) × (g.T.Text.tally c.verify_seen.new.text ≡ g.T.Text.tally c.args.text.now) =
-    past_at c.survey_to_unpack.new.meter.limit meter.limit c.survey_to_unpack.new.meter.live meter.live (wanted_buffers (wants_for Verify s) c.args.window.now.workers) _ c.in_ok-survey.ensures.limit c.in_ok-survey.ensures.live c.verify_seen.ensures.past in
+    past_at c.survey_to_unpack.new.meter.limit meter.limit c.survey_to_unpack.new.meter.live meter.live (wanted_buffers (wants_for Verify s) c.args.window.now.workers) _ c.in_ok-survey.ensures.stays.2 c.in_ok-survey.ensures.stays.1 c.verify_seen.ensures.past in
     let past : IsSome (first_past meter.limit (piled meter.live (wanted_buffers (wants_for Verify s) W))) → (g.T.Text.contents c.verify_seen.new.text ≡ g.T.Text.contents c.args.text.now) × (g.T.Text.tally c.verify_seen.new.text ≡ g.T.Text.tally c.args.text.now) =
     subst (λ (n : ℕ). IsSome (first_past meter.limit (piled meter.live (wanted_buffers (wants_for Verify s) n))) → (g.T.Text.contents c.verify_seen.new.text ≡ g.T.Text.contents c.args.text.now) × (g.T.Text.tally c.verify_seen.new.text ≡ g.T.Text.tally c.args.text.now)) c.requires.one_worker at_workers in
     let passes = c.stages_law.ensures.passes.look Verify UnpackChecks held W meter.live meter.limit s.header_len s.tile refl c.requires.one_block (verify_learnt (c.known_law.ensures.know Verify tt) s held exact) none in
@@ -128,7 +128,7 @@ returns-clause-exact_peak g c =
     let s = c.in_ok-survey.survey in
     let exact : IfSome held (Knows s) = c.in_ok-survey.ensures.exact in
     let look : IfSome held (λ file. c.survey_to_unpack.new.meter.peak ≡ max meter.peak (highest (survey_takings UnpackChecks meter.live file))) = c.in_ok-survey.ensures.exact_peak in
-    let reached : OnOk c.verify_seen.result (c.verify_seen.new.meter.peak ≡ max c.survey_to_unpack.new.meter.peak (meter.live + sum (wanted_buffers (wants_for Verify s) W))) = rw (c.in_ok-survey.ensures.live, c.requires.one_worker) at c.verify_seen.ensures.exact_peak in
+    let reached : OnOk c.verify_seen.result (c.verify_seen.new.meter.peak ≡ max c.survey_to_unpack.new.meter.peak (meter.live + sum (wanted_buffers (wants_for Verify s) W))) = rw (c.in_ok-survey.ensures.stays.1, c.requires.one_worker) at c.verify_seen.ensures.exact_peak in
     ok_weaker c.verify_seen.result
     (λ work. c.stages_law.ensures.reached.work Verify UnpackChecks held W meter.live meter.peak c.survey_to_unpack.new.meter.peak c.verify_seen.new.meter.peak s.header_len s.tile refl c.requires.one_block (verify_learnt (c.known_law.ensures.know Verify tt) s held exact) look work) reached
 
@@ -140,7 +140,7 @@ returns-clause-first_past g c =
     let exact : IfSome held (Knows s) = c.in_ok-survey.ensures.exact in
     let none : IfSome held (λ file. first_past meter.limit (survey_takings UnpackChecks meter.live file) ≡ None) = c.in_ok-survey.ensures.first_past in
     let tells : TellsFirstPast meter.limit (piled meter.live (wanted_buffers (wants_for Verify s) 1)) c.verify_seen.result =
-    rw (c.in_ok-survey.ensures.live, c.in_ok-survey.ensures.limit, c.requires.one_worker) at c.verify_seen.ensures.first_past in
+    rw (c.in_ok-survey.ensures.stays.1, c.in_ok-survey.ensures.stays.2, c.requires.one_worker) at c.verify_seen.ensures.first_past in
     c.stages_law.ensures.work.first_past Verify UnpackChecks held 1 meter.live meter.limit s.header_len s.tile c.verify_seen.result refl c.requires.one_block (verify_learnt (c.known_law.ensures.know Verify tt) s held exact) none tells
 
 pub returns-clause-peak : goal.returns-clause-peak
@@ -149,7 +149,7 @@ returns-clause-peak g c =
     let meter = c.args.meter.now in
     let s = c.in_ok-survey.survey in
     let exact : IfSome held (Knows s) = c.in_ok-survey.ensures.exact in
-    let high : c.verify_seen.new.meter.peak ≤ max c.survey_to_unpack.new.meter.peak (meter.live + sum (wanted_buffers (wants_for Verify s) 1)) = rw (c.in_ok-survey.ensures.live, c.requires.one_worker) at c.verify_seen.ensures.peak in
+    let high : c.verify_seen.new.meter.peak ≤ max c.survey_to_unpack.new.meter.peak (meter.live + sum (wanted_buffers (wants_for Verify s) 1)) = rw (c.in_ok-survey.ensures.stays.1, c.requires.one_worker) at c.verify_seen.ensures.peak in
     c.stages_law.ensures.peaks.work Verify UnpackChecks held 1 meter.live meter.peak c.survey_to_unpack.new.meter.peak c.verify_seen.new.meter.peak s.header_len s.tile refl c.requires.one_block
     (verify_learnt (c.known_law.ensures.know Verify tt) s held exact) c.in_ok-survey.ensures.peak high
 
@@ -159,9 +159,9 @@ returns-clause-most g c =
     let s = c.in_ok-survey.survey in
     let tells : TellsFirstPast meter.limit (piled meter.live (wanted_buffers (wants_for Verify s) 1)) c.verify_seen.result = rw c.requires.one_worker at c.verify_seen.ensures.first_past in
     let most : TellsLimit meter.limit (greatest_bound Verify 1) c.verify_seen.result =
-    c.stages_law.ensures.work.over_limit Verify 1 meter.live meter.limit s.header_len s.tile _ _ _ _ c.verify_seen.result tt (c.in_ok-survey.ensures.live ∙ c.requires.one_block) c.in_ok-survey.ensures.survey.header.1
+    c.stages_law.ensures.work.over_limit Verify 1 meter.live meter.limit s.header_len s.tile _ _ _ _ c.verify_seen.result tt (c.in_ok-survey.ensures.stays.1 ∙ c.requires.one_block) c.in_ok-survey.ensures.survey.header.1
     c.in_ok-survey.ensures.survey.tile c.verify_seen.ensures.cause.stop tells in
-    rw c.in_ok-survey.ensures.limit at most
+    rw c.in_ok-survey.ensures.stays.2 at most
 
 pub returns-clause-peak_most : goal.returns-clause-peak_most
 returns-clause-peak_most g c =
@@ -169,10 +169,10 @@ returns-clause-peak_most g c =
     let look = c.stages_law.ensures.sizes.look Verify 1 in
     let work = c.stages_law.ensures.sizes.work Verify 1 s.header_len s.tile tt c.in_ok-survey.ensures.survey.header.1 c.in_ok-survey.ensures.survey.tile in
     let high : c.verify_seen.new.meter.peak ≤ max c.survey_to_unpack.new.meter.peak (c.survey_to_unpack.new.meter.live + sum (wanted_buffers (wants_for Verify s) 1)) = rw c.requires.one_worker at c.verify_seen.ensures.peak in
-    omega (arith, look, work, c.requires.one_block, c.in_ok-survey.ensures.live, c.in_ok-survey.ensures.peak_most, high)
+    omega (arith, look, work, c.requires.one_block, c.in_ok-survey.ensures.stays.1, c.in_ok-survey.ensures.peak_most, high)
 
 pub returns-clause-cause : goal.returns-clause-cause
-returns-clause-cause g c = rw (c.in_ok-survey.ensures.cause.ok, c.in_ok-survey.ensures.limit) at c.verify_seen.ensures.cause
+returns-clause-cause g c = rw (c.in_ok-survey.ensures.cause.ok, c.in_ok-survey.ensures.stays.2) at c.verify_seen.ensures.cause
 
 pub returns-in_err-survey-clause-grown : goal.returns-in_err-survey-clause-grown
 returns-in_err-survey-clause-grown g c = grew_not (g.T.Text.contents c.args.text.now)
