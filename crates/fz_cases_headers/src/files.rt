@@ -7,9 +7,9 @@ ghost use Rattle.fz_head.specs.Planned.{AreOptions};
 
 use fz_base::{Fault, Kind, MemSource, Place, Source, Stop};
 use fz_block::{BLOCK_LEN, Header, Sort, read_header};
+use fz_checks::{plan_of, table_check};
 use fz_head::{
-    CodecWord, PackOptions, Plan, Totals, is_packable, is_packed, pack_plan, plan_of, table_check,
-    to_packed, to_plain,
+    CodecWord, PackOptions, Plan, Totals, is_packable, is_packed, pack_plan, to_packed, to_plain,
 };
 use fz_table::Table;
 use std::alloc::Global;

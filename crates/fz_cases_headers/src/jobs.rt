@@ -2,11 +2,9 @@
 use crate::files::{PACKED, SMALL, fault_at, file_of, one_block, options_for};
 use fz_base::{Fault, Kind, Place};
 use fz_block::BLOCK_LEN;
+use fz_checks::{fill_check, image_to_cut, image_to_unpack, missing_hdu, plan_to_pack, tile_kind};
 use fz_grid::Region;
-use fz_head::{
-    CodecWord, codec_name, fill_check, image_to_cut, image_to_unpack, missing_hdu, plan_to_pack,
-    tile_kind, to_empty_primary,
-};
+use fz_head::{CodecWord, codec_name, to_empty_primary};
 use fz_tile::{Codec, TileFault};
 use std::test::Fail;
 

@@ -2,7 +2,8 @@
 use crate::files::{PACKED, fault_at, file_of, one_block, packed_plan};
 use fz_base::Kind;
 use fz_block::{Axes, Sort};
-use fz_head::{Plan, is_packed, table_check};
+use fz_checks::table_check;
+use fz_head::{Plan, is_packed};
 use fz_tile::Codec;
 use std::test::Fail;
 

@@ -13,9 +13,10 @@ use fz_base::{
     Failed, Fault, FreeGate, Kind, MemSink, MemSource, Meter, Place, Sink, Source, Stop,
 };
 use fz_block::{Axes, Header, Sort};
+use fz_checks::PackedImage;
 use fz_fetch::{Ahead, fetch_ahead, fetch_tiles, number_tiles};
 use fz_grid::{Grid, Sieve, cutout_axes, shape_law};
-use fz_head::{PackedImage, Plan};
+use fz_head::Plan;
 use fz_job::{Held, write_pieces};
 use fz_pixels::{scatter_held, scatter_picks, scatter_tiles};
 use fz_pool::{Crew, Window, sizes_law};

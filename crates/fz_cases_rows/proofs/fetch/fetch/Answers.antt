@@ -10,6 +10,6 @@ pub returns-clause-window : goal.returns-clause-window
 returns-clause-window g c =
     let n : ℕ = c.requires.window.0 in (
       n,
-      c.fetch_tiles.ensures.window.sizes ∙ c.requires.window.1 ∙ ap (λ (k : ℕ). replicate {A = ℕ × ℕ} (2 * k) (2 * n, 8 * n + 64)) (sym c.fetch_tiles.ensures.window.workers),
+      c.fetch_tiles.ensures.stays.1.sizes ∙ c.requires.window.1 ∙ ap (λ (k : ℕ). replicate {A = ℕ × ℕ} (2 * k) (2 * n, 8 * n + 64)) (sym c.fetch_tiles.ensures.stays.1.workers),
       c.requires.window.2,
     )

@@ -22,7 +22,7 @@ fetch_ahead-requires-clause-ahead g c κs within = c.none-ahead.ensures.ahead _ 
 pub fetch_ahead-requires-2-clause-window : goal.fetch_ahead-requires-2-clause-window
 fetch_ahead-requires-2-clause-window g c κs within =
     subst (λ n. HasSlotsFor n c.fetch_ahead.new.window) (sym c.requires.pixels)
-    (kept c.args.window.now c.fetch_ahead.new.window c.requires.window c.in_ok-fetch_ahead.ensures.window.sizes c.in_ok-fetch_ahead.ensures.window.workers)
+    (kept c.args.window.now c.fetch_ahead.new.window c.requires.window c.in_ok-fetch_ahead.ensures.stays.1.sizes c.in_ok-fetch_ahead.ensures.stays.1.workers)
 
 pub fetch_ahead-requires-2-clause-ahead : goal.fetch_ahead-requires-2-clause-ahead
 fetch_ahead-requires-2-clause-ahead g c κs within = c.in_ok-fetch_ahead.ensures.ahead
@@ -30,9 +30,9 @@ fetch_ahead-requires-2-clause-ahead g c κs within = c.in_ok-fetch_ahead.ensures
 pub returns-clause-window : goal.returns-clause-window
 returns-clause-window g c =
     kept c.fetch_ahead.new.window c.fetch_ahead-2.new.window
-    (kept c.args.window.now c.fetch_ahead.new.window c.requires.window c.in_ok-fetch_ahead.ensures.window.sizes c.in_ok-fetch_ahead.ensures.window.workers)
-    c.fetch_ahead-2.ensures.window.sizes c.fetch_ahead-2.ensures.window.workers
+    (kept c.args.window.now c.fetch_ahead.new.window c.requires.window c.in_ok-fetch_ahead.ensures.stays.1.sizes c.in_ok-fetch_ahead.ensures.stays.1.workers)
+    c.fetch_ahead-2.ensures.stays.1.sizes c.fetch_ahead-2.ensures.stays.1.workers
 
 pub returns-in_err-fetch_ahead-clause-window : goal.returns-in_err-fetch_ahead-clause-window
 returns-in_err-fetch_ahead-clause-window g c =
-    kept c.args.window.now c.fetch_ahead.new.window c.requires.window c.in_err-fetch_ahead.ensures.window.sizes c.in_err-fetch_ahead.ensures.window.workers
+    kept c.args.window.now c.fetch_ahead.new.window c.requires.window c.in_err-fetch_ahead.ensures.stays.1.sizes c.in_err-fetch_ahead.ensures.stays.1.workers
