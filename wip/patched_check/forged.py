@@ -1,5 +1,5 @@
 """A given image whose pixels are headers: between the codes and PCOUNT the file has HDUs that nobody wrote."""
-import sys; sys.path.insert(0, 'out')
+import sys; sys.path.insert(0, __file__.rsplit('/', 1)[0])
 exec(open('wip/patched_check/prefixes.py').read().split("if __name__")[0])
 cs = [card("XTENSION= 'BINTABLE'"), card('BITPIX  = 8'), card('NAXIS   = 2'), card('NAXIS1  = 16'), card('NAXIS2  = 1'), card('PCOUNT  = 9000'), card('GCOUNT  = 1'),
       card('TFIELDS = 2'), card("TTYPE1  = 'COMPRESSED_DATA'"), card("TFORM1  = '1PB(0)'"), card("TTYPE2  = 'UNCOMPRESSED_DATA'"), card("TFORM2  = '1PB(9000)'"),

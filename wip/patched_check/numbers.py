@@ -1,5 +1,5 @@
 """Tries the statements on new numbers, by the definitions of parts of tiles."""
-import sys, random; sys.path.insert(0, 'out')
+import sys, random; sys.path.insert(0, __file__.rsplit('/', 1)[0])
 from patched import *
 def stepped_places(array, lo, step, counts): return [place_of(array, [o + k * s for o, s, k in zip(lo, step, ks)]) for ks in box_coordinates(counts)]
 def first_from(lo, hi, step, corner): return [max(0, o + picks_before(o, h, s, c) * s - c) for o, h, s, c in zip(lo, hi, step, corner)]

@@ -1,4 +1,4 @@
-"""The definitions of crates/fz_patched/specs, line by line in Python, over those of the crates below it.
+"""The definitions of a patch in crates/fz_laws/specs, line by line in Python, over those of the crates below it.
 
     patched.py FILE.jsonl ...      compares them with cases of `patch`
 """
@@ -604,7 +604,7 @@ def row_numbers(file, h, row):
     if not all(is_number(pixel_bits(p), x) for x in xs): raise bad('PixelRange')
     return xs
 
-# ================================================================ fz_patched
+# ================================================================ a patch
 # ---- Amends
 def applied(ws, file):
     for at, b in ws: file = overwrite(at, b, file)

@@ -3,7 +3,7 @@
     prefixes.py SECONDS CASES..
 """
 import sys, random, time
-sys.path.insert(0, 'out')
+sys.path.insert(0, __file__.rsplit('/', 1)[0])
 from patched import *
 
 def cut_faults(wanted, file, corner, lengths):

@@ -1,5 +1,5 @@
 """More patches, and what the definitions in Python answer."""
-import sys; sys.path.insert(0, 'out')
+import sys; sys.path.insert(0, __file__.rsplit('/', 1)[0])
 src = open('wip/patched_check/worked.py').read().split("F = lambda n")[0]
 exec(src)
 F = lambda n: bytes(value(n))

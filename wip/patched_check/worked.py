@@ -1,12 +1,12 @@
 """Reads the files that are written out in specs/*.antt, and holds them against the definitions in Python."""
 import re, sys, glob
-sys.path.insert(0, 'out')
+sys.path.insert(0, __file__.rsplit('/', 1)[0])
 from patched import *
 TOK = re.compile(r'"(?:[^"\\]|\\.)*"|0x[0-9A-Fa-f]+|[0-9]+|\+\+|∷|\[\]|[A-Za-z_][A-Za-z_0-9.]*|[(){};=,]')
 defs = {}
-for path in glob.glob('crates/fz_files/specs/*.antt') + glob.glob('crates/fz_patched/specs/*.antt'):
+for path in glob.glob('crates/fz_files/specs/*.antt') + glob.glob('crates/fz_laws/specs/*.antt'):
     text = '\n'.join(l for l in open(path).read().split('\n') if not l.startswith('--') and not l.startswith('use '))
-    own = 'fz_patched' in path
+    own = 'fz_laws' in path
     for m in re.finditer(r'^(\w+) =(.*(?:\n[ }].*)*)', text, re.M):
         if m.group(1) not in defs or own: defs[m.group(1)] = m.group(2)
 memo = {}
@@ -70,7 +70,7 @@ def same(what, got, want):
     global bad
     if got != want: bad += 1; print('DIFFER', what, got if len(str(got)) < 900 else '', want if len(str(want)) < 900 else '')
     else: print('same', what)
-law = open('crates/fz_patched/src/worked.rt').read()
+law = open('crates/fz_laws/src/worked_patches.rt').read()
 for m in re.finditer(r'ArePatchSteps (\w+) (\w+) (\w+) (\w+) (\w+)', law):
     f, p, j, facts, st = m.groups()
     h, g, olds, steps = patch_steps(F(f), F(p), value(j))
