@@ -1,12 +1,8 @@
 //! The header of the HDU that is cut from, read once more.
 ghost use Rattle.std.specs.Prelude.{◌≡◌, ◌<◌, ◌≤◌, nat_lt, Some, length as len, IfOk, IfSome};
 ghost use Rattle.fz_base.specs.Keeps.{SourceStays};
-ghost use Rattle.fz_base.specs.Refusal.{refusal};
 ghost use Rattle.fz_base.specs.Source.{LogsWithin};
 ghost use Rattle.fz_base.specs.Stop.{IfRefused, ReadsOnly};
-ghost use Rattle.fz_base.specs.declared.failure.Stop.TheVariants.{Refused};
-ghost use Rattle.fz_base.specs.declared.fault.Place.TheVariants.{Card as AtCard};
-ghost use Rattle.fz_base.specs.declared.kind.Kind.TheVariants.{BadCard};
 ghost use Rattle.fz_block.specs.Checks.{header_touched};
 ghost use Rattle.fz_files.specs.Restored.{pixels_of};
 ghost use Rattle.fz_grid.specs.Region.{IsDivided};
@@ -14,10 +10,11 @@ ghost use Rattle.fz_checks.specs.JobChecks.{IsBox};
 ghost use Rattle.fz_job.specs.Clauses.{IsChanged};
 ghost use Rattle.fz_cut.specs.Again.{IsAgain, ReadsAsSeen};
 
-use fz_base::{Fault, Kind, Place, Source, Stop, log_law};
+use fz_base::{Source, Stop, log_law};
 use fz_block::{BLOCK_LEN, Header, again_law, header_again};
 use fz_checks::{PackedImage, image_to_cut};
 use fz_grid::{Grid, Region};
+use fz_job::changed;
 
 /// The HDU that is cut from, whose header was read once more, and its image.
 #[derive(Clone, Copy, Debug)]
@@ -78,15 +75,4 @@ fn is_larger(image: &PackedImage, tile: u32) -> bool
     ensures { result ≡ nat_lt tile (pixels_of image.now.plan 0) }
 {
     Grid::new(image.plan.shape, image.plan.tile).largest() > tile
-}
-
-// The source gave other bytes than before.
-fn changed(hdu: u32) -> Stop
-    ensures { result ≡ Refused (refusal hdu (AtCard 0) BadCard) }
-{
-    Stop::Refused(Fault {
-        hdu,
-        at: Place::Card(0),
-        kind: Kind::BadCard,
-    })
 }

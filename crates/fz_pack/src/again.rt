@@ -1,12 +1,8 @@
 //! The header of an HDU, read once more.
 ghost use Rattle.std.specs.Prelude.{◌≡◌, ◌⊎◌, ◌+◌, ◌*◌, ◌^◌, ◌≤◌, ◌<◌, ◌||◌, nat_lt, true, Bool, Some, codes, length as len, IfOk, IfSome};
 ghost use Rattle.fz_base.specs.Keeps.{SourceStays};
-ghost use Rattle.fz_base.specs.Refusal.{refusal};
 ghost use Rattle.fz_base.specs.Source.{LogsWithin};
 ghost use Rattle.fz_base.specs.Stop.{IfRefused, ReadsOnly};
-ghost use Rattle.fz_base.specs.declared.failure.Stop.TheVariants.{Refused};
-ghost use Rattle.fz_base.specs.declared.fault.Place.TheVariants.{Card as AtCard};
-ghost use Rattle.fz_base.specs.declared.kind.Kind.TheVariants.{BadCard};
 ghost use Rattle.fz_block.specs.Cards.{card_at};
 ghost use Rattle.fz_block.specs.Checks.{header_touched, is_set};
 ghost use Rattle.fz_grid.specs.Region.{IsDivided};
@@ -15,12 +11,13 @@ ghost use Rattle.fz_job.specs.Clauses.{IsChanged};
 ghost use Rattle.fz_pack.specs.Again.{IsAgain, ReadsAsSeen, is_larger as is_larger_of, largest_of};
 
 use crate::file::Packing;
-use fz_base::{Fault, Kind, Place, Source, Stop, log_law};
+use fz_base::{Source, Stop, log_law};
 use fz_block::{BLOCK_LEN, Header, again_law, card, header_again};
 use fz_card::Name;
 use fz_checks::plan_to_pack;
 use fz_grid::Grid;
 use fz_head::Plan;
+use fz_job::changed;
 
 /// An HDU whose header was read once more, and how it is packed, if it is.
 #[derive(Clone, Copy, Debug)]
@@ -90,15 +87,4 @@ fn begins_file(hdu: u32, buf: &[u8]) -> bool
 {
     let first = card(buf, 0);
     hdu > 0 || (first.name() == Name::SIMPLE && first.logical().unwrap_or(false))
-}
-
-/// The source gave other bytes than before.
-pub(crate) fn changed(hdu: u32) -> Stop
-    ensures { result ≡ Refused (refusal hdu (AtCard 0) BadCard) }
-{
-    Stop::Refused(Fault {
-        hdu,
-        at: Place::Card(0),
-        kind: Kind::BadCard,
-    })
 }

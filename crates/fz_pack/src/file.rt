@@ -16,12 +16,12 @@ ghost use Rattle.fz_pack.specs.Written.{AreShutOrWhole, FinishesSeen};
 ghost use Rattle.fz_job.specs.Workspace.{SpaceStays};
 ghost use Rattle.fz_job.specs.Keeps.{Rewrites};
 
-use crate::again::{changed, read_again};
+use crate::again::read_again;
 use crate::hdu::write_hdu;
 use fz_base::{Gate, Sink, Source, Stop, output_law, ranges_law, seal};
 use fz_block::{hdu_at_law, next_start};
 use fz_head::PackOptions;
-use fz_job::{Survey, Workspace};
+use fz_job::{Survey, Workspace, changed};
 use fz_pool::{Crew, Window};
 use std::thread::Threads;
 
