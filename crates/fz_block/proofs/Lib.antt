@@ -5,6 +5,7 @@ pub mod CardLists
 pub mod Ends
 pub mod Exits
 pub mod Firsts
+pub mod Fitting
 pub mod Found
 pub mod Going
 pub mod Groups

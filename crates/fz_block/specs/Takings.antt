@@ -1,4 +1,4 @@
--- The buffers that a walk over HDUs takes: each header once, handed back before the next.
+-- The headers of a walk over HDUs as takings, each with the same bytes live before it.
 use Rattle.std.specs.Prelude.{ℕ, zero, suc, ◌==◌, ◌*◌, Bool, true, false, List, [], ◌∷◌, ◌++◌, length, Result, Ok, Err, if◌then◌else◌}
 use Rattle.std.specs.Result.{result_map_both}
 use Rattle.fz_base.specs.declared.fault.Fault.{Fault}

@@ -1,6 +1,7 @@
 //! HDUs of a file: the header at a place, read and checked, and where its data and the next HDU begin.
 //!
-//! Reading order: `axes`, `header`, `cards`, `blocks`, `mandatory`, `read`, `next`, `again`, `laws`.
+//! Reading order: `axes`, `header`, `cards`, `blocks`, `mandatory`, `refusing`, `read`, `next`, `reuse`, `again`,
+//! `laws`.
 #![tactic(auto)]
 
 mod again;
@@ -13,6 +14,7 @@ mod mandatory;
 mod next;
 mod read;
 mod refusing;
+mod reuse;
 
 pub use again::header_again;
 pub use axes::Axes;
@@ -26,3 +28,4 @@ pub use laws::{
 pub use next::{ReadHeader, header_at};
 pub use read::{buffered_header, read_header};
 pub use refusing::{refuse_at, refuse_if, refused};
+pub use reuse::header_into;

@@ -16,7 +16,7 @@ use crate::header::Header;
 use crate::read::buffered_header;
 use fz_base::{Bytes, Failed, Meter, Source, Stop, log_law};
 
-/// A header that was read: its facts, and its bytes in a buffer that goes back to its meter.
+/// A header that was read: its facts, and its bytes at the front of a buffer that goes back to its meter.
 #[derive(Drop)]
 pub struct ReadHeader {
     pub facts: Header,

@@ -52,10 +52,11 @@ table_blocks : header_blocks_of 1 2880 plain_file ≡ Ok 1
 unfolding header_blocks_of end_among
 table_blocks = refl
 
-headers_take : header_takings Unpack plain_file ≡ (2880, 2880) ∷ (2880, 2880) ∷ []
+headers_take : header_takings Unpack plain_file ≡ (2880, 63360) ∷ (2880, 2880) ∷ (2880, 2880) ∷ []
 headers_take =
-    takes_on (unpack_judge plain_file) 2880 65535 0 0 plain_file first_facts 1 ((2880, 2880) ∷ []) first_blocks first_at passes_first refl
-    (takes_end (unpack_judge plain_file) 2880 65534 1 2880 plain_file table_facts 1 table_blocks table_at passes_table refl)
+    ap (λ l. (2880, 63360) ∷ l)
+    (takes_on (unpack_judge plain_file) 2880 65535 0 0 plain_file first_facts 1 ((2880, 2880) ∷ []) first_blocks first_at passes_first refl
+    (takes_end (unpack_judge plain_file) 2880 65534 1 2880 plain_file table_facts 1 table_blocks table_at passes_table refl))
 
 work_takes : work_takings (header_fault Unpack plain_file) Unpack plain_file 1 ≡ piled 2880 (job_buffers Unpack 2880 4 1)
 work_takes = ap (λ r. work_takings r Unpack plain_file 1) no_fault ∙ (λ i. piled 2880 (job_buffers Unpack (longest i) (largest i) 1))

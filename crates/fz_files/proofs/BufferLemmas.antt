@@ -16,7 +16,7 @@ use Rattle.fz_files.specs.declared.job.Job.TheVariants.{Pack, Unpack, Cut, Verif
 use Rattle.fz_base.specs.JobBuffers.{buffer_bound, slots_buffers}
 use Rattle.fz_head.specs.declared.options.PackOptions.{PackOptions}
 use Rattle.fz_files.specs.Retiled.{plain_of}
-use Rattle.fz_files.specs.Buffers.{found_len, header_len, job_buffers, longest_header, longest_plain, largest_tile, largest_plain, header_takings, work_takings, file_takings, plain_takings, drill_takings, job_bound, job_takings, IsOfFile}
+use Rattle.fz_files.specs.Buffers.{found_len, header_len, job_buffers, longest_header, longest_plain, largest_tile, largest_plain, header_takings, room_takings, work_takings, file_takings, plain_takings, drill_takings, job_bound, job_takings, IsOfFile}
 use Rattle.fz_files.specs.Drill.{drill_file, drill_options, drill_packed, drill_sieve}
 use Rattle.fz_files.specs.Laws.{AreWithinDrill}
 use Rattle.fz_files.specs.Walks.{reached_behind, reached_after, reached_from, reached_by, header_fault}
@@ -129,15 +129,26 @@ header_room : (H n W : ℕ) → 2880 + H ≤ buffer_bound H n W
 unfolding buffer_bound
 header_room H n W = omega arith
 
+-- the room for headers, before any is read
+room_within : (H n W : ℕ) → 2880 + 63360 ≤ buffer_bound H n W
+unfolding buffer_bound
+room_within H n W = omega arith
+
+look_within : (judge : Judge) (H n W most : ℕ) (file : List ℕ) → greatest (map (header_len file) (reached_from judge most 0 0 file)) ≤ H →
+    first_past (buffer_bound H n W) (room_takings judge 2880 most file) ≡ None
+look_within judge H n W most file longest =
+    one_within (buffer_bound H n W) 2880 63360 (walk_takings judge 2880 most 0 0 file) (room_within H n W)
+    (walk_within judge (buffer_bound H n W) H most 0 0 file longest (header_room H n W))
+
 headers_within : (job : Job) (file : List ℕ) (n W : ℕ) → first_past (buffer_bound (longest_header job file) n W) (header_takings job file) ≡ None
 unfolding reached_by
-headers_within (Pack o) file n W = walk_within _ _ (longest_header (Pack o) file) 65535 0 0 file (omega arith) (header_room (longest_header (Pack o) file) n W)
-headers_within Unpack file n W = walk_within _ _ (longest_header Unpack file) 65536 0 0 file (omega arith) (header_room (longest_header Unpack file) n W)
-headers_within (Cut wanted sieve) file n W = walk_within _ _ (longest_header (Cut wanted sieve) file) 65536 0 0 file (omega arith) (header_room (longest_header (Cut wanted sieve) file) n W)
-headers_within Verify file n W = walk_within _ _ (longest_header Verify file) 65536 0 0 file (omega arith) (header_room (longest_header Verify file) n W)
-headers_within ListHdus file n W = walk_within _ _ (longest_header ListHdus file) 65536 0 0 file (omega arith) (header_room (longest_header ListHdus file) n W)
+headers_within (Pack o) file n W = look_within _ (longest_header (Pack o) file) n W 65535 file (omega arith)
+headers_within Unpack file n W = look_within _ (longest_header Unpack file) n W 65536 file (omega arith)
+headers_within (Cut wanted sieve) file n W = look_within _ (longest_header (Cut wanted sieve) file) n W 65536 file (omega arith)
+headers_within Verify file n W = look_within _ (longest_header Verify file) n W 65536 file (omega arith)
+headers_within ListHdus file n W = look_within _ (longest_header ListHdus file) n W 65536 file (omega arith)
 headers_within (Drill rows) file n W = refl
-headers_within (Retile o) file n W = walk_within _ _ (longest_header (Retile o) file) 65536 0 0 file (omega arith) (header_room (longest_header (Retile o) file) n W)
+headers_within (Retile o) file n W = look_within _ (longest_header (Retile o) file) n W 65536 file (omega arith)
 
 block_room : (H n W : ℕ) → 0 + 2880 ≤ buffer_bound H n W
 unfolding buffer_bound

@@ -5,11 +5,12 @@ use Rattle.std.specs.Prelude.{ℕ, List, [], ◌∷◌}
 abbrev pub unpack_bound : ℕ
 unpack_bound = 77312
 
--- each taking with what is live before it: the block, each of both headers while the block is live, and then the longest header, the
--- translated header, the numbers and the bytes of both slots, and the copy buffer
+-- each taking with what is live before it: the block, the room for headers and each of both headers while the block is live, and then
+-- the longest header, the translated header, the numbers and the bytes of both slots, and the copy buffer
 abbrev pub unpack_takings : List (ℕ × ℕ)
 unpack_takings =
     (0, 2880)
+    ∷ (2880, 63360)
     ∷ (2880, 2880)
     ∷ (2880, 2880)
     ∷ (2880, 2880)

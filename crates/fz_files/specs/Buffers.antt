@@ -1,11 +1,11 @@
--- The buffers of a job and their bound. All are taken from one meter: one block; each header in turn while the block is live; and
+-- The buffers of a job and their bound. All are taken from one meter: one block; room for the headers while the block is live; and
 -- then, at once and before anything is written, what the work takes.
 use Rattle.std.specs.Prelude.{ℕ, ◌≡◌, ◌*◌, max, true, false, List, [], ◌∷◌, ◌++◌, map, Option, Some, None, Result, Ok, Err, ⊤}
 use Rattle.std.specs.List.{filter}
 use Rattle.fz_base.specs.JobBuffers.{buffer_bound}
 use Rattle.fz_base.specs.Takings.{piled, first_past}
 use Rattle.fz_base.specs.declared.fault.Fault.{Fault}
-use Rattle.fz_block.specs.Checks.{header_blocks_of}
+use Rattle.fz_block.specs.Checks.{Judge, header_blocks_of}
 use Rattle.fz_block.specs.Takings.{walk_takings}
 use Rattle.fz_block.specs.declared.header.Header.{Header}
 use Rattle.fz_checks.specs.Greatest.{greatest}
@@ -107,15 +107,21 @@ job_buffers ListHdus H n W = work_buffers H false None W
 job_buffers (Drill rows) H n W = []
 job_buffers (Retile o) H n W = []
 
--- the headers, one at a time while one block is live
+-- A look first takes room for 22 blocks, with so many bytes live before. Each header is read into the room. The room goes back before a
+-- longer header is taken in its place, which is then the room. The list has every header, also those that fit and take nothing: such a
+-- header is no longer than a taking before it, so it changes neither the first taking past a limit nor the greatest sum.
+abbrev pub room_takings : Judge → ℕ → ℕ → List ℕ → List (ℕ × ℕ)
+room_takings judge live most file = (live, 63360) ∷ walk_takings judge live most 0 0 file
+
+-- the headers, while one block is live
 abbrev pub header_takings : Job → List ℕ → List (ℕ × ℕ)
-header_takings (Pack o) file = walk_takings (pack_judge o file) 2880 65535 0 0 file
-header_takings Unpack file = walk_takings (unpack_judge file) 2880 65536 0 0 file
-header_takings (Cut wanted sieve) file = walk_takings (cut_judge wanted (box_of sieve) file) 2880 65536 0 0 file
-header_takings Verify file = walk_takings (unpack_judge file) 2880 65536 0 0 file
-header_takings ListHdus file = walk_takings (unpack_judge file) 2880 65536 0 0 file
+header_takings (Pack o) file = room_takings (pack_judge o file) 2880 65535 file
+header_takings Unpack file = room_takings (unpack_judge file) 2880 65536 file
+header_takings (Cut wanted sieve) file = room_takings (cut_judge wanted (box_of sieve) file) 2880 65536 file
+header_takings Verify file = room_takings (unpack_judge file) 2880 65536 file
+header_takings ListHdus file = room_takings (unpack_judge file) 2880 65536 file
 header_takings (Drill rows) file = []
-header_takings (Retile o) file = walk_takings (unpack_judge file) 2880 65536 0 0 file
+header_takings (Retile o) file = room_takings (unpack_judge file) 2880 65536 file
 
 -- the work of a job is taken if no header is refused
 abbrev pub work_takings : Option Fault → Job → List ℕ → ℕ → List (ℕ × ℕ)

@@ -1,17 +1,15 @@
 -- One HDU: what the checks of every job and then those of a job say together.
-use Rattle.std.proofs.Common.{◌≡◌, ℕ, ◌+◌, ◌*◌, ◌/◌, ◌==◌, max, Bool, List, [], ◌∷◌, length, IfSome, refl, sym, ap, ◌∙◌, subst, arith}
+use Rattle.std.proofs.Common.{◌≡◌, ℕ, ◌==◌, Bool, List, [], ◌∷◌, IfSome, refl, sym, ap, ◌∙◌, subst, arith}
 use Rattle.std.specs.Prelude.{◌&&◌, Contains, Option, Some, None, Result, Ok, Err}
 use Rattle.std.specs.Result.{result_map_both}
 use Rattle.fz_base.specs.Counts.{Tally}
 use Rattle.fz_base.specs.Source.{LogsOnly, LogsWithin}
 use Rattle.fz_base.specs.Stop.{IsDefined, StoppedReading, TellsLimit}
-use Rattle.fz_base.specs.Takings.{first_past, highest, TellsFirstPast}
+use Rattle.fz_base.specs.Takings.{first_past, TellsFirstPast}
 use Rattle.fz_base.specs.declared.fault.Fault.{Fault}
 use Rattle.fz_base.specs.declared.failure.Stop.{Stop}
 use Rattle.fz_base.specs.declared.failure.Stop.TheVariants.{Refused, ReadFault, WriteFault, OverLimit, NoMemory}
-use Rattle.fz_block.specs.Checks.{hdu_at, header_blocks_of, header_touched}
-use Rattle.fz_block.specs.Facts.{IsHeaderOf}
-use Rattle.fz_block.specs.Takings.{header_taking}
+use Rattle.fz_block.specs.Checks.{hdu_at, header_touched}
 use Rattle.fz_block.specs.declared.header.Header.{Header}
 use Rattle.fz_block.specs.Hdus.{size_at}
 use Rattle.fz_checks.specs.JobChecks.{is_after_empty}
@@ -67,20 +65,6 @@ limit_told X Y limit most ReadFault tells = tt
 limit_told X Y limit most WriteFault tells = tt
 limit_told X Y limit most (OverLimit live asked told) tells = tells
 limit_told X Y limit most NoMemory tells = tt
-
--- the blocks of a header that was found are those that were searched for, which is a law of the headers
-abbrev pub BlocksLaw : Type 0
-BlocksLaw = (k start : ℕ) (file : List ℕ) (h : Header) → hdu_at k start file ≡ Ok h → header_blocks_of k start file ≡ Ok h.blocks
-
--- a header that was read is the one taking
-pub own_peak : BlocksLaw → (held : Option (List ℕ)) (k start live old new : ℕ) (buf : List ℕ) (h : Header) → IsHeaderOf buf h → IfSome held (λ g. hdu_at k start g ≡ Ok h) → new ≡ max old (live + length buf) →
-    IfSome held (λ g. new ≡ max old (highest (header_taking live (header_blocks_of k start g))))
-own_peak blocks None k start live old new buf h is at took = tt
-own_peak blocks (Some g) k start live old new buf h is at took =
-    let many : length buf ≡ 2880 * (is.whole.before + 1) = is.whole.blocks in
-    let same : h.blocks ≡ length buf / 2880 = ap (λ (x : Header). x.blocks) is.facts in
-    let one : highest (header_taking live (header_blocks_of k start g)) ≡ max (live + 2880 * h.blocks) 0 = ap (λ r. highest (header_taking live r)) (blocks k start g h at) in
-    omega (arith, took, many, same, one)
 
 -- what was read of the header, and then of the fill
 first_place : (p : ℕ × ℕ) (places : List (ℕ × ℕ)) → Contains (p ∷ places) p

@@ -4,11 +4,10 @@ use Rattle.std.specs.Prelude.{Option, sum}
 use Rattle.fz_base.specs.Takings.{piled}
 use Rattle.fz_base.specs.declared.fault.Fault.{Fault}
 use Rattle.fz_block.specs.Checks.{Judge}
-use Rattle.fz_block.specs.Takings.{walk_takings}
 use Rattle.fz_checks.specs.Judges.{pack_judge, unpack_judge, cut_judge}
 use Rattle.fz_head.specs.declared.options.PackOptions.{PackOptions}
 use Rattle.fz_grid.specs.declared.sieve.Sieve.{Sieve}
-use Rattle.fz_files.specs.Buffers.{IsOfFile, file_takings, header_takings, job_bound, job_buffers, job_takings, largest_tile, longest_header, work_takings, workers_of}
+use Rattle.fz_files.specs.Buffers.{IsOfFile, file_takings, header_takings, job_bound, job_buffers, job_takings, largest_tile, longest_header, room_takings, work_takings, workers_of}
 use Rattle.fz_files.specs.Walks.{box_of, header_fault}
 use Rattle.fz_files.specs.declared.job.Job.{Job}
 use Rattle.fz_files.specs.declared.job.Job.TheVariants.{Pack, Unpack, Cut, Verify, List as ListHdus, Drill, Retile}
@@ -65,17 +64,17 @@ cut_checks : (wanted : Option ℕ) (sieve : Sieve) (file : List ℕ) → judge_o
 unfolding judge_of
 cut_checks wanted sieve file = refl
 
-as_unpack : (checks : JobChecks) (file : List ℕ) (live : ℕ) → checks ≡ UnpackChecks → live ≡ 2880 → survey_takings checks live file ≡ walk_takings (unpack_judge file) 2880 65536 0 0 file
+as_unpack : (checks : JobChecks) (file : List ℕ) (live : ℕ) → checks ≡ UnpackChecks → live ≡ 2880 → survey_takings checks live file ≡ room_takings (unpack_judge file) 2880 65536 file
 as_unpack checks file live makes one =
-    (λ i. survey_takings (makes i) (one i) file) ∙ ap (λ (j : Judge). walk_takings j 2880 65536 0 0 file) (unpack_checks file)
+    (λ i. survey_takings (makes i) (one i) file) ∙ ap (λ (j : Judge). room_takings j 2880 65536 file) (unpack_checks file)
 
 -- the look takes the headers of the job
 pub takings_of_headers : (job : Job) (checks : JobChecks) (file : List ℕ) (live : ℕ) → MakesChecks job checks → live ≡ 2880 → survey_takings checks live file ≡ header_takings job file
 takings_of_headers (Pack o) checks file live makes one =
-    (λ i. survey_takings (makes i) (one i) file) ∙ ap (λ (j : Judge). walk_takings j 2880 65535 0 0 file) (pack_checks o file)
+    (λ i. survey_takings (makes i) (one i) file) ∙ ap (λ (j : Judge). room_takings j 2880 65535 file) (pack_checks o file)
 takings_of_headers Unpack checks file live makes one = as_unpack checks file live makes one
 takings_of_headers (Cut wanted sieve) checks file live makes one =
-    (λ i. survey_takings (makes i) (one i) file) ∙ ap (λ (j : Judge). walk_takings j 2880 65536 0 0 file) (cut_checks wanted sieve file)
+    (λ i. survey_takings (makes i) (one i) file) ∙ ap (λ (j : Judge). room_takings j 2880 65536 file) (cut_checks wanted sieve file)
 takings_of_headers Verify checks file live makes one = as_unpack checks file live makes one
 takings_of_headers ListHdus checks file live makes one = as_unpack checks file live makes one
 takings_of_headers (Drill rows) checks file live makes one = absurd makes

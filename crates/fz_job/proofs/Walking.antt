@@ -23,7 +23,7 @@ use Rattle.fz_block.specs.declared.header.Header.{Header}
 use Rattle.fz_job.specs.Judges.{judge_of, most_hdus}
 use Rattle.fz_job.specs.Looks.{joined, looked}
 use Rattle.fz_job.specs.SurveyReads.{IsWithinOne}
-use Rattle.fz_job.specs.Surveys.{headers_seen, hdu_places, places_from, survey_of, survey_places, survey_takings, surveyed}
+use Rattle.fz_job.specs.Surveys.{headers_seen, hdu_places, places_from, headers_taken, survey_of, survey_places, surveyed}
 use Rattle.fz_job.specs.declared.checks.JobChecks.{JobChecks}
 use Rattle.fz_job.specs.declared.look.Looked.{Looked}
 use Rattle.fz_job.specs.declared.survey.Survey.{Survey}
@@ -44,8 +44,8 @@ pub record IsAt (b : Begun) (k start peak : ℕ) (ranges : Option (List (ℕ × 
   pub count : k + left ≡ most_hdus b.checks
   pub learnt : survey_of b.checks g before ≡ seen
   pub walk : headers_seen b.checks g ≡ with_those before (walk_from (judge_of b.checks g) left k start g)
-  pub past : first_past b.limit (survey_takings b.checks b.live g) ≡ first_past b.limit (walk_takings (judge_of b.checks g) b.live left k start g)
-  pub peaks : max peak (highest (walk_takings (judge_of b.checks g) b.live left k start g)) ≡ max b.peak (highest (survey_takings b.checks b.live g))
+  pub past : first_past b.limit (headers_taken b.checks b.live g) ≡ first_past b.limit (walk_takings (judge_of b.checks g) b.live left k start g)
+  pub peaks : max peak (highest (walk_takings (judge_of b.checks g) b.live left k start g)) ≡ max b.peak (highest (headers_taken b.checks b.live g))
   pub places : (r : ℕ × ℕ) → IsWithinOne (places_from b.checks left k start g) r → IsWithinOne (survey_places b.checks g) r
   pub logs : LogsOnly (IsWithinOne (survey_places b.checks g)) b.ranges ranges
 
@@ -113,7 +113,7 @@ module _ (b : Begun) (k start peak : ℕ) (ranges : Option (List (ℕ × ℕ))) 
   touched_more (Some g) new at few logs = logs_more g new at few logs
 
   pub peak_more : (held : Option (List ℕ)) (new : ℕ) → IfSome held (IsAt b k start peak ranges seen) → k < most_hdus b.checks →
-      IfSome held (λ g. new ≤ max peak (highest (own_taking b k start g))) → IfSome held (λ g. new ≤ max b.peak (highest (survey_takings b.checks b.live g)))
+      IfSome held (λ g. new ≤ max peak (highest (own_taking b k start g))) → IfSome held (λ g. new ≤ max b.peak (highest (headers_taken b.checks b.live g)))
   peak_more None new at few low = tt
   peak_more (Some g) new at few low =
       let more = one_left b k at.left at.count few in
@@ -142,7 +142,7 @@ module _ (b : Begun) (k start peak : ℕ) (ranges : Option (List (ℕ × ℕ))) 
 
   -- with nothing after it, its own taking is the last one
   past_here : PastSecondLaw → (g : List ℕ) (at : IsAt b k start peak ranges seen g) (m : ℕ) → at.left ≡ suc m → for_those_after g (judge_of b.checks g) (rest_takings b m k g) (hdu_at k start g) ≡ [] →
-      first_past b.limit (own_taking b k start g) ≡ None → first_past b.limit (survey_takings b.checks b.live g) ≡ None
+      first_past b.limit (own_taking b k start g) ≡ None → first_past b.limit (headers_taken b.checks b.live g) ≡ None
   past_here past_second g at m one none fits =
       at.past ∙ ap (λ n. first_past b.limit (walk_takings (judge_of b.checks g) b.live n k start g)) one ∙ ap (first_past b.limit) (takings_apart b m k start g)
       ∙ past_second b.limit (own_taking b k start g) (for_those_after g (judge_of b.checks g) (rest_takings b m k g) (hdu_at k start g)) fits
@@ -150,7 +150,7 @@ module _ (b : Begun) (k start peak : ℕ) (ranges : Option (List (ℕ × ℕ))) 
 
   pub past_stops : PastFirstLaw → PastSecondLaw → (held : Option (List ℕ)) (stop : Stop) (before now : Tally) → IfSome held (IsAt b k start peak ranges seen) → k < most_hdus b.checks → StoppedTaking before now b.limit stop →
       IfSome held (λ g. IsDefined {X = Looked} (looked b.checks k start g) (Err stop)) → IfSome held (λ g. TellsFirstPast {X = Looked} b.limit (own_taking b k start g) (Err stop)) →
-      IfSome held (λ g. TellsFirstPast {X = Survey} b.limit (survey_takings b.checks b.live g) (Err stop))
+      IfSome held (λ g. TellsFirstPast {X = Survey} b.limit (headers_taken b.checks b.live g) (Err stop))
   past_stops past_first past_second None stop before now at few cause is told = tt
   past_stops past_first past_second (Some g) (Refused x) before now at few cause is told =
       let more = one_left b k at.left at.count few in
@@ -180,7 +180,7 @@ module _ (b : Begun) (k start peak : ℕ) (ranges : Option (List (ℕ × ℕ))) 
 
   pub past_ends : PastSecondLaw → (held : Option (List ℕ)) (len : ℕ) (x : Looked) → HoldsLength held len → IfSome held (IsAt b k start peak ranges seen) → k < most_hdus b.checks →
       IfSome held (λ g. looked b.checks k start g ≡ Ok x) → (x.look.stop || next_start_of x.header == len) ≡ true → IfSome held (λ g. first_past b.limit (own_taking b k start g) ≡ None) →
-      IfSome held (λ g. first_past b.limit (survey_takings b.checks b.live g) ≡ None)
+      IfSome held (λ g. first_past b.limit (headers_taken b.checks b.live g) ≡ None)
   past_ends past_second None len x told at few is last fits = tt
   past_ends past_second (Some g) len x told at few is last fits =
       let more = one_left b k at.left at.count few in
@@ -190,7 +190,7 @@ module _ (b : Begun) (k start peak : ℕ) (ranges : Option (List (ℕ × ℕ))) 
 
   pub peak_ends : (held : Option (List ℕ)) (len : ℕ) (x : Looked) (new : ℕ) → HoldsLength held len → IfSome held (IsAt b k start peak ranges seen) → k < most_hdus b.checks →
       IfSome held (λ g. looked b.checks k start g ≡ Ok x) → (x.look.stop || next_start_of x.header == len) ≡ true → IfSome held (λ g. new ≡ max peak (highest (own_taking b k start g))) →
-      IfSome held (λ g. new ≡ max b.peak (highest (survey_takings b.checks b.live g)))
+      IfSome held (λ g. new ≡ max b.peak (highest (headers_taken b.checks b.live g)))
   peak_ends None len x new told at few is last reached = tt
   peak_ends (Some g) len x new told at few is last reached =
       let more = one_left b k at.left at.count few in
@@ -247,12 +247,12 @@ module _ (b : Begun) (k start peak : ℕ) (ranges : Option (List (ℕ × ℕ))) 
   exact_too_long (Some g) at all =
       walk_is g (Err (refusal k (Byte start) Limit)) at (ap (λ n. walk_from (judge_of b.checks g) n k start g) (none_left b k at.left at.count all))
 
-  pub past_too_long : (held : Option (List ℕ)) → IfSome held (IsAt b k start peak ranges seen) → k ≡ most_hdus b.checks → IfSome held (λ g. first_past b.limit (survey_takings b.checks b.live g) ≡ None)
+  pub past_too_long : (held : Option (List ℕ)) → IfSome held (IsAt b k start peak ranges seen) → k ≡ most_hdus b.checks → IfSome held (λ g. first_past b.limit (headers_taken b.checks b.live g) ≡ None)
   unfolding walk_takings
   past_too_long None at all = tt
   past_too_long (Some g) at all = at.past ∙ ap (λ n. first_past b.limit (walk_takings (judge_of b.checks g) b.live n k start g)) (none_left b k at.left at.count all)
 
-  pub peak_so_far : (held : Option (List ℕ)) → IfSome held (IsAt b k start peak ranges seen) → IfSome held (λ g. peak ≤ max b.peak (highest (survey_takings b.checks b.live g)))
+  pub peak_so_far : (held : Option (List ℕ)) → IfSome held (IsAt b k start peak ranges seen) → IfSome held (λ g. peak ≤ max b.peak (highest (headers_taken b.checks b.live g)))
   peak_so_far None at = tt
   peak_so_far (Some g) at = omega (arith, at.peaks)
 

@@ -2,6 +2,7 @@
 use Rattle.std.specs.Prelude.{ℕ, ◌+◌, ◌<◌, ◌≤◌, ◌^◌, max, Bool, true, false, List, Option, Some, None, Result, Ok, Err, if◌then◌else◌}
 use Rattle.std.specs.Result.{result_map_both}
 use Rattle.fz_base.specs.declared.fault.Fault.{Fault}
+use Rattle.fz_base.specs.declared.failure.Stop.{Stop}
 use Rattle.fz_block.specs.Checks.{hdu_at}
 use Rattle.fz_block.specs.Header.{next_start_of}
 use Rattle.fz_grid.specs.declared.region.Region.{Region}
@@ -18,6 +19,7 @@ use Rattle.fz_job.specs.declared.checks.JobChecks.{JobChecks}
 use Rattle.fz_job.specs.declared.checks.JobChecks.TheVariants.{Pack, Unpack, Cut, Amend, Every}
 use Rattle.fz_job.specs.declared.look.Look.{Look}
 use Rattle.fz_job.specs.declared.look.Looked.{Looked}
+use Rattle.fz_job.specs.declared.survey.LookedAt.{LookedAt}
 use Rattle.fz_job.specs.declared.survey.Survey.{Survey}
 
 -- an HDU with tiles of so many pixels, which is a packed primary or not
@@ -99,3 +101,7 @@ joined s x = record {
 
 abbrev pub looked : JobChecks → ℕ → ℕ → List ℕ → Result Looked Fault
 looked checks k start file = looked_by checks file (hdu_at k start file)
+
+-- what was learnt of an HDU, without the room for the next header
+abbrev pub found_in : Result LookedAt Stop → Result Looked Stop
+found_in answer = result_map_both (λ (x : LookedAt). x.found) (λ x. x) answer

@@ -13,7 +13,7 @@ use Rattle.fz_job.specs.declared.checks.JobChecks.TheVariants.{Pack as PackCheck
 use Rattle.fz_job.specs.declared.survey.Survey.{Survey}
 use Rattle.fz_job.specs.declared.workspace.Wants.{Wants}
 
--- what is taken after the first block: each header in turn, and then what the work takes
+-- what is taken after the first block: room for the headers, and then what the work takes
 abbrev pub later_takings : Job → List ℕ → ℕ → List (ℕ × ℕ)
 later_takings job file W = header_takings job file ++ work_takings (header_fault job file) job file W
 

@@ -2,20 +2,20 @@
 use Rattle.std.specs.Prelude.{ℕ, ◌≡◌, List, Option}
 use Rattle.std.specs.Result.{result_map_both}
 use Rattle.fz_block.specs.Checks.{Judge, unjudged, walk_of}
-use Rattle.fz_block.specs.Takings.{walk_takings}
 use Rattle.fz_grid.specs.declared.region.Region.{Region}
 use Rattle.fz_checks.specs.Judges.{pack_judge, unpack_judge, cut_judge, amend_judge}
 use Rattle.fz_head.specs.declared.options.PackOptions.{PackOptions}
+use Rattle.fz_files.specs.Buffers.{room_takings}
 use Rattle.fz_job.specs.Surveys.{headers_seen, survey_of, surveyed, survey_takings}
 use Rattle.fz_job.specs.declared.checks.JobChecks.{JobChecks}
 use Rattle.fz_job.specs.declared.checks.JobChecks.TheVariants.{Pack, Unpack, Cut, Amend, Every}
 
 -- The look with these checks goes over the headers that this judge goes over, of which there may be so many: those are the headers
--- that it sees, it learns what is learnt of them, and it takes each of them once.
+-- that it sees, it learns what is learnt of them, and it takes room for them.
 pub record LooksOver (checks : JobChecks) (judge : List ℕ → Judge) (most : ℕ) : Type 0 where
   pub seen : (file : List ℕ) → headers_seen checks file ≡ walk_of (judge file) most file
   pub learnt : (file : List ℕ) → surveyed checks file ≡ result_map_both (survey_of checks file) (λ x. x) (walk_of (judge file) most file)
-  pub takings : (live : ℕ) (file : List ℕ) → survey_takings checks live file ≡ walk_takings (judge file) live most 0 0 file
+  pub takings : (live : ℕ) (file : List ℕ) → survey_takings checks live file ≡ room_takings (judge file) live most file
 
 -- the look of each job goes over the headers that the job looks at; a file that is packed has room for an empty primary
 abbrev pub PackLooksOver : Type 0

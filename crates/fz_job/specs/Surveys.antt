@@ -17,6 +17,7 @@ use Rattle.fz_head.specs.Packable.{is_packable, is_packed}
 use Rattle.fz_head.specs.PackedPlan.{plan_of_cards}
 use Rattle.fz_head.specs.Planned.{pack_plan_of}
 use Rattle.fz_checks.specs.WorkBuffers.{pixels_of_tile}
+use Rattle.fz_files.specs.Buffers.{room_takings}
 use Rattle.fz_job.specs.Judges.{judge_of, most_hdus}
 use Rattle.fz_job.specs.declared.checks.JobChecks.{JobChecks}
 use Rattle.fz_job.specs.declared.checks.JobChecks.TheVariants.{Pack, Unpack, Cut, Amend, Every}
@@ -116,9 +117,13 @@ pub record IsSurvey (checks : JobChecks) (len : ℕ) (s : Survey) : Type 0 where
 
 -- ---- what it takes, and what it reads
 
--- each header once, and handed back before the next, with so many bytes live before each
+-- every header of the walk, as a taking with so many bytes live before it
+abbrev pub headers_taken : JobChecks → ℕ → List ℕ → List (ℕ × ℕ)
+headers_taken checks live file = walk_takings (judge_of checks file) live (most_hdus checks) 0 0 file
+
+-- first the room for them
 abbrev pub survey_takings : JobChecks → ℕ → List ℕ → List (ℕ × ℕ)
-survey_takings checks live file = walk_takings (judge_of checks file) live (most_hdus checks) 0 0 file
+survey_takings checks live file = room_takings (judge_of checks file) live (most_hdus checks) file
 
 -- whether the fill after the data is looked at: that of an image that is packed is
 abbrev pub looks_at_fill : JobChecks → Header → Bool

@@ -14,7 +14,7 @@ use Rattle.fz_block.specs.declared.header.Header.{Header}
 use Rattle.fz_checks.specs.Greatest.{greatest}
 use Rattle.fz_checks.specs.JobChecks.{missing_hdu}
 use Rattle.fz_checks.specs.WorkBuffers.{pixels_of_tile}
-use Rattle.fz_files.specs.Buffers.{found_len, header_len}
+use Rattle.fz_files.specs.Buffers.{found_len, header_len, room_takings}
 use Rattle.fz_files.specs.Restored.{plan_in}
 use Rattle.fz_files.specs.Walks.{reached_after, reached_behind, reached_from}
 use Rattle.fz_laws.specs.PatchBuffers.{given_len, given_len_after, given_len_by, given_takings, kept_live, longest_read, patch_bound, patch_takings, second_takings, target_takings, target_tile, tile_takings}
@@ -189,6 +189,16 @@ block_room : (L n : ℕ) → 0 + 2880 ≤ buffer_bound L n 1
 unfolding buffer_bound
 block_room L n = omega arith
 
+-- the room for headers, before any is read
+first_room : (L n : ℕ) → 2880 + 63360 ≤ buffer_bound L n 1
+unfolding buffer_bound
+first_room L n = omega arith
+
+look_within : (judge : Judge) (L n : ℕ) (file : List ℕ) → longest_from 65536 0 0 file ≤ L → first_past (buffer_bound L n 1) (room_takings judge 2880 65536 file) ≡ None
+look_within judge L n file most =
+    one_within (buffer_bound L n 1) 2880 63360 (walk_takings judge 2880 65536 0 0 file) (first_room L n)
+    (walk_within judge (buffer_bound L n 1) L 65536 0 0 file most (one_room L n))
+
 module _ (law : FoundBlocks) (file patch : List ℕ) (job : PatchJob) where
   target_is : (hs : List Header) (h : Header) → headers_of 65536 file ≡ Ok hs → wanted_image job.wanted file ≡ Ok h → first_refusal (target_checks file patch h job) ≡ None →
       patch_target file patch job ≡ Ok h
@@ -229,9 +239,8 @@ module _ (law : FoundBlocks) (file patch : List ℕ) (job : PatchJob) where
       given_len_after file patch job r ≤ longest_read file patch job → first_past (patch_bound file patch job) (second_takings file patch job r) ≡ None
   second most (Err x) all len = refl
   second most (Ok hs) all len =
-      both_within (patch_bound file patch job) (walk_takings (find_judge job.wanted file) 2880 65536 0 0 file) (target_takings file patch job (wanted_image job.wanted file))
-      (walk_within (find_judge job.wanted file) (patch_bound file patch job) (longest_read file patch job) 65536 0 0 file most
-      (one_room (longest_read file patch job) (target_tile file (patch_target file patch job))))
+      both_within (patch_bound file patch job) (room_takings (find_judge job.wanted file) 2880 65536 file) (target_takings file patch job (wanted_image job.wanted file))
+      (look_within (find_judge job.wanted file) (longest_read file patch job) (target_tile file (patch_target file patch job)) file most)
       (target hs all most (wanted_image job.wanted file) refl len)
 
   pub bounded : first_past (patch_bound file patch job) (patch_takings file patch job) ≡ None
@@ -240,10 +249,10 @@ module _ (law : FoundBlocks) (file patch : List ℕ) (job : PatchJob) where
       let given_most : ℕ = given_len_after file patch job (headers_of 65536 file) in
       let most : longest_from 65536 0 0 file ≤ longest_read file patch job = first_below (longest_from 65536 0 0 file) given_most (longest_read file patch job) (omega arith) in
       let len : given_most ≤ longest_read file patch job = second_below (longest_from 65536 0 0 file) given_most (longest_read file patch job) (omega arith) in
-      one_within (patch_bound file patch job) 0 2880 (walk_takings unjudged 2880 65536 0 0 file ++ second_takings file patch job (headers_of 65536 file))
+      one_within (patch_bound file patch job) 0 2880 (room_takings unjudged 2880 65536 file ++ second_takings file patch job (headers_of 65536 file))
       (block_room (longest_read file patch job) (target_tile file (patch_target file patch job)))
-      (both_within (patch_bound file patch job) (walk_takings unjudged 2880 65536 0 0 file) (second_takings file patch job (headers_of 65536 file))
-      (walk_within unjudged (patch_bound file patch job) (longest_read file patch job) 65536 0 0 file most (one_room (longest_read file patch job) (target_tile file (patch_target file patch job))))
+      (both_within (patch_bound file patch job) (room_takings unjudged 2880 65536 file) (second_takings file patch job (headers_of 65536 file))
+      (look_within unjudged (longest_read file patch job) (target_tile file (patch_target file patch job)) file most)
       (second most (headers_of 65536 file) refl len))
 
 pub patch_is_bounded : FoundBlocks → PatchIsBounded

@@ -1,4 +1,4 @@
--- The buffers of a patch and their bound. All are taken from one meter: one block; each header of the file in turn while the block is live,
+-- The buffers of a patch and their bound. All are taken from one meter: one block; room for the headers of the file while the block is live,
 -- once for the checks of every job and once more up to the wanted HDU; the header of that HDU, which is kept; that of the given image while
 -- both are live; and then, at once and before anything is written, what the work on tiles takes.
 use Rattle.std.specs.Prelude.{ℕ, ◌+◌, ◌*◌, max, false, List, [], ◌∷◌, ◌++◌, map, Option, Some, None, Result, Ok, Err}
@@ -7,11 +7,11 @@ use Rattle.fz_base.specs.Refusal.{first_refusal}
 use Rattle.fz_base.specs.Takings.{piled}
 use Rattle.fz_base.specs.declared.fault.Fault.{Fault}
 use Rattle.fz_block.specs.Checks.{header_blocks_of, headers_of, unjudged}
-use Rattle.fz_block.specs.Takings.{header_taking, walk_takings}
+use Rattle.fz_block.specs.Takings.{header_taking}
 use Rattle.fz_block.specs.declared.header.Header.{Header}
 use Rattle.fz_checks.specs.Greatest.{greatest}
 use Rattle.fz_checks.specs.WorkBuffers.{pixels_of_tile, work_buffers}
-use Rattle.fz_files.specs.Buffers.{found_len, header_len}
+use Rattle.fz_files.specs.Buffers.{found_len, header_len, room_takings}
 use Rattle.fz_files.specs.Restored.{plan_in}
 use Rattle.fz_files.specs.Walks.{reached_from}
 use Rattle.fz_laws.specs.PatchChecks.{find_judge, own_checks, patch_target, target_checks, wanted_image}
@@ -41,11 +41,11 @@ target_takings file patch job (Ok h) = (2880, 2880 * h.blocks) ∷ given_takings
 abbrev pub second_takings : List ℕ → List ℕ → PatchJob → Result (List Header) Fault → List (ℕ × ℕ)
 second_takings file patch job (Err fault) = []
 second_takings file patch job (Ok hs) =
-    walk_takings (find_judge job.wanted file) 2880 65536 0 0 file ++ target_takings file patch job (wanted_image job.wanted file)
+    room_takings (find_judge job.wanted file) 2880 65536 file ++ target_takings file patch job (wanted_image job.wanted file)
 
 unfoldable pub patch_takings : List ℕ → List ℕ → PatchJob → List (ℕ × ℕ)
 patch_takings file patch job =
-    (0, 2880) ∷ (walk_takings unjudged 2880 65536 0 0 file ++ second_takings file patch job (headers_of 65536 file))
+    (0, 2880) ∷ (room_takings unjudged 2880 65536 file ++ second_takings file patch job (headers_of 65536 file))
 
 -- ---- the bound
 

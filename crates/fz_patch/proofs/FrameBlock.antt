@@ -13,10 +13,11 @@ use Rattle.fz_base.specs.declared.kind.Kind.TheVariants.{BadCard}
 use Rattle.fz_base.specs.declared.failure.Stop.{Stop}
 use Rattle.fz_base.specs.declared.failure.Stop.TheVariants.{Refused, ReadFault, WriteFault, OverLimit, NoMemory}
 use Rattle.fz_block.specs.Checks.{hdu_at, header_blocks_of, headers_of, unjudged, walk_of}
-use Rattle.fz_block.specs.Takings.{header_taking, walk_takings}
+use Rattle.fz_block.specs.Takings.{header_taking}
 use Rattle.fz_block.specs.declared.header.Header.{Header}
 use Rattle.fz_block.specs.declared.next.ReadHeader.{ReadHeader}
 use Rattle.fz_files.specs.Restored.{header_in}
+use Rattle.fz_files.specs.Buffers.{room_takings}
 use Rattle.fz_job.specs.Clauses.{IfOverLimit, IsChanged, IsOfSomeRow}
 use Rattle.fz_job.specs.SurveyLaws.{AmendLooksOver, EveryLooksOver}
 use Rattle.fz_job.specs.Surveys.{amend_surveyed, survey_of, survey_takings, surveyed}
@@ -111,16 +112,24 @@ every_told X looks job held given NoMemory defined = tt
 
 -- the takings of the two looks
 abbrev pub first_look : List ℕ → List (ℕ × ℕ)
-first_look file = walk_takings unjudged 2880 65536 0 0 file
+first_look file = room_takings unjudged 2880 65536 file
 
 abbrev pub second_look : Option ℕ → List ℕ → List (ℕ × ℕ)
-second_look wanted file = walk_takings (find_judge wanted file) 2880 65536 0 0 file
+second_look wanted file = room_takings (find_judge wanted file) 2880 65536 file
 
-pub every_takings : EveryLooksOver → (live : ℕ) (file : List ℕ) → live ≡ 2880 → survey_takings Every live file ≡ walk_takings unjudged 2880 65536 0 0 file
-every_takings looks live file one = looks.takings live file ∙ ap (λ n. walk_takings unjudged n 65536 0 0 file) one
+pub every_takings : EveryLooksOver → (live : ℕ) (file : List ℕ) → live ≡ 2880 → survey_takings Every live file ≡ room_takings unjudged 2880 65536 file
+every_takings looks live file one = looks.takings live file ∙ ap (λ n. room_takings unjudged n 65536 file) one
 
-pub amend_takings : AmendLooksOver → (wanted : Option ℕ) (live : ℕ) (file : List ℕ) → live ≡ 2880 → survey_takings (AmendLook wanted) live file ≡ walk_takings (find_judge wanted file) 2880 65536 0 0 file
-amend_takings looks wanted live file one = (looks wanted).takings live file ∙ ap (λ n. walk_takings (find_judge wanted file) n 65536 0 0 file) one
+pub amend_takings : AmendLooksOver → (wanted : Option ℕ) (live : ℕ) (file : List ℕ) → live ≡ 2880 → survey_takings (AmendLook wanted) live file ≡ room_takings (find_judge wanted file) 2880 65536 file
+amend_takings looks wanted live file one = (looks wanted).takings live file ∙ ap (λ n. room_takings (find_judge wanted file) n 65536 file) one
+
+-- what the second look says of its own meter and source is said of those of the call
+pub same_past : (wanted : Option ℕ) (limit limit' live live' : ℕ) (held held' : Option (List ℕ)) → held' ≡ held → limit' ≡ limit → live' ≡ live →
+    IfSome held' (λ f. first_past limit' (survey_takings (AmendLook wanted) live' f) ≡ None) → IfSome held (λ f. first_past limit (survey_takings (AmendLook wanted) live f) ≡ None)
+same_past wanted limit limit' live live' held held' same_held same_limit same_live none =
+    subst (λ (h : Option (List ℕ)). IfSome h (λ f. first_past limit (survey_takings (AmendLook wanted) live f) ≡ None)) same_held
+    (subst (λ (n : ℕ). IfSome held' (λ f. first_past limit (survey_takings (AmendLook wanted) n f) ≡ None)) same_live
+    (subst (λ (n : ℕ). IfSome held' (λ f. first_past n (survey_takings (AmendLook wanted) live' f) ≡ None)) same_limit none))
 
 every_empty : (Y : Type 0) → EveryLooksOver → (file patch : List ℕ) (job : PatchJob) (stop : Stop) → IsDefined {X = Survey} (surveyed Every file) (Err stop) →
     IfRefused {X = Y} (Err stop) (λ x. second_takings file patch job (headers_of 65536 file) ≡ [])

@@ -8,8 +8,8 @@ use Rattle.fz_base.specs.Takings.{TellsFirstPast, first_past}
 use Rattle.fz_base.specs.declared.failure.Stop.{Stop}
 use Rattle.fz_base.specs.declared.failure.Stop.TheVariants.{Refused, ReadFault, WriteFault, OverLimit, NoMemory}
 use Rattle.fz_block.specs.Checks.{headers_of, unjudged}
-use Rattle.fz_block.specs.Takings.{walk_takings}
 use Rattle.fz_block.specs.declared.header.Header.{Header}
+use Rattle.fz_files.specs.Buffers.{room_takings}
 use Rattle.fz_job.specs.Clauses.{IfOverLimit, IsAnswer, IsChanged, IsOfSomeRow}
 use Rattle.fz_laws.specs.Amends.{applied}
 use Rattle.fz_laws.specs.PatchBuffers.{patch_bound, patch_takings, second_takings}
@@ -104,4 +104,4 @@ pub record KeepsPatchBuffers (job : PatchJob) (held given : Option (List ℕ)) (
 
 -- what is taken after the first block
 abbrev pub later_takings : List ℕ → List ℕ → PatchJob → List (ℕ × ℕ)
-later_takings file patch job = walk_takings unjudged 2880 65536 0 0 file ++ second_takings file patch job (headers_of 65536 file)
+later_takings file patch job = room_takings unjudged 2880 65536 file ++ second_takings file patch job (headers_of 65536 file)

@@ -23,7 +23,7 @@ use Rattle.fz_strict.specs.Strict.{IsStrict}
 abbrev pub IsStrictAsSaid : Bool → List ℕ → Type 0
 IsStrictAsSaid same file = (same ≡ true) ↔ IsStrict file
 
--- what the look at the headers takes, when nothing else is live: one block, and then each header in turn
+-- what the look at the headers takes, when nothing else is live: one block, and then room for the headers
 abbrev pub look_takings : List ℕ → List (ℕ × ℕ)
 look_takings file = (0, 2880) ∷ survey_takings UnpackChecks 2880 file
 
@@ -41,7 +41,7 @@ abbrev pub later_takings : Option Fault → List ℕ → List (ℕ × ℕ)
 later_takings None file = piled 0 (strict_buffers (longest_header Verify file) (largest_tile Verify file) 1)
 later_takings (Some x) file = []
 
--- what the call takes, beside what is live then: one block, each header in turn, and then, with nothing live, its buffers
+-- what the call takes, beside what is live then: one block, room for the headers, and then, with nothing live, its buffers
 abbrev pub strict_takings : List ℕ → List (ℕ × ℕ)
 strict_takings file = (0, 2880) ∷ (header_takings Verify file ++ later_takings (header_fault Verify file) file)
 

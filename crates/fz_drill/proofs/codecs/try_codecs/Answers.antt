@@ -68,13 +68,13 @@ returns-clause-stops g c =
     let rice : List (ℕ × ℕ) = drill_takings rows word.Rice in
     let plio : List (ℕ × ℕ) = drill_takings rows word.Plio in
     let none : List (ℕ × ℕ) = drill_takings rows word.None in
-    let same : c.in_ok-files.files.rows ≡ rows = search rules in
+    let same : c.in_ok-files.files.rows ≡ rows = search (rules, c.make_files.ensures, c.in_ok-files) in
     stops_none c.takings_law.ensures.second rows limit rice (plio ++ none) _ _ _ _ _ _ (at_limit rows rice refl (of_rows word.Rice same c.in_ok-rice.ensures.stops)) (stops_none c.takings_law.ensures.second rows limit plio none _ _ (Unit {0}) _ _ tt (at_limit rows plio c.in_ok-rice.ensures.kept.limit (of_rows word.Plio same c.in_ok-plio.ensures.stops)) (at_limit rows none (c.in_ok-plio.ensures.kept.limit ∙ c.in_ok-rice.ensures.kept.limit) (of_rows word.None same c.in_ok-none.ensures.stops)))
 
 pub returns-clause-exact_peak : goal.returns-clause-exact_peak
 returns-clause-exact_peak g c =
     let rows : ℕ = c.args.rows in
-    let same : c.in_ok-files.files.rows ≡ rows = search rules in
+    let same : c.in_ok-files.files.rows ≡ rows = search (rules, c.make_files.ensures, c.in_ok-files) in
     let first : c.try_codec.new.meter.peak ≡ max c.args.meter.now.peak (highest (drill_takings rows word.Rice)) =
     subst (λ n. c.try_codec.new.meter.peak ≡ max c.args.meter.now.peak (highest (drill_takings n word.Rice))) same c.in_ok-rice.ensures.exact_peak in
     let second : c.try_codec-2.new.meter.peak ≡ max c.try_codec.new.meter.peak (highest (drill_takings rows word.Plio)) =

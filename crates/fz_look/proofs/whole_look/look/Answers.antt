@@ -149,7 +149,8 @@ returns-in-Ok-clause-cause g c =
     let same : c.bytes.new.self.limit ≡ limit = ap (λ (m : Gauge). m.limit) c.in_ok-block.ensures.taken.1 in
     let room : 2880 ≤ limit = omega (arith, c.in_ok-block.ensures.taken.0, c.requires.nothing_live) in
     let works : Works {X = Found} source source' uncounted uncounted limit (Ok c.in-Ok.found) = rw same at c.in-Ok.ensures.cause in
-    let tells : IfSome held (λ file. TellsFirstPast {X = Found} limit (later_takings Unpack file W) (Ok c.in-Ok.found)) = rw same at c.in-Ok.ensures.first_past in
+    let tells : IfSome held (λ file. TellsFirstPast {X = Found} limit (later_takings Unpack file W) (Ok c.in-Ok.found)) =
+    subst (λ (n : ℕ). IfSome held (λ file. TellsFirstPast {X = Found} n (later_takings Unpack file W) (Ok c.in-Ok.found))) same c.in-Ok.ensures.first_past in
     let cause = c.stages_law.ensures.block.behind Unpack held source source' uncounted uncounted limit W (Ok l) tt room (record { source_kept = works.source_kept; sink_kept = works.sink_kept; ok = works.ok; stop = tt }) tt tells in
     look_cause held source source' limit W (Ok l) works.source_kept cause
 

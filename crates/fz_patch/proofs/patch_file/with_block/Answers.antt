@@ -25,7 +25,7 @@ use Rattle.fz_target.specs.Steps.{KeepsReach}
 use Rattle.fz_target.specs.Targets.{job_at}
 use Rattle.fz_target.specs.Told.{IfBoth}
 use Rattle.fz_patch.proofs.EndsJoined.{refused_weaker}
-use Rattle.fz_patch.proofs.FrameBlock.{HasFound, HasLooked, SaysSame, again_high, again_past, again_told, all_high, all_past, amend_high, amend_past, amend_told, both_weaker, either_way, every_high, every_past, every_told, found, in_work, looked, of_wanted, ok_weaker, over_weaker, reach_same, read_is, still_amended, store_works, told_both, untouched, untouched_safe, wanted_of}
+use Rattle.fz_patch.proofs.FrameBlock.{HasFound, HasLooked, SaysSame, again_high, again_past, again_told, all_high, all_past, amend_high, amend_past, amend_told, both_weaker, either_way, every_high, every_past, every_told, found, in_work, looked, of_wanted, ok_weaker, over_weaker, reach_same, read_is, still_amended, store_works, told_both, untouched, untouched_safe, wanted_of, same_past}
 use Rattle.fz_patch.proofs.FrameBlock.{past_later, unpassed_here}
 use Rattle.fz_patch.proofs.FrameHeader.{bound_headers, stop_limit}
 use Rattle.fz_patch.proofs.FramePatch.{refilled_len}
@@ -197,7 +197,7 @@ returns-in_err-kept-clause-first_fault g c =
     let live2 : c.survey_to_amend.new.meter.live ≡ c.args.meter.now.live = c.in_ok-found.ensures.stays.1 ∙ live1 in
     let limit2 : c.survey_to_amend.new.meter.limit ≡ c.args.meter.now.limit = c.in_ok-found.ensures.stays.2 ∙ limit1 in
     let exact2 : IfSome (g.D.Source.held c.args.store.now) (λ f. amend_surveyed c.args.hdu f ≡ Ok c.in_ok-found.found) = rw held1 at c.in_ok-found.ensures.exact in
-    let none2 : IfSome (g.D.Source.held c.args.store.now) (λ f. first_past c.args.meter.now.limit (survey_takings (AmendLook c.args.hdu) c.args.meter.now.live f) ≡ None) = rw (held1, live1, limit1) at c.in_ok-found.ensures.first_past in
+    let none2 : IfSome (g.D.Source.held c.args.store.now) (λ f. first_past c.args.meter.now.limit (survey_takings (AmendLook c.args.hdu) c.args.meter.now.live f) ≡ None) = same_past c.args.hdu c.args.meter.now.limit c.survey_every.new.meter.limit c.args.meter.now.live c.survey_every.new.meter.live (g.D.Source.held c.args.store.now) (g.D.Source.held c.survey_every.new.source) held1 limit1 live1 c.in_ok-found.ensures.first_past in
     let known : IfSome (g.D.Source.held c.args.store.now) (HasFound c.args.meter.now.live c.args.meter.now.limit c.args.hdu c.in_ok-found.found) = found c.hdu_at_law.ensures.walk c.found_hdus_law.ensures.last c.survey_law.ensures.amend c.args.meter.now.live c.args.meter.now.limit c.args.hdu c.in_ok-found.found (g.D.Source.held c.args.store.now) c.requires.one_block look exact2 none2 in
     let held2 : g.D.Source.held c.survey_to_amend.new.source ≡ g.D.Source.held c.args.store.now = search rules in
     let same : IfSome (g.D.Source.held c.args.store.now) (SaysSame c.in_ok-found.found (Err c.in_err-kept.field-0.0)) = rw held2 at c.in_err-kept.ensures.same in
@@ -215,7 +215,7 @@ returns-in_err-kept-clause-first_past g c =
     let live2 : c.survey_to_amend.new.meter.live ≡ c.args.meter.now.live = c.in_ok-found.ensures.stays.1 ∙ live1 in
     let limit2 : c.survey_to_amend.new.meter.limit ≡ c.args.meter.now.limit = c.in_ok-found.ensures.stays.2 ∙ limit1 in
     let exact2 : IfSome (g.D.Source.held c.args.store.now) (λ f. amend_surveyed c.args.hdu f ≡ Ok c.in_ok-found.found) = rw held1 at c.in_ok-found.ensures.exact in
-    let none2 : IfSome (g.D.Source.held c.args.store.now) (λ f. first_past c.args.meter.now.limit (survey_takings (AmendLook c.args.hdu) c.args.meter.now.live f) ≡ None) = rw (held1, live1, limit1) at c.in_ok-found.ensures.first_past in
+    let none2 : IfSome (g.D.Source.held c.args.store.now) (λ f. first_past c.args.meter.now.limit (survey_takings (AmendLook c.args.hdu) c.args.meter.now.live f) ≡ None) = same_past c.args.hdu c.args.meter.now.limit c.survey_every.new.meter.limit c.args.meter.now.live c.survey_every.new.meter.live (g.D.Source.held c.args.store.now) (g.D.Source.held c.survey_every.new.source) held1 limit1 live1 c.in_ok-found.ensures.first_past in
     let known : IfSome (g.D.Source.held c.args.store.now) (HasFound c.args.meter.now.live c.args.meter.now.limit c.args.hdu c.in_ok-found.found) = found c.hdu_at_law.ensures.walk c.found_hdus_law.ensures.last c.survey_law.ensures.amend c.args.meter.now.live c.args.meter.now.limit c.args.hdu c.in_ok-found.found (g.D.Source.held c.args.store.now) c.requires.one_block look exact2 none2 in
     let held2 : g.D.Source.held c.survey_to_amend.new.source ≡ g.D.Source.held c.args.store.now = search rules in
     let same : IfSome (g.D.Source.held c.args.store.now) (SaysSame c.in_ok-found.found (Err c.in_err-kept.field-0.0)) = rw held2 at c.in_err-kept.ensures.same in
@@ -236,7 +236,7 @@ returns-in_err-kept-clause-peak g c =
     let live2 : c.survey_to_amend.new.meter.live ≡ c.args.meter.now.live = c.in_ok-found.ensures.stays.1 ∙ live1 in
     let limit2 : c.survey_to_amend.new.meter.limit ≡ c.args.meter.now.limit = c.in_ok-found.ensures.stays.2 ∙ limit1 in
     let exact2 : IfSome (g.D.Source.held c.args.store.now) (λ f. amend_surveyed c.args.hdu f ≡ Ok c.in_ok-found.found) = rw held1 at c.in_ok-found.ensures.exact in
-    let none2 : IfSome (g.D.Source.held c.args.store.now) (λ f. first_past c.args.meter.now.limit (survey_takings (AmendLook c.args.hdu) c.args.meter.now.live f) ≡ None) = rw (held1, live1, limit1) at c.in_ok-found.ensures.first_past in
+    let none2 : IfSome (g.D.Source.held c.args.store.now) (λ f. first_past c.args.meter.now.limit (survey_takings (AmendLook c.args.hdu) c.args.meter.now.live f) ≡ None) = same_past c.args.hdu c.args.meter.now.limit c.survey_every.new.meter.limit c.args.meter.now.live c.survey_every.new.meter.live (g.D.Source.held c.args.store.now) (g.D.Source.held c.survey_every.new.source) held1 limit1 live1 c.in_ok-found.ensures.first_past in
     let known : IfSome (g.D.Source.held c.args.store.now) (HasFound c.args.meter.now.live c.args.meter.now.limit c.args.hdu c.in_ok-found.found) = found c.hdu_at_law.ensures.walk c.found_hdus_law.ensures.last c.survey_law.ensures.amend c.args.meter.now.live c.args.meter.now.limit c.args.hdu c.in_ok-found.found (g.D.Source.held c.args.store.now) c.requires.one_block look exact2 none2 in
     let held2 : g.D.Source.held c.survey_to_amend.new.source ≡ g.D.Source.held c.args.store.now = search rules in
     let first : IfSome (g.D.Source.held c.args.store.now) (λ f. c.survey_every.new.meter.peak ≤ max c.args.meter.now.peak (highest (survey_takings Every c.args.meter.now.live f))) = c.in_ok-survey_every.ensures.peak in
@@ -289,7 +289,7 @@ returns-clause-patched g c =
     let live2 : c.survey_to_amend.new.meter.live ≡ c.args.meter.now.live = c.in_ok-found.ensures.stays.1 ∙ live1 in
     let limit2 : c.survey_to_amend.new.meter.limit ≡ c.args.meter.now.limit = c.in_ok-found.ensures.stays.2 ∙ limit1 in
     let exact2 : IfSome (g.D.Source.held c.args.store.now) (λ f. amend_surveyed c.args.hdu f ≡ Ok c.in_ok-found.found) = rw held1 at c.in_ok-found.ensures.exact in
-    let none2 : IfSome (g.D.Source.held c.args.store.now) (λ f. first_past c.args.meter.now.limit (survey_takings (AmendLook c.args.hdu) c.args.meter.now.live f) ≡ None) = rw (held1, live1, limit1) at c.in_ok-found.ensures.first_past in
+    let none2 : IfSome (g.D.Source.held c.args.store.now) (λ f. first_past c.args.meter.now.limit (survey_takings (AmendLook c.args.hdu) c.args.meter.now.live f) ≡ None) = same_past c.args.hdu c.args.meter.now.limit c.survey_every.new.meter.limit c.args.meter.now.live c.survey_every.new.meter.live (g.D.Source.held c.args.store.now) (g.D.Source.held c.survey_every.new.source) held1 limit1 live1 c.in_ok-found.ensures.first_past in
     let known : IfSome (g.D.Source.held c.args.store.now) (HasFound c.args.meter.now.live c.args.meter.now.limit c.args.hdu c.in_ok-found.found) = found c.hdu_at_law.ensures.walk c.found_hdus_law.ensures.last c.survey_law.ensures.amend c.args.meter.now.live c.args.meter.now.limit c.args.hdu c.in_ok-found.found (g.D.Source.held c.args.store.now) c.requires.one_block look exact2 none2 in
     let held2 : g.D.Source.held c.survey_to_amend.new.source ≡ g.D.Source.held c.args.store.now = search rules in
     let same3 : IfSome (g.D.Source.held c.args.store.now) (SaysSame c.in_ok-found.found (Ok c.in_ok-kept.kept)) = rw held2 at c.in_ok-kept.ensures.same in
@@ -309,7 +309,7 @@ returns-clause-safe g c =
     let live2 : c.survey_to_amend.new.meter.live ≡ c.args.meter.now.live = c.in_ok-found.ensures.stays.1 ∙ live1 in
     let limit2 : c.survey_to_amend.new.meter.limit ≡ c.args.meter.now.limit = c.in_ok-found.ensures.stays.2 ∙ limit1 in
     let exact2 : IfSome (g.D.Source.held c.args.store.now) (λ f. amend_surveyed c.args.hdu f ≡ Ok c.in_ok-found.found) = rw held1 at c.in_ok-found.ensures.exact in
-    let none2 : IfSome (g.D.Source.held c.args.store.now) (λ f. first_past c.args.meter.now.limit (survey_takings (AmendLook c.args.hdu) c.args.meter.now.live f) ≡ None) = rw (held1, live1, limit1) at c.in_ok-found.ensures.first_past in
+    let none2 : IfSome (g.D.Source.held c.args.store.now) (λ f. first_past c.args.meter.now.limit (survey_takings (AmendLook c.args.hdu) c.args.meter.now.live f) ≡ None) = same_past c.args.hdu c.args.meter.now.limit c.survey_every.new.meter.limit c.args.meter.now.live c.survey_every.new.meter.live (g.D.Source.held c.args.store.now) (g.D.Source.held c.survey_every.new.source) held1 limit1 live1 c.in_ok-found.ensures.first_past in
     let known : IfSome (g.D.Source.held c.args.store.now) (HasFound c.args.meter.now.live c.args.meter.now.limit c.args.hdu c.in_ok-found.found) = found c.hdu_at_law.ensures.walk c.found_hdus_law.ensures.last c.survey_law.ensures.amend c.args.meter.now.live c.args.meter.now.limit c.args.hdu c.in_ok-found.found (g.D.Source.held c.args.store.now) c.requires.one_block look exact2 none2 in
     let held2 : g.D.Source.held c.survey_to_amend.new.source ≡ g.D.Source.held c.args.store.now = search rules in
     let same3 : IfSome (g.D.Source.held c.args.store.now) (SaysSame c.in_ok-found.found (Ok c.in_ok-kept.kept)) = rw held2 at c.in_ok-kept.ensures.same in
@@ -329,7 +329,7 @@ returns-clause-unwritten g c =
     let live2 : c.survey_to_amend.new.meter.live ≡ c.args.meter.now.live = c.in_ok-found.ensures.stays.1 ∙ live1 in
     let limit2 : c.survey_to_amend.new.meter.limit ≡ c.args.meter.now.limit = c.in_ok-found.ensures.stays.2 ∙ limit1 in
     let exact2 : IfSome (g.D.Source.held c.args.store.now) (λ f. amend_surveyed c.args.hdu f ≡ Ok c.in_ok-found.found) = rw held1 at c.in_ok-found.ensures.exact in
-    let none2 : IfSome (g.D.Source.held c.args.store.now) (λ f. first_past c.args.meter.now.limit (survey_takings (AmendLook c.args.hdu) c.args.meter.now.live f) ≡ None) = rw (held1, live1, limit1) at c.in_ok-found.ensures.first_past in
+    let none2 : IfSome (g.D.Source.held c.args.store.now) (λ f. first_past c.args.meter.now.limit (survey_takings (AmendLook c.args.hdu) c.args.meter.now.live f) ≡ None) = same_past c.args.hdu c.args.meter.now.limit c.survey_every.new.meter.limit c.args.meter.now.live c.survey_every.new.meter.live (g.D.Source.held c.args.store.now) (g.D.Source.held c.survey_every.new.source) held1 limit1 live1 c.in_ok-found.ensures.first_past in
     let known : IfSome (g.D.Source.held c.args.store.now) (HasFound c.args.meter.now.live c.args.meter.now.limit c.args.hdu c.in_ok-found.found) = found c.hdu_at_law.ensures.walk c.found_hdus_law.ensures.last c.survey_law.ensures.amend c.args.meter.now.live c.args.meter.now.limit c.args.hdu c.in_ok-found.found (g.D.Source.held c.args.store.now) c.requires.one_block look exact2 none2 in
     let held2 : g.D.Source.held c.survey_to_amend.new.source ≡ g.D.Source.held c.args.store.now = search rules in
     let same3 : IfSome (g.D.Source.held c.args.store.now) (SaysSame c.in_ok-found.found (Ok c.in_ok-kept.kept)) = rw held2 at c.in_ok-kept.ensures.same in
@@ -370,7 +370,7 @@ returns-clause-first_fault g c =
     let live2 : c.survey_to_amend.new.meter.live ≡ c.args.meter.now.live = c.in_ok-found.ensures.stays.1 ∙ live1 in
     let limit2 : c.survey_to_amend.new.meter.limit ≡ c.args.meter.now.limit = c.in_ok-found.ensures.stays.2 ∙ limit1 in
     let exact2 : IfSome (g.D.Source.held c.args.store.now) (λ f. amend_surveyed c.args.hdu f ≡ Ok c.in_ok-found.found) = rw held1 at c.in_ok-found.ensures.exact in
-    let none2 : IfSome (g.D.Source.held c.args.store.now) (λ f. first_past c.args.meter.now.limit (survey_takings (AmendLook c.args.hdu) c.args.meter.now.live f) ≡ None) = rw (held1, live1, limit1) at c.in_ok-found.ensures.first_past in
+    let none2 : IfSome (g.D.Source.held c.args.store.now) (λ f. first_past c.args.meter.now.limit (survey_takings (AmendLook c.args.hdu) c.args.meter.now.live f) ≡ None) = same_past c.args.hdu c.args.meter.now.limit c.survey_every.new.meter.limit c.args.meter.now.live c.survey_every.new.meter.live (g.D.Source.held c.args.store.now) (g.D.Source.held c.survey_every.new.source) held1 limit1 live1 c.in_ok-found.ensures.first_past in
     let known : IfSome (g.D.Source.held c.args.store.now) (HasFound c.args.meter.now.live c.args.meter.now.limit c.args.hdu c.in_ok-found.found) = found c.hdu_at_law.ensures.walk c.found_hdus_law.ensures.last c.survey_law.ensures.amend c.args.meter.now.live c.args.meter.now.limit c.args.hdu c.in_ok-found.found (g.D.Source.held c.args.store.now) c.requires.one_block look exact2 none2 in
     let held2 : g.D.Source.held c.survey_to_amend.new.source ≡ g.D.Source.held c.args.store.now = search rules in
     let same3 : IfSome (g.D.Source.held c.args.store.now) (SaysSame c.in_ok-found.found (Ok c.in_ok-kept.kept)) = rw held2 at c.in_ok-kept.ensures.same in
@@ -388,7 +388,7 @@ returns-clause-first_past g c =
     let live2 : c.survey_to_amend.new.meter.live ≡ c.args.meter.now.live = c.in_ok-found.ensures.stays.1 ∙ live1 in
     let limit2 : c.survey_to_amend.new.meter.limit ≡ c.args.meter.now.limit = c.in_ok-found.ensures.stays.2 ∙ limit1 in
     let exact2 : IfSome (g.D.Source.held c.args.store.now) (λ f. amend_surveyed c.args.hdu f ≡ Ok c.in_ok-found.found) = rw held1 at c.in_ok-found.ensures.exact in
-    let none2 : IfSome (g.D.Source.held c.args.store.now) (λ f. first_past c.args.meter.now.limit (survey_takings (AmendLook c.args.hdu) c.args.meter.now.live f) ≡ None) = rw (held1, live1, limit1) at c.in_ok-found.ensures.first_past in
+    let none2 : IfSome (g.D.Source.held c.args.store.now) (λ f. first_past c.args.meter.now.limit (survey_takings (AmendLook c.args.hdu) c.args.meter.now.live f) ≡ None) = same_past c.args.hdu c.args.meter.now.limit c.survey_every.new.meter.limit c.args.meter.now.live c.survey_every.new.meter.live (g.D.Source.held c.args.store.now) (g.D.Source.held c.survey_every.new.source) held1 limit1 live1 c.in_ok-found.ensures.first_past in
     let known : IfSome (g.D.Source.held c.args.store.now) (HasFound c.args.meter.now.live c.args.meter.now.limit c.args.hdu c.in_ok-found.found) = found c.hdu_at_law.ensures.walk c.found_hdus_law.ensures.last c.survey_law.ensures.amend c.args.meter.now.live c.args.meter.now.limit c.args.hdu c.in_ok-found.found (g.D.Source.held c.args.store.now) c.requires.one_block look exact2 none2 in
     let held2 : g.D.Source.held c.survey_to_amend.new.source ≡ g.D.Source.held c.args.store.now = search rules in
     let same3 : IfSome (g.D.Source.held c.args.store.now) (SaysSame c.in_ok-found.found (Ok c.in_ok-kept.kept)) = rw held2 at c.in_ok-kept.ensures.same in
@@ -413,7 +413,7 @@ returns-clause-peak g c =
     let live2 : c.survey_to_amend.new.meter.live ≡ c.args.meter.now.live = c.in_ok-found.ensures.stays.1 ∙ live1 in
     let limit2 : c.survey_to_amend.new.meter.limit ≡ c.args.meter.now.limit = c.in_ok-found.ensures.stays.2 ∙ limit1 in
     let exact2 : IfSome (g.D.Source.held c.args.store.now) (λ f. amend_surveyed c.args.hdu f ≡ Ok c.in_ok-found.found) = rw held1 at c.in_ok-found.ensures.exact in
-    let none2 : IfSome (g.D.Source.held c.args.store.now) (λ f. first_past c.args.meter.now.limit (survey_takings (AmendLook c.args.hdu) c.args.meter.now.live f) ≡ None) = rw (held1, live1, limit1) at c.in_ok-found.ensures.first_past in
+    let none2 : IfSome (g.D.Source.held c.args.store.now) (λ f. first_past c.args.meter.now.limit (survey_takings (AmendLook c.args.hdu) c.args.meter.now.live f) ≡ None) = same_past c.args.hdu c.args.meter.now.limit c.survey_every.new.meter.limit c.args.meter.now.live c.survey_every.new.meter.live (g.D.Source.held c.args.store.now) (g.D.Source.held c.survey_every.new.source) held1 limit1 live1 c.in_ok-found.ensures.first_past in
     let known : IfSome (g.D.Source.held c.args.store.now) (HasFound c.args.meter.now.live c.args.meter.now.limit c.args.hdu c.in_ok-found.found) = found c.hdu_at_law.ensures.walk c.found_hdus_law.ensures.last c.survey_law.ensures.amend c.args.meter.now.live c.args.meter.now.limit c.args.hdu c.in_ok-found.found (g.D.Source.held c.args.store.now) c.requires.one_block look exact2 none2 in
     let held2 : g.D.Source.held c.survey_to_amend.new.source ≡ g.D.Source.held c.args.store.now = search rules in
     let same3 : IfSome (g.D.Source.held c.args.store.now) (SaysSame c.in_ok-found.found (Ok c.in_ok-kept.kept)) = rw held2 at c.in_ok-kept.ensures.same in
