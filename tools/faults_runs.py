@@ -209,7 +209,7 @@ def scenarios(room, commands):
         Scenario("pack", ["pack", "--codec", "plio", *both], flags, workers=True),
         Scenario("pack", ["pack", "--sums", *both], star, workers=True),
         Scenario("pack", ["pack", "--tile", "9,9", *both], several, workers=True),
-        Scenario("pack", ["pack", "--memory", "20000", *both], star),
+        Scenario("pack", ["pack", "--memory", "70000", *both], star),
         Scenario("pack", ["pack", *both], tiles),
         Scenario("unpack", ["unpack", *both], stored),
         Scenario("unpack", ["unpack", *both], tiles, workers=True),

@@ -3,7 +3,7 @@ use fz_base::{Fault, Kind, MemSource, Meter, Place, Source, Stop};
 use fz_block::{
     Axes, BLOCK_LEN, Header, Sort, again_law, buffered_header, card, cards_law, data_start,
     first_card_law, found_law, hdu_law, hdu_list_law, header_again, header_at, header_blocks,
-    next_start, number_law, read_header, start_law, walk_law,
+    header_into, next_start, number_law, read_header, start_law, walk_law,
 };
 use std::alloc::Global;
 use std::test::Fail;
@@ -258,6 +258,67 @@ fn a_header_in_a_buffer_of_its_length(rt: HostRuntime) -> Result<(), Fail> {
         source.reads(),
         [(2880, 8), (2880, 2880), (5760, 2880), (2880, 2880)].as_slice()
     );
+    Ok(())
+}
+
+/// What `header_into` answers of HDU 1 of a source, with a buffer of so many bytes. The buffer that is live then goes back.
+fn header_in_room(source: &mut MemSource, meter: &mut Meter, room: u64) -> Result<Header, Stop> {
+    let length = source.attach("any").map_err(Stop::reading)?;
+    if length <= 2880 || room < 2880 {
+        return Err(Stop::NoMemory);
+    }
+    let room = meter.bytes(room)?;
+    let read = header_into(source, length, 1, 2880, meter, room)?;
+    let header = read.facts;
+    meter.give_bytes(read.bytes);
+    Ok(header)
+}
+
+// Each block is read once if there is room for the header.
+#[test]
+fn a_header_in_a_buffer_that_is_there(rt: HostRuntime) -> Result<(), Fail> {
+    let alloc = rt.alloc();
+    let mut meter = Meter::new(alloc, 5760);
+    let mut source = source_of(alloc, 8640, &TABLE_CARDS)?;
+    assert_eq!(rt; header_in_room(&mut source, &mut meter, 5760), Ok(TABLE));
+    assert_eq!(rt; source.reads(), [(2880, 8), (2880, 2880)].as_slice());
+    let mut source = source_of(alloc, 11520, &long_table())?;
+    let header = header_in_room(&mut source, &mut meter, 5760)?;
+    assert_eq!(rt;
+        (header.cards, header.blocks, meter.live(), meter.peak()),
+        (44, 2, 0, 5760)
+    );
+    assert_eq!(rt;
+        source.reads(),
+        [(2880, 8), (2880, 2880), (5760, 2880)].as_slice()
+    );
+    Ok(())
+}
+
+// A longer header is read once more, into a buffer that is taken in the place of the other.
+#[test]
+fn a_header_longer_than_the_buffer(rt: HostRuntime) -> Result<(), Fail> {
+    let alloc = rt.alloc();
+    let mut meter = Meter::new(alloc, 5760);
+    let mut source = source_of(alloc, 11520, &long_table())?;
+    let header = header_in_room(&mut source, &mut meter, 5759)?;
+    assert_eq!(rt;
+        (header.cards, header.blocks, meter.live(), meter.peak()),
+        (44, 2, 0, 5760)
+    );
+    assert_eq!(rt;
+        source.reads(),
+        [(2880, 8), (2880, 2880), (5760, 2880), (2880, 5760)].as_slice()
+    );
+    let mut meter = Meter::new(alloc, 5759);
+    let mut source = source_of(alloc, 11520, &long_table())?;
+    let over = Stop::OverLimit {
+        live: 0,
+        asked: 5760,
+        limit: 5759,
+    };
+    assert_eq!(rt; header_in_room(&mut source, &mut meter, 5759), Err(over));
+    assert_eq!(rt; (meter.live(), meter.peak()), (0, 5759));
     Ok(())
 }
 

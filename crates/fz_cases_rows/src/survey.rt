@@ -120,7 +120,7 @@ fn refused(hdu: u32, at: Place, kind: Kind) -> Result<Survey, Stop> {
 #[test]
 fn a_look_at_an_image(rt: HostRuntime) -> Result<(), Fail> {
     let alloc = rt.alloc();
-    let mut meter = Meter::new(alloc, 2880);
+    let mut meter = Meter::new(alloc, 63_360);
     let source = source_of(alloc, 5760, 2880, &[(0, &SMALL)])?;
     let seen = Survey {
         hdus: 1,
@@ -130,7 +130,8 @@ fn a_look_at_an_image(rt: HostRuntime) -> Result<(), Fail> {
         stopped: None,
     };
     assert_eq!(rt; look_to_pack(source, &mut meter), Ok(seen));
-    assert_eq!(rt; (meter.live(), meter.peak()), (0, 2880));
+    // the room for headers, of 22 blocks
+    assert_eq!(rt; (meter.live(), meter.peak()), (0, 63_360));
     // a fill byte after the 16 bytes of data
     let source = source_of(alloc, 5760, 2900, &[(0, &SMALL)])?;
     assert_eq!(rt;
@@ -143,13 +144,13 @@ fn a_look_at_an_image(rt: HostRuntime) -> Result<(), Fail> {
         look_to_pack(source, &mut meter),
         refused(0, Place::Card(5), Kind::Reserved)
     );
-    // the header passes the limit
-    let mut meter = Meter::new(alloc, 2879);
+    // the room passes the limit
+    let mut meter = Meter::new(alloc, 63_359);
     let source = source_of(alloc, 5760, 2880, &[(0, &SMALL)])?;
     let over = Stop::OverLimit {
         live: 0,
-        asked: 2880,
-        limit: 2879,
+        asked: 63_360,
+        limit: 63_359,
     };
     assert_eq!(rt; look_to_pack(source, &mut meter), Err(over));
     Ok(())
@@ -158,7 +159,7 @@ fn a_look_at_an_image(rt: HostRuntime) -> Result<(), Fail> {
 #[test]
 fn a_look_at_a_packed_image(rt: HostRuntime) -> Result<(), Fail> {
     let alloc = rt.alloc();
-    let mut meter = Meter::new(alloc, 2880);
+    let mut meter = Meter::new(alloc, 63_360);
     let mut block = [0; BLOCK_LEN];
     let region = Region {
         n: 2,
@@ -191,7 +192,7 @@ fn a_look_at_a_packed_image(rt: HostRuntime) -> Result<(), Fail> {
 #[test]
 fn a_packed_primary(rt: HostRuntime) -> Result<(), Fail> {
     let alloc = rt.alloc();
-    let mut meter = Meter::new(alloc, 2880);
+    let mut meter = Meter::new(alloc, 63_360);
     let mut block = [0; BLOCK_LEN];
     let mut source = source_of(alloc, 8640, 0, &[(0, &EMPTY), (1, &PACKED)])?;
     let length = source.attach("any").map_err(Stop::reading)?;

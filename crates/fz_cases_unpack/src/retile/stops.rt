@@ -70,8 +70,13 @@ fn each_write_fails_in_turn(rt: HostRuntime) -> Result<(), Fail> {
 fn limits_hold_for_both_meters(rt: HostRuntime) -> Result<(), Fail> {
     let rows = [
         (1, "over limit: live 0 asked 2880 limit 1\n", 6),
-        (2880, "over limit: live 2880 asked 2880 limit 2880\n", 6),
-        (5760, "over limit: live 5760 asked 5760 limit 5760\n", 6),
+        (2880, "over limit: live 2880 asked 63360 limit 2880\n", 6),
+        (66_239, "over limit: live 2880 asked 63360 limit 66239\n", 6),
+        (
+            66_240,
+            "over limit: live 11776 asked 65536 limit 66240\n",
+            6,
+        ),
         (
             77_280,
             "over limit: live 11776 asked 65536 limit 77280\n",

@@ -118,3 +118,29 @@ fn nothing_is_printed_past_the_limit(rt: HostRuntime) -> Result<(), Fail> {
     assert_eq!(rt; outcome.live, 0);
     Ok(())
 }
+
+// What `list` takes of a file with headers of one block is the block and the room for headers, of 22 blocks; then the longest header.
+#[test]
+fn room_for_headers_is_the_most_of_a_list(rt: HostRuntime) -> Result<(), Fail> {
+    let file = changed(rt.alloc(), &standing::GRID_PACKED, &Change::Nothing)?;
+    let on = Conditions {
+        limit: 66_240,
+        ..FREE
+    };
+    let outcome = outcome_of(&rt, &["list", "IN"], &file, on, &FreeGate)?;
+    assert_eq!(rt;
+        (outcome.status.number(), outcome.peak, outcome.live),
+        (0, 66_240, 0)
+    );
+    let on = Conditions {
+        limit: 66_239,
+        ..FREE
+    };
+    let outcome = outcome_of(&rt, &["list", "IN"], &file, on, &FreeGate)?;
+    let line = "over limit: live 2880 asked 63360 limit 66239\n";
+    assert_eq!(rt;
+        (outcome.unlike_stopped(6, line), outcome.peak),
+        (None, 2880)
+    );
+    Ok(())
+}
