@@ -1,4 +1,5 @@
 //! Bits worked out by hand.
+use crate::asserts::alike;
 use fz_bits::{BitReader, BitWriter, Ended, Full, ZeroStop};
 
 #[test]
@@ -9,7 +10,7 @@ fn one_byte_is_full(rt: HostRuntime) {
     let unaries = [writer.unary(4), writer.unary(0)];
     let len = writer.finish();
     let fits = [Ok(()), Err(Full)];
-    assert_eq!(rt; (puts, unaries, len, out), (fits, fits, 1, [0xa1]));
+    alike(&rt, (puts, unaries, len, out), (fits, fits, 1, [0xa1]));
 }
 
 #[test]
@@ -23,11 +24,16 @@ fn words_and_long_runs(rt: HostRuntime) {
     ];
     let unaries = [writer.unary(66), writer.unary(32)];
     let len = writer.finish();
-    assert_eq!(rt;
+    alike(
+        &rt,
         (puts, unaries, len),
-        ([Ok(()); 3], [Ok(()), Err(Full)], 13)
+        ([Ok(()); 3], [Ok(()), Err(Full)], 13),
     );
-    assert_eq!(rt; out, [0xc0, 0, 0, 0, 0x80, 0, 0, 0, 0, 0, 0, 0, 0x10, 0xee]);
+    alike(
+        &rt,
+        out,
+        [0xc0, 0, 0, 0, 0x80, 0, 0, 0, 0, 0, 0, 0, 0x10, 0xee],
+    );
 }
 
 #[test]
@@ -41,11 +47,11 @@ fn long_numbers(rt: HostRuntime) {
         writer.put_long(0xff, 8),
     ];
     let len = writer.finish();
-    assert_eq!(rt; (puts, len), ([Ok(()), Ok(()), Err(Full), Ok(())], 16));
+    alike(&rt, (puts, len), ([Ok(()), Ok(()), Err(Full), Ok(())], 16));
     let long = [
         0x80, 0, 0, 0, 0, 0, 0, 0x03, 0x23, 0x45, 0x67, 0x89, 0xab, 0xcd, 0xef, 0xff, 0xee,
     ];
-    assert_eq!(rt; out, long);
+    alike(&rt, out, long);
 }
 
 /// The zeros of at most so many before a one, and where the reader is then.
@@ -59,16 +65,21 @@ fn zeros_and_ends(rt: HostRuntime) {
     let mut reader = BitReader::new(&[0x08]);
     let too_many = zeros_to(&mut reader, 3);
     let four = zeros_to(&mut reader, 4);
-    assert_eq!(rt; (too_many, four), ((Err(ZeroStop::TooMany), 0), (Ok(4), 5)));
+    alike(
+        &rt,
+        (too_many, four),
+        ((Err(ZeroStop::TooMany), 0), (Ok(4), 5)),
+    );
     let stops = [reader.zeros(3), reader.zeros(2)];
     let numbers = [reader.get(4), reader.get(3), reader.get(0)];
-    assert_eq!(rt;
+    alike(
+        &rt,
         (stops, numbers, reader.place()),
         (
             [Err(ZeroStop::Ended), Err(ZeroStop::TooMany)],
             [Err(Ended), Ok(0), Ok(0)],
-            8
-        )
+            8,
+        ),
     );
 }
 
@@ -76,7 +87,7 @@ fn zeros_and_ends(rt: HostRuntime) {
 fn words_of_a_code(rt: HostRuntime) {
     let mut reader = BitReader::new(&[0x8a, 0xbc, 0xde, 0xf0, 0x12, 0, 0, 0, 0, 0, 0, 0, 0x34]);
     let words = [reader.get(4), reader.get(32)];
-    assert_eq!(rt; words, [Ok(8), Ok(0xabcd_ef01)]);
+    alike(&rt, words, [Ok(8), Ok(0xabcd_ef01)]);
     let zeros = [
         reader.zeros(1),
         reader.zeros(2),
@@ -84,10 +95,11 @@ fn words_of_a_code(rt: HostRuntime) {
         reader.zeros(59),
     ];
     let stop = Err(ZeroStop::TooMany);
-    assert_eq!(rt; zeros, [stop, Ok(2), stop, Ok(59)]);
+    alike(&rt, zeros, [stop, Ok(2), stop, Ok(59)]);
     let last = reader.get(5);
-    assert_eq!(rt;
+    alike(
+        &rt,
         (last, reader.place(), reader.zeros(9)),
-        (Ok(0x14), 104, Err(ZeroStop::Ended))
+        (Ok(0x14), 104, Err(ZeroStop::Ended)),
     );
 }

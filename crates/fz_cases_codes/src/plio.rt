@@ -2,6 +2,7 @@
 
 ghost use Rattle.std.specs.Prelude.{◌≤◌, ◌^◌, length};
 
+use crate::asserts::alike;
 use fz_plio::{LineFault, PlioStop, can_hold_law, decode, encode, line_list_law};
 use std::alloc::{AllocError, Global};
 use std::process::Abort;
@@ -24,7 +25,7 @@ fn expect_words(rt: &impl Abort, alloc: Global, numbers: &[i32], words: &[u16]) 
     let len = encode(numbers, &mut out)?;
     let list = bytes_of(alloc, words)?;
     assert!(rt; len < out.len());
-    assert_eq!(rt; (&out[..len], out[len]), (list.as_slice(), 0xa5));
+    alike(rt, (&out[..len], out[len]), (list.as_slice(), 0xa5));
     Ok(())
 }
 
@@ -111,7 +112,7 @@ fn encodes_a_long_list(rt: HostRuntime) -> Result<(), Fail> {
     let len = encode(numbers.as_slice(), out.as_mut_slice())?;
     let header = bytes_of(rt.alloc(), &[0, 7, 0xff9c, 0x0ca5, 1, 0, 0])?;
     let begins = out.as_slice().starts_with(header.as_slice());
-    assert_eq!(rt; (len, begins), (72_010, true));
+    alike(&rt, (len, begins), (72_010, true));
     Ok(())
 }
 
@@ -120,17 +121,18 @@ fn stops(rt: HostRuntime) {
     let mut out = [7; 22];
     let negative = encode(&[3, -1], &mut out);
     let large = encode(&[1 << 24], &mut out);
-    assert_eq!(rt;
+    alike(
+        &rt,
         (negative, large, out),
         (
             Err(PlioStop::Range { index: 1 }),
             Err(PlioStop::Range { index: 0 }),
-            [7; 22]
-        )
+            [7; 22],
+        ),
     );
     let whole = encode(&[0, 0, 5, 5, 0], &mut out);
     let full = encode(&[0, 0, 5, 5, 0], &mut [7; 21]);
-    assert_eq!(rt; (whole, full), (Ok(22), Err(PlioStop::Full)));
+    alike(&rt, (whole, full), (Ok(22), Err(PlioStop::Full)));
 }
 
 #[test]
@@ -168,13 +170,13 @@ fn decodes_rows(rt: HostRuntime) -> Result<(), Fail> {
         let bytes = bytes_of(rt.alloc(), words)?;
         let mut numbers = [-1; 3];
         let answer = decode(bytes.as_slice(), &mut numbers);
-        assert_eq!(rt; answer.map(|()| numbers), want, "at {words:?}");
+        alike(&rt, answer.map(|()| numbers), want);
     }
     let bytes = bytes_of(rt.alloc(), &[0, 7, 0xff9c, 7, 0, 0, 0, 0])?;
     assert!(rt; bytes.len() == 16);
     let odd = decode(&bytes.as_slice()[..15], &mut [0; 3]);
     let short = decode(&bytes.as_slice()[..13], &mut [0; 3]);
-    assert_eq!(rt; (odd, short), (Err(LineFault), Err(LineFault)));
+    alike(&rt, (odd, short), (Err(LineFault), Err(LineFault)));
     Ok(())
 }
 

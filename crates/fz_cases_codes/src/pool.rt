@@ -5,6 +5,7 @@ ghost use Rattle.fz_pool.specs.Slots.{IsForEncoding, IsForDecoding};
 ghost use Rattle.fz_pool.specs.Window.{IsFilled, IsPut, Pool, slot_size, slot_sizes};
 ghost use Rattle.fz_pool.specs.Calls.{AreForEncoding, AreForDecoding};
 
+use crate::asserts::alike;
 use fz_base::{FreeGate, Gate, Meter, NoMemory, Short};
 use fz_pool::{
     Crew, Job, Slot, Window, decode_beside, decode_window, encode_beside, encode_window, put_law,
@@ -159,10 +160,11 @@ fn expect_tiles(rt: &impl Abort, window: &Window, count: u32)
     for i in 0..count {
         let slot = window.slot(i);
         let (numbers, code) = (slot.numbers.as_slice(), slot.code.as_slice());
-        assert_eq!(rt; (slot.job, slot.fault), (job_of(10 + i, 1, 0), None));
-        assert_eq!(rt;
+        alike(rt, (slot.job, slot.fault), (job_of(10 + i, 1, 0), None));
+        alike(
+            rt,
             (numbers, code),
-            ([i as i32, 0].as_slice(), [0; 72].as_slice())
+            ([i as i32, 0].as_slice(), [0; 72].as_slice()),
         );
     }
 }
@@ -174,11 +176,12 @@ fn expect_records(rt: &impl Abort, window: &Window, count: u32)
 {
     for i in 0..count {
         let slot = window.slot(i);
-        assert_eq!(rt; (slot.job, slot.fault), (job_of(10 + i, 1, 2), None));
+        alike(rt, (slot.job, slot.fault), (job_of(10 + i, 1, 2), None));
         assert!(rt; slot.code.len() == 72);
-        assert_eq!(rt;
+        alike(
+            rt,
             (slot.numbers.as_slice(), &slot.code.as_slice()[..2]),
-            ([0, 0].as_slice(), [0, i as u8].as_slice())
+            ([0, 0].as_slice(), [0, i as u8].as_slice()),
         );
     }
 }
@@ -192,9 +195,10 @@ fn expect_bytes(rt: &impl Abort, window: &Window, count: u32)
         let slot = window.slot(i);
         let job = (slot.job.tile, slot.job.place, slot.job.len);
         assert!(rt; slot.code.len() == 72);
-        assert_eq!(rt;
+        alike(
+            rt,
             (job, &slot.code.as_slice()[..2]),
-            ((10 + i, Place2::Stored, 2), [0, i as u8].as_slice())
+            ((10 + i, Place2::Stored, 2), [0, i as u8].as_slice()),
         );
     }
 }
@@ -206,9 +210,10 @@ fn expect_numbers(rt: &impl Abort, window: &Window, count: u32)
 {
     for i in 0..count {
         let slot = window.slot(i);
-        assert_eq!(rt;
+        alike(
+            rt,
             (slot.job.tile, slot.numbers.as_slice()),
-            (10 + i, [i as i32, 0].as_slice())
+            (10 + i, [i as i32, 0].as_slice()),
         );
     }
 }
@@ -335,8 +340,8 @@ impl Gate for Beside {
 
 // Three calls were held at once, one of each of the workers 0, 1 and 2.
 fn expect_met(rt: &impl Abort, gate: &Meeting) {
-    assert_eq!(rt; gate.met.load(Ordering::SeqCst), 3);
-    assert_eq!(rt; gate.workers.load(Ordering::SeqCst), 0x10101);
+    alike(rt, gate.met.load(Ordering::SeqCst), 3);
+    alike(rt, gate.workers.load(Ordering::SeqCst), 0x10101);
 }
 
 // Slot by slot the tiles are 10 + from and so on, as `put_tiles` leaves them.
@@ -346,13 +351,14 @@ fn expect_marks(rt: &impl Abort, window: &Window, from: u32, count: u32)
 {
     for i in 0..count {
         let slot = window.slot(i);
-        assert_eq!(rt;
+        alike(
+            rt,
             (slot.job, slot.numbers.as_slice(), slot.code.len()),
             (
                 job_of(10 + from + i, 1, 0),
                 [(from + i) as i32, 0].as_slice(),
-                72
-            )
+                72,
+            ),
         );
     }
 }
@@ -372,11 +378,11 @@ fn expect_halves(
         return Err(AllocError);
     };
     let (half, rest) = (2 * first.workers(), 2 * second.workers());
-    assert_eq!(rt; (half, rest), slots);
+    alike(rt, (half, rest), slots);
     expect_marks(rt, &first, 0, half);
     expect_marks(rt, &second, half, rest);
     window.rejoin(first, second);
-    assert_eq!(rt; window.workers(), workers);
+    alike(rt, window.workers(), workers);
     expect_marks(rt, &window, 0, 2 * workers);
     Ok(())
 }
@@ -388,7 +394,7 @@ fn expect_came(rt: &impl Abort, gate: &Holding) {
     let tiles = gate.tiles.load(Ordering::SeqCst);
     let calls = gate.workers.load(Ordering::SeqCst);
     let is_shared = calls == 0x301 || calls == 0x103;
-    assert_eq!(rt; (came, tiles, is_shared), (1, 46, true));
+    alike(rt, (came, tiles, is_shared), (1, 46, true));
 }
 
 // It fails a body that codes all slots on one thread (`one_thread`): with `work_at_once` on one thread in
@@ -398,12 +404,12 @@ fn gate_holds_the_first_tile(rt: HostRuntime) -> Result<(), Fail> {
     let mut window = filled(rt.alloc(), 2)?;
     put_tiles(&mut window, 4);
     let gate = Holding::new();
-    assert_eq!(rt; encode_window(&rt, &mut window, 4, &gate), Ok(()));
+    alike(&rt, encode_window(&rt, &mut window, 4, &gate), Ok(()));
     expect_came(&rt, &gate);
     expect_bytes(&rt, &window, 4);
     put_records(&mut window, 4, [9, 9]);
     let gate = Holding::new();
-    assert_eq!(rt; decode_window(&rt, &mut window, 4, &gate), Ok(None));
+    alike(&rt, decode_window(&rt, &mut window, 4, &gate), Ok(None));
     expect_came(&rt, &gate);
     expect_numbers(&rt, &window, 4);
     Ok(())
@@ -415,7 +421,7 @@ fn gate_holds_the_first_large_tile(rt: HostRuntime) -> Result<(), Fail> {
     let mut window = filled_for(rt.alloc(), 2, 16_384)?;
     put_records_of(&mut window, 4, 16_384, [9, 9]);
     let gate = Holding::new();
-    assert_eq!(rt; decode_window(&rt, &mut window, 4, &gate), Ok(None));
+    alike(&rt, decode_window(&rt, &mut window, 4, &gate), Ok(None));
     expect_came(&rt, &gate);
     Ok(())
 }
@@ -432,9 +438,9 @@ fn job_is_done_beside_the_tiles(rt: HostRuntime) -> Result<(), Fail> {
         workers: 2,
     };
     let (answer, done) = encode_beside(&crew, &mut window, 4, &mut || gate.wait());
-    assert_eq!(rt; answer, Ok(()));
+    alike(&rt, answer, Ok(()));
     assert!(rt; done);
-    assert_eq!(rt; gate.met.load(Ordering::SeqCst), 4);
+    alike(&rt, gate.met.load(Ordering::SeqCst), 4);
     expect_bytes(&rt, &window, 4);
     put_records(&mut window, 4, [9, 9]);
     let gate = Beside::new();
@@ -444,9 +450,9 @@ fn job_is_done_beside_the_tiles(rt: HostRuntime) -> Result<(), Fail> {
         workers: 2,
     };
     let (answer, done) = decode_beside(&crew, &mut window, 4, &mut || gate.wait());
-    assert_eq!(rt; answer, Ok(None));
+    alike(&rt, answer, Ok(None));
     assert!(rt; done);
-    assert_eq!(rt; gate.met.load(Ordering::SeqCst), 4);
+    alike(&rt, gate.met.load(Ordering::SeqCst), 4);
     expect_numbers(&rt, &window, 4);
     Ok(())
 }
@@ -457,12 +463,12 @@ fn three_calls_are_held_at_once(rt: HostRuntime) -> Result<(), Fail> {
     let mut window = filled(rt.alloc(), 3)?;
     put_tiles(&mut window, 3);
     let gate = Meeting::new();
-    assert_eq!(rt; encode_window(&rt, &mut window, 3, &gate), Ok(()));
+    alike(&rt, encode_window(&rt, &mut window, 3, &gate), Ok(()));
     expect_met(&rt, &gate);
     expect_bytes(&rt, &window, 3);
     put_records(&mut window, 3, [9, 9]);
     let gate = Meeting::new();
-    assert_eq!(rt; decode_window(&rt, &mut window, 3, &gate), Ok(None));
+    alike(&rt, decode_window(&rt, &mut window, 3, &gate), Ok(None));
     expect_met(&rt, &gate);
     expect_numbers(&rt, &window, 3);
     put_tiles(&mut window, 3);
@@ -473,7 +479,7 @@ fn three_calls_are_held_at_once(rt: HostRuntime) -> Result<(), Fail> {
         workers: 3,
     };
     let (answer, ()) = encode_beside(&crew, &mut window, 3, &mut || {});
-    assert_eq!(rt; answer, Ok(()));
+    alike(&rt, answer, Ok(()));
     expect_met(&rt, &gate);
     expect_bytes(&rt, &window, 3);
     Ok(())
@@ -492,35 +498,39 @@ fn job_is_done_once(rt: HostRuntime) -> Result<(), Fail> {
     };
     let mut job = || done.fetch_add(1, Ordering::SeqCst);
     let answer = encode_beside(&crew, &mut window, 0, &mut job);
-    assert_eq!(rt; answer, (Ok(()), 0));
+    alike(&rt, answer, (Ok(()), 0));
     expect_tiles(&rt, &window, 4);
     let answer = encode_beside(&crew, &mut window, 1, &mut job);
-    assert_eq!(rt; answer, (Ok(()), 1));
+    alike(&rt, answer, (Ok(()), 1));
     expect_bytes(&rt, &window, 1);
     put_records(&mut window, 4, [9, 9]);
     let answer = decode_beside(&crew, &mut window, 0, &mut job);
-    assert_eq!(rt; answer, (Ok(None), 2));
+    alike(&rt, answer, (Ok(None), 2));
     expect_records(&rt, &window, 4);
     let answer = decode_beside(&crew, &mut window, 1, &mut job);
-    assert_eq!(rt; answer, (Ok(None), 3));
+    alike(&rt, answer, (Ok(None), 3));
     expect_numbers(&rt, &window, 1);
-    assert_eq!(rt; done.load(Ordering::SeqCst), 4);
+    alike(&rt, done.load(Ordering::SeqCst), 4);
     Ok(())
 }
 
 #[test]
 fn many_workers_and_none_to_do(rt: HostRuntime) -> Result<(), Fail> {
     let mut window = filled(rt.alloc(), 64)?;
-    assert_eq!(rt; window.workers(), 64);
+    alike(&rt, window.workers(), 64);
     put_tiles(&mut window, 128);
-    assert_eq!(rt; encode_window(&rt, &mut window, 0, &FreeGate), Ok(()));
+    alike(&rt, encode_window(&rt, &mut window, 0, &FreeGate), Ok(()));
     expect_tiles(&rt, &window, 128);
-    assert_eq!(rt; encode_window(&rt, &mut window, 128, &FreeGate), Ok(()));
+    alike(&rt, encode_window(&rt, &mut window, 128, &FreeGate), Ok(()));
     expect_bytes(&rt, &window, 128);
     put_records(&mut window, 128, [128, 128]);
-    assert_eq!(rt; decode_window(&rt, &mut window, 0, &FreeGate), Ok(None));
+    alike(&rt, decode_window(&rt, &mut window, 0, &FreeGate), Ok(None));
     expect_records(&rt, &window, 128);
-    assert_eq!(rt; decode_window(&rt, &mut window, 128, &FreeGate), Ok(None));
+    alike(
+        &rt,
+        decode_window(&rt, &mut window, 128, &FreeGate),
+        Ok(None),
+    );
     expect_numbers(&rt, &window, 128);
     Ok(())
 }
@@ -544,7 +554,7 @@ fn decoding_without_memory_leaves_the_slots(rt: HostRuntime) -> Result<(), Fail>
     put_records(&mut window, 4, [4, 4]);
     match decode_window(&rt, &mut window, 4, &FreeGate) {
         Ok(fault) => {
-            assert_eq!(rt; fault, None);
+            alike(&rt, fault, None);
             expect_numbers(&rt, &window, 4);
         }
         Err(NoMemory) => expect_records(&rt, &window, 4),
@@ -557,7 +567,7 @@ fn lowest_faulty_slot_is_answered(rt: HostRuntime) -> Result<(), Fail> {
     let mut window = filled(rt.alloc(), 3)?;
     put_records(&mut window, 6, [2, 4]);
     let answer = decode_window(&rt, &mut window, 6, &FreeGate);
-    assert_eq!(rt; answer, Ok(Some((2, TileFault::TileSize))));
+    alike(&rt, answer, Ok(Some((2, TileFault::TileSize))));
     expect_numbers(&rt, &window, 2);
     put_records(&mut window, 6, [3, 5]);
     let crew = Crew {
@@ -566,7 +576,7 @@ fn lowest_faulty_slot_is_answered(rt: HostRuntime) -> Result<(), Fail> {
         workers: 3,
     };
     let (answer, ()) = decode_beside(&crew, &mut window, 6, &mut || {});
-    assert_eq!(rt; answer, Ok(Some((3, TileFault::TileSize))));
+    alike(&rt, answer, Ok(Some((3, TileFault::TileSize))));
     expect_numbers(&rt, &window, 3);
     Ok(())
 }
@@ -589,11 +599,11 @@ fn window_takes_and_hands_back(rt: HostRuntime) -> Result<(), Fail> {
     let (live, asked, limit) = (248, 72, 319);
     let refused = Err(Short::OverLimit { live, asked, limit });
     let filled = window.fill(&mut meter, 1);
-    assert_eq!(rt; (filled, meter.live(), meter.peak()), (refused, 0, 248));
+    alike(&rt, (filled, meter.live(), meter.peak()), (refused, 0, 248));
     let mut meter = Meter::new(rt.alloc(), 320);
     let filled = window.fill(&mut meter, 1);
-    assert_eq!(rt; (filled, meter.live()), (Ok(()), 320));
+    alike(&rt, (filled, meter.live()), (Ok(()), 320));
     window.empty(&mut meter);
-    assert_eq!(rt; meter.live(), 0);
+    alike(&rt, meter.live(), 0);
     Ok(())
 }

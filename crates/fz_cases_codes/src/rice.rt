@@ -2,6 +2,7 @@
 ghost use Rattle.std.specs.Prelude.{◌≡◌, ℕ, ◌<◌, ◌≤◌, length, All, IfOk, vec_len};
 ghost use Rattle.fz_rice.specs.Numbers.{IsWidth, IsNumber};
 
+use crate::asserts::alike;
 use crate::random::next_word;
 use fz_bits::Full;
 use fz_rice::{
@@ -18,9 +19,10 @@ fn codes_of_8_bits(rt: HostRuntime) {
     let mut short = [0u8; 2];
     let full = Coder::<8>::encode(&[0, 255, 0, 255], 32, &mut short);
     let one = Coder::<8>::encode(&[7], 32, &mut short);
-    assert_eq!(rt;
+    alike(
+        &rt,
         (len, out, full, one),
-        (Ok(3), [0x00, 0x34, 0xa0], Err(Full), Ok(2))
+        (Ok(3), [0x00, 0x34, 0xa0], Err(Full), Ok(2)),
     );
 }
 
@@ -33,7 +35,7 @@ fn expect_code<const W: u32>(rt: &impl Abort, numbers: &[i32], code: &[u8])
     let mut out = [0u8; 16];
     let len = Coder::<W>::encode(numbers, 32, &mut out);
     let front = out.get(0..code.len());
-    assert_eq!(rt; (len, front), (Ok(code.len()), Some(code)));
+    alike(rt, (len, front), (Ok(code.len()), Some(code)));
 }
 
 #[test]
@@ -100,12 +102,17 @@ fn answers_of_decode(rt: HostRuntime) {
     let ended = Coder::<32>::decode(&ended, 32, &mut one);
     let longer = [0x00, 0x00, 0x00, 0x05, 0x00, 0xff];
     let longer = Coder::<32>::decode(&longer, 32, &mut one);
-    assert_eq!(rt;
+    alike(
+        &rt,
         (unlawful, ended, longer, one),
-        (Err(CodeFault::Unlawful), Err(CodeFault::Ended), Ok(5), [5])
+        (Err(CodeFault::Unlawful), Err(CodeFault::Ended), Ok(5), [5]),
     );
     let none: &mut [i32] = &mut [];
-    assert_eq!(rt; Coder::<16>::decode(&[0x12, 0x34, 0x56], 32, none), Ok(2));
+    alike(
+        &rt,
+        Coder::<16>::decode(&[0x12, 0x34, 0x56], 32, none),
+        Ok(2),
+    );
 }
 
 /// Codes that are cut: unlawful if what is left of them begins no lawful one, and else ended.
@@ -125,9 +132,10 @@ fn codes_that_are_cut(rt: HostRuntime) {
     let too_many = Coder::<8>::decode(&zeros, 32, &mut one);
     let fewer = Coder::<8>::decode(&zeros[..30], 32, &mut one);
     let (unlawful, ended) = (Err(CodeFault::Unlawful), Err(CodeFault::Ended));
-    assert_eq!(rt;
+    alike(
+        &rt,
         [no_id, some_id, too_many, fewer],
-        [unlawful, ended, unlawful, ended]
+        [unlawful, ended, unlawful, ended],
     );
 }
 
@@ -136,22 +144,31 @@ fn codes_that_are_cut(rt: HostRuntime) {
 #[test]
 fn codes_in_parts(rt: HostRuntime) {
     let code = [0x00, 0x0a, 0x02, 0x20];
-    assert_eq!(rt;
+    alike(
+        &rt,
         Coder::<16>::first_mark(&code),
-        Ok(Mark { bit: 16, last: 10 })
+        Ok(Mark { bit: 16, last: 10 }),
     );
-    assert_eq!(rt; Coder::<16>::first_mark(&code[..1]), Err(CodeFault::Ended));
+    alike(
+        &rt,
+        Coder::<16>::first_mark(&code[..1]),
+        Err(CodeFault::Ended),
+    );
     let mut tens = [0i32; 32];
     let next = Coder::<16>::decode_on(&code, Mark { bit: 16, last: 10 }, 32, &mut tens);
-    assert_eq!(rt; (next, tens), (Ok(Mark { bit: 20, last: 10 }), [10; 32]));
+    alike(
+        &rt,
+        (next, tens),
+        (Ok(Mark { bit: 20, last: 10 }), [10; 32]),
+    );
     let mut one = [0i32; 1];
     let next = Coder::<16>::decode_on(&code, Mark { bit: 20, last: 10 }, 32, &mut one);
-    assert_eq!(rt; (next, one), (Ok(Mark { bit: 28, last: 12 }), [12]));
+    alike(&rt, (next, one), (Ok(Mark { bit: 28, last: 12 }), [12]));
     // The same in the bytes from the third one on, and where these end in the second id's value.
     let next = Coder::<16>::decode_on(&code[2..], Mark { bit: 4, last: 10 }, 32, &mut one);
-    assert_eq!(rt; (next, one), (Ok(Mark { bit: 12, last: 12 }), [12]));
+    alike(&rt, (next, one), (Ok(Mark { bit: 12, last: 12 }), [12]));
     let cut = Coder::<16>::decode_on(&code[2..3], Mark { bit: 4, last: 10 }, 32, &mut one);
-    assert_eq!(rt; cut, Err(CodeFault::Ended));
+    alike(&rt, cut, Err(CodeFault::Ended));
 }
 
 /// The number of `W` bits in which a word ends: unsigned at 8, else in two's complement.
@@ -211,9 +228,10 @@ fn there_and_back<const W: u32>(
     let decoded = Coder::<W>::decode(&code[..len], block, back.as_mut_slice());
     let are_back = numbers.as_slice() == back.as_slice();
     let cut = Coder::<W>::decode(&code[..len - 1], block, back.as_mut_slice());
-    assert_eq!(rt;
+    alike(
+        rt,
         (decoded, are_back, cut),
-        (Ok(len), true, Err(CodeFault::Ended))
+        (Ok(len), true, Err(CodeFault::Ended)),
     );
     Ok(())
 }

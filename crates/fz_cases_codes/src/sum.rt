@@ -1,6 +1,7 @@
 //! Rows worked out outside of the crate, and byte lists that are added in pieces.
 ghost use Rattle.std.specs.Prelude.{◌≡◌, ◌+◌, ◌<◌, ◌^◌, length};
 
+use crate::asserts::alike;
 use crate::random::next_word;
 use fz_card::{Card, Name, int_card, text_card};
 use fz_sum::{
@@ -48,7 +49,7 @@ fn sums(rt: HostRuntime) {
         (u64::MAX, &[1, 2], 0x0200_0001),
     ];
     for &(at, bytes, sum) in &CASES {
-        assert_eq!(rt; sum_of(at, bytes), sum);
+        alike(&rt, sum_of(at, bytes), sum);
     }
 }
 
@@ -64,7 +65,7 @@ fn sums_from_behind(rt: HostRuntime) {
         (0, &[0xff, 0xff, 0xff, 0xff, 0, 0, 0, 1], 7, 1),
     ];
     for &(at, bytes, len, sum) in &CASES {
-        assert_eq!(rt; sum_from_behind(at, bytes, len), sum);
+        alike(&rt, sum_from_behind(at, bytes, len), sum);
     }
 }
 
@@ -76,14 +77,14 @@ fn characters_of_sums(rt: HostRuntime) {
         (0, *b"orrrrooooooooooo"),
     ];
     for &(sum, text) in &CASES {
-        assert_eq!(rt; characters(sum), text);
+        alike(&rt, characters(sum), text);
     }
 }
 
 /// Compares the front of a card, after which it is blank.
 fn expect_card(rt: &impl Abort, card: Card, text: &[u8]) {
     let (front, rest) = card.bytes.split_at(30);
-    assert_eq!(rt; front, text);
+    alike(rt, front, text);
     assert!(rt; rest.iter().all(|byte| *byte == b' '));
 }
 
@@ -110,7 +111,11 @@ fn cards(rt: HostRuntime) {
         blank_checksum_card(),
         b"CHECKSUM= '0000000000000000'  ",
     );
-    assert_eq!(rt; sum_of_card(&datasum_card(546_730_044)), Some(546_730_044));
+    alike(
+        &rt,
+        sum_of_card(&datasum_card(546_730_044)),
+        Some(546_730_044),
+    );
 }
 
 #[test]
@@ -136,7 +141,7 @@ fn texts(rt: HostRuntime) {
         (b"", None),
     ];
     for &(text, sum) in &CASES {
-        assert_eq!(rt; sum_of_text(text), sum);
+        alike(&rt, sum_of_text(text), sum);
     }
 }
 
@@ -158,7 +163,7 @@ fn verdicts(rt: HostRuntime) {
         (Some(&odd), false, Verdict::Wrong),
     ];
     for (card, right, answer) in cases {
-        assert_eq!(rt; verdict(card, right), answer);
+        alike(&rt, verdict(card, right), answer);
     }
     let sums = [
         sum_of_card(&padded),
@@ -166,7 +171,7 @@ fn verdicts(rt: HostRuntime) {
         sum_of_card(&number),
         sum_of_card(&odd),
     ];
-    assert_eq!(rt; sums, [Some(0), None, None, None]);
+    alike(&rt, sums, [Some(0), None, None, None]);
 }
 
 #[test]
@@ -188,9 +193,9 @@ fn verdicts_by_headers(rt: HostRuntime) {
             datasum_verdict(&buf, cards, sum),
             checksum_verdict(&buf, cards, sum),
         );
-        assert_eq!(rt; found, (datasum, checksum));
+        alike(&rt, found, (datasum, checksum));
     }
-    assert_eq!(rt; datasum_verdict(&buf, 4, 8), Verdict::Wrong);
+    alike(&rt, datasum_verdict(&buf, 4, 8), Verdict::Wrong);
 }
 
 /// Random bytes from a seed.
@@ -237,7 +242,7 @@ fn pieces(rt: HostRuntime) {
         whole.add(at, list);
         let mut cut = Sum::new();
         add_in_pieces(&mut cut, at, list, word);
-        assert_eq!(rt; cut.value(), whole.value());
+        alike(&rt, cut.value(), whole.value());
     }
 }
 
@@ -250,6 +255,6 @@ fn all_ones(rt: HostRuntime) {
         hdu[at..at + 80].copy_from_slice(&blank_checksum_card().bytes);
         let sum = sum_of(0, &hdu);
         hdu[at..at + 80].copy_from_slice(&checksum_card(sum).bytes);
-        assert_eq!(rt; sum_of(0, &hdu), u32::MAX);
+        alike(&rt, sum_of(0, &hdu), u32::MAX);
     }
 }

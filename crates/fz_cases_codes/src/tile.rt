@@ -3,6 +3,7 @@ ghost use Rattle.std.specs.Prelude.{◌≡◌, ◌≤◌, length, All, pos};
 ghost use Rattle.fz_bits.specs.Numbers.{IsNumber};
 ghost use Rattle.fz_tile.specs.Codecs.{CanWrite};
 
+use crate::asserts::alike;
 use fz_tile::{
     Codec, Coded, Place2, TileFault, column_law, decode_tile, encode_tile, one_fault_law,
     one_record_law, plain_law, plain_len, read_pixels, read_plain, slice_law, tile_code_law,
@@ -30,10 +31,10 @@ fn pixels(rt: HostRuntime) {
     }
     let mut numbers = [7; 8];
     read_pixels(&bytes, &mut numbers);
-    assert_eq!(rt; numbers, values);
+    alike(&rt, numbers, values);
     let mut written = [7; 16];
     write_pixels(&numbers, &mut written);
-    assert_eq!(rt; written, bytes);
+    alike(&rt, written, bytes);
 }
 
 /// RICE_1 in blocks of 32.
@@ -52,7 +53,11 @@ fn expect_bytes(rt: &impl Abort, codec: Codec, numbers: &[i32], place: Place2, b
 {
     let mut out = [0xa5; 400];
     let coded = encode_tile(codec, 16, numbers, &mut out);
-    assert_eq!(rt; (coded.place, &out[..coded.len as usize]), (place, bytes));
+    alike(
+        rt,
+        (coded.place, &out[..coded.len as usize]),
+        (place, bytes),
+    );
 }
 
 #[test]
@@ -117,26 +122,27 @@ fn runs_of_plain_bytes(rt: HostRuntime) {
         plain_len(32, 3),
         plain_len(64, 1 << 40),
     ];
-    assert_eq!(rt; lens, [3, 6, 12, 1 << 43]);
+    alike(&rt, lens, [3, 6, 12, 1 << 43]);
     let bytes = [0xff, 0xff, 0xff, 0x38, 0x00, 0x00, 0x00, 0x05];
     let mut numbers = [7; 8];
     read_plain(8, &bytes, &mut numbers);
-    assert_eq!(rt; numbers, [255, 255, 255, 56, 0, 0, 0, 5]);
+    alike(&rt, numbers, [255, 255, 255, 56, 0, 0, 0, 5]);
     read_plain(16, &bytes, &mut numbers[..4]);
-    assert_eq!(rt; &numbers[..4], [-1, -200, 0, 5].as_slice());
+    alike(&rt, &numbers[..4], [-1, -200, 0, 5].as_slice());
     let (mut words, mut longs) = ([7; 2], [7; 2]);
     read_plain(32, &bytes, &mut words);
     // -858993459195 is -200 times 2^32 and 5.
     read_plain(64, &bytes, &mut longs);
-    assert_eq!(rt; (words, longs), ([-200, 5], [-200, 5]));
+    alike(&rt, (words, longs), ([-200, 5], [-200, 5]));
     let (mut octets, mut pairs) = ([0xa5; 2], [0xa5; 4]);
     write_plain(8, &[255, 0], &mut octets);
     write_plain(16, &[-200, 5], &mut pairs);
     let mut out = [0xa5; 8];
     write_plain(32, &[-200, 5], &mut out);
-    assert_eq!(rt;
+    alike(
+        &rt,
         (octets, pairs, out),
-        ([0xff, 0x00], [0xff, 0x38, 0x00, 0x05], bytes)
+        ([0xff, 0x00], [0xff, 0x38, 0x00, 0x05], bytes),
     );
     let none: &mut [i32] = &mut [];
     read_plain(64, &[], none);
@@ -158,9 +164,10 @@ fn tiles_of_8_bits(rt: HostRuntime) {
             len: 2,
         },
     );
-    assert_eq!(rt;
+    alike(
+        &rt,
         (stored, first, coded, &out[..2]),
-        (one, 0x07, two, [0x07, 0x00].as_slice())
+        (one, 0x07, two, [0x07, 0x00].as_slice()),
     );
 }
 
@@ -168,9 +175,10 @@ fn tiles_of_8_bits(rt: HostRuntime) {
 fn tile_of_32_bits(rt: HostRuntime) {
     let mut out = [0xa5; 96];
     let coded = encode_tile(rice(4), 32, &[5, 5, 5, 5], &mut out);
-    assert_eq!(rt;
+    alike(
+        &rt,
         (coded.place, coded.len, &out[..5]),
-        (Place2::Coded, 5, [0x00, 0x00, 0x00, 0x05, 0x00].as_slice())
+        (Place2::Coded, 5, [0x00, 0x00, 0x00, 0x05, 0x00].as_slice()),
     );
 }
 
@@ -184,9 +192,10 @@ fn tile_of_64_bits(rt: HostRuntime) {
     ];
     let mut out = [0xa5; 80];
     let coded = encode_tile(Codec::Plain, 64, &pixels, &mut out);
-    assert_eq!(rt;
+    alike(
+        &rt,
         (coded.place, coded.len, &out[..16]),
-        (Place2::Stored, 16, bytes.as_slice())
+        (Place2::Stored, 16, bytes.as_slice()),
     );
     let mut numbers = [7; 4];
     let read = decode_tile(Codec::Plain, 64, Place2::Stored, &bytes, 16, &mut numbers);
@@ -199,9 +208,10 @@ fn tile_of_64_bits(rt: HostRuntime) {
         8,
         &mut numbers,
     );
-    assert_eq!(rt;
+    alike(
+        &rt,
         (read, back, cut),
-        (Ok(()), pixels, Err(TileFault::TileSize))
+        (Ok(()), pixels, Err(TileFault::TileSize)),
     );
 }
 
@@ -212,9 +222,10 @@ fn codes_of_rice(rt: HostRuntime) {
     let read = decode_tile(rice(2), 16, Place2::Coded, &code, 4, &mut numbers);
     let back = numbers;
     let narrow = decode_tile(rice(2), 8, Place2::Coded, &code, 4, &mut numbers);
-    assert_eq!(rt;
+    alike(
+        &rt,
         (read, back, narrow),
-        (Ok(()), [1000, 1000, 1003], Err(TileFault::PixelRange))
+        (Ok(()), [1000, 1000, 1003], Err(TileFault::PixelRange)),
     );
 
     let mut numbers = [7; 4];
@@ -223,21 +234,23 @@ fn codes_of_rice(rt: HostRuntime) {
     let fives = numbers;
     let code = [0x00, 0x00, 0x00, 0x05, 0xd8];
     let unlawful = decode_tile(rice(4), 32, Place2::Coded, &code, 5, &mut numbers);
-    assert_eq!(rt;
+    alike(
+        &rt,
         (read, fives, unlawful),
-        (Ok(()), [5; 4], Err(TileFault::CodeValue))
+        (Ok(()), [5; 4], Err(TileFault::CodeValue)),
     );
     let code = [0x7f, 0x00, 0x19, 0x48];
     let read = decode_tile(rice(2), 16, Place2::Coded, &code, 4, &mut numbers);
     let back = numbers;
     let short = decode_tile(rice(2), 16, Place2::Coded, &code[..2], 2, &mut numbers);
-    assert_eq!(rt;
+    alike(
+        &rt,
         (read, back, short),
         (
             Ok(()),
             [32512, 32513, 32512, 32513],
-            Err(TileFault::CodeShort)
-        )
+            Err(TileFault::CodeShort),
+        ),
     );
 }
 
@@ -248,15 +261,16 @@ fn records_longer_than_what_is_read(rt: HostRuntime) {
     record[..6].copy_from_slice(&[0x00, 0x00, 0x03, 0xe8, 0x0e, 0x04]);
     let mut numbers = [7; 3];
     let read = decode_tile(rice(4), 16, Place2::Coded, &record, 1_000_006, &mut numbers);
-    assert_eq!(rt; (read, numbers), (Ok(()), [1000, 1000, 1003]));
+    alike(&rt, (read, numbers), (Ok(()), [1000, 1000, 1003]));
     // id 1, and zeros without an end
     record[4] = 0x08;
     record[5] = 0x00;
     let cut = decode_tile(rice(4), 16, Place2::Coded, &record, 88, &mut numbers);
     let longer = decode_tile(rice(4), 16, Place2::Coded, &record, 89, &mut numbers);
-    assert_eq!(rt;
+    alike(
+        &rt,
         (cut, longer),
-        (Err(TileFault::CodeShort), Err(TileFault::CodeValue))
+        (Err(TileFault::CodeShort), Err(TileFault::CodeValue)),
     );
 }
 
@@ -264,7 +278,7 @@ fn records_longer_than_what_is_read(rt: HostRuntime) {
 fn plain_bytes(rt: HostRuntime) {
     let mut numbers = [7; 1];
     let read = decode_tile(rice(1), 8, Place2::Stored, &[0xc8], 1, &mut numbers);
-    assert_eq!(rt; (read, numbers), (Ok(()), [200]));
+    alike(&rt, (read, numbers), (Ok(()), [200]));
     let read = decode_tile(
         Codec::Plain,
         16,
@@ -273,10 +287,10 @@ fn plain_bytes(rt: HostRuntime) {
         2,
         &mut numbers,
     );
-    assert_eq!(rt; (read, numbers), (Ok(()), [-200]));
+    alike(&rt, (read, numbers), (Ok(()), [-200]));
     let bytes = [0xff, 0xff, 0xff, 0x38];
     let read = decode_tile(Codec::Plio, 32, Place2::Stored, &bytes, 4, &mut numbers);
-    assert_eq!(rt; (read, numbers), (Ok(()), [-200]));
+    alike(&rt, (read, numbers), (Ok(()), [-200]));
 }
 
 #[test]
@@ -293,9 +307,10 @@ fn plain_bytes_of_other_sizes(rt: HostRuntime) {
         3,
         &mut numbers,
     );
-    assert_eq!(rt;
+    alike(
+        &rt,
         [of_octets, of_pairs, shorter],
-        [Err(TileFault::TileSize); 3]
+        [Err(TileFault::TileSize); 3],
     );
 }
 
@@ -307,9 +322,10 @@ fn lists_of_plio(rt: HostRuntime) {
     let back = numbers;
     list[15] = 0x04;
     let past = decode_tile(Codec::Plio, 16, Place2::Coded, &list, 16, &mut numbers);
-    assert_eq!(rt;
+    alike(
+        &rt,
         (read, back, past),
-        (Ok(()), [1, 1, 0], Err(TileFault::LineList))
+        (Ok(()), [1, 1, 0], Err(TileFault::LineList)),
     );
 }
 
@@ -325,9 +341,10 @@ fn long_records_of_plio(rt: HostRuntime) {
     let read = decode_tile(Codec::Plio, 16, Place2::Coded, &record, 1001, &mut numbers);
     let back = numbers;
     let narrow = decode_tile(Codec::Plio, 8, Place2::Coded, &record, 1001, &mut numbers);
-    assert_eq!(rt;
+    alike(
+        &rt,
         (read, back, narrow),
-        (Ok(()), [300, 300, 0], Err(TileFault::PixelRange))
+        (Ok(()), [300, 300, 0], Err(TileFault::PixelRange)),
     );
 }
 

@@ -1,6 +1,7 @@
 //! What no clause says: messages, worked rows, real files, and that each call can succeed.
 ghost use Rattle.fz_base.specs.Counts.{HasCause, nameless};
 
+use crate::asserts::alike;
 use fz_base::{
     Bytes, Failed, Fault, FileSink, FileSource, FixedSource, FreeGate, Gate, Kind, MemSink,
     MemSource, MemText, Meter, Numbers, Place, Short, Sink, Source, StdText, Stop, Text, copy,
@@ -28,9 +29,10 @@ fn messages_are_the_names(rt: HostRuntime) -> Result<(), Fail> {
         Short::NoMemory,
         Short::OverLimit { live, asked, limit }
     )?;
-    assert_eq!(rt;
+    alike(
+        &rt,
         (failed.as_str(), short.as_str()),
-        ("Fault NoMemory", "NoMemory OverLimit")
+        ("Fault NoMemory", "NoMemory OverLimit"),
     );
     let faults = format!(in rt.alloc();
         "{} {} {}",
@@ -43,16 +45,21 @@ fn messages_are_the_names(rt: HostRuntime) -> Result<(), Fail> {
         Stop::OverLimit { live, asked, limit },
         Stop::NoMemory
     )?;
-    assert_eq!(rt;
+    alike(
+        &rt,
         (faults.as_str(), shorts.as_str()),
-        ("Refused ReadFault WriteFault", "OverLimit NoMemory")
+        ("Refused ReadFault WriteFault", "OverLimit NoMemory"),
     );
     Ok(())
 }
 
 #[test]
 fn kinds_have_numbers_and_a_gate_lets_through(rt: HostRuntime) {
-    assert_eq!(rt; (Kind::NotFits.number(), Kind::BadPatch.number()), (1, 32));
+    alike(
+        &rt,
+        (Kind::NotFits.number(), Kind::BadPatch.number()),
+        (1, 32),
+    );
     FreeGate.pass(0, 0);
 }
 
@@ -64,24 +71,26 @@ fn meter_keeps_its_limit(rt: HostRuntime) -> Result<(), Fail> {
     let refused = meter.bytes(5).err();
     let (live, asked, limit) = (6, 5, 10);
     let four = meter.bytes(4)?;
-    assert_eq!(rt;
+    alike(
+        &rt,
         (refused, meter.live(), meter.peak(), meter.limit()),
-        (Some(Short::OverLimit { live, asked, limit }), 10, 10, 10)
+        (Some(Short::OverLimit { live, asked, limit }), 10, 10, 10),
     );
-    assert_eq!(rt; (six.len(), six.as_slice()), (6, [0; 6].as_slice()));
+    alike(&rt, (six.len(), six.as_slice()), (6, [0; 6].as_slice()));
     six.as_mut_slice().copy_from_slice(b"SIMPLE");
-    assert_eq!(rt; six.as_slice(), b"SIMPLE".as_slice());
+    alike(&rt, six.as_slice(), b"SIMPLE".as_slice());
     meter.give_bytes(six);
     meter.give_bytes(four);
     let mut two = meter.numbers(2)?;
     two.as_mut_slice().copy_from_slice(&[1, -1]);
-    assert_eq!(rt;
+    alike(
+        &rt,
         (meter.live(), meter.peak(), two.as_slice()),
-        (8, 10, [1, -1].as_slice())
+        (8, 10, [1, -1].as_slice()),
     );
     meter.give_numbers(two);
     let empty = Bytes::empty(rt.alloc()).len() + Numbers::empty(rt.alloc()).len();
-    assert_eq!(rt; (meter.live(), empty), (0, 0));
+    alike(&rt, (meter.live(), empty), (0, 0));
     Ok(())
 }
 
@@ -107,10 +116,10 @@ fn mem_source_fails_where_it_is_told_to(rt: HostRuntime) -> Result<(), Fail> {
             let read = source.read_at(2, &mut into);
             assert!(rt; read == answer && (answer.is_err() || into == *b"MPL"));
         }
-        assert_eq!(rt;
+        alike(
+            &rt,
             (length, source.reads(), source.faults()),
             (attached, reads, faults),
-            "failing {failing}"
         );
     }
     Ok(())
@@ -130,12 +139,12 @@ fn fixed_source_never_fails(rt: HostRuntime) -> Result<(), Fail> {
         unreachable!()
     };
     let length = source.attach("any")?;
-    assert_eq!(rt; length, 6);
+    assert!(rt; length == 6);
     let mut into = [0; 3];
     let Ok(()) = source.read_at(2, &mut into) else {
         unreachable!()
     };
-    assert_eq!(rt; into, *b"MPL");
+    alike(&rt, into, *b"MPL");
     Ok(())
 }
 
@@ -151,18 +160,18 @@ fn mem_sink_keeps_what_it_is_told_to(rt: HostRuntime) -> Result<(), Fail> {
     ];
     for &(failing, keep, answers, contents) in &CASES {
         let mut sink = MemSink::new(rt.alloc(), vec![in rt.alloc(); failing]?, keep);
-        assert_eq!(rt; sink.contents(), [].as_slice());
+        alike(&rt, sink.contents(), [].as_slice());
         sink.create("any")?;
         let first = sink.write_at(0, b"AB");
         let second = sink.write_at(4, b"CDE");
         let found = [first, second, sink.finish()];
-        assert_eq!(rt;
+        alike(
+            &rt,
             (found, sink.contents(), sink.faults() == 0),
             (answers, contents, failing == 9),
-            "failing {failing}, keep {keep}"
         );
         sink.create("any")?;
-        assert_eq!(rt; sink.contents(), [].as_slice());
+        alike(&rt, sink.contents(), [].as_slice());
     }
     Ok(())
 }
@@ -178,11 +187,11 @@ fn output_is_copied_in_pieces_and_sealed(rt: HostRuntime) -> Result<(), Fail> {
     let mut sink = MemSink::new(rt.alloc(), Vec::new(rt.alloc()), 0);
     sink.create("any")?;
     copy(&mut source, 1, 5, &mut sink, 1, &mut [0; 2])?;
-    assert_eq!(rt; source.reads(), [(1, 2), (3, 2), (5, 1)].as_slice());
+    alike(&rt, source.reads(), [(1, 2), (3, 2), (5, 1)].as_slice());
     write_behind(&mut sink, 6, b" =")?;
-    assert_eq!(rt; sink.contents(), b"\0IMPLE =".as_slice());
+    alike(&rt, sink.contents(), b"\0IMPLE =".as_slice());
     seal(&mut sink)?;
-    assert_eq!(rt; sink.contents(), b"SIMPLE =".as_slice());
+    alike(&rt, sink.contents(), b"SIMPLE =".as_slice());
     log_law();
     output_law();
     Ok(())
@@ -191,13 +200,14 @@ fn output_is_copied_in_pieces_and_sealed(rt: HostRuntime) -> Result<(), Fail> {
 #[test]
 fn mem_sink_wants_memory(rt: HostRuntime) -> Result<(), Fail> {
     let mut sink = MemSink::new(rt.alloc(), vec![in rt.alloc(); 0]?, 7);
-    assert_eq!(rt; sink.create("any"), Err(Failed::Fault));
+    alike(&rt, sink.create("any"), Err(Failed::Fault));
     sink.create("any")?;
     // no such place
     let nowhere = sink.write_at(u64::MAX, b"FITS");
-    assert_eq!(rt;
+    alike(
+        &rt,
         (nowhere, sink.contents(), sink.faults()),
-        (Err(Failed::NoMemory), [].as_slice(), 1)
+        (Err(Failed::NoMemory), [].as_slice(), 1),
     );
     Ok(())
 }
@@ -208,9 +218,10 @@ fn mem_text_grows(rt: HostRuntime) -> Result<(), Fail> {
     text.put(b"done")?;
     let lost = text.put(b"lost");
     text.put(b"\n")?;
-    assert_eq!(rt;
+    alike(
+        &rt,
         (lost, text.contents(), text.faults()),
-        (Err(Failed::Fault), b"done\n".as_slice(), 1)
+        (Err(Failed::Fault), b"done\n".as_slice(), 1),
     );
     Ok(())
 }
@@ -219,16 +230,16 @@ fn mem_text_grows(rt: HostRuntime) -> Result<(), Fail> {
 fn file_source_reads_a_file(rt: HostRuntime) -> Result<(), Fail> {
     let mut source = FileSource::new(rt);
     // no such file
-    assert_eq!(rt; source.attach("in.fits"), Err(Failed::Fault));
+    alike(&rt, source.attach("in.fits"), Err(Failed::Fault));
     fs::write(&rt, "in.fits", b"SIMPLE".as_slice())?;
     let length = source.attach("in.fits")?;
-    assert_eq!(rt; length, 6);
+    assert!(rt; length == 6);
     let mut into = [0; 3];
     source.read_at(2, &mut into)?;
-    assert_eq!(rt; into, *b"MPL");
+    alike(&rt, into, *b"MPL");
     fs::write(&rt, "in.fits", b"SIMP".as_slice())?;
     // it ends early
-    assert_eq!(rt; source.read_at(2, &mut into), Err(Failed::Fault));
+    alike(&rt, source.read_at(2, &mut into), Err(Failed::Fault));
     Ok(())
 }
 
@@ -239,14 +250,15 @@ fn file_sink_makes_a_file(rt: HostRuntime) -> Result<(), Fail> {
     sink.write_at(4, b"CDE")?;
     sink.write_at(0, b"AB")?;
     // no such place
-    assert_eq!(rt; sink.write_at(u64::MAX, b"F"), Err(Failed::Fault));
+    alike(&rt, sink.write_at(u64::MAX, b"F"), Err(Failed::Fault));
     sink.finish()?;
     let mut other = FileSink::new(rt);
     // it is there already
-    assert_eq!(rt; other.create("out.fits"), Err(Failed::Fault));
-    assert_eq!(rt;
+    alike(&rt, other.create("out.fits"), Err(Failed::Fault));
+    alike(
+        &rt,
         fs::read(&rt, "out.fits")?.as_slice(),
-        b"AB\0\0CDE".as_slice()
+        b"AB\0\0CDE".as_slice(),
     );
     Ok(())
 }
@@ -287,7 +299,7 @@ fn std_text_prints(rt: HostRuntime) -> Result<(), Fail> {
         let mut text = StdText::new(Printer { file, refusal });
         let put = text.put(b"done\n");
         let found = fs::read_to_string(&rt, "printed")?;
-        assert_eq!(rt; (put, found.as_str()), (answer, printed));
+        alike(&rt, (put, found.as_str()), (answer, printed));
     }
     Ok(())
 }

@@ -1,4 +1,5 @@
 //! Each public call on a file that is taken, and rows of refused files with the values of the rules.
+use crate::asserts::alike;
 use fz_base::{Fault, Kind, MemSource, Meter, Place, Source, Stop};
 use fz_block::{
     Axes, BLOCK_LEN, Header, Sort, again_law, buffered_header, card, cards_law, data_start,
@@ -140,13 +141,13 @@ fn headers_that_are_taken(rt: HostRuntime) {
     let alloc = rt.alloc();
     let small = header_of(alloc, 5760, &SMALL_CARDS, 0, 0);
     let table = header_of(alloc, 8640, &TABLE_CARDS, 1, 2880);
-    assert_eq!(rt; (small, table), (Ok(SMALL), Ok(TABLE)));
+    alike(&rt, (small, table), (Ok(SMALL), Ok(TABLE)));
 }
 
 #[test]
 fn places(rt: HostRuntime) {
-    assert_eq!(rt; (data_start(&SMALL), next_start(&SMALL)), (2880, 5760));
-    assert_eq!(rt; (data_start(&TABLE), next_start(&TABLE)), (5760, 8640));
+    alike(&rt, (data_start(&SMALL), next_start(&SMALL)), (2880, 5760));
+    alike(&rt, (data_start(&TABLE), next_start(&TABLE)), (5760, 8640));
     hdu_law();
     hdu_list_law();
     start_law();
@@ -183,21 +184,22 @@ fn looked_at(
 fn reads_headers_alone(rt: HostRuntime) -> Result<(), Fail> {
     let alloc = rt.alloc();
     let source = looked_at(alloc, 8640, &SMALL_CARDS, 0, 0)?;
-    assert_eq!(rt; source.reads(), [(0, 2880), (0, 2880)].as_slice());
+    alike(&rt, source.reads(), [(0, 2880), (0, 2880)].as_slice());
     let source = looked_at(alloc, 11520, &TABLE_CARDS, 1, 2880)?;
-    assert_eq!(rt;
+    alike(
+        &rt,
         source.reads(),
-        [(2880, 8), (2880, 2880), (2880, 2880)].as_slice()
+        [(2880, 8), (2880, 2880), (2880, 2880)].as_slice(),
     );
     // END in block 1, none in a file that ends there, another first card, and bytes after an HDU
     let source = looked_at(alloc, 8640, &[(0, SIMPLE), (36, END)], 0, 0)?;
-    assert_eq!(rt; source.reads(), [(0, 2880), (2880, 2880)].as_slice());
+    alike(&rt, source.reads(), [(0, 2880), (2880, 2880)].as_slice());
     let source = looked_at(alloc, 5000, &[(0, SIMPLE)], 0, 0)?;
-    assert_eq!(rt; source.reads(), [(0, 2880)].as_slice());
+    alike(&rt, source.reads(), [(0, 2880)].as_slice());
     let source = looked_at(alloc, 8640, &[(0, END)], 0, 0)?;
-    assert_eq!(rt; source.reads(), [(0, 2880)].as_slice());
+    alike(&rt, source.reads(), [(0, 2880)].as_slice());
     let source = looked_at(alloc, 8640, &SMALL_CARDS, 1, 5760)?;
-    assert_eq!(rt; source.reads(), [(5760, 8)].as_slice());
+    alike(&rt, source.reads(), [(5760, 8)].as_slice());
     Ok(())
 }
 
@@ -207,7 +209,7 @@ fn a_header_in_a_buffer(rt: HostRuntime) {
     for &(i, text) in &SMALL_CARDS {
         put(&mut block, i, text);
     }
-    assert_eq!(rt; buffered_header(&block, 5760, 0, 0), Ok(SMALL));
+    alike(&rt, buffered_header(&block, 5760, 0, 0), Ok(SMALL));
 }
 
 /// What `header_again` answers of HDU 1 of a source, with a buffer of so many bytes.
@@ -246,17 +248,19 @@ fn a_header_in_a_buffer_of_its_length(rt: HostRuntime) -> Result<(), Fail> {
     let alloc = rt.alloc();
     let mut meter = Meter::new(alloc, 5760);
     let mut source = source_of(alloc, 8640, &TABLE_CARDS)?;
-    assert_eq!(rt; header_at_first(&mut source, &mut meter), Ok(TABLE));
-    assert_eq!(rt; source.reads(), [(2880, 8), (2880, 2880)].as_slice());
+    alike(&rt, header_at_first(&mut source, &mut meter), Ok(TABLE));
+    alike(&rt, source.reads(), [(2880, 8), (2880, 2880)].as_slice());
     let mut source = source_of(alloc, 11520, &long_table())?;
     let header = header_at_first(&mut source, &mut meter)?;
-    assert_eq!(rt;
+    alike(
+        &rt,
         (header.cards, header.blocks, meter.live(), meter.peak()),
-        (44, 2, 0, 5760)
+        (44, 2, 0, 5760),
     );
-    assert_eq!(rt;
+    alike(
+        &rt,
         source.reads(),
-        [(2880, 8), (2880, 2880), (5760, 2880), (2880, 2880)].as_slice()
+        [(2880, 8), (2880, 2880), (5760, 2880), (2880, 2880)].as_slice(),
     );
     Ok(())
 }
@@ -280,17 +284,23 @@ fn a_header_in_a_buffer_that_is_there(rt: HostRuntime) -> Result<(), Fail> {
     let alloc = rt.alloc();
     let mut meter = Meter::new(alloc, 5760);
     let mut source = source_of(alloc, 8640, &TABLE_CARDS)?;
-    assert_eq!(rt; header_in_room(&mut source, &mut meter, 5760), Ok(TABLE));
-    assert_eq!(rt; source.reads(), [(2880, 8), (2880, 2880)].as_slice());
+    alike(
+        &rt,
+        header_in_room(&mut source, &mut meter, 5760),
+        Ok(TABLE),
+    );
+    alike(&rt, source.reads(), [(2880, 8), (2880, 2880)].as_slice());
     let mut source = source_of(alloc, 11520, &long_table())?;
     let header = header_in_room(&mut source, &mut meter, 5760)?;
-    assert_eq!(rt;
+    alike(
+        &rt,
         (header.cards, header.blocks, meter.live(), meter.peak()),
-        (44, 2, 0, 5760)
+        (44, 2, 0, 5760),
     );
-    assert_eq!(rt;
+    alike(
+        &rt,
         source.reads(),
-        [(2880, 8), (2880, 2880), (5760, 2880)].as_slice()
+        [(2880, 8), (2880, 2880), (5760, 2880)].as_slice(),
     );
     Ok(())
 }
@@ -302,13 +312,15 @@ fn a_header_longer_than_the_buffer(rt: HostRuntime) -> Result<(), Fail> {
     let mut meter = Meter::new(alloc, 5760);
     let mut source = source_of(alloc, 11520, &long_table())?;
     let header = header_in_room(&mut source, &mut meter, 5759)?;
-    assert_eq!(rt;
+    alike(
+        &rt,
         (header.cards, header.blocks, meter.live(), meter.peak()),
-        (44, 2, 0, 5760)
+        (44, 2, 0, 5760),
     );
-    assert_eq!(rt;
+    alike(
+        &rt,
         source.reads(),
-        [(2880, 8), (2880, 2880), (5760, 2880), (2880, 5760)].as_slice()
+        [(2880, 8), (2880, 2880), (5760, 2880), (2880, 5760)].as_slice(),
     );
     let mut meter = Meter::new(alloc, 5759);
     let mut source = source_of(alloc, 11520, &long_table())?;
@@ -317,8 +329,12 @@ fn a_header_longer_than_the_buffer(rt: HostRuntime) -> Result<(), Fail> {
         asked: 5760,
         limit: 5759,
     };
-    assert_eq!(rt; header_in_room(&mut source, &mut meter, 5759), Err(over));
-    assert_eq!(rt; (meter.live(), meter.peak()), (0, 5759));
+    alike(
+        &rt,
+        header_in_room(&mut source, &mut meter, 5759),
+        Err(over),
+    );
+    alike(&rt, (meter.live(), meter.peak()), (0, 5759));
     Ok(())
 }
 
@@ -327,15 +343,16 @@ fn a_header_once_more(rt: HostRuntime) -> Result<(), Fail> {
     let alloc = rt.alloc();
     for room in [5760, 2880] {
         let mut source = source_of(alloc, 8640, &TABLE_CARDS)?;
-        assert_eq!(rt; header_once_more(&mut source, room), Ok(TABLE));
-        assert_eq!(rt; source.reads(), [(2880, 8), (2880, 2880)].as_slice());
+        alike(&rt, header_once_more(&mut source, room), Ok(TABLE));
+        alike(&rt, source.reads(), [(2880, 8), (2880, 2880)].as_slice());
     }
     let mut source = source_of(alloc, 11520, &long_table())?;
     let header = header_once_more(&mut source, 5760)?;
-    assert_eq!(rt; (header.cards, header.blocks), (44, 2));
-    assert_eq!(rt;
+    alike(&rt, (header.cards, header.blocks), (44, 2));
+    alike(
+        &rt,
         source.reads(),
-        [(2880, 8), (2880, 2880), (5760, 2880)].as_slice()
+        [(2880, 8), (2880, 2880), (5760, 2880)].as_slice(),
     );
     Ok(())
 }
@@ -361,9 +378,10 @@ fn headers_that_are_refused_again(rt: HostRuntime) -> Result<(), Fail> {
     for (cards, room, at, kind) in cases {
         let fault = Fault { hdu: 1, at, kind };
         let mut source = source_of(alloc, 11520, &cards)?;
-        assert_eq!(rt;
+        alike(
+            &rt,
             header_once_more(&mut source, room),
-            Err(Stop::Refused(fault))
+            Err(Stop::Refused(fault)),
         );
     }
     Ok(())
@@ -384,7 +402,7 @@ fn numbers_of_blocks(rt: HostRuntime) {
     let alloc = rt.alloc();
     for (i, blocks) in [(2, 1), (35, 1), (36, 2), (71, 2), (9215, 256)] {
         let cards = [(0, SIMPLE), (1, b"ENDS"), (i, END), (i + 1, END)];
-        assert_eq!(rt; blocks_of(alloc, 740_160, &cards, 0, 0), Ok(blocks));
+        alike(&rt, blocks_of(alloc, 740_160, &cards, 0, 0), Ok(blocks));
     }
 }
 
@@ -414,9 +432,10 @@ fn headers_that_are_not_found(rt: HostRuntime) {
     for &(len, end, hdu, start, at, kind) in &NOT_FOUND {
         let cards = [(0, SIMPLE), (1, b"ENDS"), (end, END)];
         let fault = Fault { hdu, at, kind };
-        assert_eq!(rt;
+        alike(
+            &rt,
             blocks_of(alloc, len, &cards, hdu, start),
-            Err(Stop::Refused(fault))
+            Err(Stop::Refused(fault)),
         );
     }
 }
@@ -484,9 +503,10 @@ fn headers_with_a_faulty_card(rt: HostRuntime) {
         let mut cards = SMALL_CARDS;
         cards[i as usize % 6] = (i, text);
         let fault = Fault { hdu: 0, at, kind };
-        assert_eq!(rt;
+        alike(
+            &rt,
             header_of(alloc, 5760, &cards, 0, 0),
-            Err(Stop::Refused(fault))
+            Err(Stop::Refused(fault)),
         );
     }
 }
@@ -515,9 +535,10 @@ fn data_that_are_too_long(rt: HostRuntime) {
         at: Place::Card(2),
         kind: Kind::Limit,
     };
-    assert_eq!(rt;
+    alike(
+        &rt,
         header_of(rt.alloc(), 5760, &LONG_CARDS, 0, 0),
-        Err(Stop::Refused(fault))
+        Err(Stop::Refused(fault)),
     );
 }
 
@@ -537,9 +558,10 @@ fn random_groups(rt: HostRuntime) {
         at: Place::Card(5),
         kind: Kind::Groups,
     };
-    assert_eq!(rt;
+    alike(
+        &rt,
         header_of(rt.alloc(), 5760, &cards, 0, 0),
-        Err(Stop::Refused(fault))
+        Err(Stop::Refused(fault)),
     );
     cards[3] = (3, b"NAXIS1  =                 1440");
     assert!(rt; header_of(rt.alloc(), 5760, &cards, 0, 0).is_ok());

@@ -1,4 +1,5 @@
 //! One table of cases for each public call.
+use crate::asserts::alike;
 use fz_card::{
     Card, FIELD_LEN, Line, Name, first_of_name, int_card, integer, is_numbered, logical_card,
     number_behind, number_card, numbered, text_card, whole_number, without_first_blanks,
@@ -26,7 +27,7 @@ fn names(rt: HostRuntime) {
         ),
     ];
     for &(text, name) in &CASES {
-        assert_eq!(rt; card(text).name(), name);
+        alike(&rt, card(text).name(), name);
     }
     assert!(rt; card(b"ENDS").name() != Name::END);
 }
@@ -40,9 +41,9 @@ fn first_cards(rt: HostRuntime) {
     for (i, made) in [other, first, second].into_iter().enumerate() {
         buf[80 * i..80 * (i + 1)].copy_from_slice(&made.bytes);
     }
-    assert_eq!(rt; first_of_name(&buf, 4, Name::DATASUM), Some(first));
-    assert_eq!(rt; first_of_name(&buf, 1, Name::DATASUM), None);
-    assert_eq!(rt; first_of_name(&buf, 4, Name::END), None);
+    alike(&rt, first_of_name(&buf, 4, Name::DATASUM), Some(first));
+    alike(&rt, first_of_name(&buf, 1, Name::DATASUM), None);
+    alike(&rt, first_of_name(&buf, 4, Name::END), None);
 }
 
 #[test]
@@ -93,7 +94,7 @@ fn integers(rt: HostRuntime) {
         (b"NAXIS   = \xb2", None),
     ];
     for &(text, value) in &CASES {
-        assert_eq!(rt; card(text).int(), value);
+        alike(&rt, card(text).int(), value);
     }
 }
 
@@ -108,20 +109,21 @@ fn integer_texts(rt: HostRuntime) {
         (b"", None),
     ];
     for &(text, value) in &CASES {
-        assert_eq!(rt; integer(text), value);
+        alike(&rt, integer(text), value);
     }
 }
 
 #[test]
 fn lines(rt: HostRuntime) {
     let mut line: Line<8> = Line::new();
-    assert_eq!(rt; line.bytes(), *b"        ");
+    alike(&rt, line.bytes(), *b"        ");
     line.push(b"10");
     line.push_blanks(1);
     line.push(b"m");
-    assert_eq!(rt;
+    alike(
+        &rt,
         (line.text(), line.bytes()),
-        (b"10 m".as_slice(), *b"10 m    ")
+        (b"10 m".as_slice(), *b"10 m    "),
     );
 }
 
@@ -143,7 +145,7 @@ fn logicals(rt: HostRuntime) {
         (b"SIMPLE  = \tT", None),
     ];
     for &(text, value) in &CASES {
-        assert_eq!(rt; card(text).logical(), value);
+        alike(&rt, card(text).logical(), value);
     }
 }
 
@@ -173,7 +175,7 @@ fn number_cards(rt: HostRuntime) {
         ),
     ];
     for (made, text) in cases {
-        assert_eq!(rt; made, card(text));
+        alike(&rt, made, card(text));
     }
 }
 
@@ -190,7 +192,7 @@ fn logical_cards(rt: HostRuntime) {
         ),
     ];
     for (made, text) in cases {
-        assert_eq!(rt; made, card(text));
+        alike(&rt, made, card(text));
     }
 }
 
@@ -209,7 +211,7 @@ fn text_cards(rt: HostRuntime) {
         (text_card(Name::EXTNAME, b""), b"EXTNAME = '        '"),
     ];
     for (made, text) in cases {
-        assert_eq!(rt; made, card(text));
+        alike(&rt, made, card(text));
     }
 }
 
@@ -223,7 +225,7 @@ fn numbered_names(rt: HostRuntime) {
         (numbered(b"ZVAL", 0), b"ZVAL0   "),
     ];
     for (name, bytes) in cases {
-        assert_eq!(rt; name, Name { bytes: *bytes });
+        alike(&rt, name, Name { bytes: *bytes });
     }
 }
 
@@ -249,7 +251,7 @@ fn numbers_of_names(rt: HostRuntime) {
             is_numbered(name, stem, 11),
         );
         let is_short = number.is_some_and(|number| number <= 999);
-        assert_eq!(rt; found, (number, is_short, false));
+        alike(&rt, found, (number, is_short, false));
     }
 }
 
@@ -264,12 +266,13 @@ fn value_texts(rt: HostRuntime) {
         (b"CRPIX1", None),
     ];
     for &(text, value) in &CASES {
-        assert_eq!(rt; card(text).value_text(), value);
+        alike(&rt, card(text).value_text(), value);
     }
     let numbers = [whole_number(b"4294967295"), whole_number(b"4294967296")];
-    assert_eq!(rt;
+    alike(
+        &rt,
         (without_first_blanks(b"  1 "), numbers),
-        (b"1 ".as_slice(), [Some(u32::MAX), None])
+        (b"1 ".as_slice(), [Some(u32::MAX), None]),
     );
 }
 
@@ -307,12 +310,12 @@ fn texts(rt: HostRuntime) {
     for &(text, value) in &CASES {
         let mut into = [0u8; FIELD_LEN];
         let len = card(text).text(&mut into);
-        assert_eq!(rt; len.map(|len: usize| &into[..len]), value);
+        alike(&rt, len.map(|len: usize| &into[..len]), value);
         let has = (
             card(text).has_text(value.unwrap_or(b"")),
             card(text).has_text(b"IMAGE "),
         );
-        assert_eq!(rt; has, (value.is_some(), false));
+        alike(&rt, has, (value.is_some(), false));
     }
 }
 
@@ -354,6 +357,6 @@ fn zeros(rt: HostRuntime) {
         (b"BZERO", None),
     ];
     for &(text, value) in &CASES {
-        assert_eq!(rt; card(text).zero(), value);
+        alike(&rt, card(text).zero(), value);
     }
 }

@@ -4,6 +4,7 @@ ghost use Rattle.fz_block.specs.Facts.{IsHeaderOf};
 ghost use Rattle.fz_block.specs.Header.{next_start_of};
 ghost use Rattle.fz_grid.specs.Region.{IsWithin};
 
+use crate::asserts::alike;
 use crate::files::{
     FILE_LEN, PACKED, SMALL, begin_alike, file_of, one_block, pack_header, packed_plan, put,
     restore_header, totals_for, two_blocks,
@@ -73,9 +74,10 @@ fn long_headers_come_back(rt: HostRuntime) -> Result<(), Fail> {
         let packed_len = pack(alloc, &file, 0, blocks, &mut packed)?;
         let mut plain = [0; FILE_LEN];
         let len = restore(alloc, &packed, 2, &mut plain)?;
-        assert_eq!(rt;
+        alike(
+            &rt,
             (packed_len, len, begin_alike(&plain, &file, len)),
-            (2 * BLOCK_LEN, blocks * BLOCK_LEN, true)
+            (2 * BLOCK_LEN, blocks * BLOCK_LEN, true),
         );
     }
     Ok(())
@@ -132,9 +134,10 @@ fn cards_come_back_in_their_places(rt: HostRuntime) -> Result<(), Fail> {
     let mut plain = [0; FILE_LEN];
     let len = restore(alloc, &packed, 2, &mut plain)?;
     let is_back = begin_alike(&plain, &file, BLOCK_LEN);
-    assert_eq!(rt;
+    alike(
+        &rt,
         (packed_len, is_packed, len, is_back),
-        (2 * BLOCK_LEN, true, BLOCK_LEN, true)
+        (2 * BLOCK_LEN, true, BLOCK_LEN, true),
     );
     Ok(())
 }
@@ -171,9 +174,10 @@ fn extensions_come_back(rt: HostRuntime) -> Result<(), Fail> {
     let mut plain = [0; FILE_LEN];
     let len = restore(alloc, &packed, 1, &mut plain)?;
     let is_back = begin_alike(&plain, &file, BLOCK_LEN);
-    assert_eq!(rt;
+    alike(
+        &rt,
         (packed_len, is_packed, len, is_back),
-        (BLOCK_LEN, true, BLOCK_LEN, true)
+        (BLOCK_LEN, true, BLOCK_LEN, true),
     );
     Ok(())
 }
@@ -232,11 +236,11 @@ fn header_of_another_packer(rt: HostRuntime) -> Result<(), Fail> {
         primary: true,
         wide: false,
     };
-    assert_eq!(rt; packed_plan(&buf, &header, true), Ok(plan));
+    alike(&rt, packed_plan(&buf, &header, true), Ok(plan));
     let mut plain = [0; FILE_LEN];
     let len = restore(alloc, &file, 1, &mut plain)?;
     let is_back = begin_alike(&plain, &file_of(&OTHER_PLAIN, &[]), BLOCK_LEN);
-    assert_eq!(rt; (len, is_back), (BLOCK_LEN, true));
+    alike(&rt, (len, is_back), (BLOCK_LEN, true));
     Ok(())
 }
 
@@ -330,7 +334,7 @@ fn expect_part(
     let mut out = [0; 5760];
     let answer = cut_header(&buf, &header, region, &mut out);
     let are_alike = begin_alike(&out, wanted, BLOCK_LEN);
-    assert_eq!(rt; (answer, are_alike), (Ok(BLOCK_LEN), true));
+    alike(rt, (answer, are_alike), (Ok(BLOCK_LEN), true));
     Ok(())
 }
 

@@ -1,4 +1,5 @@
 //! Images that are to be packed: their plans, the checks that refuse them, and their packed headers.
+use crate::asserts::alike;
 use crate::files::{
     FILE_LEN, PACKED, SMALL, begin_alike, file_of, one_block, options_for, pack_header, put,
     totals_for,
@@ -35,9 +36,10 @@ fn plan_of_the_small_file(rt: HostRuntime) -> Result<(), Fail> {
         primary: true,
         wide: false,
     };
-    assert_eq!(rt;
+    alike(
+        &rt,
         pack_plan(&buf, &header, &options_for(CodecWord::Rice, false)),
-        Ok(plan)
+        Ok(plan),
     );
     Ok(())
 }
@@ -104,7 +106,7 @@ fn refused_images(rt: HostRuntime) -> Result<(), Fail> {
         let header = one_block(alloc, &file_of(&SMALL, changes), 0, &mut buf)?;
         assert!(rt; is_packable(&buf, &header));
         let answer = pack_plan(&buf, &header, &options_for(codec, false));
-        assert_eq!(rt; answer, Err(Fault { hdu: 0, at, kind }));
+        alike(&rt, answer, Err(Fault { hdu: 0, at, kind }));
     }
     Ok(())
 }
@@ -121,9 +123,10 @@ fn last_byte_of_a_header(rt: HostRuntime) -> Result<(), Fail> {
         at: Place::Byte(2879),
         kind: Kind::HeaderFill,
     };
-    assert_eq!(rt;
+    alike(
+        &rt,
         pack_plan(&buf, &header, &options_for(CodecWord::Rice, false)),
-        Err(fault)
+        Err(fault),
     );
     Ok(())
 }
@@ -136,13 +139,13 @@ fn packed_header_of_the_small_file(rt: HostRuntime) -> Result<(), Fail> {
     let mut out = [0; 5760];
     let answer = pack_header(&buf, &header, CodecWord::Rice, &totals_for(false), &mut out);
     let are_alike = begin_alike(&out, &wanted, BLOCK_LEN);
-    assert_eq!(rt; (answer, are_alike), (Ok(BLOCK_LEN), true));
+    alike(&rt, (answer, are_alike), (Ok(BLOCK_LEN), true));
     put(&mut wanted, 25, b"DATASUM = '0       '");
     put(&mut wanted, 26, b"CHECKSUM= '0000000000000000'");
     put(&mut wanted, 27, b"END");
     let answer = pack_header(&buf, &header, CodecWord::Rice, &totals_for(true), &mut out);
     let are_alike = begin_alike(&out, &wanted, BLOCK_LEN);
-    assert_eq!(rt; (answer, are_alike), (Ok(BLOCK_LEN), true));
+    alike(&rt, (answer, are_alike), (Ok(BLOCK_LEN), true));
     Ok(())
 }
 
@@ -184,7 +187,7 @@ fn expect_packed(
     let mut out = [0; 5760];
     let answer = pack_header(&buf, &header, codec, &totals_for(false), &mut out);
     let are_alike = begin_alike(&out, wanted, BLOCK_LEN);
-    assert_eq!(rt; (answer, are_alike), (Ok(BLOCK_LEN), true));
+    alike(rt, (answer, are_alike), (Ok(BLOCK_LEN), true));
     Ok(())
 }
 

@@ -1,4 +1,5 @@
 //! The checks of a job of one HDU.
+use crate::asserts::alike;
 use crate::files::{PACKED, SMALL, fault_at, file_of, one_block, options_for};
 use fz_base::{Fault, Kind, Place};
 use fz_block::BLOCK_LEN;
@@ -16,7 +17,7 @@ fn checks_of_an_image(rt: HostRuntime) -> Result<(), Fail> {
     let header = one_block(alloc, &file_of(&SMALL, &[]), 0, &mut buf)?;
     let plan = plan_to_pack(&buf, &header, &options);
     assert!(rt; matches!(plan, Ok(Some(_))));
-    assert_eq!(rt; image_to_unpack(&buf, &header, false), Ok(None));
+    alike(&rt, image_to_unpack(&buf, &header, false), Ok(None));
     // Its data are the 16 bytes from 2880 on.
     let mut fill = [0; 8];
     let filled = fill_check(&header, &fill);
@@ -26,7 +27,11 @@ fn checks_of_an_image(rt: HostRuntime) -> Result<(), Fail> {
         at: Place::Byte(2901),
         kind: Kind::DataFill,
     };
-    assert_eq!(rt; (filled, fill_check(&header, &fill)), (Ok(()), Err(fault)));
+    alike(
+        &rt,
+        (filled, fill_check(&header, &fill)),
+        (Ok(()), Err(fault)),
+    );
     Ok(())
 }
 
@@ -37,7 +42,7 @@ fn checks_of_a_packed_image(rt: HostRuntime) -> Result<(), Fail> {
     let mut buf = [0; 2880];
     let header = one_block(alloc, &file_of(&PACKED, &[]), 1, &mut buf)?;
     let answer = plan_to_pack(&buf, &header, &options);
-    assert_eq!(rt; answer, Err(fault_at(12, Kind::AlreadyPacked)));
+    alike(&rt, answer, Err(fault_at(12, Kind::AlreadyPacked)));
     let image = image_to_unpack(&buf, &header, true);
     assert!(rt; matches!(image, Ok(Some(_))));
     let inside = Region {
@@ -54,12 +59,13 @@ fn checks_of_a_packed_image(rt: HostRuntime) -> Result<(), Fail> {
     let past = image_to_cut(&buf, &header, true, &past);
     let other = Region { n: 1, ..inside };
     let other = image_to_cut(&buf, &header, true, &other);
-    assert_eq!(rt;
+    alike(
+        &rt,
         (past, other),
         (
             Err(fault_at(24, Kind::OutOfBox)),
-            Err(fault_at(22, Kind::OutOfBox))
-        )
+            Err(fault_at(22, Kind::OutOfBox)),
+        ),
     );
     Ok(())
 }
@@ -72,11 +78,11 @@ fn small_calls(rt: HostRuntime) -> Result<(), Fail> {
         kind: Kind::NotPacked,
     };
     let missing = (missing_hdu(Some(7), 3, 8640), missing_hdu(None, 3, 8640));
-    assert_eq!(rt; missing, (fault, Fault { hdu: 3, ..fault }));
+    alike(&rt, missing, (fault, Fault { hdu: 3, ..fault }));
     let names = (tile_kind(TileFault::LineList), codec_name(Codec::Plain));
-    assert_eq!(rt; names, (Kind::LineList, "NOCOMPRESS"));
+    alike(&rt, names, (Kind::LineList, "NOCOMPRESS"));
     let mut out = [0; 2880];
     let len = to_empty_primary(&mut out);
-    assert_eq!(rt; (len, &out[320..323]), (BLOCK_LEN, b"END".as_slice()));
+    alike(&rt, (len, &out[320..323]), (BLOCK_LEN, b"END".as_slice()));
     Ok(())
 }

@@ -2,10 +2,12 @@
 //! refused, and of packed tables; and headers of images and of packed images, on files that are made here: their plans, the checks
 //! that refuse them, and their bytes there and back.
 //!
-//! Reading order: `base`, `store`, `cards`, `names`, `wcs`, `block`, `table`; `files` (what the others have in common), `images`,
-//! `tables`, `headers`, `jobs`.
+//! Reading order: `asserts`, `base`, `store`, `cards`, `names`, `wcs`, `block`, `table`; `files` (what the others have in common),
+//! `images`, `tables`, `headers`, `jobs`.
 #![tactic(auto)]
 
+#[cfg(test)]
+mod asserts;
 #[cfg(test)]
 mod base;
 #[cfg(test)]

@@ -2,6 +2,7 @@
 ghost use Rattle.std.specs.Prelude.{◌≡◌, false, codes};
 ghost use Rattle.fz_card.specs.Naming.{is_dropped, is_reserved};
 
+use crate::asserts::alike;
 use crate::cards::card;
 use fz_card::{Name, is_dropped, is_reserved, renamed, restored};
 
@@ -30,7 +31,11 @@ fn names_of_both_headers(rt: HostRuntime) {
         let (plain, packed) = (name(plain), name(packed));
         let there = (renamed(plain), renamed(packed));
         let back = (restored(packed), restored(plain));
-        assert_eq!(rt; (there, back), ((Some(packed), None), (Some(plain), None)));
+        alike(
+            &rt,
+            (there, back),
+            ((Some(packed), None), (Some(plain), None)),
+        );
     }
 }
 
@@ -77,7 +82,7 @@ fn names_alone(rt: HostRuntime) {
         let name = name(text);
         let is = (is_dropped(name), is_reserved(name));
         let other = (renamed(name), restored(name));
-        assert_eq!(rt; (is, other), ((dropped, reserved), (None, None)));
+        alike(&rt, (is, other), ((dropped, reserved), (None, None)));
     }
     assert!(rt; is_dropped(Name::CHECKSUM) && !is_reserved(Name::CHECKSUM));
     assert!(rt; !is_dropped(Name::ZHECKSUM) && is_reserved(Name::ZHECKSUM));

@@ -1,4 +1,5 @@
 //! Stores in memory, which are set to fail, and over real files.
+use crate::asserts::alike;
 use fz_base::{Failed, FileSource, FileStore, MemStore, Source, Store, Write, amend_at};
 use std::fs;
 use std::test::Fail;
@@ -27,14 +28,15 @@ fn mem_store_is_written_in_place(rt: HostRuntime) -> Result<(), Fail> {
     let mut into = [0; 3];
     store.read_at(2, &mut into)?;
     assert!(rt; are(store.writes(), &[(4, b"XYZ"), (0, b"T")]));
-    assert_eq!(rt;
+    alike(
+        &rt,
         (into, store.contents(), store.reads()),
-        (*b"MPX", b"TIMPXYZ".as_slice(), [(2, 3)].as_slice())
+        (*b"MPX", b"TIMPXYZ".as_slice(), [(2, 3)].as_slice()),
     );
     let after = store.attach("any")?;
-    assert_eq!(rt; (before, after), (6, 7));
+    alike(&rt, (before, after), (6, 7));
     store.amend(7, b"!")?;
-    assert_eq!(rt; store.contents(), b"TIMPXYZ!".as_slice());
+    alike(&rt, store.contents(), b"TIMPXYZ!".as_slice());
     Ok(())
 }
 
@@ -81,21 +83,21 @@ fn mem_store_fails_where_it_is_told_to(rt: HostRuntime) -> Result<(), Fail> {
         let bytes = b"SIMPLE".to_vec(rt.alloc())?;
         let mut store = MemStore::new(rt.alloc(), bytes, vec![in rt.alloc(); failing]?, keep);
         let length = store.attach("any")?;
-        assert_eq!(rt; length, 6);
+        assert!(rt; length == 6);
         let read = store.read_at(1, &mut [0; 2]);
         let amended = store.amend(4, b"XYZ");
         let found = [read, amended, store.amend(0, b"T")];
-        assert_eq!(rt;
+        alike(
+            &rt,
             (found, store.contents(), are(store.writes(), writes)),
             (answers, contents, true),
-            "failing {failing}, keep {keep}"
         );
-        assert_eq!(rt; (store.faults(), store.write_faults()), faults);
-        assert_eq!(rt; store.attach("any")?, contents.len() as u64);
+        alike(&rt, (store.faults(), store.write_faults()), faults);
+        alike(&rt, store.attach("any")?, contents.len() as u64);
     }
     let mut store = MemStore::new(rt.alloc(), Vec::new(rt.alloc()), vec![in rt.alloc(); 0]?, 0);
-    assert_eq!(rt; store.attach("any"), Err(Failed::Fault));
-    assert_eq!(rt; (store.faults(), store.write_faults()), (1, 0));
+    alike(&rt, store.attach("any"), Err(Failed::Fault));
+    alike(&rt, (store.faults(), store.write_faults()), (1, 0));
     Ok(())
 }
 
@@ -103,22 +105,23 @@ fn mem_store_fails_where_it_is_told_to(rt: HostRuntime) -> Result<(), Fail> {
 fn file_store_is_written_in_place(rt: HostRuntime) -> Result<(), Fail> {
     let mut store = FileStore::new(rt);
     // no such file
-    assert_eq!(rt; store.attach("store.fits"), Err(Failed::Fault));
+    alike(&rt, store.attach("store.fits"), Err(Failed::Fault));
     // it cannot be written
-    assert_eq!(rt; store.attach("."), Err(Failed::Fault));
+    alike(&rt, store.attach("."), Err(Failed::Fault));
     fs::write(&rt, "store.fits", b"SIMPLE".as_slice())?;
     let length = store.attach("store.fits")?;
-    assert_eq!(rt; length, 6);
+    assert!(rt; length == 6);
     store.amend(2, b"GN")?;
     store.amend(5, b"XYZ")?;
     store.settle()?;
     let mut into = [0; 4];
     store.read_at(4, &mut into)?;
-    assert_eq!(rt; into, *b"LXYZ");
+    alike(&rt, into, *b"LXYZ");
     store.amend(8, b"!")?;
-    assert_eq!(rt;
+    alike(
+        &rt,
         fs::read(&rt, "store.fits")?.as_slice(),
-        b"SIGNLXYZ!".as_slice()
+        b"SIGNLXYZ!".as_slice(),
     );
     Ok(())
 }
@@ -130,12 +133,12 @@ fn file_store_is_locked(rt: HostRuntime) -> Result<(), Fail> {
     store.attach("locked.fits")?;
     let mut other = FileStore::new(rt);
     // another store has it
-    assert_eq!(rt; other.attach("locked.fits"), Err(Failed::Fault));
+    alike(&rt, other.attach("locked.fits"), Err(Failed::Fault));
     // it can be read
     let length = FileSource::new(rt).attach("locked.fits")?;
-    assert_eq!(rt; length, 6);
+    assert!(rt; length == 6);
     drop(store);
     let length = other.attach("locked.fits")?;
-    assert_eq!(rt; length, 6);
+    assert!(rt; length == 6);
     Ok(())
 }

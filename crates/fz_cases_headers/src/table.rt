@@ -1,6 +1,7 @@
 //! Rows from outside the program: the headers of packed tables, and descriptors in the rows.
 ghost use Rattle.std.specs.Prelude.{◌≡◌};
 
+use crate::asserts::alike;
 use fz_base::{Fault, Kind, MemSource, Place, Source, Stop};
 use fz_block::{BLOCK_LEN, read_header};
 use fz_card::Name;
@@ -238,15 +239,16 @@ fn tables(rt: HostRuntime) {
     let alloc = rt.alloc();
     for &(changes, expected) in &TABLES {
         let file = file_of(changes);
-        assert_eq!(rt;
+        alike(
+            &rt,
             table_of(alloc, &file),
-            Ok((expected.map_err(bad_at), Some(12)))
+            Ok((expected.map_err(bad_at), Some(12))),
         );
     }
 }
 
 /// Four rows of TABLE from byte 0 on, and its heap after them.
-const FOUR_ROWS: Table = Table {
+static FOUR_ROWS: Table = Table {
     rows_at: 0,
     rows: 4,
     heap_at: 100,
@@ -268,7 +270,7 @@ const LONGS: Column = Column {
 };
 
 /// A descriptor of nothing.
-const NONE: Descriptor = Descriptor {
+static NONE: Descriptor = Descriptor {
     count: 0,
     offset: 0,
 };
@@ -280,7 +282,7 @@ const STORED: Descriptor = Descriptor {
 };
 
 /// The greatest numbers of 32 bits.
-const HIGH: Descriptor = Descriptor {
+static HIGH: Descriptor = Descriptor {
     count: 4_294_967_295,
     offset: 4_294_967_295,
 };
@@ -326,23 +328,23 @@ fn rows_and_ranges(rt: HostRuntime) -> Result<(), Fail> {
     assert!(rt; narrow && wide);
     let mut source = MemSource::new(alloc, rows.to_vec(alloc)?, Vec::new(alloc));
     let length = source.attach("any")?;
-    assert_eq!(rt; length, 64);
+    assert!(rt; length == 64);
     let found = [
         descriptor(&mut source, &FOUR_ROWS, &SHORTS, 0)?,
         descriptor(&mut source, &FOUR_ROWS, &LONGS, 1)?,
         descriptor(&mut source, &FOUR_ROWS, &LONGS, 3)?,
         descriptor(&mut source, &FOUR_ROWS, &SHORTS, 3)?,
     ];
-    assert_eq!(rt; found, [STORED, STORED, GREATEST, HIGH]);
+    alike(&rt, found, [STORED, STORED, GREATEST, HIGH]);
     assert!(rt; source.reads() == [(8, 8), (16, 16), (48, 16), (56, 8)].as_slice());
     for &(column, described, expected) in &RANGES {
-        assert_eq!(rt; range(&FOUR_ROWS, &column, &described), expected);
+        alike(&rt, range(&FOUR_ROWS, &column, &described), expected);
     }
     Ok(())
 }
 
 /// A table of three columns.
-const THREE: Table = Table {
+static THREE: Table = Table {
     row_bytes: 24,
     rows: 3,
     rows_at: 0,
@@ -501,7 +503,7 @@ fn records(rt: HostRuntime) {
             Ok((column, start, total)) => whole(column, start, total),
             Err(kind) => refused(kind),
         };
-        assert_eq!(rt; record_of(1, 5, &THREE, &row, &tile), expected);
+        alike(&rt, record_of(1, 5, &THREE, &row, &tile), expected);
     }
     let long = Table {
         heap_len: 1_000_006,
@@ -518,9 +520,10 @@ fn records(rt: HostRuntime) {
         total: 1_000_006,
         read: 88,
     });
-    assert_eq!(rt;
+    alike(
+        &rt,
         record_of(1, 0, &long, &says(at(1_000_006, 0), NONE, NONE), &three),
-        expected
+        expected,
     );
 }
 
@@ -535,14 +538,18 @@ fn records_of_a_file(rt: HostRuntime) -> Result<(), Fail> {
     for i in 0..24 {
         bytes[72 + i] = i as u8;
     }
-    assert_eq!(rt; row_in(&THREE, &bytes[24..48]), says(none, at(4, 8), none));
+    alike(
+        &rt,
+        row_in(&THREE, &bytes[24..48]),
+        says(none, at(4, 8), none),
+    );
     assert!(rt; is_filled(&TABLE) && !is_filled(&THREE));
     let mut source = MemSource::new(alloc, bytes.to_vec(alloc)?, Vec::new(alloc));
     let length = source.attach("any")?;
-    assert_eq!(rt; length, 96);
+    assert!(rt; length == 96);
     let mut code = [0; 96];
     let first = find_record(&mut source, 1, &THREE, 0, &TILE)?;
-    assert_eq!(rt; Ok(first), whole(TileColumn::Coded, 74, 4));
+    alike(&rt, Ok(first), whole(TileColumn::Coded, 74, 4));
     read_record(&mut source, &first, &mut code)?;
     assert!(rt; code[..5] == [2, 3, 4, 5, 0]);
     if first.read < 2 {
@@ -567,15 +574,15 @@ fn records_of_a_file(rt: HostRuntime) -> Result<(), Fail> {
         at: Place::Row(1),
         kind: Kind::TileMissing,
     }));
-    assert_eq!(rt; find_record(&mut source, 1, &apart, 1, &TILE), missing);
+    alike(&rt, find_record(&mut source, 1, &apart, 1, &TILE), missing);
     let second = find_record(&mut source, 1, &swapped, 1, &TILE)?;
-    assert_eq!(rt; Ok(second), whole(TileColumn::Coded, 80, 8));
+    alike(&rt, Ok(second), whole(TileColumn::Coded, 80, 8));
     let gzip = Err(Stop::Refused(Fault {
         hdu: 1,
         at: Place::Row(2),
         kind: Kind::GzipTile,
     }));
-    assert_eq!(rt; find_record(&mut source, 1, &THREE, 2, &TILE), gzip);
+    alike(&rt, find_record(&mut source, 1, &THREE, 2, &TILE), gzip);
     let reads = [
         (0, 16),
         (16, 8),

@@ -1,4 +1,5 @@
 //! Packed headers: the plans that they stand for, and the checks that refuse them.
+use crate::asserts::alike;
 use crate::files::{PACKED, fault_at, file_of, one_block, packed_plan};
 use fz_base::Kind;
 use fz_block::{Axes, Sort};
@@ -83,7 +84,7 @@ fn checks_of_tables(rt: HostRuntime) -> Result<(), Fail> {
             None => Ok(()),
             Some((card, kind)) => Err(fault_at(card, kind)),
         };
-        assert_eq!(rt; table_check(&buf, &header), wanted);
+        alike(&rt, table_check(&buf, &header), wanted);
     }
     Ok(())
 }
@@ -151,7 +152,7 @@ fn plans(rt: HostRuntime) -> Result<(), Fail> {
         let mut buf = [0; 2880];
         let header = one_block(alloc, &file_of(&PACKED, changes), 1, &mut buf)?;
         assert!(rt; is_packed(&buf, &header));
-        assert_eq!(rt; packed_plan(&buf, &header, true), Ok(plan));
+        alike(&rt, packed_plan(&buf, &header, true), Ok(plan));
     }
     Ok(())
 }
@@ -258,7 +259,7 @@ fn refused_packed_headers(rt: HostRuntime) -> Result<(), Fail> {
         let mut buf = [0; 2880];
         let header = one_block(alloc, &file_of(&PACKED, changes), 1, &mut buf)?;
         let answer = packed_plan(&buf, &header, after_empty);
-        assert_eq!(rt; answer, Err(fault_at(card, kind)));
+        alike(&rt, answer, Err(fault_at(card, kind)));
     }
     Ok(())
 }
@@ -291,6 +292,6 @@ fn tile_of_too_many_pixels(rt: HostRuntime) -> Result<(), Fail> {
     let mut buf = [0; 2880];
     let header = one_block(rt.alloc(), &file_of(&LARGE, &[]), 1, &mut buf)?;
     let answer = packed_plan(&buf, &header, true);
-    assert_eq!(rt; answer, Err(fault_at(17, Kind::Limit)));
+    alike(&rt, answer, Err(fault_at(17, Kind::Limit)));
     Ok(())
 }
