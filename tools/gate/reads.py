@@ -1,0 +1,45 @@
+"""How many bytes `rt ci` of kit 13b reads to see whether a library is the one that was proved.
+
+For each library, before and after its proof, that `rt` reads the crate's files and, in the same way, those of each crate that its
+line of crates.txt names: each file once for every path through crates.txt. Programs are not summed.
+"""
+from functools import lru_cache
+from pathlib import Path
+
+PARTS = ("src", "specs", "proofs")
+
+
+def listed():
+    """What each crate of crates.txt stands on, of the repository's own."""
+    lines = (it.split("#")[0].strip() for it in Path("crates.txt").read_text().splitlines())
+    named = {name.split()[0]: below.split() for name, _, below in (it.partition(":") for it in lines if it)}
+    return {name: [it for it in below if it in named] for name, below in named.items()}
+
+
+def size_of(crate):
+    """The bytes of the crate's files."""
+    return sum(it.stat().st_size for part in PARTS for it in Path("crates", crate, part).rglob("*") if it.is_file())
+
+
+def reads():
+    """For each library how often it is reached and how many bytes a sum of it reads: (crate, paths, bytes)."""
+    below = listed()
+
+    @lru_cache(None)
+    def paths(crate):
+        return 1 + sum(paths(it) for it in below[crate])
+
+    @lru_cache(None)
+    def bytes_of(crate):
+        return size_of(crate) + sum(bytes_of(it) for it in below[crate])
+
+    libraries = [it for it in below if not Path("crates", it, "src/main.rt").is_file()]
+    return [(it, paths(it), bytes_of(it)) for it in libraries]
+
+
+def show_reads():
+    rows = reads()
+    print("| Library | Paths | Read for one sum, MB |\n|---|---|---|")
+    for crate, paths, size in sorted(rows, key=lambda it: -it[2]):
+        print(f"| `{crate}` | {paths} | {size / 1e6:.1f} |")
+    print(f"| all | | {sum(size for _, _, size in rows) / 1e6:.0f}, twice in a gate |")
