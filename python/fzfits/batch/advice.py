@@ -10,11 +10,22 @@ from ..program import Outcome
 
 ANOTHER_COPY = "fetch the packed file from another copy; or, if the plain file is still there, remove the packed file and run fzbatch pack again"
 
+ANOTHER_PLAIN = "decide which one is right: fzbatch pack --update packs the plain file as it is now, in the place of the earlier packed file"
+LOST = "run fzbatch pack again if the plain file is there; otherwise fetch the packed file from another copy"
+BOTH_CHANGED = "the packed file is not there, and the plain file is another than the one that was packed"
+LOST_AND_CHANGED = "fetch the packed file or the plain file from another copy; fzbatch pack --update packs the plain file as it is now, if that is right"
+NO_LINKS = "fzbatch follows no links below its folders: replace the link by the folder or file that it leads to"
+OVER_TIME = "if the file may be trusted and is that large, allow more by --time-limit; a file from a stranger may be made to cost time"
+WITHOUT_PLAIN = "if it was deleted on purpose, run fzbatch with --without-plain; otherwise fzbatch restore makes it again"
+WRONG_RESTORED = "the image was damaged before it was packed, or its header was changed: compare it with another copy, from before it was packed"
+NO_SPACE = errno.ENOSPC
+
+FORGET = "fzbatch forget takes it out of the manifest"
 UPDATE = "fzbatch pack --update packs the plain file again, in the place of the packed file that changed"
 
 STATUSES = {
     1: "a checksum of the plain file is wrong before it is packed: fetch it again, or correct its checksums with the tool that wrote it; "
-    "--take-wrong-sums packs it as it is",
+    "--accept-wrong-sums packs it as it is, which the manifest keeps",
     2: "correct the options of fz pack that were given to fzbatch",
     4: "check that the file still exists and that the disk or the network works, and run fzbatch again",
     5: "make room on the disk, or allow writing, and run fzbatch again",
@@ -63,7 +74,8 @@ def of_outcome(ended: Outcome) -> str:
 
 def hint(ended: Outcome, verb: str, path: bytes) -> str:
     """What the file itself says more about an outcome: its card at the place, and what is special about it."""
-    with contextlib.suppress(OSError):
+    # it is only a hint: what goes wrong with the headers of a stranger's file is no fault of the file's outcome
+    with contextlib.suppress(Exception):
         error = diagnose.error_of(ended, diagnose.Call(verb, path))
         if isinstance(error, Refused):
             about = [f"card {error.card}"] if error.card else []

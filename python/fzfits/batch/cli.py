@@ -4,16 +4,18 @@ from __future__ import annotations
 import argparse
 import json
 import os
+import secrets
 import sys
 from dataclasses import asdict
 from typing import Optional, Sequence
 
-from .. import __version__
+from .. import __version__, program
 from ..errors import FzError
-from . import engines, files, lock, look, names, plan, report, run, slurm
-from .manifest import BadManifest, Row
-from .scan import Left, NoSource, scan
-from .tally import Tally
+from . import calls, engines, files, keep, lock, look, names, report, run, slurm, submit, survey, words_of, work
+from .manifest import BadManifest
+from .messages import Settings
+from .scan import NoSource
+from .tally import Tally, alone
 
 PROGRAM = "fzbatch"
 VERBS = {
@@ -26,11 +28,25 @@ VERBS = {
 
 def main(words: Optional[Sequence[str]] = None) -> int:
     """Does what the command line says, and gives the status: 0 all done, 1 some files not, 2 nothing was begun."""
-    for it in (sys.stdout, sys.stderr):
+    for name in ("stdout", "stderr"):
+        # it was closed by the shell
+        if getattr(sys, name) is None:
+            setattr(sys, name, open(os.devnull, "w", encoding="utf-8"))
+    streams = sys.stdout, sys.stderr
+    for it in streams:
         # a name that the terminal has no letters for is printed by its numbers
         if hasattr(it, "reconfigure"):
             it.reconfigure(errors="backslashreplace")
     asked = _parser().parse_args(words)
+    # what controls a terminal is printed by its numbers too, wherever it came from
+    sys.stdout, sys.stderr = names.Escaping(sys.stdout), names.Escaping(sys.stderr)  # type: ignore[assignment]
+    try:
+        return _called(asked)
+    finally:
+        sys.stdout, sys.stderr = streams
+
+
+def _called(asked: argparse.Namespace) -> int:
     try:
         return asked.call(asked)
     except (run.Refuse, NoSource, BadManifest, lock.Locked, engines.NoEngine, look.NoPicture, FzError) as error:
@@ -53,19 +69,25 @@ def _parser() -> argparse.ArgumentParser:
     whole.add_argument("--version", action="version", version=f"fzbatch {__version__}")
     verbs = whole.add_subparsers(dest="verb", required=True, metavar="COMMAND")
     for verb, says in VERBS.items():
-        _run_words(_verb(verbs, verb, says, _begin), verb)
+        words_of.run_words(_verb(verbs, verb, says, _begin), verb)
     status = _verb(verbs, "status", "print what the manifest says: counts, and each file that is not done", _status)
     status.add_argument("--all", action="store_true", help="name all files, not only the first five of each cause")
+    words_of.without(status)
     status.add_argument("--json", action="store_true", help="print each row of the manifest as a line of JSON")
-    lacks = _verb(verbs, "missing", "name each file that has no packed file, and why; status 1 if there is one", _missing)
+    lacks = _verb(verbs, "missing", "name each file with which something is not well, and why; status 1 if there is one", _missing)
+    words_of.without(lacks)
     lacks.add_argument("-0", "--null", action="store_true", help="print names only, as they are, with a null byte after each")
     forget = _verb(verbs, "forget", "remove files from the manifest that were never packed or whose packed file is gone", _forget)
     forget.add_argument("--name", action="append", required=True, metavar="NAME", help="a name as fzbatch status prints it, without $'..'")
     collect = _verb(verbs, "collect", "read the results of a Slurm array into the manifest", _collect)
     collect.add_argument("--drop", action="store_true", help="drop the tasks that have no result")
     collect.add_argument("--all", action="store_true", help="name all files, not only the first five of each cause")
-    _verb(verbs, "share", "do the share of one task of a Slurm array", _share)
+    share = _verb(verbs, "share", "do the share of one task of a Slurm array", _share)
+    share.add_argument("--fz", metavar="PROGRAM", help=words_of.FZ)
+    again = _verb(verbs, "rebuild", "make a lost or damaged manifest again from the packed files", _rebuild)
+    words_of.rebuild_words(again)
     page = _verb(verbs, "report", "write the state of an archive as one page of HTML", _report)
+    words_of.without(page)
     page.add_argument("-o", "--out", type=os.fsencode, default=b"report.html", metavar="FILE", help="the page (report.html)")
     _look_words(verbs)
     return whole
@@ -79,7 +101,7 @@ def _look_words(verbs) -> None:
     made.add_argument("--box", default="", metavar="LO:HI,..", help="a part of the image, counted from 1, axis 1 first; of a cube the third piece names the plane")
     made.add_argument("--size", type=int, default=800, metavar="N", help="pixels of the longer side of the picture, at most (800)")
     made.add_argument("--no-grid", action="store_true", help="draw no grid of world coordinates")
-    made.add_argument("--fz", metavar="PROGRAM", help="the program fz, if it is not in PATH and not named by the variable FZ")
+    made.add_argument("--fz", metavar="PROGRAM", help=words_of.FZ)
     made.add_argument("-o", "--out", type=os.fsencode, metavar="FILE", help="the picture (FILE with .png after it, in this folder)")
     made.set_defaults(call=_look)
 
@@ -92,45 +114,27 @@ def _verb(verbs, name: str, says: str, call) -> argparse.ArgumentParser:
     return made
 
 
-def _run_words(made: argparse.ArgumentParser, verb: str) -> None:
-    made.add_argument("--jobs", type=int, default=os.cpu_count() or 1, metavar="N", help="how many files at once (as many as processors)")
-    made.add_argument("--memory", type=int, default=0, metavar="BYTES", help="the limit on the buffers of each fz")
-    made.add_argument("--fz", metavar="PROGRAM", help="the program fz, if it is not in PATH and not named by the variable FZ")
-    made.add_argument("--engine", choices=("local", "parallel", "slurm", "dask"), default="local", help="what runs fz on the files (local)")
-    made.add_argument("--sshlogin", action="append", default=[], metavar="MACHINES", help="for GNU parallel: machines, such as 8/node1,4/:")
-    made.add_argument("--sshloginfile", metavar="FILE", help="for GNU parallel: a file with the machines")
-    made.add_argument("--scheduler", default="", metavar="ADDRESS", help="for dask: the scheduler; without it, workers of this machine")
-    made.add_argument("--all", action="store_true", help="name all files in the summary, not only the first five of each cause")
-    made.add_argument("--allow-empty", action="store_true", help="the source may be empty, or have none of the files of the manifest")
-    if verb == "verify":
-        made.add_argument("--sha256-only", action="store_true", help="only compare SHA-256, and do not decode tiles")
-    if verb != "pack":
-        return
-    made.add_argument("--codec", choices=("rice", "plio", "none"), help="as for fz pack")
-    made.add_argument("--tile", metavar="A,B,..", help="as for fz pack")
-    made.add_argument("--block", metavar="N", help="as for fz pack")
-    made.add_argument("--workers", metavar="N", help="as for fz pack; for many files more --jobs are better")
-    made.add_argument("--no-sums", action="store_true", help="add no DATASUM and CHECKSUM to the packed tables")
-    made.add_argument("--compare", action="store_true", help="also unpack each packed file and compare it with the plain file")
-    made.add_argument("--update", action="store_true", help="if the plain or the packed file has changed, pack again and replace the packed file")
-    made.add_argument("--retry", action="store_true", help="try again files that were rejected and have not changed since")
-    made.add_argument("--take-wrong-sums", action="store_true", help="pack files with a wrong checksum too, as they are")
-    made.add_argument("--skip-links", action="store_true", help="leave out symbolic links; they do not make the status 1")
+def _folders(asked: argparse.Namespace, reads: bool = True) -> tuple[bytes, bytes]:
+    """The folders of plain and of packed files, as whole paths. One is not in the other.
 
-
-def _folders(asked: argparse.Namespace) -> tuple[bytes, bytes]:
-    """The folders of plain and of packed files, as whole paths. One is not in the other."""
+    With `reads` false the folder of plain files has to be named: nothing is written to, or packed from, where a manifest says.
+    """
     first = os.path.realpath(asked.dir)
     if asked.packed is not None:
         plain, packed = first, os.path.realpath(asked.packed)
-    elif os.path.isfile(os.path.join(first, names.MANIFEST)):
+    elif files.there(os.path.join(first, names.MANIFEST)):
         packed = first
         with run.open_manifest(packed, writes=False) as manifest:
             plain = manifest.fact("source") or b""
+        plain = plain if isinstance(plain, bytes) else b""
+        if not reads:
+            said = f"the manifest says {names.shown(plain)}, if that is right: " if plain else ""
+            raise run.Refuse(f"name both folders: {said}fzbatch {asked.verb} {names.shown(plain) if plain else 'DIR'} {names.shown(packed)}")
     else:
         plain, packed = first, first + names.PACKED
-    if not plain:
-        raise run.Refuse("the manifest does not say where the plain files are: name both folders")
+    if not plain.startswith(b"/"):
+        # as after rebuild: then the plain files are not looked at
+        return b"", packed
     for one, other in ((plain, packed), (packed, plain)):
         if one == other or one.startswith(other.rstrip(b"/") + b"/"):
             raise run.Refuse("the folders of plain and of packed files have to be apart: one is in the other")
@@ -138,8 +142,9 @@ def _folders(asked: argparse.Namespace) -> tuple[bytes, bytes]:
 
 
 def _begin(asked: argparse.Namespace) -> int:
-    plain, packed = _folders(asked)
-    wanted = run.Wanted(asked.verb, plain, packed, program=asked.fz, memory=asked.memory, jobs=max(1, asked.jobs), engine=asked.engine)
+    plain, packed = _folders(asked, asked.verb in ("verify", "compare"))
+    wanted = run.Wanted(asked.verb, plain, packed, program=asked.fz, memory=asked.memory, jobs=asked.jobs, engine=asked.engine)
+    wanted.time_limit = max(0.0, asked.time_limit)
     wanted.scheduler, wanted.allow_empty, wanted.all_names = asked.scheduler, asked.allow_empty, asked.all
     for it in asked.sshlogin:
         wanted.machines += ["--sshlogin", it]
@@ -147,88 +152,99 @@ def _begin(asked: argparse.Namespace) -> int:
         wanted.machines += ["--sshloginfile", asked.sshloginfile]
     if asked.verb == "verify":
         wanted.sha256_only = asked.sha256_only
+    if asked.verb == "compare":
+        wanted.without_plain = asked.without_plain
     if asked.verb == "pack":
         wanted.options = [] if asked.no_sums else ["--sums"]
         for name in ("codec", "tile", "block", "workers"):
             if getattr(asked, name) is not None:
                 wanted.options += [f"--{name}", getattr(asked, name)]
         wanted.compare, wanted.update, wanted.retry = asked.compare, asked.update, asked.retry
-        wanted.take_wrong_sums, wanted.skip_links = asked.take_wrong_sums, asked.skip_links
+        wanted.accept_wrong_sums, wanted.skip_nothing = asked.accept_wrong_sums, asked.skip_nothing
+        wanted.skip_links, wanted.skip_compressed = asked.skip_links, asked.skip_compressed
     return run.begin(wanted, sys.stdout, sys.stderr)
 
 
-def tally_of(rows: Sequence[Row], left: Sequence[tuple[bytes, str, str]], others: dict[str, int]) -> Tally:
-    """The counts of a manifest."""
-    tally = Tally("status", left=[Left(*it) for it in left], others=others)
-    for row in rows:
-        if row.done and not row.fault:
+def tally_of(found: survey.Survey) -> Tally:
+    """The counts of an archive as it was found."""
+    tally = Tally("status", left=found.left, others=found.others, notes=list(found.notes))
+    bad = {it.path for it in found.findings}
+    for row in found.rows:
+        if row.path not in bad:
             tally.good(row.status, row.size or 0, row.packed_size or 0)
-        else:
-            tally.bad(row.path, row.cause, row.line, row.advice)
+    for it in found.findings:
+        tally.bad(it.path, it.cause, it.line, it.advice)
     return tally
 
 
 def _status(asked: argparse.Namespace) -> int:
-    _, packed = _folders(asked)
+    plain, packed = _folders(asked)
     with run.open_manifest(packed, writes=False) as manifest:
-        rows = list(manifest.rows())
-        tally = tally_of(rows, manifest.left_out(), manifest.others())
-        for token, verb, host, process, began, ended, said in manifest.runs()[-1:]:
-            tally.notes.append(f"The last run: {verb} at {began}" + (f": {said}" if ended else f", by process {process} on {host}, did not end yet, or was killed."))
+        found = survey.survey(manifest, plain, packed, asked.without_plain)
+        tally = tally_of(found)
+        if found.found is not None and asked.packed is None and packed == os.path.realpath(asked.dir):
+            tally.notes.append(f"The plain files were looked for in {names.shown(plain)}, as the manifest says.")
+        for _, verb, _, _, began, ended, said in manifest.runs()[-1:]:
+            tally.notes += [f"The last run: {verb} at {began}: {said}"] if ended else []
     if asked.json:
-        for row in rows:
-            print(json.dumps({**asdict(row), "path": names.shown(row.path)}))
+        causes = {it.path: it.cause for it in found.findings}
+        for row in found.rows:
+            print(json.dumps({**asdict(row), "path": names.shown(row.path), "found": causes.get(row.path, "")}))
     else:
         tally.print(sys.stdout, asked.all)
-    return run.DONE if tally.whole else run.NOT_DONE
+    _print_lost(found)
+    return run.DONE if found.whole else run.NOT_DONE
+
+
+def _print_lost(found: survey.Survey) -> None:
+    if found.lost:
+        print(f"{PROGRAM}: {found.lost}", file=sys.stderr)
 
 
 def _missing(asked: argparse.Namespace) -> int:
     plain, packed = _folders(asked)
-    found = scan(plain) if os.path.isdir(plain) else None
     with run.open_manifest(packed, writes=False) as manifest:
-        rows = {it.path: it for it in manifest.rows()}
-    lacking = dict(plan.missing(found, rows, packed))
-    # a packed file that was found to be wrong is none to rely on
-    lacking.update((it.path, it.line) for it in rows.values() if it.fault and it.path not in lacking)
-    for path, why in sorted(lacking.items()):
+        found = survey.survey(manifest, plain, packed, asked.without_plain)
+    for it in sorted(found.findings, key=lambda it: it.path):
         if asked.null:
-            sys.stdout.buffer.write(path + b"\0")
+            sys.stdout.buffer.write(it.path + b"\0")
         else:
-            print(f"{names.shown(path)}: {why}")
-    left = found.left if found else []
-    for it in left:
-        print(f"{names.shown(it.path)}: {it.why}", file=sys.stderr if asked.null else sys.stdout)
-    lost = "is not there" if found is None else "" if found.files or found.left or not rows else "has no FITS file"
-    if lost:
-        print(f"{PROGRAM}: {names.shown(plain)} {lost}: only files of the manifest were looked for", file=sys.stderr)
-    return run.NOT_DONE if lacking or left or lost else run.DONE
+            print(f"{names.shown(it.path)}: {it.line}")
+    for left in found.left:
+        print(f"{names.shown(left.path)}: {left.why}", file=sys.stderr if asked.null else sys.stdout)
+    for note in [*alone(found.others), *found.notes]:
+        print(f"{PROGRAM}: {note}", file=sys.stderr)
+    _print_lost(found)
+    return run.DONE if found.whole else run.NOT_DONE
 
 
 def _forget(asked: argparse.Namespace) -> int:
     _, packed = _folders(asked)
-    with lock.held(os.path.join(packed, b"fzbatch.lock")), run.open_manifest(packed) as manifest:
+    with lock.held(os.path.join(packed, names.LOCK)), run.open_manifest(packed) as manifest:
         rows = {names.shown(it.path): it for it in manifest.rows()}
         for name in asked.name:
             row = rows.get(name)
             if row is None:
                 raise run.Refuse(f"{name} is not in the manifest")
-            if row.done and files.there(os.path.join(packed, names.packed_name(row.path))):
+            if row.done and survey.files_there(packed, names.packed_name(row.path)):
                 raise run.Refuse(f"{name} has a packed file, and is not forgotten")
             manifest.forget(row.path)
             print(f"forgotten: {name}")
+        for it in keep.keep(manifest, packed):
+            print(it)
     return run.DONE
 
 
 def _report(asked: argparse.Namespace) -> int:
     plain, packed = _folders(asked)
-    found = scan(plain) if os.path.isdir(plain) else None
     with run.open_manifest(packed, writes=False) as manifest:
+        found = survey.survey(manifest, plain, packed, asked.without_plain)
         text = report.page(manifest, packed, found)
-    if not files.write_over_own(asked.out, text.encode(), 20):
-        raise run.Refuse(f"{names.shown(asked.out)} is there, and is no page of HTML: give another name")
+    if not files.write_over_own(asked.out, text.encode(errors="backslashreplace"), len(report.HEAD)):
+        raise run.Refuse(f"{names.shown(asked.out)} is there, and is no page of fzbatch: give another name")
     print(names.shown(asked.out))
-    return run.DONE
+    _print_lost(found)
+    return run.DONE if found.whole else run.NOT_DONE
 
 
 def _look(asked: argparse.Namespace) -> int:
@@ -239,12 +255,22 @@ def _look(asked: argparse.Namespace) -> int:
 
 def _collect(asked: argparse.Namespace) -> int:
     _, packed = _folders(asked)
-    return run.collect(packed, sys.stdout, asked.drop, asked.all)
+    return submit.collect(packed, sys.stdout, asked.drop, asked.all)
 
 
 def _share(asked: argparse.Namespace) -> int:
-    _, packed = _folders(asked)
-    with lock.held(os.path.join(packed, b"fzbatch.lock"), shared=True):
-        count, good = slurm.do_share(packed, os.environ, lambda: False, lambda it: None if it.good else print(f"{names.shown(it.path)}: {it.line}", file=sys.stderr))
+    plain, packed = _folders(asked, reads=False)
+    calls.check_files()
+    fz = program.find(asked.fz)
+    given = Settings("pack", plain, packed, "0" * 16, fz, work.identity_of(fz))
+    with lock.held(os.path.join(packed, names.LOCK), shared=True):
+        count, good = slurm.do_share(given, os.environ, lambda: False, lambda it: None if it.good else print(f"{names.shown(it.path)}: {it.line}", file=sys.stderr))
     print(f"share: {count} files, {good} done, {count - good} not done")
     return run.DONE if good == count else run.NOT_DONE
+
+
+def _rebuild(asked: argparse.Namespace) -> int:
+    packed = os.path.realpath(asked.packed if asked.packed is not None else asked.dir)
+    calls.check_files()
+    made = submit.settings_for_rebuild(packed, program.find(asked.fz), secrets.token_hex(8), asked.jobs, asked.memory, asked.accept_wrong_sums, max(0.0, asked.time_limit))
+    return submit.rebuilt(made, sys.stdout, asked.jobs, asked.ignore_copy, asked.again, asked.all)

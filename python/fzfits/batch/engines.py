@@ -12,15 +12,22 @@ import shutil
 import subprocess
 import sys
 import threading
+import time
+from dataclasses import replace
 from pathlib import Path
 from typing import Callable, Iterator, Sequence
 
-from . import work
+from . import files, machine, work
+from .messages import BadMessage, Result, Settings, Task
+from .rooms import Rooms, rooms
 
 # What a line with a result begins with: a remote machine may print other lines before it.
 RESULT = "fzbatch-result "
 # So many tasks are one job of GNU parallel: starting Python takes about as long as packing a small file.
 TASKS_OF_A_JOB = 8
+# So many files are synced together, and those that were made in so many seconds.
+MANY = 128
+OLDEST = 1.0
 PACKAGE = str(Path(__file__).resolve().parents[2])
 
 
@@ -28,34 +35,46 @@ class NoEngine(Exception):
     """The engine is not installed, or could not be started."""
 
 
-def local(settings: work.Settings, tasks: Sequence[work.Task], jobs: int, stopped: Callable[[], bool]) -> Iterator[work.Result]:
-    """As many tasks at once as there are jobs. Each waits for its own fz, so threads are enough on this side."""
+def local(settings: Settings, tasks: Sequence[Task], jobs: int, stopped: Callable[[], bool]) -> Iterator[Result]:
+    """As many tasks at once as there are jobs. Each waits for its own fz, so threads are enough on this side.
+
+    The disk is waited for once for many files: those that were made within a second, at most so many.
+    """
     waiting = iter(tasks)
-    running: set[futures.Future[work.Result]] = set()
-    with futures.ThreadPoolExecutor(jobs) as pool:
+    running: set[futures.Future[work.Done]] = set()
+    batch: list[work.Done] = []
+    since = 0.0
+    with files.private(), rooms(settings.packed, settings.token, jobs) as scratch, futures.ThreadPoolExecutor(jobs) as pool:
         while True:
             while len(running) < 2 * jobs and not stopped():
                 task = next(waiting, None)
                 if task is None:
                     break
-                running.add(pool.submit(_unless, stopped, settings, task))
+                running.add(pool.submit(_unless, stopped, settings, task, scratch))
             if not running:
                 return
-            ended, running = futures.wait(running, return_when=futures.FIRST_COMPLETED)
-            yield from (it.result() for it in ended)
+            ended, running = futures.wait(running, timeout=OLDEST, return_when=futures.FIRST_COMPLETED)
+            since = since if batch else time.monotonic()
+            batch += [it.result() for it in ended]
+            if batch and (not running or len(batch) >= MANY or time.monotonic() - since >= OLDEST):
+                work.finish(settings, batch)
+                yield from (it.result for it in batch)
+                batch = []
 
 
-def _unless(stopped: Callable[[], bool], settings: work.Settings, task: work.Task) -> work.Result:
+def _unless(stopped: Callable[[], bool], settings: Settings, task: Task, scratch: Rooms) -> work.Done:
     if stopped():
-        return work.Result(task.path, settings.verb, "killed", "stopped", "the run was stopped", "run fzbatch again")
-    return work.do(settings, task)
+        return work.Done(task, Result(task.path, settings.verb, "killed", "stopped", "the run was stopped", "run fzbatch again"))
+    return work.prepare(settings, task, scratch)
 
 
-def parallel(settings: work.Settings, tasks: Sequence[work.Task], options: Sequence[str], stopped: Callable[[], bool]) -> Iterator[work.Result]:
+def parallel(settings: Settings, tasks: Sequence[Task], options: Sequence[str], stopped: Callable[[], bool]) -> Iterator[Result]:
     """By GNU parallel, whose options name the machines. All see the folders, this package, Python and fz under the same names."""
     if shutil.which("parallel") is None or b"GNU" not in subprocess.run(["parallel", "--version"], capture_output=True, check=False).stdout:
         raise NoEngine("GNU parallel is not installed")
-    command = f"env PYTHONPATH={shlex.quote(PACKAGE)} {shlex.quote(sys.executable)} -m fzfits.batch.engines {settings.word()}"
+    # isolated: no module is imported from the folder in which a machine starts it
+    code = f"import sys; sys.path.insert(0, {PACKAGE!r}); from fzfits.batch.engines import main; sys.exit(main(sys.argv[1:]))"
+    command = f"{shlex.quote(sys.executable)} -I -c {shlex.quote(code)} {settings.word()}"
     # parallel wants a HOME, and says so if there is none
     environment = {"HOME": os.getcwd(), **os.environ}
     words = ["parallel", "--will-cite", "-N", str(TASKS_OF_A_JOB), *options, command]
@@ -63,13 +82,21 @@ def parallel(settings: work.Settings, tasks: Sequence[work.Task], options: Seque
         threading.Thread(target=_feed, args=(it, [task.word() for task in tasks]), daemon=True).start()
         assert it.stdout is not None
         for line in it.stdout:
-            if line.startswith(RESULT):
-                yield work.Result.of(line.removeprefix(RESULT))
+            result = _result_of(line)
+            if result is not None:
+                yield result
             else:
                 # a banner of the machine, say
                 sys.stderr.write(line)
             if stopped():
                 it.terminate()
+
+
+def _result_of(line: str) -> "Result | None":
+    try:
+        return Result.of(line[len(RESULT) :]) if line.startswith(RESULT) else None
+    except BadMessage:
+        return None
 
 
 def _feed(it: "subprocess.Popen[str]", lines: Sequence[str]) -> None:
@@ -81,7 +108,7 @@ def _feed(it: "subprocess.Popen[str]", lines: Sequence[str]) -> None:
         pass
 
 
-def dask(settings: work.Settings, tasks: Sequence[work.Task], scheduler: str, jobs: int, stopped: Callable[[], bool]) -> Iterator[work.Result]:
+def dask(settings: Settings, tasks: Sequence[Task], scheduler: str, jobs: int, stopped: Callable[[], bool]) -> Iterator[Result]:
     """By the workers of a dask scheduler, or by those of a cluster on this machine if none is named."""
     try:
         import distributed
@@ -97,7 +124,7 @@ def dask(settings: work.Settings, tasks: Sequence[work.Task], scheduler: str, jo
         asked = client.map(_of_lines, [head] * len(tasks), [it.word() for it in tasks], pure=False, retries=0)
         for future in distributed.as_completed(asked):
             if future.status == "finished":
-                yield work.Result.of(future.result())
+                yield Result.of(future.result())
             if stopped():
                 client.cancel(asked)
                 return
@@ -108,14 +135,19 @@ def dask(settings: work.Settings, tasks: Sequence[work.Task], scheduler: str, jo
 
 
 def _of_lines(settings: str, task: str) -> str:
-    return work.do(work.Settings.of(settings), work.Task.of(task)).word()
+    return work.do(_with_memory(Settings.of(settings)), Task.of(task)).word()
+
+
+def _with_memory(settings: Settings) -> Settings:
+    """On another machine: as if it had a job for each of its processors."""
+    return replace(settings, memory=settings.memory or machine.limit_of_a_job(machine.processors()))
 
 
 def main(words: Sequence[str]) -> int:
     """A job of GNU parallel: settings and tasks as words; a line with the result of each."""
-    settings = work.Settings.of(words[0])
+    settings = _with_memory(Settings.of(words[0]))
     for word in words[1:]:
-        print(RESULT + work.do(settings, work.Task.of(word)).word(), flush=True)
+        print(RESULT + work.do(settings, Task.of(word)).word(), flush=True)
     return 0
 
 

@@ -1,17 +1,25 @@
-"""Files as bytes on a disk: sums, folders that stay after a loss of power, and a name that is given without replacing another file."""
+"""Files as bytes on a disk: sums, syncs, and a name that is given without replacing another file."""
 from __future__ import annotations
 
+import ctypes
 import errno
 import hashlib
 import os
-import shutil
 import stat
-import tempfile
+import sys
 from contextlib import contextmanager
 from dataclasses import dataclass
-from typing import Iterator
+from typing import Iterator, Optional
+
+from . import inside
 
 PIECE = 1 << 20
+# What may be the beginning of a card with a checksum.
+CARDS = (b"DATASUM = ", b"CHECKSUM= ")
+IMAGE_CARDS = (b"ZDATASUM= ", b"ZHECKSUM= ")
+# File systems of which one call for the whole disk is known to wait for all files, and to report what could not be written.
+LOCAL = ("ext2", "ext3", "ext4", "xfs", "btrfs", "f2fs", "tmpfs")
+NO_LINKS = (errno.EPERM, errno.ENOTSUP, errno.EOPNOTSUPP, errno.EMLINK, errno.ENOSYS)
 
 
 class NotRegular(OSError):
@@ -20,36 +28,50 @@ class NotRegular(OSError):
 
 @dataclass(frozen=True)
 class Looked:
-    """A file as it was read: what `stat` said, and the SHA-256 of its bytes."""
+    """A file as it was read: what `stat` said, the SHA-256 of its bytes, and whether cards of checksums may be in it.
+
+    `has_sums` is for DATASUM and CHECKSUM, and `has_image_sums` for ZDATASUM and ZHECKSUM, those of a packed image.
+    """
 
     size: int
     mtime: int
     ctime: int
     inode: int
+    mode: int
     sha256: str
+    has_sums: bool = False
+    has_image_sums: bool = False
 
-    def is_still(self, path: bytes) -> bool:
+    def is_still(self, it: Optional[os.stat_result]) -> bool:
         """Whether `stat` says the same of the file now, so that nothing wrote it since."""
-        it = os.lstat(path)
-        return (it.st_size, it.st_mtime_ns, it.st_ctime_ns, it.st_ino) == (self.size, self.mtime, self.ctime, self.inode)
+        return it is not None and (it.st_size, it.st_mtime_ns, it.st_ctime_ns, it.st_ino) == (self.size, self.mtime, self.ctime, self.inode)
+
+
+def look_at(number: int) -> Looked:
+    """Reads a whole open regular file from its beginning."""
+    it = os.fstat(number)
+    if not stat.S_ISREG(it.st_mode):
+        raise NotRegular(errno.EINVAL, "it is no regular file any more")
+    total, at, end, sums, image_sums = hashlib.sha256(), 0, b"", False, False
+    while True:
+        piece = os.pread(number, PIECE, at)
+        if not piece:
+            break
+        total.update(piece)
+        seam = end + piece[:9]
+        sums = sums or any(card in piece or card in seam for card in CARDS)
+        image_sums = image_sums or any(card in piece or card in seam for card in IMAGE_CARDS)
+        at, end = at + len(piece), piece[-9:]
+    return Looked(it.st_size, it.st_mtime_ns, it.st_ctime_ns, it.st_ino, stat.S_IMODE(it.st_mode), total.hexdigest(), sums, image_sums)
 
 
 def look(path: bytes) -> Looked:
     """Reads a whole regular file. A symbolic link is not followed."""
-    number = os.open(path, os.O_RDONLY | os.O_NOFOLLOW | os.O_NONBLOCK)
+    number = os.open(path, inside.FILE)
     try:
-        it = os.fstat(number)
-        if not stat.S_ISREG(it.st_mode):
-            raise NotRegular(errno.EINVAL, "it is no regular file any more")
-        total = hashlib.sha256()
-        while True:
-            piece = os.read(number, PIECE)
-            if not piece:
-                break
-            total.update(piece)
+        return look_at(number)
     finally:
         os.close(number)
-    return Looked(it.st_size, it.st_mtime_ns, it.st_ctime_ns, it.st_ino, total.hexdigest())
 
 
 def there(path: bytes) -> bool:
@@ -61,89 +83,133 @@ def there(path: bytes) -> bool:
     return True
 
 
-def sync(path: bytes) -> None:
-    """Waits until the disk has a file, or the names in a folder."""
-    number = os.open(path, os.O_RDONLY)
-    try:
-        os.fsync(number)
-    except OSError as error:
-        # some network file systems cannot sync a folder
-        if error.errno not in (errno.EINVAL, errno.ENOTSUP):
-            raise
-    finally:
-        os.close(number)
+def sync_disk(number: int) -> bool:
+    """Waits until the disk of an open folder has all that was written.
 
-
-def make_folders(path: bytes) -> None:
-    """Makes a folder and those above it that are not there, each kept on the disk."""
-    if os.path.isdir(path):
-        return
-    above = os.path.dirname(path)
-    if above and above != path:
-        make_folders(above)
-    try:
-        os.mkdir(path)
-    except FileExistsError:
-        if not os.path.isdir(path):
-            raise NotADirectoryError(errno.ENOTDIR, os.strerror(errno.ENOTDIR)) from None
-        return
-    sync(above or b".")
-
-
-def give_name(part: bytes, name: bytes, replace: bool = False) -> bool:
-    """Gives a whole file its name, and waits until the disk has it. False if another file has that name, which then stays."""
-    if replace:
-        os.replace(part, name)
-    else:
-        try:
-            os.link(part, name)
-            os.unlink(part)
-        except FileExistsError:
+    False if the system cannot do that or does not report faults, or if it is another disk than a local one of a kind that is known
+    to do so: then each file is to be synced.
+    """
+    call = getattr(_libc(), "syncfs", None)
+    if call is None or not _reports_faults() or kind_of_disk(os.fstat(number).st_dev) not in LOCAL:
+        return False
+    if call(number) != 0:
+        error = ctypes.get_errno()
+        if error in (errno.ENOSYS, errno.EINVAL, errno.ENOTSUP):
             return False
-        except OSError as error:
-            # a file system without hard links: the lock keeps other runs away between the look and the renaming
-            if error.errno not in (errno.EPERM, errno.ENOTSUP, errno.EOPNOTSUPP, errno.EMLINK, errno.ENOSYS):
-                raise
-            if there(name):
-                return False
-            os.rename(part, name)
-    sync(os.path.dirname(name) or b".")
+        raise OSError(error, os.strerror(error))
+    return True
+
+
+def kind_of_disk(device: int) -> str:
+    """The kind of the file system with this number, as ext4; the empty text if the system does not say it."""
+    wanted = f"{os.major(device)}:{os.minor(device)}"
+    try:
+        with open("/proc/self/mountinfo", encoding="utf-8", errors="surrogateescape") as it:
+            kinds = [line.partition(" - ")[2].split(" ")[0] for line in it if line.split(" ")[2:3] == [wanted]]
+    except OSError:
+        return ""
+    return kinds[-1] if kinds else ""
+
+
+def _libc() -> Optional[ctypes.CDLL]:
+    try:
+        return ctypes.CDLL(None, use_errno=True) if sys.platform == "linux" else None
+    except OSError:
+        return None
+
+
+def _reports_faults() -> bool:
+    """Since Linux 5.8 syncfs says if a write failed."""
+    numbers = os.uname().release.split(".")
+    try:
+        return (int(numbers[0]), int(numbers[1].split("-")[0])) >= (5, 8)
+    except (ValueError, IndexError):
+        return False
+
+
+def copy_into(above: int, name: bytes, source: bytes) -> str:
+    """Copies a file into a new one of this name in an open folder, and gives the SHA-256 of the bytes that were written."""
+    total = hashlib.sha256()
+    number = os.open(name, os.O_WRONLY | os.O_CREAT | os.O_EXCL | os.O_NOFOLLOW | os.O_CLOEXEC, 0o600, dir_fd=above)
+    with os.fdopen(number, "wb", buffering=0) as to, open(source, "rb", buffering=0) as it:
+        while True:
+            piece = it.read(PIECE)
+            if not piece:
+                break
+            total.update(piece)
+            view = memoryview(piece)
+            while view:
+                view = view[to.write(view) :]
+    return total.hexdigest()
+
+
+def set_rights(number: int, mode: int) -> None:
+    """Gives an open file its rights, if its file system has any."""
+    try:
+        os.fchmod(number, mode)
+    except OSError as error:
+        if error.errno not in (errno.EPERM, errno.ENOTSUP):
+            raise
+
+
+def give_name(above: int, part: bytes, name: bytes, replace: bool = False) -> bool:
+    """Gives a whole file of an open folder its name. False if another file has that name, which then stays."""
+    if replace:
+        os.rename(part, name, src_dir_fd=above, dst_dir_fd=above)
+        return True
+    try:
+        os.link(part, name, src_dir_fd=above, dst_dir_fd=above, follow_symlinks=False)
+        os.unlink(part, dir_fd=above)
+    except FileExistsError:
+        return False
+    except OSError as error:
+        # a file system without hard links: the lock keeps other runs away between the look and the renaming
+        if error.errno not in NO_LINKS:
+            raise
+        try:
+            os.stat(name, dir_fd=above, follow_symlinks=False)
+            return False
+        except FileNotFoundError:
+            os.rename(part, name, src_dir_fd=above, dst_dir_fd=above)
     return True
 
 
 def write_over_own(path: bytes, data: bytes, beginning: int) -> bool:
-    """Writes a file. One that is there is replaced only if it begins with the same bytes, so no other file is lost by a slip."""
+    """Writes a file. One that is there is replaced only if it begins with the same bytes, so no other file is lost by a slip.
+
+    A link is not followed, and counts as another file.
+    """
     if there(path):
-        with open(path, "rb") as file:
+        try:
+            number = inside.own(path, os.O_RDONLY)
+        except OSError:
+            return False
+        with os.fdopen(number, "rb") as file:
             if file.read(beginning) != data[:beginning]:
                 return False
-    with open(path, "wb") as file:
-        file.write(data)
+    inside.replace(path, iter([data]), 0o666 & ~_umask())
     return True
 
 
-def remove(path: bytes) -> None:
-    """Removes a file if it is there."""
-    try:
-        os.unlink(path)
-    except FileNotFoundError:
-        pass
+def _umask() -> int:
+    found = os.umask(0o077)
+    os.umask(found)
+    return found
 
 
 @contextmanager
-def room(token: str) -> Iterator[bytes]:
-    """A scratch folder that is removed at the end. A later run finds what a killed one left by its token."""
-    path = os.fsencode(tempfile.mkdtemp(prefix=f"fzbatch-{token}-"))
+def private() -> Iterator[None]:
+    """While the block runs, new files and folders can be read by their owner only; each gets its rights when it is whole."""
+    before = os.umask(0o077)
     try:
-        yield path
+        yield
     finally:
-        shutil.rmtree(path, ignore_errors=True)
+        os.umask(before)
 
 
-def remove_rooms(tokens: set[str]) -> None:
-    """Removes the scratch folders of killed runs on this machine."""
-    folder = tempfile.gettempdir()
-    for name in os.listdir(folder):
-        fields = name.split("-")
-        if fields[0] == "fzbatch" and len(fields) == 3 and fields[1] in tokens:
-            shutil.rmtree(os.path.join(folder, name), ignore_errors=True)
+def remove(path: bytes, above: Optional[int] = None) -> None:
+    """Removes a file if it is there."""
+    try:
+        os.unlink(path, dir_fd=above)
+    except FileNotFoundError:
+        pass

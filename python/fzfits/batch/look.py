@@ -3,6 +3,7 @@ from __future__ import annotations
 
 import math
 import os
+import stat
 import sys
 import tempfile
 from array import array
@@ -43,6 +44,8 @@ class View:
 
 def look(path: bytes, out: bytes, hdu: Optional[int] = None, box: str = "", size: int = 800, with_grid: bool = True, program: Optional[str] = None) -> str:
     """Writes a picture of a packed image as a PNG file, and says what it shows."""
+    if not stat.S_ISREG(os.stat(path).st_mode):
+        raise NoPicture(f"{names.shown(path)} is a pipe or a folder, and no file")
     header = _header(path, hdu)
     pieces, view = _pieces(header, box, size)
     with tempfile.TemporaryDirectory(prefix="fzbatch-look-") as room:

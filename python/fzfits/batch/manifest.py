@@ -1,57 +1,59 @@
-"""The manifest: a row in SQLite for each file, what was packed of it, and what the last look at it found."""
+"""The manifest: a row in SQLite for each file, what was packed of it, and what the last look at it found.
+
+Each row of a file has a hash, and the table `seal` has the number of rows and the sum of all hashes, so that a bit that changes
+and a row that is gone are noticed. Others may have written the file: everything in it is checked when it is opened.
+"""
 from __future__ import annotations
 
 import sqlite3
 import time
-from contextlib import closing
 from dataclasses import astuple, dataclass, fields
-from pathlib import Path
-from typing import Iterator, Optional
+from typing import Any, Iterator, Optional
 
-VERSION = 1
+from . import checks, names, opening
+from .opening import BadManifest
+
+VERSION = 2
 DONE = ("packed", "copied")
+STRICT = sqlite3.sqlite_version_info >= (3, 37)
 
-SCHEMA = """
-CREATE TABLE IF NOT EXISTS facts (name TEXT PRIMARY KEY, value);
-CREATE TABLE IF NOT EXISTS files (
-    path BLOB PRIMARY KEY,      -- in the folder of plain files; the packed file has .fz after it
-    size INTEGER,               -- of the plain file, in bytes
-    mtime INTEGER,              -- of the plain file, in nanoseconds
-    sha256 TEXT,                -- of the plain file, before it was packed
-    packed_size INTEGER,
-    packed_mtime INTEGER,
-    packed_sha256 TEXT,
-    status TEXT NOT NULL,       -- packed; copied: it had nothing to pack; refused; failed
-    kind INTEGER,               -- the number of the refusal
-    cause TEXT NOT NULL,        -- a name for files that need the same thing, if it is not done
-    line TEXT NOT NULL,         -- what fz or the system said
-    advice TEXT NOT NULL,
-    fault TEXT NOT NULL,        -- of a packed file, what was found later: changed, damaged, lost, differs; empty if nothing
-    program TEXT NOT NULL,      -- SHA-256 of the program that packed it
-    options TEXT NOT NULL,      -- those of `fz pack`
-    wrong_sums INTEGER NOT NULL,-- 1 if the plain file has a wrong DATASUM or CHECKSUM, and was packed as it is
-    seconds REAL NOT NULL,      -- that packing took
-    packed_at TEXT NOT NULL,
-    checked_at TEXT NOT NULL,   -- when it was last verified, compared or restored
-    check_line TEXT NOT NULL    -- what was said then
-) WITHOUT ROWID;
-CREATE TABLE IF NOT EXISTS left_out (path BLOB PRIMARY KEY, why TEXT NOT NULL, advice TEXT NOT NULL) WITHOUT ROWID;
-CREATE TABLE IF NOT EXISTS others (suffix TEXT PRIMARY KEY, count INTEGER NOT NULL) WITHOUT ROWID;
-CREATE TABLE IF NOT EXISTS runs (
-    token TEXT PRIMARY KEY,     -- is in the name of each file that the run was writing
-    verb TEXT NOT NULL, host TEXT NOT NULL, process INTEGER NOT NULL,
-    began TEXT NOT NULL, ended TEXT, said TEXT
-);
-"""
+COLUMNS_OF = {
+    "facts": "name TEXT PRIMARY KEY, value ANY",
+    "files": """path BLOB PRIMARY KEY,
+    size INTEGER, mtime INTEGER, mode INTEGER, looked INTEGER, sha256 TEXT,
+    packed_size INTEGER, packed_mtime INTEGER, packed_sha256 TEXT,
+    status TEXT NOT NULL, kind INTEGER, cause TEXT NOT NULL, line TEXT NOT NULL, advice TEXT NOT NULL, fault TEXT NOT NULL,
+    program TEXT NOT NULL, options TEXT NOT NULL, wrong_sums INTEGER NOT NULL, sums_line TEXT NOT NULL, seconds REAL NOT NULL,
+    packed_at TEXT NOT NULL, checked_at TEXT NOT NULL, check_line TEXT NOT NULL, hash BLOB NOT NULL""",
+    "left_out": "path BLOB PRIMARY KEY, why TEXT NOT NULL, advice TEXT NOT NULL",
+    "others": "suffix TEXT PRIMARY KEY, count INTEGER NOT NULL",
+    "runs": "token TEXT PRIMARY KEY, verb TEXT NOT NULL, host TEXT NOT NULL, process INTEGER NOT NULL, began TEXT NOT NULL, ended TEXT, said TEXT",
+    "seal": "name TEXT PRIMARY KEY, value TEXT NOT NULL",
+}
+
+
+def _schema(strict: bool) -> dict[str, str]:
+    end = ") WITHOUT ROWID, STRICT" if strict else ") WITHOUT ROWID"
+    return {name: f"CREATE TABLE {name} ({columns if strict else columns.replace(' ANY', '')}{end}" for name, columns in COLUMNS_OF.items()}
+
+
+SCHEMAS = (_schema(True), _schema(False))
 
 
 @dataclass
 class Row:
-    """What the manifest says of one file; the fields are the columns of the table `files`."""
+    """What the manifest says of one file; the fields are the columns of the table `files`, but for the hash.
+
+    The first five are of the plain file: its path, size, time in nanoseconds, rights, and when it was read. `sha256` is that of the
+    plain file before it was packed. `status` is packed, copied (it had nothing to pack), refused or failed. `fault` is what was
+    found later of a packed file; `wrong_sums` is 1 if the plain file has a wrong DATASUM or CHECKSUM, which were accepted.
+    """
 
     path: bytes
     size: Optional[int] = None
     mtime: Optional[int] = None
+    mode: Optional[int] = None
+    looked: Optional[int] = None
     sha256: Optional[str] = None
     packed_size: Optional[int] = None
     packed_mtime: Optional[int] = None
@@ -65,6 +67,7 @@ class Row:
     program: str = ""
     options: str = ""
     wrong_sums: int = 0
+    sums_line: str = ""
     seconds: float = 0.0
     packed_at: str = ""
     checked_at: str = ""
@@ -75,12 +78,13 @@ class Row:
         """Whether it has a packed file, as far as the manifest knows."""
         return self.status in DONE
 
+    @property
+    def unsure(self) -> bool:
+        """Whether the plain file was read so soon after it was written that a later change may have left its time the same."""
+        return self.mtime is not None and self.looked is not None and self.mtime > self.looked - 2_000_000_000
+
 
 COLUMNS = tuple(it.name for it in fields(Row))
-
-
-class BadManifest(Exception):
-    """The manifest cannot be read or written."""
 
 
 def now() -> str:
@@ -88,42 +92,84 @@ def now() -> str:
     return time.strftime("%Y-%m-%dT%H:%M:%SZ", time.gmtime())
 
 
-def _damaged(error: sqlite3.Error) -> str:
-    """What to do if the file is no database, or a damaged one."""
-    if not isinstance(error, sqlite3.DatabaseError) or isinstance(error, sqlite3.OperationalError):
-        return ""
-    return ": move it away, and fzbatch pack makes a new one from the plain files and the packed files"
-
-
 class Manifest:
     """The manifest in a file. What is put into it is on the disk after `save`, which `put` calls about once a second."""
 
     def __init__(self, path: bytes, writes: bool = True):
-        self.path = path
-        uri = Path(_text(path)).absolute().as_uri() + ("?mode=rwc" if writes else "?mode=ro")
+        self.path, self.changed = path, False
+        self._rest: Optional[str] = None
+        self._broken = ""
+        self._sql, self._room = opening.opened(path, writes)
         try:
-            self._sql = sqlite3.connect(uri, uri=True, timeout=30)
-            self._sql.execute("PRAGMA synchronous = FULL")
-            if writes:
-                self._sql.executescript(SCHEMA)
-                self._sql.execute("INSERT OR IGNORE INTO facts VALUES ('version', ?)", (VERSION,))
-                self._sql.commit()
-            found = self.fact("version")
-        except sqlite3.Error as error:
-            raise BadManifest(f"the manifest {_text(path)!r}: {error}{_damaged(error)}") from error
-        if found != VERSION:
-            raise BadManifest(f"the manifest {_text(path)!r} has version {found}; this fzbatch reads version {VERSION}")
+            self._load(writes)
+        except BaseException as error:
+            self._sql.close()
+            opening.closed(self._room)
+            # text in the database that is no text is a ValueError
+            if isinstance(error, (sqlite3.Error, checks.Odd, ValueError, OverflowError)):
+                raise BadManifest(f"the manifest {names.shown(path)}: {names.told(str(error))}{opening.what_to_do(path, error)}") from error
+            raise
+
+    def _load(self, writes: bool) -> None:
+        if writes and not self._sql.execute("SELECT count(*) FROM sqlite_master").fetchone()[0]:
+            self._sql.execute("BEGIN IMMEDIATE")
+            for made in SCHEMAS[0 if STRICT else 1].values():
+                self._sql.execute(made)
+            self._sql.execute("INSERT INTO facts VALUES ('version', ?)", (VERSION,))
+            self._hashes: dict[bytes, bytes] = {}
+            self._total = 0
+            self._seal()
+            self._sql.commit()
+        # one look at all of it, also while another process writes
+        self._sql.execute("BEGIN")
+        self._check_version()
+        checks.check_tables(self._sql, SCHEMAS)
+        found = self._sql.execute("PRAGMA quick_check(1)").fetchone()[0]
+        if found != "ok":
+            raise checks.Odd(f"it is damaged ({found})")
+        self._check_rows()
+        self._sql.commit()
         self._saved = time.monotonic()
 
-    @classmethod
-    def copy_of(cls, path: bytes) -> "Manifest":
-        """The manifest of a disk that cannot be written, in memory: what is put into it is gone afterwards."""
-        found = cls(path, writes=False)
-        copy = sqlite3.connect(":memory:")
-        found._sql.backup(copy)
-        found._sql.close()
-        found._sql = copy
-        return found
+    def _check_version(self) -> None:
+        tables = {it for (it,) in self._sql.execute("SELECT name FROM sqlite_master WHERE type = 'table'")}
+        found = self._sql.execute("SELECT value FROM facts WHERE name = 'version'").fetchone() if "facts" in tables else None
+        if not found or found[0] != VERSION:
+            version = found[0] if found and isinstance(found[0], int) else "none"
+            raise BadManifest(f"the manifest {names.shown(self.path)} has version {version}; this fzbatch reads version {VERSION}{opening.ANOTHER}")
+
+    def _check_rows(self) -> None:
+        """Reads all rows: the form of each field, the hash of each row, and the sums."""
+        self._hashes, self._total, self._rest = {}, 0, None
+        kept: list[Row] = []
+        for *values, digest in self._sql.execute(f"SELECT {', '.join(COLUMNS)}, hash FROM files ORDER BY path"):
+            checks.check_row("files", values)
+            row = Row(*values)
+            if digest != checks.hash_of("files", values):
+                raise checks.Odd(f"the row of {names.shown(row.path)} is damaged: its hash is another")
+            checks.check_file(row)
+            self._hashes[row.path] = digest
+            self._total = checks.added(self._total, digest)
+            kept.append(row)
+        for table in ("facts", "left_out", "others", "runs", "seal"):
+            for values in self._sql.execute(f"SELECT * FROM {table}"):
+                checks.check_row(table, values)
+        if dict(self._sql.execute("SELECT name, value FROM seal")) != self._seals():
+            raise checks.Odd("rows are gone or changed: their number and the sum of their hashes are others than when it was written")
+        self._rows = {it.path: it for it in kept}
+
+    def _seals(self) -> dict[str, str]:
+        if self._rest is None:
+            count = total = 0
+            for table in ("facts", "left_out", "others", "runs"):
+                for values in self._sql.execute(f"SELECT * FROM {table}"):
+                    count, total = count + 1, checks.added(total, checks.hash_of(table, values))
+            self._rest = checks.seal_of(count, total)
+        return {"files": checks.seal_of(len(self._hashes), self._total), "rest": self._rest}
+
+    def _seal(self) -> None:
+        for it in self._seals().items():
+            self._sql.execute("INSERT OR REPLACE INTO seal VALUES (?, ?)", it)
 
     def __enter__(self) -> "Manifest":
         return self
@@ -137,85 +183,111 @@ class Manifest:
             self.save()
         finally:
             self._sql.close()
+            opening.closed(self._room)
 
     def give_up(self) -> None:
         """Drops what was put since it was saved: there is no room for it."""
-        self._sql.rollback()
+        try:
+            self._sql.rollback()
+            self._check_rows()
+        except (sqlite3.Error, checks.Odd, ValueError, OverflowError) as error:
+            # it cannot even be read again: nothing more is written into it
+            self._broken = str(error)
 
     def save(self) -> None:
         """Waits until the disk has all that was put."""
+        if self._broken:
+            return
         try:
+            if self._sql.in_transaction:
+                self._seal()
             self._sql.commit()
         except sqlite3.Error as error:
-            raise BadManifest(f"the manifest {_text(self.path)!r} cannot be written: {error}") from error
+            raise BadManifest(f"the manifest {names.shown(self.path)} cannot be written: {error}") from error
         self._saved = time.monotonic()
 
-    def _write(self, statement: str, values: tuple = ()) -> None:
+    def _write(self, statement: str, values: "tuple[Any, ...]" = ()) -> None:
+        if self._broken:
+            raise BadManifest(f"the manifest {names.shown(self.path)} cannot be written: {names.told(self._broken)}")
         try:
             self._sql.execute(statement, values)
+            self.changed = True
+            if " files" not in statement:
+                self._rest = None
         except sqlite3.Error as error:
-            raise BadManifest(f"the manifest {_text(self.path)!r} cannot be written: {error}") from error
+            raise BadManifest(f"the manifest {names.shown(self.path)} cannot be written: {error}") from error
 
-    def fact(self, name: str):
+    def fact(self, name: str) -> Any:
         """A fact of the whole archive, or None."""
-        with closing(self._sql.execute("SELECT value FROM facts WHERE name = ?", (name,))) as rows:
-            found = rows.fetchone()
+        found = self._sql.execute("SELECT value FROM facts WHERE name = ?", (name,)).fetchone()
         return found[0] if found else None
 
-    def tell(self, name: str, value) -> None:
+    def tell(self, name: str, value: "int | str | bytes") -> None:
         """Sets a fact of the whole archive."""
         self._write("INSERT OR REPLACE INTO facts VALUES (?, ?)", (name, value))
 
     def put(self, row: Row) -> None:
         """Sets the row of a file."""
-        self._write(f"INSERT OR REPLACE INTO files ({', '.join(COLUMNS)}) VALUES ({', '.join('?' * len(COLUMNS))})", astuple(row))
+        values = astuple(row)
+        try:
+            checks.check_row("files", values)
+            checks.check_file(row)
+        except checks.Odd as error:
+            raise BadManifest(f"a row of {names.shown(row.path)} cannot be written: {error}") from error
+        digest = checks.hash_of("files", values)
+        places = ", ".join("?" * (len(COLUMNS) + 1))
+        self._write(f"INSERT OR REPLACE INTO files ({', '.join(COLUMNS)}, hash) VALUES ({places})", (*values, digest))
+        self._drop_hash(row.path)
+        self._hashes[row.path], self._total = digest, checks.added(self._total, digest)
+        self._rows[row.path] = Row(**vars(row))
         if time.monotonic() - self._saved > 1:
             self.save()
+
+    def _drop_hash(self, path: bytes) -> None:
+        before = self._hashes.pop(path, None)
+        if before is not None:
+            self._total = checks.added(self._total, before, -1)
 
     def forget(self, path: bytes) -> None:
         """Takes a row away."""
         self._write("DELETE FROM files WHERE path = ?", (path,))
+        self._drop_hash(path)
+        self._rows.pop(path, None)
 
     def rows(self) -> Iterator[Row]:
         """All rows, by their paths."""
-        try:
-            for it in self._sql.execute(f"SELECT {', '.join(COLUMNS)} FROM files ORDER BY path"):
-                yield Row(*it)
-        except sqlite3.Error as error:
-            raise BadManifest(f"the manifest {_text(self.path)!r}: {error}") from error
+        return (Row(**vars(self._rows[it])) for it in sorted(self._rows))
 
-    def leave_out(self, left, others) -> None:
+    def leave_out(self, left: Any, others: "dict[str, int]") -> None:
         """Notes what the last look at the source left out, in the place of what an earlier one did."""
         self._write("DELETE FROM left_out")
         self._write("DELETE FROM others")
         for it in left:
-            self._write("INSERT INTO left_out VALUES (?, ?, ?)", (it.path, it.why, it.advice))
+            self._write("INSERT INTO left_out VALUES (?, ?, ?)", (it.path, names.told(it.why), names.told(it.advice)))
         for suffix, count in others.items():
-            self._write("INSERT INTO others VALUES (?, ?)", (suffix, count))
+            self._write("INSERT INTO others VALUES (?, ?)", (names.told(suffix), count))
         self.save()
 
-    def left_out(self) -> list[tuple[bytes, str, str]]:
+    def left_out(self) -> "list[tuple[bytes, str, str]]":
         """Path, cause and advice of what was left out."""
         return list(self._sql.execute("SELECT path, why, advice FROM left_out ORDER BY path"))
 
-    def others(self) -> dict[str, int]:
+    def others(self) -> "dict[str, int]":
         """How many files there were of other names, by their suffix."""
         return dict(self._sql.execute("SELECT suffix, count FROM others ORDER BY count DESC, suffix"))
 
     def begin(self, token: str, verb: str, host: str, process: int) -> None:
         """Notes that a run begins, before it writes any file."""
-        self._write("INSERT INTO runs VALUES (?, ?, ?, ?, ?, NULL, NULL)", (token, verb, host, process, now()))
+        self._write("INSERT INTO runs VALUES (?, ?, ?, ?, ?, NULL, NULL)", (token, verb, names.told(host), process, now()))
         self.save()
 
     def end(self, token: str, said: str) -> None:
         """Notes that a run ended by itself."""
-        self._write("UPDATE runs SET ended = ?, said = ? WHERE token = ?", (now(), said, token))
+        self._write("UPDATE runs SET ended = ?, said = ? WHERE token = ?", (now(), names.told(said), token))
         self.save()
 
-    def runs(self) -> list[tuple[str, str, str, int, str, Optional[str], Optional[str]]]:
+    def runs(self) -> "list[tuple[str, str, str, int, str, Optional[str], Optional[str]]]":
         """All runs: token, verb, host, process, when it began and ended, and its last line."""
-        return list(self._sql.execute("SELECT token, verb, host, process, began, ended, said FROM runs ORDER BY began, rowid"))
+        return list(self._sql.execute("SELECT token, verb, host, process, began, ended, said FROM runs ORDER BY began, token"))
 
 
-def _text(path: bytes) -> str:
-    return path.decode("utf-8", "surrogateescape")

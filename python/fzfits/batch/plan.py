@@ -1,14 +1,14 @@
 """What there is to do: the rows of the manifest beside what is in the folders."""
 from __future__ import annotations
 
-import os
+from collections import Counter
 from dataclasses import dataclass, field
 from typing import Iterable, Optional
 
-from . import names
+from . import inside, names
 from .manifest import Row
-from .scan import Scan
-from .work import Task
+from .messages import Task
+from .scan import SHUT, Found, Scan, scan_packed
 
 
 @dataclass
@@ -22,32 +22,60 @@ class Plan:
     gone: list[Row] = field(default_factory=list)
     never_packed: list[Row] = field(default_factory=list)
 
-    def add(self, path: bytes, size: Optional[int], row: Optional[Row] = None) -> None:
+    def add(self, path: bytes, size: Optional[int], row: Optional[Row] = None, shared: bool = False) -> None:
         """One more task."""
         known = row if row is not None and row.done else Row(path)
-        self.tasks.append(Task(path, len(self.tasks), known.sha256, known.packed_sha256, known.mtime, known.wrong_sums))
+        number = len(self.tasks)
+        self.tasks.append(Task(path, number, known.sha256, known.packed_sha256, known.size, known.mtime, known.mode, known.wrong_sums, shared))
         self.sizes[path] = size or 0
 
 
 def to_pack(found: Scan, rows: dict[bytes, Row], packed: bytes, identity: str, options: str, retry: bool) -> Plan:
-    """Each file of the source that is not known to be packed, or whose plain or packed file looks otherwise than it did."""
+    """Each file of the source that is not known to be packed, or whose plain or packed file looks otherwise than it did.
+
+    A plain file that was read within two seconds of its last change is read once more: its time may be the same after a change.
+    """
     plan = Plan()
+    # no link is followed, also none in the place of a folder
+    here = scan_packed(packed).files if rows else {}
     for path, it in found.files.items():
         row = rows.get(path)
         same = row is not None and (row.size, row.mtime) == (it.size, it.mtime)
         if row is None or not same:
             plan.add(path, it.size, row)
-        elif row.done and not row.fault and _packed_looks_the_same(packed, row):
+        elif row.done and not row.fault and not row.unsure and _looks_the_same(here.get(names.packed_name(path)), row):
             plan.there.append(row)
         elif row.status == "refused" and not retry and (row.program, row.options) == (identity, options):
             plan.refused.append(row)
         else:
             plan.add(path, it.size, row)
-    unread = [it.path for it in found.left if it.why.startswith("cannot be read")]
+    _mark_shared(plan, rows, packed)
+    unread = [it.path for it in found.left if it.sort == SHUT]
     for path, row in rows.items():
         if path not in found.files and not any(_is_in(path, it) for it in unread):
             (plan.gone if row.done else plan.never_packed).append(row)
     return plan
+
+
+def _mark_shared(plan: Plan, rows: dict[bytes, Row], packed: bytes) -> None:
+    """Marks each task whose packed file is also that of another file: it is never replaced."""
+    if not plan.tasks:
+        return
+    wanted = {it.path for it in plan.tasks}
+    places = {path: place for path in wanted | {it.path for it in rows.values() if it.done} if (place := _place(packed, path)) is not None}
+    count = Counter(places.values())
+    for number, it in enumerate(plan.tasks):
+        place = places.get(it.path)
+        if place is not None and count[place] > 1:
+            plan.tasks[number] = Task(**{**vars(it), "shared": True})
+
+
+def _place(packed: bytes, path: bytes) -> Optional[tuple[int, int]]:
+    try:
+        found = inside.state(packed, names.packed_name(path))
+    except OSError:
+        return None
+    return (found.st_dev, found.st_ino) if found is not None else None
 
 
 def of_packed(rows: Iterable[Row]) -> Plan:
@@ -61,28 +89,8 @@ def of_packed(rows: Iterable[Row]) -> Plan:
     return plan
 
 
-def missing(found: Optional[Scan], rows: dict[bytes, Row], packed: bytes) -> list[tuple[bytes, str]]:
-    """Each file, of the source or of the manifest, that has no packed file, and why."""
-    wanted = set(rows) | (set(found.files) if found else set())
-    lacking = []
-    for path in sorted(wanted):
-        row = rows.get(path)
-        if row is None:
-            lacking.append((path, "was not packed yet"))
-        elif not row.done:
-            lacking.append((path, row.line))
-        elif not os.path.lexists(os.path.join(packed, names.packed_name(path))):
-            here = found is not None and path in found.files
-            lacking.append((path, "its packed file is not there" + ("" if here else ", and neither is the plain file")))
-    return lacking
-
-
-def _packed_looks_the_same(packed: bytes, row: Row) -> bool:
-    try:
-        it = os.lstat(os.path.join(packed, names.packed_name(row.path)))
-    except OSError:
-        return False
-    return (it.st_size, it.st_mtime_ns) == (row.packed_size, row.packed_mtime)
+def _looks_the_same(found: Optional[Found], row: Row) -> bool:
+    return found is not None and (found.size, found.mtime) == (row.packed_size, row.packed_mtime)
 
 
 def _is_in(path: bytes, folder: bytes) -> bool:

@@ -3,15 +3,14 @@ from __future__ import annotations
 
 import calendar
 import os
-import time
 from collections import Counter
 from html import escape
-from typing import Iterable, List, Optional, Sequence, Tuple
+from typing import Iterable, List, Sequence, Tuple
 
-from . import names, plan, svg
+from . import names, svg
 from .manifest import Manifest, Row, now
 from .progress import amount, length
-from .scan import Scan
+from .survey import Finding, Survey
 
 UNITS = (("TB", 1e12), ("GB", 1e9), ("MB", 1e6), ("kB", 1e3))
 SPANS = (("days", 86400), ("hours", 3600), ("minutes", 60), ("seconds", 1))
@@ -28,46 +27,48 @@ svg text { font: 12px system-ui, sans-serif; fill: #333; } details { margin: .4e
 """
 
 
-def page(manifest: Manifest, packed: bytes, found: Optional[Scan]) -> str:
-    """The page. `found` is what is in the folder of plain files, if that is there."""
-    rows = list(manifest.rows())
-    lacking = plan.missing(found, {it.path: it for it in rows}, packed)
-    parts = [_head(packed, rows, lacking, found), _sizes(rows), _times(rows), _not_done(rows), _missing(lacking, found), _left(manifest), _runs(manifest)]
-    head = f'<meta charset="utf-8"><title>Archive {_name(packed)}</title><style>{STYLE}</style>'
+# What a page of fzbatch begins with: no other file is written over.
+HEAD = '<!DOCTYPE html>\n<html lang="en"><head><meta charset="utf-8"><meta name="generator" content="fzbatch report">'
+POLICY = "<meta http-equiv=\"Content-Security-Policy\" content=\"default-src 'none'; style-src 'unsafe-inline'\">"
+
+
+def page(manifest: Manifest, packed: bytes, found: Survey) -> str:
+    """The page. `found` is what the look at the archive found."""
+    rows = found.rows
+    parts = [_head(packed, found), _sizes(rows), _times(rows), _not_well(found), _left(found), _notes(found), _runs(manifest)]
     body = "\n".join(it for it in parts if it)
-    return f'<!DOCTYPE html>\n<html lang="en"><head>{head}</head><body>\n{body}\n</body></html>\n'
+    return f"{HEAD}{POLICY}<title>Archive {_name(packed)}</title><style>{STYLE}</style></head><body>\n{body}\n</body></html>\n"
 
 
 def _name(path: bytes) -> str:
     return escape(names.shown(path))
 
 
+def _text(text: str) -> str:
+    """Text that others may have written, for the page."""
+    return escape(names.told(text))
+
+
 def _files(count: int) -> str:
     return f"{count:,} file" if count == 1 else f"{count:,} files"
 
 
-def _lack(count: int) -> str:
-    return f"{_files(count)} {'has' if count == 1 else 'have'}"
-
-
-def _state(row: Row) -> str:
-    return row.fault or row.status
-
-
-def _head(packed: bytes, rows: Sequence[Row], lacking: Sequence[Tuple[bytes, str]], found: Optional[Scan]) -> str:
-    states = Counter(map(_state, rows))
-    good = states["packed"] + states["copied"]
+def _head(packed: bytes, found: Survey) -> str:
+    rows, bad = found.rows, len(found.findings)
+    states = Counter(it.cause for it in found.findings)
+    named = {it.path for it in found.findings}
+    states.update(it.status for it in rows if it.path not in named)
     verdict = f'<p class="good">All {_files(len(rows))} of the manifest are packed, and no fault is known.</p>'
-    if good < len(rows):
-        need = "needs" if len(rows) - good == 1 else "need"
-        verdict = f'<p class="bad">{_files(len(rows) - good)} of {len(rows):,} {need} attention: see below.</p>'
-    elif lacking:
-        verdict = f'<p class="bad">{_lack(len(lacking))} no packed file: see below.</p>'
+    if bad:
+        verdict = f'<p class="bad">{_files(bad)} of {len({it.path for it in rows} | named):,} {"needs" if bad == 1 else "need"} attention: see below.</p>'
+    elif found.left:
+        verdict = f'<p class="bad">{len(found.left):,} {"name was" if len(found.left) == 1 else "names were"} left out: see below.</p>'
+    verdict += f'\n<p class="bad">{_text(found.lost)}.</p>' if found.lost else ""
     checked = sorted(it.checked_at for it in rows if it.done and it.checked_at)
     never = sum(1 for it in rows if it.done and not it.checked_at)
-    when = f"The packed file that was not checked for longest was checked at {checked[0]}. " if checked else ""
-    when += f"{_files(never)} were not verified since they were packed." if never else ""
-    source = f"Plain files: <code>{_name(found.root)}</code>. " if found else '<span class="bad">The folder of plain files is not there.</span> '
+    when = f"The packed file that was not checked for longest was checked at {_text(checked[0])}. " if checked else ""
+    when += f"{_files(never)} were verified only when they were packed." if never else ""
+    source = f"Plain files: <code>{_name(found.found.root)}</code>. " if found.found else "The folder of plain files is not there. "
     return f'<h1>Archive {_name(packed)}</h1>\n<p class="note">{source}State of {now()}.</p>\n{verdict}\n{svg.strip(sorted(states.items(), key=lambda it: -it[1]))}\n<p>{when}</p>'
 
 
@@ -96,7 +97,7 @@ def _sizes(rows: Sequence[Row]) -> str:
 
 
 def _seconds(text: str) -> float:
-    return float(calendar.timegm(time.strptime(text, "%Y-%m-%dT%H:%M:%SZ")))
+    return float(calendar.timegm((int(text[:4]), int(text[5:7]), int(text[8:10]), int(text[11:13]), int(text[14:16]), int(text[17:19]))))
 
 
 def _times(rows: Sequence[Row]) -> str:
@@ -117,49 +118,44 @@ def _times(rows: Sequence[Row]) -> str:
     return text + svg.histogram([it[2] for it in done], "seconds that a file took") + svg.curve(points, span, f"{unit} of plain files that were packed")
 
 
-def _not_done(rows: Sequence[Row]) -> str:
-    causes: dict[Tuple[str, str], List[Row]] = {}
-    for it in rows:
-        if not it.done or it.fault:
-            causes.setdefault((it.cause, it.advice), []).append(it)
+def _not_well(found: Survey) -> str:
+    causes: dict[Tuple[str, str], List[Finding]] = {}
+    for it in found.findings:
+        causes.setdefault((it.cause, it.advice), []).append(it)
     if not causes:
         return ""
     ordered = sorted(causes.items(), key=lambda it: -len(it[1]))
-    lines = ["<h2>Not done, and wrong</h2>", svg.bars([(cause, len(found), f"{len(found):,}") for (cause, _), found in ordered])]
-    for (cause, what), found in ordered:
-        lines.append(f"<h3>{escape(cause)}: {_files(len(found))}</h3><p><b>What to do:</b> {escape(what)}.</p>")
-        lines.append(_names((it.path, it.line) for it in found))
+    lines = ["<h2>Not well</h2>", svg.bars([(names.told(cause), len(here), f"{len(here):,}") for (cause, _), here in ordered])]
+    for (cause, what), here in ordered:
+        lines.append(f"<h3>{_text(cause)}: {_files(len(here))}</h3><p><b>What to do:</b> {_text(what)}.</p>")
+        lines.append(_names((it.path, it.line) for it in here))
     return "\n".join(lines)
 
 
 def _names(found: Iterable[Tuple[bytes, str]]) -> str:
     every = list(found)
-    shown = "".join(f"<tr><td><code>{_name(path)}</code></td><td>{escape(line)}</td></tr>" for path, line in every[:NAMED])
+    shown = "".join(f"<tr><td><code>{_name(path)}</code></td><td>{_text(line)}</td></tr>" for path, line in every[:NAMED])
     more = f'<p class="note">and {len(every) - NAMED:,} more, which fzbatch status --all names</p>' if len(every) > NAMED else ""
     return f"<details{' open' if len(every) <= 10 else ''}><summary>{_files(len(every))}</summary><table>{shown}</table>{more}</details>"
 
 
-def _missing(lacking: Sequence[Tuple[bytes, str]], found: Optional[Scan]) -> str:
-    unknown = "" if found else '<p class="note">Only files of the manifest were looked for, since the folder of plain files is not there.</p>'
-    if not lacking:
-        return f'<h2>Missing</h2><p class="good">Each file has its packed file.</p>{unknown}'
-    return f"<h2>Missing</h2><p>{_lack(len(lacking))} no packed file.</p>{_names(lacking)}{unknown}"
-
-
-def _left(manifest: Manifest) -> str:
-    left, others = manifest.left_out(), manifest.others()
+def _left(found: Survey) -> str:
     lines = []
-    if left:
-        lines.append(f"<h2>Left out</h2>{_names((path, why + '. What to do: ' + advice) for path, why, advice in left)}")
-    if others:
-        counts = ", ".join(f"{escape(suffix)} {count:,}" for suffix, count in others.items())
+    if found.left:
+        lines.append(f"<h2>Left out</h2>{_names((it.path, it.why + '. What to do: ' + it.advice) for it in found.left)}")
+    if found.others:
+        counts = ", ".join(f"{_text(suffix)} {count:,}" for suffix, count in found.others.items())
         lines.append(f"<p>Files with other names, which are not packed: {counts}.</p>")
     return "\n".join(lines)
+
+
+def _notes(found: Survey) -> str:
+    return "<h2>To know</h2><ul>" + "".join(f"<li>{_text(it)}</li>" for it in found.notes) + "</ul>" if found.notes else ""
 
 
 def _runs(manifest: Manifest) -> str:
     lines = []
     for _, verb, host, process, began, ended, said in manifest.runs()[-30:][::-1]:
-        state = escape(said or "") if ended else '<span class="bad">did not end by itself</span>'
-        lines.append(f"<tr><td>{began}</td><td>{escape(verb)}</td><td>{escape(host)} {process}</td><td>{state}</td></tr>")
+        state = _text(said or "") if ended else '<span class="bad">did not end by itself</span>'
+        lines.append(f"<tr><td>{_text(began)}</td><td>{_text(verb)}</td><td>{_text(host)} {_text(str(process))}</td><td>{state}</td></tr>")
     return f"<h2>Runs</h2><table><tr><th>began</th><th></th><th>machine, process</th><th>said</th></tr>{''.join(lines)}</table>"

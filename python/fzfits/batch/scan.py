@@ -5,9 +5,19 @@ import os
 import stat
 from collections import Counter
 from dataclasses import dataclass, field
-from typing import Iterator, Optional
+from typing import Callable, Iterator, Optional
 
-from . import names
+from . import inside, names
+
+LINK, SHUT, PIPE, COMPRESSED, OURS, OTHER = "link", "shut", "pipe", "compressed", "ours", "other"
+ADVICE = {
+    LINK: "pack the folder or file that it leads to, or replace it by a file; with --skip-links links are left out",
+    SHUT: "allow it to be read, and run fzbatch again",
+    PIPE: "copy it to a file",
+    COMPRESSED: "it is in no archive of fzbatch: decompress it into the folder, and run fzbatch pack again; with --skip-compressed such files are left out",
+    OTHER: "give it a name that ends with .fits, .fit or .fts, or move it away, and run fzbatch pack again; with --skip-compressed such files are left out",
+    OURS: "among the packed files fzbatch uses this name for itself: give it another one, and run fzbatch pack again",
+}
 
 
 @dataclass(frozen=True)
@@ -21,11 +31,12 @@ class Found:
 
 @dataclass(frozen=True)
 class Left:
-    """Something that is not packed although its name, or what may be in it, asks for it."""
+    """Something that is not packed although its name, or what may be in it, asks for it. `sort` is a key of ADVICE."""
 
     path: bytes
     why: str
     advice: str
+    sort: str = ""
 
 
 @dataclass
@@ -43,7 +54,7 @@ class NoSource(Exception):
     """The folder is not there, is no folder, cannot be read, or is empty."""
 
 
-def scan(root: bytes, wanted=names.is_fits) -> Scan:
+def scan(root: bytes, wanted: Callable[[bytes], bool] = names.is_fits, compressed: Callable[[bytes], bool] = names.is_compressed_fits, ours: Callable[[bytes], bool] = names.is_ours) -> Scan:
     """Walks through a folder. Symbolic links are not followed, but named; what cannot be read is named."""
     found = Scan(root)
     try:
@@ -54,34 +65,50 @@ def scan(root: bytes, wanted=names.is_fits) -> Scan:
     while waiting:
         folder, entries = waiting.pop()
         for entry in sorted(entries, key=lambda it: it.name, reverse=True):
-            inside = _look(found, os.path.join(folder, entry.name), entry, wanted)
-            if inside is not None:
-                waiting.append(inside)
+            below = _look(found, os.path.join(folder, entry.name), entry, wanted, compressed, ours)
+            if below is not None:
+                waiting.append(below)
     found.files = dict(sorted(found.files.items()))
     found.left.sort(key=lambda it: it.path)
     return found
 
 
-def _look(found: Scan, path: bytes, entry: os.DirEntry[bytes], wanted) -> Optional[tuple[bytes, list[os.DirEntry[bytes]]]]:
+def _look(found: Scan, path: bytes, entry: os.DirEntry[bytes], wanted, compressed, ours) -> Optional[tuple[bytes, list[os.DirEntry[bytes]]]]:
     """Notes one entry of a folder, and gives what is in it if it is a folder itself."""
+    is_wanted = wanted(entry.name)
     try:
         it = entry.stat(follow_symlinks=False)
+        if (is_wanted or stat.S_ISDIR(it.st_mode)) and ours(path):
+            found.left.append(Left(path, "has a name that fzbatch uses for itself", ADVICE[OURS], OURS))
+            return None
         if stat.S_ISDIR(it.st_mode):
             return path, list(os.scandir(os.path.join(found.root, path)))
     except OSError as error:
         found.whole = False
-        found.left.append(Left(path, f"cannot be read: {error.strerror}", "allow it to be read, and run fzbatch again"))
+        found.left.append(Left(path, f"cannot be read: {error.strerror}", ADVICE[SHUT], SHUT))
         return None
     if stat.S_ISREG(it.st_mode):
-        if wanted(entry.name):
+        if is_wanted:
             found.files[path] = Found(path, it.st_size, it.st_mtime_ns)
+        elif compressed(entry.name):
+            found.left.append(Left(path, "is a FITS file that another program compressed, and is in no archive", ADVICE[COMPRESSED], COMPRESSED))
+        elif compressed is names.is_compressed_fits and names.is_nearly_fits(entry.name) and _begins_as_fits(found.root, path):
+            found.left.append(Left(path, "is a FITS file, and its name is not that of one", ADVICE[OTHER], COMPRESSED))
         else:
             found.others[names.suffix_of(entry.name)] += 1
     elif stat.S_ISLNK(it.st_mode):
-        _link(found, path, entry, wanted)
-    elif wanted(entry.name):
-        found.left.append(Left(path, "is no file, but a pipe, a socket or a device", "copy it to a file"))
+        _link(found, path, entry, lambda name: wanted(name) or compressed(name))
+    elif is_wanted or compressed(entry.name):
+        found.left.append(Left(path, "is no file, but a pipe, a socket or a device", ADVICE[PIPE], PIPE))
     return None
+
+
+def _begins_as_fits(root: bytes, path: bytes) -> bool:
+    try:
+        with inside.file(root, path) as number:
+            return os.pread(number, 10, 0) == b"SIMPLE  = "
+    except OSError:
+        return False
 
 
 def _link(found: Scan, path: bytes, entry: os.DirEntry[bytes], wanted) -> None:
@@ -91,9 +118,21 @@ def _link(found: Scan, path: bytes, entry: os.DirEntry[bytes], wanted) -> None:
     except OSError:
         folder = False
     if folder or wanted(entry.name):
-        target = names.shown(os.readlink(os.path.join(found.root, path)))
-        advice = "pack the folder or file that it leads to, or replace it by a file; with --skip-links links are left out"
-        found.left.append(Left(path, f"is a symbolic link to {target}", advice))
+        try:
+            target = names.shown(os.readlink(os.path.join(found.root, path)))
+        except OSError:
+            target = "?"
+        found.left.append(Left(path, f"is a symbolic link to {target}", ADVICE[LINK], LINK))
+
+
+def is_packed(name: bytes) -> bool:
+    """Whether a file of the folder of packed files is one: its name ends with .fz, and is no name of an unfinished file."""
+    return name.lower().endswith(names.PACKED)
+
+
+def scan_packed(root: bytes) -> Scan:
+    """Walks through a folder of packed files."""
+    return scan(root, is_packed, lambda name: False, lambda path: False)
 
 
 def folders_of(root: bytes) -> Iterator[bytes]:

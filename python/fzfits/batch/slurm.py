@@ -2,16 +2,25 @@
 
 `fzbatch pack --engine slurm` writes `fzbatch.tasks` in the folder of packed files: a line with the settings, then one for each
 task. Task i of n of the array does every n-th of them from number i on, and writes a line for each into a file of its own in
-`fzbatch.results`. `fzbatch collect` reads these into the manifest.
+`fzbatch.results`. `fzbatch collect` reads these into the manifest. Others may have written these files: each line is checked, the
+program and the folders are those of the command line of `share`, and no link is followed.
 """
 from __future__ import annotations
 
 import os
+import re
+import secrets
 import socket
-from dataclasses import dataclass
-from typing import Callable, Iterator, Mapping, Sequence
+from contextlib import suppress
+from dataclasses import dataclass, replace
+from typing import Callable, Iterator, Mapping, Sequence, TextIO
 
-from . import engines, files, work
+from . import engines, files, inside, machine
+from .names import RESULTS, TASKS
+from .manifest import BadManifest
+from .messages import LONGEST, BadMessage, Result, Settings, Task
+
+OPTION = {"--codec": re.compile(r"[a-z]{1,16}"), "--tile": re.compile(r"[0-9,]{1,200}"), "--block": re.compile(r"[0-9]{1,9}"), "--workers": re.compile(r"[0-9]{1,9}")}
 
 
 @dataclass(frozen=True)
@@ -28,79 +37,120 @@ class Share:
         first = int(environment.get("SLURM_ARRAY_TASK_MIN", "0"))
         step = int(environment.get("SLURM_ARRAY_TASK_STEP", "1"))
         task = (int(environment.get("SLURM_ARRAY_TASK_ID", str(first))) - first) // step
-        return cls(task, int(environment.get("SLURM_ARRAY_TASK_COUNT", "1")), int(environment.get("SLURM_CPUS_PER_TASK", "1")))
+        return cls(task, int(environment.get("SLURM_ARRAY_TASK_COUNT", "1")), machine.processors(environment))
+
+
+def array_of(count: int) -> int:
+    """How many tasks an array should have for so many files: at most 16, with four files or more each."""
+    return max(1, min(16, count // 4))
 
 
 def tasks_file(packed: bytes) -> bytes:
     """The file with the work that waits."""
-    return os.path.join(packed, b"fzbatch.tasks")
+    return os.path.join(packed, TASKS)
 
 
 def results_folder(packed: bytes) -> bytes:
     """The folder with the results that were not collected yet."""
-    return os.path.join(packed, b"fzbatch.results")
+    return os.path.join(packed, RESULTS)
 
 
-def write(settings: work.Settings, tasks: Sequence[work.Task]) -> None:
+def write(settings: Settings, tasks: Sequence[Task]) -> None:
     """Writes the work, whole or not at all."""
-    files.make_folders(results_folder(settings.packed))
-    name = tasks_file(settings.packed)
-    with open(name + b".new", "w", encoding="ascii") as to:
-        to.write(settings.word() + "\n")
-        to.writelines(it.word() + "\n" for it in tasks)
-        to.flush()
-        os.fsync(to.fileno())
-    os.replace(name + b".new", name)
-    files.sync(settings.packed)
+    with inside.folder(settings.packed, RESULTS, lambda path: 0o700):
+        lines = (it.word().encode() + b"\n" for it in (settings, *tasks))
+        inside.replace(tasks_file(settings.packed), lines, 0o600)
 
 
-def read(packed: bytes) -> tuple[work.Settings, list[work.Task]]:
+def read(packed: bytes) -> tuple[Settings, list[Task]]:
     """The work that waits."""
-    with open(tasks_file(packed), encoding="ascii") as it:
-        head, *lines = it.read().splitlines()
-    return work.Settings.of(head), [work.Task.of(line) for line in lines]
+    try:
+        number = inside.own(tasks_file(packed), os.O_RDONLY)
+        with os.fdopen(number, encoding="ascii") as it:
+            lines = _lines(it)
+            settings, tasks = Settings.of(next(lines, "")), [Task.of(line) for line in lines]
+        _check_options(settings.options)
+    except (BadMessage, ValueError) as error:
+        raise BadManifest(f"the tasks in {TASKS.decode()} are none that fzbatch wrote: {error}; move the file away, and start the run again") from error
+    return settings, tasks
 
 
-def result_of_each(settings: work.Settings) -> dict[bytes, work.Result]:
+def _lines(it: TextIO) -> Iterator[str]:
+    """The lines of a file, one after another: one that is too long, or has no end, is an error."""
+    while line := it.readline(LONGEST):
+        if not line.endswith("\n"):
+            raise BadMessage("a line is too long, or has no end")
+        yield line
+
+
+def _check_options(options: Sequence[str]) -> None:
+    left = list(options)
+    while left:
+        name = left.pop(0)
+        if name != "--sums" and not (name in OPTION and left and OPTION[name].fullmatch(left.pop(0))):
+            raise BadMessage("an option of fz pack")
+
+
+def result_of_each(packed: bytes, settings: Settings, tasks: Sequence[Task]) -> dict[bytes, Result]:
     """One result for each file that has any: a good one if there is one, since a task that was stopped may have run again."""
-    found: dict[bytes, work.Result] = {}
-    for it in results(settings):
-        if it.good or it.path not in found or not found[it.path].good:
+    wanted = {it.path for it in tasks}
+    found: dict[bytes, Result] = {}
+    for it in results(packed, settings):
+        if it.path in wanted and it.verb == settings.verb and (it.good or it.path not in found or not found[it.path].good):
             found[it.path] = it
     return found
 
 
-def results(settings: work.Settings) -> Iterator[work.Result]:
-    """The results that are there, in no order of time. A line that was cut short by a kill is none."""
-    folder = results_folder(settings.packed)
-    for name in sorted(os.listdir(folder)):
-        if name.startswith(settings.token.encode()):
-            with open(os.path.join(folder, name), encoding="ascii") as it:
-                yield from (work.Result.of(line) for line in it if line.endswith("\n"))
+def results(packed: bytes, settings: Settings) -> Iterator[Result]:
+    """The results that are there, in no order of time. A line that was cut short by a kill, or that is none, is left out."""
+    with inside.folder(packed, RESULTS) as above:
+        for name in sorted(os.listdir(above)):
+            if not name.startswith(settings.token + "."):
+                continue
+            with os.fdopen(os.open(name, inside.FILE, dir_fd=above), encoding="ascii", errors="replace") as it:
+                with suppress(BadMessage):
+                    for line in _lines(it):
+                        with suppress(BadMessage):
+                            yield Result.of(line)
 
 
-def do_share(packed: bytes, environment: Mapping[str, str], stopped: Callable[[], bool], tell: Callable[[work.Result], None]) -> tuple[int, int]:
-    """Does the share of this task of the array, but for what has a good result already. How many it did, and how many are good."""
-    settings, tasks = read(packed)
+def do_share(given: Settings, environment: Mapping[str, str], stopped: Callable[[], bool], tell: Callable[[Result], None]) -> tuple[int, int]:
+    """Does the share of this task of the array, but for what has a good result already. How many it did, and how many are good.
+
+    `given` has what this command says: the folders, the program and its identity. What the file says of them has to be the same.
+    """
+    kept, tasks = read(given.packed)
+    if (kept.plain, kept.identity) != (given.plain, given.identity):
+        which = "folder of plain files" if kept.plain != given.plain else "program fz"
+        raise BadManifest(f"the tasks were made for another {which} than this command has: start the run again")
     share = Share.of(environment)
-    answered = {it.path for it in results(settings) if it.good}
+    memory = kept.memory or machine.limit_of_a_job(share.jobs, machine.memory(environment))
+    settings = replace(kept, packed=given.packed, program=given.program, memory=memory)
+    answered = {it.path for it in results(given.packed, settings) if it.good}
     mine = [it for it in tasks[share.task :: share.tasks] if it.path not in answered]
-    name = f"{settings.token}.{share.task}.{socket.gethostname()}.{os.getpid()}".encode()
+    name = f"{settings.token}.{share.task}.{re.sub(r'[^A-Za-z0-9_-]', '_', socket.gethostname())}.{os.getpid()}.{secrets.token_hex(4)}"
     good = 0
-    with open(os.path.join(results_folder(packed), name), "x", encoding="ascii") as to:
-        for result in engines.local(settings, mine, share.jobs, stopped):
-            to.write(result.word() + "\n")
-            to.flush()
-            good += result.good
-            tell(result)
-        os.fsync(to.fileno())
+    with inside.folder(given.packed, RESULTS) as above:
+        number = os.open(name, os.O_WRONLY | os.O_CREAT | os.O_EXCL | os.O_NOFOLLOW, 0o600, dir_fd=above)
+        with os.fdopen(number, "w", encoding="ascii") as to:
+            for result in engines.local(settings, mine, share.jobs, stopped):
+                to.write(result.word() + "\n")
+                to.flush()
+                good += result.good
+                tell(result)
+            os.fsync(to.fileno())
     return len(mine), good
 
 
-def clear(packed: bytes) -> None:
-    """Removes the work and its results, which are in the manifest by then."""
+def clear(packed: bytes, token: str) -> None:
+    """Removes the work and its results, which are in the manifest by then. Files of other names stay."""
     files.remove(tasks_file(packed))
-    folder = results_folder(packed)
-    for name in os.listdir(folder):
-        os.unlink(os.path.join(folder, name))
-    os.rmdir(folder)
+    with inside.folder(packed, RESULTS) as above:
+        for name in os.listdir(above):
+            if name.startswith(token + "."):
+                os.unlink(name, dir_fd=above)
+    try:
+        os.rmdir(results_folder(packed))
+    except OSError:
+        # something else is in it
+        pass

@@ -49,6 +49,11 @@ class Tally:
         self.causes.setdefault(cause, Cause(advice)).files.append((path, line))
 
     @property
+    def named(self) -> Iterable[tuple[bytes, str]]:
+        """Each file that is not done, with the line that says why."""
+        return (found for it in self.causes.values() for found in it.files)
+
+    @property
     def done(self) -> int:
         return sum(self.outcomes.values())
 
@@ -91,15 +96,20 @@ class Tally:
     def _notes(self) -> Iterable[str]:
         if self.outcomes["copied"]:
             yield f"{_files(self.outcomes['copied'])} had nothing to pack (no image of integers): each packed file is a copy."
-        if self.others:
-            counts = ", ".join(f"{suffix} {count}" for suffix, count in self.others.items())
-            yield f"{_files(sum(self.others.values()))} with other names were left alone: {counts}."
+        yield from alone(self.others)
         yield from self.notes
         if self.packed_bytes:
             took = f", in {length(self.seconds)}" if self.seconds else ""
             yield f"{amount(self.plain_bytes)} became {amount(self.packed_bytes)}, {self.plain_bytes / self.packed_bytes:.2f} to 1{took}."
         if self.stopped:
             yield f"Stopped: {self.stopped}. Started again, fzbatch goes on from here."
+
+
+def alone(others: "dict[str, int]") -> Iterable[str]:
+    """A line about files of other names, if there are any."""
+    if others:
+        counts = ", ".join(f"{suffix} {count}" for suffix, count in others.items())
+        yield f"{_files(sum(others.values()))} with other names were left alone: {counts}."
 
 
 def _wrapped(text: str) -> str:

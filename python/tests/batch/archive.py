@@ -9,7 +9,8 @@ from dataclasses import dataclass, field
 from pathlib import Path
 
 TOP = Path(__file__).resolve().parents[3]
-sys.path.insert(0, str(TOP / "tools"))
+sys.path[:0] = [str(TOP / "tools"), str(TOP / "python")]
+from fzfits.sums import sum_of  # noqa: E402
 from making.fits import BLOCK, card, filled, header, plain_bytes  # noqa: E402
 
 # Names that a shell, a line of text or a decoder would read otherwise.
@@ -33,7 +34,7 @@ ODD = (
     b"n" * 247 + b".fits",
 )
 # Files that are no FITS files of this archive, and that no run may touch or remove.
-OTHERS = (b".fzbatch-0123456789abcdef-1.part", b"notes.txt", b"thumb.fits.gz", b"night log")
+OTHERS = (b".fzbatch-0123456789abcdef-1.part", b"notes.txt", b"night log")
 
 
 def image(rng: random.Random, number: int, bits: int = 16) -> bytes:
@@ -54,6 +55,14 @@ def floats(rng: random.Random) -> bytes:
 def wrong_sum() -> bytes:
     """A file whose table, which is copied, has a wrong checksum."""
     return (TOP / "samples" / "sums.fits").read_bytes()
+
+
+def wrong_image(rng: random.Random) -> bytes:
+    """An image of counts in which a bit has changed since its checksums were made."""
+    data = bytearray(filled(plain_bytes(16, [rng.randint(90, 110) for _ in range(900)])))
+    cards = [card("SIMPLE", True), card("BITPIX", 16), card("NAXIS", 2), card("NAXIS1", 30), card("NAXIS2", 30), card("DATASUM", str(sum_of([bytes(data)])))]
+    data[rng.randrange(1800)] ^= 1 << rng.randrange(8)
+    return header(cards) + bytes(data)
 
 
 @dataclass
@@ -113,6 +122,7 @@ def _bad(made: Made, rng: random.Random) -> None:
     made.bad[made.write(b"night 3/text.fits", b"404 not found\n")] = "2 Truncated"
     made.bad[made.write(b"night 3/zipped.fits", gzip.compress(rng.randbytes(5000)))] = "1 NotFits"
     made.bad[made.write(b"night 3/sums.fits", wrong_sum())] = "wrong checksum in the plain file"
+    made.bad[made.write(b"night 3/image with a wrong sum.fits", wrong_image(rng))] = "wrong checksum in the plain file"
     packed = (TOP / "samples" / "packed" / "small.rice.fits").read_bytes()
     made.bad[made.write(b"twice/a.fits.fz", packed)] = "10 AlreadyPacked"
     made.bad[made.write(b"odd names/" + b"l" * 250 + b".fits", whole)] = "File name too long"
@@ -127,5 +137,7 @@ def _left_out(made: Made, rng: random.Random) -> None:
     for name, target in ((b"link.fits", b"twice/a.fits"), (b"nowhere.fits", b"/nowhere"), (b"circle.fits", b"circle.fits"), (b"folder", b"night 1")):
         os.symlink(target, os.path.join(made.root, name))
         made.left[name] = "is a symbolic link"
+    for name in (b"odd names/thumb.fits.gz", b"night 0/raw.fit.Z", b"night 0/image 000.fits.bz2"):
+        made.left[made.write(name, gzip.compress(image(rng, 4)))] = "is a FITS file that another program compressed"
     os.mkfifo(os.path.join(made.root, b"pipe.fits"))
     made.left[b"pipe.fits"] = "is no file"

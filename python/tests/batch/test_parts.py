@@ -10,6 +10,7 @@ import struct
 import sys
 import tempfile
 import unittest
+import unittest.mock
 import zlib
 from array import array
 from collections import Counter
@@ -17,9 +18,12 @@ from pathlib import Path
 
 sys.path.insert(0, str(Path(__file__).resolve().parents[2]))
 
-from fzfits.batch import advice, files, grid, lock, look, manifest, names, picture, plan, progress, run, scan, sky, slurm, svg, tally, work  # noqa: E402
+from fzfits.batch import advice, files, grid, inside, lock, look, machine, manifest, messages, names, opening, picture, plan, progress, record, run, scan, sky, slurm, submit, svg, tally, tries  # noqa: E402
 from fzfits.headers import Header, card_of  # noqa: E402
 from fzfits.program import Outcome  # noqa: E402
+
+
+TOKEN = "0123456789abcdef"
 
 
 class InAFolder(unittest.TestCase):
@@ -57,9 +61,11 @@ class Names(unittest.TestCase):
         self.assertEqual(names.shown(b"$'a'"), "$'$\\'a\\''")
 
     def test_only_parts_of_these_runs(self) -> None:
-        self.assertTrue(names.is_part_of(names.part_name("0123", 7), {"0123"}))
-        for name in (b".fzbatch-4567-7.part", b"obs.unfinished.run.2.fits", b".fzbatch-0123.part", b".fzbatch-0123-7.fits"):
-            self.assertFalse(names.is_part_of(name, {"0123"}), name)
+        self.assertTrue(names.is_part_of(names.part_name(TOKEN, 7), {TOKEN}))
+        for name in (b".fzbatch-4567-7.part", b"obs.unfinished.run.2.fits", b".fzbatch-0123456789abcdef.part", b".fzbatch-0123456789abcdef-7.fits", b".fzbatch-0123456789abcdef-x.part"):
+            self.assertFalse(names.is_part_of(name, {TOKEN}), name)
+        # a token that no run of fzbatch has, as a manifest of others may say
+        self.assertFalse(names.is_part_of(b".fzbatch-mine-7.part", {"mine"}))
 
     def test_suffixes(self) -> None:
         self.assertEqual([names.suffix_of(it) for it in (b"a.FITS.gz", b"b.txt", b"c", b"x.gz")], [".fits.gz", ".txt", "no suffix", ".gz"])
@@ -100,16 +106,49 @@ class Scan(InAFolder):
 class Files(InAFolder):
     def test_a_name_is_given_once(self) -> None:
         part, name = self.write(b"part", b"new"), self.write(b"name", b"old")
-        self.assertFalse(files.give_name(part, name))
-        self.assertEqual(Path(os.fsdecode(name)).read_bytes(), b"old")
-        self.assertTrue(files.give_name(part, self.path(b"other")))
+        with inside.folder(self.folder, b"") as above:
+            self.assertFalse(files.give_name(above, b"part", b"name"))
+            self.assertEqual(Path(os.fsdecode(name)).read_bytes(), b"old")
+            self.assertTrue(files.give_name(above, b"part", b"other"))
         self.assertFalse(files.there(part))
+
+    def test_a_name_is_given_once_also_without_hard_links(self) -> None:
+        self.write(b"part", b"new"), self.write(b"name", b"old")
+        with inside.folder(self.folder, b"") as above, unittest.mock.patch.object(os, "link", side_effect=OSError(95, "no links")):
+            self.assertFalse(files.give_name(above, b"part", b"name"))
+            self.assertTrue(files.give_name(above, b"part", b"other"))
+        self.assertEqual(Path(os.fsdecode(self.path(b"other"))).read_bytes(), b"new")
 
     def test_only_files_of_its_own_sort_are_written_over(self) -> None:
         path = self.write(b"a", b"SIMPLE  =")
         self.assertFalse(files.write_over_own(path, b"<html> new", 6))
         self.assertEqual(Path(os.fsdecode(path)).read_bytes(), b"SIMPLE  =")
         self.assertTrue(files.write_over_own(self.write(b"b", b"<html> old"), b"<html> new", 6))
+
+    def test_a_packed_file_is_not_replaced_by_a_name_that_differs_in_case_only(self) -> None:
+        self.write(b"A.fits.fz")
+        real = os.stat
+
+        def ignoring_case(name, *more, dir_fd=None, **how):
+            # as exFAT looks for names
+            here = {it.lower(): it for it in os.listdir(self.folder)}
+            text = name if isinstance(name, bytes) else os.fsencode(name)
+            return real(here.get(text.lower(), text) if dir_fd is not None else name, *more, dir_fd=dir_fd, **how)
+
+        task = messages.Task(b"a.fits", 0)
+        with unittest.mock.patch.object(os, "stat", ignoring_case):
+            with self.assertRaises(tries.Stop):
+                tries.may_replace(self.folder, b"a.fits.fz", task)
+            tries.may_replace(self.folder, b"A.fits.fz", messages.Task(b"A.fits", 0))
+            with self.assertRaises(tries.Stop):
+                tries.may_replace(self.folder, b"A.fits.fz", messages.Task(b"A.fits", 0, shared=True))
+
+    def test_one_sync_for_a_local_disk_only(self) -> None:
+        with inside.folder(self.folder, b"") as above:
+            kind = files.kind_of_disk(os.fstat(above).st_dev)
+            self.assertEqual(files.sync_disk(above), kind in files.LOCAL and files._reports_faults())
+            with unittest.mock.patch.object(files, "kind_of_disk", lambda device: "nfs4"):
+                self.assertFalse(files.sync_disk(above))
 
     def test_a_link_is_not_read(self) -> None:
         self.write(b"a")
@@ -120,14 +159,16 @@ class Files(InAFolder):
     def test_a_file_that_changes_is_noticed(self) -> None:
         path = self.write(b"a", b"one")
         before = files.look(path)
-        self.assertTrue(before.is_still(path))
+        self.assertTrue(before.is_still(os.lstat(path)))
         self.write(b"a", b"two!")
-        self.assertFalse(before.is_still(path))
+        self.assertFalse(before.is_still(os.lstat(path)))
+        self.assertFalse(before.is_still(None))
 
     def test_a_file_in_the_place_of_a_folder(self) -> None:
         self.write(b"a")
-        with self.assertRaises(NotADirectoryError):
-            files.make_folders(self.path(b"a", b"b"))
+        with self.assertRaises(inside.NotInside):
+            with inside.folder(self.folder, b"a/b", lambda path: 0o700):
+                pass
 
     def test_the_lock_is_held_once(self) -> None:
         with lock.held(self.path(b"lock")):
@@ -138,14 +179,14 @@ class Files(InAFolder):
             pass
 
 
-ROW = manifest.Row(b"a\xff.fits", 10, 1, "s", 5, 2, "p", "packed", program="i", options="--sums")
+ROW = manifest.Row(b"a\xff.fits", 10, 1, 0o644, 1 << 62, "5" * 64, 5, 2, "9" * 64, "packed", program="i", options="--sums")
 
 
 class InTheManifest(InAFolder):
     def test_rows_come_back(self) -> None:
         with manifest.Manifest(self.path(b"m")) as it:
             it.put(ROW)
-            it.begin("t", "pack", "here", 1)
+            it.begin(TOKEN, "pack", "here", 1)
         with manifest.Manifest(self.path(b"m"), writes=False) as it:
             self.assertEqual(list(it.rows()), [ROW])
             self.assertIsNone(it.runs()[0][5])
@@ -157,11 +198,19 @@ class InTheManifest(InAFolder):
 
     def test_another_version(self) -> None:
         manifest.Manifest(self.path(b"m")).close()
-        with sqlite3.connect(self.path(b"m")) as sql:
-            sql.execute("UPDATE facts SET value = 99 WHERE name = 'version'")
-        sql.close()
-        with self.assertRaisesRegex(manifest.BadManifest, "version 99"):
-            manifest.Manifest(self.path(b"m"))
+        for version in (99, 1):
+            with sqlite3.connect(self.path(b"m")) as sql:
+                sql.execute("UPDATE facts SET value = ? WHERE name = 'version'", (version,))
+            sql.close()
+            with self.assertRaisesRegex(manifest.BadManifest, f"version {version}; this fzbatch reads version 2: move it away, and fzbatch pack"):
+                manifest.Manifest(self.path(b"m"))
+
+    def test_a_manifest_of_an_sqlite_without_strict_tables(self) -> None:
+        with unittest.mock.patch.object(manifest, "STRICT", False), manifest.Manifest(self.path(b"m")) as it:
+            it.put(ROW)
+        with manifest.Manifest(self.path(b"m")) as it:
+            self.assertEqual(list(it.rows()), [ROW])
+        self.assertIn("needs SQLite 3.37", opening.what_to_do(b"/m", sqlite3.DatabaseError('malformed database schema (facts) - near "STRICT": syntax error')))
 
     def test_no_room_for_the_manifest(self) -> None:
         with manifest.Manifest(self.path(b"m")) as it:
@@ -170,46 +219,50 @@ class InTheManifest(InAFolder):
             it._sql.execute("PRAGMA max_page_count = 1")
             with self.assertRaisesRegex(manifest.BadManifest, "full"):
                 for number in range(1000):
-                    it.put(manifest.Row(b"%d" % number, status="packed"))
+                    it.put(manifest.Row(b"%d.fits" % number, status="failed"))
             it.give_up()
         with manifest.Manifest(self.path(b"m"), writes=False) as it:
             self.assertEqual(list(it.rows()), [ROW])
 
-    def test_a_copy_in_memory(self) -> None:
+    def test_a_manifest_that_cannot_be_written_is_read_in_a_copy(self) -> None:
         with manifest.Manifest(self.path(b"m")) as it:
             it.put(ROW)
         before = files.look(self.path(b"m"))
-        with manifest.Manifest.copy_of(self.path(b"m")) as it:
+        copied = opening._copy(self.path(b"m"))
+        self.addCleanup(opening.closed, copied[0])
+        with unittest.mock.patch.object(os, "access", lambda path, mode: False):
+            it = manifest.Manifest(self.path(b"m"), writes=False)
+        with it:
             self.assertEqual(list(it.rows()), [ROW])
-            it.put(manifest.Row(b"b", status="packed"))
-            it.begin("t", "verify", "here", 1)
-            it.end("t", "said")
+            it.put(manifest.Row(b"b.fits", status="failed"))
+            it.begin(TOKEN, "verify", "here", 1)
+            it.end(TOKEN, "said")
             self.assertEqual(len(list(it.rows())), 2)
         self.assertEqual(files.look(self.path(b"m")).sha256, before.sha256)
 
     def test_a_failure_does_not_forget_what_was_packed(self) -> None:
         with manifest.Manifest(self.path(b"m")) as it:
-            bad = work.Result(ROW.path, "verify", "damaged", "packed file changed", "line", "advice")
-            row = run.record(it, manifest.Row(**vars(ROW)), bad, "i", "")
-            self.assertEqual((row.status, row.fault, row.sha256, row.packed_sha256), ("packed", "damaged", "s", "p"))
-            row = run.record(it, row, work.Result(ROW.path, "verify", "right"), "i", "")
+            bad = messages.Result(ROW.path, "verify", "damaged", "packed file changed", "line", "advice")
+            row = record.record(it, manifest.Row(**vars(ROW)), bad, "i", "")
+            self.assertEqual((row.status, row.fault, row.sha256, row.packed_sha256), ("packed", "damaged", "5" * 64, "9" * 64))
+            row = record.record(it, row, messages.Result(ROW.path, "verify", "right"), "i", "")
             self.assertEqual((row.fault, row.line, row.check_line), ("", "", "right"))
 
 
 class Arrays(InAFolder):
     def test_a_task_that_is_queued_again_counts_by_its_good_result(self) -> None:
-        settings = work.Settings("pack", self.path(b"plain"), self.path(b"packed"), "t", "/fz", "i")
+        settings = messages.Settings("pack", self.path(b"plain"), self.path(b"packed"), TOKEN, "/fz", "i")
         os.mkdir(self.path(b"packed"))
         with manifest.Manifest(self.path(b"packed", names.MANIFEST)) as made:
-            made.begin("t", "pack", "host", 1)
-        slurm.write(settings, [work.Task(b"a.fits", 0)])
-        failed = work.Result(b"a.fits", "pack", "failed", "Input/output error", "Input/output error", "run it again")
-        packed = work.Result(b"a.fits", "pack", "packed", size=1, mtime=2, sha256="s", packed_size=3, packed_mtime=4, packed_sha256="p")
+            made.begin(TOKEN, "pack", "host", 1)
+        slurm.write(settings, [messages.Task(b"a.fits", 0)])
+        failed = messages.Result(b"a.fits", "pack", "failed", "Input/output error", "Input/output error", "run it again")
+        packed = messages.Result(b"a.fits", "pack", "packed", size=1, mtime=2, sha256="5" * 64, packed_size=3, packed_mtime=4, packed_sha256="9" * 64)
         # the name of a file of results has the machine in it, so the order of the names is not that of time
-        self.write(b"packed/fzbatch.results/t.0.node1.7", packed.word().encode() + b"\n")
-        self.write(b"packed/fzbatch.results/t.0.node2.5", failed.word().encode() + b"\n")
+        self.write(b"packed/fzbatch.results/0123456789abcdef.0.node1.7", packed.word().encode() + b"\n")
+        self.write(b"packed/fzbatch.results/0123456789abcdef.0.node2.5", failed.word().encode() + b"\n")
         to = io.StringIO()
-        self.assertEqual(run.collect(self.path(b"packed"), to), run.DONE, to.getvalue())
+        self.assertEqual(submit.collect(self.path(b"packed"), to), run.DONE, to.getvalue())
         with run.open_manifest(self.path(b"packed"), writes=False) as made:
             self.assertEqual([(it.path, it.status, it.fault) for it in made.rows()], [(b"a.fits", "packed", "")])
 
@@ -239,7 +292,7 @@ class Plans(InAFolder):
         self.assertEqual(len(self.plan(self.found(), row).tasks), 1)
 
     def test_what_was_refused_is_tried_again_only_if_something_changed(self) -> None:
-        row = manifest.Row(ROW.path, 10, 1, "s", status="refused", program="i", options="--sums")
+        row = manifest.Row(ROW.path, 10, 1, sha256="5" * 64, status="refused", program="i", options="--sums")
         self.assertEqual(self.plan(self.found(), row).refused, [row])
         self.assertEqual(len(self.plan(self.found(), row, retry=True).tasks), 1)
         self.assertEqual(len(self.plan(self.found(mtime=9), row).tasks), 1)
@@ -250,25 +303,24 @@ class Plans(InAFolder):
         self.assertEqual(self.plan(empty, ROW).gone, [ROW])
         self.assertEqual(self.plan(empty, refused).never_packed, [refused])
         # what is in a folder that cannot be read is not gone
-        unread = scan.Scan(self.folder, left=[scan.Left(b"n", "cannot be read: no", "")])
+        unread = scan.Scan(self.folder, left=[scan.Left(b"n", "cannot be read: no", "", scan.SHUT)])
         self.assertEqual(self.plan(unread, manifest.Row(b"n/a.fits", status="packed")).gone, [])
 
-    def test_missing(self) -> None:
-        lacking = plan.missing(self.found(), {}, self.folder)
-        self.assertEqual(lacking, [(ROW.path, "was not packed yet")])
-        lacking = plan.missing(None, {ROW.path: ROW}, self.folder)
-        self.assertEqual(lacking, [(ROW.path, "its packed file is not there, and neither is the plain file")])
-        self.assertEqual(plan.missing(self.found(), {ROW.path: self.packed()}, self.folder), [])
+    def test_a_plain_file_that_was_read_as_soon_as_it_was_written_is_read_again(self) -> None:
+        row = manifest.Row(**{**vars(self.packed()), "looked": ROW.mtime + 1_999_999_999})
+        self.assertEqual(len(self.plan(self.found(), row).tasks), 1)
+        row.looked = ROW.mtime + 2_000_000_000
+        self.assertEqual(self.plan(self.found(), row).there, [row])
 
 
 class Words(unittest.TestCase):
     def test_messages_come_back(self) -> None:
-        task = work.Task(b"a\xff\n.fits", 3, "s", None, 5)
-        self.assertEqual(work.Task.of(task.word()), task)
-        result = work.Result(b"\xff", "pack", "refused", line="refused: 2 Truncated", kind=2)
-        self.assertEqual(work.Result.of(result.word()), result)
-        settings = work.Settings("pack", b"/p", b"/q", "t", "/fz", "i")
-        self.assertEqual(work.Settings.of(settings.word()), settings)
+        task = messages.Task(b"a\xff\n.fits", 3, "s", None, 5)
+        self.assertEqual(messages.Task.of(task.word()), task)
+        result = messages.Result(b"\xff.fits", "pack", "refused", line="refused: 2 Truncated", kind=2)
+        self.assertEqual(messages.Result.of(result.word()), result)
+        settings = messages.Settings("pack", b"/p", b"/q", TOKEN, "/fz", "i")
+        self.assertEqual(messages.Settings.of(settings.word()), settings)
 
     def test_what_to_do(self) -> None:
         self.assertIn("--memory", advice.of_outcome(Outcome(6, ("over limit: live 0 asked 1 limit 1",))))
@@ -278,8 +330,12 @@ class Words(unittest.TestCase):
 
     def test_shares_of_an_array(self) -> None:
         variables = {"SLURM_ARRAY_TASK_ID": "7", "SLURM_ARRAY_TASK_MIN": "3", "SLURM_ARRAY_TASK_STEP": "2", "SLURM_ARRAY_TASK_COUNT": "4", "SLURM_CPUS_PER_TASK": "8"}
-        self.assertEqual(slurm.Share.of(variables), slurm.Share(2, 4, 8))
-        self.assertEqual(slurm.Share.of({}), slurm.Share(0, 1, 1))
+        many = len(os.sched_getaffinity(0))
+        self.assertEqual(slurm.Share.of(variables), slurm.Share(2, 4, min(8, machine.processors({}))))
+        self.assertEqual(slurm.Share.of({**variables, "SLURM_CPUS_PER_TASK": "1"}), slurm.Share(2, 4, 1))
+        self.assertEqual(slurm.Share.of({}), slurm.Share(0, 1, machine.processors({})))
+        self.assertLessEqual(slurm.Share.of({}).jobs, many)
+        self.assertEqual([slurm.array_of(it) for it in (1, 7, 8, 63, 64, 1000)], [1, 1, 2, 15, 16, 16])
 
     def test_the_summary(self) -> None:
         told = tally.Tally("pack", others={".txt": 2})

@@ -42,7 +42,7 @@ class Runs(unittest.TestCase):
         """The status of fzbatch, and what it printed."""
         said = io.StringIO()
         with contextlib.redirect_stdout(said), contextlib.redirect_stderr(said):
-            more = ["--fz", FZ] if words[0] in ("pack", "verify", "compare", "restore", "look") else []
+            more = ["--fz", FZ] if words[0] in ("pack", "verify", "compare", "restore", "look", "rebuild") else []
             status = cli.main([*map(str, words), *more])
         return status, said.getvalue()
 
@@ -71,6 +71,8 @@ class Runs(unittest.TestCase):
         before = (self.packed / "a.fits.fz").stat()
         (self.packed / "fzbatch.sqlite").unlink()
         self.assertEqual(self.last("verify", self.plain)[0], 2)
+        self.assertEqual(self.last("pack", self.plain)[0], 2)
+        (self.packed / "fzbatch.sqlite.copy").unlink()
         self.assertEqual(self.last("pack", self.plain), (0, "pack: 2 files, 2 done (2 packed), 0 not done, 0 left out"))
         self.assertEqual((self.packed / "a.fits.fz").stat().st_ino, before.st_ino)
 
@@ -101,7 +103,7 @@ class Runs(unittest.TestCase):
         status, said = self.run_it("pack", self.plain)
         self.assertEqual(status, 1)
         self.assertIn("wrong checksum in the plain file", said)
-        self.assertEqual(self.last("pack", self.plain, "--take-wrong-sums")[0], 0)
+        self.assertEqual(self.last("pack", self.plain, "--accept-wrong-sums")[0], 0)
         self.assertEqual(self.last("verify", self.plain)[0], 0)
 
     def test_wrong_options_stop_the_run(self) -> None:
@@ -151,6 +153,11 @@ class Runs(unittest.TestCase):
             status, said = self.run_it(verb, self.plain)
             self.assertEqual((status, "move it away, and fzbatch pack makes a new one" in said), (2, True), said)
         (self.packed / "fzbatch.sqlite").rename(self.room / "damaged")
+        self.assertEqual(self.last("pack", self.plain)[0], 2)
+        self.assertEqual(self.last("rebuild", self.packed), (0, "rebuild: 2 files, 2 done (2 packed), 0 not done, 0 left out"))
+        self.assertEqual(self.last("pack", self.plain), (0, "pack: 2 files, 2 done (2 there), 0 not done, 0 left out"))
+        for it in ("fzbatch.sqlite", "fzbatch.sqlite.copy"):
+            (self.packed / it).unlink()
         self.assertEqual(self.last("pack", self.plain), (0, "pack: 2 files, 2 done (2 packed), 0 not done, 0 left out"))
 
     def test_another_run(self) -> None:
@@ -177,10 +184,10 @@ class Runs(unittest.TestCase):
         (self.plain / "<b>.fits").write_bytes(b"")
         self.run_it("pack", self.plain)
         out = self.room / "r.html"
-        self.assertEqual(self.run_it("report", self.plain, "-o", out), (0, f"{out}\n"))
+        self.assertEqual(self.run_it("report", self.plain, "-o", out), (1, f"{out}\n"))
         page = out.read_text()
         self.assertIn("1 file of 3 needs attention", page)
-        self.assertIn("1 file has no packed file.", page)
+        self.assertIn("<h3>2 Truncated: 1 file</h3>", page)
         self.assertIn("&lt;b&gt;.fits", page)
         self.assertNotIn("<b>.fits", page)
         out.write_bytes(b"mine")

@@ -1,0 +1,151 @@
+"""What goes to other tasks and comes back from them: a Slurm array that is to be submitted, its results, and a rebuilt manifest."""
+from __future__ import annotations
+
+import os
+import shlex
+from concurrent import futures
+from typing import Sequence, TextIO
+
+from . import advice, files, inside, keep, lock, machine, names, rebuild, rooms, slurm, survey, tries, work
+from .manifest import BadManifest, Manifest, Row
+from .messages import Result, Settings, Task
+from .record import record
+from .scan import Left
+from .tally import Tally
+
+DONE, NOT_DONE = 0, 1
+
+
+def hand_over(settings: Settings, tasks: Sequence[Task], out: TextIO) -> int:
+    """Writes the tasks of a Slurm array, and prints what to submit."""
+    folders = [names.shown(it) for it in (settings.plain, settings.packed)]
+    if any(it.startswith("$'") for it in folders):
+        raise BadManifest(f"for --engine slurm both folders need names of characters that print, since sbatch hands them to a shell: {' '.join(folders)}")
+    if not tasks:
+        print("no file is to be done, and nothing to submit", file=out)
+        return DONE
+    slurm.write(settings, tasks)
+    count = slurm.array_of(len(tasks))
+    plain, packed = map(shlex.quote, folders)
+    print(f"{len(tasks)} tasks wait. For an array of {count} tasks with 4 processors each:", file=out)
+    wrapped = shlex.quote(f"fzbatch share {plain} {packed}")
+    print(f"  sbatch --array=0-{count - 1} --cpus-per-task=4 --mem-per-cpu=200M --requeue --wrap {wrapped}", file=out)
+    print(f"When it has ended: fzbatch collect {packed}", file=out)
+    return DONE
+
+
+def collect(packed: bytes, out: TextIO, drop: bool = False, all_names: bool = False) -> int:
+    """Reads the results of a Slurm array into the manifest. Tasks without a result are counted, and stay unless they are dropped."""
+    if not files.there(slurm.tasks_file(packed)):
+        raise BadManifest(f"no tasks of a Slurm array wait in {names.shown(packed)}")
+    with lock.held(os.path.join(packed, names.LOCK)), Manifest(os.path.join(packed, names.MANIFEST)) as manifest:
+        settings, tasks = slurm.read(packed)
+        rows = {it.path: it for it in manifest.rows()}
+        tally = Tally(settings.verb)
+        results = slurm.result_of_each(packed, settings, tasks)
+        for result in results.values():
+            row = record(manifest, rows.get(result.path), result, settings.identity, " ".join(settings.options))
+            if result.good and row.fault:
+                tally.bad(result.path, row.cause, row.line, row.advice)
+            elif result.good:
+                tally.good(result.outcome, row.size or 0, row.packed_size or 0)
+            else:
+                tally.bad(result.path, result.cause, result.line, result.advice)
+        manifest.save()
+        tally.untried = sum(it.path not in results for it in tasks)
+        tally.left = [Left(*it) for it in manifest.left_out()]
+        tally.notes += survey.accepted(manifest.rows())
+        if not tally.untried or drop:
+            manifest.end(settings.token, tally.last_line())
+            slurm.clear(packed, settings.token)
+        else:
+            tally.notes.append("The tasks stay: start the array again and collect once more, or end them by fzbatch collect --drop.")
+        tally.notes += keep.keep(manifest, packed)
+    tally.print(out, all_names)
+    return DONE if tally.whole else NOT_DONE
+
+
+def rebuilt(settings: Settings, out: TextIO, jobs: int, ignore_copy: bool = False, again: bool = False, all_names: bool = False) -> int:
+    """Makes a manifest from the packed files alone, and what the second copy and SHA256SUMS still say.
+
+    `again` makes it anew although there is a whole one, which then is what the second copy would be.
+    """
+    packed, tally = settings.packed, Tally("rebuild")
+    with lock.held(os.path.join(packed, names.LOCK)):
+        old, facts, said = rebuild.known_rows(packed, again)
+        if ignore_copy:
+            old, facts, said = {}, {}, "The second copy of the manifest was not read."
+        tasks, lost, strange = rebuild.tasks_of(packed, old)
+        if not tasks and not lost:
+            raise BadManifest(f"{names.shown(packed)} has no packed file: is its disk mounted?")
+        tally.notes.append(said)
+        rebuild.remove_unfinished(packed)
+        rooms.remove_of_killed(packed)
+        new = os.path.join(packed, names.MANIFEST + b".rebuilt-%s" % settings.token.encode())
+        try:
+            with Manifest(new) as manifest:
+                for name, value in facts.items():
+                    if isinstance(value, (int, bytes)):
+                        manifest.tell(name, value)
+                _fill(manifest, settings, jobs, tally, old, tasks, lost)
+                manifest.save()
+            # only now, so that a kill leaves the one that was there, or its second copy
+            away = rebuild.move_away(packed)
+            os.rename(new, os.path.join(packed, names.MANIFEST))
+        except BaseException:
+            files.remove(new)
+            raise
+        above = os.open(packed, inside.FOLDER)
+        inside.sync_number(above)
+        os.close(above)
+        if away:
+            tally.notes.append(f"The manifest that was there has the name {names.shown(away)} now.")
+        for name in strange:
+            tally.bad(name, *survey.UNKNOWN)
+        with Manifest(os.path.join(packed, names.MANIFEST)) as manifest:
+            tally.notes += survey.notes_of(manifest, list(manifest.rows()), packed)
+            tally.notes += keep.keep(manifest, packed)
+    tally.print(out, all_names)
+    return DONE if tally.whole else NOT_DONE
+
+
+def _fill(manifest: Manifest, settings: Settings, jobs: int, tally: Tally, old: "dict[bytes, Row]", tasks: Sequence[Task], lost: Sequence[Row]) -> None:
+    """Reads each packed file, and writes its row."""
+    with files.private(), rooms.rooms(settings.packed, settings.token, jobs) as scratch, futures.ThreadPoolExecutor(jobs) as pool:
+        for task, result in zip(tasks, pool.map(lambda it: _read(settings, it, scratch), tasks)):
+            row = rebuild.row_of(result, old.get(result.path), task.packed_sha256)
+            manifest.put(row)
+            if result.good:
+                tally.good(result.outcome, row.size or 0, row.packed_size or 0)
+            else:
+                tally.bad(result.path, result.cause, result.line, result.advice)
+    for row in lost:
+        line = "its packed file is not there, and SHA256SUMS or the second copy names it"
+        row.cause, row.line, row.advice, row.status = survey.LOST, line, advice.LOST, row.status or "failed"
+        row.fault = "lost" if row.done else ""
+        manifest.put(row)
+        tally.bad(row.path, row.cause, row.line, row.advice)
+    found = {it.path for it in (*tasks, *lost)}
+    for path, row in old.items():
+        if not row.done and path not in found:
+            manifest.put(row)
+            tally.bad(path, survey.NEVER, f"it was never packed: {row.line}", row.advice)
+
+
+def _read(settings: Settings, task: Task, scratch: rooms.Rooms) -> Result:
+    result = Result(task.path, "verify")
+
+    def read() -> None:
+        with inside.file(settings.packed, names.packed_name(task.path)) as number:
+            rebuild.look(settings, task, result, tries.Tries(settings, task, result, scratch), number)
+
+    work.guarded(result, read)
+    return result
+
+
+def settings_for_rebuild(packed: bytes, program: str, token: str, jobs: int, memory: int, accept: bool, limit: float) -> Settings:
+    """The settings of a run that reads packed files only."""
+    made = Settings("verify", packed, packed, token, program, "", memory=memory or machine.limit_of_a_job(jobs))
+    return Settings(**{**vars(made), "accept_wrong_sums": accept, "time_limit": limit})
+
+

@@ -1,0 +1,77 @@
+"""What a run is asked for, and what it begins with: its manifest, its folders, and the signals that stop it."""
+from __future__ import annotations
+
+import os
+import signal
+from dataclasses import dataclass, field
+from typing import Callable, Optional
+
+from . import files, names
+from .manifest import Manifest
+
+
+class Refuse(Exception):
+    """The run does not begin."""
+
+
+@dataclass
+class Wanted:
+    """What the command line asks for."""
+
+    verb: str
+    plain: bytes
+    packed: bytes
+    program: Optional[str] = None
+    options: list[str] = field(default_factory=lambda: ["--sums"])
+    memory: int = 0
+    jobs: int = 1
+    engine: str = "local"
+    machines: list[str] = field(default_factory=list)
+    scheduler: str = ""
+    compare: bool = False
+    update: bool = False
+    retry: bool = False
+    allow_empty: bool = False
+    skip_links: bool = False
+    skip_compressed: bool = False
+    skip_nothing: bool = False
+    accept_wrong_sums: bool = False
+    sha256_only: bool = False
+    without_plain: bool = False
+    time_limit: float = 0.0
+    all_names: bool = False
+
+
+def open_manifest(packed: bytes, writes: bool = True) -> Manifest:
+    """The manifest of a folder of packed files, which has to be there."""
+    path = os.path.join(packed, names.MANIFEST)
+    if not os.path.isdir(packed):
+        raise Refuse(f"{names.shown(packed)} is not there, or is no folder: is its disk mounted?")
+    if not files.there(path):
+        made = "fzbatch rebuild makes one from the packed files, and fzbatch pack from the plain and the packed files"
+        raise Refuse(f"{names.shown(packed)} has no manifest ({names.MANIFEST.decode()}): is its disk mounted? {made}")
+    return Manifest(path, writes)
+
+
+def place(path: bytes) -> Optional[tuple[int, int]]:
+    """Which folder has this name: it is another one after its disk was unmounted."""
+    try:
+        it = os.stat(path)
+    except OSError:
+        return None
+    return it.st_dev, it.st_ino
+
+
+class signals:
+    """While the block runs, SIGINT and SIGTERM stop the run after the files that are being done."""
+
+    def __init__(self, call: Callable[[int], None]):
+        self.call, self.before = call, {}
+
+    def __enter__(self) -> None:
+        for number in (signal.SIGINT, signal.SIGTERM):
+            self.before[number] = signal.signal(number, lambda found, _: self.call(found))
+
+    def __exit__(self, *_: object) -> None:
+        for number, handler in self.before.items():
+            signal.signal(number, handler)
