@@ -10,13 +10,13 @@ BIN = $(DESTDIR)$(PREFIX)/bin
 SHARE = $(DESTDIR)$(PREFIX)/share
 MAN = $(SHARE)/man/man1
 DOC = $(SHARE)/doc/fz
-# The Python package: a folder of its own, from which fzbatch runs. (make deb puts it where Python looks for packages.)
+# The Python package: a folder of its own, from which fzfits and fzbatch run. (make deb puts it where Python looks for packages.)
 PYTHON = $(DESTDIR)$(PREFIX)/lib/fz
 BASH = $(SHARE)/bash-completion/completions
 ZSH = $(SHARE)/zsh/site-functions
 FISH = $(SHARE)/fish/vendor_completions.d
-MODULES = $(patsubst python/%,%,$(wildcard python/fzfits/*.py python/fzfits/py.typed python/fzfits/batch/*.py))
-PAGES = $(wildcard README.md CHANGELOG.md CONTRIBUTING.md LICENSE docs/*.md docs/*.svg python/README.md bench/jobs/README.md)
+MODULES = $(patsubst python/%,%,$(wildcard python/fzfits/*.py python/fzfits/py.typed python/fzfits/batch/*.py python/fzfits/shell/*.py))
+PAGES = $(wildcard README.md CHANGELOG.md CONTRIBUTING.md SECURITY.md LICENSE docs/*.md docs/*.svg python/README.md bench/jobs/README.md)
 
 help:
 	@echo 'make demo       compile fz without proving it, and pack, list, verify, cut and unpack samples/star_field.fits: a minute'
@@ -24,7 +24,7 @@ help:
 	@echo 'make fz         prove and build the program: crates/fz/out/fz'
 	@echo 'make test       what the gate runs: every proof, must-fail edit, test and program: an hour and a half or more'
 	@echo 'make samples    write samples/ again'
-	@echo 'make install    put the program that was built, fzbatch, the manual, the documents and the completions under PREFIX (/usr/local)'
+	@echo 'make install    put the program that was built, fzfits, fzbatch, the manuals, the documents and the completions under PREFIX (/usr/local)'
 	@echo 'make uninstall  remove them again'
 	@echo 'make dist       the sources of the last commit and their SHA-256: out/fz-$(VERSION).tar.gz'
 	@echo 'make deb        a Debian package of the program that was built: out/fz_$(VERSION)_ARCHITECTURE.deb'
@@ -53,6 +53,8 @@ install:
 	for it in $(MODULES); do install -D -m 644 python/$$it $(PYTHON)/$$it || exit 1; done
 	install -m 644 docs/REFUSALS.md $(PYTHON)/fzfits/REFUSALS.md
 	install -D -m 755 tools/fzbatch.installed $(BIN)/fzbatch
+	install -D -m 755 tools/fzfits.installed $(BIN)/fzfits
+	install -D -m 644 fzfits.1 $(MAN)/fzfits.1
 	for it in $(PAGES); do install -D -m 644 $$it $(DOC)/$$it || exit 1; done
 	install -D -m 644 completions/fz.bash $(BASH)/fz
 	install -D -m 644 completions/fzbatch.bash $(BASH)/fzbatch
@@ -60,9 +62,13 @@ install:
 	install -D -m 644 completions/_fzbatch $(ZSH)/_fzbatch
 	install -D -m 644 completions/fz.fish $(FISH)/fz.fish
 	install -D -m 644 completions/fzbatch.fish $(FISH)/fzbatch.fish
+	install -D -m 644 completions/fzfits.bash $(BASH)/fzfits
+	install -D -m 644 completions/_fzfits $(ZSH)/_fzfits
+	install -D -m 644 completions/fzfits.fish $(FISH)/fzfits.fish
 
 uninstall:
 	rm -f $(BIN)/fz $(BIN)/fzbatch $(MAN)/fz.1 $(BASH)/fz $(BASH)/fzbatch $(ZSH)/_fz $(ZSH)/_fzbatch $(FISH)/fz.fish $(FISH)/fzbatch.fish
+	rm -f $(BIN)/fzfits $(MAN)/fzfits.1 $(BASH)/fzfits $(ZSH)/_fzfits $(FISH)/fzfits.fish
 	rm -rf $(PYTHON)/fzfits $(DOC)
 	-rmdir $(PYTHON) 2> /dev/null
 

@@ -1,21 +1,24 @@
 # Completion of fzbatch for bash.
 _fzbatch() {
     local word=${COMP_WORDS[COMP_CWORD]} before=${COMP_WORDS[COMP_CWORD-1]} command=${COMP_WORDS[1]} options
-    local every='--jobs --memory --fz --engine --sshlogin --sshloginfile --scheduler --all --allow-empty'
+    local every='--jobs --memory --fz --time-limit --engine --sshlogin --sshloginfile --scheduler --all --allow-empty'
     COMPREPLY=()
     if [ "$COMP_CWORD" -eq 1 ]; then
-        mapfile -t COMPREPLY < <(compgen -W 'pack verify compare restore status missing forget collect share report look' -- "$word")
+        mapfile -t COMPREPLY < <(compgen -W 'pack verify compare restore status missing forget collect share rebuild report look' -- "$word")
         return
     fi
     case $command in
-        pack) options="$every --codec --tile --block --workers --no-sums --compare --update --retry --take-wrong-sums --skip-links" ;;
+        pack) options="$every --codec --tile --block --workers --no-sums --compare --update --retry --accept-wrong-sums --skip-links --skip-compressed --skip-nothing" ;;
         verify) options="$every --sha256-only" ;;
-        compare | restore) options=$every ;;
-        status) options='--all --json' ;;
-        missing) options='--null' ;;
+        compare) options="$every --without-plain" ;;
+        restore) options=$every ;;
+        status) options='--all --json --without-plain' ;;
+        missing) options='--null --without-plain' ;;
+        share) options='--fz' ;;
+        rebuild) options='--jobs --memory --time-limit --fz --all --accept-wrong-sums --ignore-copy --again' ;;
         forget) options='--name' ;;
         collect) options='--drop --all' ;;
-        report) options='--out' ;;
+        report) options='--out --without-plain' ;;
         look) options='--hdu --box --size --no-grid --fz --out' ;;
         *) options= ;;
     esac
@@ -23,7 +26,7 @@ _fzbatch() {
     case $before in
         --codec) mapfile -t COMPREPLY < <(compgen -W 'rice plio none' -- "${word#=}"); return ;;
         --engine) mapfile -t COMPREPLY < <(compgen -W 'local parallel slurm dask' -- "${word#=}"); return ;;
-        --jobs | --memory | --sshlogin | --scheduler | --tile | --block | --workers | --name | --hdu | --box | --size) return ;;
+        --jobs | --memory | --time-limit | --sshlogin | --scheduler | --tile | --block | --workers | --name | --hdu | --box | --size) return ;;
     esac
     compopt -o filenames 2> /dev/null
     case $word in

@@ -6,23 +6,28 @@
     True
     >>> fzfits.section("packed/a.fits.fz", "SCI", np.s_[100:200, ::4]).shape      # doctest: +SKIP
     (100, 1024)
+    >>> fzfits.write("packed/b.fits.fz", array, header={"OBJECT": "M 31"})        # doctest: +SKIP
 
-Every packed, restored or cut byte is made by the program; this package finds it (`fzfits.program`), calls it, and turns what it
-prints into results (`Hdu`, `Verdict`, `Report`, `Made`) and errors (`FzError` and its subclasses) that say what to do. It needs
-nothing but Python; `section` gives arrays and HDUs if numpy and astropy are installed.
+Every packed or restored byte, and every one that is cut out of a packed image, is made by the program; this package finds it
+(`fzfits.program`), calls it, and turns what it prints into results (`Hdu`, `Verdict`, `Report`, `Made`) and errors (`FzError` and
+its subclasses) that say what to do. It needs nothing but Python; `section` gives arrays and HDUs if numpy and astropy are installed.
 """
-from .commands import cut, drill, list, pack, patch, retile, unpack, verify  # noqa: F401  # pylint: disable=redefined-builtin
+from .checks import Checked, check
+from .commands import cut, drill, list, pack, retile, unpack, verify  # noqa: F401  # pylint: disable=redefined-builtin
+from .contents import Content, contents
 from .errors import FzError, Killed, NoMemory, NoProgram, NoSuchHdu, OverLimit, ReadFault, Refused, Unexpected, Usage, WriteFault
 from .mend import Change, Mended, mend
+from .plan import Try, plan
 from .readers import Readable, readable, stored_tiles
 from .results import Drill, Hdu, Made, Place, Report, Verdict
-from .section import section, section_cfitsio
+from .section import cutout, section, section_cfitsio
+from .writing import patch, write
 
 __version__ = "1.0.0"
 
 # `list` is left out, so that `from fzfits import *` does not hide the one of Python.
 __all__ = [
-    "Change", "Drill", "FzError", "Hdu", "Killed", "Made", "Mended", "NoMemory", "NoProgram", "NoSuchHdu", "OverLimit", "Place",
-    "ReadFault", "Readable", "Refused", "Report", "Unexpected", "Usage", "Verdict", "WriteFault", "cut", "drill", "mend", "pack",
-    "patch", "readable", "retile", "section", "section_cfitsio", "stored_tiles", "unpack", "verify",
+    "Change", "Checked", "Content", "Drill", "FzError", "Hdu", "Killed", "Made", "Mended", "NoMemory", "NoProgram", "NoSuchHdu", "OverLimit", "Place",
+    "ReadFault", "Readable", "Refused", "Report", "Try", "Unexpected", "Usage", "Verdict", "WriteFault", "check", "contents", "cut", "cutout", "drill",
+    "mend", "pack", "patch", "plan", "readable", "retile", "section", "section_cfitsio", "stored_tiles", "unpack", "verify", "write",
 ]

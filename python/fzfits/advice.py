@@ -15,6 +15,7 @@ from typing import Callable, Dict, Optional, Tuple
 
 from .errors import Refused, shown
 from .headers import Card, Header, Name, headers
+from .rows import pixels_of_row
 
 OF_READING = {
     errno.ENOENT: "Check that the name is right and the disk is mounted.",
@@ -23,6 +24,8 @@ OF_READING = {
     errno.EIO: "The disk reports an error: try another copy.",
     errno.ELOOP: "Its symbolic links go round in a circle.",
 }
+# How the names of compressed files end, without which these tools do not decompress them in place.
+ENDS = {"gunzip": (".gz", ".Z"), "bunzip2": (".bz2",), "unxz": (".xz",), "unzstd": (".zst",)}
 # The first bytes of files that are no FITS files, and what to do.
 SORTS: Tuple[Tuple[bytes, str, str], ...] = (
     (b"\x1f\x8b", "compressed as a whole by gzip", "gunzip"),
@@ -47,6 +50,12 @@ def first_bytes(path: Name, many: int = 512) -> bytes:
         return file.read(many)
 
 
+def decompress(tool: str, path: Name) -> str:
+    """The command that decompresses a file; a name that the tool does not take goes by standard output."""
+    name = shlex.quote(shown(path))
+    return f"{tool} {name}" if tool not in ENDS or shown(path).endswith(ENDS[tool]) else f"{tool} -c {name} > NEW"
+
+
 def sort_of(path: Name) -> str:
     """What a file is that is no FITS file, and what to do; empty if nothing is known."""
     if not stat.S_ISREG(os.stat(path).st_mode):
@@ -56,7 +65,7 @@ def sort_of(path: Name) -> str:
         return "It is empty: fetch it again."
     for magic, sort, tool in SORTS:
         if start.startswith(magic):
-            return f"It is {sort}." + (f" Decompress it first: {tool} {shlex.quote(shown(path))}" if tool else "")
+            return f"It is {sort}." + (f" Decompress it first: {decompress(tool, path)}" if tool else "")
     lowered = start.lstrip().lower()
     if lowered.startswith((b"<!doctype", b"<html", b"<?xml")):
         return "It is a web page: often a server answered with an error or asked for a login. Fetch it again."
@@ -247,5 +256,8 @@ OF_KIND: Dict[str, Callable[[Refused, Name, Optional[Header]], None]] = {
 
 def of_refused(error: Refused, path: Name, header: Optional[Header]) -> None:
     """Adds what is known about this file to a refusal."""
+    if error.place.unit == "row" and header is not None and header.is_packed:
+        pixels = pixels_of_row(header, error.place.number)
+        error.advice = f"Row {error.place.number} is the tile of the pixels {pixels}; the others may be whole, and cut reads them." if pixels else ""
     if error.kind in OF_KIND:
         OF_KIND[error.kind](error, path, header)

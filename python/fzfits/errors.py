@@ -101,7 +101,7 @@ class Refused(FzError):
         return f"refused: {self.number} {self.kind}, HDU {self.hdu}, {self.place}" + (f" ({'; '.join(about)})" if about else "")
 
     def remedy(self) -> str:
-        mended = f"fzfits.mend(.., {self.mends}=True) makes a file without this fault." if self.mends else ""
+        mended = f"fzfits.mend(.., {self.mends}=True), or fzfits mend --{self.mends.replace('_', '-')}, makes a copy without this fault." if self.mends else ""
         return "\n".join(it for it in (self.advice, mended, self.meaning) if it)
 
 

@@ -22,6 +22,17 @@ class Tiles:
     missing: int = 0
 
 
+def pixels_of_row(header: Header, row: int) -> str:
+    """The pixels of the tile that a row of the table has, axis 1 first, counted from 1: [1:2,3:3]; empty if it has none."""
+    spans = []
+    for axis, length in zip(header.axes, header.tile):
+        if length < 1:
+            return ""
+        row, at = divmod(row, -(-axis // length))
+        spans.append(f"{at * length + 1}:{min(axis, (at + 1) * length)}")
+    return f"[{','.join(spans)}]" if spans and row == 0 else ""
+
+
 def columns_of(header: Header) -> Dict[str, Tuple[int, int]]:
     """Where the descriptor of each column stands in a row, and the bytes of its count."""
     found, at = {}, 0

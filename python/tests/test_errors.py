@@ -99,6 +99,13 @@ class Kinds(InAFolder):
                 self.assertIn(word, caught.exception.advice, (start, length))
                 self.assertIn(caught.exception.kind, ("Truncated", "NotFits"))
 
+    def test_how_to_decompress_a_file(self):
+        from fzfits import advice
+
+        for name, wanted in (("a.fits.gz", "gunzip a.fits.gz"), ("really gz.fits", "gunzip -c 'really gz.fits' > NEW")):
+            Path(name).write_bytes(b"\x1f\x8b\x08" + bytes(3000))
+            self.assertEqual(advice.sort_of(name), f"It is compressed as a whole by gzip. Decompress it first: {wanted}")
+
     def test_a_pipe(self):
         os.mkfifo("pipe")
         # The program does not open it for reading while nobody writes, so the advice is asked for directly.
@@ -125,6 +132,7 @@ class Kinds(InAFolder):
             fzfits.verify(files[19])
         self.assertEqual([it.hdu for it in caught.exception.verdicts], [0])
         self.assertEqual(caught.exception.place, ("row", 5))
+        self.assertIn("the tile of the pixels [5:5,3:3]", caught.exception.advice)
         self.assertIn("fetch the file again", caught.exception.meaning)
 
     def test_a_missing_card_of_a_packed_header(self):

@@ -90,21 +90,27 @@ class Pixels(InAFolder):
             (8, [card("BZERO", -128), card("BSCALE", 1)], "i1", lambda it: it - 128),
             (32, [card("BZERO", 2147483648)], "u4", lambda it: it + 2147483648),
             (16, [], "i2", lambda it: it),
-            (16, [card("BZERO", 100), card("BSCALE", 2)], "f8", lambda it: 100.0 + 2.0 * it),
-            (16, [card("BLANK", 0)], "f8", lambda it: np.where(it == 0, np.nan, it.astype("f8"))),
+            (16, [card("BZERO", 100), card("BSCALE", 2)], "f4", lambda it: 100.0 + 2.0 * it),
+            (32, [card("BZERO", 100), card("BSCALE", 2)], "f8", lambda it: 100.0 + 2.0 * it),
+            (16, [card("BLANK", 0)], "f4", lambda it: np.where(it == 0, np.nan, it.astype("f8"))),
+            (16, [card("BZERO", 32768), card("BLANK", 0)], "u2", lambda it: it + 32768),
         ):
             with self.subTest(bits=bits, kind=kind, cards=cards):
                 whole = self.image(bits, (6, 4), cards)
-                found = fzfits.section("packed", 1, np.s_[1:3], scale=True)
+                found = fzfits.section("packed", 1, np.s_[1:3])
                 self.assertEqual(found.dtype, np.dtype(kind))
                 self.assertTrue(np.array_equal(found.astype("f8"), wanted(whole[1:3]).astype("f8"), equal_nan=True))
-                self.assertEqual(fzfits.section("packed", 1, np.s_[1:1], scale=True).dtype, np.dtype(kind))
-                self.assertTrue(np.array_equal(fzfits.section("packed", 1, np.s_[1:3]), whole[1:3]))
+                self.assertEqual(fzfits.section("packed", 1, np.s_[1:1]).dtype, np.dtype(kind))
+                self.assertTrue(np.array_equal(fzfits.section("plain", 0, np.s_[1:3]), found, equal_nan=found.dtype.kind == "f"))
+                raw = fzfits.section("packed", 1, np.s_[1:3], raw=True)
+                self.assertEqual(raw.dtype, np.dtype("u1" if bits == 8 else f"i{bits // 8}"))
+                self.assertTrue(np.array_equal(raw, whole[1:3]))
                 os.unlink("packed")
 
     def test_what_is_no_part(self):
         self.image(16, (6, 4))
-        for name, extension, error in (("plain", None, "NotPacked"), ("packed", 7, "NotPacked"), ("packed", 0, "NotPacked")):
+        Path("none").write_bytes(Path("packed").read_bytes()[:2880])
+        for name, extension, error in (("none", None, "NotPacked"), ("packed", 7, "NotPacked"), ("packed", 0, "NotPacked")):
             with self.assertRaises(fzfits.Refused) as caught:
                 fzfits.section(name, extension)
             self.assertEqual(caught.exception.kind, error)
@@ -140,11 +146,13 @@ class Pixels(InAFolder):
     @needs_astropy
     def test_names_of_hdus_and_astropy(self):
         fzfits.pack(SAMPLES / "several.fits", "several")
-        with fits.open(SAMPLES / "several.fits", do_not_scale_image_data=True) as file:
-            for it in file:
-                if it.is_image and it.data is not None:
-                    part = fzfits.section("several", it.name, np.s_[3:20, ::5])
-                    self.assertTrue(np.array_equal(part, it.data[3:20, ::5]))
+        for raw in (False, True):
+            with fits.open(SAMPLES / "several.fits", do_not_scale_image_data=raw) as file:
+                for it in file:
+                    if it.is_image and it.data is not None:
+                        part = fzfits.section("several", it.name, np.s_[3:20, ::5], raw=raw)
+                        self.assertTrue(np.array_equal(part, it.data[3:20, ::5]))
+                        self.assertEqual(part.dtype, it.data.dtype.newbyteorder("="))
 
 
 class Missing(InAFolder):
