@@ -61,9 +61,10 @@ class Scenario:
     workers: bool = False
     whole: Ended = None
     counts: dict = field(default_factory=dict)
-    # of patch: the program, and the boxes of the tiles of FILE
+    # of patch: the program, the boxes of the tiles of FILE, and what was cut out of them so far
     fz: str = ""
     tiles: list = field(default_factory=list)
+    cuts: dict = field(default_factory=dict)
 
     def name(self):
         return "fz " + " ".join(self.words)
@@ -158,22 +159,31 @@ def check_patched(scenario, ended):
         check(patched_part(scenario, ended.output), f"status {ended.status}, and a tile of FILE is neither as it was nor as patched")
 
 
+def cuts_of(scenario, file):
+    """Of each tile of a file how `cut` ends, and the digest of the cutout or of what it prints. It is kept: many files are the same."""
+    name = hashlib.sha256(file).digest()
+    if name in scenario.cuts:
+        return scenario.cuts[name]
+    made = []
+    with tempfile.TemporaryDirectory(dir=IN_MEMORY) as folder:
+        (Path(folder) / "now").write_bytes(file)
+        cut = Path(folder) / "cut"
+        for box in scenario.tiles:
+            told = subprocess.run([scenario.fz, "cut", "--box", box, "now", "cut"], cwd=folder, capture_output=True, check=False)
+            made.append((told.returncode, hashlib.sha256(cut.read_bytes() if told.returncode == 0 else told.stdout).digest()))
+            cut.unlink(missing_ok=True)
+    scenario.cuts[name] = made
+    return made
+
+
 def patched_part(scenario, file):
     """Whether each tile of a file is as in the file before or as in the file after a whole patch, by cutouts of single tiles."""
-    with tempfile.TemporaryDirectory(dir=IN_MEMORY) as folder:
-        made = {}
-        for name, content in (("old", scenario.target), ("new", scenario.whole.output), ("now", file)):
-            (Path(folder) / name).write_bytes(content)
-        for box in scenario.tiles:
-            for name in ("old", "new", "now"):
-                words = [scenario.fz, "cut", "--box", box, name, f"{name}.cut"]
-                told = subprocess.run(words, cwd=folder, capture_output=True, check=False)
-                cut = Path(folder) / f"{name}.cut"
-                made[name] = (told.returncode, cut.read_bytes() if told.returncode == 0 else told.stdout)
-                cut.unlink(missing_ok=True)
-            if made["now"] not in (made["old"], made["new"]):
-                return False
-    return True
+    return all(it in both for it, *both in zip(*(cuts_of(scenario, it) for it in (file, scenario.target, scenario.whole.output))))
+
+
+def unpatched_tiles(scenario, file):
+    """How many tiles of a file are not as after a whole patch."""
+    return sum(it != new for it, new in zip(cuts_of(scenario, file), cuts_of(scenario, scenario.whole.output)))
 
 
 def check_kept(scenario, room):
@@ -199,6 +209,7 @@ def scenarios(room, commands):
     small, grid = (SAMPLES / "small.fits").read_bytes(), (SAMPLES / "grid.fits").read_bytes()
     stored = (SAMPLES / "packed" / "grid.sums.fits").read_bytes()
     tiles, parts = packed(room, star, "--tile", "32,32", "--sums"), packed(room, several, "--tile", "16,16")
+    unsummed = packed(room, star, "--tile", "32,32")
     # one byte of the last row's descriptor, so that the row is refused after OUT was made
     damaged = bytearray(tiles)
     damaged[5760 + 16 * 11] ^= 0x40
@@ -230,7 +241,9 @@ def scenarios(room, commands):
     ]
     if "patch" in commands:
         boxes = [f"{x}:{x + 31},{y}:{y + 31}" for y in range(1, 97, 32) for x in range(1, 129, 32)]
-        made.append(Scenario("patch", ["patch", "--at", "50,40", *both], packed_part(room, tiles, "1:40,1:20"), tiles, fz=room.fz, tiles=boxes))
+        given = packed_part(room, tiles, "1:40,1:20")
+        for options, target in (([], tiles), (["--hdu", "1"], unsummed)):
+            made.append(Scenario("patch", ["patch", *options, "--at", "50,40", *both], given, target, fz=room.fz, tiles=boxes))
     return [it for it in made if it.command in commands]
 
 

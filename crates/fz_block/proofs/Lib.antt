@@ -2,6 +2,7 @@ pub mod Agains
 pub mod Among
 pub mod AxisLists
 pub mod CardLists
+pub mod Causes
 pub mod Ends
 pub mod Exits
 pub mod Firsts
@@ -12,6 +13,7 @@ pub mod Groups
 pub mod HduLemmas
 pub mod HeaderLemmas
 pub mod Kept
+pub mod Longer
 pub mod MandatoryLemmas
 pub mod Named
 pub mod Nexts

@@ -1,6 +1,7 @@
 -- Checks one after another, each by itself: the first that refuses.
 use Rattle.std.proofs.Common.{◌≡◌, Bool, true, false, List, [], ◌∷◌, ◌++◌, refl, ap, sym, ◌∙◌, subst}
-use Rattle.std.specs.Prelude.{Option, Some, None, Result, is_none, is_some, not}
+use Rattle.std.specs.Prelude.{Option, Some, None, Result, Err, is_none, is_some, not}
+use Rattle.std.specs.Result.{MatchResult}
 use Rattle.fz_base.specs.Refusal.{IsFirstOf, first_refusal}
 use Rattle.fz_base.specs.declared.fault.Fault.{Fault}
 
@@ -48,6 +49,18 @@ refused-next a b rest x none e = in-second-list (a ∷ []) (b ∷ []) rest x non
 
 pub refused-third : (a b c : Bool × Fault) (rest : List (Bool × Fault)) (x : Fault) → first_refusal (a ∷ []) ≡ None → first_refusal (b ∷ []) ≡ None → first_refusal (c ∷ []) ≡ Some x → first_refusal (a ∷ b ∷ c ∷ rest) ≡ Some x
 refused-third a b c rest x none also e = in-third-list (a ∷ []) (b ∷ []) (c ∷ []) rest x none also e
+
+-- a check that passed, before others
+pub skip : (a : Bool × Fault) (rest : List (Bool × Fault)) (answer : Option Fault) → first_refusal (a ∷ []) ≡ None → first_refusal rest ≡ answer → first_refusal (a ∷ rest) ≡ answer
+skip a rest answer none e = passed (a ∷ []) rest none ∙ e
+
+-- the answer is what the first check that refuses says
+pub refuses : {A : Type 0} (checks : List (Bool × Fault)) (x : Fault) (r : Result A Fault) → r ≡ Err x → first_refusal checks ≡ Some x → IsFirstOf checks r
+refuses checks x r is e = subst (IsFirstOf checks) (sym is) e
+
+-- all checks but the last ones passed
+pub last : {A : Type 0} (checks rest : List (Bool × Fault)) (r : Result A Fault) → first_refusal checks ≡ first_refusal rest → IsFirstOf rest r → IsFirstOf checks r
+last checks rest r same is = subst (λ o. MatchResult r (λ _. o ≡ None) (λ x. o ≡ Some x)) (sym same) is
 
 -- what is not there is missing
 pub not-some : {X : Type 0} (o : Option X) → not (is_some o) ≡ is_none o

@@ -6,3 +6,4 @@ pub mod Reading
 pub mod Records
 pub mod RoundReads
 pub mod RoundTiles
+pub mod Unrefused

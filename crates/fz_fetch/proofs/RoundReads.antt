@@ -1,5 +1,5 @@
 -- What is read of a round of tiles, and of one after another (FITS 4.0, sections 7.3.5 and 10.1).
-use Rattle.std.proofs.Common.{◌≡◌, ℕ, ◌<◌, List, [], ◌++◌, append-nil, refl, sym, ap, arith}
+use Rattle.std.proofs.Common.{◌≡◌, ℕ, List, [], ◌++◌, append-nil, refl, sym, ap, arith}
 use Rattle.std.specs.Prelude.{Option, Some, None, IfSome, Result, Ok, Err}
 use Rattle.std.specs.Option.{option_map}
 use Rattle.fz_base.specs.Ranges.{LogsIn, LogsJoinLaw}

@@ -10,6 +10,7 @@ pub mod CodedRows
 pub mod Described
 pub mod EndsJoined
 pub mod EndsTold
+pub mod Errors
 pub mod FormCards
 pub mod Found
 pub mod FrameAgain

@@ -1,5 +1,6 @@
 pub mod AsSeen
 pub mod Begun
+pub mod Counting
 pub mod Finished
 pub mod Gathered
 pub mod HduReads

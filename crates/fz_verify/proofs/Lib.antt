@@ -1,5 +1,6 @@
 pub mod CheckedHdus
 pub mod Checks
+pub mod Counting
 pub mod Ends
 pub mod Few
 pub mod Finished

@@ -1,5 +1,5 @@
 -- The records of the tiles are loaded, some of them long before, and then decoded.
-use Rattle.std.proofs.Common.{◌≡◌, ℕ, ◌+◌, ◌*◌, List, Option, Some, None, length, slice_index, replicate, sym, ap, ◌∙◌, subst, arith, rules}
+use Rattle.std.proofs.Common.{◌≡◌, ℕ, ◌+◌, ◌*◌, List, Option, Some, None, length, slice_index, replicate, sym, ap, ◌∙◌, subst, arith, rules, Err, IfSome, map}
 use Rattle.std.specs.Prelude.{⊤}
 use Rattle.fz_base.specs.Refusal.{refusal}
 use Rattle.fz_base.specs.declared.fault.Place.TheVariants.{Row as AtRow}
@@ -9,6 +9,9 @@ use Rattle.fz_pool.specs.declared.slot.Slot.{Slot}
 use Rattle.fz_fetch.specs.Ahead.{image_tiles}
 use Rattle.fz_fetch.specs.Loaded.{StopsAt}
 use Rattle.fz_fetch.proofs.FetchedTiles.{fetched, fetched_in, first_behind, first_in_slots, names, ready, tells}
+use Rattle.fz_fetch.specs.Fetched.{IsOfRowAmong}
+use Rattle.fz_fetch.proofs.Unrefused.{refused_fetching, refuses_none, stopped_fetching}
+use Rattle.fz_files.specs.FirstFault.{IsFirstRowFault, image_row}
 use Rattle.fz_fetch.proofs.fetching.fetch_ahead.Goals as goal
 
 pub decode_window-requires-clause-filled : goal.decode_window-requires-clause-filled
@@ -127,3 +130,102 @@ returns-in-Err-clause-read g c =
     fetched_in (g.S.Source.held c.args.source.now) c.args.header.now c.args.image.now (image_tiles c.args.image.now) (g.S.Source.ranges c.args.source.now)
     (g.S.Source.ranges c.load_round_ahead.new.source)
     c.requires.said c.load_round_ahead.ensures.read
+
+pub returns-in_err-loaded-clause-row : goal.returns-in_err-loaded-clause-row
+returns-in_err-loaded-clause-row g c =
+    let stopped : c.from_residual.result ≡ Err c.in_err-loaded.field-0.0 = search rules in
+    refuses_none _ (IsOfRowAmong c.args.header.now.hdu c.args.tiles.now) c.from_residual.result c.in_err-loaded.field-0.0 stopped c.in_err-loaded.ensures.unrefused
+
+pub returns-in_err-loaded-clause-fault : goal.returns-in_err-loaded-clause-fault
+returns-in_err-loaded-clause-fault g c =
+    let stopped : c.from_residual.result ≡ Err c.in_err-loaded.field-0.0 = search rules in
+    refuses_none _ (λ x. IfSome (g.S.Source.held c.args.source.now) (λ f. IsFirstRowFault f (map (image_row c.args.header.now) c.args.tiles.now) (Some x))) c.from_residual.result c.in_err-loaded.field-0.0 stopped c.in_err-loaded.ensures.unrefused
+
+pub returns-in_err-loaded-clause-cause : goal.returns-in_err-loaded-clause-cause
+returns-in_err-loaded-clause-cause g c =
+    let stopped : c.from_residual.result ≡ Err c.in_err-loaded.field-0.0 = search rules in
+    stopped_fetching _ (g.S.Source.tally c.args.source.now) (g.S.Source.tally c.load_round_ahead.new.source) c.from_residual.result c.in_err-loaded.field-0.0 stopped c.in_err-loaded.ensures.cause
+
+pub returns-in_err-loaded-clause-others : goal.returns-in_err-loaded-clause-others
+returns-in_err-loaded-clause-others g c =
+    c.load_round_ahead.ensures.others
+
+pub returns-in_err-loaded-clause-stays : goal.returns-in_err-loaded-clause-stays
+returns-in_err-loaded-clause-stays g c =
+    c.load_round_ahead.ensures.stays
+
+pub returns-in_err-loaded-clause-ahead : goal.returns-in_err-loaded-clause-ahead
+returns-in_err-loaded-clause-ahead g c =
+    c.load_round_ahead.ensures.ahead
+
+pub returns-in-Ok-Some-clause-others : goal.returns-in-Ok-Some-clause-others
+returns-in-Ok-Some-clause-others g c =
+    λ k d after. c.decode_window.ensures.kept.others k d (omega (arith, after, c.in_ok-loaded.ensures.loaded.few)) ∙ c.load_round_ahead.ensures.others k d after
+
+pub returns-in-Ok-Some-clause-stays : goal.returns-in-Ok-Some-clause-stays
+returns-in-Ok-Some-clause-stays g c =
+    let kept = c.decode_window.ensures.kept in
+    let load = c.load_round_ahead.ensures.stays in
+    (load.0, record { sizes = kept.sizes ∙ load.1.sizes; workers = kept.workers ∙ load.1.workers }, load.2)
+
+pub returns-in-Ok-Some-clause-ahead : goal.returns-in-Ok-Some-clause-ahead
+returns-in-Ok-Some-clause-ahead g c =
+    c.load_round_ahead.ensures.ahead
+
+pub returns-in-Some-clause-others : goal.returns-in-Some-clause-others
+returns-in-Some-clause-others g c =
+    λ k d after. c.decode_window.ensures.kept.others k d (omega (arith, after, c.in_ok-loaded.ensures.loaded.few)) ∙ c.load_round_ahead.ensures.others k d after
+
+pub returns-in-Some-clause-stays : goal.returns-in-Some-clause-stays
+returns-in-Some-clause-stays g c =
+    let kept = c.decode_window.ensures.kept in
+    let load = c.load_round_ahead.ensures.stays in
+    (load.0, record { sizes = kept.sizes ∙ load.1.sizes; workers = kept.workers ∙ load.1.workers }, load.2)
+
+pub returns-in-Some-clause-ahead : goal.returns-in-Some-clause-ahead
+returns-in-Some-clause-ahead g c =
+    c.load_round_ahead.ensures.ahead
+
+pub returns-in-None-clause-others : goal.returns-in-None-clause-others
+returns-in-None-clause-others g c =
+    λ k d after. c.decode_window.ensures.kept.others k d (omega (arith, after, c.in_ok-loaded.ensures.loaded.few)) ∙ c.load_round_ahead.ensures.others k d after
+
+pub returns-in-None-clause-stays : goal.returns-in-None-clause-stays
+returns-in-None-clause-stays g c =
+    let kept = c.decode_window.ensures.kept in
+    let load = c.load_round_ahead.ensures.stays in
+    (load.0, record { sizes = kept.sizes ∙ load.1.sizes; workers = kept.workers ∙ load.1.workers }, load.2)
+
+pub returns-in-None-clause-ahead : goal.returns-in-None-clause-ahead
+returns-in-None-clause-ahead g c =
+    c.load_round_ahead.ensures.ahead
+
+pub returns-in-Err-clause-others : goal.returns-in-Err-clause-others
+returns-in-Err-clause-others g c =
+    λ k d after. c.decode_window.ensures.kept.others k d (omega (arith, after, c.in_ok-loaded.ensures.loaded.few)) ∙ c.load_round_ahead.ensures.others k d after
+
+pub returns-in-Err-clause-stays : goal.returns-in-Err-clause-stays
+returns-in-Err-clause-stays g c =
+    let kept = c.decode_window.ensures.kept in
+    let load = c.load_round_ahead.ensures.stays in
+    (load.0, record { sizes = kept.sizes ∙ load.1.sizes; workers = kept.workers ∙ load.1.workers }, load.2)
+
+pub returns-in-Err-clause-ahead : goal.returns-in-Err-clause-ahead
+returns-in-Err-clause-ahead g c =
+    c.load_round_ahead.ensures.ahead
+
+pub returns-in-Ok-Some-clause-cause : goal.returns-in-Ok-Some-clause-cause
+returns-in-Ok-Some-clause-cause g c =
+    refused_fetching _ ⊤ (g.S.Source.tally c.args.source.now) (g.S.Source.tally c.load_round_ahead.new.source) c.faulty.result (refusal c.args.header.now.hdu (AtRow (slice_index c.args.tiles.now c.in-Ok-Some.slot)) (kind_of_tile c.in-Ok-Some.fault)) c.in_ok-loaded.loaded c.faulty.ensures c.in_ok-loaded.ensures.cause
+
+pub returns-in-Some-clause-cause : goal.returns-in-Some-clause-cause
+returns-in-Some-clause-cause g c =
+    record { kept = c.in_ok-loaded.ensures.cause.kept; ok = tt; stop = c.in_ok-loaded.ensures.cause.ok }
+
+pub returns-in-None-clause-cause : goal.returns-in-None-clause-cause
+returns-in-None-clause-cause g c =
+    record { kept = c.in_ok-loaded.ensures.cause.kept; ok = c.in_ok-loaded.ensures.cause.ok; stop = tt }
+
+pub returns-in-Err-clause-cause : goal.returns-in-Err-clause-cause
+returns-in-Err-clause-cause g c =
+    record { kept = c.in_ok-loaded.ensures.cause.kept; ok = tt; stop = tt }

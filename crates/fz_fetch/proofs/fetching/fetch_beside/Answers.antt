@@ -1,5 +1,5 @@
 -- The records of the tiles are loaded, and then decoded beside the job.
-use Rattle.std.proofs.Common.{◌≡◌, ℕ, ◌+◌, ◌*◌, List, Option, Some, None, length, slice_index, replicate, sym, ap, ◌∙◌, subst, arith, rules}
+use Rattle.std.proofs.Common.{◌≡◌, ℕ, ◌+◌, ◌*◌, List, Option, Some, None, length, slice_index, ◌∙◌, subst, arith, rules, Err, IfSome, refl, map}
 use Rattle.std.specs.Prelude.{⊤}
 use Rattle.fz_base.specs.Refusal.{refusal}
 use Rattle.fz_base.specs.declared.fault.Place.TheVariants.{Row as AtRow}
@@ -8,6 +8,9 @@ use Rattle.fz_pool.specs.Calls.{HaveNumbers, IsLowestFault}
 use Rattle.fz_pool.specs.declared.slot.Slot.{Slot}
 use Rattle.fz_fetch.specs.Loaded.{StopsAt}
 use Rattle.fz_fetch.proofs.FetchedTiles.{fetched, fetched_in, first_behind, first_in_slots, names, tells}
+use Rattle.fz_fetch.specs.Fetched.{IsOfRowAmong}
+use Rattle.fz_fetch.proofs.Unrefused.{refused_fetching, refuses_none, stopped_fetching}
+use Rattle.fz_files.specs.FirstFault.{IsFirstRowFault, image_row}
 use Rattle.fz_fetch.proofs.fetching.fetch_beside.Goals as goal
 
 -- ---- the tiles
@@ -96,3 +99,103 @@ pub returns-in-Err-decoded-clause-read : goal.returns-in-Err-decoded-clause-read
 returns-in-Err-decoded-clause-read g c =
     fetched_in (g.S.Source.held c.args.source.now) c.args.header.now c.args.image.now c.args.tiles.now (g.S.Source.ranges c.args.source.now) (g.S.Source.ranges c.load_round.new.source)
     c.requires.said c.load_round.ensures.read
+
+pub returns-in-Err-clause-row : goal.returns-in-Err-clause-row
+returns-in-Err-clause-row g c =
+    refuses_none _ {A = ⊤} (IsOfRowAmong c.args.header.now.hdu c.args.tiles.now) (Err c.in-Err.stop) c.in-Err.stop refl c.in-Err.ensures.unrefused
+
+pub returns-in-Err-clause-fault : goal.returns-in-Err-clause-fault
+returns-in-Err-clause-fault g c =
+    refuses_none _ {A = ⊤} (λ x. IfSome (g.S.Source.held c.args.source.now) (λ f. IsFirstRowFault f (map (image_row c.args.header.now) c.args.tiles.now) (Some x))) (Err c.in-Err.stop) c.in-Err.stop refl c.in-Err.ensures.unrefused
+
+pub returns-in-Err-clause-cause : goal.returns-in-Err-clause-cause
+returns-in-Err-clause-cause g c =
+    stopped_fetching _ (g.S.Source.tally c.args.source.now) (g.S.Source.tally c.load_round.new.source) (Err c.in-Err.stop) c.in-Err.stop refl c.in-Err.ensures.cause
+
+pub returns-in-Err-clause-others : goal.returns-in-Err-clause-others
+returns-in-Err-clause-others g c =
+    c.load_round.ensures.others
+
+pub returns-in-Err-clause-stays : goal.returns-in-Err-clause-stays
+returns-in-Err-clause-stays g c =
+    c.load_round.ensures.stays
+
+pub returns-in-Ok-Some-clause-others : goal.returns-in-Ok-Some-clause-others
+returns-in-Ok-Some-clause-others g c =
+    λ k d after. c.decode_beside-decoded.ensures.kept.others k d (omega (arith, after, c.in-Ok.ensures.loaded.few)) ∙ c.load_round.ensures.others k d after
+
+pub returns-in-Ok-Some-clause-stays : goal.returns-in-Ok-Some-clause-stays
+returns-in-Ok-Some-clause-stays g c =
+    let kept = c.decode_beside-decoded.ensures.kept in
+    let load = c.load_round.ensures.stays in
+    (load.0, record { sizes = kept.sizes ∙ load.1.sizes; workers = kept.workers ∙ load.1.workers }, load.2)
+
+pub returns-in-Ok-Some-clause-job : goal.returns-in-Ok-Some-clause-job
+returns-in-Ok-Some-clause-job g c =
+    c.decode_beside-decoded.ensures.job
+
+pub returns-in-Some-clause-others : goal.returns-in-Some-clause-others
+returns-in-Some-clause-others g c =
+    λ k d after. c.decode_beside-decoded.ensures.kept.others k d (omega (arith, after, c.in-Ok.ensures.loaded.few)) ∙ c.load_round.ensures.others k d after
+
+pub returns-in-Some-clause-stays : goal.returns-in-Some-clause-stays
+returns-in-Some-clause-stays g c =
+    let kept = c.decode_beside-decoded.ensures.kept in
+    let load = c.load_round.ensures.stays in
+    (load.0, record { sizes = kept.sizes ∙ load.1.sizes; workers = kept.workers ∙ load.1.workers }, load.2)
+
+pub returns-in-Some-clause-job : goal.returns-in-Some-clause-job
+returns-in-Some-clause-job g c =
+    c.decode_beside-decoded.ensures.job
+
+pub returns-in-None-clause-others : goal.returns-in-None-clause-others
+returns-in-None-clause-others g c =
+    λ k d after. c.decode_beside-decoded.ensures.kept.others k d (omega (arith, after, c.in-Ok.ensures.loaded.few)) ∙ c.load_round.ensures.others k d after
+
+pub returns-in-None-clause-stays : goal.returns-in-None-clause-stays
+returns-in-None-clause-stays g c =
+    let kept = c.decode_beside-decoded.ensures.kept in
+    let load = c.load_round.ensures.stays in
+    (load.0, record { sizes = kept.sizes ∙ load.1.sizes; workers = kept.workers ∙ load.1.workers }, load.2)
+
+pub returns-in-None-clause-job : goal.returns-in-None-clause-job
+returns-in-None-clause-job g c =
+    c.decode_beside-decoded.ensures.job
+
+pub returns-in-Err-decoded-clause-others : goal.returns-in-Err-decoded-clause-others
+returns-in-Err-decoded-clause-others g c =
+    λ k d after. c.decode_beside-decoded.ensures.kept.others k d (omega (arith, after, c.in-Ok.ensures.loaded.few)) ∙ c.load_round.ensures.others k d after
+
+pub returns-in-Err-decoded-clause-stays : goal.returns-in-Err-decoded-clause-stays
+returns-in-Err-decoded-clause-stays g c =
+    let kept = c.decode_beside-decoded.ensures.kept in
+    let load = c.load_round.ensures.stays in
+    (load.0, record { sizes = kept.sizes ∙ load.1.sizes; workers = kept.workers ∙ load.1.workers }, load.2)
+
+pub returns-in-Err-decoded-clause-job : goal.returns-in-Err-decoded-clause-job
+returns-in-Err-decoded-clause-job g c =
+    c.decode_beside-decoded.ensures.job
+
+pub returns-in-Ok-Some-clause-cause : goal.returns-in-Ok-Some-clause-cause
+returns-in-Ok-Some-clause-cause g c =
+    refused_fetching _ ⊤ (g.S.Source.tally c.args.source.now) (g.S.Source.tally c.load_round.new.source) c.faulty.result (refusal c.args.header.now.hdu (AtRow (slice_index c.args.tiles.now c.in-Ok-Some.i)) (kind_of_tile c.in-Ok-Some.fault)) c.in-Ok.loaded c.faulty.ensures c.in-Ok.ensures.cause
+
+pub returns-in-Some-clause-cause : goal.returns-in-Some-clause-cause
+returns-in-Some-clause-cause g c =
+    record { kept = c.in-Ok.ensures.cause.kept; ok = tt; stop = c.in-Ok.ensures.cause.ok }
+
+pub returns-in-None-clause-cause : goal.returns-in-None-clause-cause
+returns-in-None-clause-cause g c =
+    record { kept = c.in-Ok.ensures.cause.kept; ok = c.in-Ok.ensures.cause.ok; stop = tt }
+
+pub returns-in-Err-decoded-clause-cause : goal.returns-in-Err-decoded-clause-cause
+returns-in-Err-decoded-clause-cause g c =
+    record { kept = c.in-Ok.ensures.cause.kept; ok = tt; stop = tt }
+
+pub returns-in-Some-clause-row : goal.returns-in-Some-clause-row
+returns-in-Some-clause-row g c =
+    let held : Option (List ℕ) = g.S.Source.held c.args.source.now in
+    let count : ℕ = c.in-Ok.loaded.count in
+    let refused : c.in-Ok.loaded.refused ≡ Some c.in-Some.fault = search rules in
+    let stops : StopsAt held c.args.header.now.hdu c.args.image.now c.args.tiles.now count (Some c.in-Some.fault) = subst (StopsAt held c.args.header.now.hdu c.args.image.now c.args.tiles.now count) refused c.in-Ok.ensures.loaded.stops in
+    (count, stops.0, stops.1)

@@ -1,5 +1,5 @@
 -- One code after another, and then zeros.
-use Rattle.std.proofs.Common.{◌≡◌, ◌≢◌, ℕ, ◌+◌, List, ◌∷◌, ◌++◌, length, Option, Result, Err, inl, refl, sym, ap, ◌∙◌, subst, arith, rules}
+use Rattle.std.proofs.Common.{◌≡◌, ◌≢◌, ℕ, ◌+◌, List, ◌∷◌, ◌++◌, length, Option, Result, Err, inl, refl, sym, ap, ◌∙◌, subst, arith, rules, inr}
 use Rattle.std.proofs.lemmas.Result.{on_ok_weaker}
 use Rattle.fz_base.specs.Counts.{Amend, Tally}
 use Rattle.fz_base.specs.Stop.{IfRefused}
@@ -21,9 +21,10 @@ use Rattle.fz_patch.proofs.CodedEnds.{end_near, ends_of, row_of_tile, zeros_near
 use Rattle.fz_patch.proofs.CodedRefusals.{Unrefused, by_fit, by_numbers, by_stop, code_too_long, codes_too_short, row_refused, some_codes_same, wrote_same}
 use Rattle.fz_patch.proofs.NewCodes.{HeaderIsStill, codes_begin, codes_failed, codes_go_on, codes_stop, header_zeros, heap_end_of, zeros_done, zeros_failed, CodesState}
 use Rattle.fz_patch.proofs.EndsJoined.{amend_patches, amends_unrefused, none_refused, reach_end, reach_table, read_writes, refused_patches, refused_weaker, settled_writes, start_reach, tile_patches, told_long}
-use Rattle.fz_patch.proofs.EndsTold.{told-is, told-then, told-written}
+use Rattle.fz_patch.proofs.EndsTold.{told-is, told-then, told-written, told-amended, told-some}
 use Rattle.fz_patch.proofs.TilesLeft.{all_taken, given_boxes, given_tiles, later_boxes, next_box}
 use Rattle.fz_patch.proofs.Wrotes.{wrote-all}
+use Rattle.fz_patch.proofs.Errors.{never_ok}
 use Rattle.fz_patch.proofs.codes.write_codes.Goals as goal
 
 pub loop-tile-init : goal.loop-tile-init
@@ -451,3 +452,127 @@ returns-clause-cause g c =
     let p' = g.S.Source.tally c.loop-tile.patch in
     let put = c.in_ok-write_zeros.ensures.cause in
     amend_patches s zeros now p p' c.settle.result (kept-then s s' zeros old.kept put.kept) (same-then s s' zeros old.counts put.ok) old.given_tally (settled-amends zeros now c.settle.result c.settle.ensures.cause)
+
+pub returns-in_err-prepare_tile-clause-stays : goal.returns-in_err-prepare_tile-clause-stays
+returns-in_err-prepare_tile-clause-stays g c =
+    let old = c.loop-tile.invariant in
+    let read = c.in_err-prepare_tile.ensures.stays in (
+      record { held_is = read.1.held_is ∙ old.given; attached_is = read.1.attached_is ∙ old.given_len; told = λ told. read.1.told (old.given_told told) },
+      record { sizes = read.2.sizes ∙ old.window.sizes; workers = read.2.workers ∙ old.window.workers },
+      told-then _ _ _ old.told (told-is _ _ read.0.held_is),
+      read.3 ∙ old.copy,
+    )
+
+pub returns-then-count-room-clause-stays : goal.returns-then-count-room-clause-stays
+returns-then-count-room-clause-stays g c =
+    let old = c.loop-tile.invariant in
+    let read = c.in_ok-prepare_tile.ensures.stays in (
+      record { held_is = read.1.held_is ∙ old.given; attached_is = read.1.attached_is ∙ old.given_len; told = λ told. read.1.told (old.given_told told) },
+      record { sizes = read.2.sizes ∙ old.window.sizes; workers = read.2.workers ∙ old.window.workers },
+      told-then _ _ _ old.told (told-is _ _ read.0.held_is),
+      read.3 ∙ old.copy,
+    )
+
+pub returns-in_err-amend_at-clause-stays : goal.returns-in_err-amend_at-clause-stays
+returns-in_err-amend_at-clause-stays g c =
+    let old = c.loop-tile.invariant in
+    let read = c.in_ok-prepare_tile.ensures.stays in (
+      record { held_is = read.1.held_is ∙ old.given; attached_is = read.1.attached_is ∙ old.given_len; told = λ told. read.1.told (old.given_told told) },
+      record { sizes = read.2.sizes ∙ old.window.sizes; workers = read.2.workers ∙ old.window.workers },
+      told-then _ _ _ old.told (told-then _ _ _ (told-is _ _ read.0.held_is) (told-amended _ _ _ _ c.in_err-amend_at.ensures.partly)),
+      read.3 ∙ old.copy,
+    )
+
+pub returns-then-at-end-clause-stays : goal.returns-then-at-end-clause-stays
+returns-then-at-end-clause-stays g c =
+    let old = c.loop-tile.invariant in
+    (record { held_is = old.given; attached_is = old.given_len; told = old.given_told }, old.window, old.told, old.copy)
+
+pub returns-in_err-write_zeros-clause-stays : goal.returns-in_err-write_zeros-clause-stays
+returns-in_err-write_zeros-clause-stays g c =
+    let old = c.loop-tile.invariant in
+    (record { held_is = old.given; attached_is = old.given_len; told = old.given_told }, old.window, told-then _ _ _ old.told (told-some _ _ _ _ _ c.in_err-write_zeros.ensures.some), old.copy)
+
+pub returns-clause-stays : goal.returns-clause-stays
+returns-clause-stays g c =
+    let old = c.loop-tile.invariant in
+    (record { held_is = old.given; attached_is = old.given_len; told = old.given_told }, old.window, told-then _ _ _ old.told (told-then _ _ _ (told-some _ _ _ _ _ c.in_ok-write_zeros.ensures.some) (told-is _ _ c.settle.ensures.store.held_is)), old.copy)
+
+pub returns-then-count-room-clause-late : goal.returns-then-count-room-clause-late
+returns-then-count-room-clause-late g c =
+    subst (λ (stop : Stop). IfRefused {X = Unit {0}} (Err stop) (ComesInWork c.args.target.now.header.hdu)) (sym c.changed.ensures) (inr refl)
+
+pub returns-then-at-end-clause-late : goal.returns-then-at-end-clause-late
+returns-then-at-end-clause-late g c =
+    subst (λ (stop : Stop). IfRefused {X = Unit {0}} (Err stop) (ComesInWork c.args.target.now.header.hdu)) (sym c.changed-then-at-end.ensures) (inr refl)
+
+pub returns-then-at-end-clause-reach : goal.returns-then-at-end-clause-reach
+returns-then-at-end-clause-reach g c =
+    c.loop-tile.invariant.grows
+
+pub returns-in_err-prepare_tile-clause-wrote : goal.returns-in_err-prepare_tile-clause-wrote
+returns-in_err-prepare_tile-clause-wrote g c =
+    let stopped : c.from_residual.result ≡ Err c.in_err-prepare_tile.field-0.0 = search rules in
+    never_ok _ c.from_residual.result c.in_err-prepare_tile.field-0.0 stopped
+
+pub returns-in_err-prepare_tile-clause-header : goal.returns-in_err-prepare_tile-clause-header
+returns-in_err-prepare_tile-clause-header g c =
+    let stopped : c.from_residual.result ≡ Err c.in_err-prepare_tile.field-0.0 = search rules in
+    never_ok _ c.from_residual.result c.in_err-prepare_tile.field-0.0 stopped
+
+pub returns-in_err-prepare_tile-clause-grown : goal.returns-in_err-prepare_tile-clause-grown
+returns-in_err-prepare_tile-clause-grown g c =
+    let stopped : c.from_residual.result ≡ Err c.in_err-prepare_tile.field-0.0 = search rules in
+    never_ok _ c.from_residual.result c.in_err-prepare_tile.field-0.0 stopped
+
+pub returns-in_err-amend_at-clause-wrote : goal.returns-in_err-amend_at-clause-wrote
+returns-in_err-amend_at-clause-wrote g c =
+    let stopped : c.from_residual-in_err-amend_at.result ≡ Err c.in_err-amend_at.field-0.0 = search rules in
+    never_ok _ c.from_residual-in_err-amend_at.result c.in_err-amend_at.field-0.0 stopped
+
+pub returns-in_err-amend_at-clause-header : goal.returns-in_err-amend_at-clause-header
+returns-in_err-amend_at-clause-header g c =
+    let stopped : c.from_residual-in_err-amend_at.result ≡ Err c.in_err-amend_at.field-0.0 = search rules in
+    never_ok _ c.from_residual-in_err-amend_at.result c.in_err-amend_at.field-0.0 stopped
+
+pub returns-in_err-amend_at-clause-grown : goal.returns-in_err-amend_at-clause-grown
+returns-in_err-amend_at-clause-grown g c =
+    let stopped : c.from_residual-in_err-amend_at.result ≡ Err c.in_err-amend_at.field-0.0 = search rules in
+    never_ok _ c.from_residual-in_err-amend_at.result c.in_err-amend_at.field-0.0 stopped
+
+pub returns-in_err-write_zeros-clause-wrote : goal.returns-in_err-write_zeros-clause-wrote
+returns-in_err-write_zeros-clause-wrote g c =
+    let stopped : c.from_residual-in_err-write_zeros.result ≡ Err c.in_err-write_zeros.field-0.0 = search rules in
+    never_ok _ c.from_residual-in_err-write_zeros.result c.in_err-write_zeros.field-0.0 stopped
+
+pub returns-in_err-write_zeros-clause-header : goal.returns-in_err-write_zeros-clause-header
+returns-in_err-write_zeros-clause-header g c =
+    let stopped : c.from_residual-in_err-write_zeros.result ≡ Err c.in_err-write_zeros.field-0.0 = search rules in
+    never_ok _ c.from_residual-in_err-write_zeros.result c.in_err-write_zeros.field-0.0 stopped
+
+pub returns-in_err-write_zeros-clause-grown : goal.returns-in_err-write_zeros-clause-grown
+returns-in_err-write_zeros-clause-grown g c =
+    let stopped : c.from_residual-in_err-write_zeros.result ≡ Err c.in_err-write_zeros.field-0.0 = search rules in
+    never_ok _ c.from_residual-in_err-write_zeros.result c.in_err-write_zeros.field-0.0 stopped
+
+pub returns-in_err-amend_at-clause-late : goal.returns-in_err-amend_at-clause-late
+returns-in_err-amend_at-clause-late g c =
+    let stop : Stop = c.in_err-amend_at.field-0.0 in
+    let stopped : c.from_residual-in_err-amend_at.result ≡ Err stop = search rules in
+    let before = g.D.Source.tally c.prepare_tile.new.store in
+    let now = g.D.Source.tally c.amend_at.new.store in
+    subst (λ (r : Result (Unit {0}) Stop). IfRefused r (ComesInWork c.args.target.now.header.hdu)) (sym stopped)
+    (none_refused {X = Unit {0}} _ before now (Err stop) (one-amends _ before now (Err stop) c.in_err-amend_at.ensures.cause))
+
+pub returns-in_err-write_zeros-clause-late : goal.returns-in_err-write_zeros-clause-late
+returns-in_err-write_zeros-clause-late g c =
+    let stop : Stop = c.in_err-write_zeros.field-0.0 in
+    let stopped : c.from_residual-in_err-write_zeros.result ≡ Err stop = search rules in
+    let before = g.D.Source.tally c.loop-tile.store in
+    let now = g.D.Source.tally c.write_zeros.new.store in
+    subst (λ (r : Result (Unit {0}) Stop). IfRefused r (ComesInWork c.args.target.now.header.hdu)) (sym stopped)
+    (none_refused {X = Unit {0}} _ before now (Err stop) c.in_err-write_zeros.ensures.cause)
+
+pub prepare_tile-requires-clause-copy : goal.prepare_tile-requires-clause-copy
+prepare_tile-requires-clause-copy g c =
+    omega (arith, c.loop-tile.invariant.copy, c.requires.copy)

@@ -1,5 +1,5 @@
 -- One row after another.
-use Rattle.std.proofs.Common.{◌≡◌, ◌≢◌, ℕ, ◌+◌, ◌-◌, ◌≤◌, true, false, List, ◌∷◌, ◌++◌, length, Option, Result, Err, inl, refl, sym, ap, ◌∙◌, subst, arith, rules}
+use Rattle.std.proofs.Common.{◌≡◌, ◌≢◌, ℕ, ◌+◌, ◌-◌, ◌≤◌, true, false, List, ◌∷◌, ◌++◌, length, Option, Result, Err, inl, refl, sym, ap, ◌∙◌, subst, arith, rules, inr}
 use Rattle.std.specs.Prelude.{IfSome}
 use Rattle.std.proofs.lemmas.Result.{on_ok_weaker}
 use Rattle.fz_base.specs.Counts.{Amend, Tally}
@@ -30,9 +30,10 @@ use Rattle.fz_patch.proofs.Described.{AreDescribed, described_failed, described_
 use Rattle.fz_patch.proofs.HeapCodes.{UnrefusedRows, also_rows, by_heap, row_other, row_unmeasured, rows_too_short}
 use Rattle.fz_patch.proofs.NewCodes.{HeaderIsStill, heap_end_of}
 use Rattle.fz_patch.proofs.EndsJoined.{amend_patches, amends_unrefused, none_refused, reach_table, read_writes, refused_patches, refused_weaker, settled_writes, start_reach, tile_patches, told_long}
-use Rattle.fz_patch.proofs.EndsTold.{told-is, told-then, told-written}
+use Rattle.fz_patch.proofs.EndsTold.{told-is, told-then, told-written, told-amended}
 use Rattle.fz_patch.proofs.RowCodes.{RowsState, rows_begin, rows_failed, rows_go_on, rows_stop}
 use Rattle.fz_patch.proofs.TilesLeft.{all_taken, given_boxes, given_tiles, later_boxes, next_box}
+use Rattle.fz_patch.proofs.Errors.{never_ok}
 use Rattle.fz_patch.proofs.rows.write_rows.Goals as goal
 
 pub loop-tile-init : goal.loop-tile-init
@@ -847,3 +848,136 @@ returns-clause-described g c =
     let now = c.loop-tile.store in
     let new = c.settle.new.store in
     described_stop t c.args.found.now start held (g.D.Source.held now) (g.D.Source.held new) log (g.D.Source.tally now).amended.writes (g.D.Source.tally new).amended.writes offset (c.settle.ensures.store.held_is) (settled_writes (g.D.Source.tally now) (g.D.Source.tally new) c.settle.result c.settle.ensures.cause) old.described
+
+pub returns-in_err-prepare_tile-clause-stays : goal.returns-in_err-prepare_tile-clause-stays
+returns-in_err-prepare_tile-clause-stays g c =
+    let old = c.loop-tile.invariant in
+    let read = c.in_err-prepare_tile.ensures.stays in (
+      record { held_is = read.1.held_is ∙ old.given; attached_is = read.1.attached_is ∙ old.given_len; told = λ told. read.1.told (old.given_told told) },
+      record { sizes = read.2.sizes ∙ old.window.sizes; workers = read.2.workers ∙ old.window.workers },
+      told-then _ _ _ old.told (told-is _ _ read.0.held_is),
+      read.3 ∙ old.copy,
+    )
+
+pub returns-then-count-room-clause-stays : goal.returns-then-count-room-clause-stays
+returns-then-count-room-clause-stays g c =
+    let old = c.loop-tile.invariant in
+    let read = c.in_ok-prepare_tile.ensures.stays in (
+      record { held_is = read.1.held_is ∙ old.given; attached_is = read.1.attached_is ∙ old.given_len; told = λ told. read.1.told (old.given_told told) },
+      record { sizes = read.2.sizes ∙ old.window.sizes; workers = read.2.workers ∙ old.window.workers },
+      told-then _ _ _ old.told (told-is _ _ read.0.held_is),
+      read.3 ∙ old.copy,
+    )
+
+pub returns-then-not-is_measured-clause-stays : goal.returns-then-not-is_measured-clause-stays
+returns-then-not-is_measured-clause-stays g c =
+    let old = c.loop-tile.invariant in
+    let read = c.in_ok-prepare_tile.ensures.stays in (
+      record { held_is = read.1.held_is ∙ old.given; attached_is = read.1.attached_is ∙ old.given_len; told = λ told. read.1.told (old.given_told told) },
+      record { sizes = read.2.sizes ∙ old.window.sizes; workers = read.2.workers ∙ old.window.workers },
+      told-then _ _ _ old.told (told-is _ _ read.0.held_is),
+      read.3 ∙ old.copy,
+    )
+
+pub returns-in_err-is_there-clause-stays : goal.returns-in_err-is_there-clause-stays
+returns-in_err-is_there-clause-stays g c =
+    let old = c.loop-tile.invariant in
+    let read = c.in_ok-prepare_tile.ensures.stays in (
+      record { held_is = read.1.held_is ∙ old.given; attached_is = read.1.attached_is ∙ old.given_len; told = λ told. read.1.told (old.given_told told) },
+      record { sizes = read.2.sizes ∙ old.window.sizes; workers = read.2.workers ∙ old.window.workers },
+      told-then _ _ _ old.told (told-is _ _ (c.in_err-is_there.ensures.source.held_is ∙ read.0.held_is)),
+      c.in_err-is_there.ensures.piece ∙ read.3 ∙ old.copy,
+    )
+
+pub returns-then-not-is_there-clause-stays : goal.returns-then-not-is_there-clause-stays
+returns-then-not-is_there-clause-stays g c =
+    let old = c.loop-tile.invariant in
+    let read = c.in_ok-prepare_tile.ensures.stays in (
+      record { held_is = read.1.held_is ∙ old.given; attached_is = read.1.attached_is ∙ old.given_len; told = λ told. read.1.told (old.given_told told) },
+      record { sizes = read.2.sizes ∙ old.window.sizes; workers = read.2.workers ∙ old.window.workers },
+      told-then _ _ _ old.told (told-is _ _ (c.in_ok-is_there.ensures.source.held_is ∙ read.0.held_is)),
+      c.in_ok-is_there.ensures.piece ∙ read.3 ∙ old.copy,
+    )
+
+pub returns-in_err-write_tile-clause-stays : goal.returns-in_err-write_tile-clause-stays
+returns-in_err-write_tile-clause-stays g c =
+    let old = c.loop-tile.invariant in
+    let read = c.in_ok-prepare_tile.ensures.stays in (
+      record { held_is = read.1.held_is ∙ old.given; attached_is = read.1.attached_is ∙ old.given_len; told = λ told. read.1.told (old.given_told told) },
+      record { sizes = read.2.sizes ∙ old.window.sizes; workers = read.2.workers ∙ old.window.workers },
+      told-then _ _ _ old.told (told-then _ _ _ (told-is _ _ (c.in_ok-is_there.ensures.source.held_is ∙ read.0.held_is)) (told-amended _ _ _ _ c.in_err-write_tile.ensures.partly)),
+      c.in_ok-is_there.ensures.piece ∙ read.3 ∙ old.copy,
+    )
+
+pub returns-then-offset-end-clause-stays : goal.returns-then-offset-end-clause-stays
+returns-then-offset-end-clause-stays g c =
+    let old = c.loop-tile.invariant in
+    (record { held_is = old.given; attached_is = old.given_len; told = old.given_told }, old.window, old.told, old.copy)
+
+pub returns-clause-stays : goal.returns-clause-stays
+returns-clause-stays g c =
+    let old = c.loop-tile.invariant in
+    (record { held_is = old.given; attached_is = old.given_len; told = old.given_told }, old.window, told-then _ _ _ old.told (told-is _ _ c.settle.ensures.store.held_is), old.copy)
+
+pub returns-then-count-room-clause-late : goal.returns-then-count-room-clause-late
+returns-then-count-room-clause-late g c =
+    subst (λ (stop : Stop). IfRefused {X = Unit {0}} (Err stop) (ComesInWork c.args.target.now.header.hdu)) (sym c.changed.ensures) (inr refl)
+
+pub returns-then-not-is_measured-clause-late : goal.returns-then-not-is_measured-clause-late
+returns-then-not-is_measured-clause-late g c =
+    subst (λ (stop : Stop). IfRefused {X = Unit {0}} (Err stop) (ComesInWork c.args.target.now.header.hdu)) (sym c.changed-then-not-is_measured.ensures) (inr refl)
+
+pub returns-then-not-is_there-clause-late : goal.returns-then-not-is_there-clause-late
+returns-then-not-is_there-clause-late g c =
+    subst (λ (stop : Stop). IfRefused {X = Unit {0}} (Err stop) (ComesInWork c.args.target.now.header.hdu)) (sym c.changed-then-not-is_there.ensures) (inr refl)
+
+pub returns-then-offset-end-clause-late : goal.returns-then-offset-end-clause-late
+returns-then-offset-end-clause-late g c =
+    subst (λ (stop : Stop). IfRefused {X = Unit {0}} (Err stop) (ComesInWork c.args.target.now.header.hdu)) (sym c.changed-then-offset-end.ensures) (inr refl)
+
+pub returns-then-offset-end-clause-reach : goal.returns-then-offset-end-clause-reach
+returns-then-offset-end-clause-reach g c =
+    c.loop-tile.invariant.grows
+
+pub returns-in_err-prepare_tile-clause-wrote : goal.returns-in_err-prepare_tile-clause-wrote
+returns-in_err-prepare_tile-clause-wrote g c =
+    let stopped : c.from_residual.result ≡ Err c.in_err-prepare_tile.field-0.0 = search rules in
+    never_ok _ c.from_residual.result c.in_err-prepare_tile.field-0.0 stopped
+
+pub returns-in_err-prepare_tile-clause-header : goal.returns-in_err-prepare_tile-clause-header
+returns-in_err-prepare_tile-clause-header g c =
+    let stopped : c.from_residual.result ≡ Err c.in_err-prepare_tile.field-0.0 = search rules in
+    never_ok _ c.from_residual.result c.in_err-prepare_tile.field-0.0 stopped
+
+pub returns-in_err-is_there-clause-wrote : goal.returns-in_err-is_there-clause-wrote
+returns-in_err-is_there-clause-wrote g c =
+    let stopped : c.from_residual-in_err-is_there.result ≡ Err c.in_err-is_there.field-0.0 = search rules in
+    never_ok _ c.from_residual-in_err-is_there.result c.in_err-is_there.field-0.0 stopped
+
+pub returns-in_err-is_there-clause-header : goal.returns-in_err-is_there-clause-header
+returns-in_err-is_there-clause-header g c =
+    let stopped : c.from_residual-in_err-is_there.result ≡ Err c.in_err-is_there.field-0.0 = search rules in
+    never_ok _ c.from_residual-in_err-is_there.result c.in_err-is_there.field-0.0 stopped
+
+pub returns-in_err-write_tile-clause-wrote : goal.returns-in_err-write_tile-clause-wrote
+returns-in_err-write_tile-clause-wrote g c =
+    let stopped : c.from_residual-in_err-write_tile.result ≡ Err c.in_err-write_tile.field-0.0 = search rules in
+    never_ok _ c.from_residual-in_err-write_tile.result c.in_err-write_tile.field-0.0 stopped
+
+pub returns-in_err-write_tile-clause-header : goal.returns-in_err-write_tile-clause-header
+returns-in_err-write_tile-clause-header g c =
+    let stopped : c.from_residual-in_err-write_tile.result ≡ Err c.in_err-write_tile.field-0.0 = search rules in
+    never_ok _ c.from_residual-in_err-write_tile.result c.in_err-write_tile.field-0.0 stopped
+
+pub returns-in_err-write_tile-clause-late : goal.returns-in_err-write_tile-clause-late
+returns-in_err-write_tile-clause-late g c =
+    let stop : Stop = c.in_err-write_tile.field-0.0 in
+    let stopped : c.from_residual-in_err-write_tile.result ≡ Err stop = search rules in
+    let back = g.D.Source.tally c.has_bytes.new.source in
+    let now = g.D.Source.tally c.write_tile.new.store in
+    subst (λ (r : Result (Unit {0}) Stop). IfRefused r (ComesInWork c.args.target.now.header.hdu)) (sym stopped)
+    (none_refused {X = Unit {0}} _ back now (Err stop) (one-amends _ back now (Err stop) c.in_err-write_tile.ensures.cause))
+
+pub prepare_tile-requires-clause-copy : goal.prepare_tile-requires-clause-copy
+prepare_tile-requires-clause-copy g c =
+    omega (arith, c.loop-tile.invariant.copy, c.requires.copy)

@@ -45,6 +45,7 @@ use Rattle.fz_patch.proofs.StepHeaders.{StepLaws, all_there, grown_said, grown_s
 use Rattle.fz_patch.proofs.StepPatch.{Ready, all_is, are, cards_are, es, for_jobs, bytes_are, heap_is, measure_is, numbers, olds, ready_of, rows_are, some_1, some_2, some_3, some_4, steps, still_numbers, stops, sums_are, wrote_4}
 use Rattle.fz_patch.proofs.StepSums.{datasum_named, sums_same}
 use Rattle.fz_patch.proofs.Wrotes.{applied-append}
+use Rattle.fz_patch.proofs.Errors.{never_ok}
 use Rattle.fz_patch.proofs.steps.write_patch.Goals as goal
 
 pub measure_codes-requires-clause-within : goal.measure_codes-requires-clause-within
@@ -1075,3 +1076,128 @@ returns-clause-told g c =
     told-then _ _ _
     (told-then _ _ _ (told-then _ _ _ (told-then _ _ _ (told-is _ _ same) c.in_ok-write_codes.ensures.stays.2) (told-some _ _ _ _ _ c.in_ok-write_cards.ensures.some)) c.in_ok-write_rows.ensures.stays.2)
     (told-if before now (λ f. WroteSome (sums_writes c.grown-grown.result.header f c.write_cards.new.buf) before now log log') (λ f is some. told-some _ before now log log' some) c.write_sums.ensures.some)
+
+pub returns-in_err-found-clause-patch : goal.returns-in_err-found-clause-patch
+returns-in_err-found-clause-patch g c =
+    c.in_err-found.ensures.stays.1
+
+pub returns-in_err-found-clause-window : goal.returns-in_err-found-clause-window
+returns-in_err-found-clause-window g c =
+    c.in_err-found.ensures.stays.2
+
+pub returns-in_err-found-clause-copy : goal.returns-in_err-found-clause-copy
+returns-in_err-found-clause-copy g c =
+    c.in_err-found.ensures.stays.3
+
+pub returns-in_err-found-clause-buf : goal.returns-in_err-found-clause-buf
+returns-in_err-found-clause-buf g c =
+    refl
+
+pub returns-in_err-found-clause-told : goal.returns-in_err-found-clause-told
+returns-in_err-found-clause-told g c =
+    told-is _ _ c.in_err-found.ensures.stays.0.held_is
+
+pub returns-in_err-forms-clause-patch : goal.returns-in_err-forms-clause-patch
+returns-in_err-forms-clause-patch g c =
+    c.in_ok-found.ensures.stays.1
+
+pub returns-in_err-forms-clause-window : goal.returns-in_err-forms-clause-window
+returns-in_err-forms-clause-window g c =
+    c.in_ok-found.ensures.stays.2
+
+pub returns-in_err-forms-clause-copy : goal.returns-in_err-forms-clause-copy
+returns-in_err-forms-clause-copy g c =
+    c.in_err-forms.ensures.stays.1 ∙ c.in_ok-found.ensures.stays.3
+
+pub returns-in_err-forms-clause-buf : goal.returns-in_err-forms-clause-buf
+returns-in_err-forms-clause-buf g c =
+    refl
+
+pub returns-in_err-forms-clause-told : goal.returns-in_err-forms-clause-told
+returns-in_err-forms-clause-told g c =
+    told-is _ _ (c.in_err-forms.ensures.stays.0.held_is ∙ c.in_ok-found.ensures.stays.0.held_is)
+
+pub returns-in_err-write_codes-clause-patch : goal.returns-in_err-write_codes-clause-patch
+returns-in_err-write_codes-clause-patch g c =
+    record { held_is = c.in_err-write_codes.ensures.stays.0.held_is ∙ c.in_ok-found.ensures.stays.1.held_is; attached_is = c.in_err-write_codes.ensures.stays.0.attached_is ∙ c.in_ok-found.ensures.stays.1.attached_is; told = λ t. c.in_err-write_codes.ensures.stays.0.told (c.in_ok-found.ensures.stays.1.told t) }
+
+pub returns-in_err-write_codes-clause-window : goal.returns-in_err-write_codes-clause-window
+returns-in_err-write_codes-clause-window g c =
+    record { sizes = c.in_err-write_codes.ensures.stays.1.sizes ∙ c.in_ok-found.ensures.stays.2.sizes; workers = c.in_err-write_codes.ensures.stays.1.workers ∙ c.in_ok-found.ensures.stays.2.workers }
+
+pub returns-in_err-write_codes-clause-copy : goal.returns-in_err-write_codes-clause-copy
+returns-in_err-write_codes-clause-copy g c =
+    c.in_err-write_codes.ensures.stays.3 ∙ c.in_ok-forms.ensures.stays.1 ∙ c.in_ok-found.ensures.stays.3
+
+pub returns-in_err-write_codes-clause-buf : goal.returns-in_err-write_codes-clause-buf
+returns-in_err-write_codes-clause-buf g c =
+    refl
+
+pub returns-in_err-write_cards-clause-window : goal.returns-in_err-write_cards-clause-window
+returns-in_err-write_cards-clause-window g c =
+    record { sizes = c.in_ok-write_codes.ensures.stays.1.sizes ∙ c.in_ok-found.ensures.stays.2.sizes; workers = c.in_ok-write_codes.ensures.stays.1.workers ∙ c.in_ok-found.ensures.stays.2.workers }
+
+pub returns-in_err-write_cards-clause-copy : goal.returns-in_err-write_cards-clause-copy
+returns-in_err-write_cards-clause-copy g c =
+    c.in_ok-write_codes.ensures.stays.3 ∙ c.in_ok-forms.ensures.stays.1 ∙ c.in_ok-found.ensures.stays.3
+
+pub returns-in_err-write_cards-clause-buf : goal.returns-in_err-write_cards-clause-buf
+returns-in_err-write_cards-clause-buf g c =
+    c.in_err-write_cards.ensures.len
+
+pub returns-in_err-write_rows-clause-patch : goal.returns-in_err-write_rows-clause-patch
+returns-in_err-write_rows-clause-patch g c =
+    record { held_is = c.in_err-write_rows.ensures.stays.0.held_is ∙ c.in_ok-write_codes.ensures.stays.0.held_is ∙ c.in_ok-found.ensures.stays.1.held_is; attached_is = c.in_err-write_rows.ensures.stays.0.attached_is ∙ c.in_ok-write_codes.ensures.stays.0.attached_is ∙ c.in_ok-found.ensures.stays.1.attached_is; told = λ t. c.in_err-write_rows.ensures.stays.0.told (c.in_ok-write_codes.ensures.stays.0.told (c.in_ok-found.ensures.stays.1.told t)) }
+
+pub returns-in_err-write_rows-clause-window : goal.returns-in_err-write_rows-clause-window
+returns-in_err-write_rows-clause-window g c =
+    record { sizes = c.in_err-write_rows.ensures.stays.1.sizes ∙ c.in_ok-write_codes.ensures.stays.1.sizes ∙ c.in_ok-found.ensures.stays.2.sizes; workers = c.in_err-write_rows.ensures.stays.1.workers ∙ c.in_ok-write_codes.ensures.stays.1.workers ∙ c.in_ok-found.ensures.stays.2.workers }
+
+pub returns-in_err-write_rows-clause-copy : goal.returns-in_err-write_rows-clause-copy
+returns-in_err-write_rows-clause-copy g c =
+    c.in_err-write_rows.ensures.stays.3 ∙ c.in_ok-write_codes.ensures.stays.3 ∙ c.in_ok-forms.ensures.stays.1 ∙ c.in_ok-found.ensures.stays.3
+
+pub returns-in_err-write_rows-clause-buf : goal.returns-in_err-write_rows-clause-buf
+returns-in_err-write_rows-clause-buf g c =
+    c.in_ok-write_cards.ensures.len
+
+pub returns-clause-patch : goal.returns-clause-patch
+returns-clause-patch g c =
+    record { held_is = c.in_ok-write_rows.ensures.stays.0.held_is ∙ c.in_ok-write_codes.ensures.stays.0.held_is ∙ c.in_ok-found.ensures.stays.1.held_is; attached_is = c.in_ok-write_rows.ensures.stays.0.attached_is ∙ c.in_ok-write_codes.ensures.stays.0.attached_is ∙ c.in_ok-found.ensures.stays.1.attached_is; told = λ t. c.in_ok-write_rows.ensures.stays.0.told (c.in_ok-write_codes.ensures.stays.0.told (c.in_ok-found.ensures.stays.1.told t)) }
+
+pub returns-clause-window : goal.returns-clause-window
+returns-clause-window g c =
+    record { sizes = c.in_ok-write_rows.ensures.stays.1.sizes ∙ c.in_ok-write_codes.ensures.stays.1.sizes ∙ c.in_ok-found.ensures.stays.2.sizes; workers = c.in_ok-write_rows.ensures.stays.1.workers ∙ c.in_ok-write_codes.ensures.stays.1.workers ∙ c.in_ok-found.ensures.stays.2.workers }
+
+pub returns-clause-copy : goal.returns-clause-copy
+returns-clause-copy g c =
+    c.write_sums.ensures.stays.1 ∙ c.in_ok-write_rows.ensures.stays.3 ∙ c.in_ok-write_codes.ensures.stays.3 ∙ c.in_ok-forms.ensures.stays.1 ∙ c.in_ok-found.ensures.stays.3
+
+pub returns-clause-buf : goal.returns-clause-buf
+returns-clause-buf g c =
+    c.write_sums.ensures.stays.0 ∙ c.in_ok-write_cards.ensures.len
+
+pub returns-in_err-found-clause-patched : goal.returns-in_err-found-clause-patched
+returns-in_err-found-clause-patched g c =
+    let stopped : c.from_residual.result ≡ Err c.in_err-found.field-0.0 = search rules in
+    never_ok _ c.from_residual.result c.in_err-found.field-0.0 stopped
+
+pub returns-in_err-forms-clause-patched : goal.returns-in_err-forms-clause-patched
+returns-in_err-forms-clause-patched g c =
+    let stopped : c.from_residual-in_err-forms.result ≡ Err c.in_err-forms.field-0.0 = search rules in
+    never_ok _ c.from_residual-in_err-forms.result c.in_err-forms.field-0.0 stopped
+
+pub returns-in_err-write_codes-clause-patched : goal.returns-in_err-write_codes-clause-patched
+returns-in_err-write_codes-clause-patched g c =
+    let stopped : c.from_residual-in_err-write_codes.result ≡ Err c.in_err-write_codes.field-0.0 = search rules in
+    never_ok _ c.from_residual-in_err-write_codes.result c.in_err-write_codes.field-0.0 stopped
+
+pub returns-in_err-write_cards-clause-patched : goal.returns-in_err-write_cards-clause-patched
+returns-in_err-write_cards-clause-patched g c =
+    let stopped : c.from_residual-in_err-write_cards.result ≡ Err c.in_err-write_cards.field-0.0 = search rules in
+    never_ok _ c.from_residual-in_err-write_cards.result c.in_err-write_cards.field-0.0 stopped
+
+pub returns-in_err-write_rows-clause-patched : goal.returns-in_err-write_rows-clause-patched
+returns-in_err-write_rows-clause-patched g c =
+    let stopped : c.from_residual-in_err-write_rows.result ≡ Err c.in_err-write_rows.field-0.0 = search rules in
+    never_ok _ c.from_residual-in_err-write_rows.result c.in_err-write_rows.field-0.0 stopped

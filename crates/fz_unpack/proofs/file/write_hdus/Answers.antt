@@ -17,6 +17,8 @@ use Rattle.fz_unpack.proofs.HduReads.{no_hdu, one_hdu, one_header}
 use Rattle.fz_unpack.proofs.Standing.{first_place}
 use Rattle.fz_unpack.proofs.Underway.{more_written, none_written, stops_reading, stops_writing}
 use Rattle.fz_unpack.proofs.AsSeen.{first_as_seen, last_as_seen, not_at_end, primary_as_seen, told_false}
+use Rattle.fz_job.specs.Clauses.{ComesLate}
+use Rattle.fz_unpack.proofs.Counting.{late_change, late_row, read_fails, refused_only, rewrote, write_fails}
 use Rattle.fz_unpack.proofs.file.write_hdus.Goals as goal
 
 pub loop-hdu-init : goal.loop-hdu-init
@@ -297,3 +299,188 @@ returns-then-not-is_last_as_seen-clause-read g c =
     let body : IfSome held (λ f. LogsIn (data_touched Unpack f a.header) two three) =
     subst (λ (h : Option (List ℕ)). IfSome h (λ f. LogsIn (data_touched Unpack f a.header) two three)) (c.in_ok-again.ensures.stays.0.held_is ∙ old.held) c.in_ok-at.ensures.read in
     one_hdu s zero c.ranges_law.ensures.join k start c.loop-hdu.at flag before mid few two three (c.hdus_law.ensures.payload Unpack) held a old.written seen body header
+
+pub returns-then-first-survey-clause-stays : goal.returns-then-first-survey-clause-stays
+returns-then-first-survey-clause-stays g c = (
+  record { held_is = refl; attached_is = refl; told = λ told. told },
+  record { created_is = refl; shut = λ shut. shut; told = λ told. told },
+  record { header = refl; translated = refl; copy = refl },
+  record { sizes = refl; workers = refl },
+)
+
+pub returns-then-first-survey-clause-late : goal.returns-then-first-survey-clause-late
+returns-then-first-survey-clause-late g c =
+    subst (λ x. IfRefused {X = Unit {0}} (Err x) (ComesLate Unpack)) (sym c.changed.ensures) (inl refl)
+
+pub returns-then-first-survey-clause-cause : goal.returns-then-first-survey-clause-cause
+returns-then-first-survey-clause-cause g c =
+    refused_only _ _ _ _ c.changed.result _ c.changed.ensures refl refl
+
+pub returns-in_err-again-clause-stays : goal.returns-in_err-again-clause-stays
+returns-in_err-again-clause-stays g c =
+    let old = c.loop-hdu.invariant in
+    let read = c.in_err-again.ensures.stays in (
+      record {
+        held_is = read.0.held_is ∙ old.held;
+        attached_is = read.0.attached_is ∙ old.attached;
+        told = λ told. read.0.told (old.told_ranges told);
+      },
+      record { created_is = old.created; shut = old.shut; told = old.told_contents },
+      record {
+        header = omega (arith, old.space.header, read.1, length-take {A = ℕ}, length-append {A = ℕ}, length-drop {A = ℕ});
+        translated = old.space.translated;
+        copy = old.space.copy;
+      },
+      old.window,
+    )
+
+pub returns-then-not-is_primary_as_found-clause-stays : goal.returns-then-not-is_primary_as_found-clause-stays
+returns-then-not-is_primary_as_found-clause-stays g c =
+    let old = c.loop-hdu.invariant in
+    let read = c.in_ok-again.ensures.stays in (
+      record {
+        held_is = read.0.held_is ∙ old.held;
+        attached_is = read.0.attached_is ∙ old.attached;
+        told = λ told. read.0.told (old.told_ranges told);
+      },
+      record { created_is = old.created; shut = old.shut; told = old.told_contents },
+      record {
+        header = omega (arith, old.space.header, read.1, length-take {A = ℕ}, length-append {A = ℕ}, length-drop {A = ℕ});
+        translated = old.space.translated;
+        copy = old.space.copy;
+      },
+      old.window,
+    )
+
+pub returns-in_err-at-clause-stays : goal.returns-in_err-at-clause-stays
+returns-in_err-at-clause-stays g c =
+    let old = c.loop-hdu.invariant in
+    let read = c.in_ok-again.ensures.stays.0 in
+    let wrote = c.in_err-at.ensures.stays in (
+      record {
+        held_is = wrote.0.held_is ∙ (read.held_is ∙ old.held);
+        attached_is = wrote.0.attached_is ∙ (read.attached_is ∙ old.attached);
+        told = λ told. wrote.0.told (read.told (old.told_ranges told));
+      },
+      record {
+        created_is = wrote.1.created_is ∙ old.created;
+        shut = λ shut. wrote.1.shut (old.shut shut);
+        told = λ told. wrote.1.told (old.told_contents told);
+      },
+      record {
+        header = omega (arith, wrote.2.header, old.space.header, c.in_ok-again.ensures.stays.1, length-take {A = ℕ}, length-append {A = ℕ}, length-drop {A = ℕ});
+        translated = wrote.2.translated ∙ old.space.translated;
+        copy = wrote.2.copy ∙ old.space.copy;
+      },
+      record { sizes = wrote.3.sizes ∙ old.window.sizes; workers = wrote.3.workers ∙ old.window.workers },
+    )
+
+pub returns-then-not-is_last_as_seen-clause-stays : goal.returns-then-not-is_last_as_seen-clause-stays
+returns-then-not-is_last_as_seen-clause-stays g c =
+    let old = c.loop-hdu.invariant in
+    let read = c.in_ok-again.ensures.stays.0 in
+    let wrote = c.in_ok-at.ensures.stays in (
+      record {
+        held_is = wrote.0.held_is ∙ (read.held_is ∙ old.held);
+        attached_is = wrote.0.attached_is ∙ (read.attached_is ∙ old.attached);
+        told = λ told. wrote.0.told (read.told (old.told_ranges told));
+      },
+      record {
+        created_is = wrote.1.created_is ∙ old.created;
+        shut = λ shut. wrote.1.shut (old.shut shut);
+        told = λ told. wrote.1.told (old.told_contents told);
+      },
+      record {
+        header = omega (arith, wrote.2.header, old.space.header, c.in_ok-again.ensures.stays.1, length-take {A = ℕ}, length-append {A = ℕ}, length-drop {A = ℕ});
+        translated = wrote.2.translated ∙ old.space.translated;
+        copy = wrote.2.copy ∙ old.space.copy;
+      },
+      record { sizes = wrote.3.sizes ∙ old.window.sizes; workers = wrote.3.workers ∙ old.window.workers },
+    )
+
+pub returns-in_err-again-clause-late : goal.returns-in_err-again-clause-late
+returns-in_err-again-clause-late g c =
+    let stopped : c.from_residual.result ≡ Err c.in_err-again.field-0.0 = search rules in
+    late_change (Unit {0}) c.in_err-again.field-0.0 c.from_residual.result stopped c.in_err-again.ensures.refused
+
+pub returns-in_err-again-clause-cause : goal.returns-in_err-again-clause-cause
+returns-in_err-again-clause-cause g c =
+    let stopped : c.from_residual.result ≡ Err c.in_err-again.field-0.0 = search rules in
+    read_fails _ (g.S.Source.tally c.loop-hdu.source) _ _ _ c.in_err-again.field-0.0 c.from_residual.result stopped c.loop-hdu.invariant.reads c.loop-hdu.invariant.writes c.in_err-again.ensures.cause
+
+pub returns-in_err-at-clause-late : goal.returns-in_err-at-clause-late
+returns-in_err-at-clause-late g c =
+    let stopped : c.from_residual-in_err-at.result ≡ Err c.in_err-at.field-0.0 = search rules in
+    late_row (Unit {0}) c.in_err-at.field-0.0 c.from_residual-in_err-at.result stopped c.in_err-at.ensures.row
+
+pub returns-in_err-at-clause-cause : goal.returns-in_err-at-clause-cause
+returns-in_err-at-clause-cause g c =
+    let stopped : c.from_residual-in_err-at.result ≡ Err c.in_err-at.field-0.0 = search rules in
+    write_fails _ (g.S.Source.tally c.read_again.new.source) _ _ (g.K.Sink.tally c.loop-hdu.sink) _ c.in_err-at.field-0.0 c.from_residual-in_err-at.result stopped
+    (c.in_ok-again.ensures.cause.ok ∙ c.loop-hdu.invariant.reads) c.loop-hdu.invariant.writes c.in_err-at.ensures.cause
+
+pub returns-then-not-is_primary_as_found-clause-late : goal.returns-then-not-is_primary_as_found-clause-late
+returns-then-not-is_primary_as_found-clause-late g c =
+    subst (λ x. IfRefused {X = Unit {0}} (Err x) (ComesLate Unpack)) (sym c.changed-then-not-is_primary_as_found.ensures) (inl refl)
+
+pub returns-then-not-is_primary_as_found-clause-cause : goal.returns-then-not-is_primary_as_found-clause-cause
+returns-then-not-is_primary_as_found-clause-cause g c =
+    refused_only _ _ _ _ c.changed-then-not-is_primary_as_found.result _ c.changed-then-not-is_primary_as_found.ensures (c.in_ok-again.ensures.cause.ok ∙ c.loop-hdu.invariant.reads) c.loop-hdu.invariant.writes
+
+pub returns-then-not-is_last_as_seen-clause-late : goal.returns-then-not-is_last_as_seen-clause-late
+returns-then-not-is_last_as_seen-clause-late g c =
+    subst (λ x. IfRefused {X = Unit {0}} (Err x) (ComesLate Unpack)) (sym c.changed-then-not-is_last_as_seen.ensures) (inl refl)
+
+pub returns-then-not-is_last_as_seen-clause-cause : goal.returns-then-not-is_last_as_seen-clause-cause
+returns-then-not-is_last_as_seen-clause-cause g c =
+    refused_only _ _ _ _ c.changed-then-not-is_last_as_seen.result _ c.changed-then-not-is_last_as_seen.ensures
+    (c.in_ok-at.ensures.cause.ok.0 ∙ (c.in_ok-again.ensures.cause.ok ∙ c.loop-hdu.invariant.reads)) (c.in_ok-at.ensures.cause.ok.1 ∙ c.loop-hdu.invariant.writes)
+
+pub returns-clause-stays : goal.returns-clause-stays
+returns-clause-stays g c =
+    let old = c.loop-hdu.invariant in (
+      record { held_is = old.held; attached_is = old.attached; told = old.told_ranges },
+      record { created_is = old.created; shut = old.shut; told = old.told_contents },
+      old.space,
+      old.window,
+    )
+
+pub returns-clause-late : goal.returns-clause-late
+returns-clause-late g c =
+    tt
+
+pub returns-clause-read : goal.returns-clause-read
+returns-clause-read g c =
+    c.loop-hdu.invariant.read
+
+pub returns-clause-cause : goal.returns-clause-cause
+returns-clause-cause g c =
+    rewrote _ _ _ _ c.loop-hdu.invariant.reads c.loop-hdu.invariant.writes
+
+pub read_again-requires-clause-attached : goal.read_again-requires-clause-attached
+read_again-requires-clause-attached g c =
+    c.loop-hdu.invariant.attached ∙ c.requires.attached
+
+pub read_again-requires-clause-within : goal.read_again-requires-clause-within
+read_again-requires-clause-within g c =
+    c.loop-hdu.invariant.within (omega arith)
+
+pub read_again-requires-clause-room : goal.read_again-requires-clause-room
+read_again-requires-clause-room g c =
+    omega (arith, ap length c.as_mut_slice-buf.ensures.value, c.loop-hdu.invariant.space.header, c.requires.header, c.requires.long)
+
+pub write_hdu-requires-clause-created : goal.write_hdu-requires-clause-created
+write_hdu-requires-clause-created g c κs lives =
+    c.loop-hdu.invariant.created ∙ c.requires.created
+
+pub write_hdu-requires-clause-copy : goal.write_hdu-requires-clause-copy
+write_hdu-requires-clause-copy g c =
+    omega (arith, c.loop-hdu.invariant.space.copy, c.requires.copy)
+
+pub write_hdu-requires-clause-near : goal.write_hdu-requires-clause-near
+write_hdu-requires-clause-near g c κs lives =
+    omega (arith, c.loop-hdu.invariant.near, c.loop-hdu.invariant.early, c.requires.few)
+
+pub write_hdu-requires-clause-translated : goal.write_hdu-requires-clause-translated
+write_hdu-requires-clause-translated g c κs lives =
+    omega (arith, c.in_ok-again.ensures.stays.1, c.loop-hdu.invariant.space.header, c.loop-hdu.invariant.space.translated, c.requires.translated, length-take {A = ℕ}, length-append {A = ℕ}, length-drop {A = ℕ})

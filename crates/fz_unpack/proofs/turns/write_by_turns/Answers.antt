@@ -1,4 +1,4 @@
-use Rattle.std.proofs.Common.{◌≡◌, ap, arith}
+use Rattle.std.proofs.Common.{ap, arith}
 use Rattle.fz_pool.specs.Window.{Pool}
 use Rattle.fz_unpack.proofs.Turning.{rooms_again}
 use Rattle.fz_unpack.proofs.turns.write_by_turns.Goals as goal

@@ -1,5 +1,5 @@
 -- With the first block.
-use Rattle.std.proofs.Common.{◌≡◌, ℕ, ◌+◌, ◌-◌, ◌≤◌, max, List, Option, IfSome, Result, Err, length, refl, sym, ap, ◌∙◌, subst, arith, rules, ◌<◌}
+use Rattle.std.proofs.Common.{◌≡◌, ℕ, ◌+◌, ◌-◌, ◌≤◌, max, List, Option, IfSome, Result, Err, length, refl, sym, ap, ◌∙◌, subst, arith, rules}
 use Rattle.std.specs.Prelude.{OnOk}
 use Rattle.std.proofs.lemmas.List.{length-replicate}
 use Rattle.fz_base.specs.Buffer.{refilled}

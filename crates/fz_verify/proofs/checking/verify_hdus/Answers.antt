@@ -14,11 +14,14 @@ use Rattle.fz_job.specs.Hdus.{ReadsHdus}
 use Rattle.fz_files.specs.Touched.{data_touched}
 use Rattle.fz_verify.specs.Printed.{ChecksHdu, IsChecking, VerifiesSeen}
 use Rattle.fz_verify.specs.Rows.{IsHduSound}
-use Rattle.fz_verify.proofs.CheckedHdus.{more_checked, next_sound, none_checked, stops_changed, stops_checking, stops_reading}
+use Rattle.fz_verify.proofs.CheckedHdus.{more_checked, next_sound, none_checked, stops_changed, stops_checking, stops_reading, ends_with_last}
 use Rattle.fz_verify.proofs.Ends.{not_at_end}
 use Rattle.fz_verify.proofs.HduReads.{no_hdu, one_hdu, one_header}
 use Rattle.fz_verify.specs.Reported.{ReportsFrom}
 use Rattle.fz_verify.proofs.Reports.{all_reported, both_reported, grew_both, grew_by, none_reported}
+use Rattle.fz_base.specs.Stop.{IfRefused}
+use Rattle.fz_job.specs.Clauses.{ComesLate}
+use Rattle.fz_verify.proofs.Counting.{late_change, late_row, read_fails, refused_only, rewrote, write_fails}
 use Rattle.fz_verify.proofs.checking.verify_hdus.Goals as goal
 
 pub loop-hdu-init : goal.loop-hdu-init
@@ -287,3 +290,127 @@ print_verified-requires-clause-sound g c κs within = λ done.
     (subst (λ (h : Option (List ℕ)). IfSome h (λ f. ReadsAsSeen f k start flag (length c.as_mut_slice-buf.result.now) s.tile (Ok a))) old.held c.in_ok-again.ensures.as_seen) in
     let there : g.S.Source.held c.read_again.new.source ≡ held = c.in_ok-again.ensures.stays.0.held_is ∙ old.held in
     subst (λ (h : Option (List ℕ)). IfSome h (λ f. IsHduSound f a.header)) (sym there) (next_sound c.none_refused_law.ensures s before held k start flag right mid a few old.checked seen (c.requires.sound done))
+
+pub returns-in_err-again-clause-stays : goal.returns-in_err-again-clause-stays
+returns-in_err-again-clause-stays g c =
+    let old = c.loop-hdu.invariant in
+    let read = c.in_err-again.ensures.stays in (
+      record {
+        held_is = read.0.held_is ∙ old.held;
+        attached_is = read.0.attached_is ∙ old.attached;
+        told = λ told. read.0.told (old.told_ranges told);
+      },
+      record {
+        header = omega (arith, old.space.header, read.1, length-take {A = ℕ}, length-append {A = ℕ}, length-drop {A = ℕ});
+        translated = old.space.translated;
+        copy = old.space.copy;
+      },
+      old.window,
+      old.told_contents,
+    )
+
+pub returns-in_err-sound-clause-stays : goal.returns-in_err-sound-clause-stays
+returns-in_err-sound-clause-stays g c =
+    let old = c.loop-hdu.invariant in
+    let read = c.in_ok-again.ensures.stays.0 in
+    let checked = c.in_err-sound.ensures.stays in (
+      record {
+        held_is = checked.0.held_is ∙ (read.held_is ∙ old.held);
+        attached_is = checked.0.attached_is ∙ (read.attached_is ∙ old.attached);
+        told = λ told. checked.0.told (read.told (old.told_ranges told));
+      },
+      record {
+        header = omega (arith, checked.1.header, old.space.header, c.in_ok-again.ensures.stays.1, length-take {A = ℕ}, length-append {A = ℕ}, length-drop {A = ℕ});
+        translated = checked.1.translated ∙ old.space.translated;
+        copy = checked.1.copy ∙ old.space.copy;
+      },
+      record { sizes = checked.2.sizes ∙ old.window.sizes; workers = checked.2.workers ∙ old.window.workers },
+      λ told. checked.3 (old.told_contents told),
+    )
+
+pub returns-then-start-length-clause-stays : goal.returns-then-start-length-clause-stays
+returns-then-start-length-clause-stays g c =
+    let old = c.loop-hdu.invariant in
+    let read = c.in_ok-again.ensures.stays.0 in
+    let checked = c.in_ok-sound.ensures.stays in (
+      record {
+        held_is = checked.0.held_is ∙ (read.held_is ∙ old.held);
+        attached_is = checked.0.attached_is ∙ (read.attached_is ∙ old.attached);
+        told = λ told. checked.0.told (read.told (old.told_ranges told));
+      },
+      record {
+        header = omega (arith, checked.1.header, old.space.header, c.in_ok-again.ensures.stays.1, length-take {A = ℕ}, length-append {A = ℕ}, length-drop {A = ℕ});
+        translated = checked.1.translated ∙ old.space.translated;
+        copy = checked.1.copy ∙ old.space.copy;
+      },
+      record { sizes = checked.2.sizes ∙ old.window.sizes; workers = checked.2.workers ∙ old.window.workers },
+      λ told. checked.3 (old.told_contents told),
+    )
+
+pub returns-in_err-again-clause-late : goal.returns-in_err-again-clause-late
+returns-in_err-again-clause-late g c =
+    let stopped : c.from_residual.result ≡ Err c.in_err-again.field-0.0 = search rules in
+    late_change Bool c.in_err-again.field-0.0 c.from_residual.result stopped c.in_err-again.ensures.refused
+
+pub returns-in_err-again-clause-cause : goal.returns-in_err-again-clause-cause
+returns-in_err-again-clause-cause g c =
+    let stopped : c.from_residual.result ≡ Err c.in_err-again.field-0.0 = search rules in
+    read_fails _ (g.S.Source.tally c.loop-hdu.source) _ _ _ c.in_err-again.field-0.0 c.from_residual.result stopped c.loop-hdu.invariant.reads c.loop-hdu.invariant.prints c.in_err-again.ensures.cause
+
+pub returns-in_err-sound-clause-late : goal.returns-in_err-sound-clause-late
+returns-in_err-sound-clause-late g c =
+    let stopped : c.from_residual-in_err-sound.result ≡ Err c.in_err-sound.field-0.0 = search rules in
+    late_row Bool c.in_err-sound.field-0.0 c.from_residual-in_err-sound.result stopped c.in_err-sound.ensures.row
+
+pub returns-in_err-sound-clause-cause : goal.returns-in_err-sound-clause-cause
+returns-in_err-sound-clause-cause g c =
+    let stopped : c.from_residual-in_err-sound.result ≡ Err c.in_err-sound.field-0.0 = search rules in
+    write_fails _ (g.S.Source.tally c.read_again.new.source) _ _ (g.T.Text.tally c.loop-hdu.text) _ c.in_err-sound.field-0.0 c.from_residual-in_err-sound.result stopped
+    (c.in_ok-again.ensures.cause.ok ∙ c.loop-hdu.invariant.reads) c.loop-hdu.invariant.prints c.in_err-sound.ensures.cause
+
+pub returns-then-start-length-clause-late : goal.returns-then-start-length-clause-late
+returns-then-start-length-clause-late g c =
+    subst (λ x. IfRefused {X = Bool} (Err x) (ComesLate Verify)) (sym c.changed.ensures) (inl refl)
+
+pub returns-then-start-length-clause-cause : goal.returns-then-start-length-clause-cause
+returns-then-start-length-clause-cause g c =
+    refused_only _ _ _ _ c.changed.result _ c.changed.ensures
+    (c.in_ok-sound.ensures.cause.ok.0 ∙ (c.in_ok-again.ensures.cause.ok ∙ c.loop-hdu.invariant.reads)) (c.in_ok-sound.ensures.cause.ok.1 ∙ c.loop-hdu.invariant.prints)
+
+pub returns-clause-stays : goal.returns-clause-stays
+returns-clause-stays g c =
+    let old = c.loop-hdu.invariant in
+    (record { held_is = old.held; attached_is = old.attached; told = old.told_ranges }, old.space, old.window, old.told_contents)
+
+pub returns-clause-late : goal.returns-clause-late
+returns-clause-late g c =
+    tt
+
+pub returns-clause-read : goal.returns-clause-read
+returns-clause-read g c =
+    c.loop-hdu.invariant.read
+
+pub returns-clause-cause : goal.returns-clause-cause
+returns-clause-cause g c =
+    rewrote _ _ _ _ _ c.loop-hdu.invariant.reads c.loop-hdu.invariant.prints
+
+pub returns-clause-verified : goal.returns-clause-verified
+returns-clause-verified g c =
+    ends_with_last c.none_refused_law.ensures c.args.survey.now (g.T.Text.contents c.args.text.now) (g.S.Source.held c.args.source.now)
+    c.loop-hdu.hdu c.loop-hdu.start c.loop-hdu.after_empty c.loop-hdu.right (g.T.Text.contents c.loop-hdu.text) (omega arith) c.loop-hdu.invariant.checked
+
+pub read_again-requires-clause-attached : goal.read_again-requires-clause-attached
+read_again-requires-clause-attached g c =
+    c.loop-hdu.invariant.attached ∙ c.requires.attached
+
+pub read_again-requires-clause-within : goal.read_again-requires-clause-within
+read_again-requires-clause-within g c =
+    c.loop-hdu.invariant.within (omega arith)
+
+pub read_again-requires-clause-room : goal.read_again-requires-clause-room
+read_again-requires-clause-room g c =
+    omega (arith, ap length c.as_mut_slice-buf.ensures.value, c.loop-hdu.invariant.space.header, c.requires.header, c.requires.long)
+
+pub print_verified-requires-clause-copy : goal.print_verified-requires-clause-copy
+print_verified-requires-clause-copy g c κs within =
+    omega (arith, c.loop-hdu.invariant.space.copy, c.requires.copy)
