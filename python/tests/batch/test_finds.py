@@ -14,7 +14,7 @@ from unittest import mock
 sys.path[:0] = [str(Path(__file__).resolve().parents[1])]
 
 from batch import hostile  # noqa: E402
-from batch.test_safety import FZ, FZBATCH, Archive, image  # noqa: E402
+from batch.two_files import FZ, FZBATCH, Archive, image  # noqa: E402
 from fzfits.batch import expansion, files, manifest, messages, rebuild, tries  # noqa: E402
 from making.fits import card, header  # noqa: E402
 

@@ -13,7 +13,7 @@ from typing import Callable, Dict
 
 sys.path[:0] = [str(Path(__file__).resolve().parents[1])]
 
-from batch.test_safety import FZ, KILLED_IN_COMMIT, TOP, Archive, image, zipped  # noqa: E402
+from batch.two_files import FZ, KILLED_IN_COMMIT, TOP, Archive, image, zipped  # noqa: E402
 
 COMMANDS = ("pack", "verify", "compare", "restore", "status", "missing", "report")
 LINE = re.compile(r"^\| (.+?) \| ([0-9]) \| ([0-9]) \| ([0-9]) \| ([0-9]) \| ([0-9]) \| ([0-9]) \| ([0-9]) \|", re.M)
