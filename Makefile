@@ -55,6 +55,7 @@ install:
 	install -D -m 755 tools/fzbatch.installed $(BIN)/fzbatch
 	install -D -m 755 tools/fzfits.installed $(BIN)/fzfits
 	install -D -m 644 fzfits.1 $(MAN)/fzfits.1
+	install -D -m 644 fzbatch.1 $(MAN)/fzbatch.1
 	for it in $(PAGES); do install -D -m 644 $$it $(DOC)/$$it || exit 1; done
 	install -D -m 644 completions/fz.bash $(BASH)/fz
 	install -D -m 644 completions/fzbatch.bash $(BASH)/fzbatch
@@ -68,7 +69,7 @@ install:
 
 uninstall:
 	rm -f $(BIN)/fz $(BIN)/fzbatch $(MAN)/fz.1 $(BASH)/fz $(BASH)/fzbatch $(ZSH)/_fz $(ZSH)/_fzbatch $(FISH)/fz.fish $(FISH)/fzbatch.fish
-	rm -f $(BIN)/fzfits $(MAN)/fzfits.1 $(BASH)/fzfits $(ZSH)/_fzfits $(FISH)/fzfits.fish
+	rm -f $(BIN)/fzfits $(MAN)/fzfits.1 $(MAN)/fzbatch.1 $(BASH)/fzfits $(ZSH)/_fzfits $(FISH)/fzfits.fish
 	rm -rf $(PYTHON)/fzfits $(DOC)
 	-rmdir $(PYTHON) 2> /dev/null
 

@@ -1,7 +1,7 @@
 # Completion of fzbatch for bash.
 _fzbatch() {
     local word=${COMP_WORDS[COMP_CWORD]} before=${COMP_WORDS[COMP_CWORD-1]} command=${COMP_WORDS[1]} options
-    local every='--jobs --memory --fz --time-limit --engine --sshlogin --sshloginfile --scheduler --all --allow-empty'
+    local every='--jobs --memory --fz --time-limit --engine --sshlogin --sshloginfile --scheduler --all --allow-empty --include --exclude --from-list --dry-run --quiet --log --tell-idle'
     COMPREPLY=()
     if [ "$COMP_CWORD" -eq 1 ]; then
         mapfile -t COMPREPLY < <(compgen -W 'pack verify compare restore status missing forget collect share rebuild report look' -- "$word")
@@ -26,12 +26,12 @@ _fzbatch() {
     case $before in
         --codec) mapfile -t COMPREPLY < <(compgen -W 'rice plio none' -- "${word#=}"); return ;;
         --engine) mapfile -t COMPREPLY < <(compgen -W 'local parallel slurm dask' -- "${word#=}"); return ;;
-        --jobs | --memory | --time-limit | --sshlogin | --scheduler | --tile | --block | --workers | --name | --hdu | --box | --size) return ;;
+        --jobs | --memory | --time-limit | --sshlogin | --scheduler | --include | --exclude | --tile | --block | --workers | --name | --hdu | --box | --size) return ;;
     esac
     compopt -o filenames 2> /dev/null
     case $word in
         -*) mapfile -t COMPREPLY < <(compgen -W "$options" -- "$word") ;;
-        *) if [ "$command" = look ] || [[ $before = --fz || $before = --out || $before = -o || $before = --sshloginfile ]]; then
+        *) if [ "$command" = look ] || [[ $before = --fz || $before = --out || $before = -o || $before = --sshloginfile || $before = --from-list || $before = --log ]] || [[ $command = verify || $command = compare || $command = restore ]] && [ "$COMP_CWORD" -gt 2 ]; then
             mapfile -t COMPREPLY < <(compgen -f -- "$word")
         else
             mapfile -t COMPREPLY < <(compgen -d -- "$word")

@@ -3,6 +3,8 @@ from __future__ import annotations
 
 import contextlib
 import errno
+import os
+import shlex
 
 from .. import diagnose, refusals
 from ..errors import OverLimit, Refused
@@ -72,17 +74,32 @@ def of_outcome(ended: Outcome) -> str:
     return STATUSES.get(ended.status, "report it with the file: fz has no such status")
 
 
-def hint(ended: Outcome, verb: str, path: bytes) -> str:
-    """What the file itself says more about an outcome: its card at the place, and what is special about it."""
-    # it is only a hint: what goes wrong with the headers of a stranger's file is no fault of the file's outcome
+def of_file(ended: Outcome, verb: str, path: bytes) -> "tuple[str, str]":
+    """What the file itself says more about an outcome: the line with its card at the place, and what to do about this very file.
+
+    Either is the empty text if no more is known.
+    """
+    # it is only a help: what goes wrong with the headers of a stranger's file is no fault of the file's outcome
     with contextlib.suppress(Exception):
         error = diagnose.error_of(ended, diagnose.Call(verb, path))
         if isinstance(error, Refused):
-            about = [f"card {error.card}"] if error.card else []
-            return "; ".join([*about, *error.advice.split("\n")] if error.advice else about)
+            return _line_of(error), _remedy_of(error, path)
         if isinstance(error, OverLimit) and error.enough:
-            return f"--memory {error.enough} is enough"
-    return ""
+            return "", f"--memory {error.enough} is enough"
+    return "", ""
+
+
+def _line_of(error: Refused) -> str:
+    if error.kind == "AlreadyPacked" and error.codec:
+        return f"already compressed with {error.codec} ({error.number} {error.kind}, HDU {error.hdu})"
+    return error.what()
+
+
+def _remedy_of(error: Refused, path: bytes) -> str:
+    lines = [error.advice.replace("tile=(64, 64)", "--tile 64,64")] if error.advice else []
+    if error.mends:
+        lines.append(f"fzfits mend --{error.mends.replace('_', '-')} {shlex.quote(os.fsdecode(path))} OUT makes a copy without this fault")
+    return "; or ".join(it.rstrip(".") for it in lines)
 
 
 def kind_of(line: str) -> tuple[int, str]:

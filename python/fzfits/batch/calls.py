@@ -7,7 +7,7 @@ import select
 import signal
 import threading
 import time
-from typing import Optional, Sequence
+from typing import Callable, Optional, Sequence
 
 from ..errors import NoProgram
 from ..program import Outcome
@@ -32,10 +32,10 @@ class Program:
         self._environment = spawning.environment()
         self.first, self.second = (FILES + str(it).encode() for it in self._kept)
 
-    def close(self) -> None:
-        """Frees the two numbers."""
+    def close(self, close: Callable[[int], None] = os.close) -> None:
+        """Frees the two numbers. (`os` may be gone when Python ends.)"""
         while self._kept:
-            os.close(self._kept.pop())
+            close(self._kept.pop())
 
     def __del__(self) -> None:
         # a thread that ends takes its program with it

@@ -11,7 +11,7 @@ from typing import Optional, Sequence
 
 from .. import __version__, program
 from ..errors import FzError
-from . import calls, engines, files, keep, lock, look, names, report, run, slurm, submit, survey, words_of, work
+from . import asking, calls, engines, files, keep, lock, look, names, report, run, slurm, submit, survey, words_of, work
 from .manifest import BadManifest
 from .messages import Settings
 from .scan import NoSource
@@ -27,7 +27,7 @@ VERBS = {
 
 
 def main(words: Optional[Sequence[str]] = None) -> int:
-    """Does what the command line says, and gives the status: 0 all done, 1 some files not, 2 nothing was begun."""
+    """Does what the command line says, and gives the status: 0 all done, 1 some files not, 2 nothing was begun, 3 a disk failed."""
     for name in ("stdout", "stderr"):
         # it was closed by the shell
         if getattr(sys, name) is None:
@@ -37,13 +37,24 @@ def main(words: Optional[Sequence[str]] = None) -> int:
         # a name that the terminal has no letters for is printed by its numbers
         if hasattr(it, "reconfigure"):
             it.reconfigure(errors="backslashreplace")
-    asked = _parser().parse_args(words)
+    asked = _parsed(words)
     # what controls a terminal is printed by its numbers too, wherever it came from
     sys.stdout, sys.stderr = names.Escaping(sys.stdout), names.Escaping(sys.stderr)  # type: ignore[assignment]
     try:
         return _called(asked)
     finally:
         sys.stdout, sys.stderr = streams
+
+
+def _parsed(words: Optional[Sequence[str]]) -> argparse.Namespace:
+    """The words of the command line. Those that are no options may be anywhere among the options."""
+    parser = _parser()
+    asked, more = parser.parse_known_args(words)
+    if more and (not hasattr(asked, "files") or any(it.startswith("-") and it != "-" for it in more)):
+        parser.error(f"unrecognized arguments: {' '.join(more)}")
+    if more:
+        asked.files = [*asked.files, *map(os.fsencode, more)]
+    return asked
 
 
 def _called(asked: argparse.Namespace) -> int:
@@ -55,6 +66,9 @@ def _called(asked: argparse.Namespace) -> int:
         os.dup2(os.open(os.devnull, os.O_WRONLY), sys.stdout.fileno())
         return run.NOT_DONE
     except OSError as error:
+        if error.strerror in run.DISK:
+            print(f"{PROGRAM}: {_shown(error.filename or '')}: {error.strerror}", file=sys.stderr)
+            return run.DISK_FAILED
         said = f"{_shown(error.filename)}: {error.strerror}" if error.filename else str(error)
     print(f"{PROGRAM}: {said}", file=sys.stderr)
     return run.NOTHING_DONE
@@ -70,7 +84,7 @@ def _parser() -> argparse.ArgumentParser:
     verbs = whole.add_subparsers(dest="verb", required=True, metavar="COMMAND")
     for verb, says in VERBS.items():
         words_of.run_words(_verb(verbs, verb, says, _begin), verb)
-    status = _verb(verbs, "status", "print what the manifest says: counts, and each file that is not done", _status)
+    status = _verb(verbs, "status", "print what the manifest says: counts, and each file with which something is not well", _status)
     status.add_argument("--all", action="store_true", help="name all files, not only the first five of each cause")
     words_of.without(status)
     status.add_argument("--json", action="store_true", help="print each row of the manifest as a line of JSON")
@@ -78,7 +92,7 @@ def _parser() -> argparse.ArgumentParser:
     words_of.without(lacks)
     lacks.add_argument("-0", "--null", action="store_true", help="print names only, as they are, with a null byte after each")
     forget = _verb(verbs, "forget", "remove files from the manifest that were never packed or whose packed file is gone", _forget)
-    forget.add_argument("--name", action="append", required=True, metavar="NAME", help="a name as fzbatch status prints it, without $'..'")
+    forget.add_argument("--name", action="append", required=True, metavar="NAME", help="the name of a file, as fzbatch status prints it")
     collect = _verb(verbs, "collect", "read the results of a Slurm array into the manifest", _collect)
     collect.add_argument("--drop", action="store_true", help="drop the tasks that have no result")
     collect.add_argument("--all", action="store_true", help="name all files, not only the first five of each cause")
@@ -110,59 +124,18 @@ def _verb(verbs, name: str, says: str, call) -> argparse.ArgumentParser:
     made = verbs.add_parser(name, help=says, description=says[0].upper() + says[1:] + ".")
     made.add_argument("dir", metavar="DIR", type=os.fsencode, help="the folder of plain files; or, if it has a manifest, that of packed files")
     made.add_argument("packed", metavar="PACKED", nargs="?", type=os.fsencode, help="the folder of packed files (DIR with .fz after it)")
-    made.set_defaults(call=call)
+    if name in asking.READS:
+        made.add_argument("files", metavar="FILE", nargs="*", type=os.fsencode, help="single files, plain or packed, by their paths below either folder (all files)")
+    made.set_defaults(call=call, files=[])
     return made
 
 
 def _folders(asked: argparse.Namespace, reads: bool = True) -> tuple[bytes, bytes]:
-    """The folders of plain and of packed files, as whole paths. One is not in the other.
-
-    With `reads` false the folder of plain files has to be named: nothing is written to, or packed from, where a manifest says.
-    """
-    first = os.path.realpath(asked.dir)
-    if asked.packed is not None:
-        plain, packed = first, os.path.realpath(asked.packed)
-    elif files.there(os.path.join(first, names.MANIFEST)):
-        packed = first
-        with run.open_manifest(packed, writes=False) as manifest:
-            plain = manifest.fact("source") or b""
-        plain = plain if isinstance(plain, bytes) else b""
-        if not reads:
-            said = f"the manifest says {names.shown(plain)}, if that is right: " if plain else ""
-            raise run.Refuse(f"name both folders: {said}fzbatch {asked.verb} {names.shown(plain) if plain else 'DIR'} {names.shown(packed)}")
-    else:
-        plain, packed = first, first + names.PACKED
-    if not plain.startswith(b"/"):
-        # as after rebuild: then the plain files are not looked at
-        return b"", packed
-    for one, other in ((plain, packed), (packed, plain)):
-        if one == other or one.startswith(other.rstrip(b"/") + b"/"):
-            raise run.Refuse("the folders of plain and of packed files have to be apart: one is in the other")
-    return plain, packed
+    return asking.folders(asked, reads)
 
 
 def _begin(asked: argparse.Namespace) -> int:
-    plain, packed = _folders(asked, asked.verb in ("verify", "compare"))
-    wanted = run.Wanted(asked.verb, plain, packed, program=asked.fz, memory=asked.memory, jobs=asked.jobs, engine=asked.engine)
-    wanted.time_limit = max(0.0, asked.time_limit)
-    wanted.scheduler, wanted.allow_empty, wanted.all_names = asked.scheduler, asked.allow_empty, asked.all
-    for it in asked.sshlogin:
-        wanted.machines += ["--sshlogin", it]
-    if asked.sshloginfile:
-        wanted.machines += ["--sshloginfile", asked.sshloginfile]
-    if asked.verb == "verify":
-        wanted.sha256_only = asked.sha256_only
-    if asked.verb == "compare":
-        wanted.without_plain = asked.without_plain
-    if asked.verb == "pack":
-        wanted.options = [] if asked.no_sums else ["--sums"]
-        for name in ("codec", "tile", "block", "workers"):
-            if getattr(asked, name) is not None:
-                wanted.options += [f"--{name}", getattr(asked, name)]
-        wanted.compare, wanted.update, wanted.retry = asked.compare, asked.update, asked.retry
-        wanted.accept_wrong_sums, wanted.skip_nothing = asked.accept_wrong_sums, asked.skip_nothing
-        wanted.skip_links, wanted.skip_compressed = asked.skip_links, asked.skip_compressed
-    return run.begin(wanted, sys.stdout, sys.stderr)
+    return run.begin(asking.wanted_of(asked), sys.stdout, sys.stderr)
 
 
 def tally_of(found: survey.Survey) -> Tally:
@@ -265,7 +238,7 @@ def _share(asked: argparse.Namespace) -> int:
     given = Settings("pack", plain, packed, "0" * 16, fz, work.identity_of(fz))
     with lock.held(os.path.join(packed, names.LOCK), shared=True):
         count, good = slurm.do_share(given, os.environ, lambda: False, lambda it: None if it.good else print(f"{names.shown(it.path)}: {it.line}", file=sys.stderr))
-    print(f"share: {count} files, {good} done, {count - good} not done")
+    print(f"share: {count} files, {good} done, {count - good} failed")
     return run.DONE if good == count else run.NOT_DONE
 
 

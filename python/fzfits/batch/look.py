@@ -70,10 +70,20 @@ def look(path: bytes, out: bytes, hdu: Optional[int] = None, box: str = "", size
 def _header(path: bytes, hdu: Optional[int]) -> Header:
     found = list(headers(path))
     header = next((it for it in found if (it.is_packed if hdu is None else it.number == hdu)), None)
-    if header is None or not header.is_packed:
-        packed = ", ".join(str(it.number) for it in found if it.is_packed) or "none"
-        raise NoPicture(f"{names.shown(path)}: {'it' if hdu is None else f'HDU {hdu}'} is no packed image (packed images: {packed}); fz pack makes one")
-    return header
+    if header is not None and header.is_packed:
+        return header
+    packed = ", ".join(str(it.number) for it in found if it.is_packed)
+    if packed:
+        raise NoPicture(f"{names.shown(path)}: HDU {hdu} is no packed image; those are HDU {packed}")
+    raise NoPicture(f"{names.shown(path)} has no packed image{_why(found)}")
+
+
+def _why(found: List[Header]) -> str:
+    """Why no image of a file is packed."""
+    if any(it.is_packable for it in found):
+        return ": fz pack makes a file that has"
+    floats = [it for it in found if it.integer("BITPIX") < 0 and it.axes]
+    return f" (its image is {-floats[0].integer('BITPIX')}-bit float, which fz does not pack)" if floats else " (it has no image of integers)"
 
 
 def _pieces(header: Header, box: str, size: int) -> Tuple[List[Tuple[int, int, int]], View]:

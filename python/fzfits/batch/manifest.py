@@ -7,7 +7,7 @@ from __future__ import annotations
 
 import sqlite3
 import time
-from dataclasses import astuple, dataclass, fields
+from dataclasses import dataclass, fields
 from typing import Any, Iterator, Optional
 
 from . import checks, names, opening
@@ -93,15 +93,18 @@ def now() -> str:
 
 
 class Manifest:
-    """The manifest in a file. What is put into it is on the disk after `save`, which `put` calls about once a second."""
+    """The manifest in a file. What is put into it is on the disk after `save`, which `put` calls about once a second.
 
-    def __init__(self, path: bytes, writes: bool = True):
+    With `whole` false its rows are not looked at, and only its facts can be asked for.
+    """
+
+    def __init__(self, path: bytes, writes: bool = True, whole: bool = True):
         self.path, self.changed = path, False
         self._rest: Optional[str] = None
         self._broken = ""
         self._sql, self._room = opening.opened(path, writes)
         try:
-            self._load(writes)
+            self._load(writes, whole)
         except BaseException as error:
             self._sql.close()
             opening.closed(self._room)
@@ -110,7 +113,7 @@ class Manifest:
                 raise BadManifest(f"the manifest {names.shown(path)}: {names.told(str(error))}{opening.what_to_do(path, error)}") from error
             raise
 
-    def _load(self, writes: bool) -> None:
+    def _load(self, writes: bool, whole: bool) -> None:
         if writes and not self._sql.execute("SELECT count(*) FROM sqlite_master").fetchone()[0]:
             self._sql.execute("BEGIN IMMEDIATE")
             for made in SCHEMAS[0 if STRICT else 1].values():
@@ -124,6 +127,10 @@ class Manifest:
         self._sql.execute("BEGIN")
         self._check_version()
         checks.check_tables(self._sql, SCHEMAS)
+        if not whole:
+            self._check_rest(("facts",))
+            self._sql.commit()
+            return
         found = self._sql.execute("PRAGMA quick_check(1)").fetchone()[0]
         if found != "ok":
             raise checks.Odd(f"it is damaged ({found})")
@@ -151,12 +158,15 @@ class Manifest:
             self._hashes[row.path] = digest
             self._total = checks.added(self._total, digest)
             kept.append(row)
-        for table in ("facts", "left_out", "others", "runs", "seal"):
-            for values in self._sql.execute(f"SELECT * FROM {table}"):
-                checks.check_row(table, values)
+        self._check_rest(("facts", "left_out", "others", "runs", "seal"))
         if dict(self._sql.execute("SELECT name, value FROM seal")) != self._seals():
             raise checks.Odd("rows are gone or changed: their number and the sum of their hashes are others than when it was written")
         self._rows = {it.path: it for it in kept}
+
+    def _check_rest(self, tables: "tuple[str, ...]") -> None:
+        for table in tables:
+            for values in self._sql.execute(f"SELECT * FROM {table}"):
+                checks.check_row(table, values)
 
     def _seals(self) -> dict[str, str]:
         if self._rest is None:
@@ -228,7 +238,7 @@ class Manifest:
 
     def put(self, row: Row) -> None:
         """Sets the row of a file."""
-        values = astuple(row)
+        values = tuple(getattr(row, it) for it in COLUMNS)
         try:
             checks.check_row("files", values)
             checks.check_file(row)
@@ -259,14 +269,13 @@ class Manifest:
         return (Row(**vars(self._rows[it])) for it in sorted(self._rows))
 
     def leave_out(self, left: Any, others: "dict[str, int]") -> None:
-        """Notes what the last look at the source left out, in the place of what an earlier one did."""
+        """Notes what the last look at the source left out, in the place of what an earlier one did. The disk has it after `save`."""
         self._write("DELETE FROM left_out")
         self._write("DELETE FROM others")
         for it in left:
             self._write("INSERT INTO left_out VALUES (?, ?, ?)", (it.path, names.told(it.why), names.told(it.advice)))
         for suffix, count in others.items():
             self._write("INSERT INTO others VALUES (?, ?)", (names.told(suffix), count))
-        self.save()
 
     def left_out(self) -> "list[tuple[bytes, str, str]]":
         """Path, cause and advice of what was left out."""

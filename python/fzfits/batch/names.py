@@ -105,7 +105,7 @@ def _escaped(byte: int) -> str:
 
 def told(text: str) -> str:
     """Text of a file or of another machine on one line, in which no character controls a terminal."""
-    return "".join(it if it.isprintable() else _spelled(it) for it in text)
+    return text if text.isprintable() else "".join(it if it.isprintable() else _spelled(it) for it in text)
 
 
 def _spelled(character: str) -> str:

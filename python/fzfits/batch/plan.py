@@ -3,7 +3,7 @@ from __future__ import annotations
 
 from collections import Counter
 from dataclasses import dataclass, field
-from typing import Iterable, Optional
+from typing import Callable, Iterable, Optional
 
 from . import inside, names
 from .manifest import Row
@@ -30,8 +30,8 @@ class Plan:
         self.sizes[path] = size or 0
 
 
-def to_pack(found: Scan, rows: dict[bytes, Row], packed: bytes, identity: str, options: str, retry: bool) -> Plan:
-    """Each file of the source that is not known to be packed, or whose plain or packed file looks otherwise than it did.
+def to_pack(found: Scan, rows: dict[bytes, Row], packed: bytes, identity: str, options: str, retry: bool, wanted: Callable[[bytes], bool] = lambda path: True) -> Plan:
+    """Each wanted file of the source that is not known to be packed, or whose plain or packed file looks otherwise than it did.
 
     A plain file that was read within two seconds of its last change is read once more: its time may be the same after a change.
     """
@@ -39,6 +39,8 @@ def to_pack(found: Scan, rows: dict[bytes, Row], packed: bytes, identity: str, o
     # no link is followed, also none in the place of a folder
     here = scan_packed(packed).files if rows else {}
     for path, it in found.files.items():
+        if not wanted(path):
+            continue
         row = rows.get(path)
         same = row is not None and (row.size, row.mtime) == (it.size, it.mtime)
         if row is None or not same:
@@ -52,7 +54,7 @@ def to_pack(found: Scan, rows: dict[bytes, Row], packed: bytes, identity: str, o
     _mark_shared(plan, rows, packed)
     unread = [it.path for it in found.left if it.sort == SHUT]
     for path, row in rows.items():
-        if path not in found.files and not any(_is_in(path, it) for it in unread):
+        if path not in found.files and wanted(path) and not any(_is_in(path, it) for it in unread):
             (plan.gone if row.done else plan.never_packed).append(row)
     return plan
 

@@ -1,20 +1,19 @@
-"""How far a run is: a bar by tqdm or rich on a terminal, if one of them is installed, and otherwise a line each minute."""
+"""How far a run is: a bar by tqdm or rich on a terminal, if one of them is installed, otherwise a line each second there, and a line
+each minute anywhere else."""
 from __future__ import annotations
 
+import threading
 import time
 from typing import Protocol, TextIO
 
-MINUTE = 60.0
+SECOND, MINUTE = 1.0, 60.0
 
 
 class Progress(Protocol):
     """What shows how far a run is."""
 
-    def step(self, size: int) -> None:
+    def step(self, size: int, good: bool = True) -> None:
         """One more file is through, of so many bytes."""
-
-    def tell(self, line: str) -> None:
-        """Prints a line without spoiling the bar."""
 
     def close(self) -> None:
         """The run is over."""
@@ -36,46 +35,70 @@ def length(seconds: float) -> str:
     return f"{whole // 60} min {whole % 60:02} s" if whole >= 60 else f"{whole} s"
 
 
-class Lines:
-    """A line each minute."""
+class Silent:
+    """Nothing is shown."""
 
-    def __init__(self, verb: str, count: int, size: int, to: TextIO, every: float = MINUTE):
-        self.verb, self.count, self.size, self.to, self.every = verb, count, size, to, every
-        self.done = self.bytes = 0
-        self.began = self.told = time.monotonic()
-
-    def step(self, size: int) -> None:
-        self.done += 1
-        self.bytes += size
-        now = time.monotonic()
-        if now - self.told >= self.every:
-            self.told = now
-            taken = now - self.began
-            left = taken * (self.size - self.bytes) / self.bytes if self.bytes else 0
-            self.tell(f"{self.verb}: {self.done} of {self.count} files, {amount(self.bytes)} of {amount(self.size)}, {amount(self.bytes / taken)}/s, about {length(left)} left")
-
-    def tell(self, line: str) -> None:
-        print(line, file=self.to, flush=True)
+    def step(self, size: int, good: bool = True) -> None:
+        pass
 
     def close(self) -> None:
         pass
+
+
+class Lines:
+    """A line every so many seconds, also while no file ends. On a terminal the next line takes the place of the one before."""
+
+    def __init__(self, verb: str, count: int, size: int, to: TextIO, every: float = MINUTE, over: bool = False):
+        self.verb, self.count, self.size, self.to, self.over = verb, count, size, to, over
+        self.done = self.failed = self.bytes = self.longest = 0
+        self.began = time.monotonic()
+        self._ended = threading.Event()
+        self._ticks = threading.Thread(target=self._tick, args=(every,), daemon=True)
+        self._ticks.start()
+
+    def _tick(self, every: float) -> None:
+        while not self._ended.wait(every):
+            self.tell()
+
+    def step(self, size: int, good: bool = True) -> None:
+        self.done += 1
+        self.failed += not good
+        self.bytes += size
+
+    def line(self) -> str:
+        """How far it is, and about how long it will take."""
+        taken = max(time.monotonic() - self.began, 1e-9)
+        failed = f", {self.failed} failed" if self.failed else ""
+        left = f", about {length(taken * (self.size - self.bytes) / self.bytes)} left" if self.bytes else ""
+        return f"{self.verb}: {self.done} of {self.count} files{failed}, {amount(self.bytes)} of {amount(self.size)}, {amount(self.bytes / taken)}/s{left}"
+
+    def tell(self) -> None:
+        """Prints a line."""
+        line = self.line()
+        blanks = " " * max(0, self.longest - len(line))
+        self.longest = max(self.longest, len(line))
+        print(f"\r{line}{blanks}" if self.over else line, end="" if self.over else "\n", file=self.to, flush=True)
+
+    def close(self) -> None:
+        self._ended.set()
+        self._ticks.join()
+        if self.over and self.longest:
+            print(f"\r{' ' * self.longest}\r", end="", file=self.to, flush=True)
 
 
 class Tqdm:
     """A bar of tqdm, in bytes."""
 
     def __init__(self, module, verb: str, count: int, size: int, to: TextIO):
-        self._module, self._to = module, to
         self._bar = module.tqdm(total=size, unit="B", unit_scale=True, desc=verb, file=to, dynamic_ncols=True)
-        self.count, self.done = count, 0
+        self.count, self.done, self.failed = count, 0, 0
 
-    def step(self, size: int) -> None:
+    def step(self, size: int, good: bool = True) -> None:
         self.done += 1
-        self._bar.set_postfix_str(f"{self.done}/{self.count} files", refresh=False)
+        self.failed += not good
+        failed = f", {self.failed} failed" if self.failed else ""
+        self._bar.set_postfix_str(f"{self.done}/{self.count} files{failed}", refresh=False)
         self._bar.update(size)
-
-    def tell(self, line: str) -> None:
-        self._module.tqdm.write(line, file=self._to)
 
     def close(self) -> None:
         self._bar.close()
@@ -89,32 +112,33 @@ class Rich:
 
         columns = (module.TextColumn("{task.description}"), module.BarColumn(), module.DownloadColumn(), module.TransferSpeedColumn(), module.TimeRemainingColumn())
         self._bar = module.Progress(*columns, console=Console(file=to))
+        self._verb, self._failed = verb, 0
         self._task = self._bar.add_task(verb, total=size)
         self._bar.start()
 
-    def step(self, size: int) -> None:
-        self._bar.advance(self._task, size)
-
-    def tell(self, line: str) -> None:
-        self._bar.console.print(line, markup=False, highlight=False, soft_wrap=True)
+    def step(self, size: int, good: bool = True) -> None:
+        self._failed += not good
+        self._bar.update(self._task, advance=size, description=f"{self._verb}, {self._failed} failed" if self._failed else self._verb)
 
     def close(self) -> None:
         self._bar.stop()
 
 
-def progress(verb: str, count: int, size: int, to: TextIO) -> Progress:
+def progress(verb: str, count: int, size: int, to: TextIO, quiet: bool = False) -> Progress:
     """The best that there is for this output."""
-    if to.isatty() and count:
-        try:
-            import tqdm
+    if quiet or not count:
+        return Silent()
+    if not to.isatty():
+        return Lines(verb, count, size, to)
+    try:
+        import tqdm
 
-            return Tqdm(tqdm, verb, count, size, to)
-        except ImportError:
-            pass
-        try:
-            import rich.progress
+        return Tqdm(tqdm, verb, count, size, to)
+    except ImportError:
+        pass
+    try:
+        import rich.progress
 
-            return Rich(rich.progress, verb, size, to)
-        except ImportError:
-            pass
-    return Lines(verb, count, size, to)
+        return Rich(rich.progress, verb, size, to)
+    except ImportError:
+        return Lines(verb, count, size, to, SECOND, over=True)

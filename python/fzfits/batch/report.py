@@ -11,6 +11,7 @@ from . import names, svg
 from .manifest import Manifest, Row, now
 from .progress import amount, length
 from .survey import Finding, Survey
+from .tally import WORDS, shown
 
 UNITS = (("TB", 1e12), ("GB", 1e9), ("MB", 1e6), ("kB", 1e3))
 SPANS = (("days", 86400), ("hours", 3600), ("minutes", 60), ("seconds", 1))
@@ -55,21 +56,26 @@ def _files(count: int) -> str:
 
 def _head(packed: bytes, found: Survey) -> str:
     rows, bad = found.rows, len(found.findings)
-    states = Counter(it.cause for it in found.findings)
+    states = Counter(shown(it.cause) for it in found.findings)
     named = {it.path for it in found.findings}
-    states.update(it.status for it in rows if it.path not in named)
+    states.update(WORDS.get(it.status, it.status) for it in rows if it.path not in named)
     verdict = f'<p class="good">All {_files(len(rows))} of the manifest are packed, and no fault is known.</p>'
     if bad:
         verdict = f'<p class="bad">{_files(bad)} of {len({it.path for it in rows} | named):,} {"needs" if bad == 1 else "need"} attention: see below.</p>'
     elif found.left:
-        verdict = f'<p class="bad">{len(found.left):,} {"name was" if len(found.left) == 1 else "names were"} left out: see below.</p>'
+        verdict = f'<p class="bad">{len(found.left):,} {"name was" if len(found.left) == 1 else "names were"} skipped: see below.</p>'
     verdict += f'\n<p class="bad">{_text(found.lost)}.</p>' if found.lost else ""
-    checked = sorted(it.checked_at for it in rows if it.done and it.checked_at)
+    checked = min((it for it in rows if it.done and it.checked_at), key=lambda it: it.checked_at, default=None)
     never = sum(1 for it in rows if it.done and not it.checked_at)
-    when = f"The packed file that was not checked for longest was checked at {_text(checked[0])}. " if checked else ""
-    when += f"{_files(never)} were verified only when they were packed." if never else ""
+    when = f"Oldest check: {_day(checked.checked_at)} (<code>{_name(checked.path)}</code>). " if checked else ""
+    when += f"{_files(never)}: verified when packed, not since." if never else ""
     source = f"Plain files: <code>{_name(found.found.root)}</code>. " if found.found else "The folder of plain files is not there. "
     return f'<h1>Archive {_name(packed)}</h1>\n<p class="note">{source}State of {now()}.</p>\n{verdict}\n{svg.strip(sorted(states.items(), key=lambda it: -it[1]))}\n<p>{when}</p>'
+
+
+def _day(text: str) -> str:
+    """The day of a time of the manifest: 1 Dec 2026."""
+    return f"{int(text[8:10])} {calendar.month_abbr[int(text[5:7])]} {text[:4]}"
 
 
 def _sizes(rows: Sequence[Row]) -> str:
@@ -113,8 +119,8 @@ def _times(rows: Sequence[Row]) -> str:
         points.append(((at - begin) / second, total / one))
     slow = max(rows, key=lambda it: it.seconds)
     rate = amount(size / spent) if spent else "?"
-    text = f"<h2>Time</h2><p>The tasks took {length(spent)} together, {rate} of plain files in a second each; "
-    text += f"the longest, {length(slow.seconds)}, was <code>{_name(slow.path)}</code>.</p>"
+    text = f"<h2>Time</h2><p>{length(spent)} of work, {rate}/s per job; "
+    text += f"slowest file: <code>{_name(slow.path)}</code> ({slow.seconds:.1f} s).</p>"
     return text + svg.histogram([it[2] for it in done], "seconds that a file took") + svg.curve(points, span, f"{unit} of plain files that were packed")
 
 
@@ -125,9 +131,9 @@ def _not_well(found: Survey) -> str:
     if not causes:
         return ""
     ordered = sorted(causes.items(), key=lambda it: -len(it[1]))
-    lines = ["<h2>Not well</h2>", svg.bars([(names.told(cause), len(here), f"{len(here):,}") for (cause, _), here in ordered])]
+    lines = ["<h2>Not well</h2>", svg.bars([(names.told(shown(cause)), len(here), f"{len(here):,}") for (cause, _), here in ordered])]
     for (cause, what), here in ordered:
-        lines.append(f"<h3>{_text(cause)}: {_files(len(here))}</h3><p><b>What to do:</b> {_text(what)}.</p>")
+        lines.append(f"<h3>{_text(shown(cause))}: {_files(len(here))}</h3><p><b>What to do:</b> {_text(what)}.</p>")
         lines.append(_names((it.path, it.line) for it in here))
     return "\n".join(lines)
 
@@ -142,7 +148,7 @@ def _names(found: Iterable[Tuple[bytes, str]]) -> str:
 def _left(found: Survey) -> str:
     lines = []
     if found.left:
-        lines.append(f"<h2>Left out</h2>{_names((it.path, it.why + '. What to do: ' + it.advice) for it in found.left)}")
+        lines.append(f"<h2>Skipped</h2>{_names((it.path, it.why + '. What to do: ' + it.advice) for it in found.left)}")
     if found.others:
         counts = ", ".join(f"{_text(suffix)} {count:,}" for suffix, count in found.others.items())
         lines.append(f"<p>Files with other names, which are not packed: {counts}.</p>")

@@ -9,27 +9,27 @@ import os
 import secrets
 import signal
 import socket
-import stat
 import time
-from contextlib import suppress
 from typing import Iterator, Optional, TextIO
 
 from .. import program
 from ..errors import NoProgram
-from . import advice, calls, engines, files, keep, lock, machine, names, plan, rooms, slurm, submit, survey, work
+from . import before, calls, dry, engines, files, keep, lock, machine, names, plan, slurm, start, survey, work
+from .logged import Log
 from .manifest import BadManifest, Manifest, Row
 from .messages import Result, Settings
-from .progress import Progress, progress
+from .progress import progress
 from .record import record
-from .scan import NoSource, Scan, folders_of, scan
-from .tally import Tally
-from .wanted import Refuse, Wanted, open_manifest, place, signals
+from .scan import NoSource, Scan
+from .tally import WORDS, Tally
+from .wanted import DISK_FAILED, DONE, IDLE, NOT_DONE, NOTHING_DONE, Refuse, Wanted, find_manifest, open_manifest, place, signals
 
-DONE, NOT_DONE, NOTHING_DONE = 0, 1, 2
-# After these nothing else can be written either, so the run stops.
-STOPPING = (work.WRONG_OPTIONS, work.NO_PROGRAM, *(os.strerror(it) for it in (errno.ENOSPC, errno.EROFS, errno.EDQUOT)))
+# What the system says if a disk failed; after the first three nothing else can be written either.
+FULL = (errno.ENOSPC, errno.EROFS, errno.EDQUOT)
+DISK = tuple(os.strerror(it) for it in (*FULL, errno.EIO, errno.ESTALE, errno.ENODEV, errno.ENXIO))
+STOPPING = (work.WRONG_OPTIONS, work.NO_PROGRAM, *(os.strerror(it) for it in FULL))
 
-__all__ = ["DONE", "NOTHING_DONE", "NOT_DONE", "Refuse", "Wanted", "begin", "open_manifest"]
+__all__ = ["DISK_FAILED", "DONE", "IDLE", "NOTHING_DONE", "NOT_DONE", "Refuse", "Wanted", "begin", "open_manifest"]
 
 
 def begin(wanted: Wanted, out: TextIO, err: TextIO) -> int:
@@ -37,12 +37,13 @@ def begin(wanted: Wanted, out: TextIO, err: TextIO) -> int:
     try:
         return _Run(wanted, out, err).status()
     except (Refuse, NoSource, BadManifest, NoProgram, lock.Locked, engines.NoEngine) as error:
-        said = str(error)
+        said, status = str(error), NOTHING_DONE
     except OSError as error:
         name = names.shown(os.fsencode(error.filename)) if isinstance(error.filename, (str, bytes)) else ""
         said = f"{name}: {error.strerror}" if name else str(error)
+        status = DISK_FAILED if error.strerror in DISK else NOTHING_DONE
     print(f"fzbatch: {names.told(said)}", file=err)
-    return NOTHING_DONE
+    return status
 
 
 class _Run:
@@ -60,26 +61,51 @@ class _Run:
     def status(self) -> int:
         calls.check_files()
         self.program = program.find(self.wanted.program)
+        before.check(self.wanted, self.program)
         self.identity = work.identity_of(self.program)
-        found = self._source()
-        self._make_folder()
+        found = start.source(self.wanted)
+        if self.wanted.dry_run:
+            return dry.run(self.wanted, found, self.identity, self.out)
+        self.log = self.tally.log = Log(self.wanted.log)
+        try:
+            return self._status(found)
+        finally:
+            self.log.close()
+
+    def _status(self, found: Optional[Scan]) -> int:
+        if self.wanted.verb == "pack":
+            start.make_folder(self.wanted.packed, self.wanted.plain)
         with lock.held(os.path.join(self.wanted.packed, names.LOCK)):
             if files.there(slurm.tasks_file(self.wanted.packed)):
                 raise Refuse("the tasks of an earlier run with --engine slurm were not collected: fzbatch collect does it")
             with self._manifest() as self.manifest:
                 self.rows = {it.path: it for it in self.manifest.rows()}
-                self._clean_up()
+                start.clean_up(self.wanted, self.manifest)
                 todo = self._plan(found)
                 self.after_update = survey.update_was_killed(self.manifest)
-                self.manifest.begin(self.token, f"{self.wanted.verb}{' --update' if self.wanted.update else ''}", socket.gethostname(), os.getpid())
+                verb = f"{self.wanted.verb}{' --update' if self.wanted.update else ''}"
+                self.log.tell(f"{verb} begins: {names.shown(self.wanted.plain)}, {names.shown(self.wanted.packed)}: {len(todo.tasks)} files to do")
+                self.manifest.begin(self.token, verb, socket.gethostname(), os.getpid())
                 if self.wanted.engine == "slurm":
+                    from . import submit  # pylint: disable=import-outside-toplevel
+
                     return submit.hand_over(self.settings(0), todo.tasks, self.out)
                 self._do(todo)
                 self.tally.seconds = time.monotonic() - self.began
                 self._end()
-        self.tally.print(self.out, self.wanted.all_names)
+        return self._summed_up()
+
+    def _summed_up(self) -> int:
+        """Prints the summary, and gives the status."""
+        self.log.tell(self.tally.last_line() + (f"; stopped: {self.tally.stopped}" if self.tally.stopped else ""))
+        if not self.wanted.quiet or not self.tally.whole:
+            self.tally.print(self.out, self.wanted.all_names)
         if self.stop_signal:
             return 128 + self.stop_signal
+        if self.tally.disk_failed:
+            return DISK_FAILED
+        if self.wanted.tells_idle and self.tally.idle:
+            return IDLE
         return DONE if self.tally.whole else NOT_DONE
 
     # before the first task
@@ -92,104 +118,21 @@ class _Run:
             if not files.there(path) and files.there(copy):
                 raise Refuse(f"{names.shown(path)} is not there, and its second copy is: fzbatch rebuild makes it again from the copy and the packed files (or move the copy away, and fzbatch pack begins anew)")
             return Manifest(path)
+        find_manifest(self.wanted.packed)
         if lock.is_writable(self.wanted.packed) and os.access(path, os.W_OK):
-            return open_manifest(self.wanted.packed)
+            return Manifest(path)
         self.tally.notes.append(f"{names.shown(self.wanted.packed)} cannot be written, so the manifest does not record this run.")
-        return open_manifest(self.wanted.packed, writes=False)
-
-    def _source(self) -> Optional[Scan]:
-        """Looks at the source before anything is made: one that is not there, or has no file, does nothing."""
-        wanted = self.wanted
-        if wanted.verb != "pack":
-            open_manifest(wanted.packed, writes=False).close()
-            return None
-        found = scan(wanted.plain)
-        if not found.files and not wanted.allow_empty:
-            others = f" (it has {sum(found.others.values())} files of other names)" if found.others else ""
-            left = f" (it has {len(found.left)} links, compressed files or folders that cannot be read)" if found.left else ""
-            raise Refuse(f"{names.shown(wanted.plain)} has no FITS file{others}{left}: is its disk mounted? --allow-empty says that it may be empty")
-        return found
-
-    def _make_folder(self) -> None:
-        """Makes the folder that is written, with the rights of the other, but not the one above it, which may be a disk that is not mounted."""
-        wanted = self.wanted
-        made, like = (wanted.packed, wanted.plain) if wanted.verb == "pack" else (wanted.plain, wanted.packed)
-        if wanted.verb in ("pack", "restore") and not os.path.isdir(made):
-            try:
-                os.mkdir(made, 0o700)
-            except FileNotFoundError:
-                raise Refuse(f"the folder of {names.shown(made)} is not there: is its disk mounted?") from None
-            rights = (stat.S_IMODE(os.stat(like).st_mode) & 0o777) | 0o700 if os.path.isdir(like) else 0o700
-            try:
-                os.chmod(made, rights)
-            except PermissionError:
-                # a file system without rights
-                pass
-
-    def _clean_up(self) -> None:
-        """Removes what killed runs were writing. Only names with the token of such a run are removed, and no link is followed."""
-        if not lock.is_writable(self.wanted.packed):
-            return
-        rooms.remove_of_killed(self.wanted.packed)
-        tokens = {token for token, *_, ended, _ in self.manifest.runs() if ended is None}
-        if not tokens:
-            return
-        roots = {self.wanted.packed} | ({self.wanted.plain} if self.wanted.verb == "restore" else set())
-        for folder in (it for root in roots if os.path.isdir(root) for it in folders_of(root)):
-            for name in os.listdir(folder):
-                if names.is_part_of(name, tokens):
-                    with suppress(OSError):
-                        files.remove(os.path.join(folder, name))
+        return Manifest(path, writes=False)
 
     def _plan(self, found: Optional[Scan]) -> plan.Plan:
         if found is None:
-            todo = plan.of_packed(self.rows.values())
-            if not todo.tasks and not self.wanted.allow_empty:
-                raise Refuse(f"the manifest of {names.shown(self.wanted.packed)} has no packed file")
-            for row in todo.never_packed:
-                self.tally.bad(row.path, survey.NEVER, f"it was never packed: {row.line}", row.advice)
-            self._strangers()
+            todo = start.to_read(self.wanted, self.rows, self.tally)
+            if self.wanted.verb == "restore":
+                start.make_folder(self.wanted.plain, self.wanted.packed)
             return todo
-        options = " ".join(self.wanted.options)
-        if self.rows and not self.wanted.allow_empty and not any(it in self.rows for it in found.files):
-            raise Refuse(f"{names.shown(self.wanted.plain)} has none of the {len(self.rows)} files of the manifest: is it the right folder, and is its disk mounted? --allow-empty says so")
-        todo = plan.to_pack(found, self.rows, self.wanted.packed, self.identity, options, self.wanted.retry)
-        for fact, on in (("skip_links", self.wanted.skip_links), ("skip_compressed", self.wanted.skip_compressed)):
-            if on or self.wanted.skip_nothing:
-                self.manifest.tell(fact, int(on))
-        left, notes = survey.kept_left(self.manifest, found.left)
-        self.tally.notes += notes
-        self.manifest.leave_out(left, found.others)
-        self.manifest.tell("source", self.wanted.plain)
-        self.tally.left, self.tally.others = left, dict(found.others.most_common())
-        self._known(todo)
-        self._strangers({names.packed_name(it.path) for it in todo.tasks})
+        todo = start.to_pack(self.wanted, found, self.rows, self.identity, self.tally)
+        start.note_source(self.wanted, found, self.manifest, self.tally)
         return todo
-
-    def _known(self, todo: plan.Plan) -> None:
-        """Counts what needs no task."""
-        for row in todo.there:
-            self.tally.good("there", row.size or 0, row.packed_size or 0)
-        for row in todo.refused:
-            self.tally.bad(row.path, row.cause, row.line, row.advice)
-        for row in todo.never_packed:
-            said = f"it is not in the source any more, and was not packed: {row.line}"
-            self.tally.bad(row.path, "gone, and never packed", said, f"find it in another copy; {advice.FORGET}")
-        gone = 0
-        for row in todo.gone:
-            if survey.files_there(self.wanted.packed, names.packed_name(row.path)):
-                gone += 1
-            else:
-                said = "neither the plain nor the packed file is there"
-                self.tally.bad(row.path, "plain and packed file are gone", said, f"fetch one of them from another copy; {advice.FORGET}")
-        if gone:
-            self.tally.notes.append(f"{gone} plain files were packed by earlier runs and are not in the source any more; their packed files are there.")
-
-    def _strangers(self, tried: "frozenset[bytes] | set[bytes]" = frozenset()) -> None:
-        """Names each packed file that the manifest does not know; one of a task is looked at by it."""
-        for it in survey.names_of_unknown(self.rows, self.wanted.packed):
-            if it not in tried:
-                self.tally.bad(it, *survey.UNKNOWN)
 
     # the tasks
 
@@ -212,16 +155,16 @@ class _Run:
     def _do(self, todo: plan.Plan) -> None:
         roots = {it: place(it) for it in (self.wanted.plain, self.wanted.packed)}
         answered = 0
-        bar = progress(self.wanted.verb, len(todo.tasks), sum(todo.sizes.values()), names.unescaped(self.err))
+        bar = progress(self.wanted.verb, len(todo.tasks), sum(todo.sizes.values()), names.unescaped(self.err), self.wanted.quiet)
         with signals(self._signalled):
             try:
                 for result in self._results(todo):
                     if not result.good and self._must_stop(result, roots):
                         continue
-                    if not self._record(result, bar):
+                    if not self._record(result):
                         continue
                     answered += 1
-                    bar.step(todo.sizes.get(result.path, 0))
+                    bar.step(todo.sizes.get(result.path, 0), result.good)
             finally:
                 bar.close()
         self.tally.untried = len(todo.tasks) - answered
@@ -237,9 +180,14 @@ class _Run:
                 self.tally.notes += keep.keep(self.manifest, self.wanted.packed)
         except BadManifest as error:
             self.manifest.give_up()
-            self.tally.stopped = self.tally.stopped or str(error)
+            self._stop(str(error))
         except OSError as error:
-            self.tally.stopped = self.tally.stopped or f"the second copy of the manifest cannot be written: {error.strerror}"
+            self._stop(f"the second copy of the manifest cannot be written: {error.strerror}")
+
+    def _stop(self, why: str) -> None:
+        """Stops the run because of a disk."""
+        self.tally.stopped = self.tally.stopped or why
+        self.tally.disk_failed = True
 
     def _signalled(self, number: int) -> None:
         self.stop_signal = number
@@ -251,21 +199,22 @@ class _Run:
             return True
         for root, was in roots.items():
             if was is not None and place(root) != was:
-                self.tally.stopped = f"{names.shown(root)} went away: is its disk still mounted?"
+                self._stop(f"{names.shown(root)} went away: is its disk still mounted?")
                 return True
+        self.tally.disk_failed = self.tally.disk_failed or result.cause.startswith(DISK)
         if result.cause.startswith(STOPPING):
             given = f" ({' '.join(self.wanted.options)})" if result.cause == work.WRONG_OPTIONS else ""
             self.tally.stopped = f"{result.cause}{given}: {result.advice}"
             return True
         return False
 
-    def _record(self, result: Result, bar: Progress) -> bool:
+    def _record(self, result: Result) -> bool:
         """Writes a result into the manifest. If that has no room the run stops, and the next one finds the packed file and compares it."""
         try:
             row = record(self.manifest, self.rows.get(result.path), result, self.identity, " ".join(self.wanted.options))
         except BadManifest as error:
             self.manifest.give_up()
-            self.tally.stopped = str(error)
+            self._stop(str(error))
             return False
         self.rows[row.path] = row
         if result.warning:
@@ -275,7 +224,7 @@ class _Run:
             self.tally.bad(result.path, row.cause, row.line, row.advice)
         elif result.good:
             self.tally.good(result.outcome, row.size or 0, row.packed_size or 0)
+            self.log.tell(f"{names.shown(result.path)}: {WORDS[result.outcome]}")
         else:
             self.tally.bad(result.path, result.cause, result.line, result.advice)
-            bar.tell(names.told(f"{names.shown(result.path)}: {result.line}"))
         return True

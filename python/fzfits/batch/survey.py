@@ -6,7 +6,7 @@ packed within two seconds of its last change is read, since its time may be the 
 from __future__ import annotations
 
 from dataclasses import dataclass, field
-from typing import Iterable, Optional
+from typing import Any, Callable, Iterable, Optional
 
 from . import advice, files, inside, names, slurm
 from .manifest import Manifest, Row
@@ -87,7 +87,7 @@ def survey(manifest: Manifest, plain: bytes, packed: bytes, without_plain: bool 
     for it in here.left:
         if not it.path.removesuffix(names.PACKED) in rows:
             made.add(it.path, "link or shut folder among the packed files", it.why, it.advice.split("; with")[0])
-    made.left, notes = kept_left(manifest, made.found.left if made.found else [])
+    made.left, notes = kept_left(manifest.fact, made.found.left if made.found else [])
     made.others = dict(made.found.others.most_common()) if made.found else manifest.others()
     made.notes += notes + notes_of(manifest, made.rows, packed)
     if made.found is None or not has_plain:
@@ -157,11 +157,11 @@ def _is_in(path: bytes, folder: bytes) -> bool:
     return path == folder or path.startswith(folder + b"/")
 
 
-def kept_left(manifest: Manifest, left: "list[Left]") -> "tuple[list[Left], list[str]]":
-    """What is left out, without the sorts that the manifest says may be, and a line for each of these."""
+def kept_left(fact_of: Callable[[str], Any], left: "list[Left]") -> "tuple[list[Left], list[str]]":
+    """What is left out, without the sorts that the facts of the manifest say may be, and a line for each of these."""
     notes = []
     for fact, (sort, what, option) in SKIPS.items():
-        if manifest.fact(fact):
+        if fact_of(fact):
             count = sum(it.sort == sort for it in left)
             left = [it for it in left if it.sort != sort]
             notes.append(f"{what}: {count} left out, as {option} says.")

@@ -205,7 +205,7 @@ class Tries:
             try:
                 found = files.look_at(opened)
                 if sha256 is not None and found.sha256 != sha256:
-                    raise Stop("differs", "comes back otherwise", "what comes back is another file than the one that was packed", "keep the plain file. " + advice.ANOTHER_COPY)
+                    raise Stop("differs", "unpacked file differs from the original", "the unpacked file differs from the one that was packed", "keep the plain file. " + advice.ANOTHER_COPY)
                 if with_sums:
                     self.restored_sums(opened, found)
                 self.result.tests |= CAME_BACK if sha256 is not None else 0
@@ -273,15 +273,17 @@ class Tries:
         if ended.status == 0:
             return
         root, path = (self.settings.plain, self.task.path) if verb == "pack" else (self.settings.packed, names.packed_name(self.task.path))
-        what, hint = advice.of_outcome(ended), advice.hint(ended, verb, os.path.join(root, path))
+        # what this very file says more comes in the place of what is said of all files of its kind
+        line, what = advice.of_file(ended, verb, os.path.join(root, path))
+        what = what or advice.of_outcome(ended)
         if ended.status < 0:
             raise Stop("killed", f"fz {verb}: {ended.signal}", f"fz {verb} was ended by {ended.signal}", what)
         if ended.status == 3:
             kind, name = advice.kind_of(ended.line)
-            raise Stop("refused", f"{kind} {name}", f"fz {verb}: {ended.line}" + (f"; {hint}" if hint else ""), what, kind)
+            raise Stop("refused", f"{kind} {name}", f"fz {verb}: {line or ended.line}", what, kind)
         said = ended.line or ended.errors.strip() or f"status {ended.status}"
         if ended.status == 2:
             raise Stop("failed", WRONG_OPTIONS, f"fz {verb}: {said}", what)
         if ended.status == 1:
             said = wrong_lines(ended)
-        raise Stop("failed", f"fz {verb}: {said.split(':')[0]}", f"fz {verb}: {said}" + (f"; {hint}" if hint else ""), what)
+        raise Stop("failed", f"fz {verb}: {said.split(':')[0]}", f"fz {verb}: {said}", what)

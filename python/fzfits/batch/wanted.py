@@ -4,10 +4,16 @@ from __future__ import annotations
 import os
 import signal
 from dataclasses import dataclass, field
-from typing import Callable, Optional
+from typing import TYPE_CHECKING, Callable, Optional
 
 from . import files, names
 from .manifest import Manifest
+
+if TYPE_CHECKING:
+    from .chosen import Chosen
+
+# The statuses of fzbatch: all is done, a file is not, nothing was begun, a disk failed, and (if asked) all was done before.
+DONE, NOT_DONE, NOTHING_DONE, DISK_FAILED, IDLE = range(5)
 
 
 class Refuse(Exception):
@@ -40,17 +46,27 @@ class Wanted:
     without_plain: bool = False
     time_limit: float = 0.0
     all_names: bool = False
+    chosen: "Optional[Chosen]" = None
+    quiet: bool = False
+    dry_run: bool = False
+    log: Optional[str] = None
+    tells_idle: bool = False
+
+
+def find_manifest(packed: bytes) -> bytes:
+    """Where the manifest of a folder of packed files is. Raises `Refuse` if it has none."""
+    path = os.path.join(packed, names.MANIFEST)
+    if not os.path.isdir(packed):
+        raise Refuse(f"{names.shown(packed)}: no such folder; is its disk mounted?")
+    if not files.there(path):
+        made = "fzbatch rebuild makes one from the packed files, and fzbatch pack from the plain and the packed files"
+        raise Refuse(f"{names.shown(packed)} was not made by fzbatch, or its disk is not mounted: it has no manifest ({names.MANIFEST.decode()}). {made}")
+    return path
 
 
 def open_manifest(packed: bytes, writes: bool = True) -> Manifest:
     """The manifest of a folder of packed files, which has to be there."""
-    path = os.path.join(packed, names.MANIFEST)
-    if not os.path.isdir(packed):
-        raise Refuse(f"{names.shown(packed)} is not there, or is no folder: is its disk mounted?")
-    if not files.there(path):
-        made = "fzbatch rebuild makes one from the packed files, and fzbatch pack from the plain and the packed files"
-        raise Refuse(f"{names.shown(packed)} has no manifest ({names.MANIFEST.decode()}): is its disk mounted? {made}")
-    return Manifest(path, writes)
+    return Manifest(find_manifest(packed), writes)
 
 
 def place(path: bytes) -> Optional[tuple[int, int]]:

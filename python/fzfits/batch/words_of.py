@@ -2,8 +2,9 @@
 from __future__ import annotations
 
 import argparse
+import os
 
-from . import machine
+from . import before, machine
 
 FZ = "the program fz, if it is not in PATH and not named by the variable FZ"
 
@@ -16,18 +17,55 @@ def without(made: argparse.ArgumentParser) -> None:
 def job_words(made: argparse.ArgumentParser) -> None:
     """The options of commands that call fz for many files."""
     made.add_argument("--jobs", type=count, default=machine.processors(), metavar="N", help="how many files at once (as many as processors may be used)")
-    made.add_argument("--memory", type=int, default=0, metavar="BYTES", help="the limit on the buffers of each fz (half of the memory of the machine, shared by the jobs)")
-    made.add_argument("--time-limit", type=float, default=0.0, metavar="SECONDS", help="the time for each run of fz (300 s, and 1 s more for each MB)")
+    made.add_argument("--memory", type=size, default=0, metavar="BYTES", help="the limit on the buffers of each fz, such as 500M or 2G (half of the memory of the machine, shared by the jobs)")
+    made.add_argument("--time-limit", type=seconds, default=0.0, metavar="SECONDS", help="the time for each run of fz (300 s, and 1 s more for each MB)")
     made.add_argument("--fz", metavar="PROGRAM", help=FZ)
     made.add_argument("--all", action="store_true", help="name all files in the summary, not only the first five of each cause")
 
 
 def count(text: str) -> int:
     """A number of jobs."""
-    found = int(text)
+    found = int(text) if text.isascii() and text.isdigit() else 0
     if not 1 <= found <= 4096:
-        raise argparse.ArgumentTypeError("it is 1 to 4096")
+        raise argparse.ArgumentTypeError(f"{text!r} is no number from 1 to 4096")
     return found
+
+
+def positive(text: str) -> int:
+    """A number above 0."""
+    if not (text.isascii() and text.isdigit() and int(text)):
+        raise argparse.ArgumentTypeError(f"{text!r} is no number above 0")
+    return int(text)
+
+
+def size(text: str) -> int:
+    """A number of bytes."""
+    try:
+        return before.size_of(text)
+    except ValueError as error:
+        raise argparse.ArgumentTypeError(str(error)) from error
+
+
+def seconds(text: str) -> float:
+    """A time."""
+    try:
+        found = float(text)
+    except ValueError:
+        found = -1.0
+    if not 0 <= found < 1e9:
+        raise argparse.ArgumentTypeError(f"{text!r} is no number of seconds")
+    return found
+
+
+def choosing_words(made: argparse.ArgumentParser) -> None:
+    """Which files, and what is said of them."""
+    made.add_argument("--include", action="append", default=[], type=os.fsencode, metavar="PATTERN", help="only files whose name fits, such as '*.fits'; with a / in it, whose path below the folder fits, such as 'night1/*'")
+    made.add_argument("--exclude", action="append", default=[], type=os.fsencode, metavar="PATTERN", help="no files that fit")
+    made.add_argument("--from-list", metavar="FILE", help="only the files that FILE names, one on each line or with null bytes, as fzbatch missing -0 prints them; - is standard input")
+    made.add_argument("-n", "--dry-run", action="store_true", help="say what would be done, and write nothing")
+    made.add_argument("-q", "--quiet", action="store_true", help="print nothing if all is well, and only what is not")
+    made.add_argument("--log", metavar="FILE", help="add a line with the time to FILE for each file")
+    made.add_argument("--tell-idle", action="store_true", help="end with status 4 if there was nothing to do")
 
 
 def rebuild_words(made: argparse.ArgumentParser) -> None:
@@ -41,6 +79,7 @@ def rebuild_words(made: argparse.ArgumentParser) -> None:
 def run_words(made: argparse.ArgumentParser, verb: str) -> None:
     """The options of a run of this verb."""
     job_words(made)
+    choosing_words(made)
     made.add_argument("--engine", choices=("local", "parallel", "slurm", "dask"), default="local", help="what runs fz on the files (local)")
     made.add_argument("--sshlogin", action="append", default=[], metavar="MACHINES", help="for GNU parallel: machines, such as 8/node1,4/:")
     made.add_argument("--sshloginfile", metavar="FILE", help="for GNU parallel: a file with the machines")
@@ -52,10 +91,10 @@ def run_words(made: argparse.ArgumentParser, verb: str) -> None:
         without(made)
     if verb != "pack":
         return
-    made.add_argument("--codec", choices=("rice", "plio", "none"), help="as for fz pack")
-    made.add_argument("--tile", metavar="A,B,..", help="as for fz pack")
-    made.add_argument("--block", metavar="N", help="as for fz pack")
-    made.add_argument("--workers", metavar="N", help="as for fz pack; for many files more --jobs are better")
+    made.add_argument("--codec", choices=("rice", "plio", "none"), help="rice for images (default), plio for masks, none to store tiles as they are")
+    made.add_argument("--tile", metavar="A,B,..", help="pixels of a tile along each axis, such as 256,256 (default: one row)")
+    made.add_argument("--block", type=positive, metavar="N", help="pixels of a block of a Rice code, 16 or 32 (32)")
+    made.add_argument("--workers", type=positive, metavar="N", help="threads of each fz, 1 to 64 (1); for many files more --jobs are better")
     made.add_argument("--no-sums", action="store_true", help="add no DATASUM and CHECKSUM to the packed tables")
     made.add_argument("--compare", action="store_true", help="also unpack each packed file and compare it with the plain file")
     made.add_argument("--update", action="store_true", help="if the plain or the packed file has changed, pack again and replace the packed file")

@@ -199,7 +199,7 @@ class _Work:
         try:
             after = self.fz.unpack(number, now, above, part, scratch)
             if after.sha256 != self.task.sha256:
-                raise Stop("differs", "comes back otherwise", "what comes back is another file than the one that was packed", advice.ANOTHER_COPY)
+                raise Stop("differs", "unpacked file differs from the original", "the unpacked file differs from the one that was packed", advice.ANOTHER_COPY)
             self.result.tests |= CAME_BACK
             if scratch:
                 self.fz.keep(above, part, after)

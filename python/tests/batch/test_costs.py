@@ -130,7 +130,7 @@ class SmallInputLargeCost(Archive):
 
         with mock.patch.object(tries.Tries, "sums_are_right", fails):
             status, said = self.run_it("verify", self.packed)
-        self.assertEqual((status, said.splitlines()[-1]), (1, "verify: 2 files, 1 done (1 right), 1 not done, 0 left out"))
+        self.assertEqual((status, said.splitlines()[-1]), (1, "verify: 2 files, 1 done (1 verified), 1 failed, 0 skipped"))
         self.assertIn("a.fits: OverflowError: made up", said)
 
     def test_the_name_of_such_a_file_is_in_the_summary(self) -> None:

@@ -169,13 +169,13 @@ class WeakerLooks(Archive):
         self.packs()
         it = self.write("a.fits", bytes(data)).stat()
         self.put(b"a.fits", mtime=it.st_mtime_ns, sha256=hashlib.sha256(data).hexdigest())
-        self.named("comes back otherwise", "compare", self.packed)
+        self.named("unpacked file differs from the original", "compare", self.packed)
 
     def test_what_comes_back_otherwise(self) -> None:
         self.wrong()
         for words in (("pack", self.plain), ("verify", self.packed, "--sha256-only"), ("verify", self.packed)):
-            self.named("comes back otherwise", *words)
-            self.looks("what comes back is another file")
+            self.named("unpacked file differs from the original", *words)
+            self.looks("the unpacked file differs from")
         row = next(it for it in self.rows() if it.path == b"a.fits")
         self.put(b"a.fits", sha256=hashlib.sha256(image(1)).hexdigest(), mtime=row.mtime)
         self.write("a.fits", image(1))
@@ -249,7 +249,7 @@ class OtherNames(Archive):
         for words in (("pack", self.plain, "--all"), ("missing", self.plain)):
             status, said = self.run_it(*words)
             self.assertEqual((status, said.count("its name is not that of one"), said.count("another program compressed")), (1, len(names), 1), said)
-            self.assertIn("1 file with other names were left alone: .md5 1.", said)
+            self.assertIn("1 file with other names, which fzbatch does not touch: 1 .md5.", said)
         self.packs("--skip-compressed")
 
 

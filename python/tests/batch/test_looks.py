@@ -65,10 +65,10 @@ class EachStateHasItsOutcome(Archive):
         self.packs()
         (self.plain / "a.fits").unlink()
         status, said = self.run_it("compare", self.plain)
-        self.assertEqual((status, said.splitlines()[-1]), (1, "compare: 2 files, 1 done (1 same), 1 not done, 0 left out"))
+        self.assertEqual((status, said.splitlines()[-1]), (1, "compare: 2 files, 1 done (1 identical), 1 failed, 0 skipped"))
         self.assertIn("the plain file is gone", said)
         status, said = self.run_it("compare", self.plain, "--without-plain")
-        self.assertEqual((status, said.splitlines()[-1]), (0, "compare: 2 files, 2 done (1 same, 1 unpacked), 0 not done, 0 left out"))
+        self.assertEqual((status, said.splitlines()[-1]), (0, "compare: 2 files, 2 done (1 identical, 1 identical by SHA-256), 0 failed, 0 skipped"))
         shutil.rmtree(self.plain)
         self.assertEqual(self.run_it("compare", self.plain)[0], 1)
         self.assertEqual(self.run_it("compare", self.packed, "--without-plain")[0], 0)
@@ -77,8 +77,8 @@ class EachStateHasItsOutcome(Archive):
         self.write("bad.fits", b"")
         self.assertEqual(self.run_it("pack", self.plain)[0], 1)
         for verb in ("verify", "compare"):
-            self.named("1 file: never packed", verb, self.plain)
-        self.named("1 file: never packed", "restore", self.room / "back", self.packed)
+            self.named("never packed: 1 file", verb, self.plain)
+        self.named("never packed: 1 file", "restore", self.room / "back", self.packed)
 
     def test_packed_files_that_the_manifest_does_not_know(self) -> None:
         self.packs()

@@ -97,7 +97,7 @@ class DamagedManifests(Archive):
         away = self.room / "away"
         self.plain.rename(away)
         status, said = self.run_it("rebuild", self.packed)
-        self.assertEqual((status, said.splitlines()[-1]), (0, "rebuild: 3 files, 3 done (3 packed), 0 not done, 0 left out"))
+        self.assertEqual((status, said.splitlines()[-1]), (0, "rebuild: 3 files, 3 done (3 compressed), 0 failed, 0 skipped"))
         self.assertEqual({it.path: (it.size, it.sha256, it.packed_sha256, it.status) for it in self.rows()}, before)
         self.assertEqual(self.run_it("restore", self.plain, self.packed)[0], 0)
         self.assertEqual((self.plain / "a.fits").read_bytes(), (away / "a.fits").read_bytes())
@@ -114,7 +114,7 @@ class DamagedManifests(Archive):
         (self.packed / "n" / "b.fits.fz").unlink()
         for words in ((), ("--ignore-copy", "--again")):
             status, said = self.run_it("rebuild", self.packed, *words)
-            self.assertEqual((status, said.splitlines()[-1]), (1, "rebuild: 4 files, 2 done (2 packed), 2 not done, 0 left out"), said)
+            self.assertEqual((status, said.splitlines()[-1]), (1, "rebuild: 4 files, 2 done (2 compressed), 2 failed, 0 skipped"), said)
             self.assertIn("c.fits: the packed file is another", said)
             self.assertIn("n/b.fits: its packed file is not there", said)
             if not words:

@@ -346,18 +346,20 @@ class Words(unittest.TestCase):
         told.left.append(scan.Left(b"l", "is a link", "do that"))
         to = io.StringIO()
         told.print(to)
-        self.assertIn("7 files: 2 Truncated\n    What to do: do this.", to.getvalue())
+        self.assertIn("Truncated (kind 2): 7 files\n    What to do: do this.", to.getvalue())
         self.assertIn("and 2 more", to.getvalue())
         self.assertIn("1 file had nothing to pack", to.getvalue())
-        self.assertIn("2 files with other names were left alone: .txt 2.", to.getvalue())
-        self.assertEqual(to.getvalue().splitlines()[-1], "pack: 9 files, 2 done (1 copied, 1 packed), 7 not done, 1 left out")
+        self.assertIn("2 files with other names, which fzbatch does not touch: 2 .txt.", to.getvalue())
+        self.assertEqual(to.getvalue().splitlines()[-1], "pack: 9 files, 2 done (1 copied unchanged, 1 compressed), 7 failed, 1 skipped")
         self.assertFalse(told.whole)
 
     def test_a_line_each_minute(self) -> None:
         to = io.StringIO()
-        bar = progress.Lines("pack", 3, 300, to, every=0)
-        bar.step(100)
-        self.assertRegex(to.getvalue(), r"^pack: 1 of 3 files, 100 bytes of 300 bytes, .*/s, about .* left\n$")
+        bar = progress.Lines("pack", 3, 300, to)
+        bar.step(100, good=False)
+        bar.tell()
+        bar.close()
+        self.assertRegex(to.getvalue(), r"^pack: 1 of 3 files, 1 failed, 100 bytes of 300 bytes, .*/s, about .* left\n$")
         self.assertEqual([progress.length(it) for it in (5, 184, 3720)], ["5 s", "3 min 04 s", "1 h 02 min"])
         self.assertIsInstance(progress.progress("pack", 1, 1, io.StringIO()), progress.Lines)
 
@@ -374,10 +376,9 @@ class Bars(unittest.TestCase):
         to.isatty = lambda: True  # type: ignore[method-assign]
         made = progress.Tqdm(__import__("tqdm"), "pack", 2, 20, to) if bar is progress.Tqdm else progress.Rich(__import__("rich.progress").progress, "pack", 20, to)
         made.step(10)
-        made.tell("$'odd\\n name': [red] refused")
-        made.step(10)
+        made.step(10, good=False)
         made.close()
-        self.assertIn("$'odd\\n name': [red] refused", to.getvalue())
+        self.assertIn("1 failed", to.getvalue())
         self.assertIn("pack", to.getvalue())
 
     def test_tqdm(self) -> None:

@@ -51,16 +51,16 @@ class Runs(unittest.TestCase):
         return status, said.splitlines()[-1]
 
     def test_there_and_back(self) -> None:
-        self.assertEqual(self.last("pack", self.plain), (0, "pack: 2 files, 2 done (2 packed), 0 not done, 0 left out"))
-        self.assertEqual(self.last("pack", self.plain), (0, "pack: 2 files, 2 done (2 there), 0 not done, 0 left out"))
-        self.assertEqual(self.last("verify", self.packed), (0, "verify: 2 files, 2 done (2 right), 0 not done, 0 left out"))
-        self.assertEqual(self.last("compare", self.plain), (0, "compare: 2 files, 2 done (2 same), 0 not done, 0 left out"))
+        self.assertEqual(self.last("pack", self.plain), (0, "pack: 2 files, 2 done (2 compressed), 0 failed, 0 skipped"))
+        self.assertEqual(self.last("pack", self.plain), (0, "pack: 2 files, 2 done (2 up to date), 0 failed, 0 skipped"))
+        self.assertEqual(self.last("verify", self.packed), (0, "verify: 2 files, 2 done (2 verified), 0 failed, 0 skipped"))
+        self.assertEqual(self.last("compare", self.plain), (0, "compare: 2 files, 2 done (2 identical), 0 failed, 0 skipped"))
         back = self.room / "back"
-        self.assertEqual(self.last("restore", back, self.packed), (0, "restore: 2 files, 2 done (2 restored), 0 not done, 0 left out"))
+        self.assertEqual(self.last("restore", back, self.packed), (0, "restore: 2 files, 2 done (2 restored), 0 failed, 0 skipped"))
         for name in ("a.fits", "n/b.fits"):
             self.assertEqual((back / name).read_bytes(), (self.plain / name).read_bytes())
             self.assertEqual((back / name).stat().st_mtime_ns, (self.plain / name).stat().st_mtime_ns)
-        self.assertEqual(self.last("restore", back, self.packed)[1], "restore: 2 files, 2 done (2 there), 0 not done, 0 left out")
+        self.assertEqual(self.last("restore", back, self.packed)[1], "restore: 2 files, 2 done (2 up to date), 0 failed, 0 skipped")
         self.assertEqual(self.run_it("missing", self.plain), (0, ""))
         self.assertEqual(self.last("status", self.packed)[0], 0)
         rows = [json.loads(it) for it in self.run_it("status", self.packed, "--json")[1].splitlines()]
@@ -73,7 +73,7 @@ class Runs(unittest.TestCase):
         self.assertEqual(self.last("verify", self.plain)[0], 2)
         self.assertEqual(self.last("pack", self.plain)[0], 2)
         (self.packed / "fzbatch.sqlite.copy").unlink()
-        self.assertEqual(self.last("pack", self.plain), (0, "pack: 2 files, 2 done (2 packed), 0 not done, 0 left out"))
+        self.assertEqual(self.last("pack", self.plain), (0, "pack: 2 files, 2 done (2 compressed), 0 failed, 0 skipped"))
         self.assertEqual((self.packed / "a.fits.fz").stat().st_ino, before.st_ino)
 
     def test_a_packed_name_that_is_taken(self) -> None:
@@ -105,12 +105,6 @@ class Runs(unittest.TestCase):
         self.assertIn("wrong checksum in the plain file", said)
         self.assertEqual(self.last("pack", self.plain, "--accept-wrong-sums")[0], 0)
         self.assertEqual(self.last("verify", self.plain)[0], 0)
-
-    def test_wrong_options_stop_the_run(self) -> None:
-        status, said = self.run_it("pack", self.plain, "--tile", "64x64")
-        self.assertEqual(status, 1)
-        self.assertIn("Stopped: wrong options (--sums --tile 64x64): ", said)
-        self.assertIn("2 not tried", said)
 
     def test_sources_that_may_be_another_disk(self) -> None:
         self.run_it("pack", self.plain)
@@ -154,11 +148,11 @@ class Runs(unittest.TestCase):
             self.assertEqual((status, "move it away, and fzbatch pack makes a new one" in said), (2, True), said)
         (self.packed / "fzbatch.sqlite").rename(self.room / "damaged")
         self.assertEqual(self.last("pack", self.plain)[0], 2)
-        self.assertEqual(self.last("rebuild", self.packed), (0, "rebuild: 2 files, 2 done (2 packed), 0 not done, 0 left out"))
-        self.assertEqual(self.last("pack", self.plain), (0, "pack: 2 files, 2 done (2 there), 0 not done, 0 left out"))
+        self.assertEqual(self.last("rebuild", self.packed), (0, "rebuild: 2 files, 2 done (2 compressed), 0 failed, 0 skipped"))
+        self.assertEqual(self.last("pack", self.plain), (0, "pack: 2 files, 2 done (2 up to date), 0 failed, 0 skipped"))
         for it in ("fzbatch.sqlite", "fzbatch.sqlite.copy"):
             (self.packed / it).unlink()
-        self.assertEqual(self.last("pack", self.plain), (0, "pack: 2 files, 2 done (2 packed), 0 not done, 0 left out"))
+        self.assertEqual(self.last("pack", self.plain), (0, "pack: 2 files, 2 done (2 compressed), 0 failed, 0 skipped"))
 
     def test_another_run(self) -> None:
         self.run_it("pack", self.plain)
@@ -174,7 +168,7 @@ class Runs(unittest.TestCase):
         (self.plain / "a.fits").unlink()
         status, said = self.run_it("pack", self.plain)
         self.assertEqual(status, 1)
-        self.assertIn("1 file: gone, and never packed", said)
+        self.assertIn("gone, and never packed: 1 file", said)
         self.assertIn("plain files were packed by earlier runs", said)
         self.assertEqual(self.last("forget", self.plain, "--name", "a.fits")[0], 2)
         self.assertEqual(self.last("forget", self.plain, "--name", "bad.fits"), (0, "forgotten: bad.fits"))
@@ -187,7 +181,7 @@ class Runs(unittest.TestCase):
         self.assertEqual(self.run_it("report", self.plain, "-o", out), (1, f"{out}\n"))
         page = out.read_text()
         self.assertIn("1 file of 3 needs attention", page)
-        self.assertIn("<h3>2 Truncated: 1 file</h3>", page)
+        self.assertIn("<h3>Truncated (kind 2): 1 file</h3>", page)
         self.assertIn("&lt;b&gt;.fits", page)
         self.assertNotIn("<b>.fits", page)
         out.write_bytes(b"mine")
@@ -203,7 +197,7 @@ class Runs(unittest.TestCase):
         self.assertEqual(out.read_bytes()[:4], b"\x89PNG")
         status, said = self.run_it("look", self.plain / "a.fits", "-o", out)
         self.assertEqual(status, 2)
-        self.assertIn("is no packed image", said)
+        self.assertIn("a.fits has no packed image: fz pack makes a file that has", said)
 
 
 if __name__ == "__main__":

@@ -1,0 +1,97 @@
+"""From the words of the command line to what a run is asked for."""
+from __future__ import annotations
+
+import argparse
+import os
+from typing import Optional, Sequence
+
+from . import chosen, files, names
+from .manifest import Manifest
+from .wanted import Refuse, Wanted, find_manifest
+
+READS = ("verify", "compare", "restore")
+
+
+def places(asked: argparse.Namespace) -> "tuple[bytes, Optional[bytes], list[bytes]]":
+    """The words that are no options: the first folder, the second one if there is one, and names of files."""
+    first, rest = asked.dir, [*([asked.packed] if asked.packed is not None else []), *asked.files]
+    if rest and (os.path.isdir(rest[0]) or not files.there(os.path.join(first, names.MANIFEST))):
+        return first, rest[0], rest[1:]
+    return first, None, rest
+
+
+def folders(asked: argparse.Namespace, reads: bool = True) -> "tuple[bytes, bytes]":
+    """The folders of plain and of packed files, as whole paths. One is not in the other.
+
+    With `reads` false the folder of plain files has to be named: nothing is written to, or packed from, where a manifest says.
+    """
+    one, second, names_of_files = places(asked)
+    if names_of_files and asked.verb not in READS:
+        raise Refuse(f"{asked.verb} takes two folders, and was given {names.shown(names_of_files[0])} too" + ("; --include names files" if asked.verb == "pack" else ""))
+    first = os.path.realpath(one)
+    if second is not None:
+        plain, packed = first, os.path.realpath(second)
+    elif files.there(os.path.join(first, names.MANIFEST)):
+        packed = first
+        plain = source_of(packed)
+        if not reads:
+            said = f"the manifest says {names.shown(plain)}, if that is right: " if plain else ""
+            raise Refuse(f"name both folders: {said}fzbatch {asked.verb} {names.shown(plain) if plain else 'DIR'} {names.shown(packed)}")
+    else:
+        plain, packed = first, first + names.PACKED
+        if not os.path.isdir(plain) and not os.path.isdir(packed):
+            raise Refuse(f"{names.shown(one)}: no such folder")
+    if not plain.startswith(b"/"):
+        # as after rebuild: then the plain files are not looked at
+        return b"", packed
+    for it, other in ((plain, packed), (packed, plain)):
+        if it == other or it.startswith(other.rstrip(b"/") + b"/"):
+            raise Refuse("the folders of plain and of packed files have to be apart: one is in the other")
+    return plain, packed
+
+
+def source_of(packed: bytes) -> bytes:
+    """The folder of plain files that a manifest names, or nothing. Its rows are looked at by whoever uses them."""
+    with Manifest(find_manifest(packed), writes=False, whole=False) as manifest:
+        plain = manifest.fact("source") or b""
+    return plain if isinstance(plain, bytes) else b""
+
+
+def wanted_of(asked: argparse.Namespace) -> Wanted:
+    """What a run is asked for. Raises `Refuse` if that makes no sense."""
+    plain, packed = folders(asked, asked.verb in ("verify", "compare"))
+    wanted = Wanted(asked.verb, plain, packed, program=asked.fz, memory=asked.memory, jobs=asked.jobs, engine=asked.engine)
+    wanted.time_limit = max(0.0, asked.time_limit)
+    wanted.scheduler, wanted.allow_empty, wanted.all_names = asked.scheduler, asked.allow_empty, asked.all
+    wanted.quiet, wanted.dry_run, wanted.log, wanted.tells_idle = asked.quiet, asked.dry_run, asked.log, asked.tell_idle
+    wanted.chosen = chosen_of(asked)
+    for it in asked.sshlogin:
+        wanted.machines += ["--sshlogin", it]
+    if asked.sshloginfile:
+        wanted.machines += ["--sshloginfile", asked.sshloginfile]
+    if asked.verb == "verify":
+        wanted.sha256_only = asked.sha256_only
+    if asked.verb == "compare":
+        wanted.without_plain = asked.without_plain
+    if asked.verb == "pack":
+        _pack(asked, wanted)
+    return wanted
+
+
+def _pack(asked: argparse.Namespace, wanted: Wanted) -> None:
+    wanted.options = [] if asked.no_sums else ["--sums"]
+    for name in ("codec", "tile", "block", "workers"):
+        if getattr(asked, name) is not None:
+            wanted.options += [f"--{name}", str(getattr(asked, name))]
+    wanted.compare, wanted.update, wanted.retry = asked.compare, asked.update, asked.retry
+    wanted.accept_wrong_sums, wanted.skip_nothing = asked.accept_wrong_sums, asked.skip_nothing
+    wanted.skip_links, wanted.skip_compressed = asked.skip_links, asked.skip_compressed
+
+
+def chosen_of(asked: argparse.Namespace) -> chosen.Chosen:
+    """The files that are asked for: by patterns, by a list in a file, or by name."""
+    named: Sequence[bytes] = places(asked)[2]
+    listed = frozenset(named) if named else None
+    if asked.from_list is not None:
+        listed = (listed or frozenset()) | chosen.list_of(asked.from_list)
+    return chosen.Chosen(tuple(asked.include), tuple(asked.exclude), listed)
