@@ -91,7 +91,7 @@ def _read(process: int, out: int, errors: int, timeout: Optional[float]) -> "tup
 
 
 class _Shared:
-    """One program for all tasks of a process: each thread has numbers of its own."""
+    """One program for all tasks of a thread. (It may be run by other threads: its numbers get their files in the process that is started.)"""
 
     def __init__(self) -> None:
         self._local = threading.local()

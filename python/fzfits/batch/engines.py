@@ -5,7 +5,6 @@ its process was killed, has no result: the coordinator notices which are missing
 """
 from __future__ import annotations
 
-import concurrent.futures as futures
 import os
 import shlex
 import shutil
@@ -14,12 +13,15 @@ import sys
 import threading
 import time
 from dataclasses import replace
+from itertools import islice
 from pathlib import Path
 from typing import Callable, Iterator, Sequence
 
-from . import files, machine, work
+from . import calls, files, machine, work
+from .loop import Loop
 from .messages import BadMessage, Result, Settings, Task
-from .rooms import Rooms, rooms
+from .rooms import rooms
+from .steps import Apart, Steps
 
 # What a line with a result begins with: a remote machine may print other lines before it.
 RESULT = "fzbatch-result "
@@ -36,36 +38,37 @@ class NoEngine(Exception):
 
 
 def local(settings: Settings, tasks: Sequence[Task], jobs: int, stopped: Callable[[], bool]) -> Iterator[Result]:
-    """As many tasks at once as there are jobs. Each waits for its own fz, so threads are enough on this side.
+    """As many tasks at once as there are jobs, all in this thread: each waits for its own fz (`loop`).
 
-    The disk is waited for once for many files: those that were made within a second, at most so many.
+    The disk is waited for once for many files: those that were made within a second, at most so many. Meanwhile others are made.
     """
-    waiting = iter(tasks)
-    running: set[futures.Future[work.Done]] = set()
-    batch: list[work.Done] = []
-    since = 0.0
-    with files.private(), rooms(settings.packed, settings.token, jobs) as scratch, futures.ThreadPoolExecutor(jobs) as pool:
+    batch: "list[work.Done]" = []
+    since, syncs = 0.0, 0
+    with files.private(), rooms(settings.packed, settings.token, jobs) as scratch, Loop(calls.shared.of(settings.program)) as loop:
+        waiting = (work.prepare(settings, it, scratch) for it in tasks)
         while True:
-            while len(running) < 2 * jobs and not stopped():
-                task = next(waiting, None)
-                if task is None:
-                    break
-                running.add(pool.submit(_unless, stopped, settings, task, scratch))
-            if not running:
+            if not stopped() and len(batch) < MANY:
+                for steps in islice(waiting, jobs + syncs - loop.busy):
+                    loop.begin(steps)
+            is_last = loop.busy == syncs
+            if batch and not syncs and (is_last or len(batch) >= MANY or time.monotonic() - since >= OLDEST):
+                loop.begin(_finished(settings, batch))
+                batch, syncs = [], 1
+            elif is_last and not syncs:
                 return
-            ended, running = futures.wait(running, timeout=OLDEST, return_when=futures.FIRST_COMPLETED)
-            since = since if batch else time.monotonic()
-            batch += [it.result() for it in ended]
-            if batch and (not running or len(batch) >= MANY or time.monotonic() - since >= OLDEST):
-                work.finish(settings, batch)
-                yield from (it.result for it in batch)
-                batch = []
+            for ended in loop.ended(since + OLDEST - time.monotonic() if batch and not syncs else None):
+                if isinstance(ended, work.Done):
+                    since = since if batch else time.monotonic()
+                    batch.append(ended)
+                else:
+                    syncs = 0
+                    yield from ended
 
 
-def _unless(stopped: Callable[[], bool], settings: Settings, task: Task, scratch: Rooms) -> work.Done:
-    if stopped():
-        return work.Done(task, Result(task.path, settings.verb, "killed", "stopped", "the run was stopped", "run fzbatch again"))
-    return work.prepare(settings, task, scratch)
+def _finished(settings: Settings, batch: "list[work.Done]") -> "Steps[list[Result]]":
+    """Waits for the disk, which takes a thread of its own, and gives the results."""
+    yield Apart(lambda: work.finish(settings, batch))
+    return [it.result for it in batch]
 
 
 def parallel(settings: Settings, tasks: Sequence[Task], options: Sequence[str], stopped: Callable[[], bool]) -> Iterator[Result]:

@@ -47,22 +47,38 @@ class Looked:
         return it is not None and (it.st_size, it.st_mtime_ns, it.st_ctime_ns, it.st_ino) == (self.size, self.mtime, self.ctime, self.inode)
 
 
+class _Reading:
+    """The SHA-256 of the bytes of a file, and which cards may be in them, as they come piece by piece."""
+
+    def __init__(self) -> None:
+        self._total, self._end = hashlib.sha256(), b""
+        self.has_sums = self.has_image_sums = False
+
+    def add(self, piece: bytes) -> None:
+        """The next piece."""
+        self._total.update(piece)
+        seam = self._end + piece[:9]
+        self.has_sums = self.has_sums or any(card in piece or card in seam for card in CARDS)
+        self.has_image_sums = self.has_image_sums or any(card in piece or card in seam for card in IMAGE_CARDS)
+        self._end = piece[-9:]
+
+    def of(self, it: os.stat_result) -> Looked:
+        """What was read of a file of which `stat` says this."""
+        return Looked(it.st_size, it.st_mtime_ns, it.st_ctime_ns, it.st_ino, stat.S_IMODE(it.st_mode), self._total.hexdigest(), self.has_sums, self.has_image_sums)
+
+
 def look_at(number: int) -> Looked:
     """Reads a whole open regular file from its beginning."""
     it = os.fstat(number)
     if not stat.S_ISREG(it.st_mode):
         raise NotRegular(errno.EINVAL, "it is no regular file any more")
-    total, at, end, sums, image_sums = hashlib.sha256(), 0, b"", False, False
+    read, at = _Reading(), 0
     while True:
         piece = os.pread(number, PIECE, at)
         if not piece:
-            break
-        total.update(piece)
-        seam = end + piece[:9]
-        sums = sums or any(card in piece or card in seam for card in CARDS)
-        image_sums = image_sums or any(card in piece or card in seam for card in IMAGE_CARDS)
-        at, end = at + len(piece), piece[-9:]
-    return Looked(it.st_size, it.st_mtime_ns, it.st_ctime_ns, it.st_ino, stat.S_IMODE(it.st_mode), total.hexdigest(), sums, image_sums)
+            return read.of(it)
+        read.add(piece)
+        at += len(piece)
 
 
 def look(path: bytes) -> Looked:
@@ -127,20 +143,23 @@ def _reports_faults() -> bool:
         return False
 
 
-def copy_into(above: int, name: bytes, source: bytes) -> str:
-    """Copies a file into a new one of this name in an open folder, and gives the SHA-256 of the bytes that were written."""
-    total = hashlib.sha256()
-    number = os.open(name, os.O_WRONLY | os.O_CREAT | os.O_EXCL | os.O_NOFOLLOW | os.O_CLOEXEC, 0o600, dir_fd=above)
-    with os.fdopen(number, "wb", buffering=0) as to, open(source, "rb", buffering=0) as it:
-        while True:
-            piece = it.read(PIECE)
-            if not piece:
-                break
-            total.update(piece)
-            view = memoryview(piece)
-            while view:
-                view = view[to.write(view) :]
-    return total.hexdigest()
+def copy_into(above: int, name: bytes, source: bytes) -> "tuple[int, Looked]":
+    """Copies a file into a new one of this name in an open folder, and gives that one, open, as the bytes that were written say."""
+    made = os.open(name, os.O_RDWR | os.O_CREAT | os.O_EXCL | os.O_NOFOLLOW | os.O_CLOEXEC, 0o600, dir_fd=above)
+    try:
+        read = _Reading()
+        with open(source, "rb", buffering=0) as it:
+            while True:
+                piece = it.read(PIECE)
+                if not piece:
+                    return made, read.of(os.fstat(made))
+                read.add(piece)
+                view = memoryview(piece)
+                while view:
+                    view = view[os.write(made, view) :]
+    except BaseException:
+        os.close(made)
+        raise
 
 
 def set_rights(number: int, mode: int) -> None:

@@ -34,27 +34,39 @@ class Done:
     made: Optional[Made] = None
 
 
-def guarded(result: Result, call: Callable[[], None]) -> bool:
-    """Calls something, and puts what it raises into the result."""
-    try:
-        call()
+class guarded:
+    """What the block raises is put into the result. `held` says that it raised nothing."""
+
+    def __init__(self, result: Result):
+        self.result, self.held = result, False
+
+    def __enter__(self) -> "guarded":
+        return self
+
+    def __exit__(self, kind: object, error: Optional[BaseException], trace: object) -> bool:
+        self.held = error is None
+        if error is not None and not isinstance(error, Exception):
+            return False
+        if error is not None:
+            it = self.result
+            it.outcome, it.cause, it.line, it.advice, it.kind = _told(error)
+        self.result.escape()
         return True
-    except Stop as stop:
-        result.outcome, result.cause, result.line, result.advice, result.kind = stop.outcome, stop.cause, stop.line, stop.what, stop.kind
-    except NoProgram as error:
-        result.outcome, result.cause, result.line, result.advice = "failed", NO_PROGRAM, str(error), "check that the program still exists, and that there are not too many processes"
-    except inside.NotInside as error:
+
+
+def _told(error: Exception) -> "tuple[str, str, str, str, int]":
+    """Outcome, cause, line, advice and kind of what a task raised."""
+    if isinstance(error, Stop):
+        return error.outcome, error.cause, error.line, error.what, error.kind
+    if isinstance(error, NoProgram):
+        return "failed", NO_PROGRAM, str(error), "check that the program still exists, and that there are not too many processes", 0
+    if isinstance(error, OSError):
         said = error.strerror or str(error)
-        result.outcome, result.cause, result.line, result.advice = "failed", "a link is in the way", said, advice.NO_LINKS
-    except OSError as error:
-        said = error.strerror or str(error)
-        result.outcome, result.cause, result.line, result.advice = "failed", said, said, advice.of_errno(error.errno or 0)
-    except Exception as error:  # pylint: disable=broad-except
-        # whatever a file of a stranger brings about: it is named, and the run goes on
-        result.outcome, result.cause, result.line, result.advice = "failed", "fault of fzbatch", f"{type(error).__name__}: {error}", "report it with the file"
-    finally:
-        result.escape()
-    return False
+        if isinstance(error, inside.NotInside):
+            return "failed", "a link is in the way", said, advice.NO_LINKS, 0
+        return "failed", said, said, advice.of_errno(error.errno or 0), 0
+    # whatever a file of a stranger brings about: it is named, and the run goes on
+    return "failed", "fault of fzbatch", f"{type(error).__name__}: {error}", "report it with the file", 0
 
 
 def finish(settings: Settings, batch: Sequence[Done]) -> None:
@@ -81,17 +93,14 @@ class _Folders:
     def does(self, done: Done, call: Callable[[int, Done], None]) -> bool:
         """Calls something with the folder of a file. If it fails the result says so, and the file is removed if it has no name yet."""
         above = -1
-
-        def called() -> None:
-            nonlocal above
+        with guarded(done.result) as guard:
             assert done.made is not None
             key = (done.made.root, os.path.dirname(done.made.path))
             if key not in self.opened:
                 self.opened[key] = self.stack.enter_context(inside.folder(*key))
             above = self.opened[key]
             call(above, done)
-
-        if guarded(done.result, called):
+        if guard.held:
             return done.made is not None
         if above >= 0 and done.made is not None:
             with suppress(OSError):

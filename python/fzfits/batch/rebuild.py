@@ -16,6 +16,7 @@ from .manifest import BadManifest, Manifest, Row, now
 from .messages import Result, Settings, Task
 from .opening import ANOTHER
 from .scan import scan_packed
+from .steps import Steps, looked
 from .tries import Stop, Tries
 
 
@@ -91,14 +92,14 @@ def tasks_of(packed: bytes, old: "dict[bytes, Row]") -> "tuple[list[Task], list[
     return tasks, lost, strange
 
 
-def look(settings: Settings, task: Task, result: Result, fz: Tries, number: int) -> None:
+def look(settings: Settings, task: Task, result: Result, fz: Tries, number: int) -> "Steps[None]":
     """Reads one packed file, and fills the result with what a row needs."""
-    now_ = files.look_at(number)
+    now_ = yield from looked(number)
     result.packed_size, result.packed_mtime, result.packed_sha256, result.mode = now_.size, now_.mtime, now_.sha256, now_.mode
     if task.packed_sha256 is not None and now_.sha256 != task.packed_sha256:
         raise Stop("damaged", "packed file changed", "the packed file is another than the one that SHA256SUMS or the second copy names", advice.ANOTHER_COPY)
-    fz.expect_verified(number, now_)
-    plain = fz.comes_back(number, now_, None, with_sums=now_.has_image_sums or now_.has_sums)
+    yield from fz.expect_verified(number, now_)
+    plain = yield from fz.comes_back(number, now_, None, with_sums=now_.has_image_sums or now_.has_sums)
     result.size, result.sha256 = plain.size, plain.sha256
     result.outcome = "copied" if plain.sha256 == now_.sha256 else "packed"
 

@@ -3,14 +3,15 @@ from __future__ import annotations
 
 import os
 import shlex
-from concurrent import futures
 from typing import Sequence, TextIO
 
-from . import advice, files, inside, keep, lock, machine, names, rebuild, rooms, slurm, survey, tries, work
+from . import advice, calls, files, inside, keep, lock, machine, names, rebuild, rooms, slurm, survey, tries, work
+from .loop import Loop
 from .manifest import BadManifest, Manifest, Row
 from .messages import Result, Settings, Task
 from .record import record
 from .scan import Left
+from .steps import Steps
 from .tally import Tally
 
 DONE, NOT_DONE = 0, 1
@@ -111,8 +112,8 @@ def rebuilt(settings: Settings, out: TextIO, jobs: int, ignore_copy: bool = Fals
 
 def _fill(manifest: Manifest, settings: Settings, jobs: int, tally: Tally, old: "dict[bytes, Row]", tasks: Sequence[Task], lost: Sequence[Row]) -> None:
     """Reads each packed file, and writes its row."""
-    with files.private(), rooms.rooms(settings.packed, settings.token, jobs) as scratch, futures.ThreadPoolExecutor(jobs) as pool:
-        for task, result in zip(tasks, pool.map(lambda it: _read(settings, it, scratch), tasks)):
+    with files.private(), rooms.rooms(settings.packed, settings.token, jobs) as scratch, Loop(calls.shared.of(settings.program)) as loop:
+        for task, result in loop.each((_read(settings, it, scratch) for it in tasks), jobs):
             row = rebuild.row_of(result, old.get(result.path), task.packed_sha256)
             manifest.put(row)
             if result.good:
@@ -132,15 +133,11 @@ def _fill(manifest: Manifest, settings: Settings, jobs: int, tally: Tally, old: 
             tally.bad(path, survey.NEVER, f"it was never packed: {row.line}", row.advice)
 
 
-def _read(settings: Settings, task: Task, scratch: rooms.Rooms) -> Result:
+def _read(settings: Settings, task: Task, scratch: rooms.Rooms) -> "Steps[tuple[Task, Result]]":
     result = Result(task.path, "verify")
-
-    def read() -> None:
-        with inside.file(settings.packed, names.packed_name(task.path)) as number:
-            rebuild.look(settings, task, result, tries.Tries(settings, task, result, scratch), number)
-
-    work.guarded(result, read)
-    return result
+    with work.guarded(result), inside.file(settings.packed, names.packed_name(task.path)) as number:
+        yield from rebuild.look(settings, task, result, tries.Tries(settings, task, result, scratch), number)
+    return task, result
 
 
 def settings_for_rebuild(packed: bytes, program: str, token: str, jobs: int, memory: int, accept: bool, limit: float) -> Settings:

@@ -3,12 +3,14 @@ from __future__ import annotations
 
 import os
 import unicodedata
-from typing import Optional
+from contextlib import contextmanager
+from typing import Iterator, Optional
 
 from ..program import Outcome
 from . import advice, calls, expansion, files, inside, names
 from .messages import CAME_BACK, VERIFIED, Result, Settings, Task
 from .rooms import Rooms
+from .steps import Call, Steps, looked
 
 WRONG_OPTIONS = "wrong options"
 # A run of fz may take so long, and a second more for each million bytes.
@@ -24,36 +26,18 @@ class Stop(Exception):
         self.outcome, self.cause, self.line, self.what, self.kind = outcome, cause, line, what, kind
 
 
-class Opened:
-    """The packed file of a task, open and read, if it is the one that was made; otherwise `Stop`."""
-
-    def __init__(self, settings: Settings, task: Task, result: Result, fz: "Tries"):
-        self.settings, self.task, self.result, self.fz = settings, task, result, fz
-
-    def __enter__(self) -> "tuple[int, files.Looked]":
-        try:
-            self.file = inside.file(self.settings.packed, names.packed_name(self.task.path))
-            number = self.file.__enter__()
-        except FileNotFoundError:
-            raise Stop("lost", "packed file is lost", "the packed file is not there", advice.LOST) from None
-        try:
-            return number, self._looked(number)
-        except BaseException as error:
-            self.file.__exit__(type(error), error, error.__traceback__)
-            raise
-
-    def _looked(self, number: int) -> files.Looked:
-        now = files.look_at(number)
-        self.result.packed_size, self.result.packed_mtime = now.size, now.mtime
-        if now.sha256 != self.task.packed_sha256:
-            ended = self.fz.run("verify", (number,), now.size)
-            said = ended.line if ended.status >= 2 else wrong_lines(ended) or "its tiles and checksums are right"
-            raise Stop("damaged", "packed file changed", f"the packed file is another than the one that was made (fz verify: {said})", advice.ANOTHER_COPY)
-        self.result.warning = expansion.warning(self.fz.unpacked(number, now), now.size)
-        return now
-
-    def __exit__(self, *about: object) -> None:
-        self.file.__exit__(None, None, None)
+@contextmanager
+def opened(settings: Settings, task: Task) -> Iterator[int]:
+    """The packed file of a task, open; `Stop` if it is not there."""
+    try:
+        file = inside.file(settings.packed, names.packed_name(task.path))
+        number = file.__enter__()
+    except FileNotFoundError:
+        raise Stop("lost", "packed file is lost", "the packed file is not there", advice.LOST) from None
+    try:
+        yield number
+    finally:
+        file.__exit__(None, None, None)
 
 
 def wrong_lines(ended: Outcome) -> str:
@@ -106,7 +90,7 @@ def _is_alone(above: int, name: bytes) -> bool:
 
 
 class Tries:
-    """The calls of fz for one task."""
+    """The calls of fz for one task, each of them a step (`steps`)."""
 
     def __init__(self, settings: Settings, task: Task, result: Result, scratch: Rooms):
         self.settings, self.task, self.result, self.scratch = settings, task, result, scratch
@@ -125,13 +109,24 @@ class Tries:
         """The same for a limit on time, which no claim of a header makes endless."""
         return expansion.believed(self.unpacked(number, now), now.size)
 
+    def as_it_was(self, number: int) -> "Steps[files.Looked]":
+        """Reads the open packed file of the task. `Stop` if it is not the one that was made."""
+        now = yield from looked(number)
+        self.result.packed_size, self.result.packed_mtime = now.size, now.mtime
+        if now.sha256 != self.task.packed_sha256:
+            ended = yield from self.run("verify", (number,), now.size)
+            said = ended.line if ended.status >= 2 else wrong_lines(ended) or "its tiles and checksums are right"
+            raise Stop("damaged", "packed file changed", f"the packed file is another than the one that was made (fz verify: {said})", advice.ANOTHER_COPY)
+        self.result.warning = expansion.warning(self.unpacked(number, now), now.size)
+        return now
+
     # the plain file
 
-    def plain_sums(self, source: int, before: files.Looked) -> None:
+    def plain_sums(self, source: int, before: files.Looked) -> "Steps[None]":
         """The checksums of the plain file are right before it is packed, or are accepted as they are, which the manifest keeps."""
         if not before.has_sums:
             return
-        ended = self.run("verify", (source,), before.size)
+        ended = yield from self.run("verify", (source,), before.size)
         self.is_verified = ended.status == 0
         if ended.status != 1:
             # what fz refuses is refused by `fz pack` too, with its own words
@@ -141,24 +136,38 @@ class Tries:
             raise Stop("failed", "wrong checksum in the plain file", self.result.sums_line, advice.STATUSES[1])
         self.result.wrong_sums = 1
 
-    def pack(self, source: int, above: int, part: bytes, before: files.Looked, scratch: bool) -> int:
-        """Packs into the scratch folder or into an open folder, and gives the packed file, open."""
-        if scratch:
-            self.made = self.scratch.name(before.size, b"fz")
-        target = self.made if scratch else os.path.join(self.program.second, part)
-        where = os.path.dirname(self.made) if scratch else os.path.join(self.settings.packed, os.path.dirname(self.task.path))
-        self._expect(self.run("pack", (source, above), before.size, *self.settings.options, out=target, where=where), "pack")
-        return os.open(self.made, inside.FILE) if scratch else os.open(part, inside.FILE, dir_fd=above)
+    def pack(self, source: int, above: int, part: bytes, before: files.Looked) -> "Steps[tuple[int, files.Looked, bool]]":
+        """Packs into a new file of an open folder, and gives it, open and read, and whether fz has synced it.
 
-    def check_packed(self, number: int, source: int, before: files.Looked) -> files.Looked:
+        A small file is made in memory, without a sync, and copied: what is verified then is the copy.
+        """
+        small = self.scratch.is_small(before.size)
+        if small:
+            self.made = self.scratch.name(before.size, b"fz")
+        target = self.made if small else os.path.join(self.program.second, part)
+        where = os.path.dirname(self.made) if small else os.path.join(self.settings.packed, os.path.dirname(self.task.path))
+        ended = yield from self.run("pack", (source, above), before.size, *self.settings.options, out=target, where=where)
+        self._expect(ended, "pack")
+        number, found = yield from self._taken(above, part, small)
+        return number, found, not small
+
+    def _taken(self, above: int, part: bytes, small: bool) -> "Steps[tuple[int, files.Looked]]":
+        """What fz has made, in the folder where it belongs, open and read."""
+        if not small:
+            number = os.open(part, inside.FILE, dir_fd=above)
+            return number, (yield from looked(number))
+        found = files.copy_into(above, part, self.made)
+        files.remove(self.made)
+        return found
+
+    def check_packed(self, number: int, after: files.Looked, source: int, before: files.Looked) -> "Steps[None]":
         """The packed file is right: its tiles decode, and its checksums are those of its bytes."""
-        after = files.look_at(number)
         if after.sha256 == before.sha256 and self.is_verified:
             # nothing was packed, and these very bytes were verified
-            return after
-        ended = self.run("verify", (number,), max(before.size, after.size))
+            return
+        ended = yield from self.run("verify", (number,), max(before.size, after.size))
         if ended.status == 1 and not self.result.wrong_sums:
-            wrong = self.run("verify", (source,), before.size)
+            wrong = yield from self.run("verify", (source,), before.size)
             if wrong.status != 1:
                 raise Stop("failed", "packed file is wrong", f"fz verify of the packed file: {ended.line}", "run fzbatch again; if it happens again, report it with the file")
             self.result.sums_line = wrong_lines(wrong)
@@ -170,44 +179,36 @@ class Tries:
             if before.has_sums and not self.is_verified and not self.result.wrong_sums:
                 raise Stop("failed", "checksums of the plain file are not known", "fz verify of the plain file ended otherwise than fz pack", "report it with the file")
         if self.settings.compare or self.result.wrong_sums:
-            self.comes_back(number, after, before.sha256)
-        return after
-
-    def keep(self, above: int, part: bytes, after: files.Looked) -> None:
-        """Copies what was made in the scratch folder into the folder where it belongs."""
-        found = files.copy_into(above, part, self.made)
-        files.remove(self.made)
-        if found != after.sha256:
-            raise Stop("failed", "scratch file changed", "what was made in the folder for temporary files changed there", "run fzbatch again; if it happens again, have the memory of the machine tested")
+            yield from self.comes_back(number, after, before.sha256)
 
     # the packed file
 
-    def unpack(self, number: int, now: files.Looked, above: int, part: bytes, scratch: bool) -> files.Looked:
-        """Unpacks into the scratch folder or into an open folder, and reads what came."""
-        if scratch:
+    def unpack(self, number: int, now: files.Looked, above: int, part: bytes) -> "Steps[tuple[int, files.Looked, bool]]":
+        """Unpacks into a new file of an open folder, and gives it, open and read, and whether fz has synced it."""
+        small = self.scratch.is_small(max(now.size, self.task.size or 0))
+        if small:
             self.made = self.scratch.name(self.task.size or now.size, b"out")
-        target = self.made if scratch else os.path.join(self.program.second, part)
-        where = os.path.dirname(self.made) if scratch else os.path.join(self.settings.plain, os.path.dirname(self.task.path))
-        self._expect(self.run("unpack", (number, above), self.believed(number, now), out=target, where=where), "unpack")
-        made = os.open(self.made, inside.FILE) if scratch else os.open(part, inside.FILE, dir_fd=above)
-        try:
-            return files.look_at(made)
-        finally:
-            os.close(made)
+        target = self.made if small else os.path.join(self.program.second, part)
+        where = os.path.dirname(self.made) if small else os.path.join(self.settings.plain, os.path.dirname(self.task.path))
+        ended = yield from self.run("unpack", (number, above), self.believed(number, now), out=target, where=where)
+        self._expect(ended, "unpack")
+        number, found = yield from self._taken(above, part, small)
+        return number, found, not small
 
-    def comes_back(self, number: int, now: files.Looked, sha256: Optional[str], with_sums: bool = False) -> files.Looked:
+    def comes_back(self, number: int, now: files.Looked, sha256: Optional[str], with_sums: bool = False) -> "Steps[files.Looked]":
         """Unpacks into the scratch folder, and keeps nothing. `with_sums` also verifies the checksums of what came back."""
         again = self.scratch.name(self.unpacked(number, now), b"again")
         where = os.path.dirname(again)
         try:
-            self._expect(self.run("unpack", (number,), self.believed(number, now), out=again, where=where), "unpack")
+            ended = yield from self.run("unpack", (number,), self.believed(number, now), out=again, where=where)
+            self._expect(ended, "unpack")
             opened = os.open(again, inside.FILE)
             try:
-                found = files.look_at(opened)
+                found = yield from looked(opened)
                 if sha256 is not None and found.sha256 != sha256:
                     raise Stop("differs", "unpacked file differs from the original", "the unpacked file differs from the one that was packed", "keep the plain file. " + advice.ANOTHER_COPY)
                 if with_sums:
-                    self.restored_sums(opened, found)
+                    yield from self.restored_sums(opened, found)
                 self.result.tests |= CAME_BACK if sha256 is not None else 0
             finally:
                 os.close(opened)
@@ -217,9 +218,9 @@ class Tries:
             files.remove(again)
         return found
 
-    def restored_sums(self, opened: int, found: files.Looked) -> None:
+    def restored_sums(self, number: int, found: files.Looked) -> "Steps[None]":
         """The checksums that the images had before they were packed are those of the images that come back."""
-        ended = self.run("verify", (opened,), found.size)
+        ended = yield from self.run("verify", (number,), found.size)
         self.result.sums_line = wrong_lines(ended) if ended.status == 1 else ""
         if ended.status == 1 and not (self.task.wrong_sums or self.settings.accept_wrong_sums):
             raise Stop("differs", "wrong checksum in the restored file", f"ZDATASUM or ZHECKSUM is not that of the image: {wrong_lines(ended)}", advice.WRONG_RESTORED)
@@ -227,27 +228,27 @@ class Tries:
         if ended.status != 1:
             self._expect(ended, "verify")
 
-    def expect_verified(self, number: int, now: files.Looked) -> None:
+    def expect_verified(self, number: int, now: files.Looked) -> "Steps[None]":
         """`fz verify` finds all checksums right, or those wrong that were accepted."""
-        ended = self.run("verify", (number,), self.believed(number, now))
+        ended = yield from self.run("verify", (number,), self.believed(number, now))
         if not (ended.status == 1 and (self.task.wrong_sums or self.settings.accept_wrong_sums)):
             self._expect(ended, "verify")
         self.result.tests |= VERIFIED
 
-    def sums_are_right(self, number: int, now: files.Looked) -> None:
+    def sums_are_right(self, number: int, now: files.Looked) -> "Steps[None]":
         """All checksums are right: those of the packed file, and those of the images before they were packed."""
-        self.expect_verified(number, now)
+        yield from self.expect_verified(number, now)
         if now.has_image_sums:
-            self.comes_back(number, now, self.task.sha256, with_sums=True)
+            yield from self.comes_back(number, now, self.task.sha256, with_sums=True)
 
     # calls
 
-    def run(self, verb: str, numbers: "tuple[int, ...]", size: int, *options: str, out: bytes = b"", where: bytes = b"") -> Outcome:
+    def run(self, verb: str, numbers: "tuple[int, ...]", size: int, *options: str, out: bytes = b"", where: bytes = b"") -> "Steps[Outcome]":
         """Calls fz on an open file, with the limits on memory and on time."""
         words: "list[str | bytes]" = [verb, *options, *(("--memory", str(self.settings.memory)) if self.settings.memory else ()), "--", self.program.first]
         limit = self.settings.time_limit or LEAST_SECONDS + size / BYTES_OF_A_SECOND
         try:
-            ended = self.program.run(words + [out] if out else words, numbers, limit)
+            ended: Outcome = yield Call(words + [out] if out else words, numbers, limit)
         except calls.OverTime as error:
             raise Stop("failed", f"fz {verb}: over time", f"fz {verb}: {error}", advice.OVER_TIME) from error
         if ended.status == 5 and where:

@@ -123,10 +123,10 @@ class SmallInputLargeCost(Archive):
         self.packs()
         real = tries.Tries.sums_are_right
 
-        def fails(it: tries.Tries, number: int, now: object) -> None:
+        def fails(it: tries.Tries, number: int, now: object) -> object:
             if it.task.path == b"a.fits":
                 raise OverflowError("made up")
-            real(it, number, now)  # type: ignore[arg-type]
+            return real(it, number, now)  # type: ignore[arg-type,return-value]
 
         with mock.patch.object(tries.Tries, "sums_are_right", fails):
             status, said = self.run_it("verify", self.packed)
