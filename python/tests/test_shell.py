@@ -1,16 +1,14 @@
-"""The command fzfits: what it prints, the files that it makes and keeps, and the table of docs/GUIDE.md beside the tools of cfitsio."""
+"""The command fzfits: what it prints, and the files that it makes and keeps."""
 import contextlib
 import io
 import os
-import re
-import shlex
 import shutil
 import subprocess
 import unittest
 from pathlib import Path
 from unittest import mock
 
-from support import PACKED, SAMPLES, TOP, InAFolder, needs_numpy, needs_program, np, refused_files
+from support import PACKED, SAMPLES, InAFolder, needs_numpy, needs_program, np, refused_files
 
 import fzfits
 from fzfits import checks
@@ -212,56 +210,6 @@ class Reading(InAShell):
             for it in contents(path)[0]:
                 if it.sort.endswith("image"):
                     self.assertEqual(np.dtype(it.type), fzfits.section(path, it.number).dtype)
-
-
-def rows_of_guide():
-    """The commands in the table of docs/GUIDE.md: those of cfitsio, and ours."""
-    page = (TOP / "docs" / "GUIDE.md").read_text(encoding="utf-8")
-    table = page.partition("| You type | Here |\n")[2].partition("\n\n")[0]
-    return re.findall(r"^\| `([^`]+)` \| `([^`]+)` \|", table, re.MULTILINE)
-
-
-@needs_program
-class Table(InAShell):
-    """Each row of the table: both commands make files of the same names with the same pixels, or none."""
-
-    def prepared(self, folder):
-        os.mkdir(folder)
-        os.mkdir(f"{folder}/out")
-        for name, source in (("a", "star_field"), ("mask", "flags"), ("b", "depths")):
-            shutil.copy(SAMPLES / f"{source}.fits", f"{folder}/{name}.fits")
-        shutil.copy("p.fits.fz", folder)
-
-    def made(self, folder):
-        return {str(it.relative_to(folder)): it for it in sorted(Path(folder).rglob("*")) if it.is_file() and it.suffix in (".fits", ".fz")}
-
-    def test_the_table_has_rows(self):
-        self.assertGreaterEqual(len(rows_of_guide()), 10)
-        self.assertEqual({it.split()[0] for it, _ in rows_of_guide()}, {"fpack", "funpack", "imcopy", "fitsverify"})
-
-    @needs_numpy
-    def test_each_row(self):
-        fzfits.pack(SAMPLES / "depths.fits", "p.fits.fz", sums=True)
-        for number, (theirs, ours) in enumerate(rows_of_guide()):
-            with self.subTest(theirs=theirs, ours=ours):
-                self.prepared(f"ours{number}")
-                words = shlex.split(ours)
-                self.assertEqual(words[0], "fzfits")
-                os.chdir(f"ours{number}")
-                self.call(*[name for it in words[1:] for name in (sorted(map(str, Path(".").glob(it))) if it == "*.fits" else [it])])
-                os.chdir("..")
-                if not shutil.which(theirs.split()[0]):
-                    continue
-                self.prepared(f"theirs{number}")
-                subprocess.run(theirs, shell=True, cwd=f"theirs{number}", check=True, capture_output=True, stdin=subprocess.DEVNULL)
-                one, other = self.made(f"ours{number}"), self.made(f"theirs{number}")
-                self.assertEqual(set(one), set(other))
-                for name in one:
-                    self.assertTrue(np.array_equal(fzfits.section(one[name], None), fzfits.section(other[name], None)), name)
-
-    @unittest.skipUnless(all(map(shutil.which, ("fpack", "funpack", "imcopy", "fitsverify"))), "a tool of cfitsio is not installed")
-    def test_all_tools_were_there(self):
-        self.assertTrue(FPACK)
 
 
 if __name__ == "__main__":
