@@ -1,8 +1,8 @@
 """The one place that finds the program `fz` and calls it.
 
-`find` looks for the program in this order: the argument, the environment variable FZ, the folders of PATH, and the program that
-a checkout of the project has built (crates/fz/out/fz above this file). A program that is named and is not there is an error: the
-next place is not tried instead.
+`find` looks for the program in this order: the argument, the environment variable FZ, the folders of PATH, the program that came
+with the wheel of this package, and the one that a checkout of the project has built (crates/fz/out/fz above this file). A program
+that is named and is not there is an error: the next place is not tried instead.
 """
 from __future__ import annotations
 
@@ -57,6 +57,14 @@ def is_program(path: object) -> bool:
     return os.path.isfile(path) and os.access(path, os.X_OK)  # type: ignore[arg-type]
 
 
+def from_the_wheel() -> Optional[str]:
+    """The program that pip put among the scripts of this Python, which need not be in PATH."""
+    import sysconfig
+
+    folders = [sysconfig.get_path("scripts"), sysconfig.get_path("scripts", "posix_user"), str(Path(__file__).resolve().parents[1] / "bin")]
+    return next((os.path.join(it, "fz") for it in folders if it and is_program(os.path.join(it, "fz"))), None)
+
+
 def find(program: Optional[Word] = None, environment: Optional[Mapping[str, str]] = None) -> str:
     """The path of the program, absolute. Raises `NoProgram` if there is none."""
     environment = os.environ if environment is None else environment
@@ -67,7 +75,7 @@ def find(program: Optional[Word] = None, environment: Optional[Mapping[str, str]
             origin = "the argument program" if program is not None else "the environment variable FZ"
             raise NoProgram(f"{origin} names {named!r}, which is not a program")
         return os.path.abspath(found)
-    found = shutil.which("fz", path=environment.get("PATH"))
+    found = shutil.which("fz", path=environment.get("PATH")) or from_the_wheel()
     if found is not None:
         return os.path.abspath(found)
     if is_program(IN_A_CHECKOUT):

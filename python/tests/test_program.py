@@ -19,8 +19,13 @@ class Finding(InAFolder):
 
     def test_checkout_comes_last(self):
         built = self.script("exit 0", "built")
-        with mock.patch.object(program, "IN_A_CHECKOUT", built):
+        with mock.patch.object(program, "IN_A_CHECKOUT", built), mock.patch.object(program, "from_the_wheel", lambda: None):
             self.assertEqual(program.find(None, {"PATH": ""}), built)
+
+    def test_what_came_with_the_wheel_comes_before_the_checkout(self):
+        beside = self.script("exit 0", "fz")
+        with mock.patch("sysconfig.get_path", lambda *_: str(self.folder)), mock.patch.object(program, "IN_A_CHECKOUT", self.script("exit 0", "built")):
+            self.assertEqual(program.find(None, {"PATH": ""}), beside)
 
     def test_a_named_program_that_is_not_there_is_an_error(self):
         other = self.script("exit 0", "fz")
@@ -28,7 +33,8 @@ class Finding(InAFolder):
             program.find(None, {"FZ": "/nowhere/fz", "PATH": str(self.folder)})
         with self.assertRaisesRegex(fzfits.NoProgram, "argument program"):
             program.find("nowhere/fz", {"FZ": other})
-        with mock.patch.object(program, "IN_A_CHECKOUT", "nowhere"), self.assertRaisesRegex(fzfits.NoProgram, "not in PATH"):
+        nowhere = mock.patch.multiple(program, IN_A_CHECKOUT="nowhere", from_the_wheel=lambda: None)
+        with nowhere, self.assertRaisesRegex(fzfits.NoProgram, "not in PATH"):
             program.find(None, {"PATH": ""})
 
     def test_a_name_without_a_folder_is_looked_for_in_path(self):
