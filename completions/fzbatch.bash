@@ -19,7 +19,7 @@ _fzbatch() {
         forget) options='--name' ;;
         collect) options='--drop --all' ;;
         report) options='--out --without-plain' ;;
-        look) options='--hdu --box --size --no-grid --fz --out' ;;
+        look) options='--hdu --box --size --stretch --exact --no-grid --fz --out' ;;
         *) options= ;;
     esac
     [ "$before" != = ] || before=${COMP_WORDS[COMP_CWORD-2]}

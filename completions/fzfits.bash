@@ -14,7 +14,7 @@ _fzfits() {
         why) options='--pack' ;;
         mend) options='--header-fill --data-fill --pad --trailing --part-hdu --zsimple --sums' ;;
         header) options='--hdu' ;;
-        look) options='--hdu --box --size --no-grid --fz --out' ;;
+        look) options='--hdu --box --size --stretch --exact --no-grid --fz --out' ;;
         *) options= ;;
     esac
     # readline takes = for a word of its own

@@ -24,5 +24,7 @@ complete -c fzfits -n '__fish_seen_subcommand_from mend' -l sums -d 'make checks
 complete -c fzfits -n '__fish_seen_subcommand_from header look' -l hdu -x -d 'the HDU'
 complete -c fzfits -n '__fish_seen_subcommand_from look' -l box -x -d 'a part: lo:hi,..'
 complete -c fzfits -n '__fish_seen_subcommand_from look' -l size -x -d 'pixels of the longer side'
+complete -c fzfits -n '__fish_seen_subcommand_from look' -l stretch -x -a 'linear sqrt log asinh' -d 'how values become greys'
+complete -c fzfits -n '__fish_seen_subcommand_from look' -l exact -d 'average all pixels'
 complete -c fzfits -n '__fish_seen_subcommand_from look' -l no-grid -d 'no world coordinates'
 complete -c fzfits -n '__fish_seen_subcommand_from look' -l fz -r -d 'the program fz'

@@ -11,6 +11,7 @@ from typing import Optional, Sequence
 
 from .. import __version__, program
 from ..errors import FzError
+from ..pictures import drawing
 from . import asking, calls, engines, files, keep, lock, look, names, report, run, slurm, submit, survey, words_of, work
 from .manifest import BadManifest
 from .messages import Settings
@@ -108,15 +109,17 @@ def _parser() -> argparse.ArgumentParser:
 
 
 def _look_words(verbs) -> None:
-    says = "write a coarse picture of a packed image as a PNG file"
+    says = "write a picture of a FITS file, packed or plain, or a page of small pictures of a folder"
     made = verbs.add_parser("look", help=says, description=says[0].upper() + says[1:] + ".")
-    made.add_argument("file", metavar="FILE", type=os.fsencode, help="a packed file")
-    made.add_argument("--hdu", type=int, metavar="K", help="the number of the HDU (the first packed image)")
+    made.add_argument("file", metavar="FILE", type=os.fsencode, help="a FITS file, or a folder of such")
+    made.add_argument("--hdu", metavar="K", help="the number of the HDU, or its EXTNAME (all images of the file)")
     made.add_argument("--box", default="", metavar="LO:HI,..", help="a part of the image, counted from 1, axis 1 first; of a cube the third piece names the plane")
-    made.add_argument("--size", type=int, default=800, metavar="N", help="pixels of the longer side of the picture, at most (800)")
+    made.add_argument("--size", type=int, default=800, metavar="N", help="pixels of the longer side of the image (800)")
+    made.add_argument("--stretch", choices=sorted(drawing.STRETCHES), default="linear", help="how values become greys (linear)")
+    made.add_argument("--exact", action="store_true", help="average all pixels, not four of each bin")
     made.add_argument("--no-grid", action="store_true", help="draw no grid of world coordinates")
     made.add_argument("--fz", metavar="PROGRAM", help=words_of.FZ)
-    made.add_argument("-o", "--out", type=os.fsencode, metavar="FILE", help="the picture (FILE with .png after it, in this folder)")
+    made.add_argument("-o", "--out", type=os.fsencode, metavar="FILE", help="the new picture or page (FILE with .png or .html after it, in this folder)")
     made.set_defaults(call=_look)
 
 
@@ -221,8 +224,8 @@ def _report(asked: argparse.Namespace) -> int:
 
 
 def _look(asked: argparse.Namespace) -> int:
-    out = asked.out or os.path.basename(asked.file) + b".png"
-    print(look.look(asked.file, out, asked.hdu, asked.box, asked.size, not asked.no_grid, asked.fz))
+    how = drawing.Look(asked.box, max(16, min(asked.size, 8000)), asked.stretch, asked.exact, not asked.no_grid, asked.fz)
+    print(look.look(asked.file, look.out_of(asked.file, asked.out), look.extension_of(asked.hdu) if asked.hdu else None, how))
     return run.DONE
 
 

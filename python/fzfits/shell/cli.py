@@ -95,7 +95,7 @@ def parser() -> argparse.ArgumentParser:
     verb(verbs, "plan", "try codecs and tiles: sizes, and which programs will read the file", planning.plan_file)
     header = verb(verbs, "header", "print the cards of every HDU, or of one", listing.header_of_file)
     header.add_argument("--hdu", default="", metavar="HDU", help="its number, EXTNAME, or EXTNAME,EXTVER; 'f.fits[SCI]' does the same")
-    verbs.add_parser("look", help="write a picture of a packed image as a PNG file, as fzbatch look does")
+    verbs.add_parser("look", help="write a picture of a FITS file, or a page of small ones of a folder, as fzbatch look does")
     return whole
 
 

@@ -1,4 +1,4 @@
-"""The parts of fzbatch that need no program: names, the look at a folder, the manifest, counts, plans, pictures and the sky."""
+"""The parts of fzbatch that need no program: names, the look at a folder, the manifest, counts and plans."""
 from __future__ import annotations
 
 import io
@@ -18,8 +18,7 @@ from pathlib import Path
 
 sys.path.insert(0, str(Path(__file__).resolve().parents[2]))
 
-from fzfits.batch import advice, files, grid, inside, lock, look, machine, manifest, messages, names, opening, picture, plan, progress, record, run, scan, sky, slurm, submit, svg, tally, tries  # noqa: E402
-from fzfits.headers import Header, card_of  # noqa: E402
+from fzfits.batch import advice, files, inside, lock, machine, manifest, messages, names, opening, plan, progress, record, run, scan, slurm, submit, tally, tries  # noqa: E402
 from fzfits.program import Outcome  # noqa: E402
 
 
@@ -386,104 +385,6 @@ class Bars(unittest.TestCase):
 
     def test_rich(self) -> None:
         self.shows("rich.progress", progress.Rich)
-
-
-def header(**values: object) -> Header:
-    """A header with these cards."""
-    texts = [f"{name:<8}= {chr(39) + it + chr(39) if isinstance(it, str) else it}" for name, it in values.items()]
-    return Header(0, 0, b"", tuple(card_of(number, it.ljust(80).encode()) for number, it in enumerate(texts)))
-
-
-def tangent(projection: str = "TAN", **more: object) -> Header:
-    cards = {"CTYPE1": f"RA---{projection}", "CTYPE2": f"DEC--{projection}", "CRPIX1": 512.5, "CRPIX2": 400.0, "CRVAL1": 10.68, "CRVAL2": 41.27}
-    return header(**{**cards, "CD1_1": -0.0004, "CD1_2": 0.0001, "CD2_1": 0.0001, "CD2_2": 0.0004, **more})
-
-
-class Sky(unittest.TestCase):
-    def test_there_and_back(self) -> None:
-        for projection in sky.OUTWARDS:
-            simple = sky.sky_of(tangent(projection))
-            for x, y in ((1.0, 1.0), (512.5, 400.0), (1024.0, 37.0)):
-                found = simple.world(x, y)
-                assert found is not None
-                back = simple.place(*found)
-                assert back is not None
-                self.assertAlmostEqual(math.dist(back, (x, y)), 0, 6)
-
-    def test_as_astropy(self) -> None:
-        try:
-            from astropy.wcs import WCS
-        except ImportError:
-            self.skipTest("astropy is not installed")
-        for projection in sky.OUTWARDS:
-            head = tangent(projection)
-            other = WCS({it.keyword: it.value for it in head.cards})
-            for x, y in ((1.0, 1.0), (900.0, 37.0)):
-                found, wanted = sky.sky_of(head).world(x, y), other.wcs_pix2world([[x, y]], 1)[0]
-                assert found is not None
-                self.assertAlmostEqual(found[0], wanted[0], 8)
-                self.assertAlmostEqual(found[1], wanted[1], 8)
-
-    def test_what_is_not_simple_has_a_reason(self) -> None:
-        for more, reason in ((dict(CTYPE1="RA---TAN-SIP"), "CTYPE1"), (dict(CTYPE1="RA---AIT", CTYPE2="DEC--AIT"), "AIT"), (dict(PV2_1=0.1), "PV2_1"), (dict(LONPOLE=90.0), "LONPOLE"), (dict(CD1_1=0, CD1_2=0, CD2_1=0, CD2_2=0), "no inverse")):
-            with self.assertRaisesRegex(sky.NoSky, reason):
-                sky.sky_of(tangent(**more))
-        with self.assertRaisesRegex(sky.NoSky, "there are no world coordinates"):
-            sky.sky_of(header(CRPIX1=1))
-
-    def test_a_grid_is_drawn(self) -> None:
-        view = look.View((1, 1), 4, 256, 200)
-        drawn = picture.Picture(256, 200, bytes(256 * 200))
-        self.assertTrue(grid.draw(drawn, sky.sky_of(tangent()), view.place, view.pixel))
-        self.assertGreater(sum(1 for it in drawn.pixels if it), 1000)
-        self.assertEqual(view.place(*view.pixel(10, 20)), (10, 20))
-
-
-class Pictures(unittest.TestCase):
-    def test_png(self) -> None:
-        made = picture.png(3, 2, bytes(range(6)))
-        self.assertEqual(made[:8], b"\x89PNG\r\n\x1a\n")
-        self.assertEqual(struct.unpack(">II", made[16:24]), (3, 2))
-        start = made.index(b"IDAT")
-        length = struct.unpack(">I", made[start - 4 : start])[0]
-        self.assertEqual(zlib.decompress(made[start + 4 : start + 4 + length]), b"\0\0\1\2\0\3\4\5")
-
-    def test_zscale_is_near_the_sky(self) -> None:
-        rng = random.Random(1)
-        values = [rng.gauss(1000, 10) for _ in range(1900)] + [rng.uniform(2000, 60000) for _ in range(100)]
-        low, high = picture.zscale(values)
-        self.assertTrue(900 < low < 1000 < high < 1200, (low, high))
-        self.assertEqual(picture.zscale([7.0] * 100), (7.0, 8.0))
-        self.assertEqual(picture.zscale([]), (0.0, 1.0))
-
-    def test_rows_from_the_top_and_blanks(self) -> None:
-        _, _, grey = look.greys([1, 2, 3, 4, -9, 6], -9, look.View((1, 1), 1, 3, 2))
-        self.assertEqual(grey[1], 0)
-        self.assertEqual(sorted(grey[3:]), list(grey[3:]))
-
-    def test_a_large_picture_has_the_same_greys(self) -> None:
-        rng = random.Random(2)
-        for sort, first, last in (("B", 0, 255), ("h", -32768, 32767), ("h", -3, 300)):
-            for blank in (None, first, last, 0, 100000):
-                values = array(sort, (rng.randint(first, last) for _ in range(70200)))
-                view = look.View((1, 1), 1, 270, 260)
-                self.assertEqual(look.greys(values, blank, view), look.greys(list(values), blank, view), (sort, first, last, blank))
-
-    def test_boxes(self) -> None:
-        cube = header(NAXIS=3, NAXIS1=100, NAXIS2=60, NAXIS3=5)
-        self.assertEqual(look._pieces(cube, "", 50)[0], [(1, 100, 2), (1, 60, 2), (1, 1, 1)])
-        pieces, view = look._pieces(cube, "11:20,1:60,4:5", 30)
-        self.assertEqual((pieces, view), ([(11, 20, 2), (1, 60, 2), (4, 4, 1)], look.View((11, 1), 2, 5, 30)))
-        for box in ("1:101,1:1", "5:4,1:1", "x", "1:1,1:1,1:1,1:1"):
-            with self.assertRaises(look.NoPicture):
-                look._pieces(cube, box, 50)
-
-    def test_plots_are_xml(self) -> None:
-        from xml.etree import ElementTree
-
-        for made in (svg.strip([("packed", 3), ("<a>", 1)]), svg.bars([("a&b", 2.0, "2")]), svg.histogram([1.0, 2.0, 2.0], "x"), svg.curve([(0, 0), (1, 2)], "x", "y")):
-            self.assertTrue(ElementTree.fromstring(made).tag.endswith("svg"))
-        self.assertEqual(svg.histogram([], "x"), "")
 
 
 if __name__ == "__main__":

@@ -1,7 +1,8 @@
-"""Whole runs of fzbatch on small folders, by the program fz; and pictures of packed images."""
+"""Whole runs of fzbatch on small folders, by the program fz; and pictures."""
 from __future__ import annotations
 
 import contextlib
+import importlib.util
 import io
 import json
 import os
@@ -19,6 +20,7 @@ from fzfits.batch import cli, lock  # noqa: E402
 from fzfits.errors import NoProgram  # noqa: E402
 
 SAMPLES = TOP / "samples"
+DRAWS = all(importlib.util.find_spec(it) for it in ("numpy", "matplotlib", "astropy"))
 try:
     FZ = program.find()
 except NoProgram:
@@ -180,24 +182,34 @@ class Runs(unittest.TestCase):
         out = self.room / "r.html"
         self.assertEqual(self.run_it("report", self.plain, "-o", out), (1, f"{out}\n"))
         page = out.read_text()
-        self.assertIn("1 file of 3 needs attention", page)
+        self.assertIn("Safe to delete the originals: no, 3 files<", page)
+        self.assertIn("1 file is not well: see below.", page)
+        self.assertIn("2 files were not compared with their originals yet", page)
         self.assertIn("<h3>Truncated (kind 2): 1 file</h3>", page)
         self.assertIn("&lt;b&gt;.fits", page)
         self.assertNotIn("<b>.fits", page)
         out.write_bytes(b"mine")
         self.assertEqual(self.last("report", self.plain, "-o", out)[0], 2)
 
+    @unittest.skipUnless(DRAWS, "matplotlib or astropy is not installed")
     def test_a_picture(self) -> None:
         self.run_it("pack", self.plain)
         out = self.room / "a.png"
         status, said = self.run_it("look", self.packed / "n" / "b.fits.fz", "-o", out, "--size", 20)
         self.assertEqual(status, 0)
-        self.assertIn("no grid: there are no world coordinates", said)
-        self.assertIn(" along each axis, ", said)
-        self.assertEqual(out.read_bytes()[:4], b"\x89PNG")
+        self.assertIn("axes of pixels: there are no celestial coordinates", said)
+        self.assertIn("averages of ", said)
+        drawn = out.read_bytes()
+        self.assertEqual(drawn[:4], b"\x89PNG")
+        # never over a file
         status, said = self.run_it("look", self.plain / "a.fits", "-o", out)
-        self.assertEqual(status, 2)
-        self.assertIn("a.fits has no packed image: fz pack makes a file that has", said)
+        self.assertEqual((status, "is there: give another name" in said, out.read_bytes()), (2, True, drawn))
+        # a plain file, and a folder
+        self.assertEqual(self.run_it("look", self.plain / "a.fits", "-o", self.room / "b.png")[0], 0)
+        status, said = self.run_it("look", self.plain, "-o", self.room / "all.html")
+        page = (self.room / "all.html").read_text()
+        self.assertEqual((status, "<b>n/b.fits</b>" in page, ": 2 files, 0 of them not shown" in said), (0, True, True))
+        self.assertIn("Content-Security-Policy\" content=\"default-src 'none'; style-src 'unsafe-inline'; img-src data:\"", page)
 
 
 if __name__ == "__main__":
