@@ -1,0 +1,101 @@
+"""The systems whose tools are compared: this one, and other suites of Debian, each unpacked in a folder of its own."""
+import os
+import shutil
+import subprocess
+import sys
+import threading
+from dataclasses import dataclass, field
+from pathlib import Path
+
+PACKAGES = "libcfitsio-bin,python3-astropy,python3-fitsio"
+MIRROR = "http://deb.debian.org/debian"
+# What a tool may take, in seconds.
+LIMIT = 120
+VERSIONS = (
+    "import importlib\n"
+    "for name in ('astropy', 'fitsio'):\n"
+    "    try:\n"
+    "        it = importlib.import_module(name)\n"
+    "        print(name, it.__version__)\n"
+    "    except Exception:\n"
+    "        pass\n"
+)
+
+
+@dataclass
+class Ran:
+    """How a run ended: its status (minus the signal that ended it), its seconds of processors, what it printed, and the megabytes it had."""
+
+    status: int
+    processor: float
+    said: str
+    memory: float = 0.0
+
+
+@dataclass
+class System:
+    """A system: the name of its suite, the folder in which it is unpacked (none for this one), and the versions of its tools."""
+
+    name: str
+    root: Path = None
+    versions: dict = field(default_factory=dict)
+
+    def words(self, words):
+        """The command as it is run in this system, whose working folder is WORK."""
+        return ["chroot", str(self.root), *words] if self.root else list(words)
+
+    def path(self, name):
+        """The path of a tool, or nothing."""
+        if self.root is None:
+            return shutil.which(name)
+        return f"/usr/bin/{name}" if (self.root / "usr/bin" / name).exists() else None
+
+
+def run(words, limit=LIMIT):
+    """Runs a command to its end, or kills it after so many seconds."""
+    child = subprocess.Popen(list(map(str, words)), stdin=subprocess.DEVNULL, stdout=subprocess.PIPE, stderr=subprocess.STDOUT)
+    timer = threading.Timer(limit, child.kill)
+    timer.start()
+    said = child.stdout.read().decode("utf-8", "replace")
+    _, status, used = os.wait4(child.pid, 0)
+    timer.cancel()
+    child.returncode = os.waitstatus_to_exitcode(status)
+    return Ran(child.returncode, used.ru_utime + used.ru_stime, said)
+
+
+def unpacked(suite, room, work):
+    """Another suite, unpacked in the folder `room`; None, with the reason, if that cannot be done."""
+    root = room / suite
+    if os.geteuid() != 0 or not shutil.which("debootstrap"):
+        print(f"bench/compare: left out, since this is not root or debootstrap is not installed: the tools of {suite}", file=sys.stderr)
+        return None
+    if not (root / "usr/bin/fpack").exists():
+        shutil.rmtree(root, ignore_errors=True)
+        made = subprocess.run(["debootstrap", "--variant=minbase", f"--include={PACKAGES}", suite, str(root), MIRROR], stdout=subprocess.PIPE, stderr=subprocess.STDOUT, text=True, check=False)
+        if made.returncode:
+            print(f"bench/compare: left out, since debootstrap failed ({made.stdout.splitlines()[-1:]}): the tools of {suite}", file=sys.stderr)
+            return None
+    below = root / str(work).lstrip("/")
+    below.mkdir(parents=True, exist_ok=True)
+    subprocess.run(["mount", "--bind", str(work), str(below)], check=True)
+    return System(suite, root)
+
+
+def removed(systems, work):
+    """Takes the working folder out of the systems again."""
+    for it in systems:
+        if it.root:
+            subprocess.run(["umount", str(it.root / str(work).lstrip("/"))], check=False)
+
+
+def known(system):
+    """Finds the versions of the tools of a system."""
+    if system.path("fpack"):
+        package = run(system.words(["dpkg-query", "-W", "-f", "${Version}", "libcfitsio-bin"]))
+        system.versions["cfitsio"] = package.said.split("-")[0] if package.status == 0 else "of no package"
+    python = "/usr/bin/python3"
+    for line in run(system.words([python, "-W", "ignore", "-c", VERSIONS])).said.splitlines():
+        name, *rest = line.split()
+        if name in ("astropy", "fitsio"):
+            system.versions[name] = rest[0]
+    return system
