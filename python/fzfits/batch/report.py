@@ -54,6 +54,11 @@ def _files(count: int) -> str:
     return f"{count:,} file" if count == 1 else f"{count:,} files"
 
 
+def states_of(states: "Counter[str]") -> str:
+    """A bar for each state, the most frequent one first."""
+    return _chart(charts.bars, "states", [(state, count, f"{count:,}") for state, count in sorted(states.items(), key=lambda it: -it[1])])
+
+
 def _chart(draw, *words) -> str:
     """A chart, or why there is none."""
     try:
@@ -67,14 +72,13 @@ def _head(packed: bytes, found: Survey) -> str:
     states = Counter(shown(it.cause) for it in found.findings)
     named = {it.path for it in found.findings}
     states.update(WORDS.get(it.status, it.status) for it in found.rows if it.path not in named)
-    ordered = sorted(states.items(), key=lambda it: -it[1])
     checked = min((it for it in found.rows if it.done and it.checked_at), key=lambda it: it.checked_at, default=None)
     when = f"<p>Oldest check: {day(checked.checked_at)} (<code>{_name(checked.path)}</code>).</p>" if checked else ""
     source = f"Plain files: <code>{_name(found.found.root)}</code>. " if found.found else "The folder of plain files is not there. "
     lines = [f'<h1>Archive {_name(packed)}</h1><p class="verdict {"good" if verdict.safe else "bad"}">{_text(verdict.line)}</p>']
     lines += [f"<p>{_text(it)}</p>" for it in verdict.why]
     lines.append(f'<p class="note">{source}State of {now()}.</p>')
-    lines.append(_chart(charts.bars, "states", [(state, count, f"{count:,}") for state, count in ordered]) if ordered else "")
+    lines.append(states_of(states))
     return "\n".join((*lines, when))
 
 
