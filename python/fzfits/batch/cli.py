@@ -13,6 +13,7 @@ from .. import __version__, program
 from ..errors import FzError
 from ..pictures import drawing
 from . import asking, calls, engines, files, keep, lock, look, names, report, run, slurm, submit, survey, words_of, work
+from .adopt import words as adopted
 from .manifest import BadManifest
 from .messages import Settings
 from .scan import NoSource
@@ -60,7 +61,7 @@ def _parsed(words: Optional[Sequence[str]]) -> argparse.Namespace:
 
 def _called(asked: argparse.Namespace) -> int:
     try:
-        return asked.call(asked)
+        return (adopted.call_of(asked) or asked.call)(asked)
     except (run.Refuse, NoSource, BadManifest, lock.Locked, engines.NoEngine, look.NoPicture, FzError) as error:
         said = str(error)
     except BrokenPipeError:
@@ -105,6 +106,7 @@ def _parser() -> argparse.ArgumentParser:
     words_of.without(page)
     page.add_argument("-o", "--out", type=os.fsencode, default=b"report.html", metavar="FILE", help="the page (report.html)")
     _look_words(verbs)
+    adopted.add(verbs)
     return whole
 
 

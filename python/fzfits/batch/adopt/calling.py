@@ -1,0 +1,49 @@
+"""Calls of fz on files that are open or in a folder for temporary files, within the limits on memory and time."""
+from __future__ import annotations
+
+import os
+from typing import Optional
+
+from ...program import Outcome
+from .. import advice, calls
+from ..rooms import Rooms
+from ..tries import BYTES_OF_A_SECOND, LEAST_SECONDS
+from .messages import Asked
+
+
+class Undone(Exception):
+    """fz did not say what the file is: it had no time, no memory or no disk, or was killed."""
+
+    def __init__(self, cause: str, line: str, what: str, error: Optional[int] = None):
+        super().__init__(line)
+        self.cause, self.line, self.what, self.error = cause, line, what, error
+
+
+class Fz:
+    """The program for one file of an adopted folder, and names for what it writes."""
+
+    def __init__(self, asked: Asked, room: Rooms):
+        self.asked, self.room = asked, room
+        self.program = calls.shared.of(asked.program)
+
+    def run(self, verb: str, source: "int | bytes", size: int, *options: str, out: bytes = b"") -> Outcome:
+        """The statuses 0, 1 and 3 say what the file is; all others are `Undone`. `size` is what is read or made at most."""
+        limits = ("--memory", str(self.asked.memory)) if self.asked.memory and verb != "list" else ()
+        name, numbers = (source, ()) if isinstance(source, bytes) else (self.program.first, (source,))
+        words = [verb, *options, *limits, "--", name, *((out,) if out else ())]
+        try:
+            ended = self.program.run(words, numbers, self.asked.time_limit or LEAST_SECONDS + size / BYTES_OF_A_SECOND)
+        except calls.OverTime as error:
+            raise Undone(f"fz {verb}: over time", f"fz {verb}: {error}", advice.OVER_TIME) from error
+        if ended.status in (0, 1, 3):
+            return ended
+        if ended.status == 5 and out:
+            self._no_room(os.path.dirname(out))
+        said = ended.signal or ended.line or ended.errors.strip() or f"status {ended.status}"
+        raise Undone(f"fz {verb}: {said.split(':')[0]}", f"fz {verb}: {said}", advice.of_outcome(ended))
+
+    def _no_room(self, folder: bytes) -> None:
+        free = os.statvfs(folder)
+        if free.f_bavail * free.f_frsize < 1 << 20:
+            said = os.strerror(advice.NO_SPACE)
+            raise Undone(said, f"{said} (for temporary files, in {os.fsdecode(folder)}; TMPDIR names another folder)", advice.of_errno(advice.NO_SPACE), advice.NO_SPACE)

@@ -1,0 +1,163 @@
+"""One file of an adopted folder: read once for its SHA-256, and looked at in every way that there is for it. Nothing is changed."""
+from __future__ import annotations
+
+import os
+import time
+import zlib
+from itertools import islice
+from typing import List, Optional
+
+from ...checks import UNDECODED, has_own_sums
+from ...headers import Header, headers
+from ...program import Outcome
+from ...results import REFUSED, verdict_of
+from .. import advice, expansion, files, inside, names
+from ..rooms import Rooms
+from . import alone, cards, heaps
+from .calling import Fz, Undone
+from .messages import Asked, Found, One
+from .rows import Finding, Hdu, packed_text
+
+# More HDUs than this are looked at by fz alone.
+MOST = 4096
+# Kinds that speak of the file as a whole.
+WHOLE = (1, 2, 3, 8)
+GZIP, OTHERS = b"\x1f\x8b", (b"BZh", b"\xfd7zXZ\0", b"\x28\xb5\x2f\xfd", b"\x1f\x9d", b"PK\x03\x04")
+ANOTHER = "fetch the file from another copy"
+
+
+def examine(asked: Asked, one: One, room: Rooms) -> Found:
+    """Reads a file, and says what was found. Nothing is raised for the file's sake."""
+    began, found = time.monotonic(), Found(one.folder, one.name)
+    try:
+        with inside.file(asked.folder, one.path) as number:
+            _read(asked, one, room, number, found)
+    except Undone as error:
+        found.cause, found.line, found.advice, found.error = error.cause, error.line, error.what, error.error
+    except inside.NotInside as error:
+        found.cause, found.line, found.advice = "a link is in the way", error.strerror or str(error), advice.NO_LINKS
+    except OSError as error:
+        found.cause = found.line = error.strerror or str(error)
+        found.advice, found.error = advice.of_errno(error.errno or 0), error.errno
+    except Exception as error:  # pylint: disable=broad-except
+        # whatever a file of a stranger brings about: it is named, and the run goes on
+        found.cause, found.line, found.advice = "fault of fzbatch", f"{type(error).__name__}: {error}", "report it with the file"
+    if found.cause:
+        found.outcome, found.sha256 = "unread", b""
+    found.cause, found.line, found.advice = map(names.told, (found.cause, found.line, found.advice))
+    found.seconds = time.monotonic() - began
+    return found
+
+
+def _read(asked: Asked, one: One, room: Rooms, number: int, found: Found) -> None:
+    looked = files.look_at(number)
+    found.looked = time.time_ns()
+    found.size, found.mtime, found.sha256 = looked.size, looked.mtime, bytes.fromhex(looked.sha256)
+    if asked.sha256_only and found.sha256 == one.sha256:
+        found.outcome = "same"
+        return
+    it = File(Fz(asked, room), number, looked)
+    it.look()
+    if not looked.is_still(os.fstat(number)):
+        raise Undone("file is being written", "the file changed while it was read", "run fzbatch again when nothing writes it")
+    for one_of in it.found:
+        one_of.line, one_of.name = names.told(one_of.line), names.told(one_of.name)
+    for hdu in it.hdus:
+        for name in ("sort", "name", "type", "codec", "undecoded"):
+            setattr(hdu, name, names.told(getattr(hdu, name)))
+    found.outcome, found.sort, found.hdus, found.found = "read", it.sort, packed_text(it.hdus), packed_text(it.found)
+
+
+class File:
+    """An open file: `hdus` is what is in it, and `found` what is wrong with it."""
+
+    def __init__(self, fz: Fz, number: int, looked: files.Looked):
+        self.fz, self.number, self.looked, self.size = fz, number, looked, looked.size
+        self.sort = "plain"
+        self.hdus: List[Hdu] = []
+        self.found: List[Finding] = []
+
+    def add(self, cause: str, line: str, what: str, hdu: Optional[int] = None) -> None:
+        """Notes something that is wrong with the file as a whole."""
+        self.found.append(Finding(cause, line, what, hdu))
+
+    def look(self) -> None:
+        """Looks at it."""
+        head = os.pread(self.number, 10, 0)
+        if head.startswith(GZIP):
+            self._gzip()
+        elif head.startswith(OTHERS):
+            self.sort = "compressed"
+        elif not self.size:
+            self.add("file is empty", "it has no byte", ANOTHER)
+        else:
+            self._fits()
+
+    def _gzip(self) -> None:
+        self.sort = "gzip"
+        said = heaps.gzip_fault(self.number, 0, self.size)
+        if said:
+            self.add("gzip file is damaged", f"it cannot be inflated: {said}", ANOTHER)
+
+    def _fits(self) -> None:
+        path = f"/proc/self/fd/{self.number}"
+        heads = list(islice(headers(path), MOST))
+        self.sort = "packed" if any(it.is_packed or it.value("ZTABLE") is True for it in heads) else "plain"
+        ended = self.fz.run("verify", self.number, self._believed())
+        if ended.status == 3:
+            self._each(heads, ended)
+        else:
+            self._whole(heads, ended)
+        for it in heads:
+            self.found += cards.faults_of(self.number, it, self.size)
+
+    def _believed(self) -> int:
+        return expansion.believed(expansion.unpacked(self.number, self.size), self.size)
+
+    def _whole(self, heads: "List[Header]", ended: Outcome) -> None:
+        """fz takes the file as it is."""
+        looks = [alone.Alone(self.fz, self.number, self.size, it) for it in heads]
+        verdicts = {it.hdu: it for it in map(verdict_of, ended.lines) if it is not None}
+        for one in looks:
+            it = verdicts[one.header.number]
+            one.hdu.datasum, one.hdu.checksum, one.hdu.tiles = it.datasum, it.checksum, it.tiles
+        own = {it.header.number: it.hdu for it in looks if has_own_sums(it.header)}
+        if own and not self._would_grow():
+            shift = 1 if len(heads) > 1 and heads[1].is_packed and heads[1].card("ZSIMPLE") is not None else 0
+            alone.restored(self.fz, self.number, own, self._believed(), shift)
+        for one in looks:
+            alone.wrong_sums(one)
+            self._take(one)
+
+    def _would_grow(self) -> bool:
+        said = expansion.warning(expansion.unpacked(self.number, self.size), self.size)
+        if said:
+            self.add("file would grow", f"{said}: the checksums of its images were not compared", advice.OVER_TIME)
+        return bool(said)
+
+    def _take(self, one: alone.Alone) -> None:
+        self.hdus.append(one.hdu)
+        self.found += one.found
+
+    def _each(self, heads: "List[Header]", ended: Outcome) -> None:
+        """fz rejects the file for one HDU, or for what is between them: each HDU is looked at by itself."""
+        kind, name = advice.kind_of(ended.line)
+        place = REFUSED.fullmatch(ended.line)
+        at = f", HDU {place[3]}, {place[4]} {place[5]}" if place else ""
+        if kind in WHOLE:
+            self.add(f"{kind} {name}", self._of_whole(kind, name, heads) or f"fz does not take the file: {kind} {name}{at}", advice.of_refusal(ended.line))
+        for it in heads:
+            one = alone.Alone(self.fz, self.number, self.size, it)
+            one.look()
+            self._take(one)
+        if not self.found and kind not in UNDECODED:
+            # what is wrong is not in an HDU by itself, but in their order
+            self.add(f"{kind} {name}", f"fz does not take the file: {kind} {name}{at}", advice.of_refusal(ended.line), int(place[3]) if place else None)
+
+    def _of_whole(self, kind: int, name: str, heads: "List[Header]") -> str:
+        end = heads[-1].end if heads else 0
+        if kind == 2 and end > self.size:
+            return f"{kind} {name}: the file ends {end - self.size:,} bytes before HDU {heads[-1].number}, its last one"
+        if heads and end < self.size:
+            return f"{kind} {name}: from byte {end:,} on there is no HDU that can be read; {self.size - end:,} bytes follow"
+        return ""

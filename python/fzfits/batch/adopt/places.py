@@ -1,0 +1,80 @@
+"""Where the manifest of an adopted folder is, and what lies beside it: the lock, the second copy, and a list for sha256sum."""
+from __future__ import annotations
+
+import os
+import stat
+from typing import Iterator, List, Sequence
+
+from .. import files, inside, keep, lock, names
+from ..wanted import Refuse
+from .rows import GONE
+from .store import Store
+
+SUFFIX = b".fzbatch.sqlite"
+LOCK, COPY, SUMS = b".lock", b".copy", b".SHA256SUMS"
+
+
+def beside(folder: bytes) -> bytes:
+    """The manifest of a folder if no other place is named: beside it, with its name."""
+    return folder.rstrip(b"/") + SUFFIX
+
+
+def manifest_of(folder: bytes, given: "Sequence[bytes]") -> bytes:
+    """The manifest of a folder: the one that is named, or the one beside it. It is not in the folder."""
+    path = os.path.realpath(given[0]) if given else beside(folder)
+    if path.startswith(folder.rstrip(b"/") + b"/"):
+        raise Refuse(f"{names.shown(path)} would be in the folder itself, in which nothing is changed: --manifest names another place")
+    if not os.path.isdir(os.path.dirname(path)):
+        raise Refuse(f"the folder of {names.shown(path)} is not there")
+    return path
+
+
+def opened(path: bytes, folder: bytes, writes: bool = False, moved: bool = False) -> Store:
+    """A manifest that has to be there, and is that of this folder, unless it was `moved`."""
+    if not files.there(path):
+        raise Refuse(f"{names.shown(path)} is not there: fzbatch adopt {names.shown(folder)} makes it")
+    made = Store(path, writes)
+    known = made.fact("folder")
+    if known is not None and known != folder and not moved:
+        made.close()
+        raise Refuse(f"{names.shown(path)} is the manifest of {names.shown(known)}, and not of {names.shown(folder)}: after a folder was moved, fzbatch adopt --moved says so")
+    return made
+
+
+def many(given: "Sequence[bytes]") -> "List[bytes]":
+    """The manifests that are named, and those of the folders that are named."""
+    found = []
+    for it in given:
+        path = os.path.realpath(it)
+        if os.path.isdir(path):
+            found += [os.path.join(path, name) for name in sorted(os.listdir(path)) if name.endswith(b".sqlite")]
+        else:
+            found.append(path)
+    return found
+
+
+def may_be_written(path: bytes) -> bool:
+    """Whether a manifest can be made or written in this place."""
+    return lock.is_writable(os.path.dirname(path)) and (not files.there(path) or os.access(path, os.W_OK))
+
+
+def keep_beside(store: Store) -> "List[str]":
+    """Writes the second copy and the list for sha256sum anew, after a run that changed the manifest."""
+    store.save()
+    said = []
+    rights = stat.S_IMODE(os.stat(store.path).st_mode) & 0o666
+    for ending, beginning, pieces in ((COPY, b"SQLite format 3\0", keep._bytes_of(store.path)), (SUMS, keep.HEAD, _sums(store))):
+        path = store.path + ending
+        if keep.is_none_of_ours(path, beginning):
+            said.append(f"{names.shown(path)} is there, and fzbatch did not write it: it stays as it is, and none was written.")
+        else:
+            inside.replace(path, pieces, rights)
+    return said
+
+
+def _sums(store: Store) -> Iterator[bytes]:
+    """The lines of SHA256SUMS, to be read by sha256sum -c in the folder."""
+    yield keep.HEAD
+    for it in store.rows():
+        if it.status != GONE:
+            yield keep.line_of(it.path, it.sha256.hex())

@@ -1,0 +1,116 @@
+"""What becomes of the row of a file after it was read: nothing that was known is forgotten, and no change is taken for granted."""
+from __future__ import annotations
+
+from dataclasses import dataclass, replace
+from typing import Callable, List, Optional, Tuple
+
+from .. import names
+from .messages import Found
+from .rows import CHANGED, FAULTY, GONE, PART, RENAMED, RIGHT, ROTTEN, UNREAD, Finding, Row, findings_of, hdus_of, packed_text
+
+ROT = "bytes changed, and neither length nor time: the disk, or a copy, damaged the file. Fetch it from another copy"
+OTHER = "find out who changed it; fzbatch adopt --update takes it as it is now, and fetching it from another copy ends this too"
+NAME = "fzbatch adopt --update takes the new name; giving the file its old name ends this too"
+LOST = "fetch it from another copy, or fzbatch forget takes it out of the manifest"
+# The causes that say that a file is another one than was adopted.
+OURS = ("rotten", "changed", "has the bytes of another file", "renamed", "gone", "not read")
+
+Had = Callable[[bytes, bytes, bytes], "Optional[Tuple[bytes, bytes, bool]]"]
+
+
+@dataclass
+class Verdict:
+    """The new row of a file, and the row of the name that it had, if that is to be dropped."""
+
+    row: Row
+    drop: "Optional[Tuple[bytes, bytes]]" = None
+
+
+def sort_of(found: "List[Finding]", hdus: str) -> str:
+    """Whether a file is right, right as far as it is decoded, or faulty."""
+    if found:
+        return FAULTY
+    return PART if any(it.undecoded for it in hdus_of(hdus)) else RIGHT
+
+
+def of(found: Found, row: Optional[Row], had: Had, run: int, update: bool) -> "Optional[Verdict]":
+    """What a result makes of a row. None for a new file that could not be read: there is nothing to be kept of it yet."""
+    if found.outcome == "unread":
+        return _unread(found, row, run)
+    if row is None:
+        return _new(found, had, run, update)
+    if found.sha256 == row.sha256:
+        return Verdict(_same(found, row, run, update))
+    return Verdict(_other(found, row, had, run, update))
+
+
+def _made(found: Found, run: int) -> Row:
+    return Row(found.folder, found.name, found.size, found.mtime, found.looked, found.sha256, found.sort, FAULTY, b"", found.hdus, found.found, run, run)
+
+
+def _unread(found: Found, row: Optional[Row], run: int) -> "Optional[Verdict]":
+    if row is None:
+        return None
+    kept = [it for it in row.findings if it.cause not in ("not read", "gone")]
+    said = Finding("not read", f"{found.cause}: {found.line}" if found.line != found.cause else found.line, found.advice)
+    return Verdict(replace(row, status=UNREAD, found=packed_text([said, *kept])))
+
+
+def _new(found: Found, had: Had, run: int, update: bool) -> Verdict:
+    row = _made(found, run)
+    own = row.findings
+    row.status = sort_of(own, row.hdus)
+    other = had(found.sha256, found.folder, found.name)
+    if other is None:
+        return Verdict(row)
+    before = other[0] + b"/" + other[1] if other[0] else other[1]
+    if other[2]:
+        # the file that had these bytes is gone: it has another name now
+        if not update:
+            row.was, row.status = before, RENAMED
+            row.found = packed_text([Finding("renamed", f"it was {names.shown(before)}", NAME), *own])
+        return Verdict(row, (other[0], other[1]))
+    if not update:
+        row.status = CHANGED
+        row.found = packed_text([Finding("has the bytes of another file", f"it has the bytes that {names.shown(before)} had", OTHER), *own])
+    return Verdict(row)
+
+
+def _same(found: Found, row: Row, run: int, update: bool) -> Row:
+    """It has the bytes that were adopted."""
+    made = replace(row, size=found.size, mtime=found.mtime, looked=found.looked, read_in=run)
+    if found.outcome == "read":
+        made.sort, made.hdus, own = found.sort, found.hdus, findings_of(found.found)
+    else:
+        own = [it for it in row.findings if it.cause not in OURS]
+    if made.was and update:
+        made.was = b""
+    renamed = [Finding("renamed", f"it was {names.shown(made.was)}", NAME)] if made.was else []
+    made.found = packed_text([*renamed, *own])
+    made.status = RENAMED if renamed else sort_of(own, made.hdus)
+    return made
+
+
+def _other(found: Found, row: Row, had: Had, run: int, update: bool) -> Row:
+    """It has other bytes than were adopted. The row keeps the SHA-256 that it should have."""
+    if update:
+        made = _made(found, run)
+        made.status = sort_of(made.findings, made.hdus)
+        return made
+    rotten = row.status not in (CHANGED, GONE) and (found.size, found.mtime) == (row.size, row.mtime)
+    other = had(found.sha256, found.folder, found.name)
+    if other is not None:
+        before = other[0] + b"/" + other[1] if other[0] else other[1]
+        said = Finding("has the bytes of another file", f"it has the bytes that {names.shown(before)} had", OTHER)
+    elif rotten:
+        said = Finding("rotten", "it has the length and the time that it had, and other bytes", ROT)
+    else:
+        length = "" if found.size == row.size else f", and {found.size:,} bytes in the place of {row.size:,}"
+        said = Finding("changed", f"it is another file than the one that was adopted{length}", OTHER)
+    status = ROTTEN if said.cause == "rotten" else CHANGED
+    return replace(row, size=found.size, mtime=found.mtime, looked=found.looked, status=status, found=packed_text([said, *findings_of(found.found)]), read_in=run)
+
+
+def gone(row: Row) -> Row:
+    """The row of a file that is not there."""
+    return replace(row, status=GONE, found=packed_text([Finding("gone", "it is not there", LOST)]))

@@ -1,0 +1,107 @@
+"""A look at a folder and all below it: names, lengths and times, one folder after another, and no file is opened."""
+from __future__ import annotations
+
+import multiprocessing
+import os
+import stat
+from collections import Counter
+from concurrent import futures
+from dataclasses import dataclass, field
+from typing import Iterator, Optional, Tuple
+
+from .. import names
+from ..scan import ADVICE, LINK, PIPE, SHUT, Left
+from .store import WIDE, look_of
+
+# From so many files on, several processes look.
+MANY = 200_000
+Entry = Tuple[bytes, int, int]
+
+
+def is_wanted(name: bytes) -> bool:
+    """Whether a file of this name is adopted: FITS files, packed ones, and those that another program compressed as a whole."""
+    return names.is_fits(name) or name.lower().endswith(names.PACKED) or names.is_compressed_fits(name)
+
+
+@dataclass
+class Seen:
+    """One folder as it was seen: its files as a count, a sum of lengths and a sum of hashes, the folders in it, and what is left out.
+
+    `shut` says that it could not be read.
+    """
+
+    path: bytes
+    count: int = 0
+    bytes: int = 0
+    look: int = 0
+    below: "list[bytes]" = field(default_factory=list)
+    left: "list[Left]" = field(default_factory=list)
+    others: "Counter[str]" = field(default_factory=Counter)
+    shut: bool = False
+
+
+def entries(root: bytes, path: bytes, seen: Optional[Seen] = None) -> Iterator[Entry]:
+    """Name, length and time of each file of a folder that is adopted. What else is in it goes into `seen`."""
+    seen = seen or Seen(path)
+    try:
+        with os.scandir(os.path.join(root, path)) as found:
+            for entry in found:
+                try:
+                    it = entry.stat(follow_symlinks=False)
+                except OSError as error:
+                    seen.left.append(Left(os.path.join(path, entry.name), f"cannot be read: {error.strerror}", ADVICE[SHUT], SHUT))
+                    continue
+                if stat.S_ISREG(it.st_mode) and is_wanted(entry.name):
+                    yield entry.name, it.st_size, it.st_mtime_ns
+                else:
+                    _other(seen, path, entry, it)
+    except OSError as error:
+        seen.shut = True
+        seen.left.append(Left(path or b".", f"cannot be read: {error.strerror}", ADVICE[SHUT], SHUT))
+
+
+def _other(seen: Seen, path: bytes, entry: "os.DirEntry[bytes]", it: os.stat_result) -> None:
+    below = os.path.join(path, entry.name)
+    if stat.S_ISDIR(it.st_mode):
+        seen.below.append(below)
+    elif stat.S_ISLNK(it.st_mode):
+        try:
+            leads = stat.S_ISDIR(entry.stat(follow_symlinks=True).st_mode)
+        except OSError:
+            leads = False
+        if leads or is_wanted(entry.name):
+            seen.left.append(Left(below, "is a symbolic link", ADVICE[LINK].replace("pack the", "adopt the"), LINK))
+    elif stat.S_ISREG(it.st_mode):
+        seen.others[names.suffix_of(entry.name)] += 1
+    elif is_wanted(entry.name):
+        seen.left.append(Left(below, "is no file, but a pipe, a socket or a device", ADVICE[PIPE], PIPE))
+
+
+def see(root: bytes, path: bytes) -> Seen:
+    """One folder."""
+    seen = Seen(path)
+    for name, size, mtime in entries(root, path, seen):
+        seen.count += 1
+        seen.bytes += size
+        seen.look += look_of(name, size, mtime)
+    seen.look %= WIDE
+    return seen
+
+
+def walk(root: bytes, known: int, jobs: int) -> Iterator[Seen]:
+    """A folder and all below it. If so many files are known, as many processes look as there are jobs."""
+    if known < MANY or jobs < 2:
+        waiting = [b""]
+        while waiting:
+            found = see(root, waiting.pop())
+            waiting += found.below
+            yield found
+        return
+    with futures.ProcessPoolExecutor(jobs, multiprocessing.get_context("fork")) as pool:
+        running = {pool.submit(see, root, b"")}
+        while running:
+            ended, running = futures.wait(running, return_when=futures.FIRST_COMPLETED)
+            for it in ended:
+                found = it.result()
+                running |= {pool.submit(see, root, below) for below in found.below}
+                yield found

@@ -1,0 +1,61 @@
+"""The words of the commands on adopted folders: which commands there are, and which folder an earlier command means."""
+from __future__ import annotations
+
+import argparse
+import os
+from typing import Callable, Optional
+
+from .. import files, names, words_of
+from . import places
+
+# Commands that work on an archive of fzbatch pack, and on an adopted folder too.
+BOTH = ("verify", "compare", "status", "missing", "report", "forget")
+
+
+def add(verbs: "argparse._SubParsersAction[argparse.ArgumentParser]") -> None:
+    """Adds the commands of adopted folders, and the option that names their manifest to the others."""
+    made = _verb(verbs, "adopt", "take a folder of FITS files of any packer under a manifest beside it: each file and each tile is checked, and nothing in the folder is changed")
+    words_of.job_words(made)
+    made.add_argument("--engine", choices=("local", "parallel", "dask"), default="local", help="what reads the files (local)")
+    made.add_argument("--sshlogin", action="append", default=[], metavar="MACHINES", help="for GNU parallel: machines, such as 8/node1,4/:")
+    made.add_argument("--sshloginfile", metavar="FILE", help="for GNU parallel: a file with the machines")
+    made.add_argument("--scheduler", default="", metavar="ADDRESS", help="for dask: the scheduler; without it, workers of this machine")
+    made.add_argument("--reread", type=float, metavar="DAYS", help="also read files that look the same, if they were not read for so many days (0: all)")
+    made.add_argument("--update", action="store_true", help="take files that changed or have another name as they are now")
+    made.add_argument("--moved", action="store_true", help="the folder has another name than when it was adopted")
+    made.add_argument("--allow-empty", action="store_true", help="the folder may be empty, or have none of the files of the manifest")
+    made.add_argument("--skip-links", action="store_true", help="symbolic links may be left out, which the manifest keeps")
+    made.add_argument("--skip-nothing", action="store_true", help="links may not be left out any more")
+    for name in BOTH:
+        verbs.choices[name].add_argument("--manifest", action="append", default=[], type=os.fsencode, metavar="PATH", help="the manifest of an adopted folder, if it is not beside it")
+
+
+def _verb(verbs: "argparse._SubParsersAction[argparse.ArgumentParser]", name: str, says: str) -> argparse.ArgumentParser:
+    made = verbs.add_parser(name, help=says, description=says[0].upper() + says[1:] + ".")
+    made.add_argument("dir", metavar="FOLDER", type=os.fsencode, help="the folder of FITS files, which is only read")
+    made.add_argument("--manifest", action="append", default=[], type=os.fsencode, metavar="PATH", help="the manifest (FOLDER with .fzbatch.sqlite after it)")
+    return made
+
+
+def call_of(asked: argparse.Namespace) -> "Optional[Callable[[argparse.Namespace], int]]":
+    """What is called, if the command is one of adopted folders; otherwise None."""
+    from . import commands  # pylint: disable=import-outside-toplevel
+
+    found: "Optional[Callable[[argparse.Namespace], int]]" = getattr(commands, asked.verb, None)
+    if asked.verb not in BOTH:
+        return found
+    return found if asked.manifest or _is_adopted(asked) else None
+
+
+def folder_of(asked: argparse.Namespace) -> bytes:
+    """The adopted folder that a command names: the last one."""
+    packed: Optional[bytes] = getattr(asked, "packed", None)
+    return os.path.realpath(packed if packed is not None else asked.dir)
+
+
+def _is_adopted(asked: argparse.Namespace) -> bool:
+    folder = folder_of(asked)
+    own = [os.path.join(folder, names.MANIFEST)]
+    if asked.packed is None:
+        own.append(os.path.join(folder + names.PACKED, names.MANIFEST))
+    return files.there(places.beside(folder)) and not any(map(files.there, own))
