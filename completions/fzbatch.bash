@@ -4,21 +4,22 @@ _fzbatch() {
     local every='--jobs --memory --fz --time-limit --engine --sshlogin --sshloginfile --scheduler --all --allow-empty --include --exclude --from-list --dry-run --quiet --log --tell-idle'
     COMPREPLY=()
     if [ "$COMP_CWORD" -eq 1 ]; then
-        mapfile -t COMPREPLY < <(compgen -W 'pack verify compare restore status missing forget collect share rebuild report look' -- "$word")
+        mapfile -t COMPREPLY < <(compgen -W 'pack verify compare restore adopt status missing forget collect share rebuild report look' -- "$word")
         return
     fi
     case $command in
         pack) options="$every --codec --tile --block --workers --no-sums --compare --update --retry --accept-wrong-sums --skip-links --skip-compressed --skip-nothing" ;;
-        verify) options="$every --sha256-only" ;;
-        compare) options="$every --without-plain" ;;
+        verify) options="$every --sha256-only --manifest" ;;
+        compare) options="$every --without-plain --manifest" ;;
         restore) options=$every ;;
-        status) options='--all --json --without-plain' ;;
-        missing) options='--null --without-plain' ;;
+        adopt) options="$every --manifest --reread --update --moved --skip-links --skip-nothing" ;;
+        status) options='--all --json --without-plain --manifest' ;;
+        missing) options='--null --without-plain --manifest' ;;
         share) options='--fz' ;;
         rebuild) options='--jobs --memory --time-limit --fz --all --accept-wrong-sums --ignore-copy --again' ;;
-        forget) options='--name' ;;
+        forget) options='--name --manifest' ;;
         collect) options='--drop --all' ;;
-        report) options='--out --without-plain' ;;
+        report) options='--out --without-plain --manifest' ;;
         look) options='--hdu --box --size --stretch --exact --no-grid --fz --out' ;;
         *) options= ;;
     esac
@@ -26,7 +27,8 @@ _fzbatch() {
     case $before in
         --codec) mapfile -t COMPREPLY < <(compgen -W 'rice plio none' -- "${word#=}"); return ;;
         --engine) mapfile -t COMPREPLY < <(compgen -W 'local parallel slurm dask' -- "${word#=}"); return ;;
-        --jobs | --memory | --time-limit | --sshlogin | --scheduler | --include | --exclude | --tile | --block | --workers | --name | --hdu | --box | --size) return ;;
+        --manifest) mapfile -t COMPREPLY < <(compgen -f -- "$word"); return ;;
+        --jobs | --memory | --time-limit | --sshlogin | --scheduler | --include | --exclude | --tile | --block | --workers | --name | --reread | --hdu | --box | --size) return ;;
     esac
     compopt -o filenames 2> /dev/null
     case $word in

@@ -1,9 +1,10 @@
 # Completion of fzbatch for fish.
-set -l files pack verify compare restore
+set -l files pack verify compare restore adopt
 complete -c fzbatch -n __fish_use_subcommand -f -a pack -d 'pack each FITS file that is not packed yet'
 complete -c fzbatch -n __fish_use_subcommand -f -a verify -d 'check each packed file'
 complete -c fzbatch -n __fish_use_subcommand -f -a compare -d 'unpack and compare with the plain files'
 complete -c fzbatch -n __fish_use_subcommand -f -a restore -d 'make the plain files again'
+complete -c fzbatch -n __fish_use_subcommand -f -a adopt -d 'take a folder of files of any packer under a manifest'
 complete -c fzbatch -n __fish_use_subcommand -f -a status -d 'what the manifest says'
 complete -c fzbatch -n __fish_use_subcommand -f -a missing -d 'name the files without a packed file'
 complete -c fzbatch -n __fish_use_subcommand -f -a forget -d 'take files out of the manifest'
@@ -45,6 +46,12 @@ complete -c fzbatch -n '__fish_seen_subcommand_from compare status missing repor
 complete -c fzbatch -n '__fish_seen_subcommand_from rebuild' -l ignore-copy -d 'do not read the second copy'
 complete -c fzbatch -n '__fish_seen_subcommand_from rebuild' -l again -d 'also if the manifest is whole'
 complete -c fzbatch -n '__fish_seen_subcommand_from verify' -l sha256-only -d 'do not decode tiles'
+complete -c fzbatch -n '__fish_seen_subcommand_from adopt verify compare status missing report forget' -l manifest -r -d 'the manifest of an adopted folder'
+complete -c fzbatch -n '__fish_seen_subcommand_from adopt' -l reread -x -d 'read again what was not read for so many days'
+complete -c fzbatch -n '__fish_seen_subcommand_from adopt' -l update -d 'take changed and renamed files as they are'
+complete -c fzbatch -n '__fish_seen_subcommand_from adopt' -l moved -d 'the folder has another name now'
+complete -c fzbatch -n '__fish_seen_subcommand_from adopt' -l skip-links -d 'symbolic links may be left out'
+complete -c fzbatch -n '__fish_seen_subcommand_from adopt' -l skip-nothing -d 'nothing may be left out any more'
 complete -c fzbatch -n '__fish_seen_subcommand_from status' -l json -d 'a line of JSON for each file'
 complete -c fzbatch -n '__fish_seen_subcommand_from missing' -s 0 -l null -d 'names with null bytes'
 complete -c fzbatch -n '__fish_seen_subcommand_from forget' -l name -x -d 'a name as status prints it'

@@ -14,7 +14,7 @@ from typing import Callable, Dict
 
 sys.path[:0] = [str(Path(__file__).resolve().parents[1])]
 
-from batch.test_adopted import FZ, SAMPLES, TOP, Adopted  # noqa: E402
+from batch.test_adopted import SAMPLES, TOP, Adopted  # noqa: E402
 from making import strange_faults  # noqa: E402
 
 COMMANDS = (("adopt",), ("adopt", "--reread", "0"), ("verify",), ("status",), ("missing",), ("report",))

@@ -3,7 +3,6 @@ from __future__ import annotations
 
 import os
 import time
-import zlib
 from itertools import islice
 from typing import List, Optional
 

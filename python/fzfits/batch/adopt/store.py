@@ -8,26 +8,22 @@ from __future__ import annotations
 
 import hashlib
 import json
-import sqlite3
-import time
 from dataclasses import astuple
 from typing import Any, Iterator, Optional, Tuple
 
-from .. import checks, names, opening
+from .. import checks, names
 from ..checks import Odd
-from ..manifest import now
 from ..opening import BadManifest
 from . import forms
+from .book import WHAT_TO_DO, Book
 from .rows import COLUMNS, FOLDER_COLUMNS, GONE, NOT_WELL, Folder, Row
 
 SELECT = f"SELECT {', '.join(COLUMNS)}, hash FROM files"
 PUT = f"INSERT OR REPLACE INTO files ({', '.join(COLUMNS)}, hash) VALUES ({', '.join('?' * (len(COLUMNS) + 1))})"
 PUT_FOLDER = f"INSERT OR REPLACE INTO folders ({', '.join(FOLDER_COLUMNS)}, hash) VALUES ({', '.join('?' * (len(FOLDER_COLUMNS) + 1))})"
 WIDE = 1 << 128
-SECOND = 1.0
 # Up to so many files all rows are checked whenever the manifest is opened; of more, those that a command reads.
 CHECKED = 100_000
-WHAT_TO_DO = ": move it away, and fzbatch adopt makes a new one; the second copy beside it is that of the last run"
 
 
 def look_of(name: bytes, size: int, mtime: int) -> int:
@@ -46,169 +42,30 @@ def text_of(count: int, total: int) -> str:
     return f"{count} {total:x}"
 
 
-class Store:
-    """The manifest in a file. What is put into it is on the disk after `save`, which `put` calls about once a second."""
+class Store(Book):
+    """The manifest with its folders and files."""
 
     def __init__(self, path: bytes, writes: bool = True):
-        self.path, self.writes, self.changed = path, writes, False
         self._held: "dict[bytes, Folder]" = {}
         self._dirty: "set[bytes]" = set()
-        self._sql, self._room = opening.opened(path, writes)
-        try:
-            self._load()
-        except BaseException as error:
-            self._sql.close()
-            opening.closed(self._room)
-            # text in the database that is no text is a ValueError
-            if isinstance(error, (sqlite3.Error, Odd, ValueError, OverflowError)):
-                busy = isinstance(error, sqlite3.OperationalError)
-                raise BadManifest(f"the manifest {names.shown(path)}: {names.told(str(error))}{'' if busy else WHAT_TO_DO}") from error
-            raise
-
-    def _load(self) -> None:
-        if self.writes and not self._sql.execute("SELECT count(*) FROM sqlite_master").fetchone()[0]:
-            self._sql.execute("BEGIN IMMEDIATE")
-            for made in forms.schema().values():
-                self._sql.execute(made)
-            self._sql.execute("INSERT INTO facts VALUES ('version', ?)", (forms.VERSION,))
-            self._count = self._total = 0
-            self._seal()
-            self._sql.commit()
-        self._sql.execute("BEGIN")
-        forms.check_tables(self._sql)
-        self._check()
-        self._saved = time.monotonic()
-        if self.files <= CHECKED:
-            found = self._sql.execute("PRAGMA quick_check(1)").fetchone()[0]
-            if found != "ok":
-                raise Odd(f"it is damaged ({found})")
-            for _ in self.rows():
-                pass
-        self._sql.commit()
+        self.files = self.bytes = 0
+        super().__init__(path, writes)
 
     def _check(self) -> None:
-        """Reads all folders and the small tables, and compares their sums."""
-        self._count = self._total = self.files = self.bytes = 0
+        """Reads all folders, and all files if they are not too many."""
         for *values, digest in self._sql.execute(f"SELECT {', '.join(FOLDER_COLUMNS)}, hash FROM folders"):
             forms.check_row("folders", values)
             if digest != checks.hash_of("folders", values):
                 raise Odd(f"the row of the folder {names.shown(values[0] or b'.')} is damaged: its hash is another")
             self._count, self._total = self._count + 1, checks.added(self._total, digest)
             self.files, self.bytes = self.files + values[1], self.bytes + values[2]
-        for table in ("facts", "left_out", "others", "runs", "seal"):
-            for values in self._sql.execute(f"SELECT * FROM {table}"):
-                forms.check_row(table, values)
-        if self.fact("version") != forms.VERSION:
-            raise Odd(f"it has version {self.fact('version')}; this fzbatch reads version {forms.VERSION}")
-        if dict(self._sql.execute("SELECT name, value FROM seal")) != self._seals():
-            raise Odd("rows are gone or changed: their number and the sum of their hashes are others than when it was written")
-
-    def _seals(self) -> "dict[str, str]":
-        count = total = 0
-        for table in ("facts", "left_out", "others", "runs"):
-            for values in self._sql.execute(f"SELECT * FROM {table}"):
-                count, total = count + 1, checks.added(total, checks.hash_of(table, values))
-        return {"folders": checks.seal_of(self._count, self._total), "rest": checks.seal_of(count, total)}
-
-    def _seal(self) -> None:
-        for it in self._seals().items():
-            self._sql.execute("INSERT OR REPLACE INTO seal VALUES (?, ?)", it)
-
-    def __enter__(self) -> "Store":
-        return self
-
-    def __exit__(self, *_: object) -> None:
-        self.close()
-
-    def close(self) -> None:
-        """Saves and closes."""
-        try:
-            if self.writes:
-                self.save()
-        finally:
-            self._sql.close()
-            opening.closed(self._room)
-
-    def give_up(self) -> None:
-        """Drops what was put since it was saved: there is no room for it. Nothing more is written."""
-        self.writes = False
-        try:
-            self._sql.rollback()
-        except sqlite3.Error:
-            pass
-
-    def save(self) -> None:
-        """Waits until the disk has all that was put."""
-        if not self.writes:
-            return
-        try:
-            if self._sql.in_transaction:
-                self._flush()
-                self._seal()
-            self._sql.commit()
-        except sqlite3.Error as error:
-            raise self._unwritten(error) from error
-        self._saved = time.monotonic()
-
-    def _unwritten(self, error: Exception) -> BadManifest:
-        return BadManifest(f"the manifest {names.shown(self.path)} cannot be written: {error}")
-
-    def _write(self, statement: str, values: "tuple[Any, ...]" = ()) -> None:
-        try:
-            self._sql.execute(statement, values)
-            self.changed = True
-        except sqlite3.Error as error:
-            raise self._unwritten(error) from error
-
-    # facts and runs
-
-    def fact(self, name: str) -> Any:
-        """A fact of the whole folder, or None."""
-        found = self._sql.execute("SELECT value FROM facts WHERE name = ?", (name,)).fetchone()
-        return found[0] if found else None
-
-    def tell(self, name: str, value: "int | bytes") -> None:
-        """Sets a fact of the whole folder."""
-        if self.fact(name) != value:
-            self._write("INSERT OR REPLACE INTO facts VALUES (?, ?)", (name, value))
-
-    def begin(self, token: str, verb: str, host: str, process: int, program: str) -> int:
-        """Notes that a run begins, and gives its number."""
-        number = self._sql.execute("SELECT coalesce(max(number), 0) + 1 FROM runs").fetchone()[0]
-        self._write("INSERT INTO runs VALUES (?, ?, ?, ?, ?, ?, ?, NULL, NULL)", (number, token, verb, names.told(host), process, program, now()))
-        self.save()
-        return number
-
-    def end(self, number: int, said: str) -> None:
-        """Notes that a run ended by itself."""
-        self._write("UPDATE runs SET ended = ?, said = ? WHERE number = ?", (now(), names.told(said), number))
-        self.save()
-
-    def runs(self) -> "list[tuple[int, str, str, str, int, str, str, Optional[str], Optional[str]]]":
-        """All runs: number, token, verb, host, process, program, when it began and ended, and its last line."""
-        return list(self._sql.execute("SELECT number, token, verb, host, process, program, began, ended, said FROM runs ORDER BY number"))
-
-    def leave_out(self, left: Any, others: "dict[str, int]") -> None:
-        """Notes what the last look left out, if that is something else than what an earlier one did."""
-        now_left = sorted((it.path, names.told(it.why), names.told(it.advice)) for it in left)
-        told = {names.told(suffix): count for suffix, count in others.items()}
-        if now_left == self.left_out() and told == self.others():
-            return
-        self._write("DELETE FROM left_out")
-        self._write("DELETE FROM others")
-        for it in now_left:
-            self._write("INSERT OR REPLACE INTO left_out VALUES (?, ?, ?)", it)
-        for one in told.items():
-            self._write("INSERT OR REPLACE INTO others VALUES (?, ?)", one)
-        self.save()
-
-    def left_out(self) -> "list[tuple[bytes, str, str]]":
-        """Path, cause and advice of what was left out."""
-        return list(self._sql.execute("SELECT path, why, advice FROM left_out ORDER BY path"))
-
-    def others(self) -> "dict[str, int]":
-        """How many files there were of other names, by their suffix."""
-        return dict(self._sql.execute("SELECT suffix, count FROM others ORDER BY count DESC, suffix"))
+        super()._check()
+        if self.files <= CHECKED:
+            found = self._sql.execute("PRAGMA quick_check(1)").fetchone()[0]
+            if found != "ok":
+                raise Odd(f"it is damaged ({found})")
+            for _ in self.rows():
+                pass
 
     # folders
 
@@ -325,8 +182,7 @@ class Store:
         digest = checks.hash_of("files", values)
         self._write(PUT, (*values, digest))
         self._count_in(row, digest, 1)
-        if time.monotonic() - self._saved > SECOND:
-            self.save()
+        self.saved_now_and_then()
 
     def _drop(self, folder: bytes, name: bytes) -> bool:
         found = self._sql.execute(f"{SELECT} WHERE folder = ? AND name = ?", (folder, name)).fetchone()
