@@ -26,10 +26,15 @@ class Fz:
         self.asked, self.room = asked, room
         self.program = calls.shared.of(asked.program)
 
-    def run(self, verb: str, source: "int | bytes", size: int, *options: str, out: bytes = b"") -> Outcome:
-        """The statuses 0, 1 and 3 say what the file is; all others are `Undone`. `size` is what is read or made at most."""
+    def run(self, verb: str, source: "int | bytes", size: int, *options: str, out: bytes = b"", above: Optional[int] = None) -> Outcome:
+        """The statuses 0, 1 and 3 say what the file is; all others are `Undone`. `size` is what is read or made at most.
+
+        With `above`, an open folder, `out` is a name in it, and `source` an open file.
+        """
         limits = ("--memory", str(self.asked.memory)) if self.asked.memory and verb != "list" else ()
         name, numbers = (source, ()) if isinstance(source, bytes) else (self.program.first, (source,))
+        if above is not None:
+            numbers, out = (*numbers, above), os.path.join(self.program.second, out)
         words = [verb, *options, *limits, "--", name, *((out,) if out else ())]
         try:
             ended = self.program.run(words, numbers, self.asked.time_limit or LEAST_SECONDS + size / BYTES_OF_A_SECOND)
@@ -38,7 +43,7 @@ class Fz:
         if ended.status in (0, 1, 3):
             return ended
         if ended.status == 5 and out:
-            self._no_room(os.path.dirname(out))
+            self._no_room(os.path.dirname(out) if above is None else b"/proc/self/fd/%d" % above)
         said = ended.signal or ended.line or ended.errors.strip() or f"status {ended.status}"
         raise Undone(f"fz {verb}: {said.split(':')[0]}", f"fz {verb}: {said}", advice.of_outcome(ended))
 
@@ -46,4 +51,5 @@ class Fz:
         free = os.statvfs(folder)
         if free.f_bavail * free.f_frsize < 1 << 20:
             said = os.strerror(advice.NO_SPACE)
-            raise Undone(said, f"{said} (for temporary files, in {os.fsdecode(folder)}; TMPDIR names another folder)", advice.of_errno(advice.NO_SPACE), advice.NO_SPACE)
+            where = "" if folder.startswith(b"/proc/") else f" (for temporary files, in {os.fsdecode(folder)}; TMPDIR names another folder)"
+            raise Undone(said, said + where, advice.of_errno(advice.NO_SPACE), advice.NO_SPACE)

@@ -6,12 +6,16 @@ import json
 import os
 import sys
 from dataclasses import asdict
-from typing import List
+from typing import Callable, List, Optional
 
 from .. import files, lock, machine, names
+from ..checks import Odd
+from ..opening import BadManifest
 from ..wanted import Refuse
-from . import page, places, run, survey
-from .rows import GONE
+from . import beside, forms, page, places, run, survey
+from .compare import Compare, Wanted
+from .retile import Retile
+from .rows import GONE, Row
 from .run import DONE, NOT_DONE
 from .store import Store
 from .words import folder_of
@@ -45,6 +49,55 @@ def _wanted(asked: argparse.Namespace) -> run.Wanted:
     return made
 
 
+def in_place(asked: argparse.Namespace) -> "Optional[Callable[[argparse.Namespace], int]]":
+    """What is called for pack and restore: None if it is not --beside."""
+    if asked.beside:
+        return _beside
+    if asked.delete or asked.manifest:
+        raise Refuse(f"fzbatch {asked.verb} has --delete and --manifest only with --beside")
+    return None
+
+
+def _beside(asked: argparse.Namespace) -> int:
+    """The packed file beside the plain one, or the plain file beside the packed one."""
+    if asked.packed is not None or asked.engine != "local":
+        raise Refuse("--beside has one folder, and the engine local")
+    if any(getattr(asked, it, False) for it in ("update", "compare", "retry", "skip_links", "skip_compressed", "skip_nothing", "allow_empty")):
+        raise Refuse("--beside always compares, and has none of --update, --retry, --skip-.. and --allow-empty")
+    folder = folder_of(asked)
+    made = beside.Wanted(asked.verb, folder, places.manifest_of(folder, asked.manifest), asked.fz, asked.memory, asked.jobs, max(0.0, asked.time_limit))
+    made.delete, made.all_names = asked.delete, asked.all
+    if asked.verb == "pack":
+        made.accept_wrong_sums = asked.accept_wrong_sums
+        made.options = ([] if asked.no_sums else ["--sums"]) + _options(asked)
+    return beside.Beside(made, sys.stdout, sys.stderr).status()
+
+
+def _options(asked: argparse.Namespace) -> "List[str]":
+    """The options of fz pack that were given."""
+    return [word for name in ("codec", "tile", "block", "workers") if getattr(asked, name) is not None for word in (f"--{name}", getattr(asked, name))]
+
+
+def retile(asked: argparse.Namespace) -> int:
+    """Packs the packed files of an adopted folder again, each in its place."""
+    folder = folder_of(asked)
+    made = beside.Wanted("retile", folder, places.manifest_of(folder, asked.manifest), asked.fz, asked.memory, asked.jobs, max(0.0, asked.time_limit))
+    made.all_names, made.options = asked.all, (["--sums"] if asked.sums else []) + _options(asked)
+    return Retile(made, sys.stdout, sys.stderr).status()
+
+
+def compare(asked: argparse.Namespace) -> int:
+    """Compares an adopted folder with a folder of plain files."""
+    if asked.packed is None:
+        raise Refuse(f"name the folder of plain files too: fzbatch compare PLAIN {names.shown(folder_of(asked))}")
+    if asked.engine != "local":
+        raise Refuse("fzbatch compare of an adopted folder has the engine local")
+    folder = folder_of(asked)
+    made = Wanted(os.path.realpath(asked.dir), folder, places.manifest_of(folder, asked.manifest), asked.fz, asked.memory, asked.jobs, max(0.0, asked.time_limit))
+    made.without_plain, made.all_names = asked.without_plain, asked.all
+    return Compare(made, sys.stdout, sys.stderr).status()
+
+
 class _Opened:
     """The manifests that a command names, one after another, each with its folder."""
 
@@ -68,6 +121,17 @@ class _Opened:
         return found
 
 
+def _told(row: Row) -> "dict[str, object]":
+    """A row for JSON: names as bash reads them, hashes as digits, and what is JSON already as it is."""
+    try:
+        forms.check_lines(row)
+    except Odd as error:
+        raise BadManifest(f"{names.shown(row.path)}: {error}") from error
+    texts = {it: names.shown(getattr(row, it)) if getattr(row, it) else "" for it in ("folder", "name", "was")}
+    lines = {it: json.loads(getattr(row, it)) if getattr(row, it) else None for it in ("hdus", "found", "made_of")}
+    return {**asdict(row), **texts, **lines, "sha256": row.sha256.hex(), "next": row.next.hex()}
+
+
 def status(asked: argparse.Namespace) -> int:
     """Prints what the manifest says, and what a look at the folder adds to it."""
     worst = DONE
@@ -78,7 +142,7 @@ def status(asked: argparse.Namespace) -> int:
             try:
                 if asked.json:
                     for row in store.rows():
-                        print(json.dumps({**asdict(row), "folder": names.shown(row.folder), "name": names.shown(row.name), "was": names.shown(row.was) if row.was else "", "sha256": row.sha256.hex(), "hdus": json.loads(row.hdus), "found": json.loads(row.found)}))
+                        print(json.dumps(_told(row)))
                     worst = max(worst, DONE if it.whole else NOT_DONE)
                     continue
                 counted = survey.counted(it, "status", asked.all)

@@ -8,7 +8,7 @@ from typing import Any, Callable, Sequence
 
 from .. import checks, names
 from ..checks import Odd, of_form, one_of, or_none, size, text, whole
-from .rows import NOT_WELL, STATUSES, Finding, Hdu
+from .rows import NOT_WELL, STATUSES, Finding, Hdu, Plain, Row
 
 VERSION = 1
 STRICT = sqlite3.sqlite_version_info >= (3, 37)
@@ -16,7 +16,7 @@ TABLES = {
     "facts": "name TEXT PRIMARY KEY, value ANY",
     "folders": "path BLOB PRIMARY KEY, files INTEGER NOT NULL, bytes INTEGER NOT NULL, counts TEXT NOT NULL, unsure INTEGER NOT NULL, look TEXT NOT NULL, seal TEXT NOT NULL, hash BLOB NOT NULL",
     "files": """folder BLOB NOT NULL, name BLOB NOT NULL, size INTEGER NOT NULL, mtime INTEGER NOT NULL, looked INTEGER NOT NULL, sha256 BLOB NOT NULL,
-    sort TEXT NOT NULL, status TEXT NOT NULL, was BLOB NOT NULL, hdus TEXT NOT NULL, found TEXT NOT NULL,
+    sort TEXT NOT NULL, status TEXT NOT NULL, was BLOB NOT NULL, hdus TEXT NOT NULL, found TEXT NOT NULL, made_of TEXT NOT NULL, next BLOB NOT NULL,
     adopted INTEGER NOT NULL, read_in INTEGER NOT NULL, hash BLOB NOT NULL, PRIMARY KEY (folder, name)""",
     "left_out": "path BLOB PRIMARY KEY, why TEXT NOT NULL, advice TEXT NOT NULL",
     "others": "suffix TEXT PRIMARY KEY, count INTEGER NOT NULL",
@@ -70,6 +70,22 @@ def counts(value: Any) -> bool:
     return isinstance(found, dict) and set(found) <= set(STATUSES) and all(size(it) for it in found.values())
 
 
+def line(value: Any) -> bool:
+    """A line of JSON, or nothing, as far as its characters say."""
+    return isinstance(value, str) and len(value) <= checks.LONGEST and value.isprintable()
+
+
+def plain_file(value: Any) -> bool:
+    """What is kept of a plain file, as JSON, or the empty text."""
+    if value == "":
+        return True
+    try:
+        it = Plain(**json.loads(value))
+    except (ValueError, TypeError, RecursionError):
+        return False
+    return text(value) and of_form(checks.SHA256)(it.sha256) and size(it.size) and whole(it.mtime) and whole(it.mode) and 0 <= it.mode < 0o10000
+
+
 def list_of(kind: type) -> Callable[[Any], bool]:
     """A line of JSON with HDUs or findings."""
 
@@ -97,7 +113,7 @@ FORMS: "dict[str, dict[str, Callable[[Any], bool]]]" = {
     "folders": {"path": folder_path, "files": size, "bytes": size, "counts": counts, "unsure": size, "look": of_form(SUM), "seal": of_form(SUM)},
     "files": {
         "folder": folder_path, "name": file_name, "size": size, "mtime": whole, "looked": whole, "sha256": lambda it: isinstance(it, bytes) and len(it) == 32,
-        "sort": one_of(*SORTS), "status": one_of(*STATUSES), "was": former, "hdus": list_of(Hdu), "found": list_of(Finding), "adopted": size, "read_in": size,
+        "sort": one_of(*SORTS), "status": one_of(*STATUSES), "was": former, "hdus": line, "found": line, "made_of": line, "next": lambda it: isinstance(it, bytes) and len(it) in (0, 32), "adopted": size, "read_in": size,
     },
     "left_out": {"path": checks.left_path, "why": text, "advice": text},
     "others": {"suffix": text, "count": size},
@@ -110,6 +126,17 @@ FORMS: "dict[str, dict[str, Callable[[Any], bool]]]" = {
 FACTS: "dict[str, Callable[[Any], bool]]" = {
     "version": whole, "folder": lambda it: blob(it) and it.startswith(b"/"), "skip_links": one_of(0, 1), "skip_compressed": one_of(0, 1),
 }
+
+
+# What the lines of JSON of a row have in them: it is looked at when they are used or written.
+DEEP: "dict[str, Callable[[Any], bool]]" = {"hdus": list_of(Hdu), "found": list_of(Finding), "made_of": plain_file}
+
+
+def check_lines(row: Row) -> None:
+    """Raises `Odd` if a line of JSON of a row has something that fzbatch does not write."""
+    for name, holds in DEEP.items():
+        if not holds(getattr(row, name)):
+            raise Odd(f"a row of the table files has a value in {name} that fzbatch does not write")
 
 
 def check_row(table: str, values: Sequence[Any]) -> None:

@@ -80,5 +80,6 @@ class Found(Message):
         _expect(self.outcome in ("read", "same", "unread", "stopped"), "the outcome is none")
         for name in ("folder", "name", "size", "mtime", "looked", "sort", "hdus", "found"):
             _expect(forms.FORMS["files"][name](getattr(self, name)), f"{name} has another form")
+        _expect(all(forms.DEEP[name](getattr(self, name)) for name in ("hdus", "found")), "a line of JSON has another form")
         _expect(len(self.sha256) == (32 if self.outcome in ("read", "same") else 0), "the SHA-256 is none")
         self.cause, self.line, self.advice = map(names.told, (self.cause, self.line, self.advice))

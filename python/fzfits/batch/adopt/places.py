@@ -2,6 +2,7 @@
 from __future__ import annotations
 
 import os
+import re
 import stat
 from typing import Iterator, List, Sequence
 
@@ -58,9 +59,26 @@ def may_be_written(path: bytes) -> bool:
     return lock.is_writable(os.path.dirname(path)) and (not files.there(path) or os.access(path, os.W_OK))
 
 
+def _unfinished(path: bytes) -> "List[bytes]":
+    """What a killed run was writing beside a manifest."""
+    form = re.compile(re.escape(os.path.basename(path)) + rb"\.(copy|SHA256SUMS)\.[0-9a-f]{12}\.new")
+    above = os.path.dirname(path)
+    return [os.path.join(above, it) for it in os.listdir(above) if form.fullmatch(it)]
+
+
+def is_stale(path: bytes) -> bool:
+    """Whether a killed run left the second copy and the list as they were before it."""
+    try:
+        return bool(_unfinished(path)) or any(os.stat(path + it).st_mtime_ns < os.stat(path).st_mtime_ns for it in (COPY, SUMS))
+    except OSError:
+        return True
+
+
 def keep_beside(store: Store) -> "List[str]":
     """Writes the second copy and the list for sha256sum anew, after a run that changed the manifest."""
     store.save()
+    for it in _unfinished(store.path):
+        files.remove(it)
     said = []
     rights = stat.S_IMODE(os.stat(store.path).st_mode) & 0o666
     for ending, beginning, pieces in ((COPY, b"SQLite format 3\0", keep._bytes_of(store.path)), (SUMS, keep.HEAD, _sums(store))):

@@ -84,12 +84,23 @@ def findings_of(text: str) -> "List[Finding]":
 
 
 @dataclass
+class Plain:
+    """A plain file that was packed beside itself: SHA-256, length, time in nanoseconds, and rights."""
+
+    sha256: str
+    size: int
+    mtime: int
+    mode: int
+
+
+@dataclass
 class Row:
     """What the manifest says of one file; the fields are the columns of the table `files`, but for the hash.
 
     `sha256` is that of the file when it was adopted. `size` and `mtime` (in nanoseconds) are those of the last look, and `looked` is
     when the file was last read. `sort` is packed, plain, gzip or compressed. `was` is the path that a renamed file had. `hdus` and
-    `found` are lines of JSON. `adopted` and `read_in` are the numbers of the runs that adopted the file and that last read it.
+    `found` are lines of JSON, and so is `made_of`, the plain file that `pack --beside` packed.
+    `next` is the SHA-256 that the file has once `retile` gave its new one the name. `adopted` and `read_in` are the numbers of the runs that adopted the file and that last read it.
     """
 
     folder: bytes
@@ -103,6 +114,8 @@ class Row:
     was: bytes = b""
     hdus: str = "[]"
     found: str = "[]"
+    made_of: str = ""
+    next: bytes = b""
     adopted: int = 0
     read_in: int = 0
 
@@ -115,6 +128,11 @@ class Row:
     def unsure(self) -> bool:
         """Whether a later change may have left its time the same."""
         return self.mtime > self.looked - GRAIN
+
+    @property
+    def plain(self) -> Optional[Plain]:
+        """The plain file that it was made of, if fzbatch made it."""
+        return Plain(**json.loads(self.made_of)) if self.made_of else None
 
     @property
     def findings(self) -> "List[Finding]":

@@ -216,6 +216,11 @@ class Run:
             row = self.store.row(folder, name)
             if row is None:
                 continue
+            if verdict.other_half(row, self.store.row):
+                # it was packed or restored in its place, and the run was killed before it said so
+                if writes:
+                    self.store.forget(folder, name)
+                continue
             made = verdict.gone(row)
             if writes and made != row:
                 self.store.put(made)
@@ -241,7 +246,7 @@ class Run:
         try:
             if self.number:
                 self.store.end(self.number, self.count.last_line())
-            if self.store.changed:
+            if self.store.changed or places.is_stale(self.store.path):
                 self.count.notes += places.keep_beside(self.store)
         except BadManifest as error:
             self.store.give_up()

@@ -16,14 +16,14 @@ from ..checks import Odd
 from ..opening import BadManifest
 from . import forms
 from .book import WHAT_TO_DO, Book
-from .rows import COLUMNS, FOLDER_COLUMNS, GONE, NOT_WELL, Folder, Row
+from .rows import COLUMNS, FOLDER_COLUMNS, GONE, NOT_WELL, WELL, Folder, Row
 
 SELECT = f"SELECT {', '.join(COLUMNS)}, hash FROM files"
 PUT = f"INSERT OR REPLACE INTO files ({', '.join(COLUMNS)}, hash) VALUES ({', '.join('?' * (len(COLUMNS) + 1))})"
 PUT_FOLDER = f"INSERT OR REPLACE INTO folders ({', '.join(FOLDER_COLUMNS)}, hash) VALUES ({', '.join('?' * (len(FOLDER_COLUMNS) + 1))})"
 WIDE = 1 << 128
 # Up to so many files all rows are checked whenever the manifest is opened; of more, those that a command reads.
-CHECKED = 100_000
+CHECKED = 20_000
 
 
 def look_of(name: bytes, size: int, mtime: int) -> int:
@@ -134,11 +134,14 @@ class Store(Book):
         *values, digest = found
         try:
             forms.check_row("files", values)
+            row = Row(*values)
             if digest != checks.hash_of("files", values):
-                raise Odd(f"the row of {names.shown(values[0] + b'/' + values[1])} is damaged: its hash is another")
+                raise Odd(f"the row of {names.shown(row.path)} is damaged: its hash is another")
+            if row.status not in WELL or row.made_of:
+                forms.check_lines(row)
         except Odd as error:
             raise BadManifest(f"the manifest {names.shown(self.path)}: {error}{WHAT_TO_DO}") from error
-        return Row(*values)
+        return row
 
     def rows_of(self, folder: bytes) -> Iterator[Row]:
         """The rows of a folder, by their names. At their end their number and the sum of their hashes are compared with those of the folder."""
@@ -173,9 +176,10 @@ class Store(Book):
 
     def put(self, row: Row) -> None:
         """Sets the row of a file."""
-        values = astuple(row)
+        values = tuple(vars(row).values())
         try:
             forms.check_row("files", values)
+            forms.check_lines(row)
         except Odd as error:
             raise BadManifest(f"a row of {names.shown(row.path)} cannot be written: {error}") from error
         self._drop(row.folder, row.name)

@@ -5,7 +5,7 @@ from typing import Iterator, List, Tuple
 
 from .. import names
 from ..scan import Left
-from . import run
+from . import run, verdict
 from .count import Count, line_of
 from .rows import GONE, Finding, Row
 from .store import Store
@@ -51,7 +51,7 @@ class Survey:
                     yield it.path, [LOOKS]
         for folder, name in self.waiting.still_gone():
             row = self.store.row(folder, name)
-            if row is not None and row.status != GONE:
+            if row is not None and row.status != GONE and not verdict.other_half(row, self.store.row):
                 yield row.path, [NOT_THERE]
 
     @staticmethod

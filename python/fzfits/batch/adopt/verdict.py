@@ -6,7 +6,7 @@ from typing import Callable, List, Optional, Tuple
 
 from .. import names
 from .messages import Found
-from .rows import CHANGED, FAULTY, GONE, PART, RENAMED, RIGHT, ROTTEN, UNREAD, Finding, Row, findings_of, hdus_of, packed_text
+from .rows import CHANGED, FAULTY, GONE, PART, RENAMED, RIGHT, ROTTEN, UNREAD, WELL, Finding, Row, findings_of, hdus_of, packed_text
 
 ROT = "bytes changed, and neither length nor time: the disk, or a copy, damaged the file. Fetch it from another copy"
 OTHER = "find out who changed it; fzbatch adopt --update takes it as it is now, and fetching it from another copy ends this too"
@@ -39,13 +39,16 @@ def of(found: Found, row: Optional[Row], had: Had, run: int, update: bool) -> "O
         return _unread(found, row, run)
     if row is None:
         return _new(found, had, run, update)
+    if row.next and found.sha256 == row.next:
+        # a run of retile was killed before it said so
+        row = replace(row, sha256=row.next)
     if found.sha256 == row.sha256:
         return Verdict(_same(found, row, run, update))
     return Verdict(_other(found, row, had, run, update))
 
 
 def _made(found: Found, run: int) -> Row:
-    return Row(found.folder, found.name, found.size, found.mtime, found.looked, found.sha256, found.sort, FAULTY, b"", found.hdus, found.found, run, run)
+    return Row(found.folder, found.name, found.size, found.mtime, found.looked, found.sha256, found.sort, FAULTY, b"", found.hdus, found.found, "", b"", run, run)
 
 
 def _unread(found: Found, row: Optional[Row], run: int) -> "Optional[Verdict]":
@@ -78,7 +81,7 @@ def _new(found: Found, had: Had, run: int, update: bool) -> Verdict:
 
 def _same(found: Found, row: Row, run: int, update: bool) -> Row:
     """It has the bytes that were adopted."""
-    made = replace(row, size=found.size, mtime=found.mtime, looked=found.looked, read_in=run)
+    made = replace(row, size=found.size, mtime=found.mtime, looked=found.looked, next=b"", read_in=run)
     if found.outcome == "read":
         made.sort, made.hdus, own = found.sort, found.hdus, findings_of(found.found)
     else:
@@ -114,3 +117,14 @@ def _other(found: Found, row: Row, had: Had, run: int, update: bool) -> Row:
 def gone(row: Row) -> Row:
     """The row of a file that is not there."""
     return replace(row, status=GONE, found=packed_text([Finding("gone", "it is not there", LOST)]))
+
+
+def other_half(row: Row, of: "Callable[[bytes, bytes], Optional[Row]]") -> bool:
+    """Whether a file that is gone was removed since the other one, plain or packed beside it, stands for it."""
+    packed = of(row.folder, names.packed_name(row.name))
+    if packed is not None and packed.status in WELL and packed.plain is not None and packed.plain.sha256 == row.sha256.hex():
+        return True
+    if row.plain is None or not row.name.endswith(names.PACKED):
+        return False
+    plain = of(row.folder, row.name[: -len(names.PACKED)])
+    return plain is not None and plain.status in WELL and plain.sha256.hex() == row.plain.sha256

@@ -26,6 +26,17 @@ def add(verbs: "argparse._SubParsersAction[argparse.ArgumentParser]") -> None:
     made.add_argument("--allow-empty", action="store_true", help="the folder may be empty, or have none of the files of the manifest")
     made.add_argument("--skip-links", action="store_true", help="symbolic links may be left out, which the manifest keeps")
     made.add_argument("--skip-nothing", action="store_true", help="links may not be left out any more")
+    again = _verb(verbs, "retile", "pack the packed files of an adopted folder again, in other tiles, each in its place, if the same file comes back from both")
+    words_of.job_words(again)
+    again.add_argument("--codec", choices=("rice", "plio", "none"), help="as for fz retile")
+    again.add_argument("--tile", metavar="A,B,..", help="as for fz retile")
+    again.add_argument("--block", metavar="N", help="as for fz retile")
+    again.add_argument("--workers", metavar="N", help="as for fz retile")
+    again.add_argument("--sums", action="store_true", help="add DATASUM and CHECKSUM to the packed tables")
+    for name, other in (("pack", "plain"), ("restore", "packed")):
+        verbs.choices[name].add_argument("--beside", action="store_true", help="in one folder: F.fits.fz beside F.fits, with the manifest beside the folder")
+        verbs.choices[name].add_argument("--delete", action="store_true", help=f"with --beside: remove each {other} file, after the other one was compared with it and is on the disk")
+        verbs.choices[name].add_argument("--manifest", action="append", default=[], type=os.fsencode, metavar="PATH", help="with --beside: the manifest, if it is not beside the folder")
     for name in BOTH:
         verbs.choices[name].add_argument("--manifest", action="append", default=[], type=os.fsencode, metavar="PATH", help="the manifest of an adopted folder, if it is not beside it")
 
@@ -42,6 +53,8 @@ def call_of(asked: argparse.Namespace) -> "Optional[Callable[[argparse.Namespace
     from . import commands  # pylint: disable=import-outside-toplevel
 
     found: "Optional[Callable[[argparse.Namespace], int]]" = getattr(commands, asked.verb, None)
+    if asked.verb in ("pack", "restore"):
+        return commands.in_place(asked)
     if asked.verb not in BOTH:
         return found
     return found if asked.manifest or _is_adopted(asked) else None
