@@ -6,10 +6,10 @@ from collections import Counter
 from html import escape
 from typing import Dict, List, Tuple
 
-from .. import names, svg
+from .. import names
 from ..manifest import now
 from ..progress import amount
-from ..report import HEAD, POLICY, STYLE
+from ..report import HEAD, POLICY, STYLE, states_of
 from .count import line_of
 from .rows import WELL
 from .store import Store
@@ -73,7 +73,7 @@ class Page:
         bad = sum(count for status, count in self.states.items() if status not in WELL)
         said = '<p class="good">Nothing is known to be wrong.</p>' if self.whole else f'<p class="bad">{bad:,} of {self.files:,} files are not well by the manifest; what is named below needs attention.</p>'
         part = f" Of {self.states['part']:,} files some HDU is not decoded, since fz does not read its codec; its checksums were compared." if self.states["part"] else ""
-        strip = svg.strip(sorted(self.states.items(), key=lambda it: -it[1]))
+        strip = states_of(self.states)
         return f'<h1>Adopted folder {_name(self.root)}</h1>\n<p class="note">State of {now()}. {self.files:,} files, {amount(self.bytes)}, in {self.folders:,} folders.{part}</p>\n{said}\n{strip}'
 
     def _not_well(self) -> str:
