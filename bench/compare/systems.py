@@ -51,6 +51,13 @@ class System:
         return f"/usr/bin/{name}" if (self.root / "usr/bin" / name).exists() else None
 
 
+def own():
+    """The name of this system, such as bookworm."""
+    file = Path("/etc/os-release")
+    named = dict(line.split("=", 1) for line in file.read_text().splitlines() if "=" in line) if file.exists() else {}
+    return named.get("VERSION_CODENAME", "this system").strip('"')
+
+
 def run(words, limit=LIMIT):
     """Runs a command to its end, or kills it after so many seconds."""
     child = subprocess.Popen(list(map(str, words)), stdin=subprocess.DEVNULL, stdout=subprocess.PIPE, stderr=subprocess.STDOUT)

@@ -9,7 +9,7 @@ READ = ("right", "error", "wrong", "crashed")
 def of(systems, date, short, speed, returned, damaged, readers):
     """All tables by their names. A system's C tools are named by their version."""
     says = versions(systems, date, short)
-    titles = {it.name: f"cfitsio {it.versions.get('cfitsio', '')}, {it.name}" for it in systems}
+    titles = {it.name: f"cfitsio {it.versions.get('cfitsio', '')} ({it.name})" for it in systems}
     returned, damaged = ({titles.get(name, name): it for name, it in made.items()} for made in (returned, damaged))
     speed = [(title, {titles.get(name, name): it for name, it in sizes.items()}, {job: {titles.get(name, name): it for name, it in ended.items()} for job, ended in jobs.items()}) for title, sizes, jobs in speed]
     return {
@@ -78,16 +78,16 @@ def summary(speed, returned, damaged, says):
 
     most = {it: max(ended[it].memory for _, _, jobs in speed for ended in jobs.values() if it in ended) for it in ("fz", name)}
     whole = sum(damaged[VERIFY].values())
-    notice = f"; `verify` notices {damaged[VERIFY]['rejected'] if damaged[VERIFY]['rejected'] < whole else 'all'} of {whole} with `--sums`"
+    notice = f"; `verify` notices {'all' if damaged[VERIFY]['rejected'] == whole else damaged[VERIFY]['rejected']} with `--sums`"
     packed = {it: sum(sizes[it] for _, sizes, _ in speed) / 1e6 for it in ("fz", name, "plain")}
     rows = [
         ("`pack`, one worker", gains("pack", "pack"), "1"),
         ("`unpack`, one worker", gains("unpack", "unpack"), "1"),
         (f"packed size of {packed['plain']:.1f} MB", f"{packed['fz']:.2f} MB", f"{packed[name]:.2f} MB"),
-        ("memory", f"{most['fz']:.0f} MB at most, and `--memory` bounds it: proved", f"{most[name]:.0f} MB at most"),
-        (f"of {sum(returned['fz'].values())} odd and good files", *(f"{returned[it]['same']} come back byte for byte, {returned[it]['rejected']} are rejected, {returned[it]['other']} come back otherwise{crashes(returned[it])}" for it in ("fz", name))),
-        (f"of {sum(damaged['fz'].values())} files with one flipped bit, unpacked", *(f"{damaged[it]['rejected']} rejected, {damaged[it]['other pixels, status 0']} come back with other pixels{crashes(damaged[it])}{notice if it == 'fz' else ''}" for it in ("fz", name))),
+        ("memory", f"{most['fz']:.0f} MB at most, and `--memory` bounds its buffers: proved", f"{most[name]:.0f} MB at most"),
+        (f"of {sum(returned['fz'].values())} files, many of them odd", *(f"{returned[it]['same']} come back byte for byte, {returned[it]['rejected']} are rejected, {returned[it]['other']} come back otherwise{crashes(returned[it])}" for it in ("fz", name))),
+        (f"of {sum(damaged['fz'].values()):,} files with one flipped bit, unpacked", *(f"{damaged[it]['rejected']} rejected, {damaged[it]['other pixels, status 0']} come back with other pixels{crashes(damaged[it])}{notice if it == 'fz' else ''}" for it in ("fz", name))),
         ("codecs; floats and tables", "RICE_1, PLIO_1; copied as they are", "these, GZIP, HCOMPRESS_1; packed, floats with a loss unless `-q 0`"),
-        ("exactness of what is restored", "proved, and tested", "tested"),
+        ("exactness of what is restored", "proved for bytes in memory, and tested", "tested"),
     ]
     return f"{table(('', 'fz', f'fpack, funpack of {name}'), rows)}\n\n{says}"
