@@ -1,0 +1,3 @@
+mod PairLemmas
+mod RangeLemmas
+mod SumLemmas

@@ -1,0 +1,6 @@
+pub mod Faults
+pub mod Asked
+pub mod Tiles
+pub mod Codes
+pub mod Parts
+pub mod Sums
