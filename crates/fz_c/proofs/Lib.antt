@@ -1,3 +1,4 @@
 mod PairLemmas
 mod RangeLemmas
 mod SumLemmas
+mod TileLemmas

@@ -51,11 +51,11 @@ pub holds_others : (bitpix : ℤ) (numbers : List ℤ) → IsBitpix bitpix → (
 holds_others bitpix numbers size no_byte no_short whole = elim size [
   | inl e ↦ absurd (no_byte e)
   | inr s ↦ elim s [
-      | inl e ↦ absurd (no_short e)
-      | inr s ↦ elim s [
-          | inl e ↦ subst (λ (z : ℤ). HoldSome (unsigned_abs z) numbers ↔ All (IsNumber 32) numbers) (sym e) (holds_32 numbers)
-          | inr e ↦ subst (λ (z : ℤ). HoldWhole (unsigned_abs z) (length numbers) → HoldSome (unsigned_abs z) numbers ↔ All (IsNumber 32) numbers) (sym e)
-              (λ even. (λ (xs, hold). pairs_fit xs numbers hold, λ all. hold_pairs numbers all even)) whole
-        ]
+    | inl e ↦ absurd (no_short e)
+    | inr s ↦ elim s [
+      | inl e ↦ subst (λ (z : ℤ). HoldSome (unsigned_abs z) numbers ↔ All (IsNumber 32) numbers) (sym e) (holds_32 numbers)
+      | inr e ↦ subst (λ (z : ℤ). HoldWhole (unsigned_abs z) (length numbers) → HoldSome (unsigned_abs z) numbers ↔ All (IsNumber 32) numbers) (sym e)
+          (λ even. (λ (xs, hold). pairs_fit xs numbers hold, λ all. hold_pairs numbers all even)) whole
     ]
+  ]
 ]

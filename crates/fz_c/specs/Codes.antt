@@ -1,5 +1,5 @@
--- What the answers of the calls of single codes say: Rice codes and line lists. Each test comes after those before it, so that one
--- answer has one cause.
+-- What the answers of the calls of single codes say: Rice codes and line lists (FITS 4.0, sections 10.4.1 and 10.4.3). Each
+-- test comes after those before it, so that one answer has one cause.
 use Rattle.std.specs.Prelude.{◌≡◌, ℕ, ◌^◌, ◌<◌, ◌≤◌, ℤ, pos, List, length, take, drop, ◌++◌, All}
 use Rattle.fz_bits.specs.Bits.{bits_of}
 use Rattle.fz_bits.specs.Numbers.{IsNumber}
@@ -23,15 +23,17 @@ pub data ReadsRice (width block : ℕ) (code : List ℕ) (count : ℕ) (numbers 
   done : answer ≡ pos 0 → IsRice width block → length code ≤ 2 ^ 60 → BeginsWith width block numbers used (bits_of code)
       → ReadsRice width block code count numbers used answer
   -- the code ends early
-  short : answer ≡ answer_of (Refused CodeShort) → IsRice width block → length code ≤ 2 ^ 60 → IsBeginning width block count (bits_of code)
-      → ReadsRice width block code count numbers used answer
+  short : answer ≡ answer_of (Refused CodeShort) → IsRice width block → length code ≤ 2 ^ 60
+      → IsBeginning width block count (bits_of code) → ReadsRice width block code count numbers used answer
   -- no code of so many numbers begins so
-  unlawful : answer ≡ answer_of (Refused CodeValue) → IsRice width block → length code ≤ 2 ^ 60 → ¬ BeginsWithCode width block count (bits_of code)
-      → ¬ IsBeginning width block count (bits_of code) → ReadsRice width block code count numbers used answer
+  unlawful : answer ≡ answer_of (Refused CodeValue) → IsRice width block → length code ≤ 2 ^ 60
+      → ¬ BeginsWithCode width block count (bits_of code) → ¬ IsBeginning width block count (bits_of code)
+      → ReadsRice width block code count numbers used answer
   -- there is no such code
   no_codec : answer ≡ answer_of NoCodec → ¬ IsRice width block → ReadsRice width block code count numbers used answer
   -- these are too many bytes
-  many_bytes : answer ≡ answer_of ManyBytes → IsRice width block → 2 ^ 60 < length code → ReadsRice width block code count numbers used answer
+  many_bytes : answer ≡ answer_of ManyBytes → IsRice width block → 2 ^ 60 < length code
+      → ReadsRice width block code count numbers used answer
 
 -- bytes were written at the front of `out`, which has so much room
 pub record IsAtFront (bytes : List ℕ) (room used : ℕ) (out : List ℕ) : Type 0 where
@@ -47,7 +49,8 @@ pub data WritesRice (width block : ℕ) (numbers : List ℤ) (room : ℕ) (out :
   -- there is no such code
   no_codec : answer ≡ answer_of NoCodec → ¬ IsRice width block → WritesRice width block numbers room out used answer
   -- there is no number
-  no_tile : answer ≡ answer_of NoTile → IsRice width block → length numbers ≡ 0 → WritesRice width block numbers room out used answer
+  no_tile : answer ≡ answer_of NoTile → IsRice width block → length numbers ≡ 0
+      → WritesRice width block numbers room out used answer
   -- a number is outside the range of the code
   out_of_range : answer ≡ answer_of NumberRange → IsRice width block → 1 ≤ length numbers → ¬ All (IsNumber width) numbers
       → WritesRice width block numbers room out used answer
@@ -65,13 +68,13 @@ pub data ReadsLine (code : List ℕ) (count : ℕ) (numbers : List ℤ) (answer 
 -- the answer of `fz_plio_encode`
 pub data WritesLine (numbers : List ℤ) (before out : List ℕ) (used : ℕ) (answer : ℤ) : Type 0 where
   -- the list is at the front of `out`, and what is after it stays
-  done : answer ≡ pos 0 → length numbers ≤ 2 ^ 26 → All InRange numbers → used ≡ length (line_list numbers) → used ≤ length before
-      → out ≡ line_list numbers ++ drop used before → WritesLine numbers before out used answer
+  done : answer ≡ pos 0 → length numbers ≤ 2 ^ 26 → All InRange numbers → used ≡ length (line_list numbers)
+      → used ≤ length before → out ≡ line_list numbers ++ drop used before → WritesLine numbers before out used answer
   -- so many numbers are no line
   no_tile : answer ≡ answer_of NoTile → 2 ^ 26 < length numbers → WritesLine numbers before out used answer
   -- no list holds one of the numbers, and nothing was written
-  out_of_range : answer ≡ answer_of NumberRange → length numbers ≤ 2 ^ 26 → (index : ℕ) → IsFirstOutside numbers index → out ≡ before
-      → WritesLine numbers before out used answer
+  out_of_range : answer ≡ answer_of NumberRange → length numbers ≤ 2 ^ 26 → (index : ℕ) → IsFirstOutside numbers index
+      → out ≡ before → WritesLine numbers before out used answer
   -- the list is longer than `out`
-  no_room : answer ≡ answer_of NoRoom → length numbers ≤ 2 ^ 26 → All InRange numbers → length before < length (line_list numbers)
-      → WritesLine numbers before out used answer
+  no_room : answer ≡ answer_of NoRoom → length numbers ≤ 2 ^ 26 → All InRange numbers
+      → length before < length (line_list numbers) → WritesLine numbers before out used answer

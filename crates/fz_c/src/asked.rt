@@ -1,5 +1,5 @@
 //! What a caller asks for by numbers: codecs, columns and tiles.
-ghost use Rattle.std.specs.Prelude.{◌≡◌, ◌↔◌, ◌*◌, ◌^◌, ◌≤◌, IsTrue, MatchOption, unsigned_abs};
+ghost use Rattle.std.specs.Prelude.{◌≡◌, ◌↔◌, ◌+◌, ◌*◌, ◌^◌, ◌≤◌, IsTrue, MatchOption, unsigned_abs};
 ghost use Rattle.fz_tile.specs.Pixels.{IsBitpix, HoldTile, pixel_count};
 ghost use Rattle.fz_tile.specs.Codecs.{CanRead, CanWrite, IsBlock, ReadsCodes, WritesCodes};
 ghost use Rattle.fz_tile.specs.Record.{read_len};

@@ -29,8 +29,8 @@ pub enum Fault {
 }
 
 impl Fault {
-    /// The number that C gets. If the bytes are at fault, it is minus the number of the kind of refusal; that of a fault of the
-    /// caller is beyond -100, where no kind is.
+    /// The number that C gets. If the bytes are at fault, it is minus the number of the kind of refusal; that
+    /// of a fault of the caller is beyond -100, where no kind is.
     pub fn answer(self) -> i32
         ensures { result ≡ answer_of self }
     {

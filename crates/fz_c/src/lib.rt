@@ -1,11 +1,13 @@
-//! The codecs of tiles, for programs in C and in whatever calls C (FITS 4.0, sections 10.1.3 and 10.4). `include/fz.h` has
-//! the declarations.
+//! The codecs of tiles, for programs in C and in whatever calls C (FITS 4.0, sections 10.1.3 and 10.4).
+//! `include/fz.h` has the declarations.
 //!
-//! No export has a `requires`: each tests its arguments, and answers 0 or a number below 0 that says why it gives nothing. What no test
-//! can see the caller owes: real addresses, true lengths, no overlap of what is read and what is written, and bytes that nobody changes
-//! during the call. No call allocates memory, waits, or keeps anything from one call to the next.
+//! No export has a `requires`: each tests its arguments, and answers 0 or a number below 0 that says why it
+//! gives nothing. What no test can see the caller owes: real addresses, true lengths, no overlap of what is
+//! read and what is written, and bytes that nobody changes during the call. No call allocates memory, waits,
+//! or keeps anything from one call to the next.
 //!
-//! Reading order: `fault`, `asked`, `range`; then the exports: `version`, `tile`, `rice`, `plio`, `part`, `sum`.
+//! Reading order: `fault`, `asked`, `range`; then the exports: `version`, `tile`, `rice`, `plio`, `part`,
+//! `sum`.
 #![tactic(auto)]
 
 mod asked;

@@ -19,8 +19,8 @@ pub struct FzMark {
 
 /// Writes the mark before the first pixel of a tile, and answers 0.
 ///
-/// After another answer the mark is as it was: `NoPart` no record of a Rice code that stands for pixels begins so, `NoCodec`, or
-/// `ManyBytes`.
+/// After another answer the mark is as it was: `NoPart` no record of a Rice code that stands for pixels
+/// begins so, `NoCodec`, or `ManyBytes`.
 #[unsafe(no_mangle)]
 pub extern "C" fn fz_first_mark(
     codec: u32,
@@ -48,10 +48,12 @@ pub extern "C" fn fz_first_mark(
     }
 }
 
-/// Reads the next pixels of a tile, as many as there are places, from the mark on, moves the mark after them, and answers 0.
+/// Reads the next pixels of a tile, as many as there are places, from the mark on, moves the mark after them,
+/// and answers 0.
 ///
-/// `code` is the record without some of its first bytes, and the mark is counted from there. After another answer `numbers` holds
-/// some values, and the mark is as it was: `NoPart` no record has so many pixels more, `NoCodec`, or `ManyBytes`.
+/// `code` is the record without some of its first bytes, and the mark is counted from there. After another
+/// answer `numbers` holds some values, and the mark is as it was: `NoPart` no record has so many pixels more,
+/// `NoCodec`, or `ManyBytes`.
 #[unsafe(no_mangle)]
 pub extern "C" fn fz_decode_part(
     codec: u32,

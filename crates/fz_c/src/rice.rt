@@ -10,11 +10,11 @@ use crate::range::are_numbers;
 use fz_rice::{CodeFault, Coder};
 use fz_tile::TileFault;
 
-/// Reads as many numbers as there are places from a Rice code of 8, 16 or 32 bits, writes the number of bytes that the code takes
-/// to `used`, and answers 0.
+/// Reads as many numbers as there are places from a Rice code of 8, 16 or 32 bits, writes the number of bytes
+/// that the code takes to `used`, and answers 0.
 ///
-/// After another answer `numbers` holds some values, and `used` is as it was: `CodeShort` the code ends early, `CodeValue` no code
-/// begins so, `NoCodec`, or `ManyBytes`.
+/// After another answer `numbers` holds some values, and `used` is as it was: `CodeShort` the code ends
+/// early, `CodeValue` no code begins so, `NoCodec`, or `ManyBytes`.
 #[unsafe(no_mangle)]
 pub extern "C" fn fz_rice_decode(
     width: u32,
@@ -57,10 +57,12 @@ fn read_rice<const W: u32>(block: u32, code: &[u8], numbers: &mut [i32], used: &
     }
 }
 
-/// Writes the Rice code of 8, 16 or 32 bits of the numbers at the front of `out`, its number of bytes to `used`, and answers 0.
+/// Writes the Rice code of 8, 16 or 32 bits of the numbers at the front of `out`, its number of bytes to
+/// `used`, and answers 0.
 ///
-/// After the code `out` holds some bytes. After another answer it does, too, and `used` is as it was: `NoCodec`; `NoTile` there is
-/// no number; `NumberRange` one is not of so many bits; or `NoRoom` the code is longer than `out`.
+/// After the code `out` holds some bytes. After another answer it does, too, and `used` is as it was:
+/// `NoCodec`; `NoTile` there is no number; `NumberRange` one is not of so many bits; or `NoRoom` the code is
+/// longer than `out`.
 #[unsafe(no_mangle)]
 pub extern "C" fn fz_rice_encode(
     width: u32,

@@ -6,8 +6,9 @@ use crate::asked::MOST_BYTES;
 use crate::fault::Fault;
 use fz_sum::{Sum, sum_law};
 
-/// Writes to `sum` the ones' complement sum of the words of these bytes, after a sum of the words before them, and answers 0. A last
-/// word that is not whole is filled up with zeros. `ManyBytes`: the sum is as it was.
+/// Writes to `sum` the ones' complement sum of the words of these bytes, after a sum of the words before
+/// them, and answers 0. A last word that is not whole is filled up with zeros. `ManyBytes`: the sum is as it
+/// was.
 #[unsafe(no_mangle)]
 pub extern "C" fn fz_sum(before: u32, bytes: &[u8], sum: &mut u32) -> i32
     ensures answer { Sums before bytes.now sum.new result }

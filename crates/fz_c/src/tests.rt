@@ -115,28 +115,37 @@ fn faults_of_pixels(rt: HostRuntime) {
     alike(&rt, coded, FzCoded { column: 9, len: 9 });
 }
 
+/// Reads a Rice code in blocks of 32.
+fn read(width: u32, code: &[u8], numbers: &mut [i32], used: &mut u64) -> i32 {
+    fz_rice_decode(width, 32, code, numbers, used)
+}
+
+/// Writes a Rice code of 8 bits.
+fn write(block: u32, numbers: &[i32], out: &mut [u8], used: &mut u64) -> i32 {
+    fz_rice_encode(8, block, numbers, out, used)
+}
+
 #[test]
 fn rice(rt: HostRuntime) {
     let line = [0, 0, 3, 3];
     let mut out = [0; 8];
     let mut used = 9;
-    alike(&rt, fz_rice_encode(8, 32, &line, &mut out, &mut used), 0);
-    alike(&rt, (used, &out[..3]), (3, [0x00, 0x38, 0x18].as_slice()));
+    alike(&rt, write(32, &line, &mut out, &mut used), 0);
+    alike(&rt, (used, &out[..3]), (3, [0, 0x38, 0x18].as_slice()));
     let mut numbers = [9; 4];
     let mut taken = 9;
-    alike(&rt, fz_rice_decode(8, 32, &out, &mut numbers, &mut taken), 0);
+    alike(&rt, read(8, &out, &mut numbers, &mut taken), 0);
     alike(&rt, (taken, numbers), (3, line));
-    alike(&rt, fz_rice_decode(8, 32, &[0], &mut numbers, &mut taken), -21);
+    alike(&rt, read(8, &[0], &mut numbers, &mut taken), -21);
     let unlawful = [0, 0, 0, 0, 0xd8];
-    alike(&rt, fz_rice_decode(32, 32, &unlawful, &mut numbers, &mut taken), -22);
-    alike(&rt, fz_rice_decode(64, 32, &out, &mut numbers, &mut taken), -101);
-    alike(&rt, fz_rice_decode(8, 32_768, &out, &mut numbers, &mut taken), -101);
-    alike(&rt, taken, 3);
-    alike(&rt, fz_rice_encode(8, 0, &line, &mut out, &mut used), -101);
-    alike(&rt, fz_rice_encode(8, 32, &[], &mut out, &mut used), -103);
-    alike(&rt, fz_rice_encode(8, 32, &line, &mut [0, 0], &mut used), -105);
-    alike(&rt, fz_rice_encode(8, 32, &[256], &mut out, &mut used), -106);
-    alike(&rt, used, 3);
+    alike(&rt, read(32, &unlawful, &mut numbers, &mut taken), -22);
+    alike(&rt, read(64, &out, &mut numbers, &mut taken), -101);
+    alike(&rt, write(0, &line, &mut out, &mut used), -101);
+    alike(&rt, write(32_768, &line, &mut out, &mut used), -101);
+    alike(&rt, write(32, &[], &mut out, &mut used), -103);
+    alike(&rt, write(32, &line, &mut [0, 0], &mut used), -105);
+    alike(&rt, write(32, &[256], &mut out, &mut used), -106);
+    alike(&rt, (taken, used), (3, 3));
 }
 
 #[test]
@@ -148,13 +157,15 @@ fn lists(rt: HostRuntime) {
     let mut out = [0xa5; 21];
     let mut used = 9;
     alike(&rt, fz_plio_encode(&line, &mut out, &mut used), 0);
-    alike(&rt, (used, &out[..20], out[20]), (20, list.as_slice(), 0xa5));
+    alike(&rt, (used, out[20]), (20, 0xa5));
+    alike(&rt, &out[..20], list.as_slice());
     let mut numbers = [9; 4];
     alike(&rt, fz_plio_decode(&list, &mut numbers), 0);
     alike(&rt, numbers, line);
     alike(&rt, fz_plio_decode(&[1], &mut numbers), -23);
     alike(&rt, fz_plio_encode(&line, &mut [0; 19], &mut used), -105);
-    alike(&rt, fz_plio_encode(&[16_777_216], &mut out, &mut used), -106);
+    let great = [16_777_216];
+    alike(&rt, fz_plio_encode(&great, &mut out, &mut used), -106);
     alike(&rt, used, 20);
 }
 
@@ -166,13 +177,14 @@ fn parts(rt: HostRuntime) {
     let code = [0x00, 0x05, 0x01, 0x84];
     alike(&rt, marked(pairs, &code, &mut mark), 0);
     alike(&rt, mark, FzMark { bit: 16, last: 5 });
-    let mut numbers = [9; 2];
-    alike(&rt, read_on(pairs, &code, &mut mark, &mut numbers), 0);
-    alike(&rt, (mark, numbers), (FzMark { bit: 20, last: 5 }, [5, 5]));
-    alike(&rt, read_on(pairs, &code, &mut mark, &mut numbers), 0);
-    alike(&rt, (mark, numbers), (FzMark { bit: 30, last: 7 }, [5, 7]));
-    alike(&rt, read_on(pairs, &code, &mut mark, &mut numbers), -108);
-    alike(&rt, read_on((1, 2, 3, 16), &code, &mut mark, &mut numbers), -101);
+    let mut two = [9; 2];
+    alike(&rt, read_on(pairs, &code, &mut mark, &mut two), 0);
+    alike(&rt, (mark.bit, mark.last, two), (20, 5, [5, 5]));
+    alike(&rt, read_on(pairs, &code, &mut mark, &mut two), 0);
+    alike(&rt, (mark.bit, mark.last, two), (30, 7, [5, 7]));
+    alike(&rt, read_on(pairs, &code, &mut mark, &mut two), -108);
+    let other: Tile = (1, 2, 3, 16);
+    alike(&rt, read_on(other, &code, &mut mark, &mut two), -101);
     alike(&rt, marked(pairs, &[0], &mut mark), -108);
     alike(&rt, marked((2, 0, 0, 64), &code, &mut mark), -101);
     alike(&rt, mark, FzMark { bit: 30, last: 7 });

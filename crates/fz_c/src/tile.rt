@@ -20,10 +20,10 @@ pub struct FzCoded {
 
 /// Reads the pixels of a tile from its record in the heap, and answers 0 (FITS 4.0, section 10.1.3).
 ///
-/// `total` is the length of the record, and `code` has at least what is read of it: its first bytes, at most 8 for each pixel and 64
-/// more. A pixel takes one place of `numbers`, and one of 64 bits two, its upper half and then its lower half, each signed.
-/// After another answer `numbers` holds some values: `Refused` the record stands for no so many pixels, `NoCodec`, `NoColumn`,
-/// `NoTile` or `FewBytes`.
+/// `total` is the length of the record, and `code` has at least what is read of it: its first bytes, at most
+/// 8 for each pixel and 64 more. A pixel takes one place of `numbers`, and one of 64 bits two, its upper half
+/// and then its lower half, each signed. After another answer `numbers` holds some values: `Refused` the
+/// record stands for no so many pixels, `NoCodec`, `NoColumn`, `NoTile` or `FewBytes`.
 #[unsafe(no_mangle)]
 pub extern "C" fn fz_decode_tile(
     codec: u32,
@@ -35,7 +35,7 @@ pub extern "C" fn fz_decode_tile(
     total: u64,
     numbers: &mut [i32],
 ) -> i32
-    ensures { Decodes (codec_of codec block bytepix) bitpix (column_of column) code.now total
+    ensures answer { Decodes (codec_of codec block bytepix) bitpix (column_of column) code.now total
         (length numbers.old) numbers.new result }
 {
     let Some(codec) = reader(codec, block, bytepix, bitpix) else {
@@ -57,11 +57,13 @@ pub extern "C" fn fz_decode_tile(
     }
 }
 
-/// Writes the bytes of a tile at the front of `out`, their column and number to `coded`, and answers 0 (FITS 4.0, section 10.1.3):
-/// the tile's code if the codec has one that is shorter than the plain bytes, otherwise these.
+/// Writes the bytes of a tile at the front of `out`, their column and number to `coded`, and answers 0 (FITS
+/// 4.0, section 10.1.3): the tile's code if the codec has one that is shorter than the plain bytes, otherwise
+/// these.
 ///
-/// `out` has at least 8 bytes for each pixel and 64 more; after the tile's bytes it then holds some bytes. After another answer
-/// `coded` is as it was: `NoCodec`, `NoTile`, `NoRoom`, or `NumberRange`, a pixel is outside the range of BITPIX.
+/// `out` has at least 8 bytes for each pixel and 64 more; after the tile's bytes it then holds some bytes.
+/// After another answer `coded` is as it was: `NoCodec`, `NoTile`, `NoRoom`, or `NumberRange`, a pixel is
+/// outside the range of BITPIX.
 #[unsafe(no_mangle)]
 pub extern "C" fn fz_encode_tile(
     codec: u32,
