@@ -38,6 +38,7 @@ help:
 	@echo 'make demo       pack, list, verify, cut and unpack samples/star_field.fits with it'
 	@echo 'make check      compile fz without proving it and run the checks of tools/ on it: about two minutes, nothing proved'
 	@echo 'make fz         prove and build the program: crates/fz/out/fz'
+	@echo 'make lib        prove and build the library of the codecs: out/libfz.a and out/libfz.so.1'
 	@echo 'make test       what the gate runs: every proof, must-fail edit, test and program: an hour and a half or more'
 	@echo 'make samples    write samples/ again'
 	@echo 'make install    put the program that was built, fzfits, fzbatch, the manuals, the documents and the completions under PREFIX (/usr/local)'
@@ -112,3 +113,7 @@ wheel:
 
 deb:
 	@FZ=$(FZ) LIB=$(LIBRARIES) tools/package deb $(OUT)
+
+.PHONY: lib
+lib:
+	@tools/make_library $(OUT)

@@ -3,15 +3,22 @@
  *
  * Each call tests all of its arguments, and answers 0 or one of the numbers below 0 that are named
  * here. What no test can see the caller owes:
- *   - an address that is followed by a length leads to so many elements, and is not NULL, also if the
- *     length is 0; any other address leads to one value;
- *   - numbers and structs are aligned as C aligns them;
- *   - what is written overlaps with nothing else that is passed;
- *   - nobody else writes to what is passed during the call, nor reads what the call writes.
- * No call allocates memory, waits, prints, or keeps anything from one call to the next: any number of
- * threads may call at once.
+ *   - Addresses are real. Where a length follows one, so many elements are there, to be read (const) or
+ *     written; where none does, one value is. An address is not NULL, also if the length is 0. What is
+ *     only written need not be initialized.
+ *   - Lengths are true: code_len, bytes_len and out_len count bytes, numbers_len counts numbers.
+ *   - Numbers and structs are aligned as C aligns them: int32_t to 4 bytes, uint64_t and struct fz_mark
+ *     to 8.
+ *   - What a call writes overlaps with nothing else that it is passed.
+ *   - During a call nobody else writes to what it is passed, or reads what it writes. (A file that is
+ *     mapped into memory and cut short meanwhile kills the program: read it instead.)
+ * With less than that a call does what C does then: anything.
  *
- * What is proved of the calls, and what is not, is in docs/CLAIMS.md. A damaged code that is still
+ * Every call returns, whatever the bytes are, after a time that grows with the lengths. None allocates
+ * memory, waits, prints, or keeps anything from one call to the next: any number of threads may call at
+ * once. A call takes less than 2 kB of stack.
+ *
+ * What is proved of the calls, and what is not, is in docs/LIBRARY.md. A damaged code that is still
  * lawful has other numbers, and no call can notice it: only a checksum of the file can. */
 #ifndef FZ_H
 #define FZ_H
@@ -61,8 +68,11 @@ enum fz_answer {
     FZ_NO_PART = -108       /* the code is not read on from this mark: fz_decode_tile says why */
 };
 
-/* A tile has 1 to 67,108,864 pixels. fz_encode_tile needs this room for the bytes of a tile of so many
- * pixels, and fz_decode_tile reads at most so many bytes of its record. */
+/* A tile has 1 to so many pixels. */
+#define FZ_MOST_PIXELS 67108864
+
+/* fz_encode_tile needs this room for the bytes of a tile of so many pixels, and fz_decode_tile reads at
+ * most so many bytes of its record. It is room enough for fz_rice_encode and fz_plio_encode too. */
 #define FZ_TILE_ROOM(pixels) (8 * (size_t)(pixels) + 64)
 
 /* The version of the library. */

@@ -187,3 +187,38 @@ class Unexpected(FzError):
 
     def what(self) -> str:
         return f"the program ended with status {self.status} and said {' / '.join(self.lines[-2:]) or 'nothing'}"
+
+
+class NoLibrary(FzError):
+    """libfz was not found, or is of another version. `looked` are the places where it was looked for."""
+
+    def __init__(self, reason: str, looked: Sequence[str] = (), **more: object) -> None:
+        super().__init__(reason, tuple(looked), **more)
+        self.reason, self.looked = reason, tuple(looked)
+
+    def what(self) -> str:
+        return f"{self.reason}; looked for in: {', '.join(self.looked)}" if self.looked else self.reason
+
+
+class BadCode(FzError, ValueError):
+    """The bytes of a tile are refused by libfz: `number` and `kind` are those of docs/REFUSALS.md, and `meaning` is what it says of the kind."""
+
+    meaning: str = ""
+
+    def __init__(self, number: int, kind: str, **more: object) -> None:
+        super().__init__(number, kind, **more)
+        self.number, self.kind = number, kind
+
+    def what(self) -> str:
+        return f"the tile is damaged: {self.number} {self.kind}"
+
+    def remedy(self) -> str:
+        return "\n".join(it for it in (self.advice, self.meaning) if it)
+
+
+class BadArgument(FzError, ValueError):
+    """libfz, or this package, has no codec, tile or room as it was asked for. `answer` is that of libfz, or None if it was not called."""
+
+    def __init__(self, reason: str, answer: Optional[int] = None, **more: object) -> None:
+        super().__init__(reason, answer, **more)
+        self.reason, self.answer = reason, answer

@@ -15,7 +15,7 @@ SAMPLES = TOP / "samples"
 PACKED = SAMPLES / "packed"
 sys.path[:0] = [str(TOP / "python"), str(TOP / "tools")]
 
-from fzfits import errors, program  # noqa: E402
+from fzfits import errors, library, program  # noqa: E402
 
 
 def imported(name):
@@ -35,6 +35,12 @@ try:
     FZ = program.find()
 except errors.NoProgram:
     FZ = ""
+try:
+    library.load()
+    HAS_LIBRARY = True
+except errors.NoLibrary:
+    HAS_LIBRARY = False
+needs_library = unittest.skipUnless(HAS_LIBRARY, "libfz is not there: make lib builds it, and FZ_LIBRARY names another one")
 needs_program = unittest.skipUnless(FZ, "the program fz is not there: rt ci builds it, and FZ names another one")
 
 

@@ -1,0 +1,236 @@
+/* vectors: makes the calls of fz.h that standard input asks for, a line each, and prints a line with the answer of each: the answer,
+ * and after 0 what was written. Each call is made twice, with its places before and after a page that nobody may touch. Bytes are in
+ * hexadecimal digits (- if there are none), lists of numbers have their length first.
+ *
+ *   decode_tile codec block bytepix bitpix column total BYTES count    ->  answer NUMBERS
+ *   encode_tile codec block bytepix bitpix NUMBERS                     ->  answer column BYTES
+ *   rice_decode width block BYTES count                                ->  answer used NUMBERS
+ *   rice_encode width block NUMBERS                                    ->  answer BYTES
+ *   plio_decode BYTES count                                            ->  answer NUMBERS
+ *   plio_encode NUMBERS                                                ->  answer BYTES
+ *   parts codec block bytepix bitpix BYTES count step                  ->  answer NUMBERS   (step numbers at a time)
+ *   sum before BYTES                                                   ->  answer sum
+ */
+#include "fz.h"
+#include "guarded.h"
+
+#include <inttypes.h>
+
+static char *line; /* what is left of it */
+
+static char *word(void) {
+    char *found = strsep(&line, " \n");
+    must(found != NULL && *found != 0, "a line is too short");
+    return found;
+}
+
+static long long number(void) { return strtoll(word(), NULL, 10); }
+
+/* The bytes that the line has here. */
+static uint8_t *bytes(size_t *len) {
+    char *digits = word();
+    size_t i;
+    uint8_t *made;
+    *len = *digits == '-' ? 0 : strlen(digits) / 2;
+    made = malloc(*len + 1);
+    for (i = 0; i < *len; i++) {
+        unsigned value;
+        must(sscanf(digits + 2 * i, "%2x", &value) == 1, "no hexadecimal digits");
+        made[i] = (uint8_t)value;
+    }
+    return made;
+}
+
+/* The numbers that the line has here. */
+static int32_t *numbers(size_t *count) {
+    size_t i;
+    int32_t *made;
+    *count = (size_t)number();
+    made = malloc(4 * *count + 4);
+    for (i = 0; i < *count; i++) made[i] = (int32_t)number();
+    return made;
+}
+
+static void print_bytes(const uint8_t *data, size_t len) {
+    size_t i;
+    putchar(' ');
+    if (len == 0) putchar('-');
+    for (i = 0; i < len; i++) printf("%02x", data[i]);
+}
+
+static void print_numbers(const int32_t *data, size_t count) {
+    size_t i;
+    printf(" %zu", count);
+    for (i = 0; i < count; i++) printf(" %" PRId32, data[i]);
+}
+
+/* A call: what goes in and what comes out of it, in guarded places. */
+struct call {
+    struct guarded in_pages, out_pages, small_pages;
+    void *in, *out, *small;
+    size_t in_size, out_size, small_size;
+};
+
+static struct call call_new(const void *in, size_t in_size, size_t out_size, size_t small_size, int at_front) {
+    struct call it = {guarded_new(in_size), guarded_new(out_size), guarded_new(small_size), 0, 0, 0, in_size, out_size, small_size};
+    it.in = guarded_place(it.in_pages, in_size, at_front);
+    memcpy(it.in, in, in_size);
+    guarded_lock(it.in_pages, 1);
+    it.out = guarded_place(it.out_pages, out_size, at_front);
+    it.small = guarded_place(it.small_pages, small_size, at_front);
+    memset(it.small, 0, small_size);
+    return it;
+}
+
+static void call_end(struct call it) {
+    must(guarded_whole(it.out_pages, it.out, it.out_size), "bytes beside out were written");
+    must(guarded_whole(it.small_pages, it.small, it.small_size), "bytes beside a result were written");
+    guarded_free(it.in_pages);
+    guarded_free(it.out_pages);
+    guarded_free(it.small_pages);
+}
+
+static void decode_tile(int at_front, int is_shown) {
+    uint32_t codec = number(), block = number(), bytepix = number();
+    int32_t bitpix = number(), answer;
+    uint32_t column = number();
+    uint64_t total = number();
+    size_t len, count;
+    uint8_t *code = bytes(&len);
+    struct call it;
+    count = number();
+    it = call_new(code, len, 4 * count, 0, at_front);
+    answer = fz_decode_tile(codec, block, bytepix, bitpix, column, it.in, len, total, it.out, count);
+    if (is_shown) printf("%" PRId32, answer);
+    if (is_shown && answer == 0) print_numbers(it.out, count);
+    call_end(it);
+    free(code);
+}
+
+static void encode_tile(int at_front, int is_shown) {
+    uint32_t codec = number(), block = number(), bytepix = number();
+    int32_t bitpix = number(), answer;
+    size_t count, room;
+    int32_t *list = numbers(&count);
+    struct call it;
+    struct fz_coded *coded;
+    room = FZ_TILE_ROOM(bitpix == 64 ? count / 2 : count);
+    it = call_new(list, 4 * count, room, sizeof *coded, at_front);
+    coded = it.small;
+    answer = fz_encode_tile(codec, block, bytepix, bitpix, it.in, count, it.out, room, coded);
+    if (is_shown) printf("%" PRId32, answer);
+    if (is_shown && answer == 0) {
+        printf(" %" PRIu32, coded->column);
+        print_bytes(it.out, coded->len);
+    }
+    call_end(it);
+    free(list);
+}
+
+static void rice_decode(int at_front, int is_shown) {
+    uint32_t width = number(), block = number();
+    size_t len, count;
+    uint8_t *code = bytes(&len);
+    struct call it;
+    int32_t answer;
+    count = number();
+    it = call_new(code, len, 4 * count, sizeof(uint64_t), at_front);
+    answer = fz_rice_decode(width, block, it.in, len, it.out, count, it.small);
+    if (is_shown) printf("%" PRId32, answer);
+    if (is_shown && answer == 0) {
+        printf(" %" PRIu64, *(uint64_t *)it.small);
+        print_numbers(it.out, count);
+    }
+    call_end(it);
+    free(code);
+}
+
+static void plio_decode(int at_front, int is_shown) {
+    size_t len, count;
+    uint8_t *code = bytes(&len);
+    struct call it;
+    int32_t answer;
+    count = number();
+    it = call_new(code, len, 4 * count, 0, at_front);
+    answer = fz_plio_decode(it.in, len, it.out, count);
+    if (is_shown) printf("%" PRId32, answer);
+    if (is_shown && answer == 0) print_numbers(it.out, count);
+    call_end(it);
+    free(code);
+}
+
+/* rice_encode, and plio_encode if width is 0. */
+static void encode(int at_front, int is_shown, uint32_t width, uint32_t block) {
+    size_t count, room;
+    int32_t *list = numbers(&count), answer;
+    struct call it;
+    room = FZ_TILE_ROOM(count);
+    it = call_new(list, 4 * count, room, sizeof(uint64_t), at_front);
+    answer = width ? fz_rice_encode(width, block, it.in, count, it.out, room, it.small) : fz_plio_encode(it.in, count, it.out, room, it.small);
+    if (is_shown) printf("%" PRId32, answer);
+    if (is_shown && answer == 0) print_bytes(it.out, *(uint64_t *)it.small);
+    call_end(it);
+    free(list);
+}
+
+static void parts(int at_front, int is_shown) {
+    uint32_t codec = number(), block = number(), bytepix = number();
+    int32_t bitpix = number(), answer;
+    size_t len, count, step, at = 0;
+    uint8_t *code = bytes(&len);
+    struct call it;
+    count = number();
+    step = number();
+    it = call_new(code, len, 4 * count, sizeof(struct fz_mark), at_front);
+    answer = fz_first_mark(codec, block, bytepix, bitpix, it.in, len, it.small);
+    while (answer == 0 && at < count) {
+        size_t next = count - at < step ? count - at : step;
+        answer = fz_decode_part(codec, block, bytepix, bitpix, it.in, len, it.small, (int32_t *)it.out + at, next);
+        at += next;
+    }
+    if (is_shown) printf("%" PRId32, answer);
+    if (is_shown && answer == 0) print_numbers(it.out, count);
+    call_end(it);
+    free(code);
+}
+
+static void sum(int at_front, int is_shown) {
+    uint32_t before = number();
+    size_t len;
+    uint8_t *data = bytes(&len);
+    struct call it = call_new(data, len, 0, sizeof(uint32_t), at_front);
+    int32_t answer = fz_sum(before, it.in, len, it.small);
+    if (is_shown) printf("%" PRId32 " %" PRIu32, answer, *(uint32_t *)it.small);
+    call_end(it);
+    free(data);
+}
+
+static void make_call(const char *name, int at_front, int is_shown) {
+    if (!strcmp(name, "decode_tile")) decode_tile(at_front, is_shown);
+    else if (!strcmp(name, "encode_tile")) encode_tile(at_front, is_shown);
+    else if (!strcmp(name, "rice_decode")) rice_decode(at_front, is_shown);
+    else if (!strcmp(name, "plio_decode")) plio_decode(at_front, is_shown);
+    else if (!strcmp(name, "plio_encode")) encode(at_front, is_shown, 0, 0);
+    else if (!strcmp(name, "parts")) parts(at_front, is_shown);
+    else if (!strcmp(name, "sum")) sum(at_front, is_shown);
+    else if (!strcmp(name, "rice_encode")) {
+        uint32_t width = number(), block = number();
+        encode(at_front, is_shown, width, block);
+    } else must(0, name);
+}
+
+int main(void) {
+    char *text = NULL, *again;
+    size_t room = 0;
+    must(fz_version() == FZ_VERSION, "the library has another version than fz.h");
+    while (getline(&text, &room, stdin) > 0) {
+        again = line = strdup(text);
+        make_call(word(), 0, 1);
+        free(again);
+        line = text;
+        make_call(word(), 1, 0);
+        putchar('\n');
+    }
+    free(text);
+    return 0;
+}
