@@ -1,0 +1,116 @@
+"""Tiles of astropy's CompImageHDU by libfz: `install()` puts it in, and `uninstall()` takes it out again.
+
+    >>> import fzfits.astropy                                   # doctest: +SKIP
+    >>> fzfits.astropy.install()                                # doctest: +SKIP
+
+From then on astropy decodes and encodes RICE_1 and PLIO_1 by libfz, in all threads of this process: faster, and a damaged tile raises
+`fzfits.errors.BadCode` (a ValueError) in the place of wrong pixels. What astropy writes is read by everybody as before. It needs
+astropy 5.3 or later, whose codecs are classes; what it replaces is no public part of astropy, so an astropy that has moved it makes
+`install` raise `NotSupported`, and changes nothing.
+"""
+from __future__ import annotations
+
+import importlib
+import sys
+from typing import Any, Dict, Optional
+
+import numpy as np
+
+from . import codec
+from .errors import FzError
+from .library import load
+
+# Where astropy has the table of its codecs: from 6.1 on, and before.
+MODULES = ("astropy.io.fits.hdu.compressed._tiled_compression", "astropy.io.fits._tiled_compression.tiled_compression")
+TABLE = "ALGORITHMS"
+NAMES = ("RICE_1", "RICE_ONE", "PLIO_1")
+
+# The codecs that were replaced, by their names, while libfz is in their place.
+_OWN: Dict[str, Any] = {}
+
+
+class NotSupported(FzError):
+    """This astropy has no codecs that can be replaced."""
+
+
+def table() -> Dict[str, Any]:
+    """The table of astropy's codecs. Raises `NotSupported`."""
+    for name in MODULES:
+        try:
+            found = getattr(importlib.import_module(name), TABLE, None)
+        except ImportError:
+            continue
+        if isinstance(found, dict) and "RICE_1" in found and "PLIO_1" in found:
+            return found
+    version = getattr(sys.modules.get("astropy"), "__version__", "not installed")
+    raise NotSupported(f"astropy is {version}, and its codecs were not found", advice="fzfits.astropy needs astropy 5.3 or later.")
+
+
+def stored(buffer: Any) -> Any:
+    """The bytes of a code as the file has them: astropy hands over an array in the byte order of the file."""
+    return np.ascontiguousarray(buffer).reshape(-1).view(np.uint8) if isinstance(buffer, np.ndarray) else buffer
+
+
+def numbers_of(buffer: Any, kind: str) -> Any:
+    """The pixels that astropy hands over, as numbers of a type: of 8 bits without a sign, as the Rice code has them."""
+    return np.asarray(buffer).astype(kind, copy=False).reshape(-1)
+
+
+def rice_over(own: Any) -> Any:
+    """The class that takes the place of astropy's Rice1."""
+
+    class Rice1(own):  # type: ignore[misc]
+        """RICE_1 by libfz."""
+
+        def decode(self, buf: Any, out: Optional[Any] = None) -> Any:
+            """The numbers of a code, as astropy's class gives them: signed, of `bytepix` bytes."""
+            found = codec.rice_decode(stored(buf), self.tilesize, self.bytepix, self.blocksize)
+            return found.view(f"i{self.bytepix}")
+
+        def encode(self, buf: Any) -> bytes:
+            """The code of the numbers."""
+            kind = "u1" if self.bytepix == 1 else f"i{self.bytepix}"
+            return codec.rice_encode(numbers_of(buf, kind), self.bytepix, self.blocksize)
+
+    return Rice1
+
+
+def plio_over(own: Any) -> Any:
+    """The class that takes the place of astropy's PLIO1."""
+
+    class PLIO1(own):  # type: ignore[misc]
+        """PLIO_1 by libfz."""
+
+        def decode(self, buf: Any, out: Optional[Any] = None) -> Any:
+            """The numbers of a line list, of which the file has the upper byte of a word first."""
+            return codec.plio_decode(stored(buf), self.tilesize)
+
+        def encode(self, buf: Any) -> bytes:
+            """The list of the numbers, in the byte order of the machine: astropy turns it."""
+            code = codec.plio_encode(numbers_of(buf, "i4"))
+            return np.frombuffer(code, ">i2").astype("i2").tobytes()
+
+    return PLIO1
+
+
+def install() -> None:
+    """Puts libfz in the place of astropy's codecs; again it does nothing. Raises `NoLibrary` or `NotSupported`, and changes nothing then."""
+    load()
+    codecs = table()
+    if _OWN:
+        return
+    _OWN.update({name: codecs[name] for name in NAMES if name in codecs})
+    rice, plio = rice_over(_OWN["RICE_1"]), plio_over(_OWN["PLIO_1"])
+    codecs.update({name: plio if name == "PLIO_1" else rice for name in _OWN})
+
+
+def uninstall() -> None:
+    """Puts astropy's own codecs back; does nothing if libfz is not in their place."""
+    if _OWN:
+        table().update(_OWN)
+        _OWN.clear()
+
+
+def is_installed() -> bool:
+    """Whether libfz is in the place of astropy's codecs."""
+    return bool(_OWN)
