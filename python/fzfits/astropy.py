@@ -46,11 +46,6 @@ def table() -> Dict[str, Any]:
     raise NotSupported(f"astropy is {version}, and its codecs were not found", advice="fzfits.astropy needs astropy 5.3 or later.")
 
 
-def stored(buffer: Any) -> Any:
-    """The bytes of a code as the file has them: astropy hands over an array in the byte order of the file."""
-    return np.ascontiguousarray(buffer).reshape(-1).view(np.uint8) if isinstance(buffer, np.ndarray) else buffer
-
-
 def numbers_of(buffer: Any, kind: str) -> Any:
     """The pixels that astropy hands over, as numbers of a type: of 8 bits without a sign, as the Rice code has them."""
     return np.asarray(buffer).astype(kind, copy=False).reshape(-1)
@@ -64,7 +59,7 @@ def rice_over(own: Any) -> Any:
 
         def decode(self, buf: Any, out: Optional[Any] = None) -> Any:
             """The numbers of a code, as astropy's class gives them: signed, of `bytepix` bytes."""
-            found = codec.rice_decode(stored(buf), self.tilesize, self.bytepix, self.blocksize)
+            found = codec.rice_decode(buf, self.tilesize, self.bytepix, self.blocksize)
             return found.view(f"i{self.bytepix}")
 
         def encode(self, buf: Any) -> bytes:
@@ -83,7 +78,7 @@ def plio_over(own: Any) -> Any:
 
         def decode(self, buf: Any, out: Optional[Any] = None) -> Any:
             """The numbers of a line list, of which the file has the upper byte of a word first."""
-            return codec.plio_decode(stored(buf), self.tilesize)
+            return codec.plio_decode(buf, self.tilesize)
 
         def encode(self, buf: Any) -> bytes:
             """The list of the numbers, in the byte order of the machine: astropy turns it."""

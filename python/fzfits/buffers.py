@@ -132,7 +132,7 @@ class Numbers:
     def result(self) -> Any:
         """The pixels."""
         flat = self.place.keeper
-        if self.out is not None and flat is self.view if np is not None else False:
+        if self.out is not None and flat is self.view:
             return self.out
         if np is None:
             pixels = joined(flat) if self.bits == 64 else flat
