@@ -4,7 +4,7 @@
     >>> fzfits.astropy.install()                                # doctest: +SKIP
 
 From then on astropy decodes and encodes RICE_1 and PLIO_1 by libfz, in all threads of this process: faster, and a damaged tile raises
-`fzfits.errors.BadCode` (a ValueError) in the place of wrong pixels. What astropy writes is read by everybody as before. It needs
+`fzfits.errors.BadCode` (a ValueError, and of the class that astropy raises) in the place of wrong pixels. What astropy writes is read by everybody as before. It needs
 astropy 5.3 or later, whose codecs are classes; what it replaces is no public part of astropy, so an astropy that has moved it makes
 `install` raise `NotSupported`, and changes nothing.
 """
@@ -12,17 +12,22 @@ from __future__ import annotations
 
 import importlib
 import sys
-from typing import Any, Dict, Optional
+from functools import lru_cache
+from typing import Any, Callable, Dict, Optional
 
 import numpy as np
 
 from . import codec
-from .errors import FzError
+from .errors import BadCode, FzError
 from .library import load
 
 # Where astropy has the table of its codecs: from 6.1 on, and before.
 MODULES = ("astropy.io.fits.hdu.compressed._tiled_compression", "astropy.io.fits._tiled_compression.tiled_compression")
 TABLE = "ALGORITHMS"
+# What astropy raises if a tile is damaged, in a module beside that one, and how its text begins.
+ERROR = "_compression", "CfitsioException"
+TEXTS = {21: "decompression error: hit end of compressed byte stream"}
+TEXT = "decompression error"
 NAMES = ("RICE_1", "RICE_ONE", "PLIO_1")
 
 # The codecs that were replaced, by their names, while libfz is in their place.
@@ -46,6 +51,41 @@ def table() -> Dict[str, Any]:
     raise NotSupported(f"astropy is {version}, and its codecs were not found", advice="fzfits.astropy needs astropy 5.3 or later.")
 
 
+@lru_cache(maxsize=None)
+def error_class() -> Any:
+    """The class of what a damaged tile raises: `BadCode`, and the class that astropy raises then, so that a program that expects it goes on."""
+    for name in MODULES:
+        try:
+            own = getattr(importlib.import_module(f"{name.rpartition('.')[0]}.{ERROR[0]}"), ERROR[1])
+        except (ImportError, AttributeError):
+            continue
+
+        class DamagedTile(BadCode, own):  # type: ignore[misc]
+            """A tile that astropy was to decode is damaged."""
+
+            def what(self) -> str:
+                return f"{TEXTS.get(self.number, TEXT)}: {super().what()}"
+
+            def __reduce__(self) -> Any:
+                return damaged, (self.number, self.kind, self.meaning)
+
+        return DamagedTile
+    return BadCode
+
+
+def damaged(number: int, kind: str, meaning: str) -> BadCode:
+    """What a damaged tile raises."""
+    return error_class()(number, kind, meaning=meaning)
+
+
+def decoded(call: Callable[..., Any], *given: Any) -> Any:
+    """What a call of fzfits.codec decodes."""
+    try:
+        return call(*given)
+    except BadCode as error:
+        raise damaged(error.number, error.kind, error.meaning) from None
+
+
 def numbers_of(buffer: Any, kind: str) -> Any:
     """The pixels that astropy hands over, as numbers of a type: of 8 bits without a sign, as the Rice code has them."""
     return np.asarray(buffer).astype(kind, copy=False).reshape(-1)
@@ -59,7 +99,7 @@ def rice_over(own: Any) -> Any:
 
         def decode(self, buf: Any, out: Optional[Any] = None) -> Any:
             """The numbers of a code, as astropy's class gives them: signed, of `bytepix` bytes."""
-            found = codec.rice_decode(buf, self.tilesize, self.bytepix, self.blocksize)
+            found = decoded(codec.rice_decode, buf, self.tilesize, self.bytepix, self.blocksize)
             return found.view(f"i{self.bytepix}")
 
         def encode(self, buf: Any) -> bytes:
@@ -78,7 +118,7 @@ def plio_over(own: Any) -> Any:
 
         def decode(self, buf: Any, out: Optional[Any] = None) -> Any:
             """The numbers of a line list, of which the file has the upper byte of a word first."""
-            return codec.plio_decode(buf, self.tilesize)
+            return decoded(codec.plio_decode, buf, self.tilesize)
 
         def encode(self, buf: Any) -> bytes:
             """The list of the numbers, in the byte order of the machine: astropy turns it."""

@@ -1,5 +1,6 @@
 """libfz in the place of astropy's codecs, and the codecs of numcodecs."""
 import contextlib
+import pickle
 import unittest
 import warnings
 from pathlib import Path
@@ -100,7 +101,10 @@ class Plug(InAFolder):
             Path("hurt.fits").write_bytes(data)
             with plugged(), self.assertRaises(errors.BadCode) as caught:
                 pixels("hurt.fits")
-            self.assertIn(caught.exception.number, kinds)
+            error = caught.exception
+            self.assertIn(error.number, kinds)
+            self.assertEqual({it.__name__ for it in type(error).__mro__} & {"CfitsioException", "ValueError"}, {"CfitsioException", "ValueError"})
+            self.assertEqual(str(pickle.loads(pickle.dumps(error))), str(error))
 
 
 @needs_numpy
