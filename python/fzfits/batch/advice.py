@@ -85,7 +85,7 @@ def of_file(ended: Outcome, verb: str, path: bytes) -> "tuple[str, str]":
         if isinstance(error, Refused):
             return _line_of(error), _remedy_of(error, path)
         if isinstance(error, OverLimit) and error.enough:
-            return "", f"--memory {error.enough} is enough"
+            return error.what(), f"--memory {error.enough} is enough"
     return "", ""
 
 

@@ -15,7 +15,7 @@ READS = ("verify", "compare", "restore")
 def places(asked: argparse.Namespace) -> "tuple[bytes, Optional[bytes], list[bytes]]":
     """The words that are no options: the first folder, the second one if there is one, and names of files."""
     first, rest = asked.dir, [*([asked.packed] if asked.packed is not None else []), *asked.files]
-    if rest and (os.path.isdir(rest[0]) or not files.there(os.path.join(first, names.MANIFEST))):
+    if rest and (os.path.isdir(rest[0]) or not _has_manifest(first)):
         return first, rest[0], rest[1:]
     return first, None, rest
 
@@ -31,7 +31,7 @@ def folders(asked: argparse.Namespace, reads: bool = True) -> "tuple[bytes, byte
     first = os.path.realpath(one)
     if second is not None:
         plain, packed = first, os.path.realpath(second)
-    elif files.there(os.path.join(first, names.MANIFEST)):
+    elif _has_manifest(first):
         packed = first
         plain = source_of(packed)
         if not reads:
@@ -39,8 +39,7 @@ def folders(asked: argparse.Namespace, reads: bool = True) -> "tuple[bytes, byte
             raise Refuse(f"name both folders: {said}fzbatch {asked.verb} {names.shown(plain) if plain else 'DIR'} {names.shown(packed)}")
     else:
         plain, packed = first, first + names.PACKED
-        if not os.path.isdir(plain) and not os.path.isdir(packed):
-            raise Refuse(f"{names.shown(one)}: no such folder")
+        _check_first(one, plain, packed, asked.verb)
     if not plain.startswith(b"/"):
         # as after rebuild: then the plain files are not looked at
         return b"", packed
@@ -48,6 +47,22 @@ def folders(asked: argparse.Namespace, reads: bool = True) -> "tuple[bytes, byte
         if it == other or it.startswith(other.rstrip(b"/") + b"/"):
             raise Refuse("the folders of plain and of packed files have to be apart: one is in the other")
     return plain, packed
+
+
+def _has_manifest(folder: bytes) -> bool:
+    return os.path.isdir(folder) and files.there(os.path.join(folder, names.MANIFEST))
+
+
+def _check_first(named: bytes, plain: bytes, packed: bytes, verb: str) -> None:
+    """Raises `Refuse` if the one word for both folders names none, with what may be meant."""
+    if os.path.isfile(plain):
+        above = os.path.dirname(plain)
+        which = f": fzbatch {verb} {names.shown(above)} {names.shown(os.path.basename(plain))}" if verb in READS and _has_manifest(above) else ""
+        raise Refuse(f"{names.shown(named)} is a file: name the folder first{which}")
+    if not os.path.isdir(plain) and not os.path.isdir(packed):
+        raise Refuse(f"{names.shown(named)}: no such folder")
+    if verb not in ("pack", "share") and not os.path.isdir(packed):
+        raise Refuse(f"{names.shown(named)} is not packed yet, or to another folder than {names.shown(packed)}: name that one too")
 
 
 def source_of(packed: bytes) -> bytes:

@@ -282,9 +282,10 @@ class Tries:
         if ended.status == 3:
             kind, name = advice.kind_of(ended.line)
             raise Stop("refused", f"{kind} {name}", f"fz {verb}: {line or ended.line}", what, kind)
-        said = ended.line or ended.errors.strip() or f"status {ended.status}"
+        said = line or ended.line or ended.errors.strip() or f"status {ended.status}"
         if ended.status == 2:
             raise Stop("failed", WRONG_OPTIONS, f"fz {verb}: {said}", what)
+        head = ended.line or said
         if ended.status == 1:
-            said = wrong_lines(ended)
-        raise Stop("failed", f"fz {verb}: {said.split(':')[0]}", f"fz {verb}: {said}", what)
+            head = said = wrong_lines(ended)
+        raise Stop("failed", f"fz {verb}: {head.split(':')[0]}", f"fz {verb}: {said}", what)

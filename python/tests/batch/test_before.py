@@ -49,11 +49,18 @@ class BeforeTheRun(Archive):
         self.refused("No such file or directory", "pack", self.plain, "--from-list", self.room / "nosuch")
         self.refused("No such file or directory", "pack", self.plain, "--log", self.room / "nosuch" / "log")
         self.refused("was not made by fzbatch", "verify", self.plain, self.victim)
+        self.refused(f"{self.plain} is not packed yet, or to another folder than {self.packed}", "verify", self.plain)
+
+    def test_a_file_in_the_place_of_a_folder(self) -> None:
+        self.refused("a.fits is a file: name the folder first", "pack", self.plain / "a.fits")
+        self.packs()
+        status, said = self.run_it("verify", self.packed / "a.fits.fz")
+        self.assertEqual((status, f"name the folder first: fzbatch verify {self.packed} a.fits.fz" in said), (2, True), said)
 
     def test_memory_for_people(self) -> None:
         self.packs("--memory", "1G")
         status, said = self.run_it("verify", self.packed, "--memory", "64K")
-        self.assertEqual((status, "fz verify: over limit" in said, "is enough" in said), (1, True, True), said)
+        self.assertEqual((status, "fz verify: over limit" in said, "needs more memory" in said, "is enough" in said), (1, True, True, True), said)
 
 
 class Statuses(Archive):
