@@ -13,7 +13,7 @@ from __future__ import annotations
 import importlib
 import sys
 from functools import lru_cache
-from typing import Any, Callable, Dict, Optional
+from typing import Any, Dict, Optional
 
 import numpy as np
 
@@ -78,14 +78,6 @@ def damaged(number: int, kind: str, meaning: str) -> BadCode:
     return error_class()(number, kind, meaning=meaning)
 
 
-def decoded(call: Callable[..., Any], *given: Any) -> Any:
-    """What a call of fzfits.codec decodes."""
-    try:
-        return call(*given)
-    except BadCode as error:
-        raise damaged(error.number, error.kind, error.meaning) from None
-
-
 def numbers_of(buffer: Any, kind: str) -> Any:
     """The pixels that astropy hands over, as numbers of a type: of 8 bits without a sign, as the Rice code has them."""
     return np.asarray(buffer).astype(kind, copy=False).reshape(-1)
@@ -99,8 +91,11 @@ def rice_over(own: Any) -> Any:
 
         def decode(self, buf: Any, out: Optional[Any] = None) -> Any:
             """The numbers of a code, as astropy's class gives them: signed, of `bytepix` bytes."""
-            found = decoded(codec.rice_decode, buf, self.tilesize, self.bytepix, self.blocksize)
-            return found.view(f"i{self.bytepix}")
+            try:
+                found = codec.rice_decode(buf, self.tilesize, self.bytepix, self.blocksize)
+            except BadCode as error:
+                raise damaged(error.number, error.kind, error.meaning) from None
+            return found.view("i1") if self.bytepix == 1 else found
 
         def encode(self, buf: Any) -> bytes:
             """The code of the numbers."""
@@ -118,7 +113,10 @@ def plio_over(own: Any) -> Any:
 
         def decode(self, buf: Any, out: Optional[Any] = None) -> Any:
             """The numbers of a line list, of which the file has the upper byte of a word first."""
-            return decoded(codec.plio_decode, buf, self.tilesize)
+            try:
+                return codec.plio_decode(buf, self.tilesize)
+            except BadCode as error:
+                raise damaged(error.number, error.kind, error.meaning) from None
 
         def encode(self, buf: Any) -> bytes:
             """The list of the numbers, in the byte order of the machine: astropy turns it."""

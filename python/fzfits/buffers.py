@@ -6,8 +6,9 @@ from __future__ import annotations
 
 import ctypes
 import sys
+import threading
 from array import array
-from typing import Any, NamedTuple, Optional
+from typing import Any, Optional, Tuple
 
 from .errors import BadArgument
 
@@ -20,34 +21,57 @@ except ImportError:
 TYPES = {8: ("u1", "B"), 16: ("i2", "h"), 32: ("i4", "i"), 64: ("i8", "q")}
 BITS = {"B": 8, "h": 16, "i": 32, "l": 8 * array("l").itemsize, "q": 64}
 LITTLE = sys.byteorder == "little"
+DTYPES = {} if np is None else {bits: np.dtype(name) for bits, (name, _) in TYPES.items()}
+OCTET = DTYPES.get(8)
+# What begins at an address.
+ANYWHERE = ctypes.c_char * 0
 
 
-class Place(NamedTuple):
-    """Elements in memory: where they are, how many, and what keeps them there."""
-
-    address: Any
-    count: int
-    keeper: Any
+# Where elements are, how many, and what keeps them there. (A tuple, and no class: a tile of 4,096 pixels takes 20 microseconds.)
+Place = Tuple[Any, int, Any]
 
 
 def place_of(flat: Any) -> Place:
-    """The place of a flat numpy array."""
-    return Place(flat.ctypes.data, flat.size, flat)
+    """The place of a flat numpy array. (An address by `from_buffer` takes a third of the time of one by `flat.ctypes`.)"""
+    try:
+        return ANYWHERE.from_buffer(flat), flat.size, flat
+    except (TypeError, ValueError, BufferError):
+        return flat.ctypes.data, flat.size, flat  # it is read-only
 
 
 def writable_place(thing: Any, size: int, count: int) -> Place:
     """The place of `count` elements in an object of `array` or a bytearray that has `size` bytes."""
-    return Place((ctypes.c_char * max(size, 1)).from_buffer(thing), count, thing) if size else Place(ctypes.create_string_buffer(8), 0, thing)
+    return ((ctypes.c_char * size).from_buffer(thing) if size else ctypes.create_string_buffer(8)), count, thing
 
 
 def bytes_in(data: Any) -> Place:
     """The bytes of any object that has some."""
     if np is None:
         data = bytes(data)
-        return Place(data, len(data), data)
+        return data, len(data), data
     if isinstance(data, np.ndarray):
-        return place_of(np.ascontiguousarray(data).reshape(-1).view(np.uint8))
+        is_flat = data.dtype is OCTET and data.ndim == 1 and data.flags.c_contiguous
+        return place_of(data if is_flat else np.ascontiguousarray(data).reshape(-1).view(np.uint8))
     return place_of(np.frombuffer(data, np.uint8) if len(data) else np.zeros(0, np.uint8))
+
+
+class Spare(threading.local):
+    """Room for 32-bit numbers that are converted at once: each thread keeps one, with its address, while no call has it."""
+
+    kept: Any = None
+
+    def take(self, count: int) -> Place:
+        """Room for so many numbers or more, which nobody else has until it is given back."""
+        kept, self.kept = self.kept, None
+        if kept is None or kept[1] < count or count == 0:
+            flat = np.empty(count, np.intc)
+            kept = flat.ctypes.data, count, flat
+        return kept
+
+    def give(self, place: Place) -> None:
+        """Gives it back. What is over 16 MB is not kept."""
+        if place[1] <= 1 << 22:
+            self.kept = place
 
 
 def bits_of(numbers: Any) -> int:
@@ -95,57 +119,77 @@ def listed(numbers: Any, bits: int) -> Place:
 
 
 class Numbers:
-    """Room for the pixels that a call writes, and what the caller gets of them: `out` filled, or a new array of the pixels' type."""
+    """Room for the pixels that a call writes, and what the caller gets of them: `out` filled, or a new array of the pixels' type.
+
+    `address` and `cells` are what libfz gets: where it writes, and how many 32-bit numbers.
+    """
 
     def __init__(self, count: Optional[int], bits: int, out: Any, code: Any) -> None:
         self.bits, self.out = bits, out
         if out is not None:
-            self.view = np.asarray(memoryview(out) if not isinstance(out, np.ndarray) else out) if np is not None else memoryview(out)
-            size = self.view.size if np is not None else self.view.nbytes // self.view.itemsize
-            self.check_out(size, count)
-            count = size
+            count = self.check_out(count)
         if count is None or count < 0:
             raise BadArgument("count, the number of pixels, is wanted, or out", None)
         self.cells = 2 * count if bits == 64 else count
         self.place = self.room(code)
+        self.address, _, self.flat = self.place
 
-    def check_out(self, size: int, count: Optional[int]) -> None:
-        """Raises `BadArgument` if `out` cannot hold the pixels."""
+    def check_out(self, count: Optional[int]) -> int:
+        """How many pixels `out` holds. Raises `BadArgument` if it cannot hold those that are wanted."""
+        if np is not None:
+            self.view = np.asarray(self.out if isinstance(self.out, np.ndarray) else memoryview(self.out))
+            size, fits, writable = self.view.size, np.can_cast(DTYPES[self.bits], self.view.dtype), self.view.flags.writeable
+        else:
+            self.view = memoryview(self.out)
+            size, fits, writable = self.view.nbytes // self.view.itemsize, BITS.get(self.view.format, 0) >= self.bits, not self.view.readonly
         if count is not None and size != count:
             raise BadArgument(f"out has {size} numbers, and {count} are wanted", None)
-        if np is not None:
-            fits, writable = np.can_cast(TYPES[self.bits][0], self.view.dtype), self.view.flags.writeable
-        else:
-            fits, writable = BITS.get(self.view.format, 0) >= self.bits, not self.view.readonly
         if not fits or not writable:
             raise BadArgument(f"out is read-only, or its type does not hold {self.bits}-bit pixels", None)
+        return size
 
     def room(self, code: Any) -> Place:
         """The place that libfz writes to: `out` itself if it has the form for it and shares no byte with the code."""
         if np is None:
-            flat = array("i", bytes(4 * self.cells))
-            return writable_place(flat, 4 * self.cells, self.cells)
+            return writable_place(array("i", bytes(4 * self.cells)), 4 * self.cells, self.cells)
         if self.out is not None and self.bits < 64 and self.view.dtype == np.intc and self.view.flags.carray and not np.may_share_memory(self.view, code):
-            return Place(self.view.ctypes.data, self.cells, self.view)
-        return place_of(np.empty(self.cells, np.intc))
+            return self.view.ctypes.data, self.cells, self.view
+        return place_of(np.empty(self.cells, np.intc)) if self.bits == 32 else SPARE.take(self.cells)
 
     def result(self) -> Any:
         """The pixels."""
-        flat = self.place.keeper
+        flat = self.flat
+        if np is None:
+            return self.result_of_array()
         if self.out is not None and flat is self.view:
             return self.out
-        if np is None:
-            pixels = joined(flat) if self.bits == 64 else flat
-            if self.out is None:
-                return array(TYPES[self.bits][1], pixels)
-            self.view[:] = memoryview(array(self.view.format, pixels))
-            return self.out
-        if self.bits == 64:
-            flat = np.ascontiguousarray(flat.reshape(-1, 2)[:, ::-1] if LITTLE else flat).view(np.int64).reshape(-1)
+        if self.bits < 32:
+            flat = flat[: self.cells]
+        elif self.bits == 64:
+            halves = flat[: self.cells].reshape(-1, 2)
+            flat = np.ascontiguousarray(halves[:, ::-1] if LITTLE else halves).view(np.int64).reshape(-1)
+        if self.out is not None:
+            self.view[...] = flat.reshape(self.view.shape)
+        elif self.bits < 32:
+            flat = flat.astype(DTYPES[self.bits])
+        if self.bits != 32:
+            SPARE.give(self.place)
+        return flat if self.out is None else self.out
+
+    def result_of_array(self) -> Any:
+        """The same without numpy."""
+        pixels = joined(self.flat) if self.bits == 64 else self.flat
         if self.out is None:
-            return flat if self.bits == 32 else flat.astype(TYPES[self.bits][0])
-        self.view[...] = flat.reshape(self.view.shape)
+            return array(TYPES[self.bits][1], pixels)
+        self.view[:] = memoryview(array(self.view.format, pixels))
         return self.out
+
+
+def narrow(place: Place, count: int, bits: int) -> Any:
+    """A new array of pixels of 8 or 16 bits from the place that `SPARE.take` gave, which is given back."""
+    found = place[2][:count].astype(DTYPES[bits])
+    SPARE.give(place)
+    return found
 
 
 def joined(halves: Any) -> Any:
@@ -162,8 +206,11 @@ class Room:
             raise BadArgument("out is read-only", None)
         self.bytes = bytearray(size) if self.out is None else self.out
         length = len(self.bytes)
-        self.place = writable_place(self.bytes, length, length)
+        self.address, self.length, _ = writable_place(self.bytes, length, length)
 
     def first(self, count: int) -> Any:
         """The bytes that were written: new ones, or the front of `out`."""
         return bytes(memoryview(self.bytes)[:count]) if self.out is None else self.out[:count]
+
+
+SPARE = Spare()

@@ -21,7 +21,7 @@ from __future__ import annotations
 import ctypes
 from typing import Any, NamedTuple, Optional
 
-from .buffers import BITS, Numbers, Room, bits_of, bytes_in, numbers_in
+from .buffers import BITS, SPARE, Numbers, Room, bits_of, bytes_in, narrow, np, numbers_in
 from .errors import BadArgument
 from .library import Coded, check, load, version_of
 
@@ -30,6 +30,8 @@ __all__ = ["CODECS", "COLUMNS", "Record", "checksum", "decode_tile", "encode_til
 # ZCMPTYPE by its number in fz.h.
 CODECS = {"NOCOMPRESS": 0, "RICE_1": 1, "RICE_ONE": 1, "PLIO_1": 2}
 COLUMNS = {"COMPRESSED_DATA": 0, "UNCOMPRESSED_DATA": 1}
+# The bits of the numbers of a Rice code, by BYTEPIX.
+WIDTHS = {1: 8, 2: 16, 4: 32}
 
 
 class Record(NamedTuple):
@@ -51,9 +53,10 @@ def room_for(pixels: int) -> int:
 
 def width_of(bytepix: int) -> int:
     """The bits of a Rice code's numbers."""
-    if bytepix not in (1, 2, 4):
+    width = WIDTHS.get(bytepix)
+    if width is None:
         raise BadArgument(f"bytepix is {bytepix}, and a Rice code has numbers of 1, 2 or 4 bytes", None)
-    return 8 * bytepix
+    return width
 
 
 def checked(number: int, name: str) -> int:
@@ -68,33 +71,38 @@ def rice_decode(code: Any, count: Optional[int], bytepix: int, block: int = 32, 
 
     FITS 4.0, section 10.4.1. Numbers of one byte are unsigned. `BadCode`: CodeShort, CodeValue.
     """
-    width, given, used = width_of(bytepix), bytes_in(code), ctypes.c_uint64()
-    numbers = Numbers(count, width, out, given.keeper)
-    check(load().fz_rice_decode(width, checked(block, "block"), given.address, given.count, numbers.place.address, numbers.cells, used))
+    width, (given, length, keeper), used = width_of(bytepix), bytes_in(code), ctypes.c_uint64()
+    if out is None and count and count > 0 and width < 32 and np is not None:
+        # the usual call, in as few steps as there are: for a short tile they take as long as the code
+        place = SPARE.take(count)
+        check(load().fz_rice_decode(width, checked(block, "block"), given, length, place[0], count, used))
+        return narrow(place, count, width)
+    numbers = Numbers(count, width, out, keeper)
+    check(load().fz_rice_decode(width, checked(block, "block"), given, length, numbers.address, numbers.cells, used))
     return numbers.result()
 
 
 def rice_encode(numbers: Any, bytepix: int, block: int = 32, *, out: Any = None) -> Any:
     """The Rice code of one number or more, of `bytepix` bytes each, in blocks of `block` (FITS 4.0, section 10.4.1)."""
-    width, given, used = width_of(bytepix), numbers_in(numbers, 32), ctypes.c_uint64()
-    room = Room(room_for(given.count), out)
-    check(load().fz_rice_encode(width, checked(block, "block"), given.address, given.count, room.place.address, room.place.count, used))
+    width, (given, count, _keeper), used = width_of(bytepix), numbers_in(numbers, 32), ctypes.c_uint64()
+    room = Room(room_for(count), out)
+    check(load().fz_rice_encode(width, checked(block, "block"), given, count, room.address, room.length, used))
     return room.first(used.value)
 
 
 def plio_decode(code: Any, count: Optional[int], *, out: Any = None) -> Any:
     """Reads the `count` numbers of a line from its PLIO line list (FITS 4.0, section 10.4.4), as int32. `BadCode`: LineList."""
-    given = bytes_in(code)
-    numbers = Numbers(count, 32, out, given.keeper)
-    check(load().fz_plio_decode(given.address, given.count, numbers.place.address, numbers.cells))
+    given, length, keeper = bytes_in(code)
+    numbers = Numbers(count, 32, out, keeper)
+    check(load().fz_plio_decode(given, length, numbers.address, numbers.cells))
     return numbers.result()
 
 
 def plio_encode(numbers: Any, *, out: Any = None) -> Any:
     """The PLIO line list of a line of numbers from 0 to 16,777,215, with its words as in the heap, the upper byte first (FITS 4.0, section 10.4.4)."""
-    given, used = numbers_in(numbers, 32), ctypes.c_uint64()
-    room = Room(room_for(given.count), out)
-    check(load().fz_plio_encode(given.address, given.count, room.place.address, room.place.count, used))
+    (given, count, _keeper), used = numbers_in(numbers, 32), ctypes.c_uint64()
+    room = Room(room_for(count), out)
+    check(load().fz_plio_encode(given, count, room.address, room.length, used))
     return room.first(used.value)
 
 
@@ -109,11 +117,11 @@ def decode_tile(
     """
     if bitpix not in BITS.values():
         raise BadArgument(f"bitpix is {bitpix}, and libfz has pixels of 8, 16, 32 and 64 bits", None)
-    given = bytes_in(code)
-    numbers = Numbers(count, bitpix, out, given.keeper)
+    given, length, keeper = bytes_in(code)
+    numbers = Numbers(count, bitpix, out, keeper)
     bytepix = bitpix // 8 if bytepix is None else checked(bytepix, "bytepix")
     words = named(CODECS, codec, "codec"), checked(block, "block"), bytepix, bitpix, named(COLUMNS, column, "column")
-    check(load().fz_decode_tile(*words, given.address, given.count, given.count, numbers.place.address, numbers.cells))
+    check(load().fz_decode_tile(*words, given, length, length, numbers.address, numbers.cells))
     return numbers.result()
 
 
@@ -125,10 +133,10 @@ def encode_tile(numbers: Any, *, codec: str = "RICE_1", bitpix: Optional[int] = 
     bits = bits_of(numbers) if bitpix is None else bitpix
     if bits not in BITS.values():
         raise BadArgument(f"bitpix is {bits}, and libfz has pixels of 8, 16, 32 and 64 bits", None)
-    given, coded = numbers_in(numbers, bits), Coded()
-    room = Room(room_for(given.count // 2 if bits == 64 else given.count), out)
+    (given, count, _keeper), coded = numbers_in(numbers, bits), Coded()
+    room = Room(room_for(count // 2 if bits == 64 else count), out)
     words = named(CODECS, codec, "codec"), checked(block, "block"), bits // 8, bits
-    check(load().fz_encode_tile(*words, given.address, given.count, room.place.address, room.place.count, coded))
+    check(load().fz_encode_tile(*words, given, count, room.address, room.length, coded))
     return Record("UNCOMPRESSED_DATA" if coded.column else "COMPRESSED_DATA", room.first(coded.len))
 
 
@@ -144,6 +152,6 @@ def checksum(data: Any, before: int = 0) -> int:
 
     The last word is filled up with zeros; so pieces are whole words but for the last one.
     """
-    given, total = bytes_in(data), ctypes.c_uint32()
-    check(load().fz_sum(checked(before, "before"), given.address, given.count, total))
+    (given, length, _keeper), total = bytes_in(data), ctypes.c_uint32()
+    check(load().fz_sum(checked(before, "before"), given, length, total))
     return total.value
