@@ -15,6 +15,8 @@ from .store import WIDE, look_of
 
 # From so many files on, several processes look.
 MANY = 200_000
+# A process looks at so many folders before it says what it saw.
+AT_ONCE = 16
 Entry = Tuple[bytes, int, int]
 
 
@@ -88,6 +90,11 @@ def see(root: bytes, path: bytes) -> Seen:
     return seen
 
 
+def see_each(root: bytes, paths: "list[bytes]") -> "list[Seen]":
+    """Some folders, one after another."""
+    return [see(root, it) for it in paths]
+
+
 def walk(root: bytes, known: int, jobs: int) -> Iterator[Seen]:
     """A folder and all below it. If so many files are known, as many processes look as there are jobs."""
     if known < MANY or jobs < 2:
@@ -98,10 +105,12 @@ def walk(root: bytes, known: int, jobs: int) -> Iterator[Seen]:
             yield found
         return
     with futures.ProcessPoolExecutor(jobs, multiprocessing.get_context("fork")) as pool:
-        running = {pool.submit(see, root, b"")}
-        while running:
+        waiting, running = [b""], set()  # type: ignore[var-annotated]
+        while waiting or running:
+            while waiting and len(running) < 3 * jobs:
+                some = [waiting.pop() for _ in range(min(AT_ONCE, 1 + len(waiting) // (3 * jobs)))]
+                running.add(pool.submit(see_each, root, some))
             ended, running = futures.wait(running, return_when=futures.FIRST_COMPLETED)
-            for it in ended:
-                found = it.result()
-                running |= {pool.submit(see, root, below) for below in found.below}
+            for found in (found for it in ended for found in it.result()):
+                waiting += found.below
                 yield found
