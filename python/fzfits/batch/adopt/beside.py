@@ -28,6 +28,7 @@ from .count import Count
 from .in_place import Did, InPlace, Place
 from .messages import Asked
 from .rows import Finding, Row
+from .scratch import scratch
 from .store import Store
 from .walk import entries, walk
 
@@ -154,7 +155,7 @@ class Beside:
         """What was done, together with what was done in about the same second."""
         batch: "List[InPlace]" = []
         since = time.monotonic()
-        with rooms.rooms(asked.folder, asked.token, asked.jobs) as room, futures.ThreadPoolExecutor(asked.jobs) as pool:
+        with scratch(asked.folder, asked.token, asked.jobs) as room, futures.ThreadPoolExecutor(asked.jobs) as pool:
             waiting, running = self._places(), set()  # type: ignore[var-annotated]
             while True:
                 while len(running) < 2 * asked.jobs and not self.count.stopped:

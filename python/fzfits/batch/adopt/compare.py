@@ -18,6 +18,7 @@ from .count import Count
 from .messages import Asked
 from .pairs import Compared, Pair, plain_name
 from .rows import Finding, Row
+from .scratch import scratch
 
 CHANGED = Finding("changed", "it is another file than the one that was adopted", "fzbatch adopt names what is wrong with it")
 NO_PLAIN = Finding("no plain file", "the plain file is not there", advice.WITHOUT_PLAIN.replace("fzbatch restore makes it again", "fz unpack makes one"))
@@ -83,7 +84,7 @@ class Compare:
         self.count.stopped = f"by {signal.Signals(number).name}"
 
     def _results(self, asked: Asked, rows: Iterator[Row]) -> Iterator[One]:
-        with rooms.rooms(asked.folder, asked.token, asked.jobs) as room, futures.ThreadPoolExecutor(asked.jobs) as pool:
+        with scratch(asked.folder, asked.token, asked.jobs) as room, futures.ThreadPoolExecutor(asked.jobs) as pool:
             running: "set[futures.Future[One]]" = set()
             while True:
                 while len(running) < 2 * asked.jobs and not self.count.stopped:

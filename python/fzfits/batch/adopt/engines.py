@@ -14,9 +14,10 @@ from .. import engines as others
 from .. import machine
 from ..engines import PACKAGE, RESULT, NoEngine
 from ..messages import BadMessage
-from ..rooms import Rooms, rooms
+from ..rooms import Rooms
 from .examine import examine
 from .messages import Asked, Found, One
+from .scratch import scratch
 
 Stopped = Callable[[], bool]
 
@@ -24,7 +25,7 @@ Stopped = Callable[[], bool]
 def local(asked: Asked, some: Iterator["List[One]"], jobs: int, stopped: Stopped) -> Iterator[Found]:
     """As many files at once as there are jobs. Each waits for its own fz, or for a hash, so threads are enough."""
     waiting = (it for part in some for it in part)
-    with rooms(asked.folder, asked.token, jobs) as room, futures.ThreadPoolExecutor(jobs) as pool:
+    with scratch(asked.folder, asked.token, jobs) as room, futures.ThreadPoolExecutor(jobs) as pool:
         running: "set[futures.Future[Found]]" = set()
         while True:
             while len(running) < 2 * jobs and not stopped():
@@ -111,7 +112,7 @@ def of_words(asked: str, one: str) -> str:
 
 
 def _alone(asked: Asked, one: One) -> Found:
-    with rooms(asked.folder, asked.token) as room:
+    with scratch(asked.folder, asked.token) as room:
         return examine(asked, one, room)
 
 

@@ -1,6 +1,7 @@
 """One file of an adopted folder: read once for its SHA-256, and looked at in every way that there is for it. Nothing is changed."""
 from __future__ import annotations
 
+import math
 import os
 import time
 from itertools import islice
@@ -12,7 +13,7 @@ from ...program import Outcome
 from ...results import REFUSED, verdict_of
 from .. import advice, expansion, files, inside, names
 from ..rooms import Rooms
-from . import alone, cards, heaps
+from . import alone, boxes, cards, heaps, summing
 from .calling import Fz, Undone
 from .messages import Asked, Found, One
 from .rows import Finding, Hdu, packed_text
@@ -67,6 +68,11 @@ def _read(asked: Asked, one: One, room: Rooms, number: int, found: Found) -> Non
     found.outcome, found.sort, found.hdus, found.found = "read", it.sort, packed_text(it.hdus), packed_text(it.found)
 
 
+def _shift(heads: "List[Header]") -> int:
+    """How many HDUs before a packed primary image are not in the file that comes back."""
+    return 1 if len(heads) > 1 and heads[1].is_packed and heads[1].card("ZSIMPLE") is not None else 0
+
+
 class File:
     """An open file: `hdus` is what is in it, and `found` what is wrong with it."""
 
@@ -102,19 +108,20 @@ class File:
         path = f"/proc/self/fd/{self.number}"
         heads = list(islice(headers(path), MOST))
         self.sort = "packed" if any(it.is_packed or it.value("ZTABLE") is True for it in heads) else "plain"
-        ended = self.fz.run("verify", self.number, self._believed())
-        if ended.status == 3:
-            self._each(heads, ended)
-        else:
-            self._whole(heads, ended)
+        if not (summing.is_fast() and any(map(has_own_sums, heads)) and not self._grows()) or not self._unpacked(heads):
+            self._verified(heads)
         for it in heads:
             self.found += cards.faults_of(self.number, it, self.size)
 
     def _believed(self) -> int:
         return expansion.believed(expansion.unpacked(self.number, self.size), self.size)
 
-    def _whole(self, heads: "List[Header]", ended: Outcome) -> None:
-        """fz takes the file as it is."""
+    def _verified(self, heads: "List[Header]") -> None:
+        """By `fz verify`, which decodes each tile, and by what comes back, if an image had checksums of its own."""
+        ended = self.fz.run("verify", self.number, self._believed())
+        if ended.status == 3:
+            self._each(heads, ended)
+            return
         looks = [alone.Alone(self.fz, self.number, self.size, it) for it in heads]
         verdicts = {it.hdu: it for it in map(verdict_of, ended.lines) if it is not None}
         for one in looks:
@@ -122,14 +129,31 @@ class File:
             one.hdu.datasum, one.hdu.checksum, one.hdu.tiles = it.datasum, it.checksum, it.tiles
         own = {it.header.number: it.hdu for it in looks if has_own_sums(it.header)}
         if own and not self._would_grow():
-            shift = 1 if len(heads) > 1 and heads[1].is_packed and heads[1].card("ZSIMPLE") is not None else 0
-            alone.restored(self.fz, self.number, own, self._believed(), shift)
+            alone.restored(self.fz, self.number, own, self._believed(), _shift(heads))
+        self._take_all(looks)
+
+    def _unpacked(self, heads: "List[Header]") -> bool:
+        """By `fz unpack`, which decodes each tile too: so tiles are decoded once. False if fz rejects the file."""
+        looks = [alone.Alone(self.fz, self.number, self.size, it) for it in heads]
+        own = {it.header.number: it.hdu for it in looks if has_own_sums(it.header)}
+        if alone.restored(self.fz, self.number, own, self._believed(), _shift(heads)) is not None:
+            return False
+        for one in looks:
+            one.hdu.datasum, one.hdu.checksum = summing.verdicts(self.number, one.header)
+            one.hdu.tiles = math.prod(boxes.grid_of(one.header.axes, one.header.tile)) if one.header.is_packed else None
+        self._take_all(looks)
+        return True
+
+    def _take_all(self, looks: "List[alone.Alone]") -> None:
         for one in looks:
             alone.wrong_sums(one)
             self._take(one)
 
+    def _grows(self) -> str:
+        return expansion.warning(expansion.unpacked(self.number, self.size), self.size)
+
     def _would_grow(self) -> bool:
-        said = expansion.warning(expansion.unpacked(self.number, self.size), self.size)
+        said = self._grows()
         if said:
             self.add("file would grow", f"{said}: the checksums of its images were not compared", advice.OVER_TIME)
         return bool(said)

@@ -20,6 +20,11 @@ def _numpy() -> Any:
         return None
 
 
+def is_fast() -> bool:
+    """Whether sums are made here about as fast as fz makes them."""
+    return _numpy() is not None
+
+
 def sum_of(number: int, start: int, end: int) -> int:
     """The sum of the bytes of a part of an open file."""
     total, numpy = 0, _numpy()
