@@ -2,18 +2,22 @@
 
 A wheel has the program fz, its manuals and its list of parts if the folder `along` is beside this file, with what goes into bin/
 and share/ of the Python that installs the wheel (`tools/package wheel` makes it). It is then a wheel for one platform, whose tag
-is FZFITS_PLATFORM. And a source archive has files where the repository has links to files of its own.
+is FZFITS_PLATFORM. And a page of the package has its one home above this folder: a build takes it from there.
 """
 import os
 import shutil
 from pathlib import Path
 
 from setuptools import Distribution, setup
+from setuptools.command.build_py import build_py
 from setuptools.command.sdist import sdist
 from wheel.bdist_wheel import bdist_wheel
 
 HERE = Path(__file__).resolve().parent
 ALONG = HERE / "along"
+# What each kind of rejection means. A source archive has it in its place, and the repository among its documents.
+REFUSALS = Path("fzfits", "REFUSALS.md")
+PAGE = HERE / REFUSALS if (HERE / REFUSALS).is_file() else HERE.parent / "docs" / "REFUSALS.md"
 
 
 def along():
@@ -30,6 +34,14 @@ class Package(Distribution):
         return ALONG.is_dir()
 
 
+class Modules(build_py):
+    """With the page."""
+
+    def run(self):
+        super().run()
+        shutil.copyfile(PAGE, Path(self.build_lib) / REFUSALS)
+
+
 class Wheel(bdist_wheel):
     """For every Python 3."""
 
@@ -38,13 +50,11 @@ class Wheel(bdist_wheel):
 
 
 class Sources(sdist):
-    """With a copy of each file that is a link in the repository."""
+    """With the page."""
 
     def make_release_tree(self, base_dir, files):
         super().make_release_tree(base_dir, files)
-        for link in (it for it in Path(base_dir).rglob("*") if it.is_symlink()):
-            link.unlink()
-            shutil.copy(HERE / link.relative_to(base_dir), link)
+        shutil.copyfile(PAGE, Path(base_dir) / REFUSALS)
 
 
-setup(distclass=Package, data_files=along(), cmdclass={"bdist_wheel": Wheel, "sdist": Sources})
+setup(distclass=Package, data_files=along(), cmdclass={"build_py": Modules, "bdist_wheel": Wheel, "sdist": Sources})
