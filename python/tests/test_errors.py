@@ -133,7 +133,7 @@ class Kinds(InAFolder):
         self.assertEqual([it.hdu for it in caught.exception.verdicts], [0])
         self.assertEqual(caught.exception.place, ("row", 5))
         self.assertIn("the tile of the pixels [5:5,3:3]", caught.exception.advice)
-        self.assertIn("fetch the file again", caught.exception.meaning)
+        self.assertIn("Fetch the file again", caught.exception.meaning)
 
     def test_a_missing_card_of_a_packed_header(self):
         raw = (PACKED / "small.rice.fits").read_bytes()
