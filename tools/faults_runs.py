@@ -22,6 +22,8 @@ IN_MEMORY = "/dev/shm" if os.access("/dev/shm", os.W_OK) else None
 CALLS = ("open", "read", "pread", "write", "pwrite", "fsync", "statx", "dup", "malloc", "thread")
 LINES = {4: b"read fault\n", 5: b"write fault\n", 7: b"no memory\n"}
 STATUS_LINE = re.compile(rb"(usage: [^\n]*|refused: \d+ \w+ hdu \d+ (byte|card|row) \d+|over limit: live \d+ asked \d+ limit \d+)\n")
+# What is said to people on standard error: some lines without control characters, or a part of them if a write fails.
+HINT = re.compile(rb"(?:fz: [^\x00-\x1f\x7f]*\n){0,3}")
 # Words by which a program says whether it has a command: outside its grammar it ends with 2.
 ASKED = {
     "pack": ["pack", "in", "out"],
@@ -135,6 +137,14 @@ def whole_lines(text, of):
 def check(holds, what):
     if not holds:
         raise Broken(what)
+
+
+def check_errors(ended, part=False):
+    """What was said on standard error: a hint after the statuses 2 to 6, of which a part may be missing, and nothing after others."""
+    said = ended.errors if ended.status in range(2, 7) else b""
+    whole = said + b"\n" if part and said and not said.endswith(b"\n") else said
+    good = said == ended.errors and (HINT.fullmatch(whole) or part and b"fz: ".startswith(said))
+    check(good, f"standard error: {ended.errors[-500:].decode('latin-1')}")
 
 
 def check_left(scenario, ended, may_be_whole):

@@ -27,7 +27,7 @@ class Outcome:
 
     `status` is the exit status, 0 to 7 (see `man fz`); if the program was killed it is minus the number of the signal.
     `lines` are the lines of standard output without their line feeds. The last one is the line of the status if `status` is 2
-    or above. `errors` is what came on standard error, which is nothing unless the system could not start the program.
+    or above. `errors` is what came on standard error: after the statuses 2 to 6 a line or two for people, of the file and the cause.
     """
 
     status: int

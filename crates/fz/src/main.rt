@@ -5,10 +5,14 @@ ghost use Rattle.std.specs.Prelude.{◌≡◌, ◌^◌};
 ghost use Rattle.fz_app.specs.Lines.{status_line};
 ghost use Rattle.fz_app.specs.declared.status.Status.TheVariants.{NoMemory, WriteFault};
 
+mod noted_store;
 mod settled_sink;
+mod telling;
 
 use fz_app::{Status, begins_patch, run, run_patch};
-use fz_base::{FileSource, FileStore, FreeGate, Meter, StdText};
+use fz_base::{FileSource, FileStore, FreeGate, Meter, StdText, Text};
+use fz_hints::Failing;
+use noted_store::NotedStore;
 use settled_sink::SettledSink;
 use std::alloc::AllocError;
 use std::fs::File;
@@ -18,12 +22,12 @@ use std::process::ExitCode;
 use std::rt::Files;
 use std::thread::Threads;
 use std::{env, io};
+use telling::tell;
 
 fn main(rt: HostRuntime) -> ExitCode {
     let answer = match keep_standard(&rt) {
         Ok(_kept) => match words_of(&rt) {
-            Ok(words) if begins_patch(&words) => patch_with(&rt, &words),
-            Ok(words) => run_with(&rt, &words),
+            Ok(words) => answer_to(&rt, &words, &mut StdText::new(rt.stderr())),
             Err(error) => Err(error),
         },
         Err(error) => without_standard(&rt, &error),
@@ -33,6 +37,27 @@ fn main(rt: HostRuntime) -> ExitCode {
         Err(AllocError) => without_memory(&rt),
     };
     ExitCode::from(status.number() as u8)
+}
+
+// How a run ended, and the first call that failed of the file that it writes.
+#[derive(Clone, Copy)]
+struct Ending {
+    status: Status,
+    failing: Failing,
+}
+
+// Does what the words ask for, and then prints to this text why it ended so, which changes nothing of how it ended.
+fn answer_to<R, T: Text>(rt: &R, words: &[String], errors: &mut T) -> Result<Status, AllocError>
+where
+    R: Files<File = File> + Print + AllocGlobal + Threads + Sync + Clone + Drop,
+{
+    let ending = if begins_patch(words) {
+        patch_with(rt, words)?
+    } else {
+        run_with(rt, words)?
+    };
+    tell(rt, words, &ending.status, ending.failing, errors);
+    Ok(ending.status)
 }
 
 /// The most bytes of buffers.
@@ -72,7 +97,7 @@ fn without_standard(rt: &HostRuntime, error: &io::Error) -> Result<Status, Alloc
 }
 
 // Runs the program over real files and standard output.
-fn run_with<R>(rt: &R, words: &[String]) -> Result<Status, AllocError>
+fn run_with<R>(rt: &R, words: &[String]) -> Result<Ending, AllocError>
 where
     R: Files<File = File> + Print + AllocGlobal + Threads + Sync + Clone + Drop,
 {
@@ -80,7 +105,7 @@ where
     let mut sink = SettledSink::new(rt.clone()?);
     let mut text = StdText::new(rt.clone()?);
     let mut meter = Meter::new(rt.alloc(), limit());
-    Ok(run(
+    let status = run(
         rt,
         rt.alloc(),
         words,
@@ -89,19 +114,23 @@ where
         &mut text,
         &FreeGate,
         &mut meter,
-    ))
+    );
+    Ok(Ending {
+        status,
+        failing: sink.failing(),
+    })
 }
 
 // Patches a real file, which it also locks.
-fn patch_with<R>(rt: &R, words: &[String]) -> Result<Status, AllocError>
+fn patch_with<R>(rt: &R, words: &[String]) -> Result<Ending, AllocError>
 where
     R: Files<File = File> + Print + AllocGlobal + Threads + Sync + Clone + Drop,
 {
     let mut patch = FileSource::new(rt.clone()?);
-    let mut store = FileStore::new(rt.clone()?);
+    let mut store = NotedStore::new(FileStore::new(rt.clone()?));
     let mut text = StdText::new(rt.clone()?);
     let mut meter = Meter::new(rt.alloc(), limit());
-    Ok(run_patch(
+    let status = run_patch(
         rt,
         rt.alloc(),
         words,
@@ -109,7 +138,11 @@ where
         &mut store,
         &mut text,
         &mut meter,
-    ))
+    );
+    Ok(Ending {
+        status,
+        failing: store.failing(),
+    })
 }
 
 // The words after the program's name. Words that are not text are none that the program knows, so no
@@ -118,7 +151,10 @@ fn words_of(rt: &HostRuntime) -> Result<Vec<String>, AllocError> {
     match env::args(rt) {
         Ok(args) => args.skip(1).collect(rt.alloc()),
         Err(error) if error.kind() == ErrorKind::OutOfMemory => Err(AllocError),
-        Err(_) => Ok(Vec::new(rt.alloc())),
+        Err(_) => {
+            let _ = rt.eprint("fz: a word of the command line is not UTF-8\n");
+            Ok(Vec::new(rt.alloc()))
+        }
     }
 }
 
