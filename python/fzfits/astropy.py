@@ -18,16 +18,17 @@ from typing import Any, Dict, Optional
 import numpy as np
 
 from . import codec
-from .errors import BadCode, FzError
+from .errors import BadArgument, BadCode, FzError
 from .library import load
 
 # Where astropy has the table of its codecs: from 6.1 on, and before.
 MODULES = ("astropy.io.fits.hdu.compressed._tiled_compression", "astropy.io.fits._tiled_compression.tiled_compression")
 TABLE = "ALGORITHMS"
-# What astropy raises if a tile is damaged, in a module beside that one, and how its text begins.
+# What astropy raises if a tile is damaged, in a module beside that one, and how its texts begin.
 ERROR = "_compression", "CfitsioException"
 TEXTS = {21: "decompression error: hit end of compressed byte stream"}
 TEXT = "decompression error"
+RANGE = "data out of range for PLIO compression"
 NAMES = ("RICE_1", "RICE_ONE", "PLIO_1")
 
 # The codecs that were replaced, by their names, while libfz is in their place.
@@ -120,7 +121,10 @@ def plio_over(own: Any) -> Any:
 
         def encode(self, buf: Any) -> bytes:
             """The list of the numbers, in the byte order of the machine: astropy turns it."""
-            code = codec.plio_encode(numbers_of(buf, "i4"))
+            try:
+                code = codec.plio_encode(numbers_of(buf, "i4"))
+            except BadArgument as error:
+                raise BadArgument(f"{RANGE}: {error.reason}", error.answer) from None
             return np.frombuffer(code, ">i2").astype("i2").tobytes()
 
     return PLIO1

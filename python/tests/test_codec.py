@@ -144,7 +144,7 @@ class Faults(unittest.TestCase):
         code, wrong = codec.rice_encode(list(range(5000)), 4), []
 
         def work():
-            for _ in range(50):
+            for _ in range(10):
                 if list(codec.rice_decode(code, 5000, 4)) != list(range(5000)):
                     wrong.append(1)
 

@@ -90,6 +90,11 @@ class Plug(InAFolder):
             hdu.writeto(name, overwrite=True)
 
     @needs_table
+    def test_numbers_that_plio_does_not_have(self):
+        with plugged(), self.assertRaisesRegex(ValueError, "data out of range for PLIO compression"):
+            plug.table()["PLIO_1"](tilesize=2).encode(np.array([3, -1], "i4"))
+
+    @needs_table
     def test_a_damaged_tile_raises(self):
         image = np.tile(np.arange(64, dtype="i2"), (8, 1))
         for codec, byte, kinds in (("RICE_1", b"\xff", (21, 22)), ("PLIO_1", b"\xff", (23,))):

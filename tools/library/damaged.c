@@ -56,7 +56,7 @@ static size_t damage(uint8_t *code, size_t len, size_t room) {
     size_t i, n;
     switch (below(6)) {
     case 0: case 1:
-        for (n = 1 + below(3); n && len; n--) code[below(len)] ^= (uint8_t)(1 << below(8));
+        for (n = 1 + below(3); n && len; n--) i = below(len), code[i] ^= (uint8_t)(1 << below(8));
         return len;
     case 2:
         return below(len + 1);
@@ -68,7 +68,7 @@ static size_t damage(uint8_t *code, size_t len, size_t room) {
         for (i = len; i < n; i++) code[i] = (uint8_t)any();
         return n;
     default:
-        if (len) memset(code + below(len), below(2) ? 0 : 0xFF, 1);
+        if (len) i = below(len), code[i] = below(2) ? 0 : 0xFF;
         return len;
     }
 }
@@ -115,9 +115,10 @@ static void wild(const uint8_t *code, size_t len, size_t count) {
     uint32_t codec = below(2) ? below(4) : (uint32_t)any(), block = below(2) ? below(34) : (uint32_t)any();
     uint32_t bytepix = below(2) ? below(9) : (uint32_t)any(), column = below(2) ? below(3) : (uint32_t)any();
     int32_t bitpix = sizes[below(8)], *list = guarded_place(out, 4 * count, 0);
-    uint64_t total = below(3) ? len : any() >> below(64);
+    uint64_t total = below(3) ? len : any(), shift = below(64);
     uint8_t *given = guarded_place(in, len, 0);
     struct fz_coded *coded = guarded_place(small, sizeof *coded, 0);
+    if (total != len) total >>= shift;
     memcpy(given, code, len);
     took(now(), fz_decode_tile(codec, block, bytepix, bitpix, column, given, len, total, list, count));
     must(guarded_whole(out, list, 4 * count), "bytes beside out were written");
