@@ -3,6 +3,7 @@ from __future__ import annotations
 
 import contextlib
 import hashlib
+import importlib.util
 import io
 import json
 import os
@@ -157,6 +158,36 @@ class Finds(Adopted):
         self.assertIn("status: 3 files", self.run_it("status", self.night, "--manifest", place / "all.sqlite")[1])
         self.assertEqual(self.run_it("status", self.night / "n", "--manifest", place / "all.sqlite")[0], 2)
         self.assertEqual(self.run_it("adopt", self.night, "--manifest", self.night / "m.sqlite")[0], 2)
+
+    def test_a_codec_that_nobody_knows(self) -> None:
+        strange_faults.codec_card(self.night / "a.fits.fz", None)
+        self.assertIn("a.fits.fz: HDU 1: ZCMPTYPE names no codec of FITS", self.run_it("adopt", self.night)[1])
+
+    def test_a_manifest_for_each_part_by_an_array_of_slurm(self) -> None:
+        (self.night / "n" / "plain.fits").unlink()
+        (self.night / "m").mkdir()
+        shutil.move(self.night / "a.fits.fz", self.night / "m")
+        manifests = self.room / "manifests"
+        manifests.mkdir()
+        line = f'v=$(ls -d {self.night}/*/ | sed -n "$((SLURM_ARRAY_TASK_ID + 1))p"); {sys.executable} {TOP}/tools/fzbatch adopt "$v" --manifest {manifests}/$(basename "$v").sqlite'
+        for task in range(2):
+            environment = {**os.environ, "FZ": FZ, "SLURM_ARRAY_TASK_ID": str(task), "SLURM_CPUS_PER_TASK": "2", "SLURM_MEM_PER_CPU": "200"}
+            subprocess.run(["bash", "-c", line], env=environment, check=True, capture_output=True)
+        status, said = self.run_it("status", self.night, "--manifest", manifests)
+        self.assertEqual((status, [it.split(",")[0] for it in said.splitlines() if it.startswith("status")]), (0, ["status: 1 files", "status: 1 files"]))
+        self.assertEqual(self.run_it("missing", self.night, "--manifest", manifests), (0, ""))
+        (self.night / "m" / "a.fits.fz").unlink()
+        self.assertEqual(self.run_it("missing", self.night, "--manifest", manifests)[0], 1)
+
+    @unittest.skipUnless(shutil.which("parallel"), "GNU parallel is not installed")
+    def test_by_gnu_parallel(self) -> None:
+        os.environ["FZ"] = FZ
+        self.addCleanup(os.environ.__setitem__, "FZ", FZ)
+        self.assertIn("adopt: 4 files, 3 well (3 right), 1 not well", self.run_it("adopt", self.night, "--engine", "parallel", "--sshlogin", "2/:")[1])
+
+    @unittest.skipUnless(importlib.util.find_spec("distributed"), "dask.distributed is not installed")
+    def test_by_dask(self) -> None:
+        self.assertIn("adopt: 4 files, 3 well (3 right), 1 not well", self.run_it("adopt", self.night, "--engine", "dask", "--jobs", "2")[1])
 
     def test_the_report(self) -> None:
         self.run_it("adopt", self.night)

@@ -12,6 +12,7 @@ from ...results import REFUSED, verdict_of
 from .. import advice, files
 from . import boxes, heaps, rewrite, summing
 from .calling import Fz
+from .cards import DAMAGED
 from .rows import Finding, Hdu
 from .tiles import CAUSE, LOST, Image
 
@@ -22,6 +23,8 @@ WRONG_TABLE = "fetch the file from another copy: a bit of this HDU changed since
 WRONG_IMAGE = "the image is not the one that was packed: fetch the file from another copy"
 ONLY_HEADER = "its pixels are those that were packed, by ZDATASUM: compare the header with another copy"
 NAMED = 8
+# FITS 4.0, section 10.4, and two names that packers write.
+CODECS = ("RICE_1", "RICE_ONE", "GZIP_1", "GZIP_2", "PLIO_1", "HCOMPRESS_1", "NOCOMPRESS", "NONE")
 
 
 def hdu_of(header: Header) -> Hdu:
@@ -48,6 +51,9 @@ class Alone:
     def look(self) -> None:
         """Looks at the HDU in every way that there is for its kind."""
         self.hdu.datasum, self.hdu.checksum = summing.verdicts(self.number, self.header)
+        codec = self.header.value("ZCMPTYPE")
+        if self.header.is_packed and codec not in CODECS:
+            self.add("header is damaged", f"ZCMPTYPE names no codec of FITS: {str(codec)[:20]!r}", DAMAGED)
         if not self.header.is_packed:
             self._in_a_copy(self._header_only, lambda copy, hdu: self._accepted(self.fz.run("list", copy, self.size)))
             if self.hdu.undecoded:

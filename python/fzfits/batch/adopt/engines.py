@@ -50,21 +50,23 @@ def parallel(asked: Asked, some: Iterator["List[One]"], options: Sequence[str], 
     code = f"import sys; sys.path.insert(0, {PACKAGE!r}); from fzfits.batch.adopt.engines import main; sys.exit(main(sys.argv[1:]))"
     command = f"{shlex.quote(sys.executable)} -I -c {shlex.quote(code)} {asked.word()}"
     words = ["parallel", "--will-cite", "-N", str(others.TASKS_OF_A_JOB), *options, command]
-    with subprocess.Popen(words, stdin=subprocess.PIPE, stdout=subprocess.PIPE, text=True) as it:
-        lines = (one.word() + "\n" for part in some for one in part)
-        threading.Thread(target=_feed, args=(it, lines), daemon=True).start()
-        assert it.stdout is not None
-        for line in it.stdout:
-            found = _found_of(line)
-            if found is not None:
-                yield found
-            else:
-                sys.stderr.write(line)
-            if stopped():
-                it.terminate()
+    for part in some:
+        with subprocess.Popen(words, stdin=subprocess.PIPE, stdout=subprocess.PIPE, text=True) as it:
+            threading.Thread(target=_feed, args=(it, [one.word() + "\n" for one in part]), daemon=True).start()
+            assert it.stdout is not None
+            for line in it.stdout:
+                found = _found_of(line)
+                if found is not None:
+                    yield found
+                else:
+                    sys.stderr.write(line)
+                if stopped():
+                    it.terminate()
+        if stopped():
+            return
 
 
-def _feed(it: "subprocess.Popen[str]", lines: Iterator[str]) -> None:
+def _feed(it: "subprocess.Popen[str]", lines: Sequence[str]) -> None:
     assert it.stdin is not None
     try:
         with it.stdin as to:
