@@ -1,13 +1,13 @@
 -- The commands and options that hints name, and that they are those of the command line.
-use Rattle.std.specs.Prelude.{ℕ, Bool, true, false, not, List, [], ◌∷◌, codes, is_some, Option, Some, None, unwrap_or, if◌then◌else◌}
-use Rattle.std.specs.List.{find, list_all}
+use Rattle.std.specs.Prelude.{ℕ, Bool, true, false, not, List, [], ◌∷◌, codes, Option, unwrap_or, if◌then◌else◌}
+use Rattle.std.specs.List.{find}
 use Rattle.std.specs.Option.{option_and_then, option_map}
 use Rattle.std.specs.Str.{bytes_eq}
 use Rattle.fz_hints.specs.declared.command.Command.{Command}
 use Rattle.fz_hints.specs.declared.command.Command.TheVariants.{Pack, Unpack, Cut, Verify, List as ListHdus, Drill, Retile, Patch}
 use Rattle.fz_hints.specs.declared.setting.Setting.{Setting}
 use Rattle.fz_hints.specs.declared.setting.Setting.TheVariants.{Codec, Tile, Block, Sums, Workers, Memory, Hdu, Box, Strict, At}
-use Rattle.fz_words.specs.Table.{command_named, has_option, option_name, option_named, options, takes_value}
+use Rattle.fz_words.specs.Table.{command_named, has_option, option_named, takes_value}
 
 -- the word of a command
 abbrev pub word_of : Command → List ℕ
