@@ -86,6 +86,15 @@ class Bins(InAFolder):
         with self.assertRaisesRegex(NoPicture, "images are: 1 SCI, 2 ERR"):
             images.of_file("a.fits", 0)
 
+    @needs_program
+    def test_a_file_with_a_fault_is_not_given_to_another_reader(self):
+        raw = bytearray((SAMPLES / "packed" / "grid.2x2.fits").read_bytes())
+        raw[160:240] = b"NAXIS   =          99999999999".ljust(80)
+        Path("a.fz").write_bytes(raw)
+        header = fzfits.headers.header_of(SAMPLES / "packed" / "grid.2x2.fits", 1)
+        with mock.patch.object(images, "_by_astropy", side_effect=AssertionError), self.assertRaises(fzfits.Refused):
+            images.bins("a.fz", header, images.part_of(header, "", 9, False))
+
     def test_a_header_that_claims_more_than_the_file_has(self):
         raw = "".join(it.ljust(80) for it in ("SIMPLE  = T", "BITPIX  = 16", "NAXIS   = 2", "NAXIS1  = 99999999999", "NAXIS2  = 99999999999", "END"))
         Path("a.fits").write_bytes(raw.ljust(2880).encode())

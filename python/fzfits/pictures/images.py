@@ -1,6 +1,7 @@
 """The images of a file, packed or plain, and their pixels: averages over bins, so that nothing bright falls between two pixels."""
 from __future__ import annotations
 
+import math
 import os
 from dataclasses import dataclass
 from typing import Any, List, Optional, Sequence, Tuple
@@ -14,6 +15,10 @@ from . import NoPicture, library
 
 # So many pixels are decoded at once.
 STRIP = 1 << 22
+# What fz rejects in a packed image that others may decode; files with other faults are given to nobody.
+OF_OTHERS = ("UnknownCodec", "Quantised", "BadTable", "GzipTile")
+# So many pixels astropy may decode.
+WHOLE = 1 << 28
 # Along each axis so many pixels of a bin are taken, if not all are.
 TAKEN = 2
 
@@ -124,19 +129,20 @@ def _values(path: Name, header: Header, across: Tuple[int, int], up: Tuple[int, 
     key = (*(it - 1 for it in reversed(part.plane)), *(lines if len(header.axes) > 1 else lines[1:]))
     try:
         found = section(path, header.number, key, program=program)
-    except Refused:
-        if not header.is_packed:
+    except Refused as error:
+        if error.kind not in OF_OTHERS or error.hdu != header.number:
             raise
-        # of another codec, or quantised
-        found = _by_astropy(path, header.number, key)
+        found = _by_astropy(path, header, key)
     except (EOFError, IndexError, MemoryError, Usage, ValueError) as error:
         raise NoPicture(str(error) or type(error).__name__) from None
     return found if found.ndim > 1 else found.reshape(1, -1)
 
 
-def _by_astropy(path: Name, number: int, key: Sequence[Any]) -> Any:
-    """The same pixels by astropy, of an image that fz does not decode."""
-    fits = library("astropy.io.fits")
+def _by_astropy(path: Name, header: Header, key: Sequence[Any]) -> Any:
+    """The same pixels by astropy, of an image that fz does not decode. It may decode all of the image."""
+    fits, number = library("astropy.io.fits"), header.number
+    if math.prod(header.axes) > WHOLE:
+        raise NoPicture("fz does not decode it, and it is too large for astropy")
     try:
         with fits.open(path, memmap=False) as opened:
             hdu = opened[number]
