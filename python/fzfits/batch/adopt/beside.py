@@ -186,7 +186,10 @@ class Beside:
         good = [it for it in some if it.did.good]
         try:
             for it in good:
-                self.store.put(self._row(it.did))
+                if it.did.packed is None:
+                    self.store.forget(it.place.folder, it.place.packed_name)
+                else:
+                    self.store.put(self._row(it.did))
             self.store.save()
         except BadManifest as error:
             self.store.give_up()
@@ -195,7 +198,7 @@ class Beside:
             return
         for it in some:
             self._count(it)
-            if it.did.good and self.wanted.delete:
+            if it.did.good and it.did.packed is not None and self.wanted.delete:
                 self._delete(it)
 
     def _row(self, did: Did) -> Row:

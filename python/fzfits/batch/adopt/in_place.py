@@ -28,13 +28,14 @@ WRITTEN = ("plain file is being written", "the plain file changed while it was p
 
 @dataclass
 class Place:
-    """A plain file and the packed one beside it. `packed` and `plain` are what the manifest says of them, if it does."""
+    """A plain file and the packed one beside it. The fields after `number` are what the manifest says of them, if it does."""
 
     folder: bytes
     name: bytes
     number: int
     packed_sha256: str = ""
     plain: Optional[Plain] = None
+    next_sha256: str = ""
 
     @property
     def packed_name(self) -> bytes:
@@ -125,6 +126,10 @@ class InPlace:
         wanted = self.place.plain
         assert wanted is not None
         with inside.folder(self.asked.folder, self.place.folder) as above:
+            if not _there(above, self.place.packed_name) and _there(above, self.place.name):
+                # a run that was killed removed the packed file, and did not say so
+                self._same(above, wanted)
+                return
             source = opened_in(above, self.place.packed_name)
             try:
                 now = self.did.packed = files.look_at(source)

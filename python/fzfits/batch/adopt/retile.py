@@ -30,6 +30,12 @@ class Retiled(InPlace):
             source = opened_in(above, self.place.name)
             try:
                 before = self.did.plain = files.look_at(source)
+                if before.sha256 == self.place.next_sha256:
+                    # a run that was killed gave it the name, and did not say so
+                    ended = self._expect("verify", source, before.size)
+                    self.did.looked, self.did.hdus = time.time_ns(), hdus_text(source, ended)
+                    self.did.packed, self.did.outcome = before, "there"
+                    return
                 if before.sha256 != self.place.packed_sha256:
                     raise Undone("changed", "it is another file than the one that was adopted", "fzbatch adopt names what is wrong with it")
                 self._expect("verify", source, before.size)
@@ -98,7 +104,7 @@ class Retile(Beside):
                     self.count.not_well(row.path, [Finding("not well", "it is not well by the manifest, and stays as it is", "fzbatch missing says what is wrong")])
                 else:
                     number += 1
-                    yield Place(folder, row.name, number, row.sha256.hex())
+                    yield Place(folder, row.name, number, row.sha256.hex(), next_sha256=row.next.hex())
         if skipped:
             self.count.notes.append(f"{skipped:,} packed files have an HDU that fz does not decode, and stay as they are.")
 
@@ -123,6 +129,9 @@ class Retile(Beside):
             for it in good:
                 if self._put_in_place(it):
                     self.store.put(self._row(it.did))
+            for one in some:
+                if one.did.outcome == "there" and one.did.packed is not None:
+                    self.store.put(self._row(one.did))
         except BadManifest as error:
             self.store.give_up()
             self.count.stopped = str(error)
