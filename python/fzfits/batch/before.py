@@ -26,20 +26,25 @@ def size_of(text: str) -> int:
 
 def check(wanted: Wanted, program: str) -> None:
     """Raises `Refuse` for options that the run could not be done with."""
-    for name, value in _pairs(wanted.options):
+    if wanted.engine == "parallel" and shutil.which("parallel") is None:
+        raise Refuse("--engine parallel: GNU parallel is not installed")
+    check_options(wanted.options, program)
+
+
+def check_options(options: Sequence[str], program: str, command: str = "pack") -> None:
+    """Raises `Refuse` if this command of fz does not take these options."""
+    for name, value in _pairs(options):
         if name == "--tile" and not LENGTHS.fullmatch(value):
             right = re.sub(r"[^0-9]+", ",", value).strip(",")
             raise Refuse(f"--tile: {value} is no list of lengths" + (f" (write {right})" if right else " (write 64,64)"))
-    if wanted.engine == "parallel" and shutil.which("parallel") is None:
-        raise Refuse("--engine parallel: GNU parallel is not installed")
-    if wanted.options not in ([], ["--sums"]) and _asked(program, wanted.options).status == USAGE:
-        raise Refuse(f"fz pack does not take these options: {' '.join(wanted.options)} (man fz says what they may be)")
+    if list(options) not in ([], ["--sums"]) and _asked(program, command, options).status == USAGE:
+        raise Refuse(f"fz {command} does not take these options: {' '.join(options)} (man fz says what they may be)")
 
 
 def _pairs(options: Sequence[str]) -> "list[tuple[str, str]]":
     return [(it, options[at + 1]) for at, it in enumerate(options[:-1]) if it.startswith("--")]
 
 
-def _asked(program: str, options: Sequence[str]) -> Outcome:
+def _asked(program: str, command: str, options: Sequence[str]) -> Outcome:
     """Calls fz with these options on names that are none: the words are looked at first, and nothing is read or written."""
-    return calls.shared.of(program).run(["pack", *options, "--", "/nowhere/fzbatch", "/nowhere/fzbatch"], timeout=60)
+    return calls.shared.of(program).run([command, *options, "--", "/nowhere/fzbatch", "/nowhere/fzbatch"], timeout=60)

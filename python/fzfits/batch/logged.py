@@ -10,7 +10,7 @@ from .manifest import now
 class Log:
     """A file to which lines are added; none if it has no name."""
 
-    def __init__(self, path: Optional[str]):
+    def __init__(self, path: Optional[str] = None):
         self._to: Optional[TextIO] = open(path, "a", encoding="utf-8", buffering=1, errors="backslashreplace") if path else None
 
     def tell(self, line: str) -> None:

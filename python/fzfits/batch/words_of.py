@@ -57,15 +57,23 @@ def seconds(text: str) -> float:
     return found
 
 
-def choosing_words(made: argparse.ArgumentParser) -> None:
-    """Which files, and what is said of them."""
-    made.add_argument("--include", action="append", default=[], type=os.fsencode, metavar="PATTERN", help="only files whose name fits, such as '*.fits'; with a / in it, whose path below the folder fits, such as 'night1/*'")
-    made.add_argument("--exclude", action="append", default=[], type=os.fsencode, metavar="PATTERN", help="no files that fit")
-    made.add_argument("--from-list", metavar="FILE", help="only the files that FILE names, one on each line or with null bytes, as fzbatch missing -0 prints them; - is standard input")
-    made.add_argument("-n", "--dry-run", action="store_true", help="say what would be done, and write nothing")
+def choosing_words(made: argparse.ArgumentParser, are_shown: bool = True) -> None:
+    """Which files. A command that takes none of these reads them, too, and does not show them: it rejects each by name."""
+
+    def told(says: str) -> str:
+        return says if are_shown else argparse.SUPPRESS
+
+    made.add_argument("--include", action="append", default=[], type=os.fsencode, metavar="PATTERN", help=told("only files whose name fits, such as '*.fits'; with a / in it, whose path below the folder fits, such as 'night1/*'"))
+    made.add_argument("--exclude", action="append", default=[], type=os.fsencode, metavar="PATTERN", help=told("no files that fit"))
+    made.add_argument("--from-list", metavar="FILE", help=told("only the files that FILE names, one on each line or with null bytes, as fzbatch missing -0 prints them; - is standard input"))
+    made.add_argument("-n", "--dry-run", action="store_true", help=told("say what would be done, and write nothing"))
+    made.add_argument("--tell-idle", action="store_true", help=told("end with status 4 if there was nothing to do"))
+
+
+def telling_words(made: argparse.ArgumentParser) -> None:
+    """What is said of the files."""
     made.add_argument("-q", "--quiet", action="store_true", help="print nothing if all is well, and only what is not")
     made.add_argument("--log", metavar="FILE", help="add a line with the time to FILE for each file")
-    made.add_argument("--tell-idle", action="store_true", help="end with status 4 if there was nothing to do")
 
 
 def rebuild_words(made: argparse.ArgumentParser) -> None:
@@ -80,6 +88,7 @@ def run_words(made: argparse.ArgumentParser, verb: str) -> None:
     """The options of a run of this verb."""
     job_words(made)
     choosing_words(made)
+    telling_words(made)
     made.add_argument("--engine", choices=("local", "parallel", "slurm", "dask"), default="local", help="what runs fz on the files (local)")
     made.add_argument("--sshlogin", action="append", default=[], metavar="MACHINES", help="for GNU parallel: machines, such as 8/node1,4/:")
     made.add_argument("--sshloginfile", metavar="FILE", help="for GNU parallel: a file with the machines")

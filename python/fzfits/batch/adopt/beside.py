@@ -12,12 +12,13 @@ import signal
 import socket
 import time
 from concurrent import futures
-from contextlib import suppress
+from contextlib import closing, suppress
 from dataclasses import dataclass, field
 from typing import Iterator, List, Optional, TextIO
 
 from ... import program
-from .. import calls, files, lock, machine, names, rooms
+from .. import before, calls, files, lock, machine, names, rooms
+from ..logged import Log
 from ..manifest import BadManifest
 from ..progress import progress
 from ..scan import folders_of
@@ -50,6 +51,8 @@ class Wanted:
     delete: bool = False
     accept_wrong_sums: bool = False
     all_names: bool = False
+    quiet: bool = False
+    log: Optional[str] = None
 
 
 class Beside:
@@ -76,11 +79,13 @@ class Beside:
         is_new = not files.there(wanted.manifest)
         if is_new and (wanted.verb != "pack" or files.there(wanted.manifest + places.COPY)):
             raise Refuse(f"{names.shown(wanted.manifest)} is not there" + (": fzbatch adopt makes it" if wanted.verb != "pack" else ", and its second copy is: copy it back, or move it away"))
-        with lock.held(wanted.manifest + places.LOCK), files.private():
+        before.check_options(wanted.options, self.program, "retile" if wanted.verb == "retile" else "pack")
+        with closing(Log(wanted.log)) as self.count.log, lock.held(wanted.manifest + places.LOCK), files.private():
+            self.count.log.tell(f"{self.count.verb}{' --delete' if wanted.delete else ''} begins: {names.shown(wanted.folder)}")
             with Store(wanted.manifest) if is_new else places.opened(wanted.manifest, wanted.folder, True) as self.store:
                 self._do()
-        self.count.seconds = time.monotonic() - self.began
-        self.count.print(self.out)
+            self.count.seconds = time.monotonic() - self.began
+            self.count.sum_up(self.out, wanted.quiet)
         if self.stop_signal:
             return 128 + self.stop_signal
         return run.DONE if self.count.whole else run.NOT_DONE
@@ -234,7 +239,7 @@ class Beside:
             if did.error in run.STOPPING:
                 self.count.stopped = self.count.stopped or f"{did.line}: {did.advice}"
         else:
-            self.count.good(did.outcome)
+            self.count.well(path, did.outcome)
             self.count.bytes += did.plain.size if did.plain else 0
             self.plain_bytes += did.plain.size if did.plain and did.packed else 0
             self.packed_bytes += did.packed.size if did.packed else 0

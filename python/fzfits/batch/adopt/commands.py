@@ -12,13 +12,13 @@ from .. import files, lock, machine, names
 from ..checks import Odd
 from ..opening import BadManifest
 from ..wanted import Refuse
-from . import beside, forms, page, places, run, survey
+from . import beside, forms, page, places, run, survey, whole
 from .compare import Compare, Wanted
 from .retile import Retile
 from .rows import GONE, Row
 from .run import DONE, NOT_DONE
 from .store import Store
-from .words import folder_of
+from .words import folder_of, is_file_word, words
 
 
 def adopt(asked: argparse.Namespace) -> int:
@@ -32,11 +32,13 @@ def verify(asked: argparse.Namespace) -> int:
 
 
 def _wanted(asked: argparse.Namespace) -> run.Wanted:
+    whole.check(asked)
     folder = folder_of(asked)
     made = run.Wanted(asked.verb, folder, places.manifest_of(folder, asked.manifest), asked.fz, asked.memory, asked.jobs, asked.engine)
     if asked.engine == "slurm":
         raise Refuse("an adopted folder has no --engine slurm: an array of fzbatch adopt, each task with a folder and a --manifest of its own, does it (docs/ARCHIVE.md)")
     made.scheduler, made.time_limit, made.all_names, made.allow_empty = asked.scheduler, max(0.0, asked.time_limit), asked.all, asked.allow_empty
+    made.quiet, made.log = asked.quiet, asked.log
     for it in asked.sshlogin:
         made.machines += ["--sshlogin", it]
     if asked.sshloginfile:
@@ -60,13 +62,14 @@ def in_place(asked: argparse.Namespace) -> "Optional[Callable[[argparse.Namespac
 
 def _beside(asked: argparse.Namespace) -> int:
     """The packed file beside the plain one, or the plain file beside the packed one."""
-    if asked.packed is not None or asked.engine != "local":
-        raise Refuse("--beside has one folder, and the engine local")
+    whole.check(asked)
+    if asked.engine != "local":
+        raise Refuse("--beside has the engine local")
     if any(getattr(asked, it, False) for it in ("update", "compare", "retry", "skip_links", "skip_compressed", "skip_nothing", "allow_empty")):
         raise Refuse("--beside always compares, and has none of --update, --retry, --skip-.. and --allow-empty")
     folder = folder_of(asked)
     made = beside.Wanted(asked.verb, folder, places.manifest_of(folder, asked.manifest), asked.fz, asked.memory, asked.jobs, max(0.0, asked.time_limit))
-    made.delete, made.all_names = asked.delete, asked.all
+    made.delete, made.all_names, made.quiet, made.log = asked.delete, asked.all, asked.quiet, asked.log
     if asked.verb == "pack":
         made.accept_wrong_sums = asked.accept_wrong_sums
         made.options = ([] if asked.no_sums else ["--sums"]) + _options(asked)
@@ -75,26 +78,28 @@ def _beside(asked: argparse.Namespace) -> int:
 
 def _options(asked: argparse.Namespace) -> "List[str]":
     """The options of fz pack that were given."""
-    return [word for name in ("codec", "tile", "block", "workers") if getattr(asked, name) is not None for word in (f"--{name}", getattr(asked, name))]
+    return [word for name in ("codec", "tile", "block", "workers") if getattr(asked, name) is not None for word in (f"--{name}", str(getattr(asked, name)))]
 
 
 def retile(asked: argparse.Namespace) -> int:
     """Packs the packed files of an adopted folder again, each in its place."""
+    whole.check(asked)
     folder = folder_of(asked)
     made = beside.Wanted("retile", folder, places.manifest_of(folder, asked.manifest), asked.fz, asked.memory, asked.jobs, max(0.0, asked.time_limit))
-    made.all_names, made.options = asked.all, (["--sums"] if asked.sums else []) + _options(asked)
+    made.all_names, made.quiet, made.log, made.options = asked.all, asked.quiet, asked.log, (["--sums"] if asked.sums else []) + _options(asked)
     return Retile(made, sys.stdout, sys.stderr).status()
 
 
 def compare(asked: argparse.Namespace) -> int:
     """Compares an adopted folder with a folder of plain files."""
-    if asked.packed is None:
+    if len(words(asked)) < 2 or is_file_word(words(asked)[1]):
         raise Refuse(f"name the folder of plain files too: fzbatch compare PLAIN {names.shown(folder_of(asked))}")
-    if asked.engine != "local":
-        raise Refuse("fzbatch compare of an adopted folder has the engine local")
+    whole.check(asked, folders=2)
+    if asked.engine != "local" or asked.allow_empty:
+        raise Refuse("fzbatch compare of an adopted folder has the engine local, and no --allow-empty")
     folder = folder_of(asked)
     made = Wanted(os.path.realpath(asked.dir), folder, places.manifest_of(folder, asked.manifest), asked.fz, asked.memory, asked.jobs, max(0.0, asked.time_limit))
-    made.without_plain, made.all_names = asked.without_plain, asked.all
+    made.without_plain, made.all_names, made.quiet, made.log = asked.without_plain, asked.all, asked.quiet, asked.log
     return Compare(made, sys.stdout, sys.stderr).status()
 
 
@@ -102,6 +107,7 @@ class _Opened:
     """The manifests that a command names, one after another, each with its folder."""
 
     def __init__(self, asked: argparse.Namespace):
+        whole.check(asked)
         self.folder, self.jobs = folder_of(asked), machine.processors()
         self.manifests = places.many(asked.manifest) or [places.manifest_of(self.folder, [])]
 
@@ -204,6 +210,7 @@ def report(asked: argparse.Namespace) -> int:
 
 def forget(asked: argparse.Namespace) -> int:
     """Takes files that are gone out of the manifest."""
+    whole.check(asked)
     folder = folder_of(asked)
     path = places.manifest_of(folder, asked.manifest)
     with lock.held(path + places.LOCK), places.opened(path, folder, writes=True) as store:

@@ -5,11 +5,13 @@ import os
 import secrets
 import signal
 from concurrent import futures
+from contextlib import closing
 from dataclasses import dataclass, field
 from typing import Iterator, List, Optional, TextIO, Tuple
 
 from ... import program
 from .. import advice, calls, files, inside, machine, names, rooms
+from ..logged import Log
 from ..progress import progress
 from ..wanted import Refuse, signals
 from . import places, run
@@ -38,6 +40,8 @@ class Wanted:
     time_limit: float = 0.0
     without_plain: bool = False
     all_names: bool = False
+    quiet: bool = False
+    log: Optional[str] = None
 
 
 @dataclass
@@ -67,17 +71,22 @@ class Compare:
             raise Refuse(f"{names.shown(wanted.plain)} is not there, or is no folder: is its disk mounted?")
         memory = wanted.memory or machine.limit_of_a_job(wanted.jobs)
         asked = Asked(wanted.folder, secrets.token_hex(8), program.find(wanted.program), memory, wanted.time_limit, wanted.jobs)
-        with places.opened(wanted.manifest, wanted.folder) as store, signals(self._signalled):
-            bar = progress("compare", store.files, store.bytes, names.unescaped(self.err))
-            for one in self._results(asked, store.rows()):
-                self._count(one)
-                bar.step(one.size)
-            bar.close()
+        with closing(Log(wanted.log)) as self.count.log, places.opened(wanted.manifest, wanted.folder) as store:
+            self.count.log.tell(f"compare begins: {names.shown(wanted.plain)}, {names.shown(wanted.folder)}")
+            with signals(self._signalled):
+                bar = progress("compare", store.files, store.bytes, names.unescaped(self.err), wanted.quiet)
+                for one in self._results(asked, store.rows()):
+                    self._count(one)
+                    bar.step(one.size)
+                bar.close()
+            self._sum_up()
+        return 128 + self.stop_signal if self.stop_signal else run.DONE if self.count.whole else run.NOT_DONE
+
+    def _sum_up(self) -> None:
         for outcome, what in (("pixels", "have the pixels and tables of their plain file, and another header: whether that is all that fpack was given is not known"), ("part", "have an HDU that fz does not decode, which was not compared"), ("compressed", "are compressed as a whole, and were not compared")):
             if self.count.outcomes[outcome]:
                 self.count.notes.append(f"{self.count.outcomes[outcome]:,} files {what}.")
-        self.count.print(self.out)
-        return 128 + self.stop_signal if self.stop_signal else run.DONE if self.count.whole else run.NOT_DONE
+        self.count.sum_up(self.out, self.wanted.quiet)
 
     def _signalled(self, number: int) -> None:
         self.stop_signal = number
@@ -146,4 +155,4 @@ class Compare:
         if one.found:
             self.count.not_well(one.path, one.found)
         else:
-            self.count.good(one.outcome)
+            self.count.well(one.path, one.outcome)

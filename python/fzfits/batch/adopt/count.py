@@ -7,6 +7,7 @@ from dataclasses import dataclass, field
 from typing import List, TextIO, Tuple
 
 from .. import names
+from ..logged import Log
 from ..progress import amount, length
 from ..scan import Left
 from .rows import PART, Finding
@@ -49,6 +50,12 @@ class Count:
     stopped: str = ""
     lost: str = ""
     seconds: float = 0.0
+    log: Log = field(default_factory=Log)
+
+    def well(self, path: bytes, outcome: str) -> None:
+        """A file that is well, with its line in the log."""
+        self.good(outcome)
+        self.log.tell(f"{names.shown(path)}: {outcome}")
 
     def good(self, outcome: str, many: int = 1) -> None:
         """Files that are well."""
@@ -57,6 +64,7 @@ class Count:
     def not_well(self, path: bytes, found: "List[Finding]") -> None:
         """A file with which something is not well; it counts once, and is named under each of its causes."""
         self.bad += 1
+        self.log.tell(f"{names.shown(path)}: {'; '.join(map(line_of, found))}")
         for it in found:
             cause = self.causes.setdefault(it.cause, Cause(it.advice))
             cause.lost += it.lost
@@ -90,6 +98,12 @@ class Count:
         line = f"{self.verb}: {self.done + self.bad + self.untried} files, {self.done} well{f' ({kinds})' if kinds else ''}"
         line += f", {self.bad} not well, {len(self.left)} left out"
         return line + (f", {self.untried} not tried" if self.untried else "")
+
+    def sum_up(self, to: TextIO, quiet: bool) -> None:
+        """The end of a run: the last line of the log, and the summary. If it is `quiet`, only what is not well is printed."""
+        self.log.tell(self.last_line() + (f"; stopped: {self.stopped}" if self.stopped else ""))
+        if not quiet or not self.whole:
+            self.print(to)
 
     def print(self, to: TextIO) -> None:
         """Prints the summary; its last line has the counts."""

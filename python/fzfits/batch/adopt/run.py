@@ -10,11 +10,13 @@ import secrets
 import signal
 import socket
 import time
+from contextlib import closing
 from dataclasses import dataclass, field
 from typing import Iterator, List, Optional, TextIO
 
 from ... import program
 from .. import calls, files, lock, machine, names, rooms
+from ..logged import Log
 from ..manifest import BadManifest
 from ..progress import progress
 from ..scan import Left
@@ -56,6 +58,8 @@ class Wanted:
     sha256_only: bool = False
     skips: "dict[str, bool]" = field(default_factory=dict)
     skip_nothing: bool = False
+    quiet: bool = False
+    log: Optional[str] = None
 
 
 class Run:
@@ -82,10 +86,11 @@ class Run:
         writes = places.may_be_written(self.wanted.manifest)
         if not writes and self.wanted.verb == "adopt":
             raise Refuse(f"{names.shown(self.wanted.manifest)} cannot be written: --manifest names another place")
-        with lock.held(self.wanted.manifest + places.LOCK), self._opened(writes) as self.store:
+        with closing(Log(self.wanted.log)) as self.count.log, lock.held(self.wanted.manifest + places.LOCK), self._opened(writes) as self.store:
+            self.count.log.tell(f"{self.wanted.verb} begins: {names.shown(self.wanted.folder)}")
             self._do(writes)
-        self.count.seconds = time.monotonic() - self.began
-        self.count.print(self.out)
+            self.count.seconds = time.monotonic() - self.began
+            self.count.sum_up(self.out, self.wanted.quiet)
         if self.stop_signal:
             return 128 + self.stop_signal
         return DONE if self.count.whole else NOT_DONE
@@ -155,7 +160,7 @@ class Run:
 
     def _read(self, waiting: Waiting, writes: bool) -> None:
         was, answered = place(self.wanted.folder), 0
-        bar = progress(self.wanted.verb, waiting.count, waiting.bytes, names.unescaped(self.err))
+        bar = progress(self.wanted.verb, waiting.count, waiting.bytes, names.unescaped(self.err), self.wanted.quiet)
         with signals(self._signalled):
             try:
                 for found in self._results(waiting):
@@ -206,7 +211,7 @@ class Run:
         if made.drop is not None:
             waiting.found_again(*made.drop)
         if made.row.status in WELL:
-            self.count.good(made.row.status)
+            self.count.well(made.row.path, made.row.status)
         else:
             self.count.not_well(made.row.path, made.row.findings)
         return True
@@ -240,6 +245,7 @@ class Run:
         """What the manifest says of all files, also of those that were not read in this run."""
         told, self.count = self.count, of_store(self.store, self.wanted.verb, self.wanted.all_names)
         self.count.notes, self.count.stopped, self.count.untried, self.count.bytes = told.notes, told.stopped, told.untried, told.bytes
+        self.count.log = told.log
         self.count.add(self.unkept)
 
     def _end(self) -> None:

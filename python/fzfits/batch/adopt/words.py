@@ -3,10 +3,10 @@ from __future__ import annotations
 
 import argparse
 import os
-from typing import Callable, Optional
+from typing import Callable, List, Optional
 
 from .. import files, names, words_of
-from . import places
+from . import places, walk
 
 # Commands that work on an archive of fzbatch pack, and on an adopted folder too.
 BOTH = ("verify", "compare", "status", "missing", "report", "forget")
@@ -15,7 +15,7 @@ BOTH = ("verify", "compare", "status", "missing", "report", "forget")
 def add(verbs: "argparse._SubParsersAction[argparse.ArgumentParser]") -> None:
     """Adds the commands of adopted folders, and the option that names their manifest to the others."""
     made = _verb(verbs, "adopt", "take a folder of FITS files of any packer under a manifest beside it: each file and each tile is checked, and nothing in the folder is changed")
-    words_of.job_words(made)
+    _everyday(made)
     made.add_argument("--engine", choices=("local", "parallel", "dask"), default="local", help="what reads the files (local)")
     made.add_argument("--sshlogin", action="append", default=[], metavar="MACHINES", help="for GNU parallel: machines, such as 8/node1,4/:")
     made.add_argument("--sshloginfile", metavar="FILE", help="for GNU parallel: a file with the machines")
@@ -27,11 +27,11 @@ def add(verbs: "argparse._SubParsersAction[argparse.ArgumentParser]") -> None:
     made.add_argument("--skip-links", action="store_true", help="symbolic links may be left out, which the manifest keeps")
     made.add_argument("--skip-nothing", action="store_true", help="links may not be left out any more")
     again = _verb(verbs, "retile", "pack the packed files of an adopted folder again, in other tiles, each in its place, if the same file comes back from both")
-    words_of.job_words(again)
+    _everyday(again)
     again.add_argument("--codec", choices=("rice", "plio", "none"), help="as for fz retile")
     again.add_argument("--tile", metavar="A,B,..", help="as for fz retile")
-    again.add_argument("--block", metavar="N", help="as for fz retile")
-    again.add_argument("--workers", metavar="N", help="as for fz retile")
+    again.add_argument("--block", type=words_of.positive, metavar="N", help="as for fz retile")
+    again.add_argument("--workers", type=words_of.positive, metavar="N", help="as for fz retile")
     again.add_argument("--sums", action="store_true", help="add DATASUM and CHECKSUM to the packed tables")
     for name, other in (("pack", "plain"), ("restore", "packed")):
         verbs.choices[name].add_argument("--beside", action="store_true", help="in one folder: F.fits.fz beside F.fits, with the manifest beside the folder")
@@ -45,7 +45,14 @@ def _verb(verbs: "argparse._SubParsersAction[argparse.ArgumentParser]", name: st
     made = verbs.add_parser(name, help=says, description=says[0].upper() + says[1:] + ".")
     made.add_argument("dir", metavar="FOLDER", type=os.fsencode, help="the folder of FITS files, which is only read")
     made.add_argument("--manifest", action="append", default=[], type=os.fsencode, metavar="PATH", help="the manifest (FOLDER with .fzbatch.sqlite after it)")
+    made.set_defaults(files=[])
     return made
+
+
+def _everyday(made: argparse.ArgumentParser) -> None:
+    words_of.job_words(made)
+    words_of.telling_words(made)
+    words_of.choosing_words(made, are_shown=False)
 
 
 def call_of(asked: argparse.Namespace) -> "Optional[Callable[[argparse.Namespace], int]]":
@@ -60,15 +67,34 @@ def call_of(asked: argparse.Namespace) -> "Optional[Callable[[argparse.Namespace
     return found if asked.manifest or _is_adopted(asked) else None
 
 
-def folder_of(asked: argparse.Namespace) -> bytes:
-    """The adopted folder that a command names: the last one."""
+def words(asked: argparse.Namespace) -> "List[bytes]":
+    """The words of a command that are no options: folders first."""
     packed: Optional[bytes] = getattr(asked, "packed", None)
-    return os.path.realpath(packed if packed is not None else asked.dir)
+    return [asked.dir, *([packed] if packed is not None else []), *asked.files]
+
+
+def folder_of(asked: argparse.Namespace) -> bytes:
+    """The adopted folder that a command names: the second word of compare, otherwise the first one."""
+    given = words(asked)
+    return os.path.realpath(given[1] if asked.verb == "compare" and len(given) > 1 and not is_file_word(given[1]) else given[0])
+
+
+def is_file_word(word: bytes) -> bool:
+    """Whether a word names a file, by its ending, and no folder of that name is there."""
+    return walk.is_wanted(os.path.basename(word)) and not os.path.isdir(word)
 
 
 def _is_adopted(asked: argparse.Namespace) -> bool:
-    folder = folder_of(asked)
-    own = [os.path.join(folder, names.MANIFEST)]
-    if asked.packed is None:
-        own.append(os.path.join(folder + names.PACKED, names.MANIFEST))
-    return files.there(places.beside(folder)) and not any(map(files.there, own))
+    """Whether a folder is named that has a manifest beside it, and no archive of fzbatch pack."""
+    first, *more = words(asked)
+    if more and not is_file_word(more[0]):
+        return _has_beside(more[0]) and not _has_own(more[0])
+    return _has_beside(first) and not _has_own(first) and not _has_own(os.path.realpath(first) + names.PACKED)
+
+
+def _has_beside(folder: bytes) -> bool:
+    return files.there(places.beside(os.path.realpath(folder)))
+
+
+def _has_own(folder: bytes) -> bool:
+    return files.there(os.path.join(os.path.realpath(folder), names.MANIFEST))
