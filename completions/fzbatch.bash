@@ -1,18 +1,18 @@
 # Completion of fzbatch for bash.
 _fzbatch() {
     local word=${COMP_WORDS[COMP_CWORD]} before=${COMP_WORDS[COMP_CWORD-1]} command=${COMP_WORDS[1]} options
-    local every='--jobs --memory --fz --time-limit --engine --sshlogin --sshloginfile --scheduler --all --allow-empty --include --exclude --from-list --dry-run --quiet --log --tell-idle'
+    local every='--jobs --memory --fz --time-limit --engine --sshlogin --sshloginfile --scheduler --all --allow-empty --quiet --log' some='--include --exclude --from-list --dry-run --tell-idle'
     COMPREPLY=()
     if [ "$COMP_CWORD" -eq 1 ]; then
         mapfile -t COMPREPLY < <(compgen -W 'pack verify compare restore adopt retile status missing forget collect share rebuild report look' -- "$word")
         return
     fi
     case $command in
-        pack) options="$every --codec --tile --block --workers --no-sums --compare --update --retry --accept-wrong-sums --skip-links --skip-compressed --skip-nothing --beside --delete --manifest" ;;
-        verify) options="$every --sha256-only --manifest" ;;
-        compare) options="$every --without-plain --manifest" ;;
-        restore) options="$every --beside --delete --manifest" ;;
-        retile) options='--jobs --memory --time-limit --fz --all --manifest --codec --tile --block --workers --sums' ;;
+        pack) options="$every $some --codec --tile --block --workers --no-sums --compare --update --retry --accept-wrong-sums --skip-links --skip-compressed --skip-nothing --beside --delete --manifest" ;;
+        verify) options="$every $some --sha256-only --manifest" ;;
+        compare) options="$every $some --without-plain --manifest" ;;
+        restore) options="$every $some --beside --delete --manifest" ;;
+        retile) options='--jobs --memory --time-limit --fz --all --quiet --log --manifest --codec --tile --block --workers --sums' ;;
         adopt) options="$every --manifest --reread --update --moved --skip-links --skip-nothing" ;;
         status) options='--all --json --without-plain --manifest' ;;
         missing) options='--null --without-plain --manifest' ;;

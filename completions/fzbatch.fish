@@ -1,5 +1,6 @@
 # Completion of fzbatch for fish.
 set -l files pack verify compare restore adopt
+set -l some pack verify compare restore
 complete -c fzbatch -n __fish_use_subcommand -f -a pack -d 'pack each FITS file that is not packed yet'
 complete -c fzbatch -n __fish_use_subcommand -f -a verify -d 'check each packed file'
 complete -c fzbatch -n __fish_use_subcommand -f -a compare -d 'unpack and compare with the plain files'
@@ -23,13 +24,13 @@ complete -c fzbatch -n "__fish_seen_subcommand_from $files" -l sshlogin -x -d 'm
 complete -c fzbatch -n "__fish_seen_subcommand_from $files" -l sshloginfile -r -d 'a file with the machines'
 complete -c fzbatch -n "__fish_seen_subcommand_from $files" -l scheduler -x -d 'address of the dask scheduler'
 complete -c fzbatch -n "__fish_seen_subcommand_from $files" -l allow-empty -d 'the source may be empty'
-complete -c fzbatch -n "__fish_seen_subcommand_from $files" -l include -x -d 'only files that fit a pattern'
-complete -c fzbatch -n "__fish_seen_subcommand_from $files" -l exclude -x -d 'no files that fit a pattern'
-complete -c fzbatch -n "__fish_seen_subcommand_from $files" -l from-list -r -d 'only the files that a file names'
-complete -c fzbatch -n "__fish_seen_subcommand_from $files" -s n -l dry-run -d 'say what would be done, and write nothing'
-complete -c fzbatch -n "__fish_seen_subcommand_from $files" -s q -l quiet -d 'print only what is not well'
-complete -c fzbatch -n "__fish_seen_subcommand_from $files" -l log -r -d 'add a line with the time for each file'
-complete -c fzbatch -n "__fish_seen_subcommand_from $files" -l tell-idle -d 'end with status 4 if there is nothing to do'
+complete -c fzbatch -n "__fish_seen_subcommand_from $some" -l include -x -d 'only files that fit a pattern'
+complete -c fzbatch -n "__fish_seen_subcommand_from $some" -l exclude -x -d 'no files that fit a pattern'
+complete -c fzbatch -n "__fish_seen_subcommand_from $some" -l from-list -r -d 'only the files that a file names'
+complete -c fzbatch -n "__fish_seen_subcommand_from $some" -s n -l dry-run -d 'say what would be done, and write nothing'
+complete -c fzbatch -n "__fish_seen_subcommand_from $files retile" -s q -l quiet -d 'print only what is not well'
+complete -c fzbatch -n "__fish_seen_subcommand_from $files retile" -l log -r -d 'add a line with the time for each file'
+complete -c fzbatch -n "__fish_seen_subcommand_from $some" -l tell-idle -d 'end with status 4 if there is nothing to do'
 complete -c fzbatch -n "__fish_seen_subcommand_from $files status collect rebuild retile" -l all -d 'name all files'
 complete -c fzbatch -n '__fish_seen_subcommand_from pack retile' -l codec -x -a 'rice plio none' -d 'the code of tiles'
 complete -c fzbatch -n '__fish_seen_subcommand_from pack retile' -l tile -x -d 'lengths of a tile: a,b,..'
