@@ -12,6 +12,7 @@ import sqlite3
 import subprocess
 import sys
 import tempfile
+import time
 import unittest
 from pathlib import Path
 
@@ -127,6 +128,17 @@ class Finds(Adopted):
         self.assertIn("it has the length and the time that it had, and other bytes", said)
         self.assertEqual(self.run_it("missing", self.night)[0], 1)
         self.assertEqual(self.run_it("adopt", self.night, "--reread", "0")[0], 1)
+
+    def test_another_time_shows_also_of_a_file_that_was_just_written(self) -> None:
+        self.whole()
+        small = self.night / "small.fits"
+        os.utime(small, ns=(time.time_ns() + 3_600_000_000_000,) * 2)
+        self.assertEqual((self.run_it("adopt", self.night)[0], self.run_it("missing", self.night)[0]), (0, 0))
+        small.write_bytes(b"other bytes")
+        for verb in ("missing", "status"):
+            status, said = self.run_it(verb, self.night)
+            self.assertEqual(status, 1)
+            self.assertIn("small.fits: it has another length or time", said)
 
     def test_new_gone_renamed_and_swapped(self) -> None:
         self.whole()

@@ -81,6 +81,17 @@ class InPlace(Adopted):
         self.assertEqual(status, 1)
         self.assertTrue((self.night / "a.fits").exists() and (self.night / "a.fits.fz").exists())
 
+    def test_neither_half_excuses_the_other_one(self) -> None:
+        self.run_it("pack", "--beside", self.night)
+        self.assertEqual((self.run_it("adopt", self.night)[0], self.run_it("missing", self.night)[0]), (0, 0))
+        for it in ("a.fits", "a.fits.fz"):
+            (self.night / it).unlink()
+        for verb in ("missing", "status", "adopt"):
+            status, said = self.run_it(verb, self.night)
+            self.assertEqual(status, 1)
+            for it in ("a.fits", "a.fits.fz"):
+                self.assertIn(f"{it}: it is not there", said)
+
     def test_a_wrong_checksum_is_not_packed(self) -> None:
         shutil.copy(SAMPLES / "sums.fits", self.night / "wrong.fits")
         self.assertIn("wrong checksum in the plain file", self.run_it("pack", "--beside", self.night, "--delete")[1])

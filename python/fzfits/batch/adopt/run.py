@@ -221,7 +221,7 @@ class Run:
             row = self.store.row(folder, name)
             if row is None:
                 continue
-            if verdict.other_half(row, self.store.row):
+            if verdict.other_half(row, waiting.row_there(self.store)):
                 # it was packed or restored in its place, and the run was killed before it said so
                 if writes:
                     self.store.forget(folder, name)

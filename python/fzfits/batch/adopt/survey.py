@@ -7,7 +7,7 @@ from .. import names
 from ..scan import Left
 from . import run, verdict
 from .count import Count, line_of
-from .rows import GONE, Finding, Row
+from .rows import GONE, UNREAD, Finding, Row
 from .store import Store
 from .waiting import Look, Waiting
 
@@ -51,12 +51,11 @@ class Survey:
                     yield it.path, [LOOKS]
         for folder, name in self.waiting.still_gone():
             row = self.store.row(folder, name)
-            if row is not None and row.status != GONE and not verdict.other_half(row, self.store.row):
+            if row is not None and row.status != GONE and not verdict.other_half(row, self.waiting.row_there(self.store)):
                 yield row.path, [NOT_THERE]
 
-    @staticmethod
-    def _is_news(row: "Row | None") -> bool:
-        return row is not None and row.status not in (GONE, "unread") and not row.unsure
+    def _is_news(self, row: "Row | None") -> bool:
+        return row is not None and row.status not in (GONE, UNREAD) and self.waiting.looks_otherwise(row)
 
     @property
     def whole(self) -> bool:

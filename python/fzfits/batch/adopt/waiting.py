@@ -5,7 +5,7 @@ import sqlite3
 import time
 from collections import Counter
 from dataclasses import dataclass, field
-from typing import Iterator, List, Optional, Tuple
+from typing import Callable, Iterator, List, Optional, Tuple
 
 from ..scan import Left
 from .messages import One
@@ -163,6 +163,19 @@ class Waiting:
         self.gone -= 1
         self._sql.execute("DELETE FROM gone WHERE folder = ? AND name = ?", (folder, name))
         self._sql.execute("DELETE FROM before WHERE folder = ? AND name = ?", (folder, name))
+
+    def looks_otherwise(self, row: Row) -> bool:
+        """Whether a file that is there has another length or time than its row says."""
+        return self._sql.execute("SELECT 1 FROM before WHERE sha256 = ? AND folder = ? AND name = ?", (row.sha256, row.folder, row.name)).fetchone() is not None
+
+    def row_there(self, store: Store) -> "Callable[[bytes, bytes], Optional[Row]]":
+        """The rows of files that are there, by folder and name."""
+
+        def found(folder: bytes, name: bytes) -> Optional[Row]:
+            gone = self._sql.execute("SELECT 1 FROM gone WHERE folder = ? AND name = ?", (folder, name)).fetchone()
+            return None if gone else store.row(folder, name)
+
+        return found
 
     def still_gone(self) -> "Iterator[Tuple[bytes, bytes]]":
         """The files that are gone, by folder and name."""
