@@ -81,6 +81,44 @@ class InPlace(Adopted):
         self.assertEqual(status, 1)
         self.assertTrue((self.night / "a.fits").exists() and (self.night / "a.fits.fz").exists())
 
+    def test_only_the_file_that_was_adopted_is_packed(self) -> None:
+        self.run_it("adopt", self.night)
+        strange_faults.in_plain_data(self.night / "a.fits", None)
+        os.utime(self.night / "a.fits", (1_500_000_000, 1_500_000_000))
+        rotten = (self.night / "a.fits").read_bytes()
+        for _ in range(2):
+            status, said = self.run_it("pack", "--beside", self.night, "--delete")
+            self.assertEqual(status, 1)
+            self.assertIn("a.fits: the plain file is another than the one that was adopted", said)
+            self.assertEqual((self.night / "a.fits").read_bytes(), rotten)
+            self.assertFalse((self.night / "a.fits.fz").exists())
+            self.assertEqual(self.run_it("verify", self.night)[0], 1)
+        self.assertEqual(self.run_it("adopt", self.night, "--update", "--reread", "0")[0], 0)
+        self.assertEqual(self.run_it("pack", "--beside", self.night, "--delete")[0], 0)
+
+    def test_a_file_that_is_not_well_by_the_manifest_stays(self) -> None:
+        shutil.copy(SAMPLES / "sums.fits", self.night / "wrong.fits")
+        (self.night / "a.fits").rename(self.night / "other.fits")
+        self.run_it("adopt", self.night)
+        (self.night / "other.fits").rename(self.night / "a.fits")
+        self.run_it("adopt", self.night)
+        (self.night / "a.fits").rename(self.night / "other.fits")
+        self.run_it("adopt", self.night)
+        status, said = self.run_it("pack", "--beside", self.night, "--delete", "--accept-wrong-sums")
+        self.assertEqual(status, 1)
+        self.assertIn("other.fits: it is not well by the manifest", said)
+        self.assertTrue((self.night / "other.fits").exists() and not (self.night / "other.fits.fz").exists())
+        self.assertEqual(self.run_it("missing", self.night)[0], 1)
+
+    def test_a_lost_packed_file_and_a_plain_one_that_changed(self) -> None:
+        self.run_it("pack", "--beside", self.night)
+        (self.night / "a.fits.fz").unlink()
+        strange_faults.in_plain_data(self.night / "a.fits", None)
+        status, said = self.run_it("pack", "--beside", self.night)
+        self.assertEqual(status, 1)
+        self.assertIn("the packed file is not there, and the plain file is another than the one that was packed", said)
+        self.assertFalse((self.night / "a.fits.fz").exists())
+
     def test_neither_half_excuses_the_other_one(self) -> None:
         self.run_it("pack", "--beside", self.night)
         self.assertEqual((self.run_it("adopt", self.night)[0], self.run_it("missing", self.night)[0]), (0, 0))

@@ -17,10 +17,10 @@ from ...results import verdict_of
 from .. import advice, files, inside, names
 from ..rooms import Rooms
 from ..tries import wrong_lines
-from .alone import hdu_of
+from .alone import SUMS, hdu_of
 from .calling import Fz, Undone
 from .messages import Asked
-from .rows import Plain, packed_text
+from .rows import FAULTY, RENAMED, Plain, Row, packed_text
 
 OTHER = "packed name is taken"
 WRITTEN = ("plain file is being written", "the plain file changed while it was packed", "run fzbatch again when nothing writes it")
@@ -28,7 +28,10 @@ WRITTEN = ("plain file is being written", "the plain file changed while it was p
 
 @dataclass
 class Place:
-    """A plain file and the packed one beside it. The fields after `number` are what the manifest says of them, if it does."""
+    """A plain file and the packed one beside it: what the manifest says of them, if it does.
+
+    `plain` is what it has noted when the packed file was made, and `adopted` is the row of the plain file itself.
+    """
 
     folder: bytes
     name: bytes
@@ -36,6 +39,7 @@ class Place:
     packed_sha256: str = ""
     plain: Optional[Plain] = None
     next_sha256: str = ""
+    adopted: Optional[Row] = None
 
     @property
     def packed_name(self) -> bytes:
@@ -109,6 +113,7 @@ class InPlace:
             source = opened_in(above, self.place.name)
             try:
                 before = self.did.plain = files.look_at(source)
+                self._is_known(above, before)
                 if _there(above, self.place.packed_name):
                     self._accept(above, before)
                     return
@@ -175,6 +180,16 @@ class InPlace:
         if ended.status == 1 and not self.accept:
             raise Undone("wrong checksum", f"fz {verb}: {wrong_lines(ended)}", advice.STATUSES[1])
         return ended
+
+    def _is_known(self, above: int, before: files.Looked) -> None:
+        """The plain file is the one that the manifest knows, if it knows one, and nothing is wrong with it."""
+        row, plain = self.place.adopted, self.place.plain
+        if row is not None and row.sha256.hex() != before.sha256:
+            raise Undone("plain file changed", "the plain file is another than the one that was adopted", "fetch the one that was adopted from another copy; fzbatch adopt --update takes the file as it is now, if that is right")
+        if row is not None and row.status in (FAULTY, RENAMED) and not (self.accept and {it.cause for it in row.findings} <= {SUMS}):
+            raise Undone("not well", "it is not well by the manifest, and stays as it is", "fzbatch missing says what is wrong")
+        if plain is not None and plain.sha256 != before.sha256 and not _there(above, self.place.packed_name):
+            raise Undone("packed file is lost, and plain file changed", advice.BOTH_CHANGED, "fetch one of them from another copy; or fzbatch adopt, and then fzbatch forget, take the packed file out of the manifest")
 
     def _sums(self, source: int, before: files.Looked) -> None:
         """The checksums of the plain file are right, or are accepted."""
