@@ -1,16 +1,22 @@
 """Packed files in the place of plain ones, and back; packed again in other tiles; compared with a folder of plain files."""
 from __future__ import annotations
 
+import dataclasses
 import os
+import shlex
 import shutil
 import subprocess
 import sys
+import time
 import unittest
 from pathlib import Path
 
 sys.path[:0] = [str(Path(__file__).resolve().parents[1])]
 
 from batch.test_adopted import FZ, SAMPLES, Adopted  # noqa: E402
+from fzfits.batch.adopt.in_place import InPlace as OneFile, Place  # noqa: E402
+from fzfits.batch.adopt.messages import Asked  # noqa: E402
+from fzfits.batch.rooms import Rooms  # noqa: E402
 from making import strange_faults  # noqa: E402
 
 NAMES = ("a.fits", "n/b.fits", "table.fits")
@@ -118,6 +124,36 @@ class InPlace(Adopted):
         self.assertEqual(status, 1)
         self.assertIn("the packed file is not there, and the plain file is another than the one that was packed", said)
         self.assertFalse((self.night / "a.fits.fz").exists())
+
+    def test_what_changed_with_its_old_time_is_not_removed(self) -> None:
+        it = self.night / "a.fits"
+        self.run_it("pack", "--beside", self.night)
+        for age in (0, 1_000_000):
+            at = time.time_ns() - age * 1_000_000_000
+            os.utime(it, ns=(at, at))
+            changing = self.room / "fz"
+            changes = f"import os; p = {str(it)!r}; to = open(p, 'r+b'); to.seek(3000); to.write(b'NEW'); to.close(); os.utime(p, ns=({at}, {at}))"
+            changing.write_text(f"#!/bin/sh\n{shlex.quote(FZ)} \"$@\"; status=$?\nif [ $1 = unpack ]; then {shlex.quote(sys.executable)} -c {shlex.quote(changes)}; fi\nexit $status\n")
+            changing.chmod(0o755)
+            before = it.read_bytes()
+            said = Adopted.run_it(self, "pack", "--beside", self.night, "--delete", "--fz", changing)[1]
+            self.assertIn("a.fits: it, or the other file, changed since both were compared", said)
+            self.assertEqual(it.read_bytes()[3000:3003], b"NEW")
+            it.write_bytes(before)
+
+    def test_a_time_that_is_too_near_is_not_trusted(self) -> None:
+        it = self.night / "a.fits"
+        it.write_bytes(it.read_bytes())
+        one = OneFile(Asked(os.fsencode(self.night), "0" * 16, FZ), Place(b"", b"a.fits", 1), Rooms(os.fsencode(self.night), "0" * 16), ["--sums"], False)
+        one.do("pack")
+        looked = one.did.plain
+        assert looked is not None
+        it.write_bytes(it.read_bytes()[:-1] + b"1")
+        found = it.stat()
+        # as on a disk with times of two seconds
+        one.did.plain = dataclasses.replace(looked, mtime=found.st_mtime_ns, ctime=found.st_ctime_ns)
+        self.assertFalse(one.remove(b"a.fits"))
+        self.assertTrue(it.exists())
 
     def test_neither_half_excuses_the_other_one(self) -> None:
         self.run_it("pack", "--beside", self.night)

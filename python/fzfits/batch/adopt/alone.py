@@ -6,14 +6,14 @@ from typing import Callable, List, Optional, Tuple
 
 from ...checks import EMPTY, UNDECODED, has_own_sums
 from ...contents import content_of, undecoded_of
-from ...headers import Header
+from ...headers import Header, headers
 from ...program import Outcome
 from ...results import REFUSED, verdict_of
-from .. import advice, files
+from .. import advice, files, names
 from . import boxes, heaps, rewrite, summing
 from .calling import Fz
 from .cards import DAMAGED
-from .rows import Finding, Hdu
+from .rows import Finding, Hdu, packed_text
 from .tiles import CAUSE, LOST, Image
 
 PIECE = 1 << 20
@@ -33,6 +33,20 @@ def hdu_of(header: Header) -> Hdu:
     packed = it.sort == "packed image"
     rows = header.integer("NAXIS2") if packed or "table" in it.sort else None
     return Hdu(it.number, it.sort, it.name, it.type, list(it.axes), it.codec if packed else "", list(it.tile), rows, undecoded=it.undecoded)
+
+
+def hdus_text(number: int, ended: Outcome) -> str:
+    """The HDUs of a packed file that fz verified."""
+    found, verdicts = [], {it.hdu: it for it in map(verdict_of, ended.lines) if it is not None}
+    for it in headers(f"/proc/self/fd/{number}"):
+        hdu = hdu_of(it)
+        verdict = verdicts.get(it.number)
+        if verdict is not None:
+            hdu.datasum, hdu.checksum, hdu.tiles = verdict.datasum, verdict.checksum, verdict.tiles
+        for name in ("sort", "name", "type", "codec", "undecoded"):
+            setattr(hdu, name, names.told(getattr(hdu, name)))
+        found.append(hdu)
+    return packed_text(found)
 
 
 class Alone:

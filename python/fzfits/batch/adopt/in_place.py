@@ -8,19 +8,18 @@ from __future__ import annotations
 import json
 import os
 import time
-from dataclasses import asdict, dataclass
+from dataclasses import asdict, dataclass, field
 from typing import List, Optional
 
 from ...headers import headers
 from ...program import Outcome
-from ...results import verdict_of
 from .. import advice, files, inside, names
 from ..rooms import Rooms
 from ..tries import wrong_lines
-from .alone import SUMS, hdu_of
+from .alone import SUMS, hdus_text
 from .calling import Fz, Undone
 from .messages import Asked
-from .rows import FAULTY, RENAMED, Plain, Row, packed_text
+from .rows import FAULTY, GRAIN, RENAMED, Plain, Row
 
 OTHER = "packed name is taken"
 WRITTEN = ("plain file is being written", "the plain file changed while it was packed", "run fzbatch again when nothing writes it")
@@ -63,6 +62,7 @@ class Did:
     error: Optional[int] = None
     plain: Optional[files.Looked] = None
     packed: Optional[files.Looked] = None
+    began: int = field(default_factory=time.time_ns)
     looked: int = 0
     hdus: str = "[]"
 
@@ -165,10 +165,23 @@ class InPlace:
                 it = os.stat(one, dir_fd=above, follow_symlinks=False)
                 if (it.st_ino, it.st_size, it.st_mtime_ns) != (looked.inode, looked.size, looked.mtime):
                     return False
+                # a name that was given changed the ctime of the other one
+                if one == name and not (looked.is_still(it) and self._is_sure(above, one, looked)):
+                    return False
             inside.sync_number(above)
             files.remove(name, above)
             inside.sync_number(above)
         return True
+
+    def _is_sure(self, above: int, name: bytes, looked: files.Looked) -> bool:
+        """Whether a file has the bytes that it had: it is read again if a later change may have left its times the same."""
+        if looked.mtime <= self.did.began - GRAIN:
+            return True
+        number = opened_in(above, name)
+        try:
+            return files.look_at(number).sha256 == looked.sha256
+        finally:
+            os.close(number)
 
     # what they are made of
 
@@ -273,20 +286,6 @@ class InPlace:
         if not files.give_name(above, self.part, name):
             raise Undone(OTHER, f"{names.shown(name)} is there by now", "run fzbatch again, which compares it")
         inside.sync_number(above)
-
-
-def hdus_text(number: int, ended: Outcome) -> str:
-    """The HDUs of a packed file that fz verified."""
-    found, verdicts = [], {it.hdu: it for it in map(verdict_of, ended.lines) if it is not None}
-    for it in headers(f"/proc/self/fd/{number}"):
-        hdu = hdu_of(it)
-        verdict = verdicts.get(it.number)
-        if verdict is not None:
-            hdu.datasum, hdu.checksum, hdu.tiles = verdict.datasum, verdict.checksum, verdict.tiles
-        for name in ("sort", "name", "type", "codec", "undecoded"):
-            setattr(hdu, name, names.told(getattr(hdu, name)))
-        found.append(hdu)
-    return packed_text(found)
 
 
 def opened_in(above: int, name: bytes) -> int:

@@ -14,9 +14,10 @@ from .. import advice, files, inside
 from ..opening import BadManifest
 from ..rooms import Rooms
 from ..tries import wrong_lines
+from .alone import hdus_text
 from .beside import Beside
 from .calling import Undone
-from .in_place import Did, InPlace, Place, hdus_text, opened_in
+from .in_place import Did, InPlace, Place, opened_in
 from .messages import Asked
 from .rows import PART, RIGHT, Finding, Row
 
