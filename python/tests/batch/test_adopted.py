@@ -160,6 +160,21 @@ class Finds(Adopted):
         self.assertEqual(self.run_it("forget", self.night, "--name", "a.fits.fz"), (0, "forgotten: a.fits.fz\n"))
         self.assertEqual(self.run_it("verify", self.night)[0], 0)
 
+    def test_a_faulty_file_that_was_gone_is_not_right_by_its_sha256(self) -> None:
+        wrong, away = self.night / "n" / "plain.fits", self.room / "away.fits"
+        self.assertEqual(self.run_it("adopt", self.night)[0], 1)
+        for verb in ("adopt", "verify"):
+            wrong.rename(away)
+            self.assertEqual(self.run_it(verb, self.night)[0], 1)
+            away.rename(wrong)
+            status, said = self.run_it("verify", self.night, "--sha256-only")
+            self.assertEqual(status, 1)
+            self.assertIn("n/plain.fits: it has the bytes that were adopted again", said)
+            self.assertEqual(self.run_it("missing", self.night)[0], 1)
+            status, said = self.run_it("adopt", self.night)
+            self.assertEqual(status, 1)
+            self.assertIn("CHECKSUM is not that of its bytes", said)
+
     def test_a_manifest_elsewhere_and_several(self) -> None:
         place = self.room / "m"
         place.mkdir()

@@ -11,6 +11,7 @@ from .rows import CHANGED, FAULTY, GONE, PART, RENAMED, RIGHT, ROTTEN, UNREAD, W
 ROT = "bytes changed, and neither length nor time: the disk, or a copy, damaged the file. Fetch it from another copy"
 OTHER = "find out who changed it; fzbatch adopt --update takes it as it is now, and fetching it from another copy ends this too"
 NAME = "fzbatch adopt --update takes the new name; giving the file its old name ends this too"
+AGAIN = "it has the bytes that were adopted again, and what is in it was not looked at since"
 LOST = "fetch it from another copy, or fzbatch forget takes it out of the manifest"
 # The causes that say that a file is another one than was adopted.
 OURS = ("rotten", "changed", "has the bytes of another file", "renamed", "gone", "not read")
@@ -86,6 +87,10 @@ def _same(found: Found, row: Row, run: int, update: bool) -> Row:
         made.sort, made.hdus, own = found.sort, found.hdus, findings_of(found.found)
     else:
         own = [it for it in row.findings if it.cause not in OURS]
+        if row.status in (GONE, CHANGED, ROTTEN, UNREAD):
+            # what was found of these bytes is not known any more
+            made.status, made.found = UNREAD, packed_text([Finding("not read", AGAIN, "fzbatch adopt reads it"), *own])
+            return made
     if made.was and update:
         made.was = b""
     renamed = [Finding("renamed", f"it was {names.shown(made.was)}", NAME)] if made.was else []
