@@ -118,7 +118,10 @@ def row_of(result: Result, old: Optional[Row], known: Optional[str]) -> Row:
         return row
     if old is not None and old.done and (old.packed_sha256, old.sha256) == (result.packed_sha256, result.sha256):
         row = Row(**vars(old))
-        row.packed_mtime, row.fault, row.cause, row.line, row.advice = result.packed_mtime, "", "", "", ""
+        row.packed_mtime = result.packed_mtime
+        if row.fault != "changed":
+            # that is said of the plain file, which was not read
+            row.fault = row.cause = row.line = row.advice = ""
     else:
         row = Row(result.path, result.size, None, result.mode, None, result.sha256, result.packed_size, result.packed_mtime, result.packed_sha256, result.outcome)
         row.wrong_sums, row.sums_line, row.seconds, row.packed_at = result.wrong_sums, result.sums_line, result.seconds, now()

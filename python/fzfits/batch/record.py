@@ -10,13 +10,13 @@ from .messages import CAME_BACK, VERIFIED, Result
 WRONG_RESTORED = "wrong checksum in the restored file"
 
 
-def record(manifest: Manifest, old: Optional[Row], result: Result, identity: str, options: str) -> Row:
-    """Writes a result into the manifest, and gives the row."""
+def record(manifest: Manifest, old: Optional[Row], result: Result, identity: str, options: str, plain: bytes = b"") -> Row:
+    """Writes a result into the manifest, and gives the row. `plain` is the folder of plain files of the run."""
     row = old if old is not None and old.done else Row(result.path)
     if result.verb == "pack" and result.outcome in ("packed", "copied"):
         row = _packed(result, identity, options)
     elif result.good or result.outcome == "gone":
-        _good(row, result)
+        _good(row, result, plain == manifest.fact("source"))
     elif row.done:
         row.cause, row.line, row.advice = result.cause, result.line, result.advice
         if not (result.verb == "restore" and result.outcome == "changed"):
@@ -44,7 +44,7 @@ def _packed(result: Result, identity: str, options: str) -> Row:
     return row
 
 
-def _good(row: Row, result: Result) -> None:
+def _good(row: Row, result: Result, is_here: bool) -> None:
     if result.verb == "pack":
         row.size, row.mtime, row.mode, row.looked = result.size, result.mtime, result.mode, result.looked
     if result.outcome == "there" and result.packed_mtime is None:
@@ -52,6 +52,9 @@ def _good(row: Row, result: Result) -> None:
         return
     if result.packed_mtime is not None:
         row.packed_size, row.packed_mtime = result.packed_size, result.packed_mtime
+    if row.fault == "changed" and (result.verb == "verify" or (result.verb == "restore" and not is_here)):
+        # it is the plain file that is another one, and that was not looked at
+        return
     if _needed(row) & ~result.tests:
         # this look was weaker than the one that found the fault
         return

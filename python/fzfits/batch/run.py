@@ -211,7 +211,7 @@ class _Run:
     def _record(self, result: Result) -> bool:
         """Writes a result into the manifest. If that has no room the run stops, and the next one finds the packed file and compares it."""
         try:
-            row = record(self.manifest, self.rows.get(result.path), result, self.identity, " ".join(self.wanted.options))
+            row = record(self.manifest, self.rows.get(result.path), result, self.identity, " ".join(self.wanted.options), self.wanted.plain)
         except BadManifest as error:
             self.manifest.give_up()
             self._stop(str(error))

@@ -45,7 +45,7 @@ def collect(packed: bytes, out: TextIO, drop: bool = False, all_names: bool = Fa
         tally = Tally(settings.verb)
         results = slurm.result_of_each(packed, settings, tasks)
         for result in results.values():
-            row = record(manifest, rows.get(result.path), result, settings.identity, " ".join(settings.options))
+            row = record(manifest, rows.get(result.path), result, settings.identity, " ".join(settings.options), settings.plain)
             if result.good and row.fault:
                 tally.bad(result.path, row.cause, row.line, row.advice)
             elif result.good:
@@ -116,7 +116,9 @@ def _fill(manifest: Manifest, settings: Settings, jobs: int, tally: Tally, old: 
         for task, result in loop.each((_read(settings, it, scratch) for it in tasks), jobs):
             row = rebuild.row_of(result, old.get(result.path), task.packed_sha256)
             manifest.put(row)
-            if result.good:
+            if result.good and row.fault:
+                tally.bad(result.path, row.cause, row.line, row.advice)
+            elif result.good:
                 tally.good(result.outcome, row.size or 0, row.packed_size or 0)
             else:
                 tally.bad(result.path, result.cause, result.line, result.advice)

@@ -61,6 +61,25 @@ class FaultIsKept(Archive):
         self.named("packed file changed", "pack", self.plain)
 
 
+class PlainFileChanged(Archive):
+    """That a plain file changed, and not its time, is forgotten only by a run that reads it."""
+
+    def test_what_compare_found(self) -> None:
+        self.packs()
+        path = self.plain / "a.fits"
+        flip(path)
+        said = "the plain file is another than the one that was packed"
+        self.named(said, "compare", self.plain)
+        for words in (["verify"], ["rebuild", "--again"]):
+            self.named(said, *words, self.packed)
+            self.looks(said)
+        self.assertEqual(self.run_it("restore", self.room / "back", self.packed)[0], 0)
+        self.looks(said)
+        path.unlink()
+        self.assertEqual(self.run_it("restore", self.plain, self.packed)[0], 0)
+        self.assertEqual(self.run_it("missing", self.plain, self.packed)[0], 0)
+
+
 class HugeAxes(Archive):
     """Headers that claim more than a number holds cost no time, and keep no other file from being looked at."""
 
