@@ -144,8 +144,8 @@ def of_padding(error: Refused, path: Name, header: Optional[Header]) -> None:
     many = sum(1 for it in found if it != (32 if in_header else 0))
     error.mends = "header_fill" if in_header else "data_fill"
     blanks = not in_header and not found.strip(b" ")
-    other, right = "blanks" if blanks else "something else", "blanks" if in_header else "zeros"
-    error.advice = f"In the padding of HDU {error.hdu} {other} instead of {right}: {counted(many)}."
+    part, right = ("header", "blank") if in_header else ("data", "zero")
+    error.advice = f"{counted(many)} of the padding of the {part} of HDU {error.hdu} {'is' if many == 1 else 'are'} not {right}{', but blank' if blanks else ''}."
 
 
 def same_name(one: Card, other: Card) -> bool:

@@ -8,7 +8,8 @@ from typing import IO, FrozenSet, Iterator, List, Optional, Tuple
 
 from . import commands, sums
 from .advice import counted
-from .errors import Unexpected, shown
+from .checks import sums_of
+from .errors import Unexpected, Usage, shown
 from .headers import BLOCK, CARD, END, Header, Name, headers
 from .names import bytes_of, output, write_fault
 
@@ -155,6 +156,24 @@ def in_bytes(plan: Plan) -> bool:
     return any(it.option not in ("trailing", "part_hdu") for it in plan.changes)
 
 
+def mend_sums(file: IO[bytes], path: Name, plans: List[Plan]) -> None:
+    """Notes the HDUs that stay as they are but for a wrong checksum, and gives them a right one. Raises `Usage` if a card has no room for it."""
+    for it in plans:
+        if in_bytes(it) or not it.raw or it.kept + it.zeros != it.header.end - it.header.data:
+            continue
+        datasum, checksum = sums_of(path, it.header)
+        if "wrong" not in (datasum, checksum):
+            continue
+        it.raw = summed(file, it)
+        of_data = sums.sum_of(data_of(file, it))
+        if checksum != "none" and sums.added(of_data, it.raw) != 0xFFFFFFFF:
+            raise Usage(f"the checksum cards of HDU {it.header.number} have no room for right values", path=path)
+        if datasum == "wrong":
+            it.changed("sums", f"checksums made anew, though its data are not those that DATASUM was made of (it was {it.header.value('DATASUM')}, and is {of_data})")
+        else:
+            it.changed("sums", "CHECKSUM made anew; " + ("its data are as DATASUM says" if datasum == "ok" else "there is no DATASUM"))
+
+
 def mend(
     path: Name,
     out: Name,
@@ -176,8 +195,8 @@ def mend(
     - `trailing` cuts the file at the byte that 8 TrailingBytes names.
     - `part_hdu` cuts off the last HDU if it is not whole (2 Truncated); what is there of it is lost.
     - `zsimple` removes ZSIMPLE where ZTENSION says that the packed image is an extension (5 Duplicate).
-    - `sums` makes DATASUM and CHECKSUM of the changed HDUs anew, if they have them. Verify the file before: damage in such an HDU is
-      not noticed any more.
+    - `sums` makes DATASUM and CHECKSUM anew, if they are there, of the HDUs that the other options change and of those in which one
+      is wrong. Verify the file before: damage in such an HDU is not noticed any more.
 
     What was changed is in the result. If there is nothing to change, no file is made. A file in which no header can be followed is
     `Refused`, as by `list`.
@@ -194,6 +213,8 @@ def mend(
         plans = plans_of(file, source, os.fstat(file.fileno()).st_size, asked)
         if not plans:
             commands.list(path, program=program)
+        if sums:
+            mend_sums(file, source, plans)
         changes = tuple(change for plan in plans for change in plan.changes)
         if changes:
             write(file, plans, out, sums)

@@ -165,7 +165,25 @@ class Reading(InAShell):
         self.assertIn("fzfits mend --pad", self.call("why", files[2], status=1))
         self.assertIn("nothing is wrong: fz packs it", self.call("why", SAMPLES / "small.fits"))
         self.assertIn("nothing is wrong: fz unpacks", self.call("why", PACKED / "small.rice.fits"))
-        self.assertIn("a checksum of HDU 1 is wrong", self.call("why", PACKED / "grid.wrong.fits", status=1))
+        self.assertIn("DATASUM of HDU 1 does not fit its data", self.call("why", PACKED / "grid.wrong.fits", status=1))
+
+    def test_wrong_sums_are_named_packed_and_mended(self):
+        raw = (SAMPLES / "sums.fits").read_bytes()
+        Path("of_data.fits").write_bytes(raw[:5767] + bytes([raw[5767] ^ 1]) + raw[5768:])
+        self.copy(SAMPLES / "sums.fits", "of_header.fits")
+        for name, means in (("of_header", "CHECKSUM of HDU 2 does not fit its bytes; its data are as DATASUM says"), ("of_data", "DATASUM of HDU 1 does not fit its data")):
+            said = self.call("why", f"{name}.fits", status=1)
+            self.assertIn(means, said)
+            self.assertIn(f"fzfits mend --sums {name}.fits OUT", said)
+            self.assertIn(f"warning: {name}.fits: {means}", self.call("pack", f"{name}.fits"))
+            self.call("unpack", "-o", "back", f"{name}.fits.fz")
+            self.assertEqual(Path("back").read_bytes(), Path(f"{name}.fits").read_bytes())
+            os.unlink("back")
+            self.assertIn("HDU 2: CHECKSUM made anew; its data are as DATASUM says", self.call("mend", "--sums", f"{name}.fits", f"{name}.right.fits"))
+            self.assertIn("nothing is wrong", self.call("why", f"{name}.right.fits"))
+            self.assertNotIn("warning", self.call("pack", f"{name}.right.fits"))
+        self.assertIn("nothing to mend", self.call("mend", "--sums", "of_data.right.fits", "more.fits", status=1))
+        self.assertFalse(Path("more.fits").exists())
 
     def test_mend(self):
         raw = (SAMPLES / "small.fits").read_bytes()

@@ -26,7 +26,8 @@ FORGET = "fzbatch forget takes it out of the manifest"
 UPDATE = "fzbatch pack --update packs the plain file again, in the place of the packed file that changed"
 
 STATUSES = {
-    1: "a checksum of the plain file is wrong before it is packed: fetch it again, or correct its checksums with the tool that wrote it; "
+    1: "a checksum of the plain file is wrong before it is packed: fetch it again; or, if its data are known to be right, fzfits mend --sums makes "
+    "a copy with right checksums; fzfits why says which are wrong and what that means; "
     "--accept-wrong-sums packs it as it is, which the manifest keeps",
     2: "correct the options of fz pack that were given to fzbatch",
     4: "check that the file still exists and that the disk or the network works, and run fzbatch again",
@@ -99,7 +100,8 @@ def _remedy_of(error: Refused, path: bytes) -> str:
     lines = [error.advice.replace("tile=(64, 64)", "--tile 64,64")] if error.advice else []
     if error.mends:
         lines.append(f"fzfits mend --{error.mends.replace('_', '-')} {shlex.quote(os.fsdecode(path))} OUT makes a copy without this fault")
-    return "; or ".join(it.rstrip(".") for it in lines)
+    # an advice that ends with a command is one way, and mend another; else it says what the fault is
+    return ("; or " if "truncate -s" in error.advice else ". ").join(it.rstrip(".") for it in lines)
 
 
 def kind_of(line: str) -> tuple[int, str]:

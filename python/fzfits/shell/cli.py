@@ -154,4 +154,4 @@ def mend_words(verbs: Any) -> None:
     }
     for it in OPTIONS:
         made.add_argument(told.option(it), action="store_true", dest=it, help=says[it])
-    made.add_argument("--sums", action="store_true", help="make the checksums of changed HDUs anew")
+    made.add_argument("--sums", action="store_true", help="make anew the checksums that are wrong, and those of changed HDUs")

@@ -58,6 +58,25 @@ def header_of_file(path: str, asked: argparse.Namespace) -> int:
     return 0
 
 
+def told_right(path: str, does: str) -> int:
+    """Says that nothing is wrong."""
+    print(f"{shown(path)}: nothing is wrong: {does}")
+    return 0
+
+
+def why_sums(path: str, does: str) -> int:
+    """Says which checksums of a file that fz accepts are wrong, what that means, and what to do. The status: 0 if none is."""
+    wrong = told.wrong_sums(path)
+    if not wrong:
+        return 0
+    print(f"{shown(path)}: {'a checksum is' if len(wrong) == 1 else 'checksums are'} wrong; {does}")
+    for it in wrong:
+        print(f"    {it}.")
+    print("    Compare it with another copy, or fetch it again. If its data are known to be right:")
+    print(f"    fzfits mend --sums {told.name(path)} OUT makes a copy with right checksums, in which damage from before is not noticed any more.")
+    return 1
+
+
 def why_file(path: str, asked: argparse.Namespace) -> int:
     """Says in words why a file is rejected, and what to do; that nothing is, if so."""
     try:
@@ -66,15 +85,13 @@ def why_file(path: str, asked: argparse.Namespace) -> int:
             with tempfile.TemporaryDirectory(prefix="fz-") as folder:
                 commands.pack(path, os.path.join(folder, "packed.fits"))
         if packed:
-            report = commands.verify(path)
-            wrong = ", ".join(f"HDU {it.hdu}" for it in report.wrong)
-            print(f"{shown(path)}: " + (f"a checksum of {wrong} is wrong: see fzfits verify" if wrong else "nothing is wrong: fz unpacks, verifies and cuts it"))
-            return 1 if wrong else 0
+            return why_sums(path, "fz unpacks and cuts it all the same") or told_right(path, "fz unpacks, verifies and cuts it")
         with tempfile.TemporaryDirectory(prefix="fz-") as folder:
             commands.pack(path, os.path.join(folder, "packed.fits"))
         images = sum(it.sort == "image" and not it.type.startswith("float") for it in contents(path)[0])
-        print(f"{shown(path)}: nothing is wrong: fz packs it" + ("" if images else ", but it has no integer image, so it would only be copied"))
-        return 0
+        return why_sums(path, "fz packs it as it is, and fzbatch only with --accept-wrong-sums") or told_right(
+            path, "fz packs it" + ("" if images else ", but it has no integer image, so it would only be copied")
+        )
     except NoProgram:
         raise
     except FzError as error:

@@ -4,11 +4,12 @@ from __future__ import annotations
 import argparse
 import os
 import secrets
+import sys
 from typing import Optional
 
 from .. import commands
 from ..errors import Usage, shown
-from ..headers import Name
+from ..headers import Name, headers
 from ..mend import OPTIONS, mend
 from ..names import sync_folder
 from ..results import Made
@@ -84,6 +85,10 @@ def pack_file(path: str, asked: argparse.Namespace) -> int:
     out = out_of(path, asked, told.packed_name(path, asked.folder))
     before = state_of(path) if asked.delete and os.path.lexists(path) else ()
     made = commands.pack(path, out, codec=asked.codec, tile=asked.tile, block=asked.block, sums=not asked.no_sums, workers=asked.workers, memory=asked.memory)
+    # a file without checksums is not read a second time
+    has_sums = any(it.card("DATASUM") or it.card("CHECKSUM") for it in headers(path))
+    for it in told.wrong_sums(path) if has_sums else ():
+        print(f"fzfits pack: warning: {shown(path)}: {it}; it is packed as it is (fzfits why {told.name(path)})", file=sys.stderr)
     if asked.delete:
         drop(path, out, before)
     say(made, asked, ", compared and deleted" if asked.delete else "")
@@ -110,8 +115,8 @@ def cut_file(path: str, asked: argparse.Namespace) -> int:
 def mend_file(path: str, asked: argparse.Namespace) -> int:
     """Writes a copy without the faults that are asked for."""
     wanted = {it: getattr(asked, it) for it in OPTIONS}
-    if not any(wanted.values()):
-        raise Usage(f"say which faults to mend: {', '.join(map(told.option, OPTIONS))}; fzfits why {told.name(path)} says which there is")
+    if not any(wanted.values()) and not asked.sums:
+        raise Usage(f"say which faults to mend: {', '.join(map(told.option, OPTIONS))}, --sums; fzfits why {told.name(path)} says which there is")
     done = mend(path, asked.out, sums=asked.sums, **wanted)
     if not done:
         print(f"{shown(path)}: nothing to mend, and no file was made")

@@ -4,10 +4,12 @@ from __future__ import annotations
 import os
 import re
 import shlex
-from typing import Optional
+from typing import List, Optional
 
+from .. import commands
 from ..errors import FzError, OverLimit, Refused, shown
 from ..headers import Name
+from ..results import Verdict
 
 
 def name(path: Name) -> str:
@@ -49,6 +51,25 @@ def message(error: BaseException, path: Optional[Name] = None, whole: bool = Fal
         about = error.filename if error.filename is not None else path
         return f"{shown(about) if isinstance(about, (str, bytes)) else about}: {error.strerror or error}"
     return str(error) if path is None else f"{shown(path)}: {error}"
+
+
+def wrong_sum(it: Verdict) -> str:
+    """What the wrong checksums of an HDU mean.
+
+    >>> wrong_sum(Verdict(2, "ok", "wrong"))
+    'CHECKSUM of HDU 2 does not fit its bytes; its data are as DATASUM says, so its header was changed, or CHECKSUM was never right'
+    """
+    if it.datasum == "wrong":
+        said = f"DATASUM of HDU {it.hdu} does not fit its data: they were changed or damaged, or DATASUM was never right"
+        return said + {"wrong": "; CHECKSUM does not fit either", "ok": "; CHECKSUM fits, so it was so when that was made"}.get(it.checksum, "")
+    if it.datasum == "ok":
+        return f"CHECKSUM of HDU {it.hdu} does not fit its bytes; its data are as DATASUM says, so its header was changed, or CHECKSUM was never right"
+    return f"CHECKSUM of HDU {it.hdu} does not fit its bytes, and it has no DATASUM: its header or its data were changed or damaged, or CHECKSUM was never right"
+
+
+def wrong_sums(path: Name) -> "List[str]":
+    """What the wrong checksums of a file mean, one line for each HDU that has one."""
+    return [wrong_sum(it) for it in commands.verify(path).wrong]
 
 
 def packed_name(path: str, folder: Optional[str]) -> str:

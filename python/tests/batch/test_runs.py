@@ -108,6 +108,14 @@ class Runs(unittest.TestCase):
         self.assertEqual(self.last("pack", self.plain, "--accept-wrong-sums")[0], 0)
         self.assertEqual(self.last("verify", self.plain)[0], 0)
 
+    def test_what_to_do_is_made_of_sentences(self) -> None:
+        raw = (SAMPLES / "star_field.fits").read_bytes()
+        (self.plain / "fill.fits").write_bytes(raw[:2879] + b"A" + raw[2880:])
+        (self.plain / "short.fits").write_bytes(raw[:-50])
+        said = self.run_it("pack", self.plain)[1]
+        self.assertIn("What to do: 1 byte of the padding of the header of HDU 0 is not blank. fzfits mend --header-fill ", said)
+        self.assertIn("COPY; or fzfits mend --pad ", said)
+
     def test_sources_that_may_be_another_disk(self) -> None:
         self.run_it("pack", self.plain)
         other = self.room / "other"
