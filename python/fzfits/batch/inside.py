@@ -83,6 +83,15 @@ def file(root: bytes, path: bytes) -> Iterator[int]:
         os.close(number)
 
 
+def opened_in(above: int, name: bytes) -> int:
+    """A regular file of an open folder, opened to be read. A link is not followed."""
+    number = os.open(name, FILE, dir_fd=above)
+    if not stat.S_ISREG(os.fstat(number).st_mode):
+        os.close(number)
+        raise NotInside("it is no regular file")
+    return number
+
+
 def state(root: bytes, path: bytes) -> Optional[os.stat_result]:
     """What `lstat` says of a name below `root`, or None if nothing has it. No link is followed below `root`."""
     try:

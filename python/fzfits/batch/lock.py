@@ -54,6 +54,18 @@ def held(path: bytes, shared: bool = False) -> Iterator[None]:
         os.close(number)
 
 
+def folder(number: int) -> bool:
+    """Takes the lock of an open folder until it is closed: False if another run has it, which may have another manifest."""
+    try:
+        fcntl.flock(number, fcntl.LOCK_EX | fcntl.LOCK_NB)
+    except BlockingIOError:
+        return False
+    except OSError:
+        # a disk whose folders have no locks
+        pass
+    return True
+
+
 def _opened(path: bytes) -> int:
     rights = stat.S_IMODE(os.stat(os.path.dirname(path)).st_mode) & 0o666
     try:

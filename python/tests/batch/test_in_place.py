@@ -9,11 +9,13 @@ import subprocess
 import sys
 import time
 import unittest
+import unittest.mock
 from pathlib import Path
 
 sys.path[:0] = [str(Path(__file__).resolve().parents[1])]
 
 from batch.test_adopted import FZ, SAMPLES, Adopted  # noqa: E402
+from fzfits.batch import files  # noqa: E402
 from fzfits.batch.adopt.in_place import InPlace as OneFile, Place  # noqa: E402
 from fzfits.batch.adopt.messages import Asked  # noqa: E402
 from fzfits.batch.rooms import Rooms  # noqa: E402
@@ -140,6 +142,25 @@ class InPlace(Adopted):
             self.assertIn("a.fits: it, or the other file, changed since both were compared", said)
             self.assertEqual(it.read_bytes()[3000:3003], b"NEW")
             it.write_bytes(before)
+
+    def test_two_runs_do_not_remove_both_halves(self) -> None:
+        self.run_it("pack", "--beside", self.night)
+        asked = Asked(os.fsencode(self.night), "0" * 16, FZ)
+        one, other = (OneFile(asked, Place(b"", b"a.fits", 1), Rooms(asked.folder, asked.token), [], False) for _ in range(2))
+        one.do("pack")
+        other.did = one.did
+        removes, said = files.remove, []
+
+        def removing(name: bytes, above: "int | None" = None) -> None:
+            # the other run is at the same place, under another manifest
+            with unittest.mock.patch.object(files, "remove", removes):
+                said.append(other.remove(b"a.fits.fz"))
+            removes(name, above)
+
+        with unittest.mock.patch.object(files, "remove", removing):
+            self.assertTrue(one.remove(b"a.fits"))
+        self.assertEqual((said, other.remove(b"a.fits.fz")), ([False], False))
+        self.assertTrue((self.night / "a.fits.fz").exists())
 
     def test_a_time_that_is_too_near_is_not_trusted(self) -> None:
         it = self.night / "a.fits"

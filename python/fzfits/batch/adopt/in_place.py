@@ -8,12 +8,14 @@ from __future__ import annotations
 import json
 import os
 import time
+from contextlib import suppress
 from dataclasses import asdict, dataclass, field
 from typing import List, Optional
 
 from ...headers import headers
 from ...program import Outcome
-from .. import advice, files, inside, names
+from .. import advice, files, inside, lock, names
+from ..inside import opened_in
 from ..rooms import Rooms
 from ..tries import wrong_lines
 from .alone import SUMS, hdus_text
@@ -160,7 +162,9 @@ class InPlace:
         """Removes one of the two files, if both are still the ones that were compared. False if one is not."""
         did, place = self.did, self.place
         assert did.plain is not None and did.packed is not None
-        with inside.folder(self.asked.folder, place.folder) as above:
+        with inside.folder(self.asked.folder, place.folder) as above, suppress(FileNotFoundError):
+            if not lock.folder(above):
+                return False
             for one, looked in ((place.name, did.plain), (place.packed_name, did.packed)):
                 it = os.stat(one, dir_fd=above, follow_symlinks=False)
                 if (it.st_ino, it.st_size, it.st_mtime_ns) != (looked.inode, looked.size, looked.mtime):
@@ -171,7 +175,8 @@ class InPlace:
             inside.sync_number(above)
             files.remove(name, above)
             inside.sync_number(above)
-        return True
+            return True
+        return False
 
     def _is_sure(self, above: int, name: bytes, looked: files.Looked) -> bool:
         """Whether a file has the bytes that it had: it is read again if a later change may have left its times the same."""
@@ -286,14 +291,6 @@ class InPlace:
         if not files.give_name(above, self.part, name):
             raise Undone(OTHER, f"{names.shown(name)} is there by now", "run fzbatch again, which compares it")
         inside.sync_number(above)
-
-
-def opened_in(above: int, name: bytes) -> int:
-    number = os.open(name, inside.FILE, dir_fd=above)
-    if not os.path.isfile(f"/proc/self/fd/{number}"):
-        os.close(number)
-        raise inside.NotInside("it is no regular file")
-    return number
 
 
 def _there(above: int, name: bytes) -> bool:

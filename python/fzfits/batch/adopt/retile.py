@@ -11,13 +11,14 @@ import time
 from typing import Iterator, List
 
 from .. import advice, files, inside
+from ..inside import opened_in
 from ..opening import BadManifest
 from ..rooms import Rooms
 from ..tries import wrong_lines
 from .alone import hdus_text
 from .beside import Beside
 from .calling import Undone
-from .in_place import Did, InPlace, Place, opened_in
+from .in_place import Did, InPlace, Place
 from .messages import Asked
 from .rows import PART, RIGHT, Finding, Row
 
