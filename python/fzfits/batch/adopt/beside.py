@@ -80,10 +80,11 @@ class Beside:
         if is_new and (wanted.verb != "pack" or files.there(wanted.manifest + places.COPY)):
             raise Refuse(f"{names.shown(wanted.manifest)} is not there" + (": fzbatch adopt makes it" if wanted.verb != "pack" else ", and its second copy is: copy it back, or move it away"))
         before.check_options(wanted.options, self.program, "retile" if wanted.verb == "retile" else "pack")
-        with closing(Log(wanted.log)) as self.count.log, lock.held(wanted.manifest + places.LOCK), files.private():
-            self.count.log.tell(f"{self.count.verb}{' --delete' if wanted.delete else ''} begins: {names.shown(wanted.folder)}")
-            with Store(wanted.manifest) if is_new else places.opened(wanted.manifest, wanted.folder, True) as self.store:
-                self._do()
+        with closing(Log(wanted.log)) as self.count.log:
+            with lock.held(wanted.manifest + places.LOCK), files.private():
+                with Store(wanted.manifest) if is_new else places.opened(wanted.manifest, wanted.folder, True) as self.store:
+                    self.count.log.tell(f"{self.count.verb}{' --delete' if wanted.delete else ''} begins: {names.shown(wanted.folder)}")
+                    self._do()
             self.count.seconds = time.monotonic() - self.began
             self.count.sum_up(self.out, wanted.quiet)
         if self.stop_signal:

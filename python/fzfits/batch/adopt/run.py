@@ -86,9 +86,10 @@ class Run:
         writes = places.may_be_written(self.wanted.manifest)
         if not writes and self.wanted.verb == "adopt":
             raise Refuse(f"{names.shown(self.wanted.manifest)} cannot be written: --manifest names another place")
-        with closing(Log(self.wanted.log)) as self.count.log, lock.held(self.wanted.manifest + places.LOCK), self._opened(writes) as self.store:
-            self.count.log.tell(f"{self.wanted.verb} begins: {names.shown(self.wanted.folder)}")
-            self._do(writes)
+        with closing(Log(self.wanted.log)) as self.count.log:
+            with lock.held(self.wanted.manifest + places.LOCK), self._opened(writes) as self.store:
+                self.count.log.tell(f"{self.wanted.verb} begins: {names.shown(self.wanted.folder)}")
+                self._do(writes)
             self.count.seconds = time.monotonic() - self.began
             self.count.sum_up(self.out, self.wanted.quiet)
         if self.stop_signal:
