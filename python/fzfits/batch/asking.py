@@ -3,6 +3,7 @@ from __future__ import annotations
 
 import argparse
 import os
+import shlex
 from typing import Optional, Sequence
 
 from . import chosen, files, names
@@ -20,6 +21,23 @@ def places(asked: argparse.Namespace) -> "tuple[bytes, Optional[bytes], list[byt
     return first, None, rest
 
 
+def typed(path: bytes) -> str:
+    """A name as it can be typed in a shell in the current folder."""
+    here = os.path.realpath(b".") + b"/"
+    text = names.shown(path[len(here) :] if path.startswith(here) else path)
+    return text if text.startswith("$'") else shlex.quote(text)
+
+
+def _check_second(asked: argparse.Namespace, plain: bytes, second: bytes, more: "Sequence[bytes]") -> None:
+    """Raises `Refuse`, with the line that works, if what was named as the second folder is a file of the archive of the first."""
+    packed = plain + names.PACKED
+    if asked.verb in READS and not os.path.isdir(second) and _has_manifest(packed):
+        wanted = [os.path.realpath(it) for it in (second, *more)]
+        below = [next((it[len(top) + 1 :] for top in (plain, packed) if it.startswith(top + b"/")), name) for it, name in zip(wanted, (second, *more))]
+        whole = " ".join(map(typed, (plain, packed, *below)))
+        raise Refuse(f"{names.shown(second)} is no folder; for a file of the archive name both folders first: fzbatch {asked.verb} {whole}")
+
+
 def folders(asked: argparse.Namespace, reads: bool = True) -> "tuple[bytes, bytes]":
     """The folders of plain and of packed files, as whole paths. One is not in the other.
 
@@ -30,13 +48,15 @@ def folders(asked: argparse.Namespace, reads: bool = True) -> "tuple[bytes, byte
         raise Refuse(f"{asked.verb} takes two folders, and was given {names.shown(names_of_files[0])} too" + ("; --include names files" if asked.verb == "pack" else ""))
     first = os.path.realpath(one)
     if second is not None:
+        _check_second(asked, first, second, names_of_files)
         plain, packed = first, os.path.realpath(second)
     elif _has_manifest(first):
         packed = first
         plain = source_of(packed)
         if not reads:
             said = f"the manifest says {names.shown(plain)}, if that is right: " if plain else ""
-            raise Refuse(f"name both folders: {said}fzbatch {asked.verb} {names.shown(plain) if plain else 'DIR'} {names.shown(packed)}")
+            whole = " ".join([typed(plain) if plain else "DIR", *map(typed, (packed, *names_of_files))])
+            raise Refuse(f"name both folders: {said}fzbatch {asked.verb} {whole}")
     else:
         plain, packed = first, first + names.PACKED
         _check_first(one, plain, packed, asked.verb)

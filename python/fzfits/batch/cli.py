@@ -26,6 +26,7 @@ VERBS = {
     "compare": "unpack each packed file, compare it with the plain file, and keep nothing",
     "restore": "restore the plain files that are not in DIR; existing plain files are not touched",
 }
+EXAMPLES = {"restore": "One file: fzbatch restore night night.fz mef.fits"}
 
 
 def main(words: Optional[Sequence[str]] = None) -> int:
@@ -85,7 +86,7 @@ def _parser() -> argparse.ArgumentParser:
     whole.add_argument("--version", action="version", version=f"fzbatch {__version__}")
     verbs = whole.add_subparsers(dest="verb", required=True, metavar="COMMAND")
     for verb, says in VERBS.items():
-        words_of.run_words(_verb(verbs, verb, says, _begin), verb)
+        words_of.run_words(_verb(verbs, verb, says, _begin, EXAMPLES.get(verb)), verb)
     status = _verb(verbs, "status", "print what the manifest says: counts, and each file with which something is not well", _status)
     status.add_argument("--all", action="store_true", help="name all files, not only the first five of each cause")
     words_of.without(status)
@@ -125,8 +126,8 @@ def _look_words(verbs) -> None:
     made.set_defaults(call=_look)
 
 
-def _verb(verbs, name: str, says: str, call) -> argparse.ArgumentParser:
-    made = verbs.add_parser(name, help=says, description=says[0].upper() + says[1:] + ".")
+def _verb(verbs, name: str, says: str, call, example: Optional[str] = None) -> argparse.ArgumentParser:
+    made = verbs.add_parser(name, help=says, description=says[0].upper() + says[1:] + ".", epilog=example)
     made.add_argument("dir", metavar="DIR", type=os.fsencode, help="the folder of plain files; or, if it has a manifest, that of packed files")
     made.add_argument("packed", metavar="PACKED", nargs="?", type=os.fsencode, help="the folder of packed files (DIR with .fz after it)")
     if name in asking.READS:

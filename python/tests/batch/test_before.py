@@ -57,6 +57,15 @@ class BeforeTheRun(Archive):
         status, said = self.run_it("verify", self.packed / "a.fits.fz")
         self.assertEqual((status, f"name the folder first: fzbatch verify {self.packed} a.fits.fz" in said), (2, True), said)
 
+    def test_a_file_without_both_folders(self) -> None:
+        self.packs()
+        line = f"fzbatch restore {self.plain} {self.packed} a.fits"
+        no_folder = f"a.fits is no folder; for a file of the archive name both folders first: {line}"
+        for words, wanted in (((self.packed, "a.fits"), line), ((self.plain, "a.fits"), no_folder), ((self.plain, self.plain / "a.fits"), line)):
+            status, said = self.run_it("restore", *words)
+            self.assertEqual((status, wanted in said), (2, True), said)
+        self.assertEqual(self.run_it(*line.split()[1:])[0], 0)
+
     def test_memory_for_people(self) -> None:
         self.packs("--memory", "1G")
         status, said = self.run_it("verify", self.packed, "--memory", "64K")
