@@ -16,6 +16,7 @@ from . import asking, calls, engines, files, keep, lock, look, names, report, ru
 from .adopt import words as adopted
 from .manifest import BadManifest
 from .messages import Settings
+from .safe import verdict_of
 from .scan import NoSource
 from .tally import Tally, alone
 
@@ -222,6 +223,7 @@ def _report(asked: argparse.Namespace) -> int:
     if not files.write_over_own(asked.out, text.encode(errors="backslashreplace"), len(report.HEAD)):
         raise run.Refuse(f"{names.shown(asked.out)} is there, and is no page of fzbatch: give another name")
     print(names.shown(asked.out))
+    print(verdict_of(found).line)
     _print_lost(found)
     return run.DONE if found.whole else run.NOT_DONE
 

@@ -98,6 +98,8 @@ class _Run:
     def _summed_up(self) -> int:
         """Prints the summary, and gives the status."""
         self.log.tell(self.tally.last_line() + (f"; stopped: {self.tally.stopped}" if self.tally.stopped else ""))
+        if self.wanted.verb == "pack" and self.tally.done:
+            self.tally.notes.append(f"The packed files are in {names.shown(self.wanted.packed)}.")
         if not self.wanted.quiet or not self.tally.whole:
             self.tally.print(self.out, self.wanted.all_names)
         if self.stop_signal:

@@ -54,6 +54,7 @@ class Runs(unittest.TestCase):
 
     def test_there_and_back(self) -> None:
         self.assertEqual(self.last("pack", self.plain), (0, "pack: 2 files, 2 done (2 compressed), 0 failed, 0 skipped"))
+        self.assertIn(f"The packed files are in {self.packed}.\n", self.run_it("pack", self.plain)[1])
         self.assertEqual(self.last("pack", self.plain), (0, "pack: 2 files, 2 done (2 up to date), 0 failed, 0 skipped"))
         self.assertEqual(self.last("verify", self.packed), (0, "verify: 2 files, 2 done (2 verified), 0 failed, 0 skipped"))
         self.assertEqual(self.last("compare", self.plain), (0, "compare: 2 files, 2 done (2 identical), 0 failed, 0 skipped"))
@@ -188,7 +189,7 @@ class Runs(unittest.TestCase):
         (self.plain / "<b>.fits").write_bytes(b"")
         self.run_it("pack", self.plain)
         out = self.room / "r.html"
-        self.assertEqual(self.run_it("report", self.plain, "-o", out), (1, f"{out}\n"))
+        self.assertEqual(self.run_it("report", self.plain, "-o", out), (1, f"{out}\nSafe to delete the originals: no, 3 files\n"))
         page = out.read_text()
         self.assertIn("Safe to delete the originals: no, 3 files<", page)
         self.assertIn("1 file is not well: see below.", page)
