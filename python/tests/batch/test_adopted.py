@@ -14,6 +14,7 @@ import sys
 import tempfile
 import time
 import unittest
+import unittest.mock
 from pathlib import Path
 
 TOP = Path(__file__).resolve().parents[3]
@@ -21,7 +22,7 @@ sys.path[:0] = [str(TOP / "python"), str(TOP / "tools")]
 
 from fzfits import program  # noqa: E402
 from fzfits.batch import cli  # noqa: E402
-from fzfits.batch.adopt import boxes, walk  # noqa: E402
+from fzfits.batch.adopt import boxes, forms, walk  # noqa: E402
 from fzfits.batch.adopt.store import Store  # noqa: E402
 from fzfits.errors import NoProgram  # noqa: E402
 from making import strange_faults  # noqa: E402
@@ -184,6 +185,11 @@ class Finds(Adopted):
         self.assertEqual(self.run_it("missing", self.night, "--manifest", place)[0], 0)
         self.assertIn("status: 3 files", self.run_it("status", self.night, "--manifest", place / "all.sqlite")[1])
         self.assertEqual(self.run_it("status", self.night / "n", "--manifest", place / "all.sqlite")[0], 2)
+        with unittest.mock.patch.dict(forms.FACTS, {"folder": lambda it: True}), Store(os.fsencode(place / "n.sqlite")) as it:
+            it.tell("folder", os.fsencode(self.night / ".." / "elsewhere"))
+        status, said = self.run_it("missing", self.night, "--manifest", place)
+        self.assertEqual(status, 2)
+        self.assertIn("a fact that fzbatch does not note", said)
         self.assertEqual(self.run_it("adopt", self.night, "--manifest", self.night / "m.sqlite")[0], 2)
 
     def test_a_codec_that_nobody_knows(self) -> None:

@@ -124,7 +124,7 @@ FORMS: "dict[str, dict[str, Callable[[Any], bool]]]" = {
     "seal": {"name": one_of("folders", "rest"), "value": of_form(SUM)},
 }
 FACTS: "dict[str, Callable[[Any], bool]]" = {
-    "version": whole, "folder": lambda it: blob(it) and it.startswith(b"/"), "skip_links": one_of(0, 1), "skip_compressed": one_of(0, 1),
+    "version": whole, "folder": lambda it: blob(it) and it.startswith(b"/") and (it == b"/" or not fault_of_parts(it[1:])), "skip_links": one_of(0, 1), "skip_compressed": one_of(0, 1),
 }
 
 
