@@ -80,6 +80,28 @@ class PlainFileChanged(Archive):
         self.assertEqual(self.run_it("missing", self.plain, self.packed)[0], 0)
 
 
+class Log(Archive):
+    """Only a log gets the lines of a log."""
+
+    def test_another_file_stays_as_it_is(self) -> None:
+        self.packs("--log", self.room / "log")
+        lines = (self.room / "log").read_text().count("\n")
+        self.assertEqual(self.run_it("verify", self.packed, "--log", self.room / "log")[0], 0)
+        self.assertGreater((self.room / "log").read_text().count("\n"), lines)
+        before = (self.plain / "a.fits").read_bytes()
+        for it in (self.plain / "a.fits", self.packed / "a.fits.fz", self.packed / "fzbatch.sqlite"):
+            status, said = self.run_it("verify", self.packed, "--log", it)
+            self.assertEqual(status, 2)
+            self.assertIn("is there, and is no log of fzbatch", said)
+        self.assertEqual((self.plain / "a.fits").read_bytes(), before)
+        self.assertEqual(self.run_it("compare", self.plain)[0], 0)
+
+    def test_a_pipe_that_nobody_reads(self) -> None:
+        self.packs()
+        os.mkfifo(self.room / "pipe")
+        self.assertEqual(self.run_it("verify", self.packed, "--log", self.room / "pipe")[0], 2)
+
+
 class HugeAxes(Archive):
     """Headers that claim more than a number holds cost no time, and keep no other file from being looked at."""
 
