@@ -70,6 +70,8 @@ def _read(process: int, out: int, errors: int, timeout: Optional[float]) -> "tup
     end = None if not timeout else time.monotonic() + timeout
     waiting = select.poll()
     said: dict[int, list[bytes]] = {out: [], errors: []}
+    # a program that prints line by line gives many small pieces: it is their bytes that are counted
+    room = {it: LONGEST for it in said}
     for it in said:
         waiting.register(it, select.POLLIN)
     opened, in_time = 2, True
@@ -85,8 +87,9 @@ def _read(process: int, out: int, errors: int, timeout: Optional[float]) -> "tup
             if not piece:
                 waiting.unregister(number)
                 opened -= 1
-            elif len(said[number]) < LONGEST // 65536:
+            elif room[number] > 0:
                 said[number].append(piece)
+                room[number] -= len(piece)
     return b"".join(said[out]), b"".join(said[errors]), in_time
 
 

@@ -11,7 +11,7 @@ from ...program import Outcome
 from ...results import REFUSED, verdict_of
 from .. import advice, files, names
 from . import boxes, heaps, rewrite, summing
-from .calling import Fz
+from .calling import Fz, Undone
 from .cards import DAMAGED
 from .rows import Finding, Hdu, packed_text
 from .tiles import CAUSE, LOST, Image
@@ -233,10 +233,11 @@ def restored(fz: Fz, source: "bytes | int", hdus: "dict[int, Hdu]", size: int, s
         ended = fz.run("unpack", source, size, out=out)
         if ended.status == 3:
             return ended
-        for line in fz.run("verify", out, size).lines:
-            it = verdict_of(line)
-            if it is not None and it.hdu + shift in hdus:
-                hdus[it.hdu + shift].image_datasum, hdus[it.hdu + shift].image_checksum = it.datasum, it.checksum
+        verdicts = {it.hdu + shift: it for it in map(verdict_of, fz.run("verify", out, size).lines) if it is not None}
+        for number, hdu in hdus.items():
+            if number not in verdicts:
+                raise Undone("fz verify: no verdict", f"fz verify has no verdict on the image of HDU {number} that came back", "report it with the file")
+            hdu.image_datasum, hdu.image_checksum = verdicts[number].datasum, verdicts[number].checksum
     finally:
         files.remove(out)
     return None
