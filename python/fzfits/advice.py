@@ -178,7 +178,7 @@ def of_bad_card(error: Refused, _path: Name, header: Optional[Header]) -> None:
     if wanted and (error.card is None or error.card.keyword != wanted):
         error.advice = f"Card {number} has to be {wanted}."
     elif number == len(header.cards) and header.is_packed:
-        needed = ["TFIELDS", "ZCMPTYPE", "ZBITPIX", "ZNAXIS"] + [f"ZNAXIS{it + 1}" for it in range(header.integer("ZNAXIS"))]
+        needed = ["TFIELDS", "ZCMPTYPE", "ZBITPIX", "ZNAXIS"] + [f"ZNAXIS{it + 1}" for it in range(min(header.integer("ZNAXIS"), 999))]
         error.missing = tuple(it for it in needed if header.card(it) is None)
 
 

@@ -10,6 +10,8 @@ from ...headers import Header
 from ...rows import FORM, SIZES, columns_of
 
 ROWS_AT_ONCE = 4096
+# FITS 4.0, section 7.3.1: a header that claims more columns is damaged, and costs no time.
+MOST_COLUMNS = 999
 # A column of records whose bytes are those of gzip, by its name; for others it is the codec that says so.
 GZIP = "GZIP_COMPRESSED_DATA"
 # A record is inflated in pieces of so many bytes, and is not more than so many times as long as the record.
@@ -30,7 +32,7 @@ class Column:
 def columns(header: Header) -> "List[Column]":
     """The columns with descriptors of a table."""
     elements: Dict[str, Tuple[int, str]] = {}
-    for number in range(1, header.integer("TFIELDS") + 1):
+    for number in range(1, min(header.integer("TFIELDS"), MOST_COLUMNS) + 1):
         form = FORM.match(str(header.value(f"TFORM{number}")))
         rest = str(header.value(f"TFORM{number}"))[form.end() :] if form else ""
         letter = rest[:1]
