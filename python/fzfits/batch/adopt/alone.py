@@ -13,7 +13,7 @@ from .. import advice, files, names
 from . import boxes, heaps, rewrite, summing
 from .calling import Fz, Undone
 from .cards import DAMAGED
-from .rows import Finding, Hdu, packed_text
+from .rows import Finding, Hdu, fitting, packed_text
 from .tiles import CAUSE, LOST, Image
 
 PIECE = 1 << 20
@@ -46,7 +46,7 @@ def hdus_text(number: int, ended: Outcome) -> str:
         for name in ("sort", "name", "type", "codec", "undecoded"):
             setattr(hdu, name, names.told(getattr(hdu, name)))
         found.append(hdu)
-    return packed_text(found)
+    return packed_text(fitting(found))
 
 
 class Alone:

@@ -137,7 +137,7 @@ class Beside:
                     continue
                 row = self.store.row(seen.path, names.packed_name(name))
                 number += 1
-                yield Place(seen.path, name, number, row.sha256.hex() if row else "", row.plain if row else None, self.store.row(seen.path, name))
+                yield Place(seen.path, name, number, row.sha256.hex() if row else "", row.plain if row else None, adopted=self.store.row(seen.path, name))
         if not seen_any:
             raise Refuse(f"{names.shown(self.wanted.folder)} has no FITS file: is its disk mounted?")
 

@@ -4,8 +4,8 @@ from __future__ import annotations
 import math
 import os
 import time
-from itertools import islice
-from typing import List, Optional
+from itertools import chain, islice
+from typing import Iterable, List, Optional
 
 from ...checks import UNDECODED, has_own_sums
 from ...headers import Header, headers
@@ -13,17 +13,17 @@ from ...program import Outcome
 from ...results import REFUSED, verdict_of
 from .. import advice, expansion, files, inside, names
 from ..rooms import Rooms
-from . import alone, boxes, cards, heaps, summing
+from . import alone, boxes, cards, compressed, summing
 from .calling import Fz, Undone
 from .messages import Asked, Found, One
-from .rows import Finding, Hdu, packed_text
+from .rows import Finding, Hdu, fitting, packed_text
 
-# More HDUs than this are looked at by fz alone.
+# More HDUs than this are looked at by fz alone, as far as it takes the file.
 MOST = 4096
 # Kinds that speak of the file as a whole.
 WHOLE = (1, 2, 3, 8)
-GZIP, OTHERS = b"\x1f\x8b", (b"BZh", b"\xfd7zXZ\0", b"\x28\xb5\x2f\xfd", b"\x1f\x9d", b"PK\x03\x04")
 ANOTHER = "fetch the file from another copy"
+TOO_MANY = "look at it with the program that wrote it; fzbatch keeps its SHA-256"
 
 
 def examine(asked: Asked, one: One, room: Rooms) -> Found:
@@ -65,7 +65,13 @@ def _read(asked: Asked, one: One, room: Rooms, number: int, found: Found) -> Non
     for hdu in it.hdus:
         for name in ("sort", "name", "type", "codec", "undecoded"):
             setattr(hdu, name, names.told(getattr(hdu, name)))
-    found.outcome, found.sort, found.hdus, found.found = "read", it.sort, packed_text(it.hdus), packed_text(it.found)
+    hdus = fitting(it.hdus)
+    if len(hdus) < len(it.hdus):
+        it.add("too many HDUs", f"the manifest has room for the first {len(hdus):,} of {len(it.hdus):,} HDUs", TOO_MANY)
+    told = fitting(it.found)
+    if len(told) < len(it.found):
+        told.append(Finding("more faults", f"{len(it.found) - len(told):,} more faults were found, for which the manifest has no room", ANOTHER))
+    found.outcome, found.sort, found.hdus, found.found = "read", it.sort, packed_text(hdus), packed_text(told)
 
 
 def _shift(heads: "List[Header]") -> int:
@@ -81,6 +87,8 @@ class File:
         self.sort = "plain"
         self.hdus: List[Hdu] = []
         self.found: List[Finding] = []
+        # the kind by which fz rejects the file as a whole
+        self.rejected: Optional[int] = None
 
     def add(self, cause: str, line: str, what: str, hdu: Optional[int] = None) -> None:
         """Notes something that is wrong with the file as a whole."""
@@ -89,29 +97,49 @@ class File:
     def look(self) -> None:
         """Looks at it."""
         head = os.pread(self.number, 10, 0)
-        if head.startswith(GZIP):
-            self._gzip()
-        elif head.startswith(OTHERS):
-            self.sort = "compressed"
+        kind = compressed.begins_so(head)
+        if kind is not None:
+            self._compressed(kind)
         elif not self.size:
             self.add("file is empty", "it has no byte", ANOTHER)
         else:
             self._fits()
 
-    def _gzip(self) -> None:
-        self.sort = "gzip"
-        said = heaps.gzip_fault(self.number, 0, self.size)
+    def _compressed(self, kind: bytes) -> None:
+        """Of a file that is compressed as a whole: that it can be decompressed. What is in it is not looked at."""
+        self.sort = "gzip" if kind == compressed.GZIP else "compressed"
+        why = compressed.NOT_READ if compressed.FORMATS[kind] is None else ""
+        try:
+            said = "" if why else compressed.fault_of(self.number, self.size, kind)
+        except compressed.Grows:
+            said, why = "", compressed.GROWS
         if said:
-            self.add("gzip file is damaged", f"it cannot be inflated: {said}", ANOTHER)
+            self.add(f"{self.sort} file is damaged", f"it cannot be decompressed: {said}", ANOTHER)
+        if why:
+            self.hdus.append(Hdu(0, "compressed file", undecoded=why))
 
     def _fits(self) -> None:
-        path = f"/proc/self/fd/{self.number}"
-        heads = list(islice(headers(path), MOST))
+        following = headers(f"/proc/self/fd/{self.number}")
+        heads, more = list(islice(following, MOST)), list(islice(following, 1))
         self.sort = "packed" if any(it.is_packed or it.value("ZTABLE") is True for it in heads) else "plain"
-        if not (summing.is_fast() and any(map(has_own_sums, heads)) and not self._grows()) or not self._unpacked(heads):
+        if not (summing.is_fast() and any(map(has_own_sums, heads)) and not self._grows()) or more or not self._unpacked(heads):
             self._verified(heads)
+        self._headers(chain(heads, more, following))
+
+    def _headers(self, heads: "Iterable[Header]") -> None:
+        """What the headers show, and whether they lead to the last byte, if fz did not say so."""
+        last, unseen = None, 0
         for it in heads:
             self.found += cards.faults_of(self.number, it, self.size)
+            last = it
+            unseen += it.number >= MOST and (self.rejected is not None or has_own_sums(it))
+        if unseen:
+            self.add("too many HDUs", f"{unseen:,} HDUs after HDU {MOST - 1:,} were not looked at one by one", TOO_MANY)
+        end = last.end if last else 0
+        if self.rejected in UNDECODED and end > self.size:
+            self.add("2 Truncated", f"the file ends {end - self.size:,} bytes before HDU {last.number if last else 0}, its last one", ANOTHER)
+        elif self.rejected in UNDECODED and end < self.size:
+            self.add("no HDU follows", f"from byte {end:,} on there is no HDU that can be read; {self.size - end:,} bytes follow", ANOTHER)
 
     def _believed(self) -> int:
         return expansion.believed(expansion.unpacked(self.number, self.size), self.size)
@@ -131,6 +159,10 @@ class File:
         if own and not self._would_grow():
             alone.restored(self.fz, self.number, own, self._believed(), _shift(heads))
         self._take_all(looks)
+        for it in list(verdicts.values())[len(looks):]:
+            for name, verdict in (("DATASUM", it.datasum), ("CHECKSUM", it.checksum)):
+                if verdict == "wrong":
+                    self.add(alone.SUMS, f"{name} is not that of its bytes", alone.WRONG_TABLE, it.hdu)
 
     def _unpacked(self, heads: "List[Header]") -> bool:
         """By `fz unpack`, which decodes each tile too: so tiles are decoded once. False if fz rejects the file."""
@@ -165,6 +197,7 @@ class File:
     def _each(self, heads: "List[Header]", ended: Outcome) -> None:
         """fz rejects the file for one HDU, or for what is between them: each HDU is looked at by itself."""
         kind, name = advice.kind_of(ended.line)
+        self.rejected = kind
         place = REFUSED.fullmatch(ended.line)
         at = f", HDU {place[3]}, {place[4]} {place[5]}" if place else ""
         if kind in WHOLE:

@@ -5,6 +5,8 @@ import json
 from dataclasses import MISSING, asdict, dataclass, field, fields
 from typing import Any, List, Optional
 
+from .. import checks
+
 # What a file is by its last look. RIGHT and PART are well: of PART some HDU is of a kind that fz does not decode.
 RIGHT, PART = "right", "part"
 FAULTY, ROTTEN, CHANGED, RENAMED, GONE, UNREAD = "faulty", "rotten", "changed", "renamed", "gone", "unread"
@@ -13,6 +15,8 @@ NOT_WELL = (FAULTY, ROTTEN, CHANGED, RENAMED, GONE, UNREAD)
 STATUSES = WELL + NOT_WELL
 # A file whose time is so near to the moment in which it was read may have changed since with the same time.
 GRAIN = 2_000_000_000
+# The characters of the HDUs of a file, and of its findings: half of the longest text that a manifest has.
+ROOM = checks.LONGEST // 2
 
 
 def compact(it: Any) -> "dict[str, Any]":
@@ -71,6 +75,16 @@ class Finding:
 def packed_text(found: "List[Any]") -> str:
     """HDUs or findings as one line of JSON."""
     return json.dumps([compact(it) for it in found], separators=(",", ":"))
+
+
+def fitting(found: "List[Any]") -> "List[Any]":
+    """As many of these HDUs or findings, from the first on, as a row of the manifest has room for."""
+    room = ROOM
+    for number, it in enumerate(found):
+        room -= len(packed_text([it]))
+        if room < 0:
+            return found[:number]
+    return found
 
 
 def hdus_of(text: str) -> "List[Hdu]":
