@@ -235,7 +235,12 @@ def of_not_packed(error: Refused, path: Name, _header: Optional[Header]) -> None
 
 def of_box(error: Refused, _path: Name, header: Optional[Header]) -> None:
     """The axes of the image."""
-    if header is not None:
+    if header is None:
+        return
+    passed = NUMBERED.fullmatch(error.card.keyword) if error.card is not None else None
+    if passed is not None and int(passed[2]) <= len(header.axes):
+        error.advice = f"The box passes the end of axis {passed[2]} ({header.axes[int(passed[2]) - 1]} pixels): the image has {'x'.join(map(str, header.axes))} pixels, axis 1 first."
+    else:
         error.advice = f"The image has {len(header.axes)} axes, {'x'.join(map(str, header.axes))} pixels, axis 1 first."
 
 

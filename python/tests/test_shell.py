@@ -49,8 +49,12 @@ class Packing(InAShell):
         self.assertIn("lines of text only", self.call("unpack", "-o", "-", "several.fits.fz", status=1))
 
     def test_options(self):
-        self.call("pack", "--tile", "2x2", "--codec", "none", "--no-sums", "--memory", "1M", "-o", "a.fz", SAMPLES / "grid.fits")
+        self.call("pack", "--tile", "2,2", "--codec", "none", "--no-sums", "--memory", "1M", "-o", "a.fz", SAMPLES / "grid.fits")
         self.assertEqual(Path("a.fz").read_bytes(), (PACKED / "grid.2x2.fits").read_bytes())
+        self.assertIn("--tile 64x64: write 64,64", self.call("pack", "--tile", "64x64", SAMPLES / "grid.fits", status=2))
+        said = self.call("pack", SAMPLES / "grid.fits", "out.fz", status=2)
+        self.assertIn("pack takes input files only; name the output with -o out.fz", said)
+        self.assertIn("fzfits: nofile.fits: No such file or directory", self.call("look", "nofile.fits", status=2))
         self.assertIn("is no number of bytes", self.call("pack", "--memory", "lots", "a.fits", status=2))
         self.assertIn(" is enough; fewer workers", self.call("pack", "--memory", "100K", "--tile", "128,96", "-o", "b.fz", SAMPLES / "star_field.fits", status=1))
 
@@ -91,7 +95,9 @@ class Packing(InAShell):
         self.call("cut", f"{SAMPLES}/several.fits[SCI][1:10,*:2]", "other")
         self.assertEqual(Path("one").read_bytes(), Path("other").read_bytes())
         self.assertIn("has 64", self.call("cut", f"{SAMPLES}/several.fits[SCI][1:65,*]", "x", status=1))
-        self.assertIn("28 OutOfBox", self.call("cut", "a.fz[SCI][1:65,*]", "x", status=1))
+        said = self.call("cut", "a.fz[SCI][1:65,*]", "x", status=1)
+        self.assertIn("28 OutOfBox", said)
+        self.assertIn("The box passes the end of axis 1 (64 pixels)", said)
         self.assertIn("It has SCI, DQ, ERR", self.call("cut", "a.fz[WHT][1:2,*]", "x", status=1))
         self.assertIn("is no piece of a section", self.call("cut", "a.fz[SCI][1-5,*]", "x", status=1))
 

@@ -30,7 +30,7 @@ VERBS = {
 EXAMPLES = {"restore": "One file: fzbatch restore night night.fz mef.fits"}
 
 
-def main(words: Optional[Sequence[str]] = None) -> int:
+def main(words: Optional[Sequence[str]] = None, program_name: str = PROGRAM) -> int:
     """Does what the command line says, and gives the status: 0 all done, 1 some files not, 2 nothing was begun, 3 a disk failed."""
     for name in ("stdout", "stderr"):
         # it was closed by the shell
@@ -45,7 +45,7 @@ def main(words: Optional[Sequence[str]] = None) -> int:
     # what controls a terminal is printed by its numbers too, wherever it came from
     sys.stdout, sys.stderr = names.Escaping(sys.stdout), names.Escaping(sys.stderr)  # type: ignore[assignment]
     try:
-        return _called(asked)
+        return _called(asked, program_name)
     finally:
         sys.stdout, sys.stderr = streams
 
@@ -61,7 +61,7 @@ def _parsed(words: Optional[Sequence[str]]) -> argparse.Namespace:
     return asked
 
 
-def _called(asked: argparse.Namespace) -> int:
+def _called(asked: argparse.Namespace, program_name: str) -> int:
     try:
         return (adopted.call_of(asked) or asked.call)(asked)
     except (run.Refuse, NoSource, BadManifest, lock.Locked, engines.NoEngine, look.NoPicture, FzError) as error:
@@ -71,10 +71,10 @@ def _called(asked: argparse.Namespace) -> int:
         return run.NOT_DONE
     except OSError as error:
         if error.strerror in run.DISK:
-            print(f"{PROGRAM}: {_shown(error.filename or '')}: {error.strerror}", file=sys.stderr)
+            print(f"{program_name}: {_shown(error.filename or '')}: {error.strerror}", file=sys.stderr)
             return run.DISK_FAILED
         said = f"{_shown(error.filename)}: {error.strerror}" if error.filename else str(error)
-    print(f"{PROGRAM}: {said}", file=sys.stderr)
+    print(f"{program_name}: {said}", file=sys.stderr)
     return run.NOTHING_DONE
 
 

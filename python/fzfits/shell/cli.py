@@ -8,7 +8,7 @@ import sys
 from typing import Any, Callable, Optional, Sequence
 
 from .. import __version__
-from ..errors import FzError, NoProgram
+from ..errors import FzError, NoProgram, shown
 from ..mend import OPTIONS
 from . import checking, listing, packing, planning, told
 
@@ -30,8 +30,14 @@ def main(words: Optional[Sequence[str]] = None) -> int:
     if given[:1] == ["look"]:
         from ..batch.cli import main as batch  # pylint: disable=import-outside-toplevel
 
-        return batch(given)
+        return batch(given, PROGRAM)
     asked = parser().parse_args(given)
+    outs = [it for it in asked.files[1:] if it.endswith(".fz") and not os.path.lexists(it)] if asked.verb == "pack" else []
+    if outs:
+        return wrong(f"{PROGRAM} pack: {shown(outs[0])} is not there: pack takes input files only; name the output with -o {told.name(outs[0])}", USAGE)
+    tile = getattr(asked, "tile", None)
+    if tile and "x" in tile:
+        return wrong(f"{PROGRAM} {asked.verb}: --tile {shown(tile)}: write {shown(tile.replace('x', ','))}", USAGE)
     if getattr(asked, "out", None) and len(asked.files) > 1:
         return wrong(f"{PROGRAM} {asked.verb}: -o names one output, and there are {len(asked.files)} files: use --folder", USAGE)
     try:
