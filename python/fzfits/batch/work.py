@@ -61,8 +61,9 @@ class _Work:
 
     def pack(self) -> "Steps[None]":
         with inside.file(self.settings.plain, self.task.path) as source:
-            before = yield from looked(source)
+            # before it is read: a large file takes long, and may change meanwhile
             self.result.looked = time.time_ns()
+            before = yield from looked(source)
             self.result.size, self.result.mtime, self.result.sha256, self.result.mode = before.size, before.mtime, before.sha256, before.mode
             known = self.task.sha256
             if inside.state(self.settings.packed, self.packed_path) is None:

@@ -7,6 +7,7 @@ import shutil
 import sqlite3
 import subprocess
 import sys
+import time
 import unittest
 from pathlib import Path
 from unittest import mock
@@ -78,6 +79,26 @@ class PlainFileChanged(Archive):
         path.unlink()
         self.assertEqual(self.run_it("restore", self.plain, self.packed)[0], 0)
         self.assertEqual(self.run_it("missing", self.plain, self.packed)[0], 0)
+
+
+class SlowReading(Archive):
+    """A file counts as read when its reading began: what changed meanwhile may have the same time."""
+
+    def test_it_is_read_again(self) -> None:
+        reads = files.look_at
+
+        def slowly(number: int) -> files.Looked:
+            found = reads(number)
+            if os.readlink(f"/proc/self/fd/{number}").endswith("a.fits"):
+                time.sleep(2.2)
+            return found
+
+        (self.plain / "a.fits").write_bytes((self.plain / "a.fits").read_bytes())
+        with mock.patch.object(files, "look_at", slowly):
+            self.packs()
+        self.assertEqual(self.run_it("missing", self.plain)[0], 0)
+        flip(self.plain / "a.fits")
+        self.looks("the plain file is another than the one that was packed")
 
 
 class Log(Archive):

@@ -50,8 +50,9 @@ def examine(asked: Asked, one: One, room: Rooms) -> Found:
 
 
 def _read(asked: Asked, one: One, room: Rooms, number: int, found: Found) -> None:
-    looked = files.look_at(number)
+    # before it is read: a large file takes long, and may change meanwhile
     found.looked = time.time_ns()
+    looked = files.look_at(number)
     found.size, found.mtime, found.sha256 = looked.size, looked.mtime, bytes.fromhex(looked.sha256)
     if asked.sha256_only and found.sha256 == one.sha256:
         found.outcome = "same"

@@ -140,7 +140,7 @@ class InPlace:
             source = opened_in(above, self.place.packed_name)
             try:
                 now = self.did.packed = files.look_at(source)
-                self.did.looked = time.time_ns()
+                self.did.looked = self.did.began
                 if now.sha256 != self.place.packed_sha256:
                     raise Undone("packed file changed", "the packed file is another than the one that was made", advice.ANOTHER_COPY)
                 if _there(above, self.place.name):
@@ -243,7 +243,7 @@ class InPlace:
                 raise Undone("comes back otherwise", "what comes back is another file than the one that was packed", "keep the plain file, and report it")
         finally:
             files.remove(again)
-        self.did.looked = time.time_ns()
+        self.did.looked = self.did.began
         self.did.hdus = hdus_text(number, ended)
 
     def _accept(self, above: int, before: files.Looked) -> None:

@@ -7,7 +7,6 @@ given is not known, and said.
 from __future__ import annotations
 
 import os
-import time
 from typing import Iterator, List
 
 from .. import advice, files, inside
@@ -35,7 +34,7 @@ class Retiled(InPlace):
                 if before.sha256 == self.place.next_sha256:
                     # a run that was killed gave it the name, and did not say so
                     ended = self._expect("verify", source, before.size)
-                    self.did.looked, self.did.hdus = time.time_ns(), hdus_text(source, ended)
+                    self.did.looked, self.did.hdus = self.did.began, hdus_text(source, ended)
                     self.did.packed, self.did.outcome = before, "there"
                     return
                 if before.sha256 != self.place.packed_sha256:
@@ -74,7 +73,7 @@ class Retiled(InPlace):
             both = [self._unpacked(it) for it in (source, made)]
             if both[0] != both[1]:
                 raise Undone("comes back otherwise", "the file that was packed again restores another one", "the old file stays; report it")
-            self.did.looked, self.did.hdus = time.time_ns(), hdus_text(made, ended)
+            self.did.looked, self.did.hdus = self.did.began, hdus_text(made, ended)
         finally:
             os.close(made)
 
