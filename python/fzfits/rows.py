@@ -10,6 +10,8 @@ from .headers import Header, Name
 FORM = re.compile(r"(\d*)([A-Z])")
 SIZES = {"L": 1, "B": 1, "A": 1, "I": 2, "J": 4, "E": 4, "K": 8, "D": 8, "C": 8, "P": 8, "M": 16, "Q": 16}
 ROWS_AT_ONCE = 1 << 14
+# FITS 4.0, section 7.3.1: a header that claims more columns is damaged, and costs no time.
+MOST_COLUMNS = 999
 
 
 @dataclass(frozen=True)
@@ -36,7 +38,7 @@ def pixels_of_row(header: Header, row: int) -> str:
 def columns_of(header: Header) -> Dict[str, Tuple[int, int]]:
     """Where the descriptor of each column stands in a row, and the bytes of its count."""
     found, at = {}, 0
-    for number in range(1, header.integer("TFIELDS") + 1):
+    for number in range(1, min(header.integer("TFIELDS"), MOST_COLUMNS) + 1):
         form = FORM.match(str(header.value(f"TFORM{number}")))
         if form is None:
             break

@@ -7,11 +7,9 @@ from dataclasses import dataclass
 from typing import Dict, Iterator, List, Optional, Tuple
 
 from ...headers import Header
-from ...rows import FORM, SIZES, columns_of
+from ...rows import FORM, MOST_COLUMNS, SIZES, columns_of
 
 ROWS_AT_ONCE = 4096
-# FITS 4.0, section 7.3.1: a header that claims more columns is damaged, and costs no time.
-MOST_COLUMNS = 999
 # A column of records whose bytes are those of gzip, by its name; for others it is the codec that says so.
 GZIP = "GZIP_COMPRESSED_DATA"
 # A record is inflated in pieces of so many bytes, and is not more than so many times as long as the record.
