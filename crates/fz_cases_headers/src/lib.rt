@@ -2,7 +2,7 @@
 //! refused, and of packed tables; and headers of images and of packed images, on files that are made here: their plans, the checks
 //! that refuse them, and their bytes there and back.
 //!
-//! Reading order: `asserts`, `base`, `store`, `cards`, `names`, `wcs`, `block`, `table`; `files` (what the others have in common),
+//! Reading order: `asserts`, `base`, `store`, `beyond`, `cards`, `names`, `wcs`, `block`, `table`; `files` (what the others have in common),
 //! `images`, `tables`, `headers`, `jobs`.
 #![tactic(auto)]
 
@@ -10,6 +10,8 @@
 mod asserts;
 #[cfg(test)]
 mod base;
+#[cfg(test)]
+mod beyond;
 #[cfg(test)]
 mod block;
 #[cfg(test)]
