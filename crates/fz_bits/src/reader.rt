@@ -125,6 +125,17 @@ impl<'a> BitReader<'a> {
         true
     }
 
+    /// The reader with as many of the next bits loaded as the slice has, 49 at least if it has so many:
+    /// for the end of the slice, where `load_word` loads none.
+    #[inline]
+    #[tactic(auto, using(crate::proofs::ReaderLemmas::lengths))]
+    pub fn loaded_at_end(self) -> BitReader<'a>
+        ensures unmoved { IsUnmoved self.entry result }
+        ensures ready { ready result < 49 → length (left result) ≡ ready result }
+    {
+        self.refilled_near_end()
+    }
+
     /// A number of 64 bits that begins with those that are ready.
     #[inline]
     pub fn word(&self) -> u64

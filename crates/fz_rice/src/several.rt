@@ -4,7 +4,7 @@
 ghost use Rattle.std.specs.Prelude.{◌≡◌, ℕ, ◌+◌, ◌-◌, ◌*◌, ◌/◌, ◌%◌, ◌^◌, ◌<◌, ◌≤◌, min, ℤ, List};
 ghost use Rattle.std.specs.Prelude.{[], ◌∷◌, ◌++◌, true, length, take, replicate, IsNone, IfSome};
 ghost use Rattle.fz_bits.specs.Bits.{number_bits};
-ghost use Rattle.fz_bits.specs.Reader.{left};
+ghost use Rattle.fz_bits.specs.Reader.{left, IsUnmoved};
 ghost use Rattle.fz_rice.specs.Numbers.{IsWidth};
 ghost use Rattle.fz_rice.specs.Reading.{split_at, most_zeros, last_of, numbers_from, bit_count, IsPiece, ReadsFour, ReadsTwo};
 
@@ -64,7 +64,7 @@ struct Piece {
 }
 
 /// The value at the top of a word. A width of 64 or more says only that there is none.
-#[inline]
+#[inline(always)]
 fn next_piece(word: u64, shape: Shape) -> Piece
     ensures least { shape.tail ≤ result.width }
     ensures most { result.width ≤ 96 }
@@ -83,6 +83,18 @@ fn next_piece(word: u64, shape: Shape) -> Piece
     }
 }
 
+/// Loads the next bits, 56 of them, or at the end of the code as many as are left.
+#[inline(always)]
+fn load(reader: &mut BitReader)
+    ensures { IsUnmoved reader.old reader.new }
+{
+    if !reader.load_word() {
+        // The copy keeps the fields of `reader` in registers: its address is handed out.
+        let at_end = reader.loaded_at_end();
+        *reader = at_end;
+    }
+}
+
 /// Four values.
 #[derive(Clone, Copy)]
 pub struct Four {
@@ -94,7 +106,7 @@ pub struct Four {
 
 /// Reads four values if so many are wanted and are in one word of the code, and none of them has too
 /// many zeros.
-#[inline]
+#[inline(always)]
 pub fn take_four<const W: u32>(
     reader: &mut BitReader,
     k: u32,
@@ -116,9 +128,10 @@ pub fn take_four<const W: u32>(
     ensures count { bit_count reader.new ≡ bit_count reader.old }
 {
     number_law();
-    if wanted < 4 || !reader.load_word() {
+    if wanted < 4 {
         return None;
     }
+    load(reader);
     let a = next_piece(reader.word(), shape);
     let b = next_piece(a.rest, shape);
     let c = next_piece(b.rest, shape);
@@ -199,7 +212,7 @@ pub struct Two {
 }
 
 /// `take_four` for two values.
-#[inline]
+#[inline(always)]
 pub fn take_two<const W: u32>(
     reader: &mut BitReader,
     k: u32,
@@ -219,9 +232,10 @@ pub fn take_two<const W: u32>(
     ensures count { bit_count reader.new ≡ bit_count reader.old }
 {
     number_law();
-    if wanted < 2 || !reader.load_word() {
+    if wanted < 2 {
         return None;
     }
+    load(reader);
     let a = next_piece(reader.word(), shape);
     let b = next_piece(a.rest, shape);
     let width = a.width + b.width;
