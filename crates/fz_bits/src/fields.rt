@@ -2,7 +2,10 @@
 #![tactic(auto)]
 
 ghost use Rattle.fz_bits.specs.Bits.{number_bits};
+ghost use Rattle.std.specs.Int.{w64, to_be_bytes};
 ghost use Rattle.std.specs.Prelude.{◌≡◌, ℕ, ◌+◌, ◌-◌, ◌*◌, ◌/◌, ◌%◌, ◌^◌, ◌<◌, ◌≤◌, false, ◌++◌, take, drop, replicate};
+
+use std::simd::u64x1;
 
 /// `high` with `width` bits of `low` after it.
 #[inline]
@@ -41,4 +44,16 @@ pub fn behind(bits: u64, width: u32) -> u64
     ensures { number_bits 64 result ≡ drop width (number_bits 64 bits) ++ replicate width false }
 {
     bits << width
+}
+
+/// The eight bytes of a number, the most significant first: by the turn of a vector, which is one instruction, where
+/// `to_be_bytes` divides.
+#[inline]
+pub fn high_first(number: u64) -> [u8; 8]
+    ensures { result ≡ to_be_bytes w64 number }
+{
+    u64x1::from_array([number])
+        .to_le_bytes()
+        .reverse()
+        .to_array()
 }

@@ -5,7 +5,7 @@ ghost use Rattle.fz_bits.specs.Bits.{number_bits, bits_of};
 ghost use Rattle.std.specs.Prelude.{◌≡◌, ℕ, ◌+◌, ◌-◌, ◌*◌, ◌/◌, ◌%◌, ◌^◌, ◌<◌, ◌≤◌, ◌↔◌, true, false, []};
 ghost use Rattle.std.specs.Prelude.{◌∷◌, ◌++◌, length, take, drop, replicate, IsTrue, IsErr, OnOk, OnErr};
 
-use crate::fields::{back, joined};
+use crate::fields::{back, high_first, joined};
 
 /// The bits do not fit into the slice.
 #[derive(Clone, Copy, Debug, PartialEq, Eq)]
@@ -163,7 +163,7 @@ impl<'a> BitWriter<'a> {
             self.count = count;
         } else {
             let rest = count - 64;
-            let word = joined(self.pending, value >> rest, 64 - self.count).to_be_bytes();
+            let word = high_first(joined(self.pending, value >> rest, 64 - self.count));
             self.out[self.at..self.at + 8].copy_from_slice(&word);
             self.at += 8;
             self.pending = back(value, rest);

@@ -53,7 +53,7 @@ returns-else-count-lt64-clause-ok c =
     let w = c.args.self.now in
     let rest = w.count + c.args.width - 64 in
     let word = c.copy_from_slice.new.self in
-    let is : word ≡ to_be_bytes w64 (w.pending * 2 ^ (64 - w.count) + c.args.value / 2 ^ rest) = c.copy_from_slice.ensures.after ∙ c.to_be_bytes-word.ensures ∙ ap (to_be_bytes w64) c.joined.ensures in
+    let is : word ≡ to_be_bytes w64 (w.pending * 2 ^ (64 - w.count) + c.args.value / 2 ^ rest) = c.copy_from_slice.ensures.after ∙ c.high_first-word.ensures ∙ ap (to_be_bytes w64) c.joined.ensures in
     let len : length word ≡ 8 = ap length is in
     let taken = take-put_mid w.at (w.at + 8 - w.at) w.out.now word (w.at + 8) (omega arith) (omega (arith, length-written w)) in
     let e : 64 - w.count + rest ≡ c.args.width = omega arith in
@@ -64,6 +64,6 @@ pub returns-else-count-lt64-clause-behind : goal.returns-else-count-lt64-clause-
 returns-else-count-lt64-clause-behind c =
     let w = c.args.self.now in
     let word = c.copy_from_slice.new.self in
-    let is : word ≡ to_be_bytes w64 c.joined.result = c.copy_from_slice.ensures.after ∙ c.to_be_bytes-word.ensures in
+    let is : word ≡ to_be_bytes w64 c.joined.result = c.copy_from_slice.ensures.after ∙ c.high_first-word.ensures in
     let len : length word ≡ w.at + 8 - w.at = ap length is ∙ omega arith in
     rw (length-written) (drop-put_mid w.at (w.at + 8 - w.at) w.out.now word ((8 * (w.at + 8) + (w.count + c.args.width - 64) + 7) / 8) (omega arith) (omega (arith, length-written w)) len)
