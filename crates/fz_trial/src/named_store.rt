@@ -9,7 +9,10 @@ pub(crate) struct NamedStore<D: Store + Drop> {
     store: D,
     name: String,
     opened: u64,
+    amended: u64,
     settled: u64,
+    /// How many writes were made before each of the first settlings.
+    settles: [u64; 4],
     misnamed: u64,
 }
 
@@ -19,7 +22,9 @@ impl<D: Store + Drop> NamedStore<D> {
             store,
             name,
             opened: 0,
+            amended: 0,
             settled: 0,
+            settles: [0; 4],
             misnamed: 0,
         }
     }
@@ -32,6 +37,11 @@ impl<D: Store + Drop> NamedStore<D> {
     /// How often it was waited for.
     pub(crate) fn settled(&self) -> u64 {
         self.settled
+    }
+
+    /// How many writes had been made when it was waited for, each time; at most the first four times.
+    pub(crate) fn settles(&self) -> &[u64] {
+        &self.settles[..self.settled.min(4) as usize]
     }
 
     /// The store that has the name.
@@ -82,10 +92,15 @@ impl<D: Store + Drop> Source for NamedStore<D> {
 
 impl<D: Store + Drop> Store for NamedStore<D> {
     fn amend(&mut self, at: u64, bytes: &[u8]) -> Result<(), Failed> {
-        self.store.amend(at, bytes)
+        self.store.amend(at, bytes)?;
+        self.amended = self.amended.saturating_add(1);
+        Ok(())
     }
 
     fn settle(&mut self) -> Result<(), Failed> {
+        if self.settled < 4 {
+            self.settles[self.settled as usize] = self.amended;
+        }
         self.settled = self.settled.saturating_add(1);
         Ok(())
     }
