@@ -1,5 +1,5 @@
 -- The call after its first block: the looks at all headers, the header that is read once more, and then the rest.
-use Rattle.std.proofs.Common.{◌≡◌, ◌⊎◌, inl, inr, ℕ, ◌*◌, ◌≤◌, max, List, [], ◌++◌, length, take, drop, Option, Some, None, Result, Ok, Err, refl, sym, ap, ◌∙◌, subst, arith}
+use Rattle.std.proofs.Common.{◌≡◌, ◌⊎◌, inl, inr, ℕ, ◌+◌, ◌*◌, ◌≤◌, max, List, [], ◌++◌, length, take, drop, Option, Some, None, Result, Ok, Err, refl, sym, ap, ◌∙◌, subst, arith}
 use Rattle.std.specs.Prelude.{IfOk, IfSome, IsSome, OnOk}
 use Rattle.std.specs.Result.{result_map_both}
 use Rattle.fz_base.specs.Counts.{Amend, CountsKept, Tally}
@@ -13,6 +13,7 @@ use Rattle.fz_base.specs.declared.kind.Kind.TheVariants.{BadCard}
 use Rattle.fz_base.specs.declared.failure.Stop.{Stop}
 use Rattle.fz_base.specs.declared.failure.Stop.TheVariants.{Refused, ReadFault, WriteFault, OverLimit, NoMemory}
 use Rattle.fz_block.specs.Checks.{hdu_at, header_blocks_of, headers_of, unjudged, walk_of}
+use Rattle.fz_block.specs.Facts.{IsHeaderOf}
 use Rattle.fz_block.specs.Takings.{header_taking}
 use Rattle.fz_block.specs.declared.header.Header.{Header}
 use Rattle.fz_block.specs.declared.next.ReadHeader.{ReadHeader}
@@ -36,7 +37,7 @@ use Rattle.fz_patch.proofs.Amended.{kept-read, same-is}
 use Rattle.fz_patch.proofs.EndsJoined.{counts_same}
 use Rattle.fz_patch.proofs.EndsTold.{if_both}
 use Rattle.fz_patch.proofs.FrameFound.{WalkFinds, WalkStops, survey_finds, wanted_hdu}
-use Rattle.fz_patch.proofs.FrameHeader.{fault_of, high_back, high_front, past_front, tells_same}
+use Rattle.fz_patch.proofs.FrameHeader.{fault_of, high_back, high_both, high_front, past_front, tells_same}
 use Rattle.fz_patch.proofs.FramePatch.{over_short}
 use Rattle.fz_patch.proofs.FrameWork.{if_refused}
 use Rattle.fz_patch.proofs.SumCards.{header_long}
@@ -357,6 +358,19 @@ module _ (blocks : BlocksFound) (second : PastSecondLaw) (live limit : ℕ) (one
       let more = high_back b third in
       (omega (arith, all, one), omega (arith, all, rest, two), omega (arith, all, rest, more, kept, high_front c d), omega (arith, all, rest, more, kept, high_back c d))
 
+  low_of : (f p : List ℕ) → HasFound live limit job.wanted h f →
+      highest (later_takings f p job) ≤ max (max (highest (first_look f)) (highest (second_look job.wanted f)))
+      (max (highest (header_taking live (header_blocks_of h.hdu h.start f))) (highest (given_takings f p job h (first_refusal (own_checks f h job)))))
+  low_of f p k =
+      let a : List (ℕ × ℕ) = first_look f in
+      let b : List (ℕ × ℕ) = second_look job.wanted f in
+      let c : List (ℕ × ℕ) = header_taking live (header_blocks_of h.hdu h.start f) in
+      let d : List (ℕ × ℕ) = given_takings f p job h (first_refusal (own_checks f h job)) in
+      let third : List (ℕ × ℕ) = target_takings f p job (wanted_image job.wanted f) in
+      let all : highest (later_takings f p job) ≡ highest (a ++ (b ++ third)) = ap highest (later_is f p job k.first.headers k.first.are) in
+      let kept : highest third ≡ highest (c ++ d) = ap highest (kept_takings f p k) in
+      omega (arith, all, kept, high_both a (b ++ third), high_both b third, high_both c d)
+
   module _ (every : EveryLooksOver) (amend : AmendLooksOver) (old first next last : ℕ) where
     pub again_high : (held given : Option (List ℕ)) → IfSome held (HasFound live limit job.wanted h) → IfSome held (λ f. first ≤ max old (highest (survey_takings Every live f))) → IfSome held (λ f. next ≤ max first (highest (survey_takings (AmendLook job.wanted) live f))) →
         IfSome held (λ f. last ≤ max next (highest (header_taking live (header_blocks_of h.hdu h.start f)))) → IfBoth held given (λ f p. last ≤ max old (highest (later_takings f p job)))
@@ -380,6 +394,23 @@ module _ (blocks : BlocksFound) (second : PastSecondLaw) (live limit : ℕ) (one
         ap (λ (e : Header). highest (given_takings f p job e (first_refusal (own_checks f e job)))) (same k.at).1 in
         let high = high_of f p k in
         omega (arith, one', two, three, four, a, b, here, high.0, high.1, high.2, high.3)
+
+    -- the peak is the greatest of all, if each part reached its own
+    pub all_reached : (new : ℕ) (held given : Option (List ℕ)) (q : ReadHeader) → IfSome held (HasFound live limit job.wanted h) → IfSome held (SaysSame h (Ok q)) → IsHeaderOf q.bytes q.facts →
+        IfSome held (λ f. first ≡ max old (highest (survey_takings Every live f))) → IfSome held (λ f. next ≡ max first (highest (survey_takings (AmendLook job.wanted) live f))) → last ≡ max next (live + length q.bytes) →
+        IfBoth held given (λ f p. new ≡ max last (highest (given_takings f p job q.facts (first_refusal (own_checks f q.facts job))))) → IfBoth held given (λ f p. new ≡ max old (highest (later_takings f p job)))
+    all_reached new None given q k same is one' two three four = tt
+    all_reached new (Some f) None q k same is one' two three four = tt
+    all_reached new (Some f) (Some p) q k same is one' two three four =
+        let a : highest (survey_takings Every live f) ≡ highest (first_look f) = ap highest (every_takings every live f one) in
+        let b : highest (survey_takings (AmendLook job.wanted) live f) ≡ highest (second_look job.wanted f) = ap highest (amend_takings amend job.wanted live f one) in
+        let here : highest (given_takings f p job q.facts (first_refusal (own_checks f q.facts job))) ≡ highest (given_takings f p job h (first_refusal (own_checks f h job))) =
+        ap (λ (e : Header). highest (given_takings f p job e (first_refusal (own_checks f e job)))) (same k.at).1 in
+        let long : length q.bytes ≡ 2880 * q.facts.blocks = header_long q.bytes q.facts is in
+        let read : q.facts.blocks ≡ h.blocks = ap (λ (e : Header). e.blocks) (same k.at).1 in
+        let took : highest (header_taking live (header_blocks_of h.hdu h.start f)) ≡ max (live + 2880 * h.blocks) 0 = ap (λ r. highest (header_taking live r)) (blocks h.hdu h.start f h k.at) in
+        let high = high_of f p k in
+        omega (arith, one', two, three, four, a, b, here, long, read, took, low_of f p k, high.0, high.1, high.2, high.3)
 
 -- ---- the rest
 

@@ -156,6 +156,14 @@ pub high_back : (ts us : List (ℕ × ℕ)) → highest us ≤ highest (ts ++ us
 high_back [] us = omega arith
 high_back ((live, asked) ∷ ts) us = omega (arith, high_back ts us)
 
+pub high_both : (ts us : List (ℕ × ℕ)) → highest (ts ++ us) ≤ max (highest ts) (highest us)
+high_both [] us = omega arith
+high_both ((live, asked) ∷ ts) us = omega (arith, high_both ts us)
+
+pub low_piled : (live : ℕ) (buffers : List ℕ) → highest (piled live buffers) ≤ live + sum buffers
+low_piled live [] = omega arith
+low_piled live (asked ∷ more) = let one : sum (asked ∷ more) ≡ asked + sum more = sum_by-cons (λ x. x) asked more in omega (arith, one, low_piled (live + asked) more)
+
 pub high_piled : (live first : ℕ) (more : List ℕ) → live + sum (first ∷ more) ≤ highest (piled live (first ∷ more))
 high_piled live first [] = let one : sum (first ∷ []) ≡ first + 0 = sum_by-cons (λ x. x) first [] in omega (arith, one)
 high_piled live first (next ∷ more) =
@@ -281,6 +289,16 @@ work_high live n file patch job h k is count e =
     let back : List (ℕ × ℕ) = piled live (work_buffers 0 false (Some n) 1) in
     let all : highest (given_takings file patch job h (first_refusal (own_checks file h job))) ≡ highest (front ++ back) = ap highest (found_takings live n file patch job h k is count e) in
     (omega (arith, all, high_front front back), omega (arith, all, high_back front back, high_piled live 0 (behind_first (work_buffers 0 false (Some n) 1))))
+
+-- and no other taking is higher
+pub work_low : (live n : ℕ) (file patch : List ℕ) (job : PatchJob) (h k : Header) → live ≡ kept_live h → n ≡ pixels_of_tile (plan_in file h) → if_patchable file patch job (Ok h) ≡ Ok k →
+    highest (given_takings file patch job h (first_refusal (own_checks file h job)))
+    ≤ max (highest (given_taking live patch (first_refusal (own_checks file h job)))) (live + sum (work_buffers 0 false (Some n) 1))
+work_low live n file patch job h k is count e =
+    let front : List (ℕ × ℕ) = given_taking live patch (first_refusal (own_checks file h job)) in
+    let back : List (ℕ × ℕ) = piled live (work_buffers 0 false (Some n) 1) in
+    let all : highest (given_takings file patch job h (first_refusal (own_checks file h job))) ≡ highest (front ++ back) = ap highest (found_takings live n file patch job h k is count e) in
+    omega (arith, all, high_both front back, low_piled live (work_buffers 0 false (Some n) 1))
 
 -- ---- of every job
 

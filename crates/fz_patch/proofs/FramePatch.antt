@@ -196,6 +196,14 @@ peak_after bounded job (Some f) (Some q) old block new begun low =
     let all : highest ((0, 2880) ∷ later_takings f q job) ≤ bound = subst (λ ts. highest ts ≤ bound) (all_takings f q job) (highest_low bound (patch_takings f q job) (bounded f q job)) in
     omega (arith, begun, low, all)
 
+pub peak_reached : (job : PatchJob) (held given : Option (List ℕ)) (old block new : ℕ) → block ≡ max old 2880 → IfBoth held given (λ f q. new ≡ max block (highest (later_takings f q job))) →
+    IfBoth held given (λ f q. new ≡ max old (highest (patch_takings f q job)))
+peak_reached job None given old block new begun reached = tt
+peak_reached job (Some f) None old block new begun reached = tt
+peak_reached job (Some f) (Some q) old block new begun reached =
+    let all : highest (patch_takings f q job) ≡ max (0 + 2880) (highest (later_takings f q job)) = ap highest (all_takings f q job) in
+    omega (arith, begun, reached, all)
+
 pub peak_stays : (job : PatchJob) (held given : Option (List ℕ)) (old new : ℕ) → new ≡ old → IfBoth held given (λ f q. new ≤ max old (patch_bound f q job))
 peak_stays job held given old new same = if_both held given _ (λ f q is by. omega (arith, same))
 

@@ -91,6 +91,9 @@ pub fn patch<R: Threads + Sync, D: Store, S: Source>(
     ensures cause { HasPatchCause (job_at hdu corner.now) (D.held store.old) (S.held patch.old) (D.tally store.old) (D.tally store.new)
         (S.tally patch.old) (S.tally patch.new) meter.old.limit result }
     ensures buffers { KeepsPatchBuffers (job_at hdu corner.now) (D.held store.old) (S.held patch.old) meter.old meter.new }
+    // After a patch that is done the peak is exactly the greatest sum of what was taken.
+    ensures exact_peak { OnOk result (IfBoth (D.held store.old) (S.held patch.old)
+        (λ g p. meter.new.peak ≡ max meter.old.peak (highest (patch_takings g p (job_at hdu corner.now))))) }
     ensures reach { KeepsReach (D.attached store.old) (D.attached store.new) }
     ensures counts { StoreKept (D.tally store.old) (D.tally store.new) × CountsKept (S.tally patch.old) (S.tally patch.new) }
     ensures stays { SourceStays S.held S.attached S.ranges patch.old patch.new
@@ -136,6 +139,8 @@ fn with_block<R: Threads + Sync, D: Store, S: Source>(
         (λ g p. TellsFirstPast meter.old.limit (later_takings g p (job_at hdu patching.now.asked.corner.now)) result) }
     ensures peak { IfBoth (D.held store.old) (S.held patch.old)
         (λ g p. meter.new.peak ≤ max meter.old.peak (highest (later_takings g p (job_at hdu patching.now.asked.corner.now)))) }
+    ensures exact_peak { OnOk result (IfBoth (D.held store.old) (S.held patch.old)
+        (λ g p. meter.new.peak ≡ max meter.old.peak (highest (later_takings g p (job_at hdu patching.now.asked.corner.now))))) }
     ensures most { TellsLimit meter.old.limit greatest_patch_bound result }
     ensures peak_most { meter.new.peak ≤ max meter.old.peak greatest_patch_bound }
     ensures risen { meter.old.peak ≤ meter.new.peak }
@@ -244,6 +249,10 @@ fn with_header<R: Threads + Sync, D: Store, S: Source>(
         → meter.old.live ≡ 2880 + len buf.old
         → meter.new.peak ≤ max meter.old.peak (highest (given_takings g p (job_at wanted patching.now.asked.corner.now) header.now
         (first_refusal (own_checks g header.now (job_at wanted patching.now.asked.corner.now)))))) }
+    ensures exact_peak { OnOk result (IfBoth (D.held store.old) (S.held patch.old) (λ g p. (wanted : Option ℕ) → IsWanted wanted header.now g
+        → meter.old.live ≡ 2880 + len buf.old
+        → meter.new.peak ≡ max meter.old.peak (highest (given_takings g p (job_at wanted patching.now.asked.corner.now) header.now
+        (first_refusal (own_checks g header.now (job_at wanted patching.now.asked.corner.now))))))) }
     ensures most { meter.old.live ≤ 2880 + 737280 → TellsLimit meter.old.limit greatest_patch_bound result }
     ensures peak_most { meter.old.live ≤ 2880 + 737280 → meter.new.peak ≤ max meter.old.peak greatest_patch_bound }
     ensures late { IfRefused result (λ x. ((D.held store.new ≡ D.held store.old) × (D.tally store.new ≡ D.tally store.old)) ⊎ ComesInWork header.now.hdu x) }
@@ -298,6 +307,8 @@ fn work<R: Threads + Sync, D: Store, S: Source>(
         (piled meter.old.live (work_buffers 0 false (Some (pixels_of target.now.image.plan 0)) 1)) result }
     ensures peak { meter.new.peak ≤ max meter.old.peak
         (meter.old.live + sum (work_buffers 0 false (Some (pixels_of target.now.image.plan 0)) 1)) }
+    ensures exact_peak { OnOk result (meter.new.peak ≡ max meter.old.peak
+        (meter.old.live + sum (work_buffers 0 false (Some (pixels_of target.now.image.plan 0)) 1))) }
     ensures late { IfRefused result (λ x. ((D.held store.new ≡ D.held store.old) × (D.tally store.new ≡ D.tally store.old))
         ⊎ ComesInWork target.now.header.hdu x) }
     ensures risen { meter.old.peak ≤ meter.new.peak }

@@ -15,6 +15,7 @@ pub mod LineReads
 pub mod Measuring
 pub mod NewTile
 pub mod NineTables
+pub mod Peaks
 pub mod Pieces
 pub mod Room
 pub mod Targeted

@@ -1,5 +1,5 @@
 //! The packed image that is patched, found by all checks of headers.
-ghost use Rattle.std.specs.Prelude.{ℕ, ◌≡◌, ◌+◌, ◌≤◌, ◌^◌, max, List, Option, Ok, Some, IfOk, IfSome, length as len};
+ghost use Rattle.std.specs.Prelude.{ℕ, ◌≡◌, ◌+◌, ◌≤◌, ◌^◌, max, List, Option, Ok, Some, IfOk, IfSome, OnOk, length as len};
 ghost use Rattle.fz_base.specs.Keeps.{SourceStays};
 ghost use Rattle.fz_base.specs.Refusal.{IsFirstOf, first_refusal, refusal};
 ghost use Rattle.fz_base.specs.Stop.{IsDefined, ReadsAndTakes, TellsLimit};
@@ -69,6 +69,9 @@ pub fn find_target<S: Source>(
     ensures peak { (file : List ℕ) (wanted : Option ℕ) → HasHeader asked.now.length header.now buf.now file
         → IfSome (S.held patch.old) (λ p. meter.new.peak ≤ max meter.old.peak
         (highest (given_taking meter.old.live p (first_refusal (own_checks file header.now (job_at wanted asked.now.corner.now)))))) }
+    ensures exact_peak { OnOk result ((file : List ℕ) (wanted : Option ℕ) → HasHeader asked.now.length header.now buf.now file
+        → IfSome (S.held patch.old) (λ p. meter.new.peak ≡ max meter.old.peak
+        (highest (given_taking meter.old.live p (first_refusal (own_checks file header.now (job_at wanted asked.now.corner.now))))))) }
     ensures most { TellsLimit meter.old.limit (meter.old.live + 737280) result }
     ensures peak_most { meter.new.peak ≤ max meter.old.peak (meter.old.live + 737280) }
     ensures stays { SourceStays S.held S.attached S.ranges patch.old patch.new × (meter.new.live ≡ meter.old.live)

@@ -1,5 +1,5 @@
 //! The image that is put in: the first HDU of PATCH.
-ghost use Rattle.std.specs.Prelude.{◌≡◌, ◌+◌, ◌≤◌, ◌^◌, max, Ok, Some, IfOk, IfSome, length as len};
+ghost use Rattle.std.specs.Prelude.{◌≡◌, ◌+◌, ◌≤◌, ◌^◌, max, Ok, Some, IfOk, IfSome, OnOk, length as len};
 ghost use Rattle.fz_base.specs.Keeps.{SourceStays};
 ghost use Rattle.fz_base.specs.Refusal.{refusal};
 ghost use Rattle.fz_base.specs.Stop.{IsDefined, ReadsAndTakes, TellsLimit};
@@ -14,7 +14,7 @@ ghost use Rattle.fz_laws.specs.PatchChecks.{may_be_given};
 ghost use Rattle.fz_target.specs.Targets.{IsGivenImage, given_found};
 
 use fz_base::{Fault, Kind, Meter, Place, Source, Stop};
-use fz_block::{Header, header_at};
+use fz_block::{Header, hdu_at_law, header_at};
 use fz_head::{Plan, has_places};
 
 /// Reads the header of the first HDU of PATCH, whose image is put into one with this plan.
@@ -40,12 +40,16 @@ pub(crate) fn read_given<S: Source>(
         (λ p. TellsFirstPast meter.old.limit (header_taking meter.old.live (header_blocks_of 0 0 p)) result) }
     ensures peak { IfSome (S.held patch.old)
         (λ p. meter.new.peak ≤ max meter.old.peak (highest (header_taking meter.old.live (header_blocks_of 0 0 p)))) }
+    ensures exact_peak { OnOk result (IfSome (S.held patch.old)
+        (λ p. meter.new.peak ≡ max meter.old.peak (highest (header_taking meter.old.live (header_blocks_of 0 0 p))))) }
     ensures most { TellsLimit meter.old.limit (meter.old.live + 737280) result }
     ensures peak_most { meter.new.peak ≤ max meter.old.peak (meter.old.live + 737280) }
     ensures stays { SourceStays S.held S.attached S.ranges patch.old patch.new × (meter.new.live ≡ meter.old.live)
         × (meter.new.limit ≡ meter.old.limit) }
     ensures cause { ReadsAndTakes (S.tally patch.old) (S.tally patch.new) meter.old.limit result }
 {
+    // As many blocks are read as the header has.
+    hdu_at_law();
     let read = match header_at(patch, patch_length, 0, 0, meter, block) {
         Ok(read) => read,
         Err(Stop::Refused(_)) => return Err(bad_patch()),

@@ -1,5 +1,6 @@
 -- With the first block.
 use Rattle.std.proofs.Common.{◌≡◌, inl, ℕ, ◌+◌, ◌-◌, ◌≤◌, max, List, Option, Result, Err, length, refl, sym, ap, ◌∙◌, subst, arith, rules}
+use Rattle.std.specs.Prelude.{OnOk}
 use Rattle.std.proofs.lemmas.List.{length-replicate}
 use Rattle.fz_base.specs.Buffer.{refilled}
 use Rattle.fz_base.specs.Counts.{Tally}
@@ -13,9 +14,10 @@ use Rattle.fz_laws.specs.PatchBuffers.{patch_takings}
 use Rattle.fz_target.specs.Targets.{job_at}
 use Rattle.fz_target.specs.Told.{IfBoth}
 use Rattle.fz_patch.proofs.Amended.{kept-same}
+use Rattle.fz_patch.proofs.FrameBlock.{ok_weaker}
 use Rattle.fz_patch.proofs.EndsJoined.{counts_same}
 use Rattle.fz_patch.proofs.EndsTold.{if_both}
-use Rattle.fz_patch.proofs.FramePatch.{answers, bound_block, cause_after, first_short, peak_after, peak_stays, refilled_len}
+use Rattle.fz_patch.proofs.FramePatch.{answers, bound_block, cause_after, first_short, peak_after, peak_reached, peak_stays, refilled_len}
 use Rattle.fz_patch.proofs.FramePatch.{short_untold, short_unwritten, unwritten_after}
 use Rattle.fz_patch.proofs.patch_file.patch.Goals as goal
 
@@ -134,6 +136,19 @@ returns-clause-buffers g c =
       peak = rw back (peak_after c.patch_buffers_law.ensures job held given c.args.meter.now.peak c.bytes.new.self.peak c.with_block-answer.new.meter.peak (omega (arith, begun, c.requires.nothing_live)) low);
       most = omega (arith, back, begun, c.requires.nothing_live, c.with_block-answer.ensures.peak_most, bound_block);
     }
+
+pub returns-clause-exact_peak : goal.returns-clause-exact_peak
+returns-clause-exact_peak g c =
+    let job = job_at c.args.hdu c.args.corner.now in
+    let held : Option (List ℕ) = g.D.Source.held c.args.store.now in
+    let given : Option (List ℕ) = g.S.Source.held c.args.patch.now in
+    let begun : c.bytes.new.self.peak ≡ max c.args.meter.now.peak (c.args.meter.now.live + 2880) = ap (λ (m : Gauge). m.peak) c.in_ok-block.ensures.taken.1 in
+    let back : c.give_bytes.new.self.peak ≡ c.with_block-answer.new.meter.peak = ap (λ (m : Gauge). m.peak) c.give_bytes.ensures in
+    let reached : OnOk c.with_block-answer.result (IfBoth held given (λ f q. c.with_block-answer.new.meter.peak ≡ max c.bytes.new.self.peak (highest (later_takings f q job)))) = c.with_block-answer.ensures.exact_peak in
+    ok_weaker c.with_block-answer.result
+    (λ (all : IfBoth held given (λ f q. c.with_block-answer.new.meter.peak ≡ max c.bytes.new.self.peak (highest (later_takings f q job)))).
+    rw back (peak_reached job held given c.args.meter.now.peak c.bytes.new.self.peak c.with_block-answer.new.meter.peak (omega (arith, begun, c.requires.nothing_live)) all))
+    reached
 
 pub returns-clause-counts : goal.returns-clause-counts
 returns-clause-counts g c = (c.with_block-answer.ensures.cause.store_kept, c.with_block-answer.ensures.cause.patch_kept)

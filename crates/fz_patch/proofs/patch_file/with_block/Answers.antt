@@ -25,7 +25,7 @@ use Rattle.fz_target.specs.Steps.{KeepsReach}
 use Rattle.fz_target.specs.Targets.{job_at}
 use Rattle.fz_target.specs.Told.{IfBoth}
 use Rattle.fz_patch.proofs.EndsJoined.{refused_weaker}
-use Rattle.fz_patch.proofs.FrameBlock.{HasFound, HasLooked, SaysSame, again_high, again_past, again_told, all_high, all_past, amend_high, amend_past, amend_told, both_weaker, either_way, every_high, every_past, every_told, found, in_work, looked, of_wanted, ok_weaker, over_weaker, reach_same, read_is, still_amended, store_works, told_both, untouched, untouched_safe, wanted_of, same_past}
+use Rattle.fz_patch.proofs.FrameBlock.{HasFound, HasLooked, SaysSame, again_high, again_past, again_told, all_high, all_past, all_reached, amend_high, amend_past, amend_told, both_weaker, either_way, every_high, every_past, every_told, found, in_work, looked, of_wanted, ok_weaker, over_weaker, reach_same, read_is, still_amended, store_works, told_both, untouched, untouched_safe, wanted_of, same_past}
 use Rattle.fz_patch.proofs.FrameBlock.{past_later, unpassed_here}
 use Rattle.fz_patch.proofs.FrameHeader.{bound_headers, stop_limit}
 use Rattle.fz_patch.proofs.FramePatch.{refilled_len}
@@ -431,6 +431,38 @@ returns-clause-peak g c =
     both_weaker (g.D.Source.held c.args.store.now) (g.S.Source.held c.args.patch.now) _ _ (λ f p low. low live4) (of_wanted (g.D.Source.held c.args.store.now) (g.S.Source.held c.args.patch.now) c.in_ok-kept.kept.facts c.args.hdu c.args.patching.now.asked.corner.now (λ job f p. c.read_again.new.meter.live ≡ 2880 + length c.as_mut_slice.result.now → c.with_header-answer.new.meter.peak ≤ max c.read_again.new.meter.peak (highest (given_takings f p job c.in_ok-kept.kept.facts (first_refusal (own_checks f c.in_ok-kept.kept.facts job))))) wanted all) in
     let back : c.give_bytes.new.self.peak ≡ c.with_header-answer.new.meter.peak = ap (λ (m : Gauge). m.peak) c.give_bytes.ensures in
     rw back (all_high c.hdu_at_law.ensures.blocks c.takings_law.ensures.second c.args.meter.now.live c.args.meter.now.limit c.requires.one_block (job_at c.args.hdu c.args.patching.now.asked.corner.now) c.in_ok-found.found c.survey_law.ensures.every c.survey_law.ensures.amend c.args.meter.now.peak c.survey_every.new.meter.peak c.survey_to_amend.new.meter.peak c.read_again.new.meter.peak c.with_header-answer.new.meter.peak (g.D.Source.held c.args.store.now) (g.S.Source.held c.args.patch.now) c.in_ok-kept.kept known same3 first next last here)
+
+pub returns-clause-exact_peak : goal.returns-clause-exact_peak
+returns-clause-exact_peak g c =
+    let live1 : c.survey_every.new.meter.live ≡ c.args.meter.now.live = c.in_ok-survey_every.ensures.stays.1 in
+    let limit1 : c.survey_every.new.meter.limit ≡ c.args.meter.now.limit = c.in_ok-survey_every.ensures.stays.2 in
+    let look : IfSome (g.D.Source.held c.args.store.now) (HasLooked c.args.meter.now.live c.args.meter.now.limit) = looked c.survey_law.ensures.every c.args.meter.now.live c.args.meter.now.limit (g.D.Source.held c.args.store.now) _ c.requires.one_block c.in_ok-survey_every.ensures.exact c.in_ok-survey_every.ensures.first_past in
+    let held1 : g.D.Source.held c.survey_every.new.source ≡ g.D.Source.held c.args.store.now = search rules in
+    let live2 : c.survey_to_amend.new.meter.live ≡ c.args.meter.now.live = c.in_ok-found.ensures.stays.1 ∙ live1 in
+    let limit2 : c.survey_to_amend.new.meter.limit ≡ c.args.meter.now.limit = c.in_ok-found.ensures.stays.2 ∙ limit1 in
+    let exact2 : IfSome (g.D.Source.held c.args.store.now) (λ f. amend_surveyed c.args.hdu f ≡ Ok c.in_ok-found.found) = rw held1 at c.in_ok-found.ensures.exact in
+    let none2 : IfSome (g.D.Source.held c.args.store.now) (λ f. first_past c.args.meter.now.limit (survey_takings (AmendLook c.args.hdu) c.args.meter.now.live f) ≡ None) = same_past c.args.hdu c.args.meter.now.limit c.survey_every.new.meter.limit c.args.meter.now.live c.survey_every.new.meter.live (g.D.Source.held c.args.store.now) (g.D.Source.held c.survey_every.new.source) held1 limit1 live1 c.in_ok-found.ensures.first_past in
+    let known : IfSome (g.D.Source.held c.args.store.now) (HasFound c.args.meter.now.live c.args.meter.now.limit c.args.hdu c.in_ok-found.found) = found c.hdu_at_law.ensures.walk c.found_hdus_law.ensures.last c.survey_law.ensures.amend c.args.meter.now.live c.args.meter.now.limit c.args.hdu c.in_ok-found.found (g.D.Source.held c.args.store.now) c.requires.one_block look exact2 none2 in
+    let held2 : g.D.Source.held c.survey_to_amend.new.source ≡ g.D.Source.held c.args.store.now = search rules in
+    let same3 : IfSome (g.D.Source.held c.args.store.now) (SaysSame c.in_ok-found.found (Ok c.in_ok-kept.kept)) = rw held2 at c.in_ok-kept.ensures.same in
+    let wanted : IfSome (g.D.Source.held c.args.store.now) (IsWanted c.args.hdu c.in_ok-kept.kept.facts) = wanted_of c.args.meter.now.live c.args.meter.now.limit c.args.hdu c.in_ok-found.found (g.D.Source.held c.args.store.now) c.in_ok-kept.kept known same3 in
+    let held3 : g.D.Source.held c.read_again.new.store ≡ g.D.Source.held c.args.store.now = search rules in
+    let took : c.read_again.new.meter ≡ taken c.survey_to_amend.new.meter (length c.in_ok-kept.kept.bytes) = c.in_ok-kept.ensures.taken.1 in
+    let live3 : c.read_again.new.meter.live ≡ 2880 + length c.in_ok-kept.kept.bytes = ap (λ (m : Gauge). m.live) took ∙ ap (λ n. n + length c.in_ok-kept.kept.bytes) (live2 ∙ c.requires.one_block) in
+    let live4 : c.read_again.new.meter.live ≡ 2880 + length c.as_mut_slice.result.now = live3 ∙ ap (λ l. 2880 + length l) (sym c.as_mut_slice.ensures.value) in
+    let limit3 : c.read_again.new.meter.limit ≡ c.args.meter.now.limit = ap (λ (m : Gauge). m.limit) took ∙ limit2 in
+    let first : IfSome (g.D.Source.held c.args.store.now) (λ f. c.survey_every.new.meter.peak ≡ max c.args.meter.now.peak (highest (survey_takings Every c.args.meter.now.live f))) = c.in_ok-survey_every.ensures.exact_peak in
+    let next : IfSome (g.D.Source.held c.args.store.now) (λ f. c.survey_to_amend.new.meter.peak ≡ max c.survey_every.new.meter.peak (highest (survey_takings (AmendLook c.args.hdu) c.args.meter.now.live f))) = rw (held1, live1) at c.in_ok-found.ensures.exact_peak in
+    let grew : c.read_again.new.meter.peak ≡ max c.survey_to_amend.new.meter.peak (c.survey_to_amend.new.meter.live + length c.in_ok-kept.kept.bytes) = ap (λ (m : Gauge). m.peak) took in
+    let last : c.read_again.new.meter.peak ≡ max c.survey_to_amend.new.meter.peak (c.args.meter.now.live + length c.in_ok-kept.kept.bytes) = omega (arith, grew, live2) in
+    let back : c.give_bytes.new.self.peak ≡ c.with_header-answer.new.meter.peak = ap (λ (m : Gauge). m.peak) c.give_bytes.ensures in
+    let reached : OnOk c.with_header-answer.result (IfBoth (g.D.Source.held c.args.store.now) (g.S.Source.held c.args.patch.now) (λ f p. (any : Option ℕ) → IsWanted any c.in_ok-kept.kept.facts f → c.read_again.new.meter.live ≡ 2880 + length c.as_mut_slice.result.now → c.with_header-answer.new.meter.peak ≡ max c.read_again.new.meter.peak (highest (given_takings f p (job_at any c.args.patching.now.asked.corner.now) c.in_ok-kept.kept.facts (first_refusal (own_checks f c.in_ok-kept.kept.facts (job_at any c.args.patching.now.asked.corner.now))))))) = rw held3 at c.with_header-answer.ensures.exact_peak in
+    ok_weaker c.with_header-answer.result
+    (λ (all : IfBoth (g.D.Source.held c.args.store.now) (g.S.Source.held c.args.patch.now) (λ f p. (any : Option ℕ) → IsWanted any c.in_ok-kept.kept.facts f → c.read_again.new.meter.live ≡ 2880 + length c.as_mut_slice.result.now → c.with_header-answer.new.meter.peak ≡ max c.read_again.new.meter.peak (highest (given_takings f p (job_at any c.args.patching.now.asked.corner.now) c.in_ok-kept.kept.facts (first_refusal (own_checks f c.in_ok-kept.kept.facts (job_at any c.args.patching.now.asked.corner.now))))))).
+    let here : IfBoth (g.D.Source.held c.args.store.now) (g.S.Source.held c.args.patch.now) (λ f p. c.with_header-answer.new.meter.peak ≡ max c.read_again.new.meter.peak (highest (given_takings f p (job_at c.args.hdu c.args.patching.now.asked.corner.now) c.in_ok-kept.kept.facts (first_refusal (own_checks f c.in_ok-kept.kept.facts (job_at c.args.hdu c.args.patching.now.asked.corner.now)))))) =
+    both_weaker (g.D.Source.held c.args.store.now) (g.S.Source.held c.args.patch.now) _ _ (λ f p low. low live4) (of_wanted (g.D.Source.held c.args.store.now) (g.S.Source.held c.args.patch.now) c.in_ok-kept.kept.facts c.args.hdu c.args.patching.now.asked.corner.now (λ job f p. c.read_again.new.meter.live ≡ 2880 + length c.as_mut_slice.result.now → c.with_header-answer.new.meter.peak ≡ max c.read_again.new.meter.peak (highest (given_takings f p job c.in_ok-kept.kept.facts (first_refusal (own_checks f c.in_ok-kept.kept.facts job))))) wanted all) in
+    rw back (all_reached c.hdu_at_law.ensures.blocks c.takings_law.ensures.second c.args.meter.now.live c.args.meter.now.limit c.requires.one_block (job_at c.args.hdu c.args.patching.now.asked.corner.now) c.in_ok-found.found c.survey_law.ensures.every c.survey_law.ensures.amend c.args.meter.now.peak c.survey_every.new.meter.peak c.survey_to_amend.new.meter.peak c.read_again.new.meter.peak c.with_header-answer.new.meter.peak (g.D.Source.held c.args.store.now) (g.S.Source.held c.args.patch.now) c.in_ok-kept.kept known same3 c.in_ok-kept.ensures.again.is_header first next last here))
+    reached
 
 pub returns-clause-reach : goal.returns-clause-reach
 returns-clause-reach g c =

@@ -20,7 +20,7 @@ use Rattle.fz_target.specs.Targets.{GivesWithin, IsTargetIn, given_taking, job_a
 use Rattle.fz_target.specs.declared.target.Target.{Target}
 use Rattle.fz_patch.proofs.EndsTold.{if_both, if_some, some_of}
 use Rattle.fz_patch.proofs.FrameBlock.{either_way}
-use Rattle.fz_patch.proofs.FrameHeader.{bound_headers, bound_work, few_pixels, find_high, find_past, found_by, given_works, has_of, kept_is, of_jobs, stop_limit, target_is, tile_of, told_stop, work_high, work_limit, work_past}
+use Rattle.fz_patch.proofs.FrameHeader.{bound_headers, bound_work, few_pixels, find_high, find_past, found_by, given_works, has_of, kept_is, of_jobs, stop_limit, target_is, tile_of, told_stop, work_high, work_limit, work_low, work_past}
 use Rattle.fz_patch.proofs.FramePatch.{over_short}
 use Rattle.fz_patch.proofs.FrameWork.{if_refused}
 use Rattle.fz_patch.proofs.patch_file.with_header.Goals as goal
@@ -231,6 +231,25 @@ returns-clause-peak g c =
     some_of (g.S.Source.held c.args.patch.now) (λ q. c.find_target.new.meter.peak ≤ max meter.peak (highest (given_taking meter.live q own))) p by (c.in_ok-target.ensures.peak f wanted (has_of c.hdu_at_law.ensures.walk c.found_hdus_law.ensures.last (g.D.Source.held c.args.store.now) c.args.patching.now.asked.length c.args.header.now c.args.buf.now (g.met.D.Source.agrees c.args.store.now c.args.patching.now.asked.length c.requires.attached) c.requires.read f wanted is w)) in
     let both = work_high meter.live n f p job header c.in_ok-target.target.header (kept_is c.args.meter.now.live c.args.buf.now c.args.header.now c.requires.header live) (tile_of c.in_ok-target.target c.args.header.now f c.in_ok-target.ensures.target.0 c.in_ok-target.ensures.target.1 (c.in_ok-target.ensures.said f (has_of c.hdu_at_law.ensures.walk c.found_hdus_law.ensures.last (g.D.Source.held c.args.store.now) c.args.patching.now.asked.length c.args.header.now c.args.buf.now (g.met.D.Source.agrees c.args.store.now c.args.patching.now.asked.length c.requires.attached) c.requires.read f wanted is w))) (some_of (g.S.Source.held c.args.patch.now) (λ q. if_patchable f q (job_at wanted c.args.patching.now.asked.corner.now) (Ok c.args.header.now) ≡ Ok c.in_ok-target.target.header) p by (c.in_ok-target.ensures.exact f wanted (has_of c.hdu_at_law.ensures.walk c.found_hdus_law.ensures.last (g.D.Source.held c.args.store.now) c.args.patching.now.asked.length c.args.header.now c.args.buf.now (g.met.D.Source.agrees c.args.store.now c.args.patching.now.asked.length c.requires.attached) c.requires.read f wanted is w))) in
     omega (arith, high, low, both.0, both.1))
+
+pub returns-clause-exact_peak : goal.returns-clause-exact_peak
+returns-clause-exact_peak g c =
+    let corner : List ℕ = c.args.patching.now.asked.corner.now in
+    let header : Header = c.args.header.now in
+    let meter = c.args.meter.now in
+    let n : ℕ = pixels_of c.in_ok-target.target.image.plan 0 in
+    let reached : OnOk c.work.result (c.work.new.meter.peak ≡ max c.find_target.new.meter.peak (meter.live + sum (work_buffers 0 false (Some n) 1))) = rw c.in_ok-target.ensures.stays.1 at c.work.ensures.exact_peak in
+    on_ok c.work.result
+    (λ (high : c.work.new.meter.peak ≡ max c.find_target.new.meter.peak (meter.live + sum (work_buffers 0 false (Some n) 1))). if_both (g.D.Source.held c.args.store.now) (g.S.Source.held c.args.patch.now) _
+    (λ f p is by wanted w live.
+    let job = job_at wanted corner in
+    let own = first_refusal (own_checks f header job) in
+    let low : c.find_target.new.meter.peak ≡ max meter.peak (highest (given_taking meter.live p own)) =
+    some_of (g.S.Source.held c.args.patch.now) (λ q. c.find_target.new.meter.peak ≡ max meter.peak (highest (given_taking meter.live q own))) p by (c.in_ok-target.ensures.exact_peak f wanted (has_of c.hdu_at_law.ensures.walk c.found_hdus_law.ensures.last (g.D.Source.held c.args.store.now) c.args.patching.now.asked.length c.args.header.now c.args.buf.now (g.met.D.Source.agrees c.args.store.now c.args.patching.now.asked.length c.requires.attached) c.requires.read f wanted is w)) in
+    let both = work_high meter.live n f p job header c.in_ok-target.target.header (kept_is c.args.meter.now.live c.args.buf.now c.args.header.now c.requires.header live) (tile_of c.in_ok-target.target c.args.header.now f c.in_ok-target.ensures.target.0 c.in_ok-target.ensures.target.1 (c.in_ok-target.ensures.said f (has_of c.hdu_at_law.ensures.walk c.found_hdus_law.ensures.last (g.D.Source.held c.args.store.now) c.args.patching.now.asked.length c.args.header.now c.args.buf.now (g.met.D.Source.agrees c.args.store.now c.args.patching.now.asked.length c.requires.attached) c.requires.read f wanted is w))) (some_of (g.S.Source.held c.args.patch.now) (λ q. if_patchable f q (job_at wanted c.args.patching.now.asked.corner.now) (Ok c.args.header.now) ≡ Ok c.in_ok-target.target.header) p by (c.in_ok-target.ensures.exact f wanted (has_of c.hdu_at_law.ensures.walk c.found_hdus_law.ensures.last (g.D.Source.held c.args.store.now) c.args.patching.now.asked.length c.args.header.now c.args.buf.now (g.met.D.Source.agrees c.args.store.now c.args.patching.now.asked.length c.requires.attached) c.requires.read f wanted is w))) in
+    let most = work_low meter.live n f p job header c.in_ok-target.target.header (kept_is c.args.meter.now.live c.args.buf.now c.args.header.now c.requires.header live) (tile_of c.in_ok-target.target c.args.header.now f c.in_ok-target.ensures.target.0 c.in_ok-target.ensures.target.1 (c.in_ok-target.ensures.said f (has_of c.hdu_at_law.ensures.walk c.found_hdus_law.ensures.last (g.D.Source.held c.args.store.now) c.args.patching.now.asked.length c.args.header.now c.args.buf.now (g.met.D.Source.agrees c.args.store.now c.args.patching.now.asked.length c.requires.attached) c.requires.read f wanted is w))) (some_of (g.S.Source.held c.args.patch.now) (λ q. if_patchable f q (job_at wanted c.args.patching.now.asked.corner.now) (Ok c.args.header.now) ≡ Ok c.in_ok-target.target.header) p by (c.in_ok-target.ensures.exact f wanted (has_of c.hdu_at_law.ensures.walk c.found_hdus_law.ensures.last (g.D.Source.held c.args.store.now) c.args.patching.now.asked.length c.args.header.now c.args.buf.now (g.met.D.Source.agrees c.args.store.now c.args.patching.now.asked.length c.requires.attached) c.requires.read f wanted is w))) in
+    omega (arith, high, low, both.0, both.1, most)))
+    reached
 
 pub returns-clause-most : goal.returns-clause-most
 returns-clause-most g c = λ low.

@@ -1,6 +1,6 @@
 -- The buffers were not given, or the work took no others; and what was taken comes back.
-use Rattle.std.proofs.Common.{◌≡◌, inl, inr, ℕ, ◌+◌, ◌≤◌, max, List, length, Option, Some, None, Result, Err, sum, refl, sym, ap, ◌∙◌, subst, arith, rules}
-use Rattle.std.specs.Prelude.{false}
+use Rattle.std.proofs.Common.{◌≡◌, inl, inr, ℕ, ◌+◌, ◌≤◌, max, List, length, Option, Some, None, Result, Ok, Err, sum, refl, sym, ap, ◌∙◌, subst, arith, rules}
+use Rattle.std.specs.Prelude.{OnOk, false}
 use Rattle.fz_base.specs.Buffer.{refilled}
 use Rattle.fz_base.specs.Counts.{Tally}
 use Rattle.fz_base.specs.Stop.{stop_of_short}
@@ -158,6 +158,26 @@ returns-clause-peak g c =
     (record { header = refl; translated = refl; copy = refilled_len space.copy c.write_patch-answer.new.copy }) c.in_ok-space.ensures.filled c.write_patch-answer.ensures.window in
     let reached = (meter_back c.args.meter.now c.take.new.meter c.give_back.new.meter _ _ c.in_ok-space.ensures.takings.all.1 held c.give_back.ensures.given).2 in
     omega (arith, reached, total)
+
+on_any : {X P : Type 0} (r : Result X Stop) → P → OnOk r P
+on_any (Ok x) p = p
+on_any (Err stop) p = tt
+
+pub returns-clause-exact_peak : goal.returns-clause-exact_peak
+returns-clause-exact_peak g c =
+    let target = c.args.target.now in
+    let big : c.largest.result ≡ pixels_of target.image.plan 0 = c.largest.ensures.pixels ∙ (λ j. product (tile_lengths (lengths_of (c.grid.ensures.0 j)) (lengths_of (c.grid.ensures.1 j)) 0)) in
+    let one : c.in-Ok.window.workers ≡ 1 = ap (λ (p : Pool). p.workers) c.in-Ok.ensures in
+    let space : Workspace = c.in_ok-space.space in
+    let wants : Wants = record { header_len = 0; translates = false; tile = Some c.largest.result } in
+    let buffers : wanted_buffers wants c.in-Ok.window.workers ≡ work_buffers 0 false (Some (pixels_of target.image.plan 0)) 1 = λ j. work_buffers 0 false (Some (big j)) (one j) in
+    let total : sum (wanted_buffers wants c.in-Ok.window.workers) ≡ sum (work_buffers 0 false (Some (pixels_of target.image.plan 0)) 1) = ap sum buffers in
+    let copy : List ℕ = refilled space.copy c.write_patch-answer.new.copy in
+    let space' : Workspace = record { header = space.header; translated = space.translated; copy = copy } in
+    let held = still_held c.workspace_law.ensures.held wants space space' c.in-Ok.window.workers c.take.new.window c.write_patch-answer.new.window c.in_ok-space.ensures.lengths
+    (record { header = refl; translated = refl; copy = refilled_len space.copy c.write_patch-answer.new.copy }) c.in_ok-space.ensures.filled c.write_patch-answer.ensures.window in
+    let reached = (meter_back c.args.meter.now c.take.new.meter c.give_back.new.meter _ _ c.in_ok-space.ensures.takings.all.1 held c.give_back.ensures.given).2 in
+    on_any c.write_patch-answer.result (omega (arith, reached, total))
 
 pub returns-clause-stays : goal.returns-clause-stays
 returns-clause-stays g c =

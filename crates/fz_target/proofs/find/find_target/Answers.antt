@@ -20,6 +20,7 @@ use Rattle.fz_target.specs.declared.target.Target.{Target}
 use Rattle.fz_target.proofs.EndsTold.{if_some, some_of}
 use Rattle.fz_target.proofs.Found.{ends_here, found_target, given_all, given_stopped, gives_within, limit_stopped, pass_all, past_given, past_none, past_stopped, peak_given, peak_none, stop_ends, stop_own, target_in}
 use Rattle.fz_target.proofs.FoundTargets.{box_is, first_step, given_parts, lengths_are, shape_is, sieve_given, within_given}
+use Rattle.fz_target.proofs.Peaks.{reached_after}
 use Rattle.fz_target.proofs.find.find_target.Goals as goal
 
 -- ---- refused before PATCH is looked at
@@ -168,3 +169,7 @@ returns-clause-first_past g c = λ file wanted has.
 pub returns-clause-peak : goal.returns-clause-peak
 returns-clause-peak g c = λ file wanted has.
     peak_given (g.S.Source.held c.args.patch.now) c.args.meter.now.limit c.args.meter.now.live (own_checks file c.args.header.now (job_at wanted c.args.asked.now.corner.now)) c.args.meter.now.peak c.read_given.new.meter.peak (c.in-Ok.ensures.exact file wanted has) c.in_ok-given.ensures.peak
+
+pub returns-clause-exact_peak : goal.returns-clause-exact_peak
+returns-clause-exact_peak g c = λ file wanted has.
+    reached_after (g.S.Source.held c.args.patch.now) c.args.meter.now.live c.args.meter.now.peak c.read_given.new.meter.peak (own_checks file c.args.header.now (job_at wanted c.args.asked.now.corner.now)) (c.in-Ok.ensures.exact file wanted has) c.in_ok-given.ensures.exact_peak
