@@ -26,15 +26,16 @@ write_octets at (b ∷ bytes) old new were =
 
 -- a failed write counts a fault of writing, and perhaps a want
 pub fault_amends : {T : Type 0} (before after now : Tally) (result : Result T Failed) → IsErrOf result Fault → now.faults ≡ before.faults → now.names ≡ before.names →
-    now.amended.writes ≡ before.amended.writes → now.amended.faults ≡ counted before.amended.faults → before.amended.faults ≤ now.amended.faults → before.wants ≤ now.wants → (before.wants ≡ 2 ^ 64 - 1 → now.wants ≡ 2 ^ 64 - 1) →
+    now.amended.writes ≡ before.amended.writes → now.amended.settled ≡ before.amended.settled → now.amended.faults ≡ counted before.amended.faults → before.amended.faults ≤ now.amended.faults → before.wants ≤ now.wants → (before.wants ≡ 2 ^ 64 - 1 → now.wants ≡ 2 ^ 64 - 1) →
     HasAmended before after now result
-fault_amends before after now (Ok x) answer faults names writes rose kept wants stay = absurd cc
-fault_amends before after now (Err Fault) answer faults names writes rose kept wants stay =
+fault_amends before after now (Ok x) answer faults names writes settled rose kept wants stay = absurd cc
+fault_amends before after now (Err Fault) answer faults names writes settled rose kept wants stay =
     record {
       kept = record {
         faults_kept = omega (arith, faults);
         wants_kept = wants;
         write_faults_kept = kept;
+        settled_kept = omega (arith, settled);
         faults_stay = λ end. faults ∙ end;
         wants_stay = stay;
         write_faults_stay = λ end. omega (arith, rose, end);
@@ -46,4 +47,4 @@ fault_amends before after now (Err Fault) answer faults names writes rose kept w
       fault = λ is. omega (arith, rose);
       no_memory = λ is. absurd cc;
     }
-fault_amends before after now (Err NoMemory) answer faults names writes rose kept wants stay = absurd cc
+fault_amends before after now (Err NoMemory) answer faults names writes settled rose kept wants stay = absurd cc

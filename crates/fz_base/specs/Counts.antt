@@ -14,14 +14,16 @@ pub record Amend : Type 0 where
   pub at : ℕ
   pub bytes : List ℕ
 
--- what was written in place in an object: the writes, one after another, if it shows them, and how often one failed
+-- What was written in place in an object: the writes, one after another, if it shows them; how many of these, from the first on, are
+-- settled, which is to say on the disk before any later write is; and how often one failed.
 pub record Amended : Type 0 where
   pub writes : Option (List Amend)
+  pub settled : ℕ
   pub faults : ℕ
 
 -- of an object in which nothing is written in place
 abbrev pub unamended : Amended
-unamended = record { writes = None; faults = 0 }
+unamended = record { writes = None; settled = 0; faults = 0 }
 
 -- How often the calls of an object failed, and how often one found no memory; the names by which it was opened or made, one after
 -- another, if it shows them; and what was written in place.
@@ -39,10 +41,15 @@ uncounted = record { faults = 0; wants = 0; names = None; amended = unamended }
 abbrev pub tally_of : Counts → Tally
 tally_of counts = record { faults = counts.faults; wants = counts.wants; names = None; amended = unamended }
 
--- the tally of a store that shows these writes and no names
-abbrev pub store_tally : Option (List Amend) → Counts → Tally
-store_tally writes counts =
-    record { faults = counts.faults; wants = counts.wants; names = None; amended = record { writes = writes; faults = counts.write_faults } }
+-- the tally of a store that shows these writes, of which so many are settled, and no names
+abbrev pub store_tally : Option (List Amend) → ℕ → Counts → Tally
+store_tally writes settled counts =
+    record {
+      faults = counts.faults;
+      wants = counts.wants;
+      names = None;
+      amended = record { writes = writes; settled = settled; faults = counts.write_faults };
+    }
 
 -- a tally without its names, for a call that may open or make: only its counts are said
 abbrev pub nameless : Tally → Tally

@@ -101,8 +101,8 @@ StoppedByAmend before now WriteFault = Rose before.amended.faults now.amended.fa
 StoppedByAmend before now (OverLimit live asked limit) = ⊥
 StoppedByAmend before now NoMemory = Rose before.wants now.wants
 
--- a call that writes in place changed the tally of its store as its answer says: if it succeeded, to this one, and otherwise the writes
--- are as they were
+-- a call that writes in place, or settles, changed the tally of its store as its answer says: if it succeeded, to this one, and otherwise
+-- the writes are as they were
 pub record Amends {X : Type 0} (before after now : Tally) (result : Result X Stop) : Type 0 where
   pub kept : StoreKept before now
   pub faults_same : now.faults ≡ before.faults

@@ -1,8 +1,8 @@
 -- What the calls of a store do to its bytes, to its length and to its tally. A store is a source that is also written in place: bytes are
 -- put over those that it has, or directly after them. Bytes and writes are none if a store does not show them.
-use Rattle.std.specs.Prelude.{ℕ, ◌≡◌, ◌+◌, ◌-◌, ◌^◌, ◌≤◌, max, List, [], ◌∷◌, ◌++◌, length, Option, Some, Result, OnOk, OnErr, IsErrOf}
+use Rattle.std.specs.Prelude.{ℕ, ◌≡◌, ◌+◌, ◌-◌, ◌^◌, ◌≤◌, max, List, [], ◌∷◌, ◌++◌, length, Option, Some, None, Result, OnOk, OnErr, IsErrOf}
 use Rattle.std.specs.Option.{option_map}
-use Rattle.fz_base.specs.Counts.{Amend, Rose, Tally}
+use Rattle.fz_base.specs.Counts.{Amend, Amended, Rose, Tally}
 use Rattle.fz_base.specs.Sink.{written}
 use Rattle.fz_base.specs.declared.failure.Failed.{Failed}
 use Rattle.fz_base.specs.declared.failure.Failed.TheVariants.{Fault, NoMemory}
@@ -38,20 +38,45 @@ with_write w writes = option_map (λ ws. ws ++ w ∷ []) writes
 -- the tally with this write more
 abbrev pub amended_by : Amend → Tally → Tally
 amended_by w t =
-    record { faults = t.faults; wants = t.wants; names = t.names; amended = record { writes = with_write w t.amended.writes; faults = t.amended.faults } }
+    record {
+      faults = t.faults;
+      wants = t.wants;
+      names = t.names;
+      amended = record { writes = with_write w t.amended.writes; settled = t.amended.settled; faults = t.amended.faults };
+    }
 
--- The counts of a store never fall, and one that reached the end of its range stays there. It was not opened.
+-- how many writes are shown; 0 if none are
+abbrev pub count_of : Option (List Amend) → ℕ
+count_of None = 0
+count_of (Some ws) = length ws
+
+-- all writes are settled
+abbrev pub IsSettled : Amended → Type 0
+IsSettled a = a.settled ≡ count_of a.writes
+
+-- the tally with all its writes settled
+abbrev pub settled_by : Tally → Tally
+settled_by t =
+    record {
+      faults = t.faults;
+      wants = t.wants;
+      names = t.names;
+      amended = record { writes = t.amended.writes; settled = count_of t.amended.writes; faults = t.amended.faults };
+    }
+
+-- The counts of a store never fall, and one that reached the end of its range stays there. What is settled stays so. It was not opened.
 pub record StoreKept (before now : Tally) : Type 0 where
   pub faults_kept : before.faults ≤ now.faults
   pub wants_kept : before.wants ≤ now.wants
   pub write_faults_kept : before.amended.faults ≤ now.amended.faults
+  pub settled_kept : before.amended.settled ≤ now.amended.settled
   pub faults_stay : before.faults ≡ 2 ^ 64 - 1 → now.faults ≡ 2 ^ 64 - 1
   pub wants_stay : before.wants ≡ 2 ^ 64 - 1 → now.wants ≡ 2 ^ 64 - 1
   pub write_faults_stay : before.amended.faults ≡ 2 ^ 64 - 1 → now.amended.faults ≡ 2 ^ 64 - 1
   pub names_kept : now.names ≡ before.names
 
--- A call that writes in place changed the tally of its store as its answer says: if it succeeded, to this one. Otherwise the writes are as they
--- were, and the count of write faults rose, or that of wants. It counts no fault of reading.
+-- A call that writes in place, or settles, changed the tally of its store as its answer says: if it succeeded, to this one. Otherwise the
+-- writes are as they were, and the count of write faults rose, or that of wants. It counts no fault of reading.
 pub record HasAmended {T : Type 0} (before after now : Tally) (result : Result T Failed) : Type 0 where
   pub kept : StoreKept before now
   pub faults_same : now.faults ≡ before.faults

@@ -81,7 +81,7 @@ impl Counts {
     /// Counts what the system answered to a write in place: want of memory as a want, everything else as a
     /// fault of a write.
     pub(crate) fn noted_write(&mut self, answer: io::Result<()>) -> Result<(), Failed>
-        ensures cause { HasAmended (store_tally None self.old) (store_tally None self.old) (store_tally None self.new) result }
+        ensures cause { HasAmended (store_tally None 0 self.old) (store_tally None 0 self.old) (store_tally None 0 self.new) result }
     {
         match answer {
             Ok(()) => Ok(()),

@@ -5,11 +5,11 @@ ghost use Rattle.fz_base.specs.Counts.{tally_of, uncounted};
 
 use crate::calls::Counts;
 use crate::{Failed, Source};
-use std::fs::File;
-use std::io;
+use std::fs::{File, Metadata};
 use std::io::ErrorKind;
 use std::os::unix::fs::FileExt;
 use std::rt::Files;
+use std::{fs, io};
 
 /// A longer file is not attached.
 const MAX_LEN: u64 = 1 << 62;
@@ -22,7 +22,7 @@ pub(crate) struct Opened {
     ghost near: { size ≤ 2 ^ 62 },
 }
 
-/// A source over a file, which it opens for reading. It shows neither its bytes nor its ranges: that
+/// A source over a regular file, which it opens for reading: what is no regular file is a fault. It shows neither its bytes nor its ranges: that
 /// the file holds what is read is trusted.
 #[derive(Drop)]
 pub struct FileSource<R: Files<File = File>> {
@@ -48,12 +48,29 @@ impl<R: Files<File = File>> FileSource<R> {
 }
 
 fn open<R: Files<File = File>>(rt: &R, name: &str) -> io::Result<Opened> {
+    look_for_file(rt, name)?;
     measured(File::open(rt, name)?)
 }
 
-/// The file with its length, or an error if it is longer than a file may be.
+/// An error if what has this name is no regular file. It comes before the file is opened, since a FIFO that has no writer would hold
+/// the program there.
+pub(crate) fn look_for_file<R: Files<File = File>>(rt: &R, name: &str) -> io::Result<()> {
+    check_sort(&fs::metadata(rt, name)?)
+}
+
+// An error if this is no regular file: a directory, a pipe or a device has no length that a reader could trust.
+fn check_sort(found: &Metadata) -> io::Result<()> {
+    if found.is_file() {
+        return Ok(());
+    }
+    Err(io::Error::from(ErrorKind::Unsupported))
+}
+
+/// The file with its length, or an error if it is no regular file, or longer than a file may be.
 pub(crate) fn measured(file: File) -> io::Result<Opened> {
-    let size = file.metadata()?.len();
+    let found = file.metadata()?;
+    check_sort(&found)?;
+    let size = found.len();
     if size > MAX_LEN {
         return Err(io::Error::from(ErrorKind::Unsupported));
     }

@@ -5,7 +5,7 @@ ghost use Rattle.fz_base.specs.Counts.{store_tally, uncounted};
 
 use crate::calls::Counts;
 use crate::file_sink::write_all;
-use crate::file_source::{Opened, measured};
+use crate::file_source::{Opened, look_for_file, measured};
 use crate::{Failed, Source, Store};
 use std::fs::{File, OpenOptions, TryLockError};
 use std::io;
@@ -39,8 +39,9 @@ impl<R: Files<File = File>> FileStore<R> {
     }
 }
 
-// Opens a file and locks it. A file system that has no locks is no error.
+// Opens a regular file and locks it. A file system that has no locks is no error.
 fn open_locked<R: Files<File = File>>(rt: &R, name: &str) -> io::Result<Opened> {
+    look_for_file(rt, name)?;
     let file = OpenOptions::new().read(true).write(true).open(rt, name)?;
     match file.try_lock() {
         Err(TryLockError::WouldBlock) => Err(io::Error::from(ErrorKind::WouldBlock)),
@@ -57,7 +58,7 @@ impl<R: Files<File = File>> Source for FileStore<R> {
 
     ghost attached = { λ s. option_map (λ o. o.size) s.opened };
 
-    ghost tally = { λ s. store_tally None s.counts };
+    ghost tally = { λ s. store_tally None 0 s.counts };
 
     fn attach(&mut self, name: &str) -> Result<u64, Failed> {
         let opened = self.counts.noted(open_locked(&self.rt, name))?;

@@ -53,5 +53,5 @@ pub use output::{copy, seal, write_behind};
 pub use sink::Sink;
 pub use source::Source;
 pub use std_text::StdText;
-pub use store::{Store, Write};
+pub use store::{Store, StoreEvent, Write};
 pub use text::Text;

@@ -231,6 +231,8 @@ fn file_source_reads_a_file(rt: HostRuntime) -> Result<(), Fail> {
     let mut source = FileSource::new(rt);
     // no such file
     alike(&rt, source.attach("in.fits"), Err(Failed::Fault));
+    // it is a folder
+    alike(&rt, source.attach("."), Err(Failed::Fault));
     fs::write(&rt, "in.fits", b"SIMPLE".as_slice())?;
     let length = source.attach("in.fits")?;
     assert!(rt; length == 6);

@@ -1,6 +1,8 @@
 //! Stores in memory, which are set to fail, and over real files.
 use crate::asserts::alike;
-use fz_base::{Failed, FileSource, FileStore, MemStore, Source, Store, Write, amend_at};
+use fz_base::{
+    Failed, FileSource, FileStore, MemStore, Source, Store, StoreEvent, Write, amend_at,
+};
 use std::fs;
 use std::test::Fail;
 
@@ -24,7 +26,9 @@ fn mem_store_is_written_in_place(rt: HostRuntime) -> Result<(), Fail> {
     let before = store.attach("any")?;
     store.amend(4, b"XYZ")?;
     amend_at(&mut store, 0, b"T")?;
+    let unsettled = store.settled();
     store.settle()?;
+    alike(&rt, (unsettled, store.settled()), (0, 2));
     let mut into = [0; 3];
     store.read_at(2, &mut into)?;
     assert!(rt; are(store.writes(), &[(4, b"XYZ"), (0, b"T")]));
@@ -37,6 +41,14 @@ fn mem_store_is_written_in_place(rt: HostRuntime) -> Result<(), Fail> {
     alike(&rt, (before, after), (6, 7));
     store.amend(7, b"!")?;
     alike(&rt, store.contents(), b"TIMPXYZ!".as_slice());
+    let order = [
+        StoreEvent::Amend,
+        StoreEvent::Amend,
+        StoreEvent::Settle,
+        StoreEvent::Amend,
+    ];
+    alike(&rt, store.events(), order.as_slice());
+    alike(&rt, store.settled(), 2);
     Ok(())
 }
 

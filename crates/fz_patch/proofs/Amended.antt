@@ -2,7 +2,7 @@
 use Rattle.std.proofs.Common.{◌≡◌, ℕ, ◌≤◌, Option, Some, Result, Ok, Err, refl, sym, ap, ◌∙◌, subst, arith}
 use Rattle.fz_base.specs.Counts.{Amend, CountsKept, Rose, Tally}
 use Rattle.fz_base.specs.Stop.{Amends, OnlyReads, StoppedByAmend, StoppedByRead}
-use Rattle.fz_base.specs.Store.{HasAtLeast, Reaches, StoreKept, amended_by}
+use Rattle.fz_base.specs.Store.{HasAtLeast, Reaches, StoreKept, amended_by, settled_by}
 use Rattle.fz_base.specs.declared.failure.Stop.{Stop}
 use Rattle.fz_base.specs.declared.failure.Stop.TheVariants.{Refused, ReadFault, WriteFault, OverLimit, NoMemory}
 use Rattle.fz_target.specs.Ends.{AmendsStore, SameCounts, StoppedAmending}
@@ -49,6 +49,7 @@ kept-same t = record {
   faults_kept = omega arith;
   wants_kept = omega arith;
   write_faults_kept = omega arith;
+  settled_kept = omega arith;
   faults_stay = λ e. e;
   wants_stay = λ e. e;
   write_faults_stay = λ e. e;
@@ -60,6 +61,7 @@ kept-then s s' s'' a b = record {
   faults_kept = omega (arith, a.faults_kept, b.faults_kept);
   wants_kept = omega (arith, a.wants_kept, b.wants_kept);
   write_faults_kept = omega (arith, a.write_faults_kept, b.write_faults_kept);
+  settled_kept = omega (arith, a.settled_kept, b.settled_kept);
   faults_stay = λ e. b.faults_stay (a.faults_stay e);
   wants_stay = λ e. b.wants_stay (a.wants_stay e);
   write_faults_stay = λ e. b.write_faults_stay (a.write_faults_stay e);
@@ -72,6 +74,7 @@ kept-read s s' k = record {
   faults_kept = k.faults_kept;
   wants_kept = k.wants_kept;
   write_faults_kept = omega (arith, ap (λ a. a.faults) k.not_amended);
+  settled_kept = omega (arith, ap (λ a. a.settled) k.not_amended);
   faults_stay = k.faults_stay;
   wants_stay = k.wants_stay;
   write_faults_stay = λ e. ap (λ a. a.faults) k.not_amended ∙ e;
@@ -92,8 +95,11 @@ one-amends w s s' (Ok x) a = record { kept = a.kept; ok = same-amended w s s' a.
 one-amends w s s' (Err stop) a = record { kept = a.kept; ok = tt; stop = by-amend s s' stop a.stop }
 
 -- a wait, which writes nothing
-pub settled-amends : {X : Type 0} (s s' : Tally) (result : Result X Stop) → Amends s s s' result → AmendsStore s s' result
-settled-amends s s' (Ok x) a = record { kept = a.kept; ok = same-is s s' a.ok; stop = tt }
+same-settled : (t t' : Tally) → t' ≡ settled_by t → SameCounts t t'
+same-settled t t' e = record { faults = ap (λ (x : Tally). x.faults) e; wants = ap (λ (x : Tally). x.wants) e; write_faults = ap (λ (x : Tally). x.amended.faults) e; names = ap (λ (x : Tally). x.names) e }
+
+pub settled-amends : {X : Type 0} (s s' : Tally) (result : Result X Stop) → Amends s (settled_by s) s' result → AmendsStore s s' result
+settled-amends s s' (Ok x) a = record { kept = a.kept; ok = same-settled s s' a.ok; stop = tt }
 settled-amends s s' (Err stop) a = record { kept = a.kept; ok = tt; stop = by-amend s s' stop a.stop }
 
 by-read : (s s' : Tally) (stop : Stop) → StoppedByRead s s' stop → StoppedAmending s s' stop

@@ -4,7 +4,7 @@ use Rattle.std.specs.Prelude.{IfErr, IfSome}
 use Rattle.fz_base.specs.Counts.{CountsKept, Rose, Tally}
 use Rattle.fz_base.specs.Source.{HoldsLength}
 use Rattle.fz_base.specs.Stop.{Amends, IfRefused, IsRefused}
-use Rattle.fz_base.specs.Store.{HasAtLeast, Reaches, StoreKept}
+use Rattle.fz_base.specs.Store.{HasAtLeast, Reaches, StoreKept, settled_by}
 use Rattle.fz_base.specs.declared.fault.Fault.{Fault}
 use Rattle.fz_base.specs.declared.failure.Stop.{Stop}
 use Rattle.fz_base.specs.declared.failure.Stop.TheVariants.{Refused, ReadFault, WriteFault, OverLimit, NoMemory}
@@ -115,7 +115,7 @@ refused_patches s s' p p' x kept same given = record {
 pub read_writes : (s s' : Tally) → CountsKept s s' → s'.amended.writes ≡ s.amended.writes
 read_writes s s' kept = ap (λ a. a.writes) kept.not_amended
 
-pub settled_writes : {X : Type 0} (s s' : Tally) (r : Result X Stop) → Amends s s s' r → s'.amended.writes ≡ s.amended.writes
+pub settled_writes : {X : Type 0} (s s' : Tally) (r : Result X Stop) → Amends s (settled_by s) s' r → s'.amended.writes ≡ s.amended.writes
 settled_writes s s' (Ok x) a = ap (λ (t : Tally). t.amended.writes) a.ok
 settled_writes s s' (Err stop) a = a.unlogged
 

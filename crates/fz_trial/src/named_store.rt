@@ -64,7 +64,7 @@ impl<D: Store + Drop> Source for NamedStore<D> {
       faults = min ((D.tally s.store).faults + s.misnamed) (2 ^ 64 - 1);
       wants = (D.tally s.store).wants;
       names = None;
-      amended = record { writes = None; faults = (D.tally s.store).amended.faults };
+      amended = record { writes = None; settled = 0; faults = (D.tally s.store).amended.faults };
     } };
 
     fn attach(&mut self, name: &str) -> Result<u64, Failed> {
