@@ -2,7 +2,7 @@
 -- them could not be.
 use Rattle.std.proofs.Common.{◌≡◌, ℕ, List, refl, sym, ap, ◌∙◌, subst, arith, inl, inr}
 use Rattle.std.specs.Prelude.{◌⊎◌, Option, Some, None, IfSome, IsSome, Result, Ok, Err, OnOk}
-use Rattle.fz_base.specs.Counts.{Amend, Amended, CountsKept, Rose, Tally, nameless}
+use Rattle.fz_base.specs.Counts.{Amended, CountsKept, Rose, Tally, nameless}
 use Rattle.fz_base.specs.Meter.{Gauge, narrowed}
 use Rattle.fz_base.specs.Names.{with_name}
 use Rattle.fz_base.specs.Stop.{IfRefused}
@@ -67,10 +67,10 @@ same_nameless before now s = record { faults = s.faults; wants = s.wants; write_
 
 -- ---- a file could not be attached
 
-same_safe : (job : PatchJob) (held given : Option (List ℕ)) (writes writes' : Option (List Amend)) → writes' ≡ writes → IfBoth held given (LeavesSafe job held writes writes')
-same_safe job None given writes writes' same = tt
-same_safe job (Some file) None writes writes' same = tt
-same_safe job (Some file) (Some by) writes writes' same = inl (refl, same)
+same_safe : (job : PatchJob) (held given : Option (List ℕ)) (before now : Amended) → now.writes ≡ before.writes → IfBoth held given (LeavesSafe job held before now)
+same_safe job None given before now same = tt
+same_safe job (Some file) None before now same = tt
+same_safe job (Some file) (Some by) before now same = inl (refl, same)
 
 -- nothing was taken yet
 narrow_keeps : (job : PatchJob) (held given : Option (List ℕ)) (old : Gauge) (memory : ℕ) → old.live ≡ 0 → KeepsPatchBuffers job held given (narrowed old memory) (narrowed old memory)
@@ -105,7 +105,7 @@ module _ (asked : PatchAsked) (held given : Option (List ℕ)) (store store' pat
   not_attached (StopRefused x) o n none = absurd o.stop
   not_attached StopRead o n none = record {
     patched = tt;
-    safe = same_safe (job_asked asked) held given store.amended.writes store'.amended.writes (ap (λ (a : Amended). a.writes) o.store_kept.not_amended);
+    safe = same_safe (job_asked asked) held given store.amended store'.amended (ap (λ (a : Amended). a.writes) o.store_kept.not_amended);
     unwritten = record {
       refused = λ is. absurd cc;
       late = tt;
@@ -133,7 +133,7 @@ module _ (asked : PatchAsked) (held given : Option (List ℕ)) (store store' pat
   not_attached (StopLimit live asked limit) o n none = absurd o.stop
   not_attached StopMemory o n none = record {
     patched = tt;
-    safe = same_safe (job_asked asked) held given store.amended.writes store'.amended.writes (ap (λ (a : Amended). a.writes) o.store_kept.not_amended);
+    safe = same_safe (job_asked asked) held given store.amended store'.amended (ap (λ (a : Amended). a.writes) o.store_kept.not_amended);
     unwritten = record {
       refused = λ is. absurd cc;
       late = tt;
@@ -171,8 +171,8 @@ unopened asked held held' given store store' patch patch' old new r stop is same
 
 -- what the job says of its files as they were when both were attached
 pub record PatchSays (job : PatchJob) (held held' given : Option (List ℕ)) (store store' patch patch' : Tally) (old new : Gauge) (answer : Result (Unit {0}) Stop) : Type 0 where
-  pub patched : OnOk answer (IfBoth held given (IsPatchedBy job held' store.amended.writes store'.amended.writes))
-  pub safe : IfBoth held given (LeavesSafe job held' store.amended.writes store'.amended.writes)
+  pub patched : OnOk answer (IfBoth held given (IsPatchedBy job held' store.amended store'.amended))
+  pub safe : IfBoth held given (LeavesSafe job held' store.amended store'.amended)
   pub unwritten : IsUnwritten held given old.limit (λ file by. patch_takings file by job) ((held' ≡ held) × (store'.amended ≡ store.amended)) answer
   pub first_fault : TellsPatchFault job held given answer
   pub answered : AnswersPatch job held given store store' patch patch' old.limit answer
@@ -224,8 +224,8 @@ module _ (asked : PatchAsked) (held held' given : Option (List ℕ)) (store open
       PatchSays (job_asked asked) held held' given opened store' opened_patch patch' (narrowed old asked.memory) new answer →
       PatchEnds asked held held' given store store' patch patch' old new answer
   attached file by s = record {
-    patched = subst (λ (a : Amended). OnOk answer (IfBoth held given (IsPatchedBy (job_asked asked) held' a.writes store'.amended.writes))) amended_is s.patched;
-    safe = subst (λ (a : Amended). IfBoth held given (LeavesSafe (job_asked asked) held' a.writes store'.amended.writes)) amended_is s.safe;
+    patched = subst (λ (a : Amended). OnOk answer (IfBoth held given (IsPatchedBy (job_asked asked) held' a store'.amended))) amended_is s.patched;
+    safe = subst (λ (a : Amended). IfBoth held given (LeavesSafe (job_asked asked) held' a store'.amended)) amended_is s.safe;
     unwritten = weaker_unwritten held given (patch_limit asked old) (λ g p. patch_takings g p (job_asked asked))
         ((held' ≡ held) × (store'.amended ≡ opened.amended)) ((held' ≡ held) × (store'.amended ≡ store.amended)) answer
         (λ same. (same.0, same.1 ∙ amended_is)) s.unwritten;

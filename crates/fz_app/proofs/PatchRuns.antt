@@ -1,7 +1,7 @@
 -- The promises of a run of `patch`, from what is promised of the answer to its words.
 use Rattle.std.proofs.Common.{◌≡◌, ℕ, ◌<◌, ◌≤◌, List, refl, sym, subst}
 use Rattle.std.specs.Prelude.{◌≢◌, ◌⊎◌, ◌↔◌, Option, Some, None, Result, OnOk, IsErrOf}
-use Rattle.fz_base.specs.Counts.{Amend, CountsKept, Rose, Tally, nameless}
+use Rattle.fz_base.specs.Counts.{Amended, CountsKept, Rose, Tally, nameless}
 use Rattle.fz_base.specs.Meter.{Gauge, narrowed}
 use Rattle.fz_base.specs.Source.{HoldsOctets}
 use Rattle.fz_base.specs.Stop.{IsRefused, TellsLimit}
@@ -31,11 +31,11 @@ use Rattle.fz_app.proofs.RunPromises.{always, asked_fact}
 use Rattle.fz_app.proofs.Tallies.{kept_by}
 
 -- all writes of a patch were made: so FILE has the patch
-has_patch : AllWritesPatch → (job : PatchJob) (held given held' : Option (List ℕ)) (writes writes' : Option (List Amend)) → HoldsOctets held → HoldsOctets given →
-    IfBoth held given (IsPatchedBy job held' writes writes') → IfBoth held given (λ file by. HasPatch job file by held')
-has_patch law job None given held' writes writes' file by is = tt
-has_patch law job (Some g) None held' writes writes' file by is = tt
-has_patch law job (Some g) (Some p) held' writes writes' file by is = record {
+has_patch : AllWritesPatch → (job : PatchJob) (held given held' : Option (List ℕ)) (before now : Amended) → HoldsOctets held → HoldsOctets given →
+    IfBoth held given (IsPatchedBy job held' before now) → IfBoth held given (λ file by. HasPatch job file by held')
+has_patch law job None given held' before now file by is = tt
+has_patch law job (Some g) None held' before now file by is = tt
+has_patch law job (Some g) (Some p) held' before now file by is = record {
   header = is.header;
   target = is.are.target;
   new = applied (all_writes is.steps) g;
@@ -62,15 +62,15 @@ module _ (held held' given : Option (List ℕ)) (store store' patch patch' : Tal
     pub usage : (SameFile SamePatch SameMeter : Type 0) → (status ≡ Usage → SameFile × SamePatch × SameMeter) → status ≢ Different → IsPatchUsage words SameFile SamePatch SameMeter status
     usage SameFile SamePatch SameMeter same other = record { exactly = usage_by (patch_job_of words) status promise; untouched = same; never_different = other }
 
-    pub patched : IsPatchedFor words held given held' store.amended.writes store'.amended.writes status
-    patched = of_promise (patch_job_of words) status Ended (λ a r. OnOk r (IfBoth held given (IsPatchedBy (job_asked a) held' store.amended.writes store'.amended.writes))) (λ a r p. p.patched) promise
+    pub patched : IsPatchedFor words held given held' store.amended store'.amended status
+    patched = of_promise (patch_job_of words) status Ended (λ a r. OnOk r (IfBoth held given (IsPatchedBy (job_asked a) held' store.amended store'.amended))) (λ a r p. p.patched) promise
 
     pub replaced : AllWritesPatch → HoldsOctets held → HoldsOctets given → IsReplacedFor words held given held' status
     replaced law file by = of_promise (patch_job_of words) status Ended (λ a r. OnOk r (IfBoth held given (λ g p. HasPatch (job_asked a) g p held')))
-        (λ a r p. on_ok r _ _ (has_patch law (job_asked a) held given held' store.amended.writes store'.amended.writes file by) p.patched) promise
+        (λ a r p. on_ok r _ _ (has_patch law (job_asked a) held given held' store.amended store'.amended file by) p.patched) promise
 
-    pub safe : IsLeftSafe words held given held' store.amended.writes store'.amended.writes
-    safe = asked_fact (patch_job_of words) status Ended (λ a. IfBoth held given (LeavesSafe (job_asked a) held' store.amended.writes store'.amended.writes)) (λ a r p. p.safe) promise
+    pub safe : IsLeftSafe words held given held' store.amended store'.amended
+    safe = asked_fact (patch_job_of words) status Ended (λ a. IfBoth held given (LeavesSafe (job_asked a) held' store.amended store'.amended)) (λ a r p. p.safe) promise
 
     pub unwritten : IsUnwrittenFor words held given old ((held' ≡ held) × (store'.amended ≡ store.amended)) status
     unwritten = of_promise (patch_job_of words) status Ended

@@ -1,6 +1,6 @@
 -- What a run of `patch` promises of FILE, of PATCH, of the text and of its status.
 use Rattle.std.specs.Prelude.{ℕ, ◌≡◌, ◌≢◌, ◌⊎◌, ◌-◌, ◌<◌, ◌≤◌, ◌↔◌, map, List, Option, Some, None, IfSome, Result, Ok, Err, OnOk, IfErr, IsErrOf, ⊤}
-use Rattle.fz_base.specs.Counts.{Amend, CountsKept, Rose, Tally, nameless}
+use Rattle.fz_base.specs.Counts.{Amended, CountsKept, Rose, Tally, nameless}
 use Rattle.fz_base.specs.Meter.{Gauge, narrowed}
 use Rattle.fz_base.specs.Names.{MayName, with_name}
 use Rattle.fz_base.specs.Stop.{IsRefused, TellsLimit}
@@ -40,10 +40,10 @@ pub record IsPatchUsage (words : List (List ℕ)) (SameFile SamePatch SameMeter 
   pub untouched : status ≡ Usage → SameFile × SamePatch × SameMeter
   pub never_different : status ≢ Different
 
--- Patched: after Done FILE is patched, if both files show their bytes.
-abbrev pub IsPatchedFor : List (List ℕ) → Option (List ℕ) → Option (List ℕ) → Option (List ℕ) → Option (List Amend) → Option (List Amend) → Status → Type 0
-IsPatchedFor words held given held' writes writes' status =
-    IfPatchRan words status (λ asked answer. OnOk answer (IfBoth held given (IsPatchedBy (job_asked asked) held' writes writes')))
+-- Patched: after Done FILE is patched, if both files show their bytes, and all of its writes are settled.
+abbrev pub IsPatchedFor : List (List ℕ) → Option (List ℕ) → Option (List ℕ) → Option (List ℕ) → Amended → Amended → Status → Type 0
+IsPatchedFor words held given held' before now status =
+    IfPatchRan words status (λ asked answer. OnOk answer (IfBoth held given (IsPatchedBy (job_asked asked) held' before now)))
 
 -- FILE has the patch: each tile with a pixel in the box has its new numbers, every other has its old ones, what FILE stood for has the box
 -- replaced, and the checksums of the HDU are right.
@@ -59,9 +59,10 @@ abbrev pub IsReplacedFor : List (List ℕ) → Option (List ℕ) → Option (Lis
 IsReplacedFor words held given held' status =
     IfPatchRan words status (λ asked answer. OnOk answer (IfBoth held given (λ file by. HasPatch (job_asked asked) file by held')))
 
--- Safe: whatever the status, nothing was written, or some writes of the patch, after each of which FILE is safe to read.
-abbrev pub IsLeftSafe : List (List ℕ) → Option (List ℕ) → Option (List ℕ) → Option (List ℕ) → Option (List Amend) → Option (List Amend) → Type 0
-IsLeftSafe words held given held' writes writes' = IfPatch words (λ asked. IfBoth held given (LeavesSafe (job_asked asked) held' writes writes'))
+-- Safe: whatever the status, nothing was written, or some writes of the patch, after each of which FILE is safe to read; and all steps before the
+-- last one that was begun are settled.
+abbrev pub IsLeftSafe : List (List ℕ) → Option (List ℕ) → Option (List ℕ) → Option (List ℕ) → Amended → Amended → Type 0
+IsLeftSafe words held given held' before now = IfPatch words (λ asked. IfBoth held given (LeavesSafe (job_asked asked) held' before now))
 
 -- First fault: after Done the patch has none, and Refused gives it.
 abbrev pub HasPatchFault : List (List ℕ) → Option (List ℕ) → Option (List ℕ) → Status → Type 0
@@ -162,8 +163,8 @@ pub record OpensBoth {X : Type 0} (store store' patch patch' : Tally) (result : 
 pub record PatchEnds
     (asked : PatchAsked) (held held' given : Option (List ℕ)) (store store' patch patch' : Tally) (old new : Gauge)
     (answer : Result ⊤ Stop) : Type 0 where
-  pub patched : OnOk answer (IfBoth held given (IsPatchedBy (job_asked asked) held' store.amended.writes store'.amended.writes))
-  pub safe : IfBoth held given (LeavesSafe (job_asked asked) held' store.amended.writes store'.amended.writes)
+  pub patched : OnOk answer (IfBoth held given (IsPatchedBy (job_asked asked) held' store.amended store'.amended))
+  pub safe : IfBoth held given (LeavesSafe (job_asked asked) held' store.amended store'.amended)
   pub unwritten :
       IsUnwritten held given (patch_limit asked old) (λ file by. patch_takings file by (job_asked asked))
       ((held' ≡ held) × (store'.amended ≡ store.amended)) answer

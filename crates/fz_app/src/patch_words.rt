@@ -44,10 +44,10 @@ pub fn run_patch<R: Threads + Sync, S: Source, D: Store, T: Text>(
 
     ensures usage { IsPatchUsage (texts_of words.now) (store.new ≡ store.old) (patch.new ≡ patch.old) (meter.new ≡ meter.old) result }
     ensures patched { IsPatchedFor (texts_of words.now) (D.held store.old) (S.held patch.old) (D.held store.new)
-        (D.tally store.old).amended.writes (D.tally store.new).amended.writes result }
+        (D.tally store.old).amended (D.tally store.new).amended result }
     ensures replaced { IsReplacedFor (texts_of words.now) (D.held store.old) (S.held patch.old) (D.held store.new) result }
     ensures safe { IsLeftSafe (texts_of words.now) (D.held store.old) (S.held patch.old) (D.held store.new)
-        (D.tally store.old).amended.writes (D.tally store.new).amended.writes }
+        (D.tally store.old).amended (D.tally store.new).amended }
     ensures unwritten { IsUnwrittenFor (texts_of words.now) (D.held store.old) (S.held patch.old) meter.old
         ((D.held store.new ≡ D.held store.old) × ((D.tally store.new).amended ≡ (D.tally store.old).amended)) result }
     ensures unread { IsPatchUnread (texts_of words.now) (D.ranges store.old) (D.ranges store.new) (S.ranges patch.old) (S.ranges patch.new) meter.old }

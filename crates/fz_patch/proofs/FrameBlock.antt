@@ -2,7 +2,7 @@
 use Rattle.std.proofs.Common.{◌≡◌, ◌⊎◌, inl, inr, ℕ, ◌+◌, ◌*◌, ◌≤◌, max, List, [], ◌++◌, length, take, drop, Option, Some, None, Result, Ok, Err, refl, sym, ap, ◌∙◌, subst, arith}
 use Rattle.std.specs.Prelude.{IfOk, IfSome, IsSome, OnOk}
 use Rattle.std.specs.Result.{result_map_both}
-use Rattle.fz_base.specs.Counts.{Amend, CountsKept, Tally}
+use Rattle.fz_base.specs.Counts.{Amended, CountsKept, Tally}
 use Rattle.fz_base.specs.Refusal.{first_refusal, refusal}
 use Rattle.fz_base.specs.Stop.{IfRefused, IsDefined, IsRefused, ReadsAndTakes, StoppedTaking}
 use Rattle.fz_base.specs.Store.{HasAtLeast}
@@ -56,8 +56,8 @@ untouched held given limit takings r same = record {
 pub still_amended : (s s' s'' : Tally) → s' ≡ s → CountsKept s' s'' → s''.amended ≡ s.amended
 still_amended s s' s'' same kept = kept.not_amended ∙ ap (λ (t : Tally). t.amended) same
 
-pub untouched_safe : (job : PatchJob) (held given held' : Option (List ℕ)) (writes writes' : Option (List Amend)) → held' ≡ held → writes' ≡ writes → IfBoth held given (LeavesSafe job held' writes writes')
-untouched_safe job held given held' writes writes' same unlogged = if_both held given _ (λ f p is by. inl (same ∙ is, unlogged))
+pub untouched_safe : (job : PatchJob) (held given held' : Option (List ℕ)) (before now : Amended) → held' ≡ held → now.writes ≡ before.writes → IfBoth held given (LeavesSafe job held' before now)
+untouched_safe job held given held' before now same unlogged = if_both held given _ (λ f p is by. inl (same ∙ is, unlogged))
 
 pub reach_same : (attached attached' : Option ℕ) → attached' ≡ attached → KeepsReach attached attached'
 reach_same attached attached' same = λ n has. subst (λ (a : Option ℕ). HasAtLeast a n) (sym same) has

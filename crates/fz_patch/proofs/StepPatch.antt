@@ -4,7 +4,7 @@ use Rattle.std.specs.List.{AllByRecursion, range_with_len}
 use Rattle.std.specs.Prelude.{IfSome}
 use Rattle.std.proofs.lemmas.List.{append_assoc}
 use Rattle.std.proofs.Math.Seq.{take-append_seam}
-use Rattle.fz_base.specs.Counts.{Amend}
+use Rattle.fz_base.specs.Counts.{Amend, Amended}
 use Rattle.fz_base.specs.Refusal.{first_refusal}
 use Rattle.fz_block.specs.declared.header.Header.{Header}
 use Rattle.fz_table.specs.Rows.{row_start}
@@ -25,7 +25,7 @@ use Rattle.fz_laws.specs.Safe.{AreAllOld, IsSafeAfter}
 use Rattle.fz_laws.specs.Writes.{Steps, all_writes, before_rows, before_sums, column_writes, header_now, heap_writes, new_codes, pcount_writes, row_writes, said_most, other_rows, steps_of, sum_writes}
 use Rattle.fz_block.specs.Hdus.{pcount_index}
 use Rattle.fz_patch.specs.Cards.{HasPlaces, forms_writes, pcount_at, forms_for}
-use Rattle.fz_patch.specs.Clauses.{LeavesSafe}
+use Rattle.fz_patch.specs.Clauses.{AreSettledUpTo, LeavesSafe}
 use Rattle.fz_patch.specs.Jobs.{ForJobs}
 use Rattle.fz_target.specs.Measures.{HasRoom, measure_of}
 use Rattle.fz_target.specs.Steps.{Wrote, WroteSome}
@@ -205,8 +205,9 @@ module _ (t : Target) (f p : List ℕ) (wanted : Option ℕ) (corner : List ℕ)
   pub all_is : (b c : List Amend) → steps.pcount ++ steps.forms ≡ b → steps.rows ≡ c → ((heap_writes f h es ++ b) ++ c) ++ steps.sums ≡ all_writes steps
   all_is b c two three = λ j. ((sym heap_is j ++ sym two j) ++ sym three j) ++ steps.sums
 
-  pub stops : EachPrefixIsSafe → AreBytes f → AreBytes p → (held' : Option (List ℕ)) (log log' : Option (List Amend)) → WroteSome (all_writes steps) (Some f) held' log log' → LeavesSafe (job_at wanted corner) held' log log' f p
-  stops law fb pb held' log log' some = inr (record { header = h; steps = steps; are = are; some = some; safe = safe law fb pb })
+  pub stops : EachPrefixIsSafe → AreBytes f → AreBytes p → (held' : Option (List ℕ)) (before now : Amended) → AreSettledUpTo steps before now → WroteSome (all_writes steps) (Some f) held' before.writes now.writes →
+      LeavesSafe (job_at wanted corner) held' before now f p
+  stops law fb pb held' before now settled some = inr (record { header = h; steps = steps; are = are; some = some; safe = safe law fb pb; settled = settled })
 
   -- the rows of the box stand for their numbers still after PCOUNT was written
   pub still_numbers : EachPrefixIsSafe → AreBytes f → AreBytes p → (x : List ℕ) (k : Header) → x ≡ applied (before_rows steps) f → header_now x h ≡ k → plan_in x k ≡ plan_in f h → BoxHasNumbers x k given olds

@@ -1,9 +1,11 @@
 -- What a patch promises.
-use Rattle.std.specs.Prelude.{ℕ, ◌≡◌, ◌⊎◌, ◌<◌, ◌≤◌, ◌^◌, ◌++◌, max, List, Option, Some, None, IsSome, Result, Ok, Err, OnOk, IsErrOf, ⊤}
-use Rattle.fz_base.specs.Counts.{Amend, Rose, Tally}
+use Rattle.std.specs.Prelude.{ℕ, ◌≡◌, ◌⊎◌, ◌+◌, ◌<◌, ◌≤◌, ◌^◌, ◌++◌, max, List, [], length, take, Option, Some, None, IfSome, IsSome, Result, Ok, Err, OnOk, IsErrOf, ⊤}
+use Rattle.std.specs.Option.{option_map}
+use Rattle.fz_base.specs.Counts.{Amend, Amended, Rose, Tally}
 use Rattle.fz_base.specs.JobBuffers.{buffer_bound}
 use Rattle.fz_base.specs.Meter.{Gauge}
 use Rattle.fz_base.specs.Stop.{IfRefused, IsRefused, TellsLimit}
+use Rattle.fz_base.specs.Store.{IsSettled}
 use Rattle.fz_base.specs.Takings.{TellsFirstPast, first_past}
 use Rattle.fz_base.specs.declared.failure.Stop.{Stop}
 use Rattle.fz_base.specs.declared.failure.Stop.TheVariants.{Refused, ReadFault, WriteFault, OverLimit, NoMemory}
@@ -16,7 +18,7 @@ use Rattle.fz_laws.specs.PatchBuffers.{patch_bound, patch_takings, second_taking
 use Rattle.fz_laws.specs.FirstPatchFault.{ArePatchSteps, IsFirstPatchFault}
 use Rattle.fz_laws.specs.Given.{PatchJob, given_by}
 use Rattle.fz_laws.specs.Patched.{IsPatched}
-use Rattle.fz_laws.specs.Safe.{IsSafeAfter}
+use Rattle.fz_laws.specs.Safe.{IsSafeAfter, IsStep}
 use Rattle.fz_laws.specs.Writes.{Steps, all_writes}
 use Rattle.fz_target.specs.Ends.{SameCounts}
 use Rattle.fz_target.specs.Steps.{Wrote, WroteSome}
@@ -32,25 +34,38 @@ TellsPatchFault job held given (Err (OverLimit live asked limit)) = ⊤
 TellsPatchFault job held given (Err NoMemory) = ⊤
 
 -- The file is patched: all writes of the patch were made, one after another, and with them its tiles, the file that it stands for and its
--- checksums are as they should be.
-pub record IsPatchedBy (job : PatchJob) (held' : Option (List ℕ)) (writes writes' : Option (List Amend)) (file patch : List ℕ) : Type 0 where
+-- checksums are as they should be. All writes are settled.
+pub record IsPatchedBy (job : PatchJob) (held' : Option (List ℕ)) (before now : Amended) (file patch : List ℕ) : Type 0 where
   pub header : Header
   pub steps : Steps
   pub are : ArePatchSteps file patch job header steps
-  pub wrote : Wrote (all_writes steps) (Some file) held' writes writes'
+  pub wrote : Wrote (all_writes steps) (Some file) held' before.writes now.writes
   pub is : IsPatched file (applied (all_writes steps) file) header (given_by patch job)
+  pub settled : IsSettled now
+
+-- The writes that were made are those of all steps before one, which are settled, and some of that one, from the first on. So each step
+-- begins when all earlier ones are settled: a store may fail in any of its calls, and then this is said of that moment.
+pub record AreSettledUpTo (steps : Steps) (before now : Amended) : Type 0 where
+  pub earlier : List Amend
+  pub step : List Amend
+  pub is_step : IsStep steps earlier step
+  pub count : ℕ
+  pub logged : now.writes ≡ option_map (λ ws. ws ++ (earlier ++ take count step)) before.writes
+  pub settled : IfSome before.writes (λ ws. (earlier ≡ []) ⊎ (length ws + length earlier ≤ now.settled))
 
 -- Some writes of the patch were made, from the first on, and of the next one perhaps a part; after every prefix of all writes the file is safe.
-pub record StopsAmong (job : PatchJob) (held' : Option (List ℕ)) (writes writes' : Option (List Amend)) (file patch : List ℕ) : Type 0 where
+-- Those of all steps before the last one that was begun are settled.
+pub record StopsAmong (job : PatchJob) (held' : Option (List ℕ)) (before now : Amended) (file patch : List ℕ) : Type 0 where
   pub header : Header
   pub steps : Steps
   pub are : ArePatchSteps file patch job header steps
-  pub some : WroteSome (all_writes steps) (Some file) held' writes writes'
+  pub some : WroteSome (all_writes steps) (Some file) held' before.writes now.writes
   pub safe : (n : ℕ) → IsSafeAfter file header (given_by patch job) steps n
+  pub settled : AreSettledUpTo steps before now
 
 -- whatever the answer is, nothing was written, or some writes of the patch
-abbrev pub LeavesSafe : PatchJob → Option (List ℕ) → Option (List Amend) → Option (List Amend) → List ℕ → List ℕ → Type 0
-LeavesSafe job held' writes writes' file patch = ((held' ≡ Some file) × (writes' ≡ writes)) ⊎ StopsAmong job held' writes writes' file patch
+abbrev pub LeavesSafe : PatchJob → Option (List ℕ) → Amended → Amended → List ℕ → List ℕ → Type 0
+LeavesSafe job held' before now file patch = ((held' ≡ Some file) × (now.writes ≡ before.writes)) ⊎ StopsAmong job held' before now file patch
 
 -- what is taken of a meter, by the bytes of both files
 abbrev pub TakingsOfBoth : Type 0

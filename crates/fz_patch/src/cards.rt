@@ -1,7 +1,7 @@
 //! The cards PCOUNT, TFORM1 and TFORM2, by which the new codes belong to the heap.
 ghost use Rattle.std.specs.Prelude.{◌≡◌, ◌+◌, ◌<◌, ◌≤◌, ◌^◌, [], ◌∷◌, IsTrue, length as len, not, ◌==◌, OnOk};
 ghost use Rattle.std.specs.List.{list_all};
-ghost use Rattle.fz_base.specs.Store.{HasAtLeast};
+ghost use Rattle.fz_base.specs.Store.{HasAtLeast, IsSettled};
 ghost use Rattle.fz_block.specs.Facts.{IsHeaderOf};
 ghost use Rattle.fz_laws.specs.Writes.{card_write};
 ghost use Rattle.fz_sum.specs.Cards.{with_card};
@@ -41,6 +41,7 @@ pub(crate) fn write_cards<D: Store>(
         (D.tally store.old).amended.writes (D.tally store.new).amended.writes) }
     ensures some { WroteSome (forms_writes target.now places.now found.now forms.now) (D.held store.old) (D.held store.new)
         (D.tally store.old).amended.writes (D.tally store.new).amended.writes }
+    ensures settled { OnOk result (IsSettled (D.tally store.new).amended) }
     ensures header { OnOk result (buf.new ≡ with_forms target.now places.now found.now forms.now buf.old) }
     ensures len { len buf.new ≡ len buf.old }
     ensures reach { KeepsReach (D.attached store.old) (D.attached store.new) }

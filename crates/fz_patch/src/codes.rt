@@ -2,7 +2,7 @@
 ghost use Rattle.std.specs.Prelude.{ℕ, ◌≡◌, ◌+◌, ◌≤◌, ◌^◌, ℤ, List, length as len, IfSome, OnOk};
 ghost use Rattle.fz_base.specs.Keeps.{SourceStays};
 ghost use Rattle.fz_base.specs.Stop.{IfRefused, IsRefused};
-ghost use Rattle.fz_base.specs.Store.{HasAtLeast};
+ghost use Rattle.fz_base.specs.Store.{HasAtLeast, IsSettled};
 ghost use Rattle.fz_base.specs.Told.{StaysTold};
 ghost use Rattle.fz_job.specs.Images.{HaveRoom};
 ghost use Rattle.fz_fetch.specs.Rows.{StandsWithin};
@@ -59,6 +59,7 @@ pub(crate) fn write_codes<R: Threads + Sync, D: Store, S: Source>(
         → IsGivenTo corner p target.now → BoxHasNumbers f target.now.header (given_at corner p) olds
         → len (heap_of (new_codes target.now.image.plan (given_at corner p) (box_tiles target.now.image.plan (given_at corner p)) olds)) ≡ found.now.bytes
         → ¬ IsRefused result) }
+    ensures settled { OnOk result (IsSettled (D.tally store.new).amended) }
     ensures grown { OnOk result (HasAtLeast (D.attached store.new) (grown_end target.now.header found.now.bytes)) }
     ensures late { IfRefused result (ComesInWork target.now.header.hdu) }
     ensures header { OnOk result (KeepsHeader target.now.header (D.held store.old) (D.held store.new)) }

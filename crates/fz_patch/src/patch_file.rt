@@ -58,7 +58,7 @@ struct Patching<'r, 'c, R> {
 /// if the heap with the new codes is longer than one may be (at card 5). Of a file that gives other bytes at a later reading
 /// also BadCard at card 0, or a row, which may come after some of the writes.
 ///
-/// The writes are those of `fz_laws`, in its order; each step is on the disk before the next one begins.
+/// The writes are those of `fz_laws`, in its order; each step is settled before the next one begins (`safe`).
 pub fn patch<R: Threads + Sync, D: Store, S: Source>(
     rt: &R,
     alloc: Global,
@@ -76,10 +76,10 @@ pub fn patch<R: Threads + Sync, D: Store, S: Source>(
     requires corner { IsCorner corner.now }
 
     ensures patched { OnOk result (IfBoth (D.held store.old) (S.held patch.old)
-        (IsPatchedBy (job_at hdu corner.now) (D.held store.new) (D.tally store.old).amended.writes (D.tally store.new).amended.writes)) }
+        (IsPatchedBy (job_at hdu corner.now) (D.held store.new) (D.tally store.old).amended (D.tally store.new).amended)) }
     // Whatever the answer is, only writes of the patch were made, in their order; and after each of them the file is safe.
     ensures safe { IfBoth (D.held store.old) (S.held patch.old)
-        (LeavesSafe (job_at hdu corner.now) (D.held store.new) (D.tally store.old).amended.writes (D.tally store.new).amended.writes) }
+        (LeavesSafe (job_at hdu corner.now) (D.held store.new) (D.tally store.old).amended (D.tally store.new).amended) }
     // Nothing was written if a buffer passes the limit, whatever the answer, and nothing was read below one block.
     ensures unwritten { IsUnwritten (D.held store.old) (S.held patch.old) meter.old.limit (λ g p. patch_takings g p (job_at hdu corner.now))
         ((D.held store.new ≡ D.held store.old) × ((D.tally store.new).amended ≡ (D.tally store.old).amended)) result }
@@ -129,9 +129,9 @@ fn with_block<R: Threads + Sync, D: Store, S: Source>(
     requires corner { IsCorner patching.now.asked.corner.now }
     requires block { len block.old ≡ 2880 }
     ensures patched { OnOk result (IfBoth (D.held store.old) (S.held patch.old)
-        (IsPatchedBy (job_at hdu patching.now.asked.corner.now) (D.held store.new) (D.tally store.old).amended.writes (D.tally store.new).amended.writes)) }
+        (IsPatchedBy (job_at hdu patching.now.asked.corner.now) (D.held store.new) (D.tally store.old).amended (D.tally store.new).amended)) }
     ensures safe { IfBoth (D.held store.old) (S.held patch.old)
-        (LeavesSafe (job_at hdu patching.now.asked.corner.now) (D.held store.new) (D.tally store.old).amended.writes (D.tally store.new).amended.writes) }
+        (LeavesSafe (job_at hdu patching.now.asked.corner.now) (D.held store.new) (D.tally store.old).amended (D.tally store.new).amended) }
     ensures unwritten { IsUnwritten (D.held store.old) (S.held patch.old) meter.old.limit (λ g p. later_takings g p (job_at hdu patching.now.asked.corner.now))
         ((D.held store.new ≡ D.held store.old) × ((D.tally store.new).amended ≡ (D.tally store.old).amended)) result }
     ensures first_fault { TellsPatchFault (job_at hdu patching.now.asked.corner.now) (D.held store.old) (S.held patch.old) result }
@@ -227,10 +227,10 @@ fn with_header<R: Threads + Sync, D: Store, S: Source>(
     requires block { len block.old ≡ 2880 }
     ensures patched { OnOk result (IfBoth (D.held store.old) (S.held patch.old) (λ g p. (wanted : Option ℕ) → IsWanted wanted header.now g
         → IsPatchedBy (job_at wanted patching.now.asked.corner.now) (D.held store.new)
-        (D.tally store.old).amended.writes (D.tally store.new).amended.writes g p)) }
+        (D.tally store.old).amended (D.tally store.new).amended g p)) }
     ensures safe { IfBoth (D.held store.old) (S.held patch.old) (λ g p. (wanted : Option ℕ) → IsWanted wanted header.now g
         → LeavesSafe (job_at wanted patching.now.asked.corner.now) (D.held store.new)
-        (D.tally store.old).amended.writes (D.tally store.new).amended.writes g p) }
+        (D.tally store.old).amended (D.tally store.new).amended g p) }
     ensures unwritten { IsRefused result → IfBoth (D.held store.old) (S.held patch.old) (λ g p. (wanted : Option ℕ) → IsWanted wanted header.now g
         → (D.held store.new ≡ D.held store.old) × (D.tally store.new ≡ D.tally store.old)) }
     ensures unpassed { IfBoth (D.held store.old) (S.held patch.old) (λ g p. (wanted : Option ℕ) → IsWanted wanted header.now g
@@ -293,9 +293,9 @@ fn work<R: Threads + Sync, D: Store, S: Source>(
     requires found { IsFoundIn (D.attached store.old) (D.held store.old) buf.old target.now }
     requires given { GivesWithin (S.attached patch.old) target.now }
     ensures patched { OnOk result (ForJobs (D.held store.old) (S.held patch.old) target.now
-        (λ job. IsPatchedBy job (D.held store.new) (D.tally store.old).amended.writes (D.tally store.new).amended.writes)) }
+        (λ job. IsPatchedBy job (D.held store.new) (D.tally store.old).amended (D.tally store.new).amended)) }
     ensures safe { ForJobs (D.held store.old) (S.held patch.old) target.now
-        (λ job. LeavesSafe job (D.held store.new) (D.tally store.old).amended.writes (D.tally store.new).amended.writes) }
+        (λ job. LeavesSafe job (D.held store.new) (D.tally store.old).amended (D.tally store.new).amended) }
     ensures first_fault { ForJobs (D.held store.old) (S.held patch.old) target.now
         (λ job file by. TellsPatchFault job (Some file) (Some by) result) }
     ensures unwritten { IsRefused result → ForJobs (D.held store.old) (S.held patch.old) target.now

@@ -3,7 +3,7 @@ ghost use Rattle.std.specs.Prelude.{ℕ, ◌≡◌, ◌+◌, ◌-◌, ◌*◌, �
 ghost use Rattle.fz_base.specs.Keeps.{SourceStays};
 ghost use Rattle.fz_base.specs.Sink.{written};
 ghost use Rattle.fz_base.specs.Stop.{Amends, IfRefused, IsRefused};
-ghost use Rattle.fz_base.specs.Store.{HasAtLeast, MayAmend, amend_of, amended_by};
+ghost use Rattle.fz_base.specs.Store.{HasAtLeast, IsSettled, MayAmend, amend_of, amended_by};
 ghost use Rattle.fz_base.specs.Told.{StaysTold};
 ghost use Rattle.fz_job.specs.Images.{HaveRoom};
 ghost use Rattle.fz_fetch.specs.Rows.{StandsWithin};
@@ -71,6 +71,7 @@ pub(crate) fn write_rows<R: Threads + Sync, D: Store, S: Source>(
         (zip (box_tiles target.now.image.plan (given_at corner p))
         (new_codes target.now.image.plan (given_at corner p) (box_tiles target.now.image.plan (given_at corner p)) olds)))
         (D.held store.old) (D.held store.new) (D.tally store.old).amended.writes (D.tally store.new).amended.writes) }
+    ensures settled { OnOk result (IsSettled (D.tally store.new).amended) }
     ensures unrefused { IfBoth (D.held store.old) (S.held patch.old) (λ f p. (corner : List ℕ) (olds : List (List ℤ))
         → IsGivenTo corner p target.now → BoxHasNumbers f target.now.header (given_at corner p) olds
         → found.now ≡ measure_of target.now.image.plan

@@ -43,9 +43,9 @@ pub(crate) fn write_patch<R: Threads + Sync, D: Store, S: Source>(
     requires window { HaveRoom target.now.image window.old }
     requires copy { 4096 ≤ len copy.old }
     ensures patched { OnOk result (ForJobs (D.held store.old) (S.held patch.old) target.now
-        (λ job. IsPatchedBy job (D.held store.new) (D.tally store.old).amended.writes (D.tally store.new).amended.writes)) }
+        (λ job. IsPatchedBy job (D.held store.new) (D.tally store.old).amended (D.tally store.new).amended)) }
     ensures safe { ForJobs (D.held store.old) (S.held patch.old) target.now
-        (λ job. LeavesSafe job (D.held store.new) (D.tally store.old).amended.writes (D.tally store.new).amended.writes) }
+        (λ job. LeavesSafe job (D.held store.new) (D.tally store.old).amended (D.tally store.new).amended) }
     ensures first_fault { ForJobs (D.held store.old) (S.held patch.old) target.now
         (λ job file by. TellsPatchFault job (Some file) (Some by) result) }
     ensures unwritten { IsRefused result → ForJobs (D.held store.old) (S.held patch.old) target.now

@@ -2,7 +2,7 @@
 ghost use Rattle.std.specs.Prelude.{ℕ, ◌≡◌, ◌+◌, ◌-◌, ◌*◌, ◌<◌, ◌≤◌, ◌^◌, List, length as len, take, drop, ◌&&◌, is_none, IfOk, IfSome, OnOk};
 ghost use Rattle.fz_base.specs.Keeps.{SourceStays};
 ghost use Rattle.fz_base.specs.Stop.{OnlyReads};
-ghost use Rattle.fz_base.specs.Store.{HasAtLeast};
+ghost use Rattle.fz_base.specs.Store.{HasAtLeast, IsSettled};
 ghost use Rattle.fz_block.specs.Facts.{IsHeaderOf};
 ghost use Rattle.fz_block.specs.Header.{next_start_of};
 ghost use Rattle.fz_laws.specs.Writes.{told_sum as told_sum_of};
@@ -35,6 +35,7 @@ pub(crate) fn write_sums<D: Store>(
         (D.tally store.old).amended.writes (D.tally store.new).amended.writes)) }
     ensures some { IfSome (D.held store.old) (λ f. WroteSome (sums_writes header.now f buf.old) (D.held store.old) (D.held store.new)
         (D.tally store.old).amended.writes (D.tally store.new).amended.writes) }
+    ensures settled { OnOk result (IsSettled (D.tally store.old).amended → IsSettled (D.tally store.new).amended) }
     ensures stays { (len buf.new ≡ len buf.old) × (len copy.new ≡ len copy.old) }
     ensures reach { KeepsReach (D.attached store.old) (D.attached store.new) }
     ensures cause { AmendsStore (D.tally store.old) (D.tally store.new) result }

@@ -16,6 +16,7 @@ use Rattle.fz_patch.proofs.CodedEnds.{ends_of}
 use Rattle.fz_patch.proofs.CodedRefusals.{some_same, wrote_same}
 use Rattle.fz_patch.proofs.EndsJoined.{settled_writes}
 use Rattle.fz_patch.proofs.Wrotes.{wrote-all}
+use Rattle.fz_patch.proofs.Settled.{all_settled}
 use Rattle.fz_patch.proofs.cards.write_cards.Goals as goal
 
 pub overflow_add-heap : goal.overflow_add-heap
@@ -213,3 +214,6 @@ returns-clause-cause g c =
     let three = c.in_ok-write_form-2.ensures.cause in
     amends-then s last now c.settle.result (kept-then s s'' last (kept-then s s' s'' one.kept two.kept) three.kept) (same-then s s'' last (same-then s s' s'' one.ok two.ok) three.ok)
     (settled-amends last now c.settle.result c.settle.ensures.cause)
+
+pub returns-clause-settled : goal.returns-clause-settled
+returns-clause-settled g c = all_settled _ _ c.settle.result c.settle.ensures.cause

@@ -296,9 +296,9 @@ returns-clause-patched g c =
     let wanted : IfSome (g.D.Source.held c.args.store.now) (IsWanted c.args.hdu c.in_ok-kept.kept.facts) = wanted_of c.args.meter.now.live c.args.meter.now.limit c.args.hdu c.in_ok-found.found (g.D.Source.held c.args.store.now) c.in_ok-kept.kept known same3 in
     let held3 : g.D.Source.held c.read_again.new.store ≡ g.D.Source.held c.args.store.now = search rules in
     let tally : g.D.Source.tally c.read_again.new.store ≡ g.D.Source.tally c.args.store.now = c.in_ok-kept.ensures.cause.ok ∙ c.in_ok-found.ensures.cause.ok ∙ c.in_ok-survey_every.ensures.cause.ok in
-    let writes : (g.D.Source.tally c.read_again.new.store).amended.writes ≡ (g.D.Source.tally c.args.store.now).amended.writes = ap (λ (t : Tally). t.amended.writes) tally in
-    let all : OnOk c.with_header-answer.result (IfBoth (g.D.Source.held c.args.store.now) (g.S.Source.held c.args.patch.now) (λ f p. (any : Option ℕ) → IsWanted any c.in_ok-kept.kept.facts f → IsPatchedBy (job_at any c.args.patching.now.asked.corner.now) (g.D.Source.held c.with_header-answer.new.store) (g.D.Source.tally c.args.store.now).amended.writes (g.D.Source.tally c.with_header-answer.new.store).amended.writes f p)) = rw (held3, writes) at c.with_header-answer.ensures.patched in
-    ok_weaker c.with_header-answer.result (of_wanted (g.D.Source.held c.args.store.now) (g.S.Source.held c.args.patch.now) c.in_ok-kept.kept.facts c.args.hdu c.args.patching.now.asked.corner.now (λ job. IsPatchedBy job (g.D.Source.held c.with_header-answer.new.store) (g.D.Source.tally c.args.store.now).amended.writes (g.D.Source.tally c.with_header-answer.new.store).amended.writes) wanted) all
+    let writes : (g.D.Source.tally c.read_again.new.store).amended ≡ (g.D.Source.tally c.args.store.now).amended = ap (λ (t : Tally). t.amended) tally in
+    let all : OnOk c.with_header-answer.result (IfBoth (g.D.Source.held c.args.store.now) (g.S.Source.held c.args.patch.now) (λ f p. (any : Option ℕ) → IsWanted any c.in_ok-kept.kept.facts f → IsPatchedBy (job_at any c.args.patching.now.asked.corner.now) (g.D.Source.held c.with_header-answer.new.store) (g.D.Source.tally c.args.store.now).amended (g.D.Source.tally c.with_header-answer.new.store).amended f p)) = rw (held3, writes) at c.with_header-answer.ensures.patched in
+    ok_weaker c.with_header-answer.result (of_wanted (g.D.Source.held c.args.store.now) (g.S.Source.held c.args.patch.now) c.in_ok-kept.kept.facts c.args.hdu c.args.patching.now.asked.corner.now (λ job. IsPatchedBy job (g.D.Source.held c.with_header-answer.new.store) (g.D.Source.tally c.args.store.now).amended (g.D.Source.tally c.with_header-answer.new.store).amended) wanted) all
 
 pub returns-clause-safe : goal.returns-clause-safe
 returns-clause-safe g c =
@@ -316,9 +316,9 @@ returns-clause-safe g c =
     let wanted : IfSome (g.D.Source.held c.args.store.now) (IsWanted c.args.hdu c.in_ok-kept.kept.facts) = wanted_of c.args.meter.now.live c.args.meter.now.limit c.args.hdu c.in_ok-found.found (g.D.Source.held c.args.store.now) c.in_ok-kept.kept known same3 in
     let held3 : g.D.Source.held c.read_again.new.store ≡ g.D.Source.held c.args.store.now = search rules in
     let tally : g.D.Source.tally c.read_again.new.store ≡ g.D.Source.tally c.args.store.now = c.in_ok-kept.ensures.cause.ok ∙ c.in_ok-found.ensures.cause.ok ∙ c.in_ok-survey_every.ensures.cause.ok in
-    let writes : (g.D.Source.tally c.read_again.new.store).amended.writes ≡ (g.D.Source.tally c.args.store.now).amended.writes = ap (λ (t : Tally). t.amended.writes) tally in
-    let all : IfBoth (g.D.Source.held c.args.store.now) (g.S.Source.held c.args.patch.now) (λ f p. (any : Option ℕ) → IsWanted any c.in_ok-kept.kept.facts f → LeavesSafe (job_at any c.args.patching.now.asked.corner.now) (g.D.Source.held c.with_header-answer.new.store) (g.D.Source.tally c.args.store.now).amended.writes (g.D.Source.tally c.with_header-answer.new.store).amended.writes f p) = rw (held3, writes) at c.with_header-answer.ensures.safe in
-    of_wanted (g.D.Source.held c.args.store.now) (g.S.Source.held c.args.patch.now) c.in_ok-kept.kept.facts c.args.hdu c.args.patching.now.asked.corner.now (λ job. LeavesSafe job (g.D.Source.held c.with_header-answer.new.store) (g.D.Source.tally c.args.store.now).amended.writes (g.D.Source.tally c.with_header-answer.new.store).amended.writes) wanted all
+    let writes : (g.D.Source.tally c.read_again.new.store).amended ≡ (g.D.Source.tally c.args.store.now).amended = ap (λ (t : Tally). t.amended) tally in
+    let all : IfBoth (g.D.Source.held c.args.store.now) (g.S.Source.held c.args.patch.now) (λ f p. (any : Option ℕ) → IsWanted any c.in_ok-kept.kept.facts f → LeavesSafe (job_at any c.args.patching.now.asked.corner.now) (g.D.Source.held c.with_header-answer.new.store) (g.D.Source.tally c.args.store.now).amended (g.D.Source.tally c.with_header-answer.new.store).amended f p) = rw (held3, writes) at c.with_header-answer.ensures.safe in
+    of_wanted (g.D.Source.held c.args.store.now) (g.S.Source.held c.args.patch.now) c.in_ok-kept.kept.facts c.args.hdu c.args.patching.now.asked.corner.now (λ job. LeavesSafe job (g.D.Source.held c.with_header-answer.new.store) (g.D.Source.tally c.args.store.now).amended (g.D.Source.tally c.with_header-answer.new.store).amended) wanted all
 
 pub returns-clause-unwritten : goal.returns-clause-unwritten
 returns-clause-unwritten g c =

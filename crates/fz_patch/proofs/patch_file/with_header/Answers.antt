@@ -146,14 +146,14 @@ returns-clause-patched g c =
     let s' : Tally = g.D.Source.tally c.work.new.store in
     on_ok c.work.result
     (of_jobs (g.D.Source.held c.args.store.now) (g.S.Source.held c.args.patch.now) (g.S.Source.held c.find_target.new.patch) c.in_ok-target.target c.args.header.now c.args.patching.now.asked.corner.now
-    (λ job. IsPatchedBy job (g.D.Source.held c.work.new.store) s.amended.writes s'.amended.writes) (c.in_ok-target.ensures.stays.0.held_is) (c.in_ok-target.ensures.given.1) (if_both (g.D.Source.held c.args.store.now) (g.S.Source.held c.args.patch.now) _ (λ f p is by wanted w. target_is c.args.header.now f p c.args.patching.now.asked.corner.now wanted w ∙ some_of (g.S.Source.held c.args.patch.now) (λ q. if_patchable f q (job_at wanted c.args.patching.now.asked.corner.now) (Ok c.args.header.now) ≡ Ok c.in_ok-target.target.header) p by (c.in_ok-target.ensures.exact f wanted (has_of c.hdu_at_law.ensures.walk c.found_hdus_law.ensures.last (g.D.Source.held c.args.store.now) c.args.patching.now.asked.length c.args.header.now c.args.buf.now (g.met.D.Source.agrees c.args.store.now c.args.patching.now.asked.length c.requires.attached) c.requires.read f wanted is w))))) c.work.ensures.patched
+    (λ job. IsPatchedBy job (g.D.Source.held c.work.new.store) s.amended s'.amended) (c.in_ok-target.ensures.stays.0.held_is) (c.in_ok-target.ensures.given.1) (if_both (g.D.Source.held c.args.store.now) (g.S.Source.held c.args.patch.now) _ (λ f p is by wanted w. target_is c.args.header.now f p c.args.patching.now.asked.corner.now wanted w ∙ some_of (g.S.Source.held c.args.patch.now) (λ q. if_patchable f q (job_at wanted c.args.patching.now.asked.corner.now) (Ok c.args.header.now) ≡ Ok c.in_ok-target.target.header) p by (c.in_ok-target.ensures.exact f wanted (has_of c.hdu_at_law.ensures.walk c.found_hdus_law.ensures.last (g.D.Source.held c.args.store.now) c.args.patching.now.asked.length c.args.header.now c.args.buf.now (g.met.D.Source.agrees c.args.store.now c.args.patching.now.asked.length c.requires.attached) c.requires.read f wanted is w))))) c.work.ensures.patched
 
 pub returns-clause-safe : goal.returns-clause-safe
 returns-clause-safe g c =
     let s : Tally = g.D.Source.tally c.args.store.now in
     let s' : Tally = g.D.Source.tally c.work.new.store in
     of_jobs (g.D.Source.held c.args.store.now) (g.S.Source.held c.args.patch.now) (g.S.Source.held c.find_target.new.patch) c.in_ok-target.target c.args.header.now c.args.patching.now.asked.corner.now
-    (λ job. LeavesSafe job (g.D.Source.held c.work.new.store) s.amended.writes s'.amended.writes) (c.in_ok-target.ensures.stays.0.held_is) (c.in_ok-target.ensures.given.1) (if_both (g.D.Source.held c.args.store.now) (g.S.Source.held c.args.patch.now) _ (λ f p is by wanted w. target_is c.args.header.now f p c.args.patching.now.asked.corner.now wanted w ∙ some_of (g.S.Source.held c.args.patch.now) (λ q. if_patchable f q (job_at wanted c.args.patching.now.asked.corner.now) (Ok c.args.header.now) ≡ Ok c.in_ok-target.target.header) p by (c.in_ok-target.ensures.exact f wanted (has_of c.hdu_at_law.ensures.walk c.found_hdus_law.ensures.last (g.D.Source.held c.args.store.now) c.args.patching.now.asked.length c.args.header.now c.args.buf.now (g.met.D.Source.agrees c.args.store.now c.args.patching.now.asked.length c.requires.attached) c.requires.read f wanted is w)))) c.work.ensures.safe
+    (λ job. LeavesSafe job (g.D.Source.held c.work.new.store) s.amended s'.amended) (c.in_ok-target.ensures.stays.0.held_is) (c.in_ok-target.ensures.given.1) (if_both (g.D.Source.held c.args.store.now) (g.S.Source.held c.args.patch.now) _ (λ f p is by wanted w. target_is c.args.header.now f p c.args.patching.now.asked.corner.now wanted w ∙ some_of (g.S.Source.held c.args.patch.now) (λ q. if_patchable f q (job_at wanted c.args.patching.now.asked.corner.now) (Ok c.args.header.now) ≡ Ok c.in_ok-target.target.header) p by (c.in_ok-target.ensures.exact f wanted (has_of c.hdu_at_law.ensures.walk c.found_hdus_law.ensures.last (g.D.Source.held c.args.store.now) c.args.patching.now.asked.length c.args.header.now c.args.buf.now (g.met.D.Source.agrees c.args.store.now c.args.patching.now.asked.length c.requires.attached) c.requires.read f wanted is w)))) c.work.ensures.safe
 
 pub returns-clause-unwritten : goal.returns-clause-unwritten
 returns-clause-unwritten g c = λ refused.

@@ -25,7 +25,7 @@ use Rattle.fz_patch.proofs.patch_file.work.Goals as goal
 -- ---- no memory for the window
 
 pub returns-in-Err-clause-safe : goal.returns-in-Err-clause-safe
-returns-in-Err-clause-safe g c = for_jobs (g.D.Source.held c.args.store.now) (g.S.Source.held c.args.patch.now) c.args.target.now (λ job. LeavesSafe job (g.D.Source.held c.args.store.now) (g.D.Source.tally c.args.store.now).amended.writes (g.D.Source.tally c.args.store.now).amended.writes) (λ job f p is. inl (is, refl))
+returns-in-Err-clause-safe g c = for_jobs (g.D.Source.held c.args.store.now) (g.S.Source.held c.args.patch.now) c.args.target.now (λ job. LeavesSafe job (g.D.Source.held c.args.store.now) (g.D.Source.tally c.args.store.now).amended (g.D.Source.tally c.args.store.now).amended) (λ job f p is. inl (is, refl))
 
 pub returns-in-Err-clause-first_fault : goal.returns-in-Err-clause-first_fault
 returns-in-Err-clause-first_fault g c = for_jobs (g.D.Source.held c.args.store.now) (g.S.Source.held c.args.patch.now) c.args.target.now _ (λ job f p is. tt)
@@ -42,7 +42,7 @@ returns-in-Err-clause-cause g c = works_short {X = Unit {0}} (g.D.Source.tally c
 -- ---- a buffer was not given
 
 pub returns-in_err-space-clause-safe : goal.returns-in_err-space-clause-safe
-returns-in_err-space-clause-safe g c = for_jobs (g.D.Source.held c.args.store.now) (g.S.Source.held c.args.patch.now) c.args.target.now (λ job. LeavesSafe job (g.D.Source.held c.args.store.now) (g.D.Source.tally c.args.store.now).amended.writes (g.D.Source.tally c.args.store.now).amended.writes) (λ job f p is. inl (is, refl))
+returns-in_err-space-clause-safe g c = for_jobs (g.D.Source.held c.args.store.now) (g.S.Source.held c.args.patch.now) c.args.target.now (λ job. LeavesSafe job (g.D.Source.held c.args.store.now) (g.D.Source.tally c.args.store.now).amended (g.D.Source.tally c.args.store.now).amended) (λ job f p is. inl (is, refl))
 
 pub returns-in_err-space-clause-first_fault : goal.returns-in_err-space-clause-first_fault
 returns-in_err-space-clause-first_fault g c =

@@ -4,7 +4,7 @@ use Rattle.std.specs.Option.{option_map}
 use Rattle.std.proofs.lemmas.Result.{on_ok_weaker}
 use Rattle.fz_base.specs.Counts.{Amend, Tally}
 use Rattle.fz_base.specs.Stop.{IfRefused, IsRefused}
-use Rattle.fz_base.specs.Store.{HasAtLeast, StoreKept}
+use Rattle.fz_base.specs.Store.{HasAtLeast, IsSettled, StoreKept}
 use Rattle.fz_base.specs.declared.failure.Stop.{Stop}
 use Rattle.fz_block.specs.Facts.{IsHeaderOf, facts_of}
 use Rattle.fz_block.specs.Hdus.{pcount_index, size_at}
@@ -40,6 +40,7 @@ use Rattle.fz_patch.proofs.NewTile.{room_still}
 use Rattle.fz_patch.proofs.Amended.{at-least, kept-read, kept-same, kept-then, reach-is, reach-then, read-amends, same-counts, same-is, same-then}
 use Rattle.fz_patch.proofs.EndsJoined.{amend_patches, amends_unrefused, is_refused_as, none_refused, reach_table, read_writes, refused_as, refused_weaker, start_reach, tile_patches, told_long}
 use Rattle.fz_patch.proofs.EndsTold.{both_of, some_of, told-if, told-is, told-some, told-then}
+use Rattle.fz_patch.proofs.Settled.{amid_first, amid_later, joined, ok_both}
 use Rattle.fz_patch.proofs.StepExits.{fault_told, if_some_map, late_tile, never_faulty, patches_then, refused_tile, some_from, stands_at, wrote_from}
 use Rattle.fz_patch.proofs.StepHeaders.{StepLaws, all_there, grown_said, grown_says, pcount_place}
 use Rattle.fz_patch.proofs.StepPatch.{Ready, all_is, are, cards_are, es, for_jobs, bytes_are, heap_is, measure_is, numbers, olds, ready_of, rows_are, some_1, some_2, some_3, some_4, steps, still_numbers, stops, sums_are, wrote_4}
@@ -81,7 +82,7 @@ returns-in_err-found-clause-safe g c =
     let given : Option (List ℕ) = g.S.Source.held c.args.patch.now in
     let log : Option (List Amend) = (g.D.Source.tally c.args.store.now).amended.writes in
     let same : g.D.Source.held c.measure_codes.new.store ≡ held = c.in_err-found.ensures.stays.0.held_is in
-    for_jobs held given t (λ job. LeavesSafe job (g.D.Source.held c.measure_codes.new.store) log (g.D.Source.tally c.measure_codes.new.store).amended.writes) (λ f p is by wanted corner to target. inl (same ∙ is, read_writes (g.D.Source.tally c.args.store.now) (g.D.Source.tally c.measure_codes.new.store) c.in_err-found.ensures.cause.store_kept))
+    for_jobs held given t (λ job. LeavesSafe job (g.D.Source.held c.measure_codes.new.store) (g.D.Source.tally c.args.store.now).amended (g.D.Source.tally c.measure_codes.new.store).amended) (λ f p is by wanted corner to target. inl (same ∙ is, read_writes (g.D.Source.tally c.args.store.now) (g.D.Source.tally c.measure_codes.new.store) c.in_err-found.ensures.cause.store_kept))
 
 pub returns-in_err-found-clause-first_fault : goal.returns-in_err-found-clause-first_fault
 returns-in_err-found-clause-first_fault g c =
@@ -147,7 +148,7 @@ returns-in_err-forms-clause-safe g c =
     let given : Option (List ℕ) = g.S.Source.held c.args.patch.now in
     let log : Option (List Amend) = (g.D.Source.tally c.args.store.now).amended.writes in
     let same : g.D.Source.held c.find_forms.new.store ≡ held = c.in_err-forms.ensures.stays.0.held_is ∙ c.in_ok-found.ensures.stays.0.held_is in
-    for_jobs held given t (λ job. LeavesSafe job (g.D.Source.held c.find_forms.new.store) log (g.D.Source.tally c.find_forms.new.store).amended.writes) (λ f p is by wanted corner to target. inl (same ∙ is, read_writes (g.D.Source.tally c.measure_codes.new.store) (g.D.Source.tally c.find_forms.new.store) c.in_err-forms.ensures.cause.kept ∙ ap (λ (k : Tally). k.amended.writes) c.in_ok-found.ensures.cause.ok.0))
+    for_jobs held given t (λ job. LeavesSafe job (g.D.Source.held c.find_forms.new.store) (g.D.Source.tally c.args.store.now).amended (g.D.Source.tally c.find_forms.new.store).amended) (λ f p is by wanted corner to target. inl (same ∙ is, read_writes (g.D.Source.tally c.measure_codes.new.store) (g.D.Source.tally c.find_forms.new.store) c.in_err-forms.ensures.cause.kept ∙ ap (λ (k : Tally). k.amended.writes) c.in_ok-found.ensures.cause.ok.0))
 
 pub returns-in_err-forms-clause-first_fault : goal.returns-in_err-forms-clause-first_fault
 returns-in_err-forms-clause-first_fault g c =
@@ -222,7 +223,7 @@ returns-in_err-write_codes-clause-safe g c =
     let held2 : g.D.Source.held c.find_forms.new.store ≡ held = c.in_ok-forms.ensures.stays.0.held_is ∙ c.in_ok-found.ensures.stays.0.held_is in
     let log2 : (g.D.Source.tally c.find_forms.new.store).amended.writes ≡ log = ap (λ (k : Tally). k.amended.writes) (c.in_ok-forms.ensures.cause.ok ∙ c.in_ok-found.ensures.cause.ok.0) in
     let given1 : g.S.Source.held c.measure_codes.new.patch ≡ given = c.in_ok-found.ensures.stays.1.held_is in
-    for_jobs held given t (λ job. LeavesSafe job (g.D.Source.held c.write_codes.new.store) log (g.D.Source.tally c.write_codes.new.store).amended.writes) (λ f p is by wanted corner to target.
+    for_jobs held given t (λ job. LeavesSafe job (g.D.Source.held c.write_codes.new.store) (g.D.Source.tally c.args.store.now).amended (g.D.Source.tally c.write_codes.new.store).amended) (λ f p is by wanted corner to target.
     let r : Ready t f p wanted corner m = ready_of t m buf held given f p wanted corner is by to target c.requires.found.said c.in_ok-found.ensures.sound c.in_ok-found.ensures.room c.in_ok-found.ensures.measured in
     let st : Steps = steps t f p wanted corner m r in
     let fb : AreBytes f = some_of held _ f is (g.met.D.Source.octets c.args.store.now) in
@@ -231,7 +232,8 @@ returns-in_err-write_codes-clause-safe g c =
     let one : WroteSome heap (Some f) (g.D.Source.held c.write_codes.new.store) log (g.D.Source.tally c.write_codes.new.store).amended.writes =
     some_from heap (g.D.Source.held c.find_forms.new.store) (Some f) (g.D.Source.held c.write_codes.new.store) (g.D.Source.tally c.find_forms.new.store).amended.writes log (g.D.Source.tally c.write_codes.new.store).amended.writes (held2 ∙ is) log2
     (both_of (g.D.Source.held c.find_forms.new.store) (g.S.Source.held c.measure_codes.new.patch) _ f p (held2 ∙ is) (given1 ∙ by) c.in_err-write_codes.ensures.some corner (olds t f p wanted corner m r) to (numbers t f p wanted corner m r)) in
-    stops t f p wanted corner m r c.safe_patch_law.ensures fb pb (g.D.Source.held c.write_codes.new.store) log (g.D.Source.tally c.write_codes.new.store).amended.writes
+    stops t f p wanted corner m r c.safe_patch_law.ensures fb pb (g.D.Source.held c.write_codes.new.store) (g.D.Source.tally c.args.store.now).amended (g.D.Source.tally c.write_codes.new.store).amended
+    (amid_first st (g.D.Source.tally c.args.store.now).amended (g.D.Source.tally c.write_codes.new.store).amended heap (Some f) (g.D.Source.held c.write_codes.new.store) (heap_is t f p wanted corner m r) one)
     (subst (λ ws. WroteSome ws (Some f) (g.D.Source.held c.write_codes.new.store) log (g.D.Source.tally c.write_codes.new.store).amended.writes) (all_is t f p wanted corner m r (st.pcount ++ st.forms) st.rows refl refl)
     (some_1 heap (st.pcount ++ st.forms) st.rows st.sums (Some f) log (g.D.Source.held c.write_codes.new.store) (g.D.Source.tally c.write_codes.new.store).amended.writes one))
     )
@@ -326,7 +328,7 @@ returns-in_err-write_cards-clause-safe g c =
     let held2 : g.D.Source.held c.find_forms.new.store ≡ held = c.in_ok-forms.ensures.stays.0.held_is ∙ c.in_ok-found.ensures.stays.0.held_is in
     let log2 : (g.D.Source.tally c.find_forms.new.store).amended.writes ≡ log = ap (λ (k : Tally). k.amended.writes) (c.in_ok-forms.ensures.cause.ok ∙ c.in_ok-found.ensures.cause.ok.0) in
     let given1 : g.S.Source.held c.measure_codes.new.patch ≡ given = c.in_ok-found.ensures.stays.1.held_is in
-    for_jobs held given t (λ job. LeavesSafe job (g.D.Source.held c.write_cards.new.store) log (g.D.Source.tally c.write_cards.new.store).amended.writes) (λ f p is by wanted corner to target.
+    for_jobs held given t (λ job. LeavesSafe job (g.D.Source.held c.write_cards.new.store) (g.D.Source.tally c.args.store.now).amended (g.D.Source.tally c.write_cards.new.store).amended) (λ f p is by wanted corner to target.
     let r : Ready t f p wanted corner m = ready_of t m buf held given f p wanted corner is by to target c.requires.found.said c.in_ok-found.ensures.sound c.in_ok-found.ensures.room c.in_ok-found.ensures.measured in
     let st : Steps = steps t f p wanted corner m r in
     let fb : AreBytes f = some_of held _ f is (g.met.D.Source.octets c.args.store.now) in
@@ -343,7 +345,8 @@ returns-in_err-write_cards-clause-safe g c =
     cards_are t f p wanted corner m r places forms (subst (λ l. HasPlaces l places) (sym header_is) c.find_places-places.ensures) (pcount_place buf t.header c.requires.found.header ∙ ap pcount_index (sym header_is))
     (some_of (g.D.Source.held c.measure_codes.new.store) _ f (c.in_ok-found.ensures.stays.0.held_is ∙ is) c.in_ok-forms.ensures.forms
     ∙ (λ j. forms_for (said_most (sym header_is j) 1) (said_most (sym header_is j) 2) m (other_rows f t.image.table (picked_tiles_of t.image.plan (to.sieve j))))) in
-    stops t f p wanted corner m r c.safe_patch_law.ensures fb pb (g.D.Source.held c.write_cards.new.store) log (g.D.Source.tally c.write_cards.new.store).amended.writes
+    stops t f p wanted corner m r c.safe_patch_law.ensures fb pb (g.D.Source.held c.write_cards.new.store) (g.D.Source.tally c.args.store.now).amended (g.D.Source.tally c.write_cards.new.store).amended
+    (amid_later st (g.D.Source.tally c.args.store.now).amended (g.D.Source.tally c.write_codes.new.store).amended (g.D.Source.tally c.write_cards.new.store).amended st.heap (st.pcount ++ st.forms) heap put (g.D.Source.held c.write_codes.new.store) (g.D.Source.held c.write_cards.new.store) (inl (inr (refl, refl))) (heap_is t f p wanted corner m r) cards_is one.logged c.in_ok-write_codes.ensures.settled c.in_err-write_cards.ensures.cause.kept.settled_kept c.in_err-write_cards.ensures.some)
     (subst (λ ws. WroteSome ws (Some f) (g.D.Source.held c.write_cards.new.store) log (g.D.Source.tally c.write_cards.new.store).amended.writes) (all_is t f p wanted corner m r put st.rows cards_is refl)
     (some_2 heap put st.rows st.sums (Some f) log (g.D.Source.held c.write_codes.new.store) (g.D.Source.held c.write_cards.new.store) (g.D.Source.tally c.write_codes.new.store).amended.writes (g.D.Source.tally c.write_cards.new.store).amended.writes one c.in_err-write_cards.ensures.some))
     )
@@ -446,7 +449,7 @@ returns-in_err-write_rows-clause-safe g c =
     let held2 : g.D.Source.held c.find_forms.new.store ≡ held = c.in_ok-forms.ensures.stays.0.held_is ∙ c.in_ok-found.ensures.stays.0.held_is in
     let log2 : (g.D.Source.tally c.find_forms.new.store).amended.writes ≡ log = ap (λ (k : Tally). k.amended.writes) (c.in_ok-forms.ensures.cause.ok ∙ c.in_ok-found.ensures.cause.ok.0) in
     let given1 : g.S.Source.held c.measure_codes.new.patch ≡ given = c.in_ok-found.ensures.stays.1.held_is in
-    for_jobs held given t (λ job. LeavesSafe job (g.D.Source.held c.write_rows.new.store) log (g.D.Source.tally c.write_rows.new.store).amended.writes) (λ f p is by wanted corner to target.
+    for_jobs held given t (λ job. LeavesSafe job (g.D.Source.held c.write_rows.new.store) (g.D.Source.tally c.args.store.now).amended (g.D.Source.tally c.write_rows.new.store).amended) (λ f p is by wanted corner to target.
     let r : Ready t f p wanted corner m = ready_of t m buf held given f p wanted corner is by to target c.requires.found.said c.in_ok-found.ensures.sound c.in_ok-found.ensures.room c.in_ok-found.ensures.measured in
     let st : Steps = steps t f p wanted corner m r in
     let fb : AreBytes f = some_of held _ f is (g.met.D.Source.octets c.args.store.now) in
@@ -497,7 +500,8 @@ returns-in_err-write_rows-clause-safe g c =
     (subst (λ (u : Target). IfBoth (g.D.Source.held c.write_cards.new.store) (g.S.Source.held c.write_codes.new.patch) (λ f p. (corner : List ℕ) (olds : List (List ℤ)) → IsGivenTo corner p u → BoxHasNumbers f u.header (given_at corner p) olds →
     WroteSome (row_writes u.image.table (plan_to_write u) (u.image.table.heap_len - m.bytes) (zip (box_tiles u.image.plan (given_at corner p)) (new_codes u.image.plan (given_at corner p) (box_tiles u.image.plan (given_at corner p)) olds)))
     (g.D.Source.held c.write_cards.new.store) (g.D.Source.held c.write_rows.new.store) (g.D.Source.tally c.write_cards.new.store).amended.writes (g.D.Source.tally c.write_rows.new.store).amended.writes)) c.grown-grown.ensures.same c.in_err-write_rows.ensures.some) corner (olds t f p wanted corner m r) to4 rows4 in
-    stops t f p wanted corner m r c.safe_patch_law.ensures fb pb (g.D.Source.held c.write_rows.new.store) log (g.D.Source.tally c.write_rows.new.store).amended.writes
+    stops t f p wanted corner m r c.safe_patch_law.ensures fb pb (g.D.Source.held c.write_rows.new.store) (g.D.Source.tally c.args.store.now).amended (g.D.Source.tally c.write_rows.new.store).amended
+    (amid_later st (g.D.Source.tally c.args.store.now).amended (g.D.Source.tally c.write_cards.new.store).amended (g.D.Source.tally c.write_rows.new.store).amended (before_rows st) st.rows (heap ++ put) rows_put (g.D.Source.held c.write_cards.new.store) (g.D.Source.held c.write_rows.new.store) (inr (inl (refl, refl))) (λ j. heap_is t f p wanted corner m r j ++ cards_is j) (rows_are t f p wanted corner m r) (joined log (g.D.Source.tally c.write_codes.new.store).amended.writes (g.D.Source.tally c.write_cards.new.store).amended.writes heap put one.logged wrote2.logged) c.in_ok-write_cards.ensures.settled c.in_err-write_rows.ensures.cause.store_kept.settled_kept three)
     (subst (λ ws. WroteSome ws (Some f) (g.D.Source.held c.write_rows.new.store) log (g.D.Source.tally c.write_rows.new.store).amended.writes) (all_is t f p wanted corner m r put rows_put cards_is (rows_are t f p wanted corner m r))
     (some_3 heap put rows_put st.sums (Some f) log (g.D.Source.held c.write_codes.new.store) (g.D.Source.held c.write_cards.new.store) (g.D.Source.held c.write_rows.new.store) (g.D.Source.tally c.write_codes.new.store).amended.writes (g.D.Source.tally c.write_cards.new.store).amended.writes (g.D.Source.tally c.write_rows.new.store).amended.writes one wrote2 three))
     )
@@ -699,7 +703,7 @@ returns-clause-safe g c =
     let held2 : g.D.Source.held c.find_forms.new.store ≡ held = c.in_ok-forms.ensures.stays.0.held_is ∙ c.in_ok-found.ensures.stays.0.held_is in
     let log2 : (g.D.Source.tally c.find_forms.new.store).amended.writes ≡ log = ap (λ (k : Tally). k.amended.writes) (c.in_ok-forms.ensures.cause.ok ∙ c.in_ok-found.ensures.cause.ok.0) in
     let given1 : g.S.Source.held c.measure_codes.new.patch ≡ given = c.in_ok-found.ensures.stays.1.held_is in
-    for_jobs held given t (λ job. LeavesSafe job (g.D.Source.held c.write_sums.new.store) log (g.D.Source.tally c.write_sums.new.store).amended.writes) (λ f p is by wanted corner to target.
+    for_jobs held given t (λ job. LeavesSafe job (g.D.Source.held c.write_sums.new.store) (g.D.Source.tally c.args.store.now).amended (g.D.Source.tally c.write_sums.new.store).amended) (λ f p is by wanted corner to target.
     let r : Ready t f p wanted corner m = ready_of t m buf held given f p wanted corner is by to target c.requires.found.said c.in_ok-found.ensures.sound c.in_ok-found.ensures.room c.in_ok-found.ensures.measured in
     let st : Steps = steps t f p wanted corner m r in
     let fb : AreBytes f = some_of held _ f is (g.met.D.Source.octets c.args.store.now) in
@@ -765,7 +769,8 @@ returns-clause-safe g c =
     subst (λ ws. WroteSome ws (g.D.Source.held c.write_rows.new.store) (g.D.Source.held c.write_sums.new.store) (g.D.Source.tally c.write_rows.new.store).amended.writes (g.D.Source.tally c.write_sums.new.store).amended.writes) sums_is
     (subst (λ l. WroteSome (sums_writes (grown_by t m.bytes).header y l) (g.D.Source.held c.write_rows.new.store) (g.D.Source.held c.write_sums.new.store) (g.D.Source.tally c.write_rows.new.store).amended.writes (g.D.Source.tally c.write_sums.new.store).amended.writes) c.in_ok-write_cards.ensures.header
     (subst (λ (u : Target). WroteSome (sums_writes u.header y c.write_cards.new.buf) (g.D.Source.held c.write_rows.new.store) (g.D.Source.held c.write_sums.new.store) (g.D.Source.tally c.write_rows.new.store).amended.writes (g.D.Source.tally c.write_sums.new.store).amended.writes) c.grown-grown.ensures.same (some_of (g.D.Source.held c.write_rows.new.store) _ y y_is c.write_sums.ensures.some))) in
-    stops t f p wanted corner m r c.safe_patch_law.ensures fb pb (g.D.Source.held c.write_sums.new.store) log (g.D.Source.tally c.write_sums.new.store).amended.writes
+    stops t f p wanted corner m r c.safe_patch_law.ensures fb pb (g.D.Source.held c.write_sums.new.store) (g.D.Source.tally c.args.store.now).amended (g.D.Source.tally c.write_sums.new.store).amended
+    (amid_later st (g.D.Source.tally c.args.store.now).amended (g.D.Source.tally c.write_rows.new.store).amended (g.D.Source.tally c.write_sums.new.store).amended (before_sums st) st.sums ((heap ++ put) ++ rows_put) st.sums (g.D.Source.held c.write_rows.new.store) (g.D.Source.held c.write_sums.new.store) (inr (inr (refl, refl))) (λ j. (heap_is t f p wanted corner m r j ++ cards_is j) ++ rows_are t f p wanted corner m r j) refl (joined log (g.D.Source.tally c.write_cards.new.store).amended.writes (g.D.Source.tally c.write_rows.new.store).amended.writes (heap ++ put) rows_put (joined log (g.D.Source.tally c.write_codes.new.store).amended.writes (g.D.Source.tally c.write_cards.new.store).amended.writes heap put one.logged wrote2.logged) three.logged) c.in_ok-write_rows.ensures.settled c.write_sums.ensures.cause.kept.settled_kept last)
     (subst (λ ws. WroteSome ws (Some f) (g.D.Source.held c.write_sums.new.store) log (g.D.Source.tally c.write_sums.new.store).amended.writes) (all_is t f p wanted corner m r put rows_put cards_is (rows_are t f p wanted corner m r))
     (some_4 heap put rows_put st.sums (Some f) log (g.D.Source.held c.write_codes.new.store) (g.D.Source.held c.write_cards.new.store) (g.D.Source.held c.write_rows.new.store) (g.D.Source.held c.write_sums.new.store) (g.D.Source.tally c.write_codes.new.store).amended.writes (g.D.Source.tally c.write_cards.new.store).amended.writes (g.D.Source.tally c.write_rows.new.store).amended.writes (g.D.Source.tally c.write_sums.new.store).amended.writes one wrote2 three last))
     )
@@ -781,8 +786,8 @@ returns-clause-patched g c =
     let held2 : g.D.Source.held c.find_forms.new.store ≡ held = c.in_ok-forms.ensures.stays.0.held_is ∙ c.in_ok-found.ensures.stays.0.held_is in
     let log2 : (g.D.Source.tally c.find_forms.new.store).amended.writes ≡ log = ap (λ (k : Tally). k.amended.writes) (c.in_ok-forms.ensures.cause.ok ∙ c.in_ok-found.ensures.cause.ok.0) in
     let given1 : g.S.Source.held c.measure_codes.new.patch ≡ given = c.in_ok-found.ensures.stays.1.held_is in
-    on_ok_weaker c.write_sums.result (λ wrote.
-    for_jobs held given t (λ job. IsPatchedBy job (g.D.Source.held c.write_sums.new.store) log (g.D.Source.tally c.write_sums.new.store).amended.writes) (λ f p is by wanted corner to target.
+    ok_both c.write_sums.result (λ wrote. λ (settled : IsSettled (g.D.Source.tally c.write_rows.new.store).amended → IsSettled (g.D.Source.tally c.write_sums.new.store).amended).
+    for_jobs held given t (λ job. IsPatchedBy job (g.D.Source.held c.write_sums.new.store) (g.D.Source.tally c.args.store.now).amended (g.D.Source.tally c.write_sums.new.store).amended) (λ f p is by wanted corner to target.
     let r : Ready t f p wanted corner m = ready_of t m buf held given f p wanted corner is by to target c.requires.found.said c.in_ok-found.ensures.sound c.in_ok-found.ensures.room c.in_ok-found.ensures.measured in
     let st : Steps = steps t f p wanted corner m r in
     let fb : AreBytes f = some_of held _ f is (g.met.D.Source.octets c.args.store.now) in
@@ -854,9 +859,10 @@ returns-clause-patched g c =
       are = are t f p wanted corner m r;
       wrote = subst (λ ws. Wrote ws (Some f) (g.D.Source.held c.write_sums.new.store) log (g.D.Source.tally c.write_sums.new.store).amended.writes) (all_is t f p wanted corner m r put rows_put cards_is (rows_are t f p wanted corner m r)) (wrote_4 heap put rows_put st.sums (Some f) log (g.D.Source.held c.write_codes.new.store) (g.D.Source.held c.write_cards.new.store) (g.D.Source.held c.write_rows.new.store) (g.D.Source.held c.write_sums.new.store) (g.D.Source.tally c.write_codes.new.store).amended.writes (g.D.Source.tally c.write_cards.new.store).amended.writes (g.D.Source.tally c.write_rows.new.store).amended.writes (g.D.Source.tally c.write_sums.new.store).amended.writes one wrote2 three last);
       is = c.whole_patch_law.ensures f p (job_at wanted corner) t.header st (record { file_bytes = fb; patch_bytes = pb; steps_are = are t f p wanted corner m r });
+      settled = settled c.in_ok-write_rows.ensures.settled;
     }
     )
-    ) c.write_sums.ensures.wrote
+    ) c.write_sums.ensures.wrote c.write_sums.ensures.settled
 
 pub returns-clause-first_fault : goal.returns-clause-first_fault
 returns-clause-first_fault g c =

@@ -19,6 +19,7 @@ use Rattle.fz_patch.proofs.EndsTold.{if_some, some_of}
 use Rattle.fz_patch.proofs.SumCards.{both_none, data_between, header_long, no_sums, sums_back, sums_front, sums_wrote}
 use Rattle.fz_patch.proofs.Summed.{data_sum}
 use Rattle.fz_patch.proofs.Wrotes.{wrote-all, wrote-none, wrote-nothing}
+use Rattle.fz_patch.proofs.Settled.{all_settled}
 use Rattle.fz_patch.proofs.sums.write_sums.Goals as goal
 
 pub returns-then-are_none-clause-wrote : goal.returns-then-are_none-clause-wrote
@@ -209,3 +210,6 @@ returns-clause-cause g c =
 pub returns-clause-reach : goal.returns-clause-reach
 returns-clause-reach g c =
     reach-then _ _ _ (reach-is _ _ c.in_ok-payload.ensures.stays.0.attached_is) (reach-then _ _ _ c.in_ok-write_datasum.ensures.reach (reach-then _ _ _ c.in_ok-write_checksum.ensures.reach (reach-is _ _ c.settle.ensures.store.attached_is)))
+
+pub returns-clause-settled : goal.returns-clause-settled
+returns-clause-settled g c = on_ok_weaker c.settle.result (λ all before. all) (all_settled _ _ c.settle.result c.settle.ensures.cause)
