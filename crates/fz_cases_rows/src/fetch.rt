@@ -9,6 +9,7 @@ ghost use Rattle.fz_pool.specs.Window.{HasSlotsFor};
 ghost use Rattle.fz_fetch.specs.Fetched.{HaveTiles};
 ghost use Rattle.fz_job.specs.Images.{AreTilesOf, IsReadable};
 
+use crate::asserts::alike;
 use fz_base::{
     Failed, Fault, FreeGate, Kind, MemSink, MemSource, Meter, Place, Sink, Source, Stop,
 };
@@ -451,7 +452,7 @@ fn cut(
 fn tiles_are_numbered(rt: HostRuntime) {
     let mut tiles = [0; 3];
     number_tiles(4, &mut tiles);
-    assert_eq!(rt; tiles, [4, 5, 6]);
+    alike(&rt, tiles, [4, 5, 6]);
 }
 
 #[test]
@@ -473,7 +474,7 @@ fn tiles_are_fetched_and_written(rt: HostRuntime) -> Result<(), Fail> {
         (108, 2),
         (110, 1),
     ];
-    assert_eq!(rt; source.source.reads(), read.as_slice());
+    alike(&rt, source.source.reads(), read.as_slice());
     expect_numbers(&rt, &window, 0, &[1, 2, 6, 7]);
     expect_numbers(&rt, &window, 1, &[3, 4, 8, 9]);
     expect_numbers(&rt, &window, 2, &[5, 10]);
@@ -483,7 +484,7 @@ fn tiles_are_fetched_and_written(rt: HostRuntime) -> Result<(), Fail> {
     let mut sink = made(alloc)?;
     scatter(&mut sink, &image, &tiles, &mut window)?;
     let written = [0, 0, 0, 1, 2, 3, 4, 5, 6, 7, 8, 9, 10, 11, 12, 13, 14, 15];
-    assert_eq!(rt; sink.contents(), written.as_slice());
+    alike(&rt, sink.contents(), written.as_slice());
     Ok(())
 }
 
@@ -495,7 +496,7 @@ fn rows_and_records_are_read_before_they_are_wanted(rt: HostRuntime) -> Result<(
     let mut window = filled(alloc, 1)?;
     fetch_four(&rt, &mut source, &image, &mut window)?;
     // All rows are read by one reading, and all records, which follow each other, by another.
-    assert_eq!(rt; source.source.reads(), [(0, 96), (96, 15)].as_slice());
+    alike(&rt, source.source.reads(), [(0, 96), (96, 15)].as_slice());
     expect_numbers(&rt, &window, 0, &[5, 10]);
     expect_numbers(&rt, &window, 1, &[11, 12]);
     Ok(())
@@ -510,7 +511,7 @@ fn records_that_do_not_follow_are_read_one_by_one(rt: HostRuntime) -> Result<(),
     let mut window = filled(alloc, 1)?;
     fetch_four(&rt, &mut source, &image, &mut window)?;
     let read = [(0, 96), (96, 4), (101, 4), (104, 7)];
-    assert_eq!(rt; source.source.reads(), read.as_slice());
+    alike(&rt, source.source.reads(), read.as_slice());
     expect_numbers(&rt, &window, 0, &[5, 10]);
     expect_numbers(&rt, &window, 1, &[11, 12]);
     Ok(())
@@ -526,9 +527,9 @@ fn neighbours_are_written_together(rt: HostRuntime) -> Result<(), Fail> {
     fetch(&rt, &mut source, &image, &tiles, &mut window)?;
     let mut sink = made(alloc)?;
     let held = scatter_together(&mut sink, &image, &tiles, &mut window)?;
-    assert_eq!(rt; held, 16);
+    alike(&rt, held, 16);
     let wanted = [0, 0, 0, 0, 0, 0, 1, 0, 0, 0, 1, 0, 0, 0, 1, 0, 0, 0, 1];
-    assert_eq!(rt; sink.contents(), wanted.as_slice());
+    alike(&rt, sink.contents(), wanted.as_slice());
     Ok(())
 }
 
@@ -544,9 +545,9 @@ fn pieces_that_are_apart_are_written_in_order(rt: HostRuntime) -> Result<(), Fai
     let mut sink = made(alloc)?;
     let held = scatter_together(&mut sink, &image, &tiles, &mut window)?;
     // The last pixel of tile 2 is followed by the last line of the image.
-    assert_eq!(rt; held, 6);
+    alike(&rt, held, 6);
     let wanted = [0, 0, 0, 1, 2, 3, 4, 5, 6, 7, 8, 9, 10, 11, 12, 13, 14, 15];
-    assert_eq!(rt; sink.contents(), wanted.as_slice());
+    alike(&rt, sink.contents(), wanted.as_slice());
     Ok(())
 }
 
@@ -587,10 +588,14 @@ fn picks_are_fetched_and_written(rt: HostRuntime) -> Result<(), Fail> {
         (64, 16),
         (108, 2),
     ];
-    assert_eq!(rt; source.source.reads(), read.as_slice());
+    alike(&rt, source.source.reads(), read.as_slice());
     let mut sink = made(alloc)?;
     cut(&mut sink, &image, &middle, &tiles, &mut window)?;
-    assert_eq!(rt; sink.contents(), [0, 0, 0, 7, 8, 9, 12, 13, 14].as_slice());
+    alike(
+        &rt,
+        sink.contents(),
+        [0, 0, 0, 7, 8, 9, 12, 13, 14].as_slice(),
+    );
     Ok(())
 }
 
@@ -610,7 +615,11 @@ fn picks_with_a_step_are_written(rt: HostRuntime) -> Result<(), Fail> {
     fetch(&rt, &mut source, &image, &tiles, &mut window)?;
     let mut sink = made(alloc)?;
     cut(&mut sink, &image, &apart, &tiles, &mut window)?;
-    assert_eq!(rt; sink.contents(), [0, 0, 0, 1, 3, 5, 11, 13, 15].as_slice());
+    alike(
+        &rt,
+        sink.contents(),
+        [0, 0, 0, 1, 3, 5, 11, 13, 15].as_slice(),
+    );
     Ok(())
 }
 
@@ -631,7 +640,7 @@ fn picks_of_two_bytes_are_gathered(rt: HostRuntime) -> Result<(), Fail> {
     let mut sink = made(alloc)?;
     cut(&mut sink, &image, &second, &tiles, &mut window)?;
     let wanted = [0, 0, 0, 0, 1, 0, 1, 0, 1, 0, 1];
-    assert_eq!(rt; sink.contents(), wanted.as_slice());
+    alike(&rt, sink.contents(), wanted.as_slice());
     Ok(())
 }
 
@@ -659,26 +668,30 @@ fn the_first_faulty_row_is_refused(rt: HostRuntime) -> Result<(), Fail> {
     let all = [0, 1, 2, 3, 4, 5];
     // The plain bytes of rows 3 and 5 end after the heap.
     let two = [(59, 16), (91, 16)];
-    assert_eq!(rt;
+    alike(
+        &rt,
         fetch_of(&rt, alloc, &two, &all),
-        refused(3, Kind::DescriptorRange)
+        refused(3, Kind::DescriptorRange),
     );
-    assert_eq!(rt;
+    alike(
+        &rt,
         fetch_of(&rt, alloc, &two, &[0, 5, 3]),
-        refused(5, Kind::DescriptorRange)
+        refused(5, Kind::DescriptorRange),
     );
-    assert_eq!(rt; fetch_of(&rt, alloc, &two, &[0, 1, 2, 4]), Ok(()));
+    alike(&rt, fetch_of(&rt, alloc, &two, &[0, 1, 2, 4]), Ok(()));
     // Row 5 has no plain bytes, and no codes.
     let none = [(91, 0)];
-    assert_eq!(rt;
+    alike(
+        &rt,
         fetch_of(&rt, alloc, &none, &all),
-        refused(5, Kind::TileMissing)
+        refused(5, Kind::TileMissing),
     );
     // Row 4 has too few.
     let short = [(75, 1)];
-    assert_eq!(rt;
+    alike(
+        &rt,
         fetch_of(&rt, alloc, &short, &all),
-        refused(4, Kind::TileSize)
+        refused(4, Kind::TileSize),
     );
     Ok(())
 }
@@ -691,8 +704,8 @@ fn a_code_comes_before_a_later_row(rt: HostRuntime) -> Result<(), Fail> {
     // The code of row 0 has 2 bytes, and that of row 1 ends after the heap.
     let mut source = source_of(alloc, &RICE, &[(3, 2), (19, 5)])?;
     let answer = fetch(&rt, &mut source, &image, &[0, 1], &mut window);
-    assert_eq!(rt; answer, refused(0, Kind::CodeShort));
+    alike(&rt, answer, refused(0, Kind::CodeShort));
     let answer = fetch(&rt, &mut source, &image, &[1], &mut window);
-    assert_eq!(rt; answer, refused(1, Kind::DescriptorRange));
+    alike(&rt, answer, refused(1, Kind::DescriptorRange));
     Ok(())
 }

@@ -3,6 +3,7 @@
 ghost use Rattle.std.specs.Prelude.{◌≡◌, ℕ, ◌<◌, ◌≤◌, IsTrue, slice_index};
 ghost use Rattle.fz_grid.specs.Region.{IsDivided, IsPlaceOf, IsShape, IsWithin};
 
+use crate::asserts::alike;
 use crate::lawful::{is_within, sifts};
 use fz_block::Axes;
 use fz_grid::{
@@ -68,12 +69,12 @@ fn is_place(shape: &Axes, at: &[u32; 9]) -> bool
     true
 }
 
-const SHAPE: Axes = Axes {
+static SHAPE: Axes = Axes {
     n: 2,
     len: [5, 3, 0, 0, 0, 0, 0, 0, 0],
 };
 
-const TILE: Axes = Axes {
+static TILE: Axes = Axes {
     n: 2,
     len: [2, 2, 0, 0, 0, 0, 0, 0, 0],
 };
@@ -100,7 +101,7 @@ fn grid_of(rt: &impl Abort, shape: Axes, tile: Axes) -> Grid
 #[test]
 fn tiles_of_an_array(rt: HostRuntime) {
     let grid = grid_of(&rt, SHAPE, TILE);
-    assert_eq!(rt; (grid.tile_count(), grid.largest()), (6, 4));
+    alike(&rt, (grid.tile_count(), grid.largest()), (6, 4));
     let boxes = [
         plane([0, 0], [2, 2]),
         plane([2, 0], [2, 2]),
@@ -112,7 +113,7 @@ fn tiles_of_an_array(rt: HostRuntime) {
     let mut tile = 0;
     for wanted in boxes {
         assert!(rt; tile < grid.tile_count());
-        assert_eq!(rt; grid.tile_box(tile), wanted);
+        alike(&rt, grid.tile_box(tile), wanted);
         tile += 1;
     }
     place_law();
@@ -128,7 +129,7 @@ fn number_of_a_pixel(rt: HostRuntime) {
     let at = [3, 2, 0, 0, 0, 0, 0, 0, 0];
     assert!(rt; is_place(&SHAPE, &at));
     let found = (index(&SHAPE, &at), coordinates(&SHAPE, 13), volume(&SHAPE));
-    assert_eq!(rt; found, (13, at, 15));
+    alike(&rt, found, (13, at, 15));
 }
 
 /// Compares the tiles that the region overlaps.
@@ -138,9 +139,9 @@ fn expect_tiles(rt: &impl Abort, region: &Region, tiles: &[u32]) {
     assert!(rt; is_within(&SHAPE, region));
     let mut overlaps = grid.overlapping(region);
     for tile in tiles {
-        assert_eq!(rt; overlaps.next(), Some(*tile));
+        alike(rt, overlaps.next(), Some(*tile));
     }
-    assert_eq!(rt; overlaps.next(), None);
+    alike(rt, overlaps.next(), None);
 }
 
 #[test]
@@ -167,7 +168,7 @@ fn pixels_in_common(rt: HostRuntime) {
     let mut tile = 0;
     for wanted in rows {
         assert!(rt; tile < grid.tile_count());
-        assert_eq!(rt; grid.overlap(&region, tile), wanted);
+        alike(&rt, grid.overlap(&region, tile), wanted);
         tile += 1;
     }
 }
@@ -178,9 +179,9 @@ fn expect_runs(rt: &impl Abort, shape: &Axes, region: &Region, wanted: &[(u64, u
     assert!(rt; is_within(shape, region));
     let mut found = runs(shape, region);
     for run in wanted {
-        assert_eq!(rt; found.next(), Some(*run));
+        alike(rt, found.next(), Some(*run));
     }
-    assert_eq!(rt; found.next(), None);
+    alike(rt, found.next(), None);
 }
 
 #[test]
@@ -207,14 +208,14 @@ fn expect_picks(rt: &impl Abort, sieve: &Sieve, numbers: &[u64], tiles: &[u32]) 
     assert!(rt; sifts(&SHAPE, sieve));
     let mut found = picks(&SHAPE, sieve);
     for number in numbers {
-        assert_eq!(rt; found.next(), Some(*number));
+        alike(rt, found.next(), Some(*number));
     }
-    assert_eq!(rt; found.next(), None);
+    alike(rt, found.next(), None);
     let mut touched = grid.sieve_tiles(sieve);
     for tile in tiles {
-        assert_eq!(rt; touched.next(), Some(*tile));
+        alike(rt, touched.next(), Some(*tile));
     }
-    assert_eq!(rt; touched.next(), None);
+    alike(rt, touched.next(), None);
 }
 
 /// A sieve of an array of 2 axes.
@@ -245,7 +246,7 @@ fn picks_of_a_sieve(rt: HostRuntime) {
         hi: [4, 2, 0, 0, 0, 0, 0, 0, 0],
         step: [3, 2, 1, 1, 1, 1, 1, 1, 1],
     };
-    assert_eq!(rt; thirds.len(0), 2);
+    alike(&rt, thirds.len(0), 2);
 }
 
 /// The next number of a fixed sequence, from 0 on and below `end`.
@@ -358,7 +359,7 @@ fn tile_of(grid: &Grid, pixel: u64) -> u64
 
 /// Compares the next run.
 fn expect_run(rt: &impl Abort, found: &mut Runs, wanted: Option<(u64, u64)>) {
-    assert_eq!(rt; found.next(), wanted);
+    alike(rt, found.next(), wanted);
 }
 
 /// The runs that a walk over all pixels finds.
@@ -404,10 +405,10 @@ fn walk_tiles(
     let mut found = grid.overlapping(region);
     for (tile, is_touched) in touched.iter().enumerate() {
         if *is_touched {
-            assert_eq!(rt; found.next().map(u64::from), Some(tile as u64));
+            alike(rt, found.next().map(u64::from), Some(tile as u64));
         }
     }
-    assert_eq!(rt; found.next(), None);
+    alike(rt, found.next(), None);
     Ok(())
 }
 

@@ -2,9 +2,11 @@
 //! files that were written out by hand: what a job learns of their headers and takes for them, what is fetched of the rows of packed
 //! images, what is refused, and what is written.
 //!
-//! Reading order: `lawful`, `grid`, `parts`; `survey`, `fetch`, `marks`.
+//! Reading order: `asserts`, `lawful`, `grid`, `parts`; `survey`, `fetch`, `marks`.
 #![tactic(auto)]
 
+#[cfg(test)]
+mod asserts;
 #[cfg(test)]
 mod fetch;
 #[cfg(test)]

@@ -4,6 +4,7 @@ ghost use Rattle.fz_files.specs.Packed.{tiles_in};
 ghost use Rattle.fz_files.specs.Restored.{pixels_of};
 ghost use Rattle.fz_job.specs.Images.{IsReadable};
 
+use crate::asserts::alike;
 use crate::fetch::{HEADER, Untold, has_pick, sifts, source_of};
 use fz_base::{MemSource, Source, Stop};
 use fz_block::Axes;
@@ -117,21 +118,21 @@ fn a_code_is_read_in_two_parts(rt: HostRuntime) -> Result<(), Fail> {
         pixel: 32,
         mark: Mark { bit: 20, last: 10 },
     };
-    assert_eq!(rt; first, Some(block));
+    alike(&rt, first, Some(block));
     let mut wanted = [10; 33];
     wanted[32] = 7;
-    assert_eq!(rt; numbers, wanted);
+    alike(&rt, numbers, wanted);
     let second = read_part(&mut source, first, 33, &mut numbers)?;
     let whole = TileMark {
         pixel: 33,
         mark: Mark { bit: 28, last: 12 },
     };
-    assert_eq!(rt; second, Some(whole));
+    alike(&rt, second, Some(whole));
     wanted[32] = 12;
-    assert_eq!(rt; numbers, wanted);
+    alike(&rt, numbers, wanted);
     // The second part is read from the mark's byte on.
     let read = [(0, 16), (16, 4), (0, 16), (18, 2)];
-    assert_eq!(rt; source.source.reads(), read.as_slice());
+    alike(&rt, source.source.reads(), read.as_slice());
     Ok(())
 }
 
@@ -143,7 +144,7 @@ fn a_part_that_is_not_there_is_none(rt: HostRuntime) -> Result<(), Fail> {
     let mut source = source_of(alloc, &LINE, &[(3, 3)])?;
     let all = read_part(&mut source, None, 33, &mut numbers)?;
     let most = read_part(&mut source, None, 32, &mut numbers)?;
-    assert_eq!(rt; (all, part_start(most)), (None, 32));
+    alike(&rt, (all, part_start(most)), (None, 32));
     // The tile is stored as its plain bytes, of which the heap has too few.
     let mut source = source_of(alloc, &LINE, &[(3, 0), (11, 2)])?;
     assert!(rt; read_part(&mut source, None, 33, &mut numbers).is_err());
@@ -152,7 +153,7 @@ fn a_part_that_is_not_there_is_none(rt: HostRuntime) -> Result<(), Fail> {
 
 #[test]
 fn picks_have_a_span(rt: HostRuntime) {
-    assert_eq!(rt; span_of(0, 32, 1), Some((0, 33)));
-    assert_eq!(rt; span_of(5, 5, 1), Some((5, 6)));
-    assert_eq!(rt; span_of(1, 32, 2), Some((1, 32)));
+    alike(&rt, span_of(0, 32, 1), Some((0, 33)));
+    alike(&rt, span_of(5, 5, 1), Some((5, 6)));
+    alike(&rt, span_of(1, 32, 2), Some((1, 32)));
 }

@@ -7,6 +7,7 @@ ghost use Rattle.fz_grid.specs.Region.{IsShape, lengths_of};
 ghost use Rattle.fz_grid.specs.Sieve.{IsSieve, IsSieveOf};
 ghost use Rattle.fz_grid.specs.Cutout.{part_lengths};
 
+use crate::asserts::alike;
 use crate::lawful::{is_within, sifts};
 use fz_block::Axes;
 use fz_grid::{
@@ -108,9 +109,9 @@ fn expect_lines(rt: &impl Abort, grid: &Grid, sieve: &Sieve, t: u32, wanted: &[L
     assert!(rt; has_part(grid, sieve, t));
     let mut lines = tile_lines(grid, sieve, t);
     for line in wanted {
-        assert_eq!(rt; lines.next(), Some(*line));
+        alike(rt, lines.next(), Some(*line));
     }
-    assert_eq!(rt; lines.next(), None);
+    alike(rt, lines.next(), None);
 }
 
 /// A line of picks.
@@ -153,7 +154,7 @@ fn lines_with_a_step(rt: HostRuntime) {
     expect_lines(&rt, &line_tiles(), &thirds, 1, &[line(1, 3, 0, 2)]);
     let shape = shape_of(&grid);
     assert!(rt; sifts(&shape, &second));
-    assert_eq!(rt; cutout_axes(&shape, &second), pair([3, 2]));
+    alike(&rt, cutout_axes(&shape, &second), pair([3, 2]));
 }
 
 #[test]
@@ -162,14 +163,15 @@ fn lines_of_a_tile(rt: HostRuntime) {
     assert!(rt; 1 < grid.tile_count());
     let mut lines = whole_lines(&grid, 1);
     let found = [lines.next(), lines.next(), lines.next()];
-    assert_eq!(rt;
+    alike(
+        &rt,
         found,
-        [Some(line(0, 1, 2, 2)), Some(line(2, 1, 7, 2)), None]
+        [Some(line(0, 1, 2, 2)), Some(line(2, 1, 7, 2)), None],
     );
     assert!(rt; 5 < grid.tile_count());
     let mut corner = whole_lines(&grid, 5);
     let found = [corner.next(), corner.next()];
-    assert_eq!(rt; found, [Some(line(0, 1, 14, 1)), None]);
+    alike(&rt, found, [Some(line(0, 1, 14, 1)), None]);
 }
 
 /// The sieve of every third column and every second line of the array of 5 x 3 pixels.
@@ -189,7 +191,11 @@ fn parts_of_a_sieve(rt: HostRuntime) {
     let grid = small_tiles();
     let shape = shape_of(&grid);
     let counts = tile_counts(&grid.shape, &grid.tile);
-    assert_eq!(rt; (thirds().lengths(), counts), (pair([2, 2]), pair([3, 2])));
+    alike(
+        &rt,
+        (thirds().lengths(), counts),
+        (pair([2, 2]), pair([3, 2])),
+    );
     let inner = plane([1, 1], [3, 2], [1, 1]);
     assert!(rt; sifts(&shape, &inner));
     assert!(rt; has_part(&grid, &inner, 1));
@@ -200,7 +206,7 @@ fn parts_of_a_sieve(rt: HostRuntime) {
         len: [2, 1, 0, 0, 0, 0, 0, 0, 0],
     };
     let inside = plane([0, 1], [1, 1], [1, 1]);
-    assert_eq!(rt; (part.inside, part.at), (inside, at));
+    alike(&rt, (part.inside, part.at), (inside, at));
 }
 
 #[test]
@@ -226,7 +232,7 @@ fn walks_over_large_arrays(rt: HostRuntime) {
     let mut tiles = grid.sieve_tiles(&sieve);
     let picked = [tiles.next(), tiles.next()];
     let one = [Some(150_651_681), None];
-    assert_eq!(rt; (overlapping, picked), (one, one));
+    alike(&rt, (overlapping, picked), (one, one));
     let whole = Region {
         n: 2,
         lo: [0; 9],
@@ -236,5 +242,5 @@ fn walks_over_large_arrays(rt: HostRuntime) {
     assert!(rt; is_within(&shape, &whole));
     let mut found = runs(&shape, &whole);
     let runs = [found.next(), found.next()];
-    assert_eq!(rt; runs, [Some((0, 1_099_511_627_776)), None]);
+    alike(&rt, runs, [Some((0, 1_099_511_627_776)), None]);
 }

@@ -1,4 +1,5 @@
 //! Small files that a job looks at, and the buffers that it then takes, with the values of the rules.
+use crate::asserts::alike;
 use fz_base::{Fault, Kind, MemSource, Meter, Place, Short, Source, Stop};
 use fz_block::BLOCK_LEN;
 use fz_grid::Region;
@@ -129,20 +130,22 @@ fn a_look_at_an_image(rt: HostRuntime) -> Result<(), Fail> {
         packed_primary: None,
         stopped: None,
     };
-    assert_eq!(rt; look_to_pack(source, &mut meter), Ok(seen));
+    alike(&rt, look_to_pack(source, &mut meter), Ok(seen));
     // the room for headers, of 22 blocks
-    assert_eq!(rt; (meter.live(), meter.peak()), (0, 63_360));
+    alike(&rt, (meter.live(), meter.peak()), (0, 63_360));
     // a fill byte after the 16 bytes of data
     let source = source_of(alloc, 5760, 2900, &[(0, &SMALL)])?;
-    assert_eq!(rt;
+    alike(
+        &rt,
         look_to_pack(source, &mut meter),
-        refused(0, Place::Byte(2900), Kind::DataFill)
+        refused(0, Place::Byte(2900), Kind::DataFill),
     );
     // the job's checks of HDU 0 come before those of HDU 1
     let source = source_of(alloc, 5770, 5765, &[(0, &RESERVED)])?;
-    assert_eq!(rt;
+    alike(
+        &rt,
         look_to_pack(source, &mut meter),
-        refused(0, Place::Card(5), Kind::Reserved)
+        refused(0, Place::Card(5), Kind::Reserved),
     );
     // the room passes the limit
     let mut meter = Meter::new(alloc, 63_359);
@@ -152,7 +155,7 @@ fn a_look_at_an_image(rt: HostRuntime) -> Result<(), Fail> {
         asked: 63_360,
         limit: 63_359,
     };
-    assert_eq!(rt; look_to_pack(source, &mut meter), Err(over));
+    alike(&rt, look_to_pack(source, &mut meter), Err(over));
     Ok(())
 }
 
@@ -169,8 +172,8 @@ fn a_look_at_a_packed_image(rt: HostRuntime) -> Result<(), Fail> {
     let mut source = packed_source(alloc)?;
     let length = source.attach("any").map_err(Stop::reading)?;
     let seen = survey_to_cut(&mut source, length, &mut meter, &mut block, None, &region)?;
-    assert_eq!(rt; (seen.hdus, seen.header_len, seen.tile), (2, 2880, 4));
-    assert_eq!(rt; seen.stopped.map(|h| h.start), Some(2880));
+    alike(&rt, (seen.hdus, seen.header_len, seen.tile), (2, 2880, 4));
+    alike(&rt, seen.stopped.map(|h| h.start), Some(2880));
     let missing = survey_to_cut(
         &mut source,
         length,
@@ -179,13 +182,17 @@ fn a_look_at_a_packed_image(rt: HostRuntime) -> Result<(), Fail> {
         Some(0),
         &region,
     );
-    assert_eq!(rt; missing, refused(0, Place::Byte(0), Kind::NotPacked));
+    alike(&rt, missing, refused(0, Place::Byte(0), Kind::NotPacked));
     let answer = survey_to_unpack(&mut source, length, &mut meter, &mut block);
-    assert_eq!(rt; answer, refused(2, Place::Byte(8640), Kind::TrailingBytes));
+    alike(
+        &rt,
+        answer,
+        refused(2, Place::Byte(8640), Kind::TrailingBytes),
+    );
     let mut source = source_of(alloc, 2880, 0, &[(0, &EMPTY)])?;
     let length = source.attach("any").map_err(Stop::reading)?;
     let missing = survey_to_cut(&mut source, length, &mut meter, &mut block, None, &region);
-    assert_eq!(rt; missing, refused(1, Place::Byte(2880), Kind::NotPacked));
+    alike(&rt, missing, refused(1, Place::Byte(2880), Kind::NotPacked));
     Ok(())
 }
 
@@ -197,30 +204,30 @@ fn a_packed_primary(rt: HostRuntime) -> Result<(), Fail> {
     let mut source = source_of(alloc, 8640, 0, &[(0, &EMPTY), (1, &PACKED)])?;
     let length = source.attach("any").map_err(Stop::reading)?;
     let seen = survey_to_unpack(&mut source, length, &mut meter, &mut block)?;
-    assert_eq!(rt; (seen.hdus, seen.packed_primary), (2, Some(2880)));
+    alike(&rt, (seen.hdus, seen.packed_primary), (2, Some(2880)));
     let mut source = source_of(alloc, 2880, 0, &[(0, &EMPTY)])?;
     let length = source.attach("any").map_err(Stop::reading)?;
     let seen = survey_to_unpack(&mut source, length, &mut meter, &mut block)?;
-    assert_eq!(rt; (seen.hdus, seen.packed_primary), (1, None));
+    alike(&rt, (seen.hdus, seen.packed_primary), (1, None));
     Ok(())
 }
 
 /// What a job that packs wants for headers of one block and tiles of 4 pixels.
-const TO_PACK: Wants = Wants {
+static TO_PACK: Wants = Wants {
     header_len: 2880,
     translates: true,
     tile: Some(4),
 };
 
 /// What one that writes nothing wants for them.
-const TO_VERIFY: Wants = Wants {
+static TO_VERIFY: Wants = Wants {
     header_len: 2880,
     translates: false,
     tile: Some(4),
 };
 
 /// What one that looks only at headers wants.
-const TO_LIST: Wants = Wants {
+static TO_LIST: Wants = Wants {
     header_len: 2880,
     translates: false,
     tile: None,
@@ -267,9 +274,10 @@ fn buffers_of_a_job(rt: HostRuntime) -> Result<(), Fail> {
         (TO_LIST, [2880, 0, 0], 2880),
     ];
     for (wants, lengths, all) in cases {
-        assert_eq!(rt;
+        alike(
+            &rt,
             take_and_give_back(alloc, all, &wants),
-            Ok((Ok(lengths), 0, all))
+            Ok((Ok(lengths), 0, all)),
         );
     }
     Ok(())
@@ -281,9 +289,10 @@ fn each_taking_at_the_limit(rt: HostRuntime) -> Result<(), Fail> {
     for &(live, asked) in &TAKINGS {
         let limit = live + asked - 1;
         let over = Short::OverLimit { live, asked, limit };
-        assert_eq!(rt;
+        alike(
+            &rt,
             take_and_give_back(alloc, limit, &TO_PACK),
-            Ok((Err(over), 0, live))
+            Ok((Err(over), 0, live)),
         );
     }
     Ok(())

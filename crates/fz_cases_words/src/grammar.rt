@@ -1,4 +1,5 @@
 //! Lines of the grammar, and what some of them ask for.
+use crate::asserts::alike;
 use crate::lines::{expect_lines, words_of};
 use fz_block::Axes;
 use fz_files::Job;
@@ -285,7 +286,7 @@ fn blocks(rt: HostRuntime) -> Result<(), Fail> {
 #[test]
 fn no_words(rt: HostRuntime) {
     let none = Vec::new(rt.alloc());
-    assert_eq!(rt; read_words(&none), Err(Usage));
+    alike(&rt, "", read_words(&none), Err(Usage));
 }
 
 /// The default of `--memory`.
@@ -352,7 +353,7 @@ fn packing(rt: HostRuntime) -> Result<(), Fail> {
     ];
     for (line, wanted) in rows {
         let words = words_of(rt.alloc(), line)?;
-        assert_eq!(rt; read_words(&words), Ok(wanted), "{line}");
+        alike(&rt, line, read_words(&words), Ok(wanted));
     }
     Ok(())
 }
@@ -415,7 +416,7 @@ fn cutting_and_looking(rt: HostRuntime) -> Result<(), Fail> {
     ];
     for (line, wanted) in rows {
         let words = words_of(rt.alloc(), line)?;
-        assert_eq!(rt; read_words(&words), Ok(wanted), "{line}");
+        alike(&rt, line, read_words(&words), Ok(wanted));
     }
     Ok(())
 }

@@ -1,8 +1,10 @@
 //! Lines of the grammar of the command line, beside their nearest neighbours that are outside it, and what some of them ask for.
 //!
-//! Reading order: `lines`, `grammar`, `patches`.
+//! Reading order: `asserts`, `lines`, `grammar`, `patches`.
 #![tactic(auto)]
 
+#[cfg(test)]
+mod asserts;
 #[cfg(test)]
 mod grammar;
 #[cfg(test)]

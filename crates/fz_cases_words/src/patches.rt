@@ -1,4 +1,5 @@
 //! Lines of `patch`, beside their nearest neighbours that are outside its grammar, and what some of them ask for.
+use crate::asserts::{alike, holds};
 use crate::lines::words_of;
 use fz_block::Axes;
 use fz_words::{PatchRequest, begins_patch, read_patch_words, read_words};
@@ -114,7 +115,7 @@ fn leaves_the_others(rt: HostRuntime) -> Result<(), Fail> {
     for line in &LINES {
         let words = words_of(rt.alloc(), line)?;
         let is_asked = read_words(&words).is_ok() || read_patch_words(&words).is_ok();
-        assert!(rt; !is_asked && !begins_patch(&words), "{line}");
+        holds(&rt, line, !is_asked && !begins_patch(&words));
     }
     Ok(())
 }
@@ -151,7 +152,7 @@ fn patching(rt: HostRuntime) -> Result<(), Fail> {
     ];
     for (line, wanted) in &ROWS {
         let words = words_of(rt.alloc(), line)?;
-        assert_eq!(rt; read_patch_words(&words), Ok(*wanted), "{line}");
+        alike(&rt, line, read_patch_words(&words), Ok(*wanted));
     }
     Ok(())
 }
