@@ -5,6 +5,9 @@ use crate::lines::Lines;
 /// The version of the program, as in the file VERSION of the repository.
 const VERSION: &str = "1.0.0";
 
+/// Which sources these are: the commit that was released, which `tools/stamp` writes here, or `between releases`.
+const SOURCES: &str = "between releases";
+
 /// A page that words ask for.
 #[derive(Clone, Copy, Debug, PartialEq, Eq)]
 pub(crate) enum Page {
@@ -72,17 +75,24 @@ pub(crate) fn print_page(page: Page, lines: &mut Lines) {
         Page::Commands => print_commands(lines),
         Page::Of(command) => print_command(command, lines),
         Page::Version => {
-            lines.page("fz ");
-            lines.page(VERSION);
+            print_version(lines);
             lines.page("\n");
         }
     }
 }
 
-// The commands with their options.
-fn print_commands(lines: &mut Lines) {
+// The name of the program, its version and its sources.
+fn print_version(lines: &mut Lines) {
     lines.page("fz ");
     lines.page(VERSION);
+    lines.page(" (");
+    lines.page(SOURCES);
+    lines.page(")");
+}
+
+// The commands with their options.
+fn print_commands(lines: &mut Lines) {
+    print_version(lines);
     lines.page(": losslessly compresses the integer images of FITS files\n\n");
     print_brief(Command::Pack, lines);
     print_brief(Command::Unpack, lines);
