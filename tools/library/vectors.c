@@ -3,66 +3,23 @@
  * hexadecimal digits (- if there are none), lists of numbers have their length first.
  *
  *   decode_tile codec block bytepix bitpix column total BYTES count    ->  answer NUMBERS
- *   encode_tile codec block bytepix bitpix NUMBERS                     ->  answer column BYTES
+ *   encode_tile codec block bytepix bitpix NUMBERS [room]              ->  answer column BYTES
  *   rice_decode width block BYTES count                                ->  answer used NUMBERS
- *   rice_encode width block NUMBERS                                    ->  answer BYTES
+ *   rice_encode width block NUMBERS [room]                             ->  answer BYTES
  *   plio_decode BYTES count                                            ->  answer NUMBERS
- *   plio_encode NUMBERS                                                ->  answer BYTES
+ *   plio_encode NUMBERS [room]                                         ->  answer BYTES
+ *   first_mark codec block bytepix bitpix BYTES                        ->  answer bit last
+ *   decode_part codec block bytepix bitpix BYTES bit last count        ->  answer bit last NUMBERS
  *   parts codec block bytepix bitpix BYTES count step                  ->  answer NUMBERS   (step numbers at a time)
  *   sum before BYTES                                                   ->  answer sum
+ *   version                                                            ->  version
+ *
+ * Without a room, out has FZ_TILE_ROOM. After another answer than 0 the program ends with a failure if *coded, *used, *mark or *sum is
+ * not as it was, and after plio_encode if bytes of out are not that the call leaves as they are.
  */
 #include "fz.h"
 #include "guarded.h"
-
-#include <inttypes.h>
-
-static char *line; /* what is left of it */
-
-static char *word(void) {
-    char *found = strsep(&line, " \n");
-    must(found != NULL && *found != 0, "a line is too short");
-    return found;
-}
-
-static long long number(void) { return strtoll(word(), NULL, 10); }
-
-/* The bytes that the line has here. */
-static uint8_t *bytes(size_t *len) {
-    char *digits = word();
-    size_t i;
-    uint8_t *made;
-    *len = *digits == '-' ? 0 : strlen(digits) / 2;
-    made = malloc(*len + 1);
-    for (i = 0; i < *len; i++) {
-        unsigned value;
-        must(sscanf(digits + 2 * i, "%2x", &value) == 1, "no hexadecimal digits");
-        made[i] = (uint8_t)value;
-    }
-    return made;
-}
-
-/* The numbers that the line has here. */
-static int32_t *numbers(size_t *count) {
-    size_t i;
-    int32_t *made;
-    *count = (size_t)number();
-    made = malloc(4 * *count + 4);
-    for (i = 0; i < *count; i++) made[i] = (int32_t)number();
-    return made;
-}
-
-static void print_bytes(const uint8_t *data, size_t len) {
-    size_t i;
-    putchar(' ');
-    if (len == 0) putchar('-');
-    for (i = 0; i < len; i++) printf("%02x", data[i]);
-}
-
-static void print_numbers(const int32_t *data, size_t count) {
-    size_t i;
-    printf(" %zu", count);
-    for (i = 0; i < count; i++) printf(" %" PRId32, data[i]);
-}
+#include "words.h"
 
 /* A call: what goes in and what comes out of it, in guarded places. */
 struct call {
@@ -78,8 +35,21 @@ static struct call call_new(const void *in, size_t in_size, size_t out_size, siz
     guarded_lock(it.in_pages, 1);
     it.out = guarded_place(it.out_pages, out_size, at_front);
     it.small = guarded_place(it.small_pages, small_size, at_front);
-    memset(it.small, 0, small_size);
     return it;
+}
+
+/* So many bytes are as guarded_place left them. */
+static int is_as_it_was(const void *place, size_t size) {
+    const unsigned char *at = place;
+    size_t i;
+    for (i = 0; i < size; i++)
+        if (at[i] != 0xA5) return 0;
+    return 1;
+}
+
+/* The end of a call that writes one value after 0 only. */
+static void answered(struct call it, int32_t answer) {
+    must(answer == 0 || is_as_it_was(it.small, it.small_size), "a result was written, and the answer is not 0");
 }
 
 static void call_end(struct call it) {
@@ -114,10 +84,11 @@ static void encode_tile(int at_front, int is_shown) {
     int32_t *list = numbers(&count);
     struct call it;
     struct fz_coded *coded;
-    room = FZ_TILE_ROOM(bitpix == 64 ? count / 2 : count);
+    room = room_or(FZ_TILE_ROOM(bitpix == 64 ? count / 2 : count));
     it = call_new(list, 4 * count, room, sizeof *coded, at_front);
     coded = it.small;
     answer = fz_encode_tile(codec, block, bytepix, bitpix, it.in, count, it.out, room, coded);
+    answered(it, answer);
     if (is_shown) printf("%" PRId32, answer);
     if (is_shown && answer == 0) {
         printf(" %" PRIu32, coded->column);
@@ -136,6 +107,7 @@ static void rice_decode(int at_front, int is_shown) {
     count = number();
     it = call_new(code, len, 4 * count, sizeof(uint64_t), at_front);
     answer = fz_rice_decode(width, block, it.in, len, it.out, count, it.small);
+    answered(it, answer);
     if (is_shown) printf("%" PRId32, answer);
     if (is_shown && answer == 0) {
         printf(" %" PRIu64, *(uint64_t *)it.small);
@@ -161,16 +133,66 @@ static void plio_decode(int at_front, int is_shown) {
 
 /* rice_encode, and plio_encode if width is 0. */
 static void encode(int at_front, int is_shown, uint32_t width, uint32_t block) {
-    size_t count, room;
+    size_t count, room, used;
     int32_t *list = numbers(&count), answer;
     struct call it;
-    room = FZ_TILE_ROOM(count);
+    room = room_or(FZ_TILE_ROOM(count));
     it = call_new(list, 4 * count, room, sizeof(uint64_t), at_front);
     answer = width ? fz_rice_encode(width, block, it.in, count, it.out, room, it.small) : fz_plio_encode(it.in, count, it.out, room, it.small);
+    answered(it, answer);
+    used = answer == 0 ? *(uint64_t *)it.small : answer == FZ_NO_ROOM ? room : 0;
+    must(used <= room, "more bytes are used than there are");
+    must(width || is_as_it_was((uint8_t *)it.out + used, room - used), "bytes after the list were written");
     if (is_shown) printf("%" PRId32, answer);
-    if (is_shown && answer == 0) print_bytes(it.out, *(uint64_t *)it.small);
+    if (is_shown && answer == 0) print_bytes(it.out, used);
     call_end(it);
     free(list);
+}
+
+static void print_mark(const struct fz_mark *mark) { printf(" %" PRIu64 " %" PRIu32, mark->bit, mark->last); }
+
+static void first_mark(int at_front, int is_shown) {
+    uint32_t codec = number(), block = number(), bytepix = number();
+    int32_t bitpix = number(), answer;
+    size_t len;
+    uint8_t *code = bytes(&len);
+    struct call it = call_new(code, len, 0, sizeof(struct fz_mark), at_front);
+    answer = fz_first_mark(codec, block, bytepix, bitpix, it.in, len, it.small);
+    answered(it, answer);
+    if (is_shown) printf("%" PRId32, answer);
+    if (is_shown && answer == 0) print_mark(it.small);
+    call_end(it);
+    free(code);
+}
+
+/* fz_decode_part, after which the mark must be as it was if the answer is not 0. */
+static int32_t part(uint32_t codec, uint32_t block, uint32_t bytepix, int32_t bitpix, struct call it, size_t at, size_t count) {
+    struct fz_mark *mark = it.small, before = *mark;
+    int32_t answer = fz_decode_part(codec, block, bytepix, bitpix, it.in, it.in_size, mark, (int32_t *)it.out + at, count);
+    must(answer == 0 || (mark->bit == before.bit && mark->last == before.last), "the mark was moved, and the answer is not 0");
+    return answer;
+}
+
+static void decode_part(int at_front, int is_shown) {
+    uint32_t codec = number(), block = number(), bytepix = number();
+    int32_t bitpix = number(), answer;
+    size_t len, count;
+    uint8_t *code = bytes(&len);
+    struct fz_mark mark;
+    struct call it;
+    mark.bit = number();
+    mark.last = number();
+    count = number();
+    it = call_new(code, len, 4 * count, sizeof mark, at_front);
+    *(struct fz_mark *)it.small = mark;
+    answer = part(codec, block, bytepix, bitpix, it, 0, count);
+    if (is_shown) printf("%" PRId32, answer);
+    if (is_shown && answer == 0) {
+        print_mark(it.small);
+        print_numbers(it.out, count);
+    }
+    call_end(it);
+    free(code);
 }
 
 static void parts(int at_front, int is_shown) {
@@ -185,7 +207,7 @@ static void parts(int at_front, int is_shown) {
     answer = fz_first_mark(codec, block, bytepix, bitpix, it.in, len, it.small);
     while (answer == 0 && at < count) {
         size_t next = count - at < step ? count - at : step;
-        answer = fz_decode_part(codec, block, bytepix, bitpix, it.in, len, it.small, (int32_t *)it.out + at, next);
+        answer = part(codec, block, bytepix, bitpix, it, at, next);
         at += next;
     }
     if (is_shown) printf("%" PRId32, answer);
@@ -200,9 +222,15 @@ static void sum(int at_front, int is_shown) {
     uint8_t *data = bytes(&len);
     struct call it = call_new(data, len, 0, sizeof(uint32_t), at_front);
     int32_t answer = fz_sum(before, it.in, len, it.small);
-    if (is_shown) printf("%" PRId32 " %" PRIu32, answer, *(uint32_t *)it.small);
+    answered(it, answer);
+    if (is_shown) printf("%" PRId32, answer);
+    if (is_shown && answer == 0) printf(" %" PRIu32, *(uint32_t *)it.small);
     call_end(it);
     free(data);
+}
+
+static void version(int is_shown) {
+    if (is_shown) printf("%" PRIu32, fz_version());
 }
 
 static void make_call(const char *name, int at_front, int is_shown) {
@@ -211,8 +239,11 @@ static void make_call(const char *name, int at_front, int is_shown) {
     else if (!strcmp(name, "rice_decode")) rice_decode(at_front, is_shown);
     else if (!strcmp(name, "plio_decode")) plio_decode(at_front, is_shown);
     else if (!strcmp(name, "plio_encode")) encode(at_front, is_shown, 0, 0);
+    else if (!strcmp(name, "first_mark")) first_mark(at_front, is_shown);
+    else if (!strcmp(name, "decode_part")) decode_part(at_front, is_shown);
     else if (!strcmp(name, "parts")) parts(at_front, is_shown);
     else if (!strcmp(name, "sum")) sum(at_front, is_shown);
+    else if (!strcmp(name, "version")) version(is_shown);
     else if (!strcmp(name, "rice_encode")) {
         uint32_t width = number(), block = number();
         encode(at_front, is_shown, width, block);

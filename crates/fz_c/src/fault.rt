@@ -6,7 +6,7 @@ ghost use Rattle.fz_c.specs.declared.fault.Fault.TheVariants.{Refused};
 use fz_tile::TileFault;
 
 /// Why a call gives nothing.
-#[derive(Clone, Copy, Debug, PartialEq, Eq)]
+#[derive(Clone, Copy)]
 pub enum Fault {
     /// The bytes are no record, or no code, of so many numbers.
     Refused(TileFault),

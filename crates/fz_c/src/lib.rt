@@ -17,8 +17,6 @@ mod plio;
 mod range;
 mod rice;
 mod sum;
-#[cfg(test)]
-mod tests;
 mod tile;
 mod version;
 

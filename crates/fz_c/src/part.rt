@@ -9,7 +9,7 @@ use fz_tile::{Mark, decode_part, first_part_mark};
 
 /// Where the Rice code of a tile is read on.
 #[repr(C)]
-#[derive(Clone, Copy, Debug, PartialEq, Eq)]
+#[derive(Clone, Copy)]
 pub struct FzMark {
     /// The number of bits before it.
     pub bit: u64,

@@ -10,7 +10,7 @@ use fz_tile::{Coded, Place2, decode_tile, encode_tile};
 
 /// What was written for a tile.
 #[repr(C)]
-#[derive(Clone, Copy, Debug, PartialEq, Eq)]
+#[derive(Clone, Copy)]
 pub struct FzCoded {
     /// The column that the bytes belong to: 0 COMPRESSED_DATA, 1 UNCOMPRESSED_DATA.
     pub column: u32,
