@@ -27,7 +27,7 @@ pub mod NewTile
 pub mod OtherRows
 pub mod Room
 pub mod RowCodes
-pub mod Settled
+pub mod SettledSteps
 pub mod Slices
 pub mod Stays
 pub mod StepExits

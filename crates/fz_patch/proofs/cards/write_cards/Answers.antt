@@ -16,7 +16,7 @@ use Rattle.fz_patch.proofs.CodedEnds.{ends_of}
 use Rattle.fz_patch.proofs.CodedRefusals.{some_same, wrote_same}
 use Rattle.fz_patch.proofs.EndsJoined.{settled_writes}
 use Rattle.fz_patch.proofs.Wrotes.{wrote-all}
-use Rattle.fz_patch.proofs.Settled.{all_settled}
+use Rattle.fz_patch.proofs.SettledSteps.{all_settled}
 use Rattle.fz_patch.proofs.cards.write_cards.Goals as goal
 
 pub overflow_add-heap : goal.overflow_add-heap

@@ -25,7 +25,7 @@ use Rattle.fz_patch.proofs.EndsTold.{told-is, told-then, told-written, told-amen
 use Rattle.fz_patch.proofs.TilesLeft.{all_taken, given_boxes, given_tiles, later_boxes, next_box}
 use Rattle.fz_patch.proofs.Wrotes.{wrote-all}
 use Rattle.fz_patch.proofs.Errors.{never_ok}
-use Rattle.fz_patch.proofs.Settled.{all_settled}
+use Rattle.fz_patch.proofs.SettledSteps.{all_settled}
 use Rattle.fz_patch.proofs.codes.write_codes.Goals as goal
 
 pub loop-tile-init : goal.loop-tile-init

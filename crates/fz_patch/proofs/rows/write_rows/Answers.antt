@@ -34,7 +34,7 @@ use Rattle.fz_patch.proofs.EndsTold.{told-is, told-then, told-written, told-amen
 use Rattle.fz_patch.proofs.RowCodes.{RowsState, rows_begin, rows_failed, rows_go_on, rows_stop}
 use Rattle.fz_patch.proofs.TilesLeft.{all_taken, given_boxes, given_tiles, later_boxes, next_box}
 use Rattle.fz_patch.proofs.Errors.{never_ok}
-use Rattle.fz_patch.proofs.Settled.{all_settled}
+use Rattle.fz_patch.proofs.SettledSteps.{all_settled}
 use Rattle.fz_patch.proofs.rows.write_rows.Goals as goal
 
 pub loop-tile-init : goal.loop-tile-init

@@ -40,7 +40,7 @@ use Rattle.fz_patch.proofs.NewTile.{room_still}
 use Rattle.fz_patch.proofs.Amended.{at-least, kept-read, kept-same, kept-then, reach-is, reach-then, read-amends, same-counts, same-is, same-then}
 use Rattle.fz_patch.proofs.EndsJoined.{amend_patches, amends_unrefused, is_refused_as, none_refused, reach_table, read_writes, refused_as, refused_weaker, start_reach, tile_patches, told_long}
 use Rattle.fz_patch.proofs.EndsTold.{both_of, some_of, told-if, told-is, told-some, told-then}
-use Rattle.fz_patch.proofs.Settled.{amid_first, amid_later, joined, ok_both}
+use Rattle.fz_patch.proofs.SettledSteps.{amid_first, amid_later, joined, ok_both}
 use Rattle.fz_patch.proofs.StepExits.{fault_told, if_some_map, late_tile, never_faulty, patches_then, refused_tile, some_from, stands_at, wrote_from}
 use Rattle.fz_patch.proofs.StepHeaders.{StepLaws, all_there, grown_said, grown_says, pcount_place}
 use Rattle.fz_patch.proofs.StepPatch.{Ready, all_is, are, cards_are, es, for_jobs, bytes_are, heap_is, measure_is, numbers, olds, ready_of, rows_are, some_1, some_2, some_3, some_4, steps, still_numbers, stops, sums_are, wrote_4}

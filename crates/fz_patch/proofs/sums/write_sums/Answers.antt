@@ -19,7 +19,7 @@ use Rattle.fz_patch.proofs.EndsTold.{if_some, some_of}
 use Rattle.fz_patch.proofs.SumCards.{both_none, data_between, header_long, no_sums, sums_back, sums_front, sums_wrote}
 use Rattle.fz_patch.proofs.Summed.{data_sum}
 use Rattle.fz_patch.proofs.Wrotes.{wrote-all, wrote-none, wrote-nothing}
-use Rattle.fz_patch.proofs.Settled.{all_settled}
+use Rattle.fz_patch.proofs.SettledSteps.{all_settled}
 use Rattle.fz_patch.proofs.sums.write_sums.Goals as goal
 
 pub returns-then-are_none-clause-wrote : goal.returns-then-are_none-clause-wrote
