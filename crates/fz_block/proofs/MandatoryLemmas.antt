@@ -14,6 +14,10 @@ after_extension : (k : ℕ) (header : List ℕ) → first_refusal (extension_che
     first_refusal (mandatory_checks k header) ≡ first_refusal (bitpix_check k header ∷ naxis_checks k header ++ (flat_map (axis_checks k header) (range_with_len 1 (size_at header 2)) ++ count_checks k header))
 after_extension k header none = passed (extension_checks k header) _ none
 
+pub in_extension : (k : ℕ) (header : List ℕ) (x : Fault) → first_refusal (extension_checks k header) ≡ Some x → first_refusal (mandatory_checks k header) ≡ Some x
+in_extension k header x some =
+    stopped (extension_checks k header) (bitpix_check k header ∷ naxis_checks k header ++ (flat_map (axis_checks k header) (range_with_len 1 (size_at header 2)) ++ count_checks k header)) x some
+
 pub in_bitpix : (k : ℕ) (header : List ℕ) (x : Fault) → first_refusal (extension_checks k header) ≡ None → first_refusal (bitpix_check k header ∷ []) ≡ Some x → first_refusal (mandatory_checks k header) ≡ Some x
 in_bitpix k header x one some = after_extension k header one ∙ stopped (bitpix_check k header ∷ []) (naxis_checks k header ++ (flat_map (axis_checks k header) (range_with_len 1 (size_at header 2)) ++ count_checks k header)) x some
 

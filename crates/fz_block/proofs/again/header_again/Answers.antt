@@ -1,7 +1,7 @@
 -- The header is that of the file, where the source tells its bytes, and a refusal names the HDU.
-use Rattle.std.proofs.Common.{◌≡◌, ℕ, ◌*◌, ◌≤◌, ◌<◌, List, Option, Result, Ok, Err, sym, subst, rules, length, take, IfSome}
+use Rattle.std.proofs.Common.{◌≡◌, ℕ, ◌*◌, ◌≤◌, ◌<◌, List, Option, Result, Ok, Err, refl, sym, subst, rules, length, take, IfSome}
 use Rattle.fz_base.specs.Source.{HoldsLength}
-use Rattle.fz_base.specs.Stop.{IsDefined, IfRefused}
+use Rattle.fz_base.specs.Stop.{IsDefined, IfRefused, ReadsOnly}
 use Rattle.fz_base.specs.declared.fault.Fault.{Fault}
 use Rattle.fz_base.specs.declared.failure.Stop.{Stop}
 use Rattle.fz_base.specs.declared.failure.Stop.TheVariants.{Refused}
@@ -66,3 +66,60 @@ returns-in-Ok-clause-facts g c =
     let buf : List ℕ = c.header_blocks.new.buf in
     let fits : 2880 * c.in_ok-blocks.blocks ≤ length buf = search rules in
     kept_facts c.in_ok-blocks.blocks c.args.hdu c.args.start buf c.in-Ok.header fits c.in-Ok.ensures.facts
+
+pub returns-in_err-blocks-clause-log : goal.returns-in_err-blocks-clause-log
+returns-in_err-blocks-clause-log g c = c.in_err-blocks.ensures.log
+
+pub returns-in_err-blocks-clause-touched : goal.returns-in_err-blocks-clause-touched
+returns-in_err-blocks-clause-touched g c = c.in_err-blocks.ensures.touched
+
+pub returns-in_err-blocks-clause-source : goal.returns-in_err-blocks-clause-source
+returns-in_err-blocks-clause-source g c = c.in_err-blocks.ensures.source
+
+pub returns-in_err-blocks-clause-cause : goal.returns-in_err-blocks-clause-cause
+returns-in_err-blocks-clause-cause g c =
+    let stopped : c.from_residual.result ≡ Err c.in_err-blocks.field-0.0 = search rules in
+    subst (λ (r : Result Header Stop). ReadsOnly (g.S.Source.tally c.args.source.now) (g.S.Source.tally c.header_blocks.new.source) r) (sym stopped)
+    (record { kept = c.in_err-blocks.ensures.cause.kept; ok = tt; stop = c.in_err-blocks.ensures.cause.stop })
+
+pub returns-then-size-buf-clause-refused : goal.returns-then-size-buf-clause-refused
+returns-then-size-buf-clause-refused g c = subst (λ (x : Fault). x.hdu ≡ c.args.hdu) (sym c.refused.ensures) refl
+
+pub returns-then-size-buf-clause-log : goal.returns-then-size-buf-clause-log
+returns-then-size-buf-clause-log g c = c.in_ok-blocks.ensures.log
+
+pub returns-then-size-buf-clause-touched : goal.returns-then-size-buf-clause-touched
+returns-then-size-buf-clause-touched g c = c.in_ok-blocks.ensures.touched
+
+pub returns-then-size-buf-clause-source : goal.returns-then-size-buf-clause-source
+returns-then-size-buf-clause-source g c = c.in_ok-blocks.ensures.source
+
+pub returns-then-size-buf-clause-cause : goal.returns-then-size-buf-clause-cause
+returns-then-size-buf-clause-cause g c = record { kept = c.in_ok-blocks.ensures.cause.kept; ok = tt; stop = c.in_ok-blocks.ensures.cause.ok }
+
+pub returns-in-Ok-clause-within : goal.returns-in-Ok-clause-within
+returns-in-Ok-clause-within g c = c.in-Ok.ensures.within
+
+pub returns-in-Ok-clause-log : goal.returns-in-Ok-clause-log
+returns-in-Ok-clause-log g c = c.in_ok-blocks.ensures.log
+
+pub returns-in-Ok-clause-touched : goal.returns-in-Ok-clause-touched
+returns-in-Ok-clause-touched g c = c.in_ok-blocks.ensures.touched
+
+pub returns-in-Ok-clause-source : goal.returns-in-Ok-clause-source
+returns-in-Ok-clause-source g c = c.in_ok-blocks.ensures.source
+
+pub returns-in-Ok-clause-cause : goal.returns-in-Ok-clause-cause
+returns-in-Ok-clause-cause g c = record { kept = c.in_ok-blocks.ensures.cause.kept; ok = c.in_ok-blocks.ensures.cause.ok; stop = tt }
+
+pub returns-in-Err-clause-log : goal.returns-in-Err-clause-log
+returns-in-Err-clause-log g c = c.in_ok-blocks.ensures.log
+
+pub returns-in-Err-clause-touched : goal.returns-in-Err-clause-touched
+returns-in-Err-clause-touched g c = c.in_ok-blocks.ensures.touched
+
+pub returns-in-Err-clause-source : goal.returns-in-Err-clause-source
+returns-in-Err-clause-source g c = c.in_ok-blocks.ensures.source
+
+pub returns-in-Err-clause-cause : goal.returns-in-Err-clause-cause
+returns-in-Err-clause-cause g c = record { kept = c.in_ok-blocks.ensures.cause.kept; ok = tt; stop = c.in_ok-blocks.ensures.cause.ok }
