@@ -104,3 +104,42 @@ returns-clause-numbers g c =
     let read : List Bool → Reading ℕ = split_at w 0 in
     let whole = many_at read (length c.args.numbers.now) (left c.args.reader.now) in
     halfway_all w c.args.start whole read (length c.loop-i.numbers - c.loop-i.i) c.loop-i.i (left c.loop-i.ahead) c.loop-i.numbers c.loop-i.last c.loop-i.invariant.half (omega arith) (omega arith)
+
+pub take_four-requires-clause-tail : goal.take_four-requires-clause-tail
+take_four-requires-clause-tail g c = c.of-shape.ensures.tail
+
+pub take_four-requires-clause-most : goal.take_four-requires-clause-most
+take_four-requires-clause-most g c = c.of-shape.ensures.most
+
+pub put_four-last-requires-clause-start : goal.put_four-last-requires-clause-start
+put_four-last-requires-clause-start g c = c.loop-i.invariant.below
+
+pub put_four-last-requires-clause-a : goal.put_four-last-requires-clause-a
+put_four-last-requires-clause-a g c = c.in-Some.ensures.a
+
+pub put_four-last-requires-clause-b : goal.put_four-last-requires-clause-b
+put_four-last-requires-clause-b g c = c.in-Some.ensures.b
+
+pub put_four-last-requires-clause-c : goal.put_four-last-requires-clause-c
+put_four-last-requires-clause-c g c = c.in-Some.ensures.c
+
+pub put_four-last-requires-clause-d : goal.put_four-last-requires-clause-d
+put_four-last-requires-clause-d g c = c.in-Some.ensures.d
+
+pub next_residue-last-requires-clause-last : goal.next_residue-last-requires-clause-last
+next_residue-last-requires-clause-last g c = c.loop-i.invariant.below
+
+pub next_residue-last-requires-clause-value : goal.next_residue-last-requires-clause-value
+next_residue-last-requires-clause-value g c = c.in_ok-value.ensures.fits
+
+pub number-requires-clause-fits : goal.number-requires-clause-fits
+number-requires-clause-fits g c =
+    subst (λ (u : ℕ). u < 2 ^ g.row.W) (sym c.next_residue-last.ensures) (next_lt g.row.W c.loop-i.last c.in_ok-value.value)
+
+pub returns-in_err-value-clause-count : goal.returns-in_err-value-clause-count
+returns-in_err-value-clause-count g c =
+    let p = err_from_is_err_and c.from_residual.result c.from_residual.ensures.1 in
+    rw p.1 tt
+
+pub returns-clause-count : goal.returns-clause-count
+returns-clause-count g c = c.loop-i.invariant.count

@@ -1,4 +1,4 @@
-use Rattle.std.proofs.Common.{◌≡◌, ℕ, Bool, pos, List, get_or, length, subst, ap, ◌∙◌, arith, rules}
+use Rattle.std.proofs.Common.{◌≡◌, ℕ, Bool, pos, List, get_or, length, subst, ap, ◌∙◌, arith, rules, ◌^◌, ◌<◌, ℤ, sym}
 use Rattle.std.specs.List.{flat_map}
 use Rattle.std.specs.Int.{w32}
 use Rattle.std.specs.Prelude.{FitsSigned}
@@ -8,6 +8,7 @@ use Rattle.fz_rice.specs.Numbers.{residue}
 use Rattle.fz_rice.specs.Code.{differences, split_bits}
 use Rattle.fz_rice.specs.Writing.{Writes}
 use Rattle.fz_rice.proofs.WritesLemmas.{four_bits}
+use Rattle.fz_rice.proofs.NumbersLemmas.{residue_lt}
 use Rattle.fz_rice.proofs.encode.write_few.Goals as goal
 
 pub returns-in-Some : goal.returns-in-Some
@@ -32,3 +33,31 @@ returns-in-Some g c =
     let len : length xs ≡ 4 = omega (arith, c.in-len4.len_at_least, c.in-len4.len_below) in
     let is : number_bits four.width four.bits ≡ flat_map f (differences w start xs) = c.in-Some.ensures ∙ four_bits f w start xs c.residue-a.result c.residue-b.result c.residue-c.result c.residue-d.result c.mapped.result c.mapped-in-len4.result c.mapped-in-len4-2.result c.mapped-in-len4-3.result len a b d e c.mapped.ensures c.mapped-in-len4.ensures c.mapped-in-len4-2.ensures c.mapped-in-len4-3.ensures in
     subst (λ (x : List Bool). Writes c.write.result x c.args.writer.now c.write.new.writer) is c.write.ensures
+
+-- a residue is below the modulus
+below : (w u : ℕ) (x : ℤ) → u ≡ residue w x → u < 2 ^ w
+below w u x is = subst (λ (k : ℕ). k < 2 ^ w) (sym is) (residue_lt w x)
+
+pub mapped-requires-clause-last : goal.mapped-requires-clause-last
+mapped-requires-clause-last g c = c.requires.start
+
+pub mapped-requires-clause-next : goal.mapped-requires-clause-next
+mapped-requires-clause-next g c = below _ _ _ c.residue-a.ensures
+
+pub mapped-requires-in-len4-clause-last : goal.mapped-requires-in-len4-clause-last
+mapped-requires-in-len4-clause-last g c = below _ _ _ c.residue-a.ensures
+
+pub mapped-requires-in-len4-clause-next : goal.mapped-requires-in-len4-clause-next
+mapped-requires-in-len4-clause-next g c = below _ _ _ c.residue-b.ensures
+
+pub mapped-requires-in-len4-2-clause-last : goal.mapped-requires-in-len4-2-clause-last
+mapped-requires-in-len4-2-clause-last g c = below _ _ _ c.residue-b.ensures
+
+pub mapped-requires-in-len4-2-clause-next : goal.mapped-requires-in-len4-2-clause-next
+mapped-requires-in-len4-2-clause-next g c = below _ _ _ c.residue-c.ensures
+
+pub mapped-requires-in-len4-3-clause-last : goal.mapped-requires-in-len4-3-clause-last
+mapped-requires-in-len4-3-clause-last g c = below _ _ _ c.residue-c.ensures
+
+pub mapped-requires-in-len4-3-clause-next : goal.mapped-requires-in-len4-3-clause-next
+mapped-requires-in-len4-3-clause-next g c = below _ _ _ c.residue-d.ensures
