@@ -1,14 +1,14 @@
 -- Pixels and their bytes, one after another.
-use Rattle.std.proofs.Common.{◌≡◌, ℕ, zero, suc, ◌+◌, ◌*◌, ◌/◌, ◌<◌, ◌≤◌, ℤ, pos, List, [], ◌∷◌, ◌++◌, length, get_or, map, take, drop, inl, inr, refl, sym, subst, ap, ◌∙◌, arith, length-append, length-drop, add-one, set, FitsSigned, to_z, of_z}
-use Rattle.std.specs.Int.{w32}
+use Rattle.std.proofs.Common.{◌≡◌, ℕ, zero, suc, ◌+◌, ◌*◌, ◌/◌, ◌<◌, ◌≤◌, ℤ, pos, negsuc, List, [], ◌∷◌, ◌++◌, length, get_or, map, take, drop, inl, inr, refl, sym, subst, ap, ◌∙◌, arith, length-append, length-drop, add-one, set, FitsSigned, to_z, of_z}
+use Rattle.std.specs.Int.{w16, w32}
 use Rattle.std.proofs.lemmas.Int.{to_z-of_z}
 use Rattle.std.proofs.lemmas.Grind.{common_steps}
 use Rattle.std.specs.List.{flat_map, range_with_len, All, AllByRecursion}
-use Rattle.std.proofs.lemmas.List.{get_or-take, get_or-drop, drop-drop, length-take-le, take-append-drop, take-append-le, drop-append-le, take_all, drop_all, get_or_past, length-take}
+use Rattle.std.proofs.lemmas.List.{get_or-set_other, get_or-set_same, get_or-take, get_or-drop, drop-drop, length-take-le, take-append-drop, take-append-le, drop-append-le, take_all, drop_all, get_or_past, length-take}
 use Rattle.std.proofs.Math.Nat.{mul-suc, mul-zero}
 use Rattle.std.proofs.lemmas.List.FromFn.{length-map-range_with_len}
 use Rattle.std.proofs.lemmas.List.Elements.{All-from_recursion, recursion_from_All}
-use Rattle.std.proofs.lemmas.Bool.{cases_lt}
+use Rattle.std.proofs.lemmas.Bool.{cases_eq, cases_lt}
 use Rattle.fz_bits.specs.Numbers.{IsNumber}
 use Rattle.fz_tile.specs.Plain.{pixel_bytes, pixel_of, plain_bytes, stored_pixels}
 use Rattle.fz_tile.specs.Pixels.{upper_half, lower_half, halves}
@@ -103,6 +103,25 @@ length-halves (x ∷ xs) = omega (arith, length-halves xs)
 pub word_step : (numbers : List ℤ) (i : ℕ) (x : ℤ) (pixel : ℕ → ℤ) → FitsSigned w32 x → i < length numbers → ((k : ℕ) → k < i → get_or numbers k (pos 0) ≡ pixel k) → x ≡ pixel i →
     (k : ℕ) → k < i + 1 → get_or (set numbers i (to_z w32 (of_z w32 x))) k (pos 0) ≡ pixel k
 word_step numbers i x pixel fits within before here k h = rw to_z-of_z (grind (arith, common_steps))
+
+-- a number of 16 bits has room in 32
+pub wider : (x : ℤ) → FitsSigned w16 x → FitsSigned w32 x
+wider (pos n) h = record { sfits = omega (arith, h.sfits) }
+wider (negsuc n) h = record { sfits = omega (arith, h.sfits) }
+
+-- one more number of 16 bits was read
+pub short_step : (numbers : List ℤ) (i : ℕ) (x : ℤ) → FitsSigned w16 x → i < length numbers → ((k : ℕ) (d : ℤ) → k < i → FitsSigned w16 (get_or numbers k d)) →
+    (k : ℕ) (d : ℤ) → k < i + 1 → FitsSigned w16 (get_or (set numbers i (to_z w32 (of_z w32 x))) k d)
+short_step numbers i x fits within before k d h = elim (cases_eq k i) [
+  | inl e ↦ subst (λ (y : ℤ). FitsSigned w16 y) (sym (ap (λ m. get_or (set numbers i (to_z w32 (of_z w32 x))) m d) e ∙ get_or-set_same numbers i (to_z w32 (of_z w32 x)) d within ∙ to_z-of_z w32 x (wider x fits))) fits
+  | inr other ↦ subst (λ (y : ℤ). FitsSigned w16 y) (sym (get_or-set_other numbers i k (to_z w32 (of_z w32 x)) d other)) (before k d (omega (arith, h, other)))
+]
+
+-- a byte is the pixel that it stores
+pub byte_is : (bs : List ℕ) (i : ℕ) → pos (get_or bs i 0) ≡ pixel_of 8 (take 1 (drop (1 * i) bs))
+byte_is bs i =
+    let same : 1 * i + 0 ≡ i = omega arith in
+    sym (ap pos (get_or-take 1 (drop (1 * i) bs) 0 0 (omega arith) ∙ get_or-drop (1 * i) bs 0 0 ∙ ap (λ m. get_or bs m 0) same))
 
 pub length-stored : (b n : ℕ) (bs : List ℕ) → length (stored_pixels b n bs) ≡ n
 length-stored b n bs = length-map-range_with_len _ 0 n
