@@ -16,6 +16,8 @@ ANOTHER = ": move it away, and fzbatch pack makes a new one from the plain files
 SUPER = bytes.fromhex("d9d505f920a163d7")
 # SQLite reads these beside a database, whatever they are.
 BESIDE = (b"-journal", b"-wal", b"-shm")
+# What the name of the second copy has after that of the manifest.
+COPY = b".copy"
 
 
 class BadManifest(Exception):
@@ -73,6 +75,8 @@ def _check(path: bytes, writes: bool) -> None:
         inside.is_own(path)
         with open(path, "rb") as it:
             head = it.read(100)
+        if not head and files.there(path + COPY):
+            raise BadManifest(f"the manifest {names.shown(path)} is empty, and its second copy is there: a full disk or a loss of power may have emptied it. Move it away, and start this again, which says what the copy is good for")
         if len(head) >= 20 and head[:16] == b"SQLite format 3\0" and head[18:20] != b"\1\1":
             raise BadManifest(f"the manifest {names.shown(path)} has a form that fzbatch does not write (a log beside it){ANOTHER}")
     for it in BESIDE:

@@ -124,6 +124,7 @@ class States(Adopted):
             "the folder is empty": empty_folder,
             "a row of the manifest is gone or changed": row("DELETE FROM files WHERE name = CAST('small.fits' AS BLOB)"),
             "the manifest is damaged": damaged,
+            "the manifest is empty": lambda: self.manifest.write_bytes(b"") and None,
             "the manifest is lost": lambda: lost(False),
             "the manifest and its second copy are lost": lambda: lost(True),
             "a run was killed while it wrote the manifest": killed,

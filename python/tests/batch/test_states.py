@@ -144,6 +144,7 @@ class States(Archive):
             "a run was killed while it wrote the manifest": journal,
             "tasks of a Slurm array wait": tasks,
             "the lock is a link": lock_is_a_link,
+            "the manifest is empty": lambda: (packed / "fzbatch.sqlite").write_bytes(b""),
         }[name]
 
     def statuses(self, name: str) -> "tuple[int, ...]":

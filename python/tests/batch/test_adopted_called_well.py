@@ -1,0 +1,54 @@
+"""Adopted folders that are not well, and that a command once called well. Each class is one find."""
+from __future__ import annotations
+
+import dataclasses
+import os
+import shutil
+import subprocess
+import sys
+import time
+import unittest
+from pathlib import Path
+from unittest import mock
+
+sys.path[:0] = [str(Path(__file__).resolve().parents[1])]
+
+from batch.test_adopted import FZ, SAMPLES, Adopted  # noqa: E402
+from batch.test_finds import flip  # noqa: E402
+from batch.two_files import image  # noqa: E402
+from fzfits.batch.adopt import calling  # noqa: E402
+
+
+class Whole(Adopted):
+    """An adopted folder of three files that are well."""
+
+    def setUp(self) -> None:
+        super().setUp()
+        self.whole()
+
+    def run_it(self, *words: object) -> "tuple[int, str]":
+        more = ["--fz", FZ] if words[0] in ("pack", "restore", "retile") else []
+        return super().run_it(*words, *more)
+
+    def named(self, wanted: str, *words: object, status: int = 1) -> None:
+        found, said = self.run_it(*words)
+        self.assertEqual((found, wanted in said), (status, True), f"{words}: {said}")
+
+
+class EmptyManifest(Whole):
+    """A manifest of no bytes is not begun anew beside its second copy: rot would be taken for what was adopted."""
+
+    def test_it_is_damaged(self) -> None:
+        flip(self.night / "small.fits")
+        copy = Path(f"{self.manifest}.copy").read_bytes()
+        self.manifest.write_bytes(b"")
+        for words in (("adopt", self.night), ("pack", "--beside", self.night), ("verify", self.night)):
+            self.assertEqual(self.run_it(*words)[0], 2, words)
+        self.named("is empty", "adopt", self.night, status=2)
+        self.assertEqual(Path(f"{self.manifest}.copy").read_bytes(), copy)
+        shutil.copy(f"{self.manifest}.copy", self.manifest)
+        self.named("small.fits", "verify", self.night)
+
+
+if __name__ == "__main__":
+    unittest.main()

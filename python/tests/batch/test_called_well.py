@@ -1,0 +1,39 @@
+"""Archives that are not well, and that a command once called well. Each class is one find."""
+from __future__ import annotations
+
+import hashlib
+import os
+import shutil
+import sys
+import unittest
+from pathlib import Path
+
+sys.path[:0] = [str(Path(__file__).resolve().parents[1])]
+
+from batch.test_finds import flip  # noqa: E402
+from batch.two_files import Archive, image, zipped  # noqa: E402
+
+
+class EmptyManifest(Archive):
+    """A manifest of no bytes, as a full disk or a loss of power leaves it, is not begun anew beside its second copy."""
+
+    def test_it_is_damaged(self) -> None:
+        self.packs()
+        copy = (self.packed / "fzbatch.sqlite.copy").read_bytes()
+        (self.plain / "a.fits").unlink()
+        (self.packed / "a.fits.fz").unlink()
+        (self.packed / "fzbatch.sqlite").write_bytes(b"")
+        status, said = self.run_it("pack", self.plain)
+        self.assertEqual((status, "is empty" in said), (2, True), said)
+        self.assertEqual((self.packed / "fzbatch.sqlite.copy").read_bytes(), copy)
+        self.named("a.fits", "rebuild", self.packed)
+        self.looks("a.fits")
+
+    def test_one_of_a_first_run_that_was_killed_is_none(self) -> None:
+        self.packed.mkdir()
+        (self.packed / "fzbatch.sqlite").write_bytes(b"")
+        self.packs()
+
+
+if __name__ == "__main__":
+    unittest.main()
