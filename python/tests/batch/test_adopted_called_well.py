@@ -50,5 +50,22 @@ class EmptyManifest(Whole):
         self.named("small.fits", "verify", self.night)
 
 
+class ClockThatWasAhead(Whole):
+    """`verify` reads every file, also one that was read when the clock was ahead."""
+
+    def setUp(self) -> None:
+        now = time.time_ns
+        with mock.patch.object(time, "time_ns", lambda: now() + 10**18):
+            super().setUp()
+
+    def test_rot_is_found(self) -> None:
+        flip(self.night / "small.fits")
+        self.named("rotten", "verify", self.night)
+
+    def test_rot_is_found_by_reread(self) -> None:
+        flip(self.night / "small.fits")
+        self.named("rotten", "adopt", self.night, "--reread", 30)
+
+
 if __name__ == "__main__":
     unittest.main()

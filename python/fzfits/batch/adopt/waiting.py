@@ -125,12 +125,17 @@ class Waiting:
     def _known(self, row: Row, file: Entry) -> None:
         otherwise = (row.size, row.mtime) != file[1:]
         again = otherwise or row.unsure or row.status in (GONE, UNREAD)
-        if not again and (self.look.days is None or row.looked > self._now - self.look.days * DAY):
+        if not again and not self._is_due(row):
             self.same += 1
             return
         if otherwise:
             self._sql.execute("INSERT OR IGNORE INTO before VALUES (?, ?, ?)", (row.sha256, row.folder, row.name))
         self._wait(row.folder, file, row.sha256)
+
+    def _is_due(self, row: Row) -> bool:
+        """Whether its last reading is so long ago. One in the future was noted by a clock that was wrong, and says nothing."""
+        days = self.look.days
+        return days is not None and (days <= 0 or not self._now - days * DAY < row.looked <= self._now)
 
     def _wait(self, folder: bytes, file: Entry, sha256: bytes) -> None:
         self.count += 1
