@@ -82,7 +82,8 @@ def tasks_of(packed: bytes, old: "dict[bytes, Row]") -> "tuple[list[Task], list[
             continue
         row = old.get(path)
         known = row.packed_sha256 if row is not None and row.done else sums.get(name)
-        tasks.append(Task(path, len(tasks), None, known, row.size if row else None, None, None, row.wrong_sums if row else 0))
+        restores = row.sha256 if row is not None and row.done else None
+        tasks.append(Task(path, len(tasks), restores, known, row.size if row else None, None, None, row.wrong_sums if row else 0))
     wanted = {it[: -len(names.PACKED)] for it in sums if it.endswith(names.PACKED)} | {path for path, it in old.items() if it.done}
     lost = []
     for path in sorted(wanted):
@@ -99,7 +100,7 @@ def look(settings: Settings, task: Task, result: Result, fz: Tries, number: int)
     if task.packed_sha256 is not None and now_.sha256 != task.packed_sha256:
         raise Stop("damaged", "packed file changed", "the packed file is another than the one that SHA256SUMS or the second copy names", advice.ANOTHER_COPY)
     yield from fz.expect_verified(number, now_)
-    plain = yield from fz.comes_back(number, now_, None, with_sums=now_.has_image_sums or now_.has_sums)
+    plain = yield from fz.comes_back(number, now_, task.sha256, with_sums=now_.has_image_sums or now_.has_sums)
     result.size, result.sha256 = plain.size, plain.sha256
     result.outcome = "copied" if plain.sha256 == now_.sha256 else "packed"
 

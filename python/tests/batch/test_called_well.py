@@ -35,5 +35,18 @@ class EmptyManifest(Archive):
         self.packs()
 
 
+class RebuiltOverAKnownFault(Archive):
+    """A packed file that does not restore its plain file is not certified by a new manifest."""
+
+    def test_what_comes_back_otherwise(self) -> None:
+        self.packs()
+        self.put(b"a.fits", sha256=hashlib.sha256(b"the plain file").hexdigest())
+        (self.plain / "a.fits").unlink()
+        self.named("unpacked file differs from the original", "compare", "--without-plain", self.packed)
+        for _ in range(2):
+            self.named("unpacked file differs from the original", "rebuild", "--again", self.packed)
+            self.looks("differs from the one that was packed")
+
+
 if __name__ == "__main__":
     unittest.main()
