@@ -80,8 +80,8 @@ class Row:
 
     @property
     def unsure(self) -> bool:
-        """Whether the plain file was read so soon after it was written that a later change may have left its time the same."""
-        return self.mtime is not None and self.looked is not None and self.mtime > self.looked - 2_000_000_000
+        """Whether the plain file may be another one with the same time: it was read so soon after it was written, or its time is not known."""
+        return self.mtime is None or self.looked is None or self.mtime > self.looked - 2_000_000_000
 
 
 COLUMNS = tuple(it.name for it in fields(Row))

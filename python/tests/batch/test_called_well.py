@@ -48,5 +48,19 @@ class RebuiltOverAKnownFault(Archive):
             self.looks("differs from the one that was packed")
 
 
+class NoTimeInTheManifest(Archive):
+    """After a rebuild without a copy no time of a plain file is known: it is read."""
+
+    def test_another_plain_file_of_the_same_length(self) -> None:
+        self.packs()
+        (self.packed / "fzbatch.sqlite").unlink()
+        self.assertEqual(self.run_it("rebuild", "--ignore-copy", self.packed)[0], 0)
+        for words in (("restore", self.room / "back", self.packed), ("compare", self.plain, self.packed)):
+            self.assertEqual(self.run_it(*words)[0], 0)
+        self.assertEqual(self.run_it("missing", self.plain, self.packed)[0], 0)
+        self.write("a.fits", image(7))
+        self.looks("the plain file is another than the one that was packed")
+
+
 if __name__ == "__main__":
     unittest.main()
