@@ -4,12 +4,12 @@ from __future__ import annotations
 import os
 import stat
 from contextlib import suppress
-from typing import Iterable, Optional
+from typing import Iterable, Optional, Sequence
 
 from . import advice, files, inside, lock, names, plan, rooms, survey
 from .chosen import Chosen
 from .manifest import Manifest, Row
-from .scan import Scan, folders_of, scan
+from .scan import Scan, folders_of, scan, scan_packed
 from .tally import Tally
 from .wanted import Refuse, Wanted, find_manifest
 
@@ -120,15 +120,26 @@ def _known(wanted: Wanted, todo: plan.Plan, tally: Tally) -> None:
     for row in todo.never_packed:
         said = f"it is not in the source any more, and was not packed: {row.line}"
         tally.bad(row.path, "gone, and never packed", said, f"find it in another copy; {advice.FORGET}")
-    gone = 0
-    for row in todo.gone:
-        if survey.files_there(wanted.packed, names.packed_name(row.path)):
-            gone += 1
-        else:
+    _gone(wanted, todo.gone, tally)
+
+
+def _gone(wanted: Wanted, rows: "Sequence[Row]", tally: Tally) -> None:
+    """Looks at the packed files of plain files that are gone: nothing else is left of these."""
+    found = survey.Survey()
+    here = scan_packed(wanted.packed) if rows and os.path.isdir(wanted.packed) else Scan(wanted.packed)
+    for row in rows:
+        if not survey.files_there(wanted.packed, names.packed_name(row.path)):
             said = "neither the plain nor the packed file is there"
-            tally.bad(row.path, "plain and packed file are gone", said, f"fetch one of them from another copy; {advice.FORGET}")
-    if gone:
-        tally.notes.append(f"{gone} plain files were packed by earlier runs and are not in the source any more; their packed files are there.")
+            found.add(row.path, "plain and packed file are gone", said, f"fetch one of them from another copy; {advice.FORGET}")
+            continue
+        survey.look_at_packed(found, row, here, False)
+        if row.fault:
+            found.add(row.path, row.cause, row.line, row.advice)
+    for it in found.findings:
+        tally.bad(it.path, it.cause, it.line, it.advice)
+    well = len(rows) - len(found.findings)
+    if well:
+        tally.notes.append(f"{well} plain files were packed by earlier runs and are not in the source any more; their packed files are there.")
 
 
 def _strangers(wanted: Wanted, rows: "dict[bytes, Row]", tally: Tally, tried: "frozenset[bytes] | set[bytes]" = frozenset()) -> None:

@@ -106,7 +106,7 @@ def _look(made: Survey, path: bytes, row: Optional[Row], plain: bytes, here: Sca
         line = f"it is not in the source any more, and was not packed: {row.line}" if gone else row.line
         made.add(path, "gone, and never packed" if gone else row.cause or NEVER, line, f"find it in another copy; {advice.FORGET}" if gone else row.advice)
         return
-    _look_at_packed(made, row, here, source is not None)
+    look_at_packed(made, row, here, source is not None)
     if row.fault:
         made.add(path, row.cause, row.line, row.advice)
     if source is None:
@@ -118,7 +118,8 @@ def _look(made: Survey, path: bytes, row: Optional[Row], plain: bytes, here: Sca
         made.add(path, PLAIN_CHANGED, "the plain file is another than the one that was packed", advice.ANOTHER_PLAIN)
 
 
-def _look_at_packed(made: Survey, row: Row, here: Scan, has_plain: bool) -> None:
+def look_at_packed(made: Survey, row: Row, here: Scan, has_plain: bool) -> None:
+    """Notes what is not well with the packed file of a row, by a look at the folder."""
     name = names.packed_name(row.path)
     found = here.files.get(name)
     if found is None:

@@ -62,5 +62,32 @@ class NoTimeInTheManifest(Archive):
         self.looks("the plain file is another than the one that was packed")
 
 
+class PlainFileGone(Archive):
+    """`pack` says what is not well with the packed file of a plain file that is gone."""
+
+    def test_its_packed_file_is_no_more_what_it_was(self) -> None:
+        def put(make) -> None:
+            (self.packed / "a.fits.fz").unlink()
+            make(self.packed / "a.fits.fz")
+
+        states = {
+            "is empty": lambda: (self.packed / "a.fits.fz").write_bytes(b""),
+            "a folder": lambda: put(os.mkdir),
+            "a pipe": lambda: put(os.mkfifo),
+            "a link": lambda: put(lambda it: os.symlink("/dev/null", it)),
+            "is another than the one": lambda: flip(self.packed / "a.fits.fz") or self.run_it("verify", self.packed),
+        }
+        for said, does in states.items():
+            with self.subTest(said=said):
+                self.write("a.fits", image(1))
+                self.packs()
+                (self.plain / "a.fits").unlink()
+                self.packs()
+                does()
+                for _ in range(2):
+                    self.named(said, "pack", self.plain)
+                shutil.rmtree(self.packed)
+
+
 if __name__ == "__main__":
     unittest.main()

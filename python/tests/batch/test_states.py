@@ -78,6 +78,10 @@ class States(Archive):
             (packed / "a.fits.fz").unlink()
             make(packed / "a.fits.fz")
 
+        def empty_and_gone() -> None:
+            (packed / "a.fits.fz").write_bytes(b"")
+            (plain / "a.fits").unlink()
+
         def folder_is_a_link() -> None:
             shutil.move(packed / "n", self.room / "elsewhere")
             os.symlink(self.room / "elsewhere", packed / "n")
@@ -128,6 +132,7 @@ class States(Archive):
             "`DIR` is gone": lambda: shutil.rmtree(plain),
             "a packed file is lost": (packed / "a.fits.fz").unlink,
             "a packed file is empty": lambda: (packed / "a.fits.fz").write_bytes(b""),
+            "a packed file is empty, and its plain file is gone": empty_and_gone,
             "a bit of a packed file changed, and its time": lambda: changed(packed / "a.fits.fz", 6000, False),
             "a bit of a packed file changed, and not its time": lambda: changed(packed / "a.fits.fz", 6000, True),
             "the same, after `verify` found it": verified,
