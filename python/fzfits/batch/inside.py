@@ -101,6 +101,15 @@ def state(root: bytes, path: bytes) -> Optional[os.stat_result]:
         return None
 
 
+def is_there(above: int, name: bytes) -> bool:
+    """Whether anything of an open folder has this name, also a link that leads nowhere."""
+    try:
+        os.stat(name, dir_fd=above, follow_symlinks=False)
+    except FileNotFoundError:
+        return False
+    return True
+
+
 def is_spelled(above: int, name: bytes) -> bool:
     """Whether a folder lists this very name: a disk that ignores case finds files by names that it does not list."""
     return name in map(os.fsencode, os.listdir(above))

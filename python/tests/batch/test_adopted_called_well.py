@@ -67,5 +67,45 @@ class ClockThatWasAhead(Whole):
         self.named("rotten", "adopt", self.night, "--reread", 30)
 
 
+class FaultOfAPlainFile(Whole):
+    """What is wrong with a plain file by the manifest is not forgotten by packing it beside itself."""
+
+    def test_a_file_that_could_not_be_read_meanwhile(self) -> None:
+        data = bytearray(image(3))
+        data[5 * 80 : 7 * 80] = b"object  = 'small letters'".ljust(80) + b"END".ljust(80)
+        path = self.night / "new.fits"
+        path.write_bytes(bytes(data))
+        os.utime(path, (1, 1))
+        self.named("header is damaged", "adopt", self.night)
+        path.rename(self.room / "new.fits")
+        self.named("gone", "adopt", self.night)
+        (self.room / "new.fits").rename(path)
+        self.named("new.fits", "pack", "--beside", "--delete", self.night)
+        self.assertTrue(path.exists())
+        self.named("header is damaged", "adopt", self.night)
+
+    def test_a_packed_file_that_is_there(self) -> None:
+        path = self.night / "wrong.fits"
+        data = bytearray(image(3, sums_too=True))
+        data[2980] ^= 1
+        path.write_bytes(bytes(data))
+        subprocess.run([FZ, "pack", path, f"{path}.fz"], check=True)
+        os.utime(path, (1, 1))
+        self.named("wrong checksum in the plain file", "pack", "--beside", "--delete", self.night)
+        self.assertTrue(path.exists())
+
+    def test_a_wrong_checksum_that_was_accepted(self) -> None:
+        path = self.night / "wrong.fits"
+        data = bytearray(image(3, sums_too=True))
+        data[2980] ^= 1
+        path.write_bytes(bytes(data))
+        os.utime(path, (1, 1))
+        self.assertEqual(self.run_it("pack", "--beside", "--delete", "--accept-wrong-sums", self.night)[0], 0)
+        self.assertFalse(path.exists())
+        for verb in ("missing", "status"):
+            self.named("wrong.fits.fz", verb, self.night)
+        self.named("wrong.fits.fz", "verify", self.night)
+
+
 if __name__ == "__main__":
     unittest.main()

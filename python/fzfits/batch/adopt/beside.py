@@ -25,10 +25,11 @@ from ..scan import folders_of
 from ..wanted import Refuse, signals
 from ..work import identity_of
 from . import places, run
+from .alone import SUMS, WRONG_IMAGE
 from .count import Count
 from .in_place import Did, InPlace, Place
 from .messages import Asked
-from .rows import Finding, Row
+from .rows import FAULTY, RIGHT, Finding, Row, packed_text
 from .scratch import scratch
 from .store import Store
 from .walk import entries, walk
@@ -210,10 +211,14 @@ class Beside:
     def _row(self, did: Did) -> Row:
         assert did.packed is not None
         old = self.store.row(did.place.folder, did.place.packed_name)
+        made = Row(did.place.folder, did.place.packed_name, did.packed.size, did.packed.mtime, did.looked, bytes.fromhex(did.packed.sha256), "packed", RIGHT, b"", did.hdus, made_of=did.made_of(), adopted=self.number, read_in=self.number)
         if old is not None and old.sha256.hex() == did.packed.sha256:
-            old.size, old.mtime, old.made_of = did.packed.size, did.packed.mtime, did.made_of()
-            return old
-        return Row(did.place.folder, did.place.packed_name, did.packed.size, did.packed.mtime, did.looked, bytes.fromhex(did.packed.sha256), "packed", "right", b"", did.hdus, made_of=did.made_of(), adopted=self.number, read_in=self.number)
+            made = old
+            made.size, made.mtime, made.made_of = did.packed.size, did.packed.mtime, did.made_of()
+        if did.wrong_sums and made.status == RIGHT:
+            # what was accepted is kept, and named as if it had been adopted
+            made.status, made.found = FAULTY, packed_text([Finding(SUMS, f"the plain file had a wrong checksum, which was accepted: {did.wrong_sums}", WRONG_IMAGE)])
+        return made
 
     def _delete(self, it: InPlace) -> None:
         place = it.place

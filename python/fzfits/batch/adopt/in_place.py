@@ -15,13 +15,13 @@ from typing import List, Optional
 from ...headers import headers
 from ...program import Outcome
 from .. import advice, files, inside, lock, names
-from ..inside import opened_in
+from ..inside import is_there, opened_in
 from ..rooms import Rooms
 from ..tries import wrong_lines
 from .alone import SUMS, hdus_text
 from .calling import Fz, Undone
 from .messages import Asked
-from .rows import FAULTY, GRAIN, RENAMED, Plain, Row
+from .rows import GRAIN, NOT_WELL, Plain, Row
 
 OTHER = "packed name is taken"
 WRITTEN = ("plain file is being written", "the plain file changed while it was packed", "run fzbatch again when nothing writes it")
@@ -67,6 +67,8 @@ class Did:
     began: int = field(default_factory=time.time_ns)
     looked: int = 0
     hdus: str = "[]"
+    # what fz verify says of the plain file, if a wrong checksum of it was accepted
+    wrong_sums: str = ""
 
     @property
     def good(self) -> bool:
@@ -116,7 +118,8 @@ class InPlace:
             try:
                 before = self.did.plain = files.look_at(source)
                 self._is_known(above, before)
-                if _there(above, self.place.packed_name):
+                if is_there(above, self.place.packed_name):
+                    self._sums(source, before)
                     self._accept(above, before)
                     return
                 if not any(it.is_packable for it in headers(f"/proc/self/fd/{source}")):
@@ -133,7 +136,7 @@ class InPlace:
         wanted = self.place.plain
         assert wanted is not None
         with inside.folder(self.asked.folder, self.place.folder) as above:
-            if not _there(above, self.place.packed_name) and _there(above, self.place.name):
+            if not is_there(above, self.place.packed_name) and is_there(above, self.place.name):
                 # a run that was killed removed the packed file, and did not say so
                 self._same(above, wanted)
                 return
@@ -143,7 +146,7 @@ class InPlace:
                 self.did.looked = self.did.began
                 if now.sha256 != self.place.packed_sha256:
                     raise Undone("packed file changed", "the packed file is another than the one that was made", advice.ANOTHER_COPY)
-                if _there(above, self.place.name):
+                if is_there(above, self.place.name):
                     self._same(above, wanted)
                     return
                 try:
@@ -204,9 +207,9 @@ class InPlace:
         row, plain = self.place.adopted, self.place.plain
         if row is not None and row.sha256.hex() != before.sha256:
             raise Undone("plain file changed", "the plain file is another than the one that was adopted", "fetch the one that was adopted from another copy; fzbatch adopt --update takes the file as it is now, if that is right")
-        if row is not None and row.status in (FAULTY, RENAMED) and not (self.accept and {it.cause for it in row.findings} <= {SUMS}):
-            raise Undone("not well", "it is not well by the manifest, and stays as it is", "fzbatch missing says what is wrong")
-        if plain is not None and plain.sha256 != before.sha256 and not _there(above, self.place.packed_name):
+        if row is not None and row.status in NOT_WELL and not (self.accept and {it.cause for it in row.findings} <= {SUMS}):
+            raise Undone("not well", "it is not well by the manifest, and stays as it is", "fzbatch missing says what is wrong; if the file is right again, run fzbatch adopt first")
+        if plain is not None and plain.sha256 != before.sha256 and not is_there(above, self.place.packed_name):
             raise Undone("packed file is lost, and plain file changed", advice.BOTH_CHANGED, "fetch one of them from another copy; or fzbatch adopt, and then fzbatch forget, take the packed file out of the manifest")
 
     def _sums(self, source: int, before: files.Looked) -> None:
@@ -216,6 +219,7 @@ class InPlace:
         ended = self.fz.run("verify", source, before.size)
         if ended.status == 1 and not self.accept:
             raise Undone("wrong checksum in the plain file", wrong_lines(ended), advice.STATUSES[1])
+        self.did.wrong_sums = wrong_lines(ended) if ended.status == 1 else ""
 
     def _make(self, above: int, source: int, before: files.Looked) -> None:
         try:
@@ -291,11 +295,3 @@ class InPlace:
         if not files.give_name(above, self.part, name):
             raise Undone(OTHER, f"{names.shown(name)} is there by now", "run fzbatch again, which compares it")
         inside.sync_number(above)
-
-
-def _there(above: int, name: bytes) -> bool:
-    try:
-        os.stat(name, dir_fd=above, follow_symlinks=False)
-    except FileNotFoundError:
-        return False
-    return True
