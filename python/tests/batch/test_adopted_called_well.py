@@ -107,5 +107,47 @@ class FaultOfAPlainFile(Whole):
         self.named("wrong.fits.fz", "verify", self.night)
 
 
+class ComparedWithPlainFiles(Whole):
+    """`compare` of an adopted folder says "same" of no other file."""
+
+    def setUp(self) -> None:
+        super().setUp()
+        self.plain = self.room / "plain"
+        self.plain.mkdir()
+        shutil.copy(SAMPLES / "star_field.fits", self.plain / "a.fits")
+
+    def compares(self, status: int, *wanted: str) -> None:
+        found, said = self.run_it("compare", "--without-plain", self.plain, self.night)
+        self.assertEqual((found, *(it in said for it in wanted)), (status, *(True for _ in wanted)), said)
+
+    def test_bytes_after_the_last_hdu(self) -> None:
+        self.compares(0, "1 same")
+        with open(self.plain / "a.fits", "ab") as to:
+            to.write(b"more")
+        self.compares(1, "a.fits.fz")
+
+    def test_an_hdu_more_beside_one_that_is_not_decoded(self) -> None:
+        data = (self.night / "a.fits.fz").read_bytes()
+        (self.night / "a.fits.fz").write_bytes(data.replace(b"ZCMPTYPE= 'RICE_1  '   ", b"ZCMPTYPE= 'HCOMPRESS_1'"))
+        self.run_it("adopt", "--update", self.night)
+        self.compares(0, "1 part")
+        more = b"".join(it.ljust(80) for it in (b"XTENSION= 'IMAGE   '", b"BITPIX  =                    8", b"NAXIS   =                    0", b"PCOUNT  =                    0", b"GCOUNT  =                    1", b"END"))
+        with open(self.plain / "a.fits", "ab") as to:
+            to.write(more.ljust(2880))
+        self.compares(1, "HDU 1 of the plain file is not in it")
+
+    def test_a_compressed_file_that_is_gone_or_changed(self) -> None:
+        import gzip
+
+        path = self.night / "raw.fits.gz"
+        path.write_bytes(gzip.compress(image(5)))
+        self.assertEqual(self.run_it("adopt", self.night)[0], 0)
+        self.compares(0, "1 compressed")
+        flip(path, 40)
+        self.compares(1, "raw.fits.gz")
+        path.unlink()
+        self.compares(1, "raw.fits.gz")
+
+
 if __name__ == "__main__":
     unittest.main()

@@ -120,9 +120,6 @@ class Compare:
         return one
 
     def _compare(self, asked: Asked, row: Row, room: rooms.Rooms, one: One) -> None:
-        if row.sort in ANOTHER_SORT:
-            one.outcome = "compressed"
-            return
         plain, packed = self._opened(asked.folder, row)
         try:
             if packed is None:
@@ -131,6 +128,8 @@ class Compare:
             looked = files.look_at(packed)
             if looked.sha256 != row.sha256.hex():
                 one.found = [CHANGED]
+            elif row.sort in ANOTHER_SORT:
+                one.outcome = "compressed"
             elif plain is None:
                 one.outcome, one.found = ("alone", []) if self.wanted.without_plain else ("", [NO_PLAIN])
             else:

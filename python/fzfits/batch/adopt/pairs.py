@@ -59,10 +59,13 @@ class Pair:
             ended = self.fz.run("unpack", self.packed, max(self.looked.size, self.plain_looked.size), out=out)
             if ended.status == 3:
                 self._each()
-            elif files.look(out).sha256 != self.plain_looked.sha256:
+            elif files.look(out).sha256 == self.plain_looked.sha256:
+                return self.made
+            else:
                 self._parts(out, list(headers(out)), {it.number: it for it in headers(self._path(self.plain))})
         finally:
             files.remove(out)
+        self._after()
         if self.made.skipped:
             self.made.outcome = "part"
         elif self.made.headers:
@@ -81,6 +84,17 @@ class Pair:
                 self._hdu(number, it, theirs.pop(it.number, None), it.number)
         finally:
             os.close(number)
+        self._only_theirs(theirs)
+
+    def _after(self) -> None:
+        """The plain file is another one: if its HDUs do not show it, it is what is after the last one, or what fills a block."""
+        more = self.plain_looked.size - max((it.end for it in headers(self._path(self.plain))), default=0)
+        if more > 0:
+            self.made.found.append(Finding(DIFFERS, f"the plain file has {more:,} bytes after its last HDU, which are not in it", WHAT))
+        elif not (self.made.found or self.made.headers or self.made.skipped):
+            self.made.found.append(Finding(DIFFERS, "each HDU is that of the plain file, and what fills the last block of one is not", WHAT))
+
+    def _only_theirs(self, theirs: "Dict[int, Header]") -> None:
         for other in theirs.values():
             self.made.found.append(Finding(DIFFERS, f"HDU {other.number} of the plain file is not in it", WHAT, other.number, names.told(other.name)))
 
@@ -98,11 +112,12 @@ class Pair:
         theirs = {it.number: it for it in headers(self._path(self.plain))}
         shift = 1 if len(heads) > 1 and heads[1].is_packed and heads[1].card("ZSIMPLE") is not None else 0
         for it in heads[shift:]:
-            other = theirs.get(it.number - shift)
+            other = theirs.pop(it.number - shift, None)
             if it.is_packed or it.value("ZTABLE") is True:
                 self._image(it, other)
             else:
                 self._hdu(self.packed, it, other, it.number)
+        self._only_theirs(theirs)
 
     def _image(self, header: Header, other: Optional[Header]) -> None:
         copy, out = self.fz.room.name(header.end - header.start, b"in"), self.fz.room.name(self.plain_looked.size, b"again")
