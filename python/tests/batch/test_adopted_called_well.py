@@ -149,5 +149,45 @@ class ComparedWithPlainFiles(Whole):
         self.compares(1, "raw.fits.gz")
 
 
+class RetiledInAnArchive(Whole):
+    """`retile` and `pack --beside` write into no archive of `fzbatch pack`, in the folder or around it."""
+
+    def test_an_archive_in_the_folder(self) -> None:
+        plain, packed = self.room / "plain", self.night / "more" / "plain.fz"
+        plain.mkdir()
+        (self.night / "more").mkdir()
+        shutil.copy(SAMPLES / "star_field.fits", plain / "a.fits")
+        self.assertEqual(self.run_it("pack", plain, packed)[0], 0)
+        self.assertEqual(self.run_it("adopt", self.night)[0], 0)
+        before = (packed / "a.fits.fz").read_bytes()
+        self.named("more/plain.fz", "retile", self.night, "--tile", "16,16", status=2)
+        self.assertEqual((packed / "a.fits.fz").read_bytes(), before)
+
+    def test_an_archive_around_the_folder(self) -> None:
+        plain, packed = self.room / "plain", self.room / "plain.fz"
+        (plain / "n").mkdir(parents=True)
+        shutil.copy(SAMPLES / "star_field.fits", plain / "n" / "a.fits")
+        self.assertEqual(self.run_it("pack", plain, packed)[0], 0)
+        manifest = ("--manifest", self.room / "other.sqlite")
+        self.assertEqual(self.run_it("adopt", packed / "n", *manifest)[0], 0)
+        before = (packed / "n" / "a.fits.fz").read_bytes()
+        self.named("plain.fz", "retile", packed / "n", *manifest, "--tile", "16,16", status=2)
+        self.assertEqual((packed / "n" / "a.fits.fz").read_bytes(), before)
+
+
+class LostManifestOfAnArchive(Whole):
+    """A folder of packed files that has lost its manifest is still meant before an adopted folder of the same name."""
+
+    def test_it_is_not_called_well(self) -> None:
+        self.assertEqual(self.run_it("pack", self.night)[0], 1)
+        packed = Path(f"{self.night}.fz")
+        (packed / "small.fits.fz").unlink()
+        for verb in ("missing", "status", "verify"):
+            self.assertEqual(self.run_it(verb, self.night)[0], 1, verb)
+        (packed / "fzbatch.sqlite").unlink()
+        for verb in ("missing", "status", "verify"):
+            self.assertEqual(self.run_it(verb, self.night)[0], 2, verb)
+
+
 if __name__ == "__main__":
     unittest.main()

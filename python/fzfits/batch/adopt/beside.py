@@ -73,8 +73,9 @@ class Beside:
         self.program = program.find(wanted.program)
         if not os.path.isdir(wanted.folder):
             raise Refuse(f"{names.shown(wanted.folder)} is not there, or is no folder: is its disk mounted?")
-        if files.there(os.path.join(wanted.folder, names.MANIFEST)):
-            raise Refuse(f"{names.shown(wanted.folder)} has a manifest of fzbatch pack, and is no folder of plain files")
+        archive = places.archive_around(wanted.folder) or (places.archive_in(wanted.folder) if wanted.verb == "retile" else None)
+        if archive is not None:
+            raise Refuse(f"{names.shown(archive)} has a manifest of fzbatch pack, which knows its files as they are: {self.count.verb} writes into no folder of such an archive")
         if not places.may_be_written(wanted.manifest):
             raise Refuse(f"{names.shown(wanted.manifest)} cannot be written: --manifest names another place")
         is_new = not files.there(wanted.manifest)

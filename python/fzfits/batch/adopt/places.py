@@ -4,9 +4,10 @@ from __future__ import annotations
 import os
 import re
 import stat
-from typing import Iterator, List, Sequence
+from typing import Iterator, List, Optional, Sequence
 
 from .. import files, inside, keep, lock, names
+from ..scan import folders_of
 from ..wanted import Refuse
 from .rows import GONE
 from .store import Store
@@ -40,6 +41,26 @@ def opened(path: bytes, folder: bytes, writes: bool = False, moved: bool = False
         made.close()
         raise Refuse(f"{names.shown(path)} is the manifest of {names.shown(known)}, and not of {names.shown(folder)}: after a folder was moved, fzbatch adopt --moved says so")
     return made
+
+
+def is_archive(folder: bytes) -> bool:
+    """Whether a folder is one of packed files that fzbatch pack made, also if its manifest was lost and something else of it was not."""
+    sums = os.path.join(folder, names.SUMS)
+    return any(files.there(os.path.join(folder, it)) for it in (names.MANIFEST, names.COPY)) or (files.there(sums) and not keep.is_none_of_ours(sums, keep.HEAD))
+
+
+def archive_around(folder: bytes) -> "Optional[bytes]":
+    """The folder of packed files that a folder is, or is in."""
+    while folder != os.path.dirname(folder):
+        if is_archive(folder):
+            return folder
+        folder = os.path.dirname(folder)
+    return None
+
+
+def archive_in(folder: bytes) -> "Optional[bytes]":
+    """The first folder of packed files below a folder."""
+    return next(filter(is_archive, folders_of(folder)), None)
 
 
 def many(given: "Sequence[bytes]") -> "List[bytes]":
