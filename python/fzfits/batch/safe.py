@@ -4,6 +4,7 @@ from __future__ import annotations
 from dataclasses import dataclass, field
 
 from .manifest import Row
+from .scan import COMPRESSED
 from .survey import Survey
 
 QUESTION = "Safe to delete the originals:"
@@ -39,8 +40,10 @@ def verdict_of(found: Survey) -> Verdict:
         return Verdict(False, f"{QUESTION} not known", [f"{found.lost or 'The originals are not there, so they were not looked at'}."])
     bad = {it.path for it in found.findings}
     left = {it.path for it in found.left}
+    # a link may go, since what it leads to stays; a file that was left out is only in the folder
+    skipped = {it.path for it in found.skipped if it.sort == COMPRESSED}
     waiting = {it.path for it in found.rows if it.done and not is_compared(it)} - bad
-    count = len(bad | left | waiting)
+    count = len(bad | left | skipped | waiting)
     if not count:
         every = _files(len(found.rows))
         said = [f"Each of {every} was unpacked and compared with its original, and nothing changed since. First have a second copy of the packed files on another disk."]
@@ -50,6 +53,8 @@ def verdict_of(found: Survey) -> Verdict:
         why.append(_are(len(bad), "is not well: see below.", "are not well: see below."))
     if left:
         why.append(_are(len(left), "was skipped, and is in no packed file.", "were skipped, and are in no packed file."))
+    if skipped:
+        why.append(_are(len(skipped), "was left out, as --skip-compressed says, and is in no packed file.", "were left out, as --skip-compressed says, and are in no packed file."))
     if waiting:
         why.append(_are(len(waiting), "was not compared with its original yet: fzbatch compare does so.", "were not compared with their originals yet: fzbatch compare does so."))
     return Verdict(False, f"{QUESTION} no, {_files(count)}", why)

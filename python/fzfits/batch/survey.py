@@ -43,6 +43,8 @@ class Survey:
     rows: list[Row] = field(default_factory=list)
     findings: list[Finding] = field(default_factory=list)
     left: list[Left] = field(default_factory=list)
+    # what may be left out, as the manifest says
+    skipped: list[Left] = field(default_factory=list)
     others: dict[str, int] = field(default_factory=dict)
     notes: list[str] = field(default_factory=list)
     # why the plain files were not looked at, if that is a fault
@@ -87,7 +89,9 @@ def survey(manifest: Manifest, plain: bytes, packed: bytes, without_plain: bool 
     for it in here.left:
         if not it.path.removesuffix(names.PACKED) in rows:
             made.add(it.path, "link or shut folder among the packed files", it.why, it.advice.split("; with")[0])
-    made.left, notes = kept_left(manifest.fact, made.found.left if made.found else [])
+    every = made.found.left if made.found else []
+    made.left, notes = kept_left(manifest.fact, every)
+    made.skipped = sorted(set(every) - set(made.left), key=lambda it: it.path)
     made.others = dict(made.found.others.most_common()) if made.found else manifest.others()
     made.notes += notes + notes_of(manifest, made.rows, packed)
     if made.found is None or not has_plain:

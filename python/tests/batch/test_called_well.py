@@ -89,5 +89,19 @@ class PlainFileGone(Archive):
                 shutil.rmtree(self.packed)
 
 
+class SafeToDelete(Archive):
+    """A report says that originals may be deleted only if nothing was left out."""
+
+    def test_files_that_were_skipped(self) -> None:
+        zipped(self.plain / "raw.fits.gz")
+        self.packs("--skip-compressed")
+        self.assertEqual(self.run_it("compare", self.plain)[0], 0)
+        status, said = self.run_it("report", self.plain, "-o", self.room / "r.html")
+        self.assertEqual((status, "Safe to delete the originals: no, 1 file" in said), (0, True), said)
+        self.assertIn("1 file was left out, as --skip-compressed says, and is in no packed file", (self.room / "r.html").read_text())
+        (self.plain / "raw.fits.gz").unlink()
+        self.assertIn("Safe to delete the originals: yes", self.run_it("report", self.plain, "-o", self.room / "r.html")[1])
+
+
 if __name__ == "__main__":
     unittest.main()
