@@ -86,10 +86,11 @@ class _Run:
                 verb = f"{self.wanted.verb}{' --update' if self.wanted.update else ''}"
                 self.log.tell(f"{verb} begins: {names.shown(self.wanted.plain)}, {names.shown(self.wanted.packed)}: {len(todo.tasks)} files to do")
                 self.manifest.begin(self.token, verb, socket.gethostname(), os.getpid())
-                if self.wanted.engine == "slurm":
+                if self.wanted.engine == "slurm" and todo.tasks:
                     from . import submit  # pylint: disable=import-outside-toplevel
 
-                    return submit.hand_over(self.settings(0), todo.tasks, self.out)
+                    submit.hand_over(self.settings(0), todo.tasks, self.out)
+                    return DONE
                 self._do(todo)
                 self.tally.seconds = time.monotonic() - self.began
                 self._end()
@@ -98,6 +99,8 @@ class _Run:
     def _summed_up(self) -> int:
         """Prints the summary, and gives the status."""
         self.log.tell(self.tally.last_line() + (f"; stopped: {self.tally.stopped}" if self.tally.stopped else ""))
+        if self.wanted.engine == "slurm":
+            self.tally.notes.append("No file is to be done, and nothing to submit.")
         if self.wanted.verb == "pack" and self.tally.done:
             self.tally.notes.append(f"The packed files are in {names.shown(self.wanted.packed)}.")
         if not self.wanted.quiet or not self.tally.whole:

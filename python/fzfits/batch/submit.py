@@ -17,14 +17,11 @@ from .tally import Tally
 DONE, NOT_DONE = 0, 1
 
 
-def hand_over(settings: Settings, tasks: Sequence[Task], out: TextIO) -> int:
+def hand_over(settings: Settings, tasks: Sequence[Task], out: TextIO) -> None:
     """Writes the tasks of a Slurm array, and prints what to submit."""
     folders = [names.shown(it) for it in (settings.plain, settings.packed)]
     if any(it.startswith("$'") for it in folders):
         raise BadManifest(f"for --engine slurm both folders need names of characters that print, since sbatch hands them to a shell: {' '.join(folders)}")
-    if not tasks:
-        print("no file is to be done, and nothing to submit", file=out)
-        return DONE
     slurm.write(settings, tasks)
     count = slurm.array_of(len(tasks))
     plain, packed = map(shlex.quote, folders)
@@ -32,7 +29,6 @@ def hand_over(settings: Settings, tasks: Sequence[Task], out: TextIO) -> int:
     wrapped = shlex.quote(f"fzbatch share {plain} {packed}")
     print(f"  sbatch --array=0-{count - 1} --cpus-per-task=4 --mem-per-cpu=200M --requeue --wrap {wrapped}", file=out)
     print(f"When it has ended: fzbatch collect {packed}", file=out)
-    return DONE
 
 
 def collect(packed: bytes, out: TextIO, drop: bool = False, all_names: bool = False) -> int:
@@ -53,6 +49,7 @@ def collect(packed: bytes, out: TextIO, drop: bool = False, all_names: bool = Fa
             else:
                 tally.bad(result.path, result.cause, result.line, result.advice)
         manifest.save()
+        _others(manifest, packed, {it.path for it in tasks}, tally)
         tally.untried = sum(it.path not in results for it in tasks)
         tally.left = [Left(*it) for it in manifest.left_out()]
         tally.notes += survey.accepted(manifest.rows())
@@ -64,6 +61,17 @@ def collect(packed: bytes, out: TextIO, drop: bool = False, all_names: bool = Fa
         tally.notes += keep.keep(manifest, packed)
     tally.print(out, all_names)
     return DONE if tally.whole else NOT_DONE
+
+
+def _others(manifest: Manifest, packed: bytes, asked: "set[bytes]", tally: Tally) -> None:
+    """Names what was no task of the array and is not well: a file that was rejected before, say, or a stranger."""
+    rows = {it.path: it for it in manifest.rows()}
+    for path, row in rows.items():
+        if path not in asked and (row.fault or not row.done):
+            tally.bad(path, row.cause or survey.NEVER, row.line, row.advice)
+    for name in survey.names_of_unknown(rows, packed):
+        if name[: -len(names.PACKED)] not in asked:
+            tally.bad(name, *survey.UNKNOWN)
 
 
 def rebuilt(settings: Settings, out: TextIO, jobs: int, ignore_copy: bool = False, again: bool = False, all_names: bool = False) -> int:

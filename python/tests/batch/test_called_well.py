@@ -103,5 +103,26 @@ class SafeToDelete(Archive):
         self.assertIn("Safe to delete the originals: yes", self.run_it("report", self.plain, "-o", self.room / "r.html")[1])
 
 
+class SlurmArrays(Archive):
+    """A run with --engine slurm names what needs no task and is not well; so does `collect`."""
+
+    def test_nothing_to_submit(self) -> None:
+        self.write("bad.fits", b"")
+        self.named("bad.fits", "pack", self.plain)
+        shutil.copy(self.packed / "a.fits.fz", self.packed / "x.fits.fz")
+        for it in ("bad.fits", "x.fits.fz"):
+            self.named(it, "pack", self.plain, "--engine", "slurm")
+
+    def test_collect(self) -> None:
+        self.write("bad.fits", b"")
+        self.named("bad.fits", "pack", self.plain)
+        shutil.copy(self.packed / "a.fits.fz", self.packed / "x.fits.fz")
+        self.write("new.fits", image(5))
+        self.assertEqual(self.run_it("pack", self.plain, "--engine", "slurm")[0], 0)
+        self.assertEqual(self.run_it("share", self.plain, self.packed)[0], 0)
+        status, said = self.run_it("collect", self.packed)
+        self.assertEqual((status, "bad.fits" in said, "x.fits.fz" in said), (1, True, True), said)
+
+
 if __name__ == "__main__":
     unittest.main()
