@@ -189,5 +189,24 @@ class LostManifestOfAnArchive(Whole):
             self.assertEqual(self.run_it(verb, self.night)[0], 2, verb)
 
 
+class ManyManifests(Whole):
+    """A folder of manifests, one of which is lost."""
+
+    def test_the_folder_of_the_lost_one_is_named(self) -> None:
+        archive, manifests = self.room / "archive", self.room / "manifests"
+        archive.mkdir()
+        manifests.mkdir()
+        for it in "123":
+            shutil.copytree(self.night, archive / it)
+            self.assertEqual(self.run_it("adopt", archive / it, "--manifest", manifests / f"{it}.sqlite")[0], 0)
+        for verb in ("missing", "status", "report"):
+            more = ("-o", self.room / "r.html") if verb == "report" else ()
+            self.assertEqual(self.run_it(verb, archive, "--manifest", manifests, *more)[0], 0, verb)
+        (manifests / "2.sqlite").unlink()
+        for verb in ("missing", "status", "report"):
+            more = ("-o", self.room / "r.html") if verb == "report" else ()
+            self.assertEqual(self.run_it(verb, archive, "--manifest", manifests, *more)[0], 1, verb)
+
+
 if __name__ == "__main__":
     unittest.main()

@@ -6,7 +6,7 @@ import json
 import os
 import sys
 from dataclasses import asdict
-from typing import Callable, List, Optional
+from typing import Callable, List, Optional, TextIO
 
 from .. import files, lock, machine, names
 from ..checks import Odd
@@ -110,6 +110,8 @@ class _Opened:
         whole.check(asked)
         self.folder, self.jobs = folder_of(asked), machine.processors()
         self.manifests = places.many(asked.manifest) or [places.manifest_of(self.folder, [])]
+        # lines about folders that none of several manifests has
+        self.uncovered: "List[str]" = []
 
     def each(self) -> "List[tuple[bytes, Store]]":
         """The one manifest of the folder, or those of folders in it."""
@@ -124,7 +126,14 @@ class _Opened:
                 store.close()
                 raise Refuse(f"{names.shown(path)} is the manifest of {names.shown(folder or b'?')}, which is not in {names.shown(self.folder)}")
             found.append((folder, store))
+        self.uncovered = sorted(survey.uncovered(self.folder, {it for it, _ in found})) if len(found) > 1 else []
         return found
+
+    def tell_uncovered(self, to: TextIO) -> int:
+        """Prints the folders that none of the manifests has, and gives the status."""
+        for line in self.uncovered:
+            print(line, file=to)
+        return NOT_DONE if self.uncovered else DONE
 
 
 def _told(row: Row) -> "dict[str, object]":
@@ -160,7 +169,7 @@ def status(asked: argparse.Namespace) -> int:
             print(f"{names.shown(folder)}:")
         counted.print(sys.stdout)
         worst = max(worst, DONE if counted.whole else NOT_DONE)
-    return worst
+    return max(worst, found.tell_uncovered(to=sys.stderr if asked.json else sys.stdout))
 
 
 def missing(asked: argparse.Namespace) -> int:
@@ -188,7 +197,7 @@ def missing(asked: argparse.Namespace) -> int:
                     print(f"fzbatch: {it.lost}", file=sys.stderr)
             finally:
                 it.close()
-    return worst
+    return max(worst, found.tell_uncovered(to=sys.stderr if asked.null else sys.stdout))
 
 
 def report(asked: argparse.Namespace) -> int:
@@ -202,9 +211,11 @@ def report(asked: argparse.Namespace) -> int:
                 made.add(folder, store, it)
             finally:
                 it.close()
+    made.leave_out(found.uncovered)
     if not files.write_over_own(asked.out, made.text().encode(errors="backslashreplace"), len(page.HEAD)):
         raise Refuse(f"{names.shown(asked.out)} is there, and is no page of fzbatch: give another name")
     print(names.shown(asked.out))
+    found.tell_uncovered(to=sys.stdout)
     return DONE if made.whole else NOT_DONE
 
 

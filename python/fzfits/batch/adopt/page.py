@@ -53,6 +53,11 @@ class Page:
         self.notes += [f"Left out: {names.shown(it.path)} {it.why}." for it in found.left[:NAMED]]
         self.runs += [_run(it) for it in store.runs()[-RUNS:][::-1]]
 
+    def leave_out(self, lines: "List[str]") -> None:
+        """Takes in lines about folders that no manifest has."""
+        self.whole = self.whole and not lines
+        self.notes = [f"{it}." for it in lines] + self.notes
+
     def _night(self, it: "Tuple[int, bytes, int, int, str]") -> None:
         """Keeps the folders with the most files that are not well, and of the others the largest."""
         self.nights.append(it)

@@ -1,7 +1,8 @@
 """What is not well in an adopted folder, by its manifest and a look at the folder: one answer for `status`, `missing` and `report`."""
 from __future__ import annotations
 
-from typing import Iterator, List, Tuple
+import os
+from typing import Iterator, List, Set, Tuple
 
 from .. import names
 from ..scan import Left
@@ -10,6 +11,7 @@ from .count import Count, line_of
 from .rows import GONE, UNREAD, Finding, Row
 from .store import Store
 from .waiting import Look, Waiting
+from .walk import see
 
 LOOKS = Finding("looks otherwise", "it has another length or time than when it was last read", "fzbatch adopt reads it and says whether it is another file")
 NOT_THERE = Finding("gone", "it is not there", "fetch it from another copy, or fzbatch forget takes it out of the manifest")
@@ -61,6 +63,19 @@ class Survey:
     def whole(self) -> bool:
         """Whether all is well."""
         return not self.left and not self.lost and next(self.findings(), None) is None
+
+
+def uncovered(root: bytes, folders: "Set[bytes]") -> "Iterator[str]":
+    """A line for each folder of `root` that has files and is in none of these adopted folders: its manifest may be lost."""
+    waiting = [b""]
+    while waiting:
+        path = waiting.pop()
+        if os.path.join(root, path).rstrip(b"/") in folders:
+            continue
+        seen = see(root, path)
+        waiting += seen.below
+        if seen.count or seen.shut:
+            yield f"{names.shown(path or b'.')}: {'it cannot be read' if seen.shut else f'{seen.count:,} files are in no manifest that was named'}"
 
 
 def counted(it: Survey, verb: str, all_names: bool) -> Count:
