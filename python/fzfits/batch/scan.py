@@ -9,8 +9,12 @@ from typing import Callable, Iterator, Optional
 
 from . import inside, names
 
-LINK, SHUT, PIPE, COMPRESSED, OURS, OTHER = "link", "shut", "pipe", "compressed", "ours", "other"
+LINK, SHUT, PIPE, COMPRESSED, OURS, OTHER, TIME = "link", "shut", "pipe", "compressed", "ours", "other", "time"
+# No manifest has room for this time in nanoseconds, or for a later one.
+LATEST = 1 << 63
+FAR = "has a time after the year 2262, for which the manifest has no room"
 ADVICE = {
+    TIME: "give it another time by touch, and run fzbatch again",
     LINK: "pack the folder or file that it leads to, or replace it by a file; with --skip-links links are left out",
     SHUT: "allow it to be read, and run fzbatch again",
     PIPE: "copy it to a file",
@@ -88,7 +92,9 @@ def _look(found: Scan, path: bytes, entry: os.DirEntry[bytes], wanted, compresse
         found.left.append(Left(path, f"cannot be read: {error.strerror}", ADVICE[SHUT], SHUT))
         return None
     if stat.S_ISREG(it.st_mode):
-        if is_wanted:
+        if is_wanted and it.st_mtime_ns >= LATEST:
+            found.left.append(Left(path, FAR, ADVICE[TIME], TIME))
+        elif is_wanted:
             found.files[path] = Found(path, it.st_size, it.st_mtime_ns)
         elif compressed(entry.name):
             found.left.append(Left(path, "is a FITS file that another program compressed, and is in no archive", ADVICE[COMPRESSED], COMPRESSED))

@@ -208,5 +208,16 @@ class ManyManifests(Whole):
             self.assertEqual(self.run_it(verb, archive, "--manifest", manifests, *more)[0], 1, verb)
 
 
+class FarTimes(Whole):
+    """A file whose time no manifest has room for stops no run."""
+
+    def test_a_time_after_2262(self) -> None:
+        os.utime(self.night / "small.fits", (10_000_000_000, 10_000_000_000))
+        if (self.night / "small.fits").stat().st_mtime_ns < 1 << 63:
+            self.skipTest("this disk has no such time")
+        self.named("small.fits: has a time after the year 2262", "adopt", self.night)
+        self.named("small.fits", "missing", self.night)
+
+
 if __name__ == "__main__":
     unittest.main()

@@ -124,5 +124,17 @@ class SlurmArrays(Archive):
         self.assertEqual((status, "bad.fits" in said, "x.fits.fz" in said), (1, True, True), said)
 
 
+class FarTimes(Archive):
+    """A file whose time no manifest has room for stops no run."""
+
+    def test_a_time_after_2262(self) -> None:
+        os.utime(self.plain / "a.fits", (10_000_000_000, 10_000_000_000))
+        if (self.plain / "a.fits").stat().st_mtime_ns < 1 << 63:
+            self.skipTest("this disk has no such time")
+        for verb in ("pack", "missing"):
+            self.named("a.fits: has a time after the year 2262", verb, self.plain)
+        self.assertTrue((self.packed / "n" / "b.fits.fz").exists())
+
+
 if __name__ == "__main__":
     unittest.main()

@@ -10,7 +10,7 @@ from dataclasses import dataclass, field
 from typing import Iterator, Optional, Tuple
 
 from .. import names
-from ..scan import ADVICE, LINK, PIPE, SHUT, Left
+from ..scan import ADVICE, FAR, LATEST, LINK, PIPE, SHUT, TIME, Left
 from .store import WIDE, look_of
 
 # From so many files on, several processes look.
@@ -53,7 +53,7 @@ def entries(root: bytes, path: bytes, seen: Optional[Seen] = None) -> Iterator[E
                 except OSError as error:
                     seen.left.append(Left(os.path.join(path, entry.name), f"cannot be read: {error.strerror}", ADVICE[SHUT], SHUT))
                     continue
-                if stat.S_ISREG(it.st_mode) and is_wanted(entry.name):
+                if stat.S_ISREG(it.st_mode) and is_wanted(entry.name) and it.st_mtime_ns < LATEST:
                     yield entry.name, it.st_size, it.st_mtime_ns
                 else:
                     _other(seen, path, entry, it)
@@ -73,6 +73,8 @@ def _other(seen: Seen, path: bytes, entry: "os.DirEntry[bytes]", it: os.stat_res
             leads = False
         if leads or is_wanted(entry.name):
             seen.left.append(Left(below, "is a symbolic link", ADVICE[LINK].replace("pack the", "adopt the"), LINK))
+    elif stat.S_ISREG(it.st_mode) and is_wanted(entry.name):
+        seen.left.append(Left(below, FAR, ADVICE[TIME], TIME))
     elif stat.S_ISREG(it.st_mode):
         seen.others[names.suffix_of(entry.name)] += 1
     elif is_wanted(entry.name):
