@@ -219,5 +219,20 @@ class FarTimes(Whole):
         self.named("small.fits", "missing", self.night)
 
 
+class ManyHdus(Whole):
+    """A wrong checksum is not missed if the line that names it was not kept: `fz verify` of very many HDUs prints too many."""
+
+    def test_the_status_says_it(self) -> None:
+        shutil.copy(SAMPLES / "sums.fits", self.night / "sums.fits")
+        runs = calling.Fz.run
+
+        def cut(fz: calling.Fz, verb: str, *words, **more):
+            ended = runs(fz, verb, *words, **more)
+            return dataclasses.replace(ended, lines=tuple(it.replace("wrong", "ok") for it in ended.lines))
+
+        with mock.patch.object(calling.Fz, "run", cut):
+            self.named("fz verify says that a checksum is wrong", "adopt", self.night)
+
+
 if __name__ == "__main__":
     unittest.main()

@@ -164,6 +164,9 @@ class File:
             for name, verdict in (("DATASUM", it.datasum), ("CHECKSUM", it.checksum)):
                 if verdict == "wrong":
                     self.add(alone.SUMS, f"{name} is not that of its bytes", alone.WRONG_TABLE, it.hdu)
+        if ended.status == 1 and not any(it.cause == alone.SUMS for it in self.found):
+            # it prints more lines than are kept
+            self.add(alone.SUMS, "fz verify says that a checksum is wrong, and not which in the lines that were kept", alone.WRONG_TABLE)
 
     def _unpacked(self, heads: "List[Header]") -> bool:
         """By `fz unpack`, which decodes each tile too: so tiles are decoded once. False if fz rejects the file."""
