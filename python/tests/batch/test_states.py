@@ -144,12 +144,12 @@ class States(Archive):
             "two names have one packed file": two_names,
             "a row of the manifest is gone or changed": row_is_gone,
             "the manifest is damaged": lambda: (packed / "fzbatch.sqlite").write_bytes(b"garbage" * 999),
+            "the manifest is empty": lambda: (packed / "fzbatch.sqlite").write_bytes(b""),
             "the manifest is lost": lambda: lost("fzbatch.sqlite"),
             "the manifest and its second copy are lost": lambda: lost("fzbatch.sqlite", "fzbatch.sqlite.copy"),
             "a run was killed while it wrote the manifest": journal,
             "tasks of a Slurm array wait": tasks,
             "the lock is a link": lock_is_a_link,
-            "the manifest is empty": lambda: (packed / "fzbatch.sqlite").write_bytes(b""),
         }[name]
 
     def statuses(self, name: str) -> "tuple[int, ...]":
