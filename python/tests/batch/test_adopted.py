@@ -200,6 +200,8 @@ class Finds(Adopted):
         (self.night / "n" / "plain.fits").unlink()
         (self.night / "m").mkdir()
         shutil.move(self.night / "a.fits.fz", self.night / "m")
+        # it is in no folder that has a manifest
+        shutil.move(self.night / "small.fits", self.room)
         manifests = self.room / "manifests"
         manifests.mkdir()
         line = f'v=$(ls -d {self.night}/*/ | sed -n "$((SLURM_ARRAY_TASK_ID + 1))p"); {sys.executable} {TOP}/tools/fzbatch adopt "$v" --manifest {manifests}/$(basename "$v").sqlite'
@@ -209,6 +211,9 @@ class Finds(Adopted):
         status, said = self.run_it("status", self.night, "--manifest", manifests)
         self.assertEqual((status, [it.split(",")[0] for it in said.splitlines() if it.startswith("status")]), (0, ["status: 1 files", "status: 1 files"]))
         self.assertEqual(self.run_it("missing", self.night, "--manifest", manifests), (0, ""))
+        shutil.move(self.room / "small.fits", self.night)
+        self.assertEqual(self.run_it("missing", self.night, "--manifest", manifests), (1, ".: 1 files are in no manifest that was named\n"))
+        (self.night / "small.fits").unlink()
         (self.night / "m" / "a.fits.fz").unlink()
         self.assertEqual(self.run_it("missing", self.night, "--manifest", manifests)[0], 1)
 
