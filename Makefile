@@ -83,6 +83,7 @@ install-pages:
 install-python:
 	for it in $(MODULES); do install -D -m 644 python/$$it $(PYTHON)/$$it || exit 1; done
 	install -m 644 docs/REFUSALS.md $(PYTHON)/fzfits/REFUSALS.md
+	tools/commit > $(PYTHON)/fzfits/COMMIT
 	for it in $(COMMANDS); do install -D -m 755 tools/$$it.installed $(BIN)/$$it || exit 1; done
 
 install-python-pages:

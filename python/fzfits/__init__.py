@@ -21,9 +21,10 @@ from .plan import Try, plan
 from .readers import Readable, readable, stored_tiles
 from .results import Drill, Hdu, Made, Place, Report, Verdict
 from .section import cutout, section, section_cfitsio
+from .version import VERSION
 from .writing import patch, write
 
-__version__ = "1.0.0"
+__version__ = VERSION
 
 # `list` is left out, so that `from fzfits import *` does not hide the one of Python.
 __all__ = [

@@ -6,11 +6,13 @@ import sys
 import tarfile
 import unittest
 import zipfile
+from unittest import mock
 
 from support import TOP, InAFolder
 
 sys.path.insert(0, str(TOP / "python"))
 import fzfits  # noqa: E402
+from fzfits import version  # noqa: E402
 
 
 def runs(*words, **more):
@@ -78,6 +80,11 @@ class Wheel(InAFolder):
 class Versions(unittest.TestCase):
     def test_versions_are_one(self):
         self.assertEqual((TOP / "VERSION").read_text(encoding="ascii").strip(), fzfits.__version__)
+
+    def test_the_commit_is_that_of_the_file(self):
+        for text, said in (("", "commit not known"), ("0123456789abcdef0123456789abcdef01234567", "commit 0123456789ab"), ("0123456789abcdef0123456789abcdef01234567 and changes", "commit 0123456789ab and changes")):
+            with mock.patch.object(version, "commit", lambda text=text: text):
+                self.assertEqual(version.shown("fzfits"), f"fzfits {fzfits.__version__} ({said})")
 
 
 def load_tests(loader, tests, _pattern):

@@ -9,7 +9,7 @@ import sys
 from dataclasses import asdict
 from typing import Optional, Sequence
 
-from .. import __version__, program
+from .. import program, version
 from ..errors import FzError
 from ..pictures import drawing
 from . import asking, calls, engines, files, keep, lock, look, names, report, run, slurm, submit, survey, words_of, work
@@ -84,7 +84,7 @@ def _shown(name: "str | bytes | int") -> str:
 
 def _parser() -> argparse.ArgumentParser:
     whole = argparse.ArgumentParser(prog=PROGRAM, description="Packs, verifies and restores folders of FITS files by calls of fz.")
-    whole.add_argument("--version", action="version", version=f"fzbatch {__version__}")
+    whole.add_argument("--version", action="version", version=version.shown("fzbatch"))
     verbs = whole.add_subparsers(dest="verb", required=True, metavar="COMMAND")
     for verb, says in VERBS.items():
         words_of.run_words(_verb(verbs, verb, says, _begin, EXAMPLES.get(verb)), verb)

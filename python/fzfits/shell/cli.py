@@ -7,7 +7,7 @@ import re
 import sys
 from typing import Any, Callable, Optional, Sequence
 
-from .. import __version__
+from .. import version
 from ..errors import FzError, NoProgram, shown
 from ..mend import OPTIONS
 from . import checking, listing, packing, planning, told
@@ -82,7 +82,7 @@ def size_of(text: str) -> int:
 def parser() -> argparse.ArgumentParser:
     """The words of the command."""
     whole = argparse.ArgumentParser(prog=PROGRAM, description="Compresses integer images in FITS files losslessly, restores, checks and cuts them, by calls of fz.", epilog=EPILOG)
-    whole.add_argument("--version", action="version", version=f"{PROGRAM} {__version__}")
+    whole.add_argument("--version", action="version", version=version.shown(PROGRAM))
     verbs = whole.add_subparsers(dest="verb", required=True, metavar="COMMAND")
     verb(verbs, "list", "print what is in each file: names, types, axes, codecs, ratios", listing.list_file)
     pack_words(verb(verbs, "pack", "compress each file FILE to FILE.fz", packing.pack_file))
