@@ -44,6 +44,20 @@ class System:
         """The command as it is run in this system, whose working folder is WORK."""
         return ["chroot", str(self.root), *words] if self.root else list(words)
 
+    def below(self, folder):
+        """Where a folder is found in this system."""
+        return self.root / str(folder).lstrip("/")
+
+    def shares(self, work):
+        """Has this system see the working folder, under the same name."""
+        self.below(work).mkdir(parents=True, exist_ok=True)
+        subprocess.run(["mount", "--bind", str(work), str(self.below(work))], check=True)
+
+    def leaves(self, work):
+        """Takes the working folder out of this system again."""
+        if self.root and os.path.ismount(self.below(work)):
+            subprocess.run(["umount", str(self.below(work))], check=False)
+
     def path(self, name):
         """The path of a tool, or nothing."""
         if self.root is None:
@@ -70,29 +84,20 @@ def run(words, limit=LIMIT):
     return Ran(child.returncode, used.ru_utime + used.ru_stime, said)
 
 
-def unpacked(suite, room, work):
-    """Another suite, unpacked in the folder `room`; None, with the reason, if that cannot be done."""
+def unpacked(suite, room):
+    """Another suite, unpacked in the folder `room` if it is not there; None, with the reason, if that cannot be done."""
     root = room / suite
     if os.geteuid() != 0 or not shutil.which("debootstrap"):
         print(f"bench/compare: left out, since this is not root or debootstrap is not installed: the tools of {suite}", file=sys.stderr)
         return None
-    if not (root / "usr/bin/fpack").exists():
+    # debootstrap has a folder of its own there until it is done
+    if not (root / "usr/bin/fpack").exists() or (root / "debootstrap").exists():
         shutil.rmtree(root, ignore_errors=True)
         made = subprocess.run(["debootstrap", "--variant=minbase", f"--include={PACKAGES}", suite, str(root), MIRROR], stdout=subprocess.PIPE, stderr=subprocess.STDOUT, text=True, check=False)
         if made.returncode:
             print(f"bench/compare: left out, since debootstrap failed ({made.stdout.splitlines()[-1:]}): the tools of {suite}", file=sys.stderr)
             return None
-    below = root / str(work).lstrip("/")
-    below.mkdir(parents=True, exist_ok=True)
-    subprocess.run(["mount", "--bind", str(work), str(below)], check=True)
     return System(suite, root)
-
-
-def removed(systems, work):
-    """Takes the working folder out of the systems again."""
-    for it in systems:
-        if it.root:
-            subprocess.run(["umount", str(it.root / str(work).lstrip("/"))], check=False)
 
 
 def known(system):
