@@ -15,7 +15,7 @@ def of(systems, date, short, speed, returned, damaged, readers):
     return {
         "summary": summary(speed, returned, damaged, says),
         "speed": f"{speeds(speed)}\n\n{says}",
-        "returned": counted("packer", returned, OUTCOMES, ("come back byte for byte", "rejected", "come back otherwise, status 0", "crashed")),
+        "returned": counted("packer", returned, OUTCOMES, ("come back byte for byte", "rejected", "come back changed, status 0", "crashed")),
         "damaged": counted("unpacker", damaged, DAMAGED, DAMAGED),
         "readers": f"{counted('reader', readers, READ, ('reads right', 'fails', 'other pixels, no error', 'crashes'))}\n\n{says}",
     }
@@ -85,7 +85,7 @@ def summary(speed, returned, damaged, says):
         ("`unpack`, one worker", gains("unpack", "unpack"), "1"),
         (f"packed size of {packed['plain']:.1f} MB", f"{packed['fz']:.2f} MB", f"{packed[name]:.2f} MB"),
         ("memory", f"{most['fz']:.0f} MB at most, and `--memory` bounds its buffers: proved", f"{most[name]:.0f} MB at most"),
-        (f"of {sum(returned['fz'].values())} files, many of them odd", *(f"{returned[it]['same']} come back byte for byte, {returned[it]['rejected']} are rejected, {returned[it]['other']} come back otherwise{crashes(returned[it])}" for it in ("fz", name))),
+        (f"of {sum(returned['fz'].values())} files, many of them with a fault", *(f"{returned[it]['same']} come back byte for byte, {returned[it]['rejected']} are rejected, {returned[it]['other']} come back changed{crashes(returned[it])}" for it in ("fz", name))),
         (f"of {sum(damaged['fz'].values()):,} files with one flipped bit, unpacked", *(f"{damaged[it]['rejected']} rejected, {damaged[it]['other pixels, status 0']} come back with other pixels{crashes(damaged[it])}{notice if it == 'fz' else ''}" for it in ("fz", name))),
         ("codecs; floats and tables", "RICE_1, PLIO_1; copied as they are", "these, GZIP, HCOMPRESS_1; packed, floats with a loss unless `-q 0`"),
         ("exactness of what is restored", "proved for bytes in memory, and tested", "tested"),
