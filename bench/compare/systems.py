@@ -90,7 +90,8 @@ def made_by(suite, root):
     """The commands that unpack a suite with the tools. It is apt that installs them, since debootstrap knows no virtual packages."""
     yield ["debootstrap", "--variant=minbase", suite, str(root), MIRROR]
     yield ["cp", "/etc/resolv.conf", str(root / "etc")]
-    inside = ["chroot", str(root), "env", "DEBIAN_FRONTEND=noninteractive", "apt-get", "-q"]
+    # a mirror that is a snapshot of some day says of its lists that they are too old
+    inside = ["chroot", str(root), "env", "DEBIAN_FRONTEND=noninteractive", "apt-get", "-q", "-o", "Acquire::Check-Valid-Until=false"]
     yield [*inside, "update"]
     yield [*inside, "install", "-y", "--no-install-recommends", *PACKAGES]
 
