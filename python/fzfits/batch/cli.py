@@ -11,12 +11,11 @@ from typing import Optional, Sequence
 
 from .. import program, version
 from ..errors import FzError
-from ..pictures import drawing
-from . import asking, calls, engines, files, keep, lock, look, names, report, run, slurm, submit, survey, words_of, work
+from ..pictures import NoPicture
+from . import asking, calls, engines, files, keep, lock, names, run, slurm, survey, verbs, words_of, work
 from .adopt import words as adopted
 from .manifest import BadManifest
 from .messages import Settings
-from .safe import verdict_of
 from .scan import NoSource
 from .tally import Tally, alone
 
@@ -27,6 +26,7 @@ VERBS = {
     "compare": "unpack each packed file, compare it with the plain file, and keep nothing",
     "restore": "restore the plain files that are not in DIR; existing plain files are not touched",
 }
+ALL = (*VERBS, "status", "missing", "forget", "collect", "share", "rebuild", "report", "look", *adopted.OWN)
 EXAMPLES = {"restore": "One file: fzbatch restore night night.fz mef.fits"}
 
 
@@ -52,7 +52,7 @@ def main(words: Optional[Sequence[str]] = None, program_name: str = PROGRAM) -> 
 
 def _parsed(words: Optional[Sequence[str]]) -> argparse.Namespace:
     """The words of the command line. Those that are no options may be anywhere among the options."""
-    parser = _parser()
+    parser = _parser(sys.argv[1:] if words is None else words)
     asked, more = parser.parse_known_args(words)
     if more and (not hasattr(asked, "files") or any(it.startswith("-") and it != "-" for it in more)):
         parser.error(f"unrecognized arguments: {' '.join(more)}")
@@ -64,7 +64,7 @@ def _parsed(words: Optional[Sequence[str]]) -> argparse.Namespace:
 def _called(asked: argparse.Namespace, program_name: str) -> int:
     try:
         return (adopted.call_of(asked) or asked.call)(asked)
-    except (run.Refuse, NoSource, BadManifest, lock.Locked, engines.NoEngine, look.NoPicture, FzError) as error:
+    except (run.Refuse, NoSource, BadManifest, lock.Locked, engines.NoEngine, NoPicture, FzError) as error:
         said = str(error)
     except BrokenPipeError:
         os.dup2(os.open(os.devnull, os.O_WRONLY), sys.stdout.fileno())
@@ -82,39 +82,43 @@ def _shown(name: "str | bytes | int") -> str:
     return str(name) if isinstance(name, int) else names.shown(os.fsencode(name))
 
 
-def _parser() -> argparse.ArgumentParser:
+def _parser(words: Sequence[str] = ()) -> argparse.ArgumentParser:
+    """What reads the words. Of commands that are not among them there are no options."""
     whole = argparse.ArgumentParser(prog=PROGRAM, description="Packs, verifies and restores folders of FITS files by calls of fz.")
     whole.add_argument("--version", action="version", version=version.shown("fzbatch"))
-    verbs = whole.add_subparsers(dest="verb", required=True, metavar="COMMAND")
+    made = verbs.Verbs(whole, verbs.given(words, ALL))
     for verb, says in VERBS.items():
-        words_of.run_words(_verb(verbs, verb, says, _begin, EXAMPLES.get(verb)), verb)
-    status = _verb(verbs, "status", "print what the manifest says: counts, and each file with which something is not well", _status)
+        words_of.run_words(_verb(made, verb, says, _begin, EXAMPLES.get(verb)), verb)
+    status = _verb(made, "status", "print what the manifest says: counts, and each file with which something is not well", _status)
     status.add_argument("--all", action="store_true", help="name all files, not only the first five of each cause")
     words_of.without(status)
     status.add_argument("--json", action="store_true", help="print each row of the manifest as a line of JSON")
-    lacks = _verb(verbs, "missing", "name each file with which something is not well, and why; status 1 if there is one", _missing)
+    lacks = _verb(made, "missing", "name each file with which something is not well, and why; status 1 if there is one", _missing)
     words_of.without(lacks)
     lacks.add_argument("-0", "--null", action="store_true", help="print names only, as they are, with a null byte after each")
-    forget = _verb(verbs, "forget", "remove files from the manifest that were never packed or whose packed file is gone", _forget)
+    forget = _verb(made, "forget", "remove files from the manifest that were never packed or whose packed file is gone", _forget)
     forget.add_argument("--name", action="append", required=True, metavar="NAME", help="the name of a file, as fzbatch status prints it")
-    collect = _verb(verbs, "collect", "read the results of a Slurm array into the manifest", _collect)
+    collect = _verb(made, "collect", "read the results of a Slurm array into the manifest", _collect)
     collect.add_argument("--drop", action="store_true", help="drop the tasks that have no result")
     collect.add_argument("--all", action="store_true", help="name all files, not only the first five of each cause")
-    share = _verb(verbs, "share", "do the share of one task of a Slurm array", _share)
+    share = _verb(made, "share", "do the share of one task of a Slurm array", _share)
     share.add_argument("--fz", metavar="PROGRAM", help=words_of.FZ)
-    again = _verb(verbs, "rebuild", "make a lost or damaged manifest again from the packed files", _rebuild)
+    again = _verb(made, "rebuild", "make a lost or damaged manifest again from the packed files", _rebuild)
     words_of.rebuild_words(again)
-    page = _verb(verbs, "report", "write the state of an archive as one page of HTML", _report)
+    page = _verb(made, "report", "write the state of an archive as one page of HTML", _report)
     words_of.without(page)
     page.add_argument("-o", "--out", type=os.fsencode, default=b"report.html", metavar="FILE", help="the page (report.html)")
-    _look_words(verbs)
-    adopted.add(verbs)
+    if made.wants("look"):
+        _look_words(made)
+    adopted.add(made)
     return whole
 
 
-def _look_words(verbs) -> None:
+def _look_words(given) -> None:
+    from ..pictures import drawing  # pylint: disable=import-outside-toplevel
+
     says = "write a picture of a FITS file, packed or plain, or a page of small pictures of a folder"
-    made = verbs.add_parser("look", help=says, description=says[0].upper() + says[1:] + ".")
+    made = given.add_parser("look", help=says, description=says[0].upper() + says[1:] + ".")
     made.add_argument("file", metavar="FILE", type=os.fsencode, help="a FITS file, or a folder of such")
     made.add_argument("--hdu", metavar="K", help="the number of the HDU, or its EXTNAME (all images of the file)")
     made.add_argument("--box", default="", metavar="LO:HI,..", help="a part of the image, counted from 1, axis 1 first; of a cube the third piece names the plane")
@@ -127,8 +131,8 @@ def _look_words(verbs) -> None:
     made.set_defaults(call=_look)
 
 
-def _verb(verbs, name: str, says: str, call, example: Optional[str] = None) -> argparse.ArgumentParser:
-    made = verbs.add_parser(name, help=says, description=says[0].upper() + says[1:] + ".", epilog=example)
+def _verb(given, name: str, says: str, call, example: Optional[str] = None) -> argparse.ArgumentParser:
+    made = given.add_parser(name, help=says, description=says[0].upper() + says[1:] + ".", epilog=example)
     made.add_argument("dir", metavar="DIR", type=os.fsencode, help="the folder of plain files; or, if it has a manifest, that of packed files")
     made.add_argument("packed", metavar="PACKED", nargs="?", type=os.fsencode, help="the folder of packed files (DIR with .fz after it)")
     if name in asking.READS:
@@ -216,6 +220,8 @@ def _forget(asked: argparse.Namespace) -> int:
 
 
 def _report(asked: argparse.Namespace) -> int:
+    from . import report, safe  # pylint: disable=import-outside-toplevel
+
     plain, packed = _folders(asked)
     with run.open_manifest(packed, writes=False) as manifest:
         found = survey.survey(manifest, plain, packed, asked.without_plain)
@@ -223,18 +229,23 @@ def _report(asked: argparse.Namespace) -> int:
     if not files.write_over_own(asked.out, text.encode(errors="backslashreplace"), len(report.HEAD)):
         raise run.Refuse(f"{names.shown(asked.out)} is there, and is no page of fzbatch: give another name")
     print(names.shown(asked.out))
-    print(verdict_of(found).line)
+    print(safe.verdict_of(found).line)
     _print_lost(found)
     return run.DONE if found.whole else run.NOT_DONE
 
 
 def _look(asked: argparse.Namespace) -> int:
+    from ..pictures import drawing  # pylint: disable=import-outside-toplevel
+    from . import look  # pylint: disable=import-outside-toplevel
+
     how = drawing.Look(asked.box, max(16, min(asked.size, 8000)), asked.stretch, asked.exact, not asked.no_grid, asked.fz)
     print(look.look(asked.file, look.out_of(asked.file, asked.out), look.extension_of(asked.hdu) if asked.hdu else None, how))
     return run.DONE
 
 
 def _collect(asked: argparse.Namespace) -> int:
+    from . import submit  # pylint: disable=import-outside-toplevel
+
     _, packed = _folders(asked)
     return submit.collect(packed, sys.stdout, asked.drop, asked.all)
 
@@ -251,6 +262,8 @@ def _share(asked: argparse.Namespace) -> int:
 
 
 def _rebuild(asked: argparse.Namespace) -> int:
+    from . import submit  # pylint: disable=import-outside-toplevel
+
     packed = os.path.realpath(asked.packed if asked.packed is not None else asked.dir)
     calls.check_files()
     made = submit.settings_for_rebuild(packed, program.find(asked.fz), secrets.token_hex(8), asked.jobs, asked.memory, asked.accept_wrong_sums, max(0.0, asked.time_limit))
