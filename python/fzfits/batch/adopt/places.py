@@ -9,16 +9,11 @@ from typing import Iterator, List, Optional, Sequence
 from .. import files, inside, keep, lock, names
 from ..scan import folders_of
 from ..wanted import Refuse
+from .named import beside
 from .rows import GONE
 from .store import Store
 
-SUFFIX = b".fzbatch.sqlite"
 LOCK, COPY, SUMS = b".lock", b".copy", b".SHA256SUMS"
-
-
-def beside(folder: bytes) -> bytes:
-    """The manifest of a folder if no other place is named: beside it, with its name."""
-    return folder.rstrip(b"/") + SUFFIX
 
 
 def manifest_of(folder: bytes, given: "Sequence[bytes]") -> bytes:

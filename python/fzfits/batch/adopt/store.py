@@ -22,13 +22,15 @@ SELECT = f"SELECT {', '.join(COLUMNS)}, hash FROM files"
 PUT = f"INSERT OR REPLACE INTO files ({', '.join(COLUMNS)}, hash) VALUES ({', '.join('?' * (len(COLUMNS) + 1))})"
 PUT_FOLDER = f"INSERT OR REPLACE INTO folders ({', '.join(FOLDER_COLUMNS)}, hash) VALUES ({', '.join('?' * (len(FOLDER_COLUMNS) + 1))})"
 WIDE = 1 << 128
+# What of a file is hashed by a look: name, length and time.
+LOOK = b"%b\0%d %d"
 # Up to so many files all rows are checked whenever the manifest is opened; of more, those that a command reads.
 CHECKED = 20_000
 
 
 def look_of(name: bytes, size: int, mtime: int) -> int:
     """The hash of what a look at a folder sees of one file."""
-    return int.from_bytes(hashlib.blake2b(b"%b\0%d %d" % (name, size, mtime), digest_size=16).digest(), "big")
+    return int.from_bytes(hashlib.blake2b(LOOK % (name, size, mtime), digest_size=16).digest(), "big")
 
 
 def sum_of(text: str) -> "Tuple[int, int]":

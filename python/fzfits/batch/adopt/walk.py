@@ -1,6 +1,7 @@
 """A look at a folder and all below it: names, lengths and times, one folder after another, and no file is opened."""
 from __future__ import annotations
 
+import hashlib
 import multiprocessing
 import os
 import stat
@@ -11,18 +12,15 @@ from typing import Iterator, Optional, Tuple
 
 from .. import names
 from ..scan import ADVICE, FAR, LATEST, LINK, PIPE, SHUT, TIME, Left
-from .store import WIDE, look_of
+from .named import is_wanted
+from .store import LOOK, WIDE
 
 # From so many files on, several processes look.
 MANY = 200_000
 # A process looks at so many folders before it says what it saw.
 AT_ONCE = 16
+REGULAR = stat.S_IFREG >> 12
 Entry = Tuple[bytes, int, int]
-
-
-def is_wanted(name: bytes) -> bool:
-    """Whether a file of this name is adopted: FITS files, packed ones, and those that another program compressed as a whole."""
-    return names.is_fits(name) or name.lower().endswith(names.PACKED) or names.is_compressed_fits(name)
 
 
 @dataclass
@@ -53,8 +51,10 @@ def entries(root: bytes, path: bytes, seen: Optional[Seen] = None) -> Iterator[E
                 except OSError as error:
                     seen.left.append(Left(os.path.join(path, entry.name), f"cannot be read: {error.strerror}", ADVICE[SHUT], SHUT))
                     continue
-                if stat.S_ISREG(it.st_mode) and is_wanted(entry.name) and it.st_mtime_ns < LATEST:
-                    yield entry.name, it.st_size, it.st_mtime_ns
+                name = entry.name
+                # most names are told by their end alone
+                if it.st_mode >> 12 == REGULAR and it.st_mtime_ns < LATEST and (name.endswith(names.SUFFIXES) or is_wanted(name)):
+                    yield name, it.st_size, it.st_mtime_ns
                 else:
                     _other(seen, path, entry, it)
     except OSError as error:
@@ -84,11 +84,14 @@ def _other(seen: Seen, path: bytes, entry: "os.DirEntry[bytes]", it: os.stat_res
 def see(root: bytes, path: bytes) -> Seen:
     """One folder."""
     seen = Seen(path)
+    count = total = look = 0
+    # this is done for each of some million names: what `look_of` does, without its call
+    hashed, number = hashlib.blake2b, int.from_bytes
     for name, size, mtime in entries(root, path, seen):
-        seen.count += 1
-        seen.bytes += size
-        seen.look += look_of(name, size, mtime)
-    seen.look %= WIDE
+        count += 1
+        total += size
+        look += number(hashed(LOOK % (name, size, mtime), digest_size=16).digest(), "big")
+    seen.count, seen.bytes, seen.look = count, total, look % WIDE
     return seen
 
 

@@ -6,9 +6,10 @@ import os
 from typing import Callable, List, Optional
 
 from .. import files, names, words_of
-from . import places, walk
+from . import named
 
-# Commands that work on an archive of fzbatch pack, and on an adopted folder too.
+# Commands that work on adopted folders only, and those that work on an archive of fzbatch pack too.
+OWN = ("adopt", "retile")
 BOTH = ("verify", "compare", "status", "missing", "report", "forget")
 
 
@@ -56,15 +57,17 @@ def _everyday(made: argparse.ArgumentParser) -> None:
 
 
 def call_of(asked: argparse.Namespace) -> "Optional[Callable[[argparse.Namespace], int]]":
-    """What is called, if the command is one of adopted folders; otherwise None."""
+    """What is called, if the command is one of adopted folders; otherwise None, and nothing is imported for it."""
+    is_in_place = asked.verb in ("pack", "restore") and bool(asked.beside or asked.delete or asked.manifest)
+    is_both = asked.verb in BOTH and bool(asked.manifest or _is_adopted(asked))
+    if not (is_in_place or is_both or asked.verb in OWN):
+        return None
     from . import commands  # pylint: disable=import-outside-toplevel
 
-    found: "Optional[Callable[[argparse.Namespace], int]]" = getattr(commands, asked.verb, None)
-    if asked.verb in ("pack", "restore"):
+    if is_in_place:
         return commands.in_place(asked)
-    if asked.verb not in BOTH:
-        return found
-    return found if asked.manifest or _is_adopted(asked) else None
+    found: "Callable[[argparse.Namespace], int]" = getattr(commands, asked.verb)
+    return found
 
 
 def words(asked: argparse.Namespace) -> "List[bytes]":
@@ -81,7 +84,7 @@ def folder_of(asked: argparse.Namespace) -> bytes:
 
 def is_file_word(word: bytes) -> bool:
     """Whether a word names a file, by its ending, and no folder of that name is there."""
-    return walk.is_wanted(os.path.basename(word)) and not os.path.isdir(word)
+    return named.is_wanted(os.path.basename(word)) and not os.path.isdir(word)
 
 
 def _is_adopted(asked: argparse.Namespace) -> bool:
@@ -93,7 +96,7 @@ def _is_adopted(asked: argparse.Namespace) -> bool:
 
 
 def _has_beside(folder: bytes) -> bool:
-    return files.there(places.beside(os.path.realpath(folder)))
+    return files.there(named.beside(os.path.realpath(folder)))
 
 
 def _has_own(folder: bytes) -> bool:
