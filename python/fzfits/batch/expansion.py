@@ -11,6 +11,8 @@ RATIO = 1000
 LONGEST = 1 << 62
 KEYS = re.compile(rb"(Z?NAXIS[0-9]{0,3}|Z?BITPIX|PCOUNT|GCOUNT) *= +(-?[0-9]{1,18}) *(?:/.*)?")
 PACKED = re.compile(rb"ZIMAGE  = +T *(?:/.*)?")
+# How the cards begin that are looked at more closely: most others are passed by without a pattern.
+SIZES, ZIMAGE, END = (b"NAXIS", b"ZNAXIS", b"BITPIX", b"ZBITPIX", b"PCOUNT", b"GCOUNT"), b"ZIMAGE  =", b"END     "
 
 
 def unpacked(number: int, size: int) -> int:
@@ -43,13 +45,14 @@ def _header(number: int, start: int) -> "tuple[dict[bytes, int], int]":
         block = os.pread(number, BLOCK, start + at * BLOCK)
         if len(block) < BLOCK:
             break
-        for card in (block[it : it + CARD] for it in range(0, BLOCK, CARD)):
-            if card.startswith(b"END     "):
+        for it in range(0, BLOCK, CARD):
+            if block.startswith(SIZES, it):
+                found = KEYS.fullmatch(block, it, it + CARD)
+                if found:
+                    cards.setdefault(found[1], int(found[2]))
+            elif block.startswith(END, it):
                 return cards, (at + 1) * BLOCK
-            found = KEYS.fullmatch(card) if card[:1] in b"NZBPG" else None
-            if found:
-                cards.setdefault(found[1], int(found[2]))
-            elif PACKED.fullmatch(card):
+            elif block.startswith(ZIMAGE, it) and PACKED.fullmatch(block, it, it + CARD):
                 cards[b"ZIMAGE"] = 1
     return cards, 0
 

@@ -17,6 +17,7 @@ PIECE = 1 << 20
 # What may be the beginning of a card with a checksum.
 CARDS = (b"DATASUM = ", b"CHECKSUM= ")
 IMAGE_CARDS = (b"ZDATASUM= ", b"ZHECKSUM= ")
+LETTERS = b"SUM"
 # File systems of which one call for the whole disk is known to wait for all files, and to report what could not be written.
 LOCAL = ("ext2", "ext3", "ext4", "xfs", "btrfs", "f2fs", "tmpfs")
 NO_LINKS = (errno.EPERM, errno.ENOTSUP, errno.EOPNOTSUPP, errno.EMLINK, errno.ENOSYS)
@@ -58,8 +59,10 @@ class _Reading:
         """The next piece."""
         self._total.update(piece)
         seam = self._end + piece[:9]
-        self.has_sums = self.has_sums or any(card in piece or card in seam for card in CARDS)
-        self.has_image_sums = self.has_image_sums or any(card in piece or card in seam for card in IMAGE_CARDS)
+        # these letters are in all of the cards, and most data have none
+        if LETTERS in piece or LETTERS in seam:
+            self.has_sums = self.has_sums or any(card in piece or card in seam for card in CARDS)
+            self.has_image_sums = self.has_image_sums or any(card in piece or card in seam for card in IMAGE_CARDS)
         self._end = piece[-9:]
 
     def of(self, it: os.stat_result) -> Looked:

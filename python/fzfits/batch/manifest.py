@@ -8,6 +8,7 @@ from __future__ import annotations
 import sqlite3
 import time
 from dataclasses import dataclass, fields
+from operator import attrgetter
 from typing import Any, Iterator, Optional
 
 from . import checks, names, opening
@@ -85,6 +86,8 @@ class Row:
 
 
 COLUMNS = tuple(it.name for it in fields(Row))
+VALUES = attrgetter(*COLUMNS)
+PUT = f"INSERT OR REPLACE INTO files ({', '.join(COLUMNS)}, hash) VALUES ({', '.join('?' * (len(COLUMNS) + 1))})"
 
 
 def now() -> str:
@@ -238,18 +241,17 @@ class Manifest:
 
     def put(self, row: Row) -> None:
         """Sets the row of a file."""
-        values = tuple(getattr(row, it) for it in COLUMNS)
+        values = VALUES(row)
         try:
             checks.check_row("files", values)
             checks.check_file(row)
         except checks.Odd as error:
             raise BadManifest(f"a row of {names.shown(row.path)} cannot be written: {error}") from error
         digest = checks.hash_of("files", values)
-        places = ", ".join("?" * (len(COLUMNS) + 1))
-        self._write(f"INSERT OR REPLACE INTO files ({', '.join(COLUMNS)}, hash) VALUES ({places})", (*values, digest))
+        self._write(PUT, (*values, digest))
         self._drop_hash(row.path)
         self._hashes[row.path], self._total = digest, checks.added(self._total, digest)
-        self._rows[row.path] = Row(**vars(row))
+        self._rows[row.path] = Row(*values)
         if time.monotonic() - self._saved > 1:
             self.save()
 
@@ -266,7 +268,7 @@ class Manifest:
 
     def rows(self) -> Iterator[Row]:
         """All rows, by their paths."""
-        return (Row(**vars(self._rows[it])) for it in sorted(self._rows))
+        return (Row(*VALUES(self._rows[it])) for it in sorted(self._rows))
 
     def leave_out(self, left: Any, others: "dict[str, int]") -> None:
         """Notes what the last look at the source left out, in the place of what an earlier one did. The disk has it after `save`."""
@@ -298,5 +300,3 @@ class Manifest:
     def runs(self) -> "list[tuple[str, str, str, int, str, Optional[str], Optional[str]]]":
         """All runs: token, verb, host, process, when it began and ended, and its last line."""
         return list(self._sql.execute("SELECT token, verb, host, process, began, ended, said FROM runs ORDER BY began, token"))
-
-
