@@ -123,7 +123,7 @@ class File:
         following = headers(f"/proc/self/fd/{self.number}")
         heads, more = list(islice(following, MOST)), list(islice(following, 1))
         self.sort = "packed" if any(it.is_packed or it.value("ZTABLE") is True for it in heads) else "plain"
-        if not (summing.is_fast() and any(map(has_own_sums, heads)) and not self._grows()) or more or not self._unpacked(heads):
+        if not any(map(has_own_sums, heads)) or self._grows() or more or not self._unpacked(heads):
             self._verified(heads)
         self._headers(chain(heads, more, following))
 

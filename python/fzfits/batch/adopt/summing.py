@@ -1,8 +1,9 @@
-"""The verdicts on DATASUM and CHECKSUM of an HDU that fz is not asked about, with numpy if it is installed."""
+"""The verdicts on DATASUM and CHECKSUM of an HDU that fz is not asked about: by numpy or libfz, if one of them is installed."""
 from __future__ import annotations
 
 import os
-from typing import Any, Tuple
+from functools import lru_cache
+from typing import Callable, Optional, Tuple
 
 from ... import sums
 from ...headers import Header
@@ -11,34 +12,44 @@ PIECE = 1 << 20
 WRAP = 0xFFFFFFFF
 
 
-def _numpy() -> Any:
+@lru_cache(maxsize=None)
+def _added() -> "Callable[[int, bytes], int]":
+    """What adds bytes to a sum, all but the last of them in whole words: the fastest that there is. (Python itself holds up other threads.)"""
     try:
         import numpy  # pylint: disable=import-outside-toplevel
-
-        return numpy
     except ImportError:
+        return _of_library() or sums.added
+
+    def added(total: int, data: bytes) -> int:
+        if len(data) % 4:
+            return sums.added(total, data)
+        total += int(numpy.frombuffer(data, ">u4").sum(dtype="u8"))
+        while total >> 32:
+            total = (total & WRAP) + (total >> 32)
+        return total
+
+    return added
+
+
+def _of_library() -> "Optional[Callable[[int, bytes], int]]":
+    from ... import codec, library  # pylint: disable=import-outside-toplevel
+
+    try:
+        library.load()
+    except library.NoLibrary:
         return None
-
-
-def is_fast() -> bool:
-    """Whether sums are made here about as fast as fz makes them."""
-    return _numpy() is not None
+    return lambda total, data: codec.checksum(data, total)
 
 
 def sum_of(number: int, start: int, end: int) -> int:
     """The sum of the bytes of a part of an open file."""
-    total, numpy = 0, _numpy()
+    total, added = 0, _added()
     while start < end:
         piece = os.pread(number, min(PIECE, end - start), start)
         if not piece:
             break
         start += len(piece)
-        if numpy is None or len(piece) % 4:
-            total = sums.added(total, piece)
-        else:
-            total += int(numpy.frombuffer(piece, ">u4").sum(dtype="u8"))
-            while total >> 32:
-                total = (total & WRAP) + (total >> 32)
+        total = added(total, piece)
     return total
 
 
