@@ -35,9 +35,10 @@ def questions(was, now, cited):
 
 def unnamed(body, is_question):
     """The calls in order whose step, or whose `?`, has the name of the call and not that of a binding."""
+    named = {it for it in body.calls if it.is_last and it.bound not in ([], ["_"])}
     if is_question:
-        return [it for it in body.calls if it.is_asked and not (it.bound and it.is_last)]
-    return [it for it in body.calls if it.is_asked or not (it.bound and it.is_last)]
+        return [it for it in body.calls if it.is_asked and it not in named]
+    return [it for it in body.calls if it.is_asked or it not in named]
 
 
 def taken_over(was, now, cited):
@@ -60,6 +61,18 @@ def first_question(body):
     named = body.given_at(places[0]) if places and body.tokens[places[0] + 1 : places[0] + 2] == [";"] else []
     first = named[0] if named else asked[0].name if asked else None
     return first, len(places)
+
+
+def newly_bound(was, now, cited):
+    """The step of a call, which a `let` names after its binding now: that of `let early = f()` is `f-early`."""
+    for name in sorted(cited.names):
+        for kind, words in parts_of(name):
+            number = int(words[-1]) if len(words) > 1 and words[-1].isdigit() else 1
+            if kind != "step" or len(words) > 1 + (number > 1):
+                continue
+            before, after = (sum(it.name == words[0] for it in unnamed(body, False)) for body in (was, now))
+            if after < number <= before:
+                yield name, f"the code names this call of {words[0]} after its binding now, or does not make it"
 
 
 def residuals(was, now, cited):
@@ -147,7 +160,7 @@ def tests(was, now, cited):
 def lost(before, after, cited):
     """The names that the edit takes away, each with why."""
     was, now, out = Body(before), Body(after), {}
-    for rule in (not_made, questions, taken_over, residuals, loops, branches, tests):
+    for rule in (not_made, newly_bound, questions, taken_over, residuals, loops, branches, tests):
         for name, why in rule(was, now, cited):
             out.setdefault(name, why)
     return out
