@@ -11,7 +11,9 @@ from pathlib import Path
 sys.path[:0] = [str(Path(__file__).resolve().parents[1])]
 
 from batch.test_adopted import Adopted  # noqa: E402
-from fzfits.batch.adopt import store  # noqa: E402
+from fzfits.batch.adopt import forms, listing, store  # noqa: E402
+from fzfits.batch.checks import Odd  # noqa: E402
+from fzfits.batch.opening import BadManifest  # noqa: E402
 
 ALL_ROWS = (("verify",), ("adopt", "--reread", "0"), ("status", "--json"))
 FOLDERS = (("status",), ("missing",), ("adopt",))
@@ -79,6 +81,31 @@ class ManyRows(Adopted):
     def test_the_row_of_a_folder(self) -> None:
         self.change("UPDATE folders SET counts = ? WHERE path = ?", '{"right":4}', b"n")
         self.finds(dict.fromkeys((*ALL_ROWS, *FOLDERS), DAMAGED))
+
+    def list_by(self, many: int, jobs: int = 2) -> bytes:
+        """The list for sha256sum, if a manifest of so many files is large."""
+        with unittest.mock.patch.multiple(listing, MANY=many, AT_ONCE=1), store.Store(os.fsencode(self.manifest), writes=False) as it:
+            return b"".join(listing.pieces(it, jobs))
+
+    def test_the_list_is_the_same_by_several_processes(self) -> None:
+        written = Path(f"{self.manifest}.SHA256SUMS").read_bytes()
+        self.assertEqual(len(written.splitlines()), 6)
+        # by one process, by others, and by both since one folder has more than two files
+        for many in (6, 5, 2):
+            self.assertEqual(self.list_by(many), written)
+
+    def test_a_row_that_another_process_finds_damaged(self) -> None:
+        self.change("UPDATE files SET sha256 = ? WHERE name = ?", bytes(32), b"a.fits.fz")
+        for many in (6, 5, 2):
+            with self.assertRaisesRegex(BadManifest, "a.fits.fz is damaged"):
+                self.list_by(many)
+
+    def test_rows_of_other_forms_are_no_usual_ones(self) -> None:
+        usual = (b"n", b"a.fits", 1, -1, 2, bytes(32), "packed", "right", b"", "[]", "[]", "", b"", 1, 1)
+        forms.check_row("files", usual)
+        for at, odd in enumerate((b"../n", b"a/b", -1, None, 1.5, bytes(31), "other", "well", b"/n", "[\n]", "\x1b", "\x1b", bytes(31), True, -1)):
+            with self.assertRaises(Odd, msg=str(odd)):
+                forms.check_row("files", (*usual[:at], odd, *usual[at + 1 :]))
 
 
 if __name__ == "__main__":

@@ -4,6 +4,7 @@ from __future__ import annotations
 import json
 import re
 import sqlite3
+from functools import lru_cache
 from typing import Any, Callable, Sequence
 
 from .. import checks, names
@@ -139,8 +140,36 @@ def check_lines(row: Row) -> None:
             raise Odd(f"a row of the table files has a value in {name} that fzbatch does not write")
 
 
+# The same of bytes: rows come folder by folder.
+_usual_path = lru_cache(maxsize=256)(folder_path)
+
+
+def _is_usual(values: Sequence[Any]) -> bool:
+    """Whether a row of a file is as most are: what FORMS says of it in one look, since manifests have millions of them."""
+    folder, name, length, mtime, looked, sha256, sort, status, was, hdus, found, made_of, following, adopted, read_in = values
+    return (
+        type(length) is type(mtime) is type(looked) is type(adopted) is type(read_in) is int
+        and length >= 0 <= adopted
+        and read_in >= 0
+        and type(sha256) is bytes
+        and len(sha256) == 32
+        and type(sort) is type(status) is str
+        and sort in SORTS
+        and status in STATUSES
+        and was == following == b""
+        and made_of == ""
+        and file_name(name)
+        and type(folder) is bytes
+        and _usual_path(folder)
+        and line(hdus)
+        and line(found)
+    )
+
+
 def check_row(table: str, values: Sequence[Any]) -> None:
     """Raises `Odd` if a field has another type or form than fzbatch gives it."""
+    if table == "files" and len(values) == len(FORMS["files"]) and _is_usual(values):
+        return
     if table == "facts" and not FACTS.get(values[0], lambda it: False)(values[1]):
         raise Odd("a fact that fzbatch does not note")
     for (name, holds), value in zip(FORMS[table].items(), values):

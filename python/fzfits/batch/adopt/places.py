@@ -6,11 +6,11 @@ import re
 import stat
 from typing import Iterator, List, Optional, Sequence
 
-from .. import files, inside, keep, lock, names
+from .. import files, inside, keep, lock, machine, names
 from ..scan import folders_of
 from ..wanted import Refuse
+from . import listing
 from .named import beside
-from .rows import GONE
 from .store import Store
 
 LOCK, COPY, SUMS = b".lock", b".copy", b".SHA256SUMS"
@@ -97,18 +97,10 @@ def keep_beside(store: Store) -> "List[str]":
         files.remove(it)
     said = []
     rights = stat.S_IMODE(os.stat(store.path).st_mode) & 0o666
-    for ending, beginning, pieces in ((COPY, b"SQLite format 3\0", keep._bytes_of(store.path)), (SUMS, keep.HEAD, _sums(store))):
+    for ending, beginning, pieces in ((COPY, b"SQLite format 3\0", keep._bytes_of(store.path)), (SUMS, keep.HEAD, listing.pieces(store, machine.processors()))):
         path = store.path + ending
         if keep.is_none_of_ours(path, beginning):
             said.append(f"{names.shown(path)} is there, and fzbatch did not write it: it stays as it is, and none was written.")
         else:
             inside.replace(path, pieces, rights)
     return said
-
-
-def _sums(store: Store) -> Iterator[bytes]:
-    """The lines of SHA256SUMS, to be read by sha256sum -c in the folder."""
-    yield keep.HEAD
-    for it in store.rows():
-        if it.status != GONE:
-            yield keep.line_of(it.path, it.sha256.hex())

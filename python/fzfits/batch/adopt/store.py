@@ -9,7 +9,7 @@ from __future__ import annotations
 import hashlib
 import json
 from dataclasses import astuple
-from typing import Any, Iterator, Optional, Tuple
+from typing import Any, Iterator, List, Optional, Tuple
 
 from .. import checks, names
 from ..checks import Odd
@@ -158,12 +158,13 @@ class Store(Book):
 
     def rows(self) -> Iterator[Row]:
         """All rows, one folder after another."""
-        for it in list(self._paths()):
+        for it in self.paths():
             yield from self.rows_of(it)
 
-    def _paths(self) -> Iterator[bytes]:
+    def paths(self) -> "List[bytes]":
+        """The paths of all folders."""
         self._flush()
-        return (it for (it,) in self._sql.execute("SELECT path FROM folders ORDER BY path"))
+        return [it for (it,) in self._sql.execute("SELECT path FROM folders ORDER BY path")]
 
     def not_well(self) -> Iterator[Row]:
         """The rows with which something is not well. Their number is that of the folders."""
