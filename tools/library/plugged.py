@@ -1,5 +1,4 @@
 """A plugin of pytest (`-p plugged`): libfz is in the place of astropy's codecs, and is used."""
-import contextlib
 import sys
 from pathlib import Path
 
@@ -22,12 +21,6 @@ def counted(name):
 
 
 def pytest_configure(config):
-    with contextlib.suppress(ImportError):
-        from hypothesis import settings  # pylint: disable=import-outside-toplevel
-
-        # No test depends on how fast the machine is.
-        settings.register_profile("patient", deadline=None)
-        settings.load_profile("patient")
     for name in CALLS:
         setattr(codec, name, counted(name))
     fzfits.astropy.install()
