@@ -101,7 +101,12 @@ def _draw(figure: Any, place: Tuple[int, int, int], header: Header, part: images
     axes.set_title(plain_text(title), fontsize=10 if alone else 8)
     axes.tick_params(labelsize=8 if alone else 6)
     bar = figure.colorbar(drawn, cax=axes.inset_axes([1.02, 0, 0.04, 1]))
+    if part.bin == 1 and "int" in images.type_of(header):
+        # flags have no values between two integers
+        bar.locator = library("matplotlib.ticker").MaxNLocator("auto", steps=[1, 2, 2.5, 5, 10], integer=True)
+        bar.update_ticks()
     bar.ax.tick_params(labelsize=8 if alone else 6)
+    bar.ax.yaxis.get_offset_text().set_fontsize(8 if alone else 6)
     units = header.value("BUNIT")
     if isinstance(units, str) and units:
         bar.ax.set_title(plain_text(units), fontsize=8)

@@ -17,7 +17,7 @@ POLICY = "<meta http-equiv=\"Content-Security-Policy\" content=\"default-src 'no
 STYLE = """
 :root { color-scheme: light dark; } body { font: 14px/1.4 system-ui, sans-serif; margin: 1.5em auto; max-width: 90em; padding: 0 1em; }
 .all { display: grid; grid-template-columns: repeat(auto-fill, minmax(170px, 1fr)); gap: 1em; } figure { margin: 0; }
-img { width: 100%; height: 170px; object-fit: contain; background: #8883; } figcaption { overflow-wrap: anywhere; font-size: 12px; }
+img { display: block; width: 100%; height: 170px; object-fit: contain; background: #8883; } figcaption { margin-top: 4px; overflow-wrap: anywhere; font-size: 12px; }
 img.few { image-rendering: pixelated; } .none { height: 170px; background: #8883; display: grid; place-content: center; padding: .5em; box-sizing: border-box; overflow: hidden; } .note { opacity: .7; }
 """
 SIZE = 256
