@@ -21,7 +21,7 @@ FISH = $(SHARE)/fish/vendor_completions.d
 # The commands in Python; the pages and completions of a command have its name.
 COMMANDS = fzfits fzbatch
 MODULES = $(patsubst python/%,%,$(wildcard python/fzfits/*.py python/fzfits/py.typed python/fzfits/*/*.py python/fzfits/*/*/*.py))
-PAGES = $(wildcard README.md CHANGELOG.md CONTRIBUTING.md SECURITY.md LICENSE docs/*.md docs/*.svg python/README.md bench/jobs/README.md)
+PAGES = $(wildcard README.md CHANGELOG.md CONTRIBUTING.md SECURITY.md LICENSE docs/*.md docs/*.svg docs/*.png python/README.md bench/jobs/README.md)
 # What the unproved program is compiled of.
 SOURCES = crates.txt $(wildcard crates/*/src/*.rt crates/*/src/*/*.rt crates/*/specs/*.antt crates/*/specs/*/*.antt)
 
