@@ -92,7 +92,14 @@ def _is_adopted(asked: argparse.Namespace) -> bool:
     first, *more = words(asked)
     if more and not is_file_word(more[0]):
         return _has_beside(more[0]) and not _has_own(more[0])
-    return _has_beside(first) and not _has_own(first) and not places.is_archive(os.path.realpath(first) + names.PACKED)
+    return _has_beside(first) and not _has_own(first) and not _is_archive(os.path.realpath(first) + names.PACKED)
+
+
+def _is_archive(folder: bytes) -> bool:
+    # only then, since other commands start faster without it
+    from . import places  # pylint: disable=import-outside-toplevel
+
+    return places.is_archive(folder)
 
 
 def _has_beside(folder: bytes) -> bool:
