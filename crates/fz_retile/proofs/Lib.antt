@@ -14,6 +14,7 @@ pub mod Keeping
 pub mod Knowing
 pub mod Limits
 pub mod LineParts
+pub mod LongestHeader
 pub mod Looking
 pub mod Marking
 pub mod Moving
@@ -27,6 +28,7 @@ pub mod Readable
 pub mod Same
 pub mod SameAsUnpack
 pub mod Settling
+pub mod ShortHeaders
 pub mod Shown
 pub mod Somes
 pub mod Standing

@@ -115,9 +115,9 @@ pub fn retile<R: Threads + Sync, S: Source, K: Sink, G: Gate>(
     settled(answer, failed, later)
 }
 
-// The answer of the job, by that of `pack`: a failed reading of the source is its fault, and a reading of the view that failed
-// though none of the source did is the refusal of what was accepted before.
-fn settled(
+/// The answer with which `retile` ends, by that of `pack`: a failed reading of the source is its fault; and if a reading of the
+/// view failed though none of the source did, it is what the view refused first of what the look had accepted.
+pub fn settled(
     answer: Result<(), Stop>,
     failed: Option<Failed>,
     later: Option<Fault>,
