@@ -15,7 +15,6 @@ use Rattle.fz_files.specs.Packed.{pixel_bits}
 use Rattle.fz_files.specs.Restored.{RowStandsFor, pixels_of}
 use Rattle.fz_checks.specs.declared.job_checks.PackedImage.{PackedImage}
 use Rattle.fz_head.specs.declared.plan.Plan.{Plan}
-use Rattle.fz_job.specs.Clauses.{IsOfSomeRow}
 use Rattle.fz_laws.specs.NewNumbers.{new_numbers}
 use Rattle.fz_pool.specs.Calls.{AreEncoded, AreForEncoding}
 use Rattle.fz_pool.specs.Slots.{IsEncoded, IsForEncoding, bits_of_pixel, places_of}
@@ -33,6 +32,7 @@ use Rattle.fz_target.specs.Told.{IfBoth}
 use Rattle.fz_target.specs.declared.target.Target.{Target}
 use Rattle.fz_target.proofs.Pieces.{count_twice}
 use Rattle.fz_target.proofs.Unrefused.{CanReadTiles, StandsForOneList, bits_are, one_row, row_unrefused}
+use Rattle.fz_table.specs.Records.{IsOfRow}
 
 -- ---- slot 0
 
@@ -158,8 +158,9 @@ refused_row unrefused t tile (Some f) x is said fault = λ xs row. by_side xs ro
     by_side xs row (inl here) = row_unrefused unrefused f t.header tile xs x can row here
     by_side xs row (inr later) = later.1
 
-pub of_some_row : (hdu tile : ℕ) (x : Fault) → IsOfRowAmong hdu (tile ∷ []) x → IsOfSomeRow x
-of_some_row hdu tile x (i, less, of_row) = (slice_index_or (tile ∷ []) i 0, of_row.1)
+pub of_one_row : (hdu tile : ℕ) (x : Fault) → IsOfRowAmong hdu (tile ∷ []) x → IsOfRow hdu tile x
+of_one_row hdu tile x (zero, less, of_row) = of_row
+of_one_row hdu tile x (suc i, less, of_row) = absurd (omega (arith, less))
 
 -- ---- why it stopped
 

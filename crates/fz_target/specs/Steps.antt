@@ -9,8 +9,8 @@ use Rattle.fz_base.specs.declared.fault.Place.TheVariants.{Card}
 use Rattle.fz_base.specs.declared.kind.Kind.TheVariants.{BadCard}
 use Rattle.fz_block.specs.declared.header.Header.{Header}
 use Rattle.fz_files.specs.Restored.{header_in}
-use Rattle.fz_job.specs.Clauses.{IsOfSomeRow}
 use Rattle.fz_laws.specs.Amends.{applied}
+use Rattle.fz_table.specs.Records.{IsOfRow}
 
 -- all of these were made
 pub record Wrote (ws : List Amend) (held held' : Option (List ℕ)) (writes writes' : Option (List Amend)) : Type 0 where
@@ -33,9 +33,9 @@ pub record WroteSome (ws : List Amend) (held held' : Option (List ℕ)) (writes 
 abbrev pub KeepsReach : Option ℕ → Option ℕ → Type 0
 KeepsReach attached attached' = (n : ℕ) → HasAtLeast attached n → HasAtLeast attached' n
 
--- the faults of a file that gave other bytes than before, reported while the tiles are worked on
+-- the faults of a file that gave other bytes than before, reported while the tiles are worked on: those of a row of the HDU, or of the HDU
 abbrev pub ComesInWork : ℕ → Fault → Type 0
-ComesInWork hdu x = IsOfSomeRow x ⊎ (x ≡ refusal hdu (Card 0) BadCard)
+ComesInWork hdu x = ((tile : ℕ) × IsOfRow hdu tile x) ⊎ (x ≡ refusal hdu (Card 0) BadCard)
 
 -- the header of an HDU stays, if the file shows its bytes
 abbrev pub KeepsHeader : Header → Option (List ℕ) → Option (List ℕ) → Type 0

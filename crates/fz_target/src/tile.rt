@@ -8,9 +8,9 @@ ghost use Rattle.fz_fetch.specs.Rows.{StandsWithin};
 ghost use Rattle.fz_files.specs.FirstFault.{IsFirstRowFault, image_row};
 ghost use Rattle.fz_files.specs.Packed.{tiles_in};
 ghost use Rattle.fz_files.specs.Restored.{RowStandsFor, pixels_of};
-ghost use Rattle.fz_job.specs.Clauses.{IsOfSomeRow};
 ghost use Rattle.fz_pool.specs.Window.{IsPut, slot_size, WindowStays};
 ghost use Rattle.fz_pool.specs.declared.slot.Slot.{Slot as SlotOf};
+ghost use Rattle.fz_table.specs.Records.{IsOfRow};
 ghost use Rattle.fz_target.specs.Ends.{ReadsTiles};
 ghost use Rattle.fz_target.specs.Targets.{GivesWithin, IsGivenTo, IsTarget, IsTargetIn, given_at};
 ghost use Rattle.fz_target.specs.Tiles.{HasFirst, HasNewCode, HasSomeCode, IsBoxTile, IsFilledSlot, encoding_job};
@@ -49,7 +49,7 @@ pub fn prepare_tile<R: Threads + Sync, D: Source, S: Source>(
     ensures code { OnOk result (HasSomeCode target.now.image.plan tile window.new) }
     ensures sound { OnOk result (IfSome (D.held store.old) (λ f. IsFirstRowFault f (image_row target.now.header tile ∷ []) None)) }
     ensures fault { IfRefused result (λ x. IfSome (D.held store.old) (λ f. IsFirstRowFault f (image_row target.now.header tile ∷ []) (Some x))) }
-    ensures row { IfRefused result IsOfSomeRow }
+    ensures row { IfRefused result (IsOfRow target.now.header.hdu tile) }
     ensures unrefused { IsRefused result → IfSome (D.held store.old) (λ f. (xs : List ℤ) → ¬ RowStandsFor f target.now.header tile xs) }
     ensures stays { SourceStays D.held D.attached D.ranges store.old store.new
         × SourceStays S.held S.attached S.ranges patch.old patch.new × WindowStays window.old window.new

@@ -8,7 +8,7 @@ use Rattle.fz_pool.specs.declared.slot.Slot.{Slot}
 use Rattle.fz_target.specs.Ends.{ReadsTiles}
 use Rattle.fz_target.specs.Tiles.{IsFilledSlot}
 use Rattle.fz_target.proofs.EndsJoined.{refused_weaker}
-use Rattle.fz_target.proofs.NewTile.{fetch_stopped, first_fetched, first_ready, new_first, of_some_row, put_stopped, refused_row, room_still, row_sound, said_of, some_code}
+use Rattle.fz_target.proofs.NewTile.{fetch_stopped, first_fetched, first_ready, new_first, of_one_row, put_stopped, refused_row, room_still, row_sound, said_of, some_code}
 use Rattle.fz_target.proofs.tile.prepare_tile.Goals as goal
 
 pub fetch_tiles-requires-clause-said : goal.fetch_tiles-requires-clause-said
