@@ -29,12 +29,12 @@ use Rattle.fz_laws.specs.PatchChecks.{find_judge, if_all_pass, if_patchable, own
 use Rattle.fz_laws.specs.Given.{PatchJob}
 use Rattle.fz_patch.specs.Clauses.{IsUnpassed, IsUnwritten, LeavesSafe, TakingsOfBoth, TellsPatchFault, later_takings}
 use Rattle.fz_target.specs.Ends.{StoppedWorking, WorksInPlace}
-use Rattle.fz_patch.specs.Jobs.{IsReadAgain, IsWanted}
+use Rattle.fz_patch.specs.Jobs.{IsReadAgain, IsWanted, NamesWanted}
 use Rattle.fz_target.specs.Steps.{ComesInWork, KeepsReach}
 use Rattle.fz_target.specs.Targets.{job_at}
 use Rattle.fz_target.specs.Told.{IfBoth}
 use Rattle.fz_patch.proofs.Amended.{kept-read, same-is}
-use Rattle.fz_patch.proofs.EndsJoined.{counts_same}
+use Rattle.fz_patch.proofs.EndsJoined.{counts_same, refused_weaker}
 use Rattle.fz_patch.proofs.EndsTold.{if_both}
 use Rattle.fz_patch.proofs.FrameFound.{WalkFinds, WalkStops, survey_finds, wanted_hdu}
 use Rattle.fz_patch.proofs.FrameHeader.{fault_of, high_back, high_both, high_front, past_front, tells_same}
@@ -456,7 +456,7 @@ over_weaker (Err NoMemory) f p = tt
 
 -- a fault that comes in the work is that of a row, or of an HDU that changed
 pub in_work : (hdu : ℕ) (x : Fault) → ComesInWork hdu x → IsChanged x ⊎ IsOfSomeRow x
-in_work hdu x (inl row) = inr row
+in_work hdu x (inl (tile, row)) = inr (tile, row.1)
 in_work hdu x (inr is) = inl (is ∙ ap (λ n. refusal n (Card 0) BadCard) (sym (ap (λ (y : Fault). y.hdu) is)))
 
 -- both files were not told
@@ -475,3 +475,14 @@ told_both job held given (Err NoMemory) tells = tt
 pub either_way : {A B C D : Type 0} → (A → B) → (C → D) → A ⊎ C → B ⊎ D
 either_way f g (inl a) = inl (f a)
 either_way f g (inr c) = inr (g c)
+
+-- ---- what a refusal names
+
+pub names_same : {X Same : Type 0} (wanted : Option ℕ) (held : Option (List ℕ)) (r : Result X Stop) → Same → IfSome held (λ f. NamesWanted wanted Same f r)
+names_same wanted None r same = tt
+names_same wanted (Some f) r same = if_refused r (λ x. inl same)
+
+pub names_wanted : {X Same Before : Type 0} (wanted : Option ℕ) (held : Option (List ℕ)) (h : Header) (r : Result X Stop) → IfSome held (IsWanted wanted h) → (Before → Same) →
+    IfRefused r (λ x. Before ⊎ ComesInWork h.hdu x) → IfSome held (λ f. NamesWanted wanted Same f r)
+names_wanted wanted None h r is weak late = tt
+names_wanted wanted (Some f) h r is weak late = refused_weaker r (λ x came. either_way weak (λ work. (h, is, work)) came) late

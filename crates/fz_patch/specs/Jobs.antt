@@ -1,6 +1,8 @@
 -- What is said of each job that a target is found for.
-use Rattle.std.specs.Prelude.{ℕ, ◌≡◌, ◌≤◌, ◌^◌, List, length, Option, Ok}
+use Rattle.std.specs.Prelude.{ℕ, ◌≡◌, ◌⊎◌, ◌≤◌, ◌^◌, List, length, Option, Result, Ok}
 use Rattle.fz_base.specs.Source.{Reads}
+use Rattle.fz_base.specs.Stop.{IfRefused}
+use Rattle.fz_base.specs.declared.failure.Stop.{Stop}
 use Rattle.fz_block.specs.Checks.{headers_of}
 use Rattle.fz_block.specs.Facts.{IsHeaderOf}
 use Rattle.fz_block.specs.Header.{next_start_of}
@@ -8,6 +10,7 @@ use Rattle.fz_block.specs.declared.header.Header.{Header}
 use Rattle.fz_block.specs.declared.next.ReadHeader.{ReadHeader}
 use Rattle.fz_laws.specs.PatchChecks.{patch_target, wanted_image}
 use Rattle.fz_laws.specs.Given.{PatchJob}
+use Rattle.fz_target.specs.Steps.{ComesInWork}
 use Rattle.fz_target.specs.Targets.{IsGivenTo, job_at}
 use Rattle.fz_target.specs.Told.{IfBoth}
 use Rattle.fz_target.specs.declared.target.Target.{Target}
@@ -23,6 +26,10 @@ pub record IsWanted (wanted : Option ℕ) (h : Header) (file : List ℕ) : Type 
   pub headers : List Header
   pub passes : headers_of 65536 file ≡ Ok headers
   pub found : wanted_image wanted file ≡ Ok h
+
+-- A refusal that comes after some writes is that of a row of the image that is wanted, or of its HDU, of which other bytes came than before.
+abbrev pub NamesWanted : {X : Type 0} → Option ℕ → Type 0 → List ℕ → Result X Stop → Type 0
+NamesWanted wanted Same file result = IfRefused result (λ x. Same ⊎ ((h : Header) × IsWanted wanted h file × ComesInWork h.hdu x))
 
 -- The header of the HDU that begins there, read once more.
 pub record IsReadAgain (held : Option (List ℕ)) (len : ℕ) (found : Header) (r : ReadHeader) : Type 0 where

@@ -20,7 +20,7 @@ ghost use Rattle.fz_laws.specs.PatchChecks.{own_checks};
 ghost use Rattle.fz_patch.specs.Clauses.{AnswersPatch, HasPatchCause, IsPatchedBy, IsUnwritten, KeepsPatchBuffers, LeavesSafe, TellsPatchFault};
 ghost use Rattle.fz_patch.specs.Clauses.{IsUnpassed, greatest_patch_bound, later_takings};
 ghost use Rattle.fz_target.specs.Ends.{WorksInPlace};
-ghost use Rattle.fz_patch.specs.Jobs.{ForJobs, IsWanted, IsReadAgain};
+ghost use Rattle.fz_patch.specs.Jobs.{ForJobs, IsWanted, IsReadAgain, NamesWanted};
 ghost use Rattle.fz_target.specs.Steps.{ComesInWork, KeepsReach};
 ghost use Rattle.fz_target.specs.Targets.{GivesWithin, IsCorner, IsFoundIn, job_at};
 ghost use Rattle.fz_target.specs.Told.{IfBoth};
@@ -84,6 +84,9 @@ pub fn patch<R: Threads + Sync, D: Store, S: Source>(
     ensures unwritten { IsUnwritten (D.held store.old) (S.held patch.old) meter.old.limit (λ g p. patch_takings g p (job_at hdu corner.now))
         ((D.held store.new ≡ D.held store.old) × ((D.tally store.new).amended ≡ (D.tally store.old).amended)) result }
     ensures unread { meter.old.limit < 2880 → (D.ranges store.new ≡ D.ranges store.old) × (S.ranges patch.new ≡ S.ranges patch.old) }
+    // Of FILE only, whatever PATCH gives: a refusal after some writes is that of a row of the image, or of its HDU.
+    ensures named { IfSome (D.held store.old) (λ g. NamesWanted hdu ((D.held store.new ≡ D.held store.old)
+        × ((D.tally store.new).amended ≡ (D.tally store.old).amended)) g result) }
     ensures first_fault { TellsPatchFault (job_at hdu corner.now) (D.held store.old) (S.held patch.old) result }
     // If no count of faults rose and the limit is at least the bound, only the first fault decides.
     ensures answered { AnswersPatch (job_at hdu corner.now) (D.held store.old) (S.held patch.old) (D.tally store.old) (D.tally store.new)
@@ -134,6 +137,8 @@ fn with_block<R: Threads + Sync, D: Store, S: Source>(
         (LeavesSafe (job_at hdu patching.now.asked.corner.now) (D.held store.new) (D.tally store.old).amended (D.tally store.new).amended) }
     ensures unwritten { IsUnwritten (D.held store.old) (S.held patch.old) meter.old.limit (λ g p. later_takings g p (job_at hdu patching.now.asked.corner.now))
         ((D.held store.new ≡ D.held store.old) × ((D.tally store.new).amended ≡ (D.tally store.old).amended)) result }
+    ensures named { IfSome (D.held store.old) (λ g. NamesWanted hdu ((D.held store.new ≡ D.held store.old)
+        × ((D.tally store.new).amended ≡ (D.tally store.old).amended)) g result) }
     ensures first_fault { TellsPatchFault (job_at hdu patching.now.asked.corner.now) (D.held store.old) (S.held patch.old) result }
     ensures first_past { IfBoth (D.held store.old) (S.held patch.old)
         (λ g p. TellsFirstPast meter.old.limit (later_takings g p (job_at hdu patching.now.asked.corner.now)) result) }

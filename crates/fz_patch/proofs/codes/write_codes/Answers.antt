@@ -167,7 +167,7 @@ returns-in_err-prepare_tile-clause-late g c =
     let stop : Stop = c.in_err-prepare_tile.field-0.0 in
     let stopped : c.from_residual.result ≡ Err stop = search rules in
     subst (λ (r : Result (Unit {0}) Stop). IfRefused r (ComesInWork c.args.target.now.header.hdu)) (sym stopped)
-    (refused_weaker {X = Unit {0}} (Err stop) (λ x row. inl row) c.in_err-prepare_tile.ensures.row)
+    (refused_weaker {X = Unit {0}} (Err stop) (λ x row. inl (_, row)) c.in_err-prepare_tile.ensures.row)
 
 pub returns-in_err-prepare_tile-clause-cause : goal.returns-in_err-prepare_tile-clause-cause
 returns-in_err-prepare_tile-clause-cause g c =

@@ -14,7 +14,7 @@ use Rattle.fz_laws.specs.PatchBuffers.{patch_takings}
 use Rattle.fz_target.specs.Targets.{job_at}
 use Rattle.fz_target.specs.Told.{IfBoth}
 use Rattle.fz_patch.proofs.Amended.{kept-same}
-use Rattle.fz_patch.proofs.FrameBlock.{ok_weaker}
+use Rattle.fz_patch.proofs.FrameBlock.{names_same, ok_weaker}
 use Rattle.fz_patch.proofs.EndsJoined.{counts_same}
 use Rattle.fz_patch.proofs.EndsTold.{if_both}
 use Rattle.fz_patch.proofs.FramePatch.{answers, bound_block, cause_after, first_short, peak_after, peak_reached, peak_stays, refilled_len}
@@ -34,6 +34,9 @@ returns-in_err-block-clause-unwritten g c =
     let stopped : c.from_residual.result ≡ Err (stop_of_short c.in_err-block.field-0.0) = search rules in
     subst (λ (r : Result (Unit {0}) Stop). IsUnwritten held given limit (λ f q. patch_takings f q job) ((held ≡ held) × (s.amended ≡ s.amended)) r)
     (sym stopped) (short_unwritten (Unit {0}) held given limit (λ f q. patch_takings f q job) c.in_err-block.field-0.0 (refl, refl))
+
+pub returns-in_err-block-clause-named : goal.returns-in_err-block-clause-named
+returns-in_err-block-clause-named g c = names_same c.args.hdu (g.D.Source.held c.args.store.now) c.from_residual.result (refl, refl)
 
 pub returns-in_err-block-clause-unread : goal.returns-in_err-block-clause-unread
 returns-in_err-block-clause-unread g c = λ low. (refl, refl)
@@ -90,6 +93,9 @@ returns-clause-unwritten g c =
     ((g.D.Source.held c.with_block-answer.new.store ≡ held) × (s'.amended ≡ s.amended)) c.with_block-answer.result =
     rw same at c.with_block-answer.ensures.unwritten in
     unwritten_after _ job held given limit c.with_block-answer.result room later
+
+pub returns-clause-named : goal.returns-clause-named
+returns-clause-named g c = c.with_block-answer.ensures.named
 
 pub returns-clause-unread : goal.returns-clause-unread
 returns-clause-unread g c = λ low. absurd (omega (arith, low, c.in_ok-block.ensures.taken.0, c.requires.nothing_live))

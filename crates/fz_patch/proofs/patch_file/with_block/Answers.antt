@@ -25,7 +25,7 @@ use Rattle.fz_target.specs.Steps.{KeepsReach}
 use Rattle.fz_target.specs.Targets.{job_at}
 use Rattle.fz_target.specs.Told.{IfBoth}
 use Rattle.fz_patch.proofs.EndsJoined.{refused_weaker}
-use Rattle.fz_patch.proofs.FrameBlock.{HasFound, HasLooked, SaysSame, again_high, again_past, again_told, all_high, all_past, all_reached, amend_high, amend_past, amend_told, both_weaker, either_way, every_high, every_past, every_told, found, in_work, looked, of_wanted, ok_weaker, over_weaker, reach_same, read_is, still_amended, store_works, told_both, untouched, untouched_safe, wanted_of, same_past}
+use Rattle.fz_patch.proofs.FrameBlock.{HasFound, HasLooked, SaysSame, again_high, again_past, again_told, all_high, all_past, all_reached, amend_high, amend_past, amend_told, both_weaker, either_way, every_high, every_past, every_told, found, in_work, looked, names_same, names_wanted, of_wanted, ok_weaker, over_weaker, reach_same, read_is, still_amended, store_works, told_both, untouched, untouched_safe, wanted_of, same_past}
 use Rattle.fz_patch.proofs.FrameBlock.{past_later, unpassed_here}
 use Rattle.fz_patch.proofs.FrameHeader.{bound_headers, stop_limit}
 use Rattle.fz_patch.proofs.FramePatch.{refilled_len}
@@ -44,6 +44,12 @@ returns-in_err-survey_every-clause-unwritten g c =
     let held : g.D.Source.held c.survey_every.new.source ≡ g.D.Source.held c.args.store.now = search rules in
     let amended : (g.D.Source.tally c.survey_every.new.source).amended ≡ (g.D.Source.tally c.args.store.now).amended = still_amended (g.D.Source.tally c.args.store.now) (g.D.Source.tally c.args.store.now) (g.D.Source.tally c.survey_every.new.source) refl c.in_err-survey_every.ensures.cause.kept in
     untouched (g.D.Source.held c.args.store.now) (g.S.Source.held c.args.patch.now) _ _ c.from_residual.result (held, amended)
+
+pub returns-in_err-survey_every-clause-named : goal.returns-in_err-survey_every-clause-named
+returns-in_err-survey_every-clause-named g c =
+    let held : g.D.Source.held c.survey_every.new.source ≡ g.D.Source.held c.args.store.now = search rules in
+    let amended : (g.D.Source.tally c.survey_every.new.source).amended ≡ (g.D.Source.tally c.args.store.now).amended = still_amended (g.D.Source.tally c.args.store.now) (g.D.Source.tally c.args.store.now) (g.D.Source.tally c.survey_every.new.source) refl c.in_err-survey_every.ensures.cause.kept in
+    names_same c.args.hdu (g.D.Source.held c.args.store.now) c.from_residual.result (held, amended)
 
 pub returns-in_err-survey_every-clause-reach : goal.returns-in_err-survey_every-clause-reach
 returns-in_err-survey_every-clause-reach g c =
@@ -100,6 +106,12 @@ returns-in_err-found-clause-unwritten g c =
     let held : g.D.Source.held c.survey_to_amend.new.source ≡ g.D.Source.held c.args.store.now = search rules in
     let amended : (g.D.Source.tally c.survey_to_amend.new.source).amended ≡ (g.D.Source.tally c.args.store.now).amended = still_amended (g.D.Source.tally c.args.store.now) (g.D.Source.tally c.survey_every.new.source) (g.D.Source.tally c.survey_to_amend.new.source) c.in_ok-survey_every.ensures.cause.ok c.in_err-found.ensures.cause.kept in
     untouched (g.D.Source.held c.args.store.now) (g.S.Source.held c.args.patch.now) _ _ c.from_residual-in_err-found.result (held, amended)
+
+pub returns-in_err-found-clause-named : goal.returns-in_err-found-clause-named
+returns-in_err-found-clause-named g c =
+    let held : g.D.Source.held c.survey_to_amend.new.source ≡ g.D.Source.held c.args.store.now = search rules in
+    let amended : (g.D.Source.tally c.survey_to_amend.new.source).amended ≡ (g.D.Source.tally c.args.store.now).amended = still_amended (g.D.Source.tally c.args.store.now) (g.D.Source.tally c.survey_every.new.source) (g.D.Source.tally c.survey_to_amend.new.source) c.in_ok-survey_every.ensures.cause.ok c.in_err-found.ensures.cause.kept in
+    names_same c.args.hdu (g.D.Source.held c.args.store.now) c.from_residual-in_err-found.result (held, amended)
 
 pub returns-in_err-found-clause-reach : goal.returns-in_err-found-clause-reach
 returns-in_err-found-clause-reach g c =
@@ -181,6 +193,12 @@ returns-in_err-kept-clause-unwritten g c =
     let held : g.D.Source.held c.read_again.new.store ≡ g.D.Source.held c.args.store.now = search rules in
     let amended : (g.D.Source.tally c.read_again.new.store).amended ≡ (g.D.Source.tally c.args.store.now).amended = still_amended (g.D.Source.tally c.args.store.now) (g.D.Source.tally c.survey_to_amend.new.source) (g.D.Source.tally c.read_again.new.store) (c.in_ok-found.ensures.cause.ok ∙ c.in_ok-survey_every.ensures.cause.ok) c.in_err-kept.ensures.cause.kept in
     untouched (g.D.Source.held c.args.store.now) (g.S.Source.held c.args.patch.now) _ _ c.from_residual-in_err-kept.result (held, amended)
+
+pub returns-in_err-kept-clause-named : goal.returns-in_err-kept-clause-named
+returns-in_err-kept-clause-named g c =
+    let held : g.D.Source.held c.read_again.new.store ≡ g.D.Source.held c.args.store.now = search rules in
+    let amended : (g.D.Source.tally c.read_again.new.store).amended ≡ (g.D.Source.tally c.args.store.now).amended = still_amended (g.D.Source.tally c.args.store.now) (g.D.Source.tally c.survey_to_amend.new.source) (g.D.Source.tally c.read_again.new.store) (c.in_ok-found.ensures.cause.ok ∙ c.in_ok-survey_every.ensures.cause.ok) c.in_err-kept.ensures.cause.kept in
+    names_same c.args.hdu (g.D.Source.held c.args.store.now) c.from_residual-in_err-kept.result (held, amended)
 
 pub returns-in_err-kept-clause-reach : goal.returns-in_err-kept-clause-reach
 returns-in_err-kept-clause-reach g c =
@@ -360,6 +378,23 @@ returns-clause-unwritten g c =
           c.args.hdu c.args.patching.now.asked.corner.now held3 limit3 live4 wanted c.with_header-answer.ensures.unpassed);
       over_limit = over_weaker c.with_header-answer.result weak c.with_header-answer.ensures.over_limit;
     }
+
+pub returns-clause-named : goal.returns-clause-named
+returns-clause-named g c =
+    let live1 : c.survey_every.new.meter.live ≡ c.args.meter.now.live = c.in_ok-survey_every.ensures.stays.1 in
+    let limit1 : c.survey_every.new.meter.limit ≡ c.args.meter.now.limit = c.in_ok-survey_every.ensures.stays.2 in
+    let look : IfSome (g.D.Source.held c.args.store.now) (HasLooked c.args.meter.now.live c.args.meter.now.limit) = looked c.survey_law.ensures.every c.args.meter.now.live c.args.meter.now.limit (g.D.Source.held c.args.store.now) _ c.requires.one_block c.in_ok-survey_every.ensures.exact c.in_ok-survey_every.ensures.first_past in
+    let held1 : g.D.Source.held c.survey_every.new.source ≡ g.D.Source.held c.args.store.now = search rules in
+    let exact2 : IfSome (g.D.Source.held c.args.store.now) (λ f. amend_surveyed c.args.hdu f ≡ Ok c.in_ok-found.found) = rw held1 at c.in_ok-found.ensures.exact in
+    let none2 : IfSome (g.D.Source.held c.args.store.now) (λ f. first_past c.args.meter.now.limit (survey_takings (AmendLook c.args.hdu) c.args.meter.now.live f) ≡ None) = same_past c.args.hdu c.args.meter.now.limit c.survey_every.new.meter.limit c.args.meter.now.live c.survey_every.new.meter.live (g.D.Source.held c.args.store.now) (g.D.Source.held c.survey_every.new.source) held1 limit1 live1 c.in_ok-found.ensures.first_past in
+    let known : IfSome (g.D.Source.held c.args.store.now) (HasFound c.args.meter.now.live c.args.meter.now.limit c.args.hdu c.in_ok-found.found) = found c.hdu_at_law.ensures.walk c.found_hdus_law.ensures.last c.survey_law.ensures.amend c.args.meter.now.live c.args.meter.now.limit c.args.hdu c.in_ok-found.found (g.D.Source.held c.args.store.now) c.requires.one_block look exact2 none2 in
+    let held2 : g.D.Source.held c.survey_to_amend.new.source ≡ g.D.Source.held c.args.store.now = search rules in
+    let same3 : IfSome (g.D.Source.held c.args.store.now) (SaysSame c.in_ok-found.found (Ok c.in_ok-kept.kept)) = rw held2 at c.in_ok-kept.ensures.same in
+    let wanted : IfSome (g.D.Source.held c.args.store.now) (IsWanted c.args.hdu c.in_ok-kept.kept.facts) = wanted_of c.args.meter.now.live c.args.meter.now.limit c.args.hdu c.in_ok-found.found (g.D.Source.held c.args.store.now) c.in_ok-kept.kept known same3 in
+    let held3 : g.D.Source.held c.read_again.new.store ≡ g.D.Source.held c.args.store.now = search rules in
+    let tally : g.D.Source.tally c.read_again.new.store ≡ g.D.Source.tally c.args.store.now = c.in_ok-kept.ensures.cause.ok ∙ c.in_ok-found.ensures.cause.ok ∙ c.in_ok-survey_every.ensures.cause.ok in
+    let weak : (g.D.Source.held c.with_header-answer.new.store ≡ g.D.Source.held c.read_again.new.store) × (g.D.Source.tally c.with_header-answer.new.store ≡ g.D.Source.tally c.read_again.new.store) → (g.D.Source.held c.with_header-answer.new.store ≡ g.D.Source.held c.args.store.now) × ((g.D.Source.tally c.with_header-answer.new.store).amended ≡ (g.D.Source.tally c.args.store.now).amended) = λ same. (same.0 ∙ held3, ap (λ (t : Tally). t.amended) (same.1 ∙ tally)) in
+    names_wanted c.args.hdu (g.D.Source.held c.args.store.now) c.in_ok-kept.kept.facts c.with_header-answer.result wanted weak c.with_header-answer.ensures.late
 
 pub returns-clause-first_fault : goal.returns-clause-first_fault
 returns-clause-first_fault g c =
