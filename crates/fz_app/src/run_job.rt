@@ -48,7 +48,7 @@ use fz_head::PackOptions;
 use fz_laws::{first_fault_law, round_trip_law};
 use fz_pack::pack;
 use fz_pool::Window;
-use fz_retile::{retile, retile_law};
+use fz_retile::{retile_law, retile_within};
 use fz_strict::strict;
 use fz_unpack::unpack;
 use fz_verify::{list, verify};
@@ -294,12 +294,11 @@ fn run_retile<R: Threads + Sync, S: Source, K: Sink, G: Gate>(
     let (length, mut window) = begin(host.alloc, request, request.workers, source, meter)?;
     let (rt, gate, output) = (host.rt, host.gate, request.output);
     let window = &mut window;
-    // The buffers in which the packed file is decoded, under the same limit.
-    let mut view = Meter::new(host.alloc, meter.limit());
-    let view = &mut view;
-    retile(
-        rt, source, length, output, sink, meter, view, window, gate, options,
-    )
+    // The buffers in which the packed file is decoded are those of a second meter, with the same limit.
+    let retiled = retile_within(
+        rt, host.alloc, source, length, output, sink, meter, window, gate, options,
+    );
+    retiled.0
 }
 
 // Verifies the file IN, with one worker, and if that is asked, compares it with what `pack` writes. Answers whether no
