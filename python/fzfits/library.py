@@ -30,12 +30,15 @@ KINDS = {21: "CodeShort", 22: "CodeValue", 23: "LineList", 24: "PixelRange", 25:
 ARGUMENTS = {
     -101: "no such codec, or not with this block, bytepix or BITPIX: block is 1 to 32,767 and bytepix 1, 2 or 4 (the bytes of a pixel, if a tile is encoded), and 64 bits are only stored",
     -102: "no such column",
-    -103: "no tile has so many pixels: it has 1 to 67,108,864",
-    -104: "fewer bytes were passed than the record has",
+    -103: "no tile has so many pixels: it has 1 to 67,108,864; or the image has no tile of this number",
+    -104: "fewer bytes were passed than the record, the row or the header has",
     -105: "out is too short",
     -106: "a number is outside the range of its bits, or for PLIO_1 outside 0 to 16,777,215",
     -107: "these are more than 2^60 bytes",
     -108: "the code is not read on from this mark",
+    -109: "no HDU begins at this byte of a file of this length",
+    -110: "this is no plan of a packed image",
+    -111: "numbers has fewer places than the pixels of the tile",
 }
 
 

@@ -9,10 +9,10 @@ sys.path.insert(0, str(TOP / "python"))
 from fzfits import library  # noqa: E402  # pylint: disable=wrong-import-position
 
 EXPORT = re.compile(r'#\[unsafe\(no_mangle\)\]\s*pub extern "C" fn (\w+)\(([^)]*)\) -> (\w+)', re.S)
-STRUCT = re.compile(r"#\[repr\(C\)\]\s*(?:#\[[^\]]*\]\s*)*pub struct (\w+) \{(.*?)\n\}", re.S)
+STRUCT = re.compile(r"^#\[repr\(C\)\]\s*(?:#\[[^\]]*\]\s*)*pub struct (\w+) \{(.*?)\n\}", re.S | re.M)
 COMMENT = re.compile(r"/\*.*?\*/|^ *#[^\n]*$", re.S | re.M)
 CALL = re.compile(r"\b(u?int32_t) (fz_\w+)\(([^)]*)\);", re.S)
-C_STRUCT = re.compile(r"struct (fz_\w+) \{(.*?)\};", re.S)
+C_STRUCT = re.compile(r"^struct (fz_\w+) \{(.*?)^\};", re.S | re.M)
 NUMBERS = {"u8": "uint8_t", "u32": "uint32_t", "u64": "uint64_t", "i32": "int32_t"}
 OF_CTYPES = {ctypes.c_uint32: "uint32_t", ctypes.c_uint64: "uint64_t", ctypes.c_int32: "int32_t", ctypes.c_size_t: "size_t", ctypes.c_void_p: "*"}
 
@@ -27,15 +27,25 @@ def c_words(name, kind):
     slice_of = re.fullmatch(r"&(mut )?\[(\w+)\]", kind)
     if slice_of:
         const = "" if slice_of[1] else "const "
-        return [f"{const}{NUMBERS[slice_of[2]]} *{name}", f"size_t {name}_len"]
-    one = re.fullmatch(r"&mut (\w+)", kind)
+        return [f"{const}{c_type(slice_of[2])} *{name}", f"size_t {name}_len"]
+    one = re.fullmatch(r"&(mut )?(\w+)", kind)
     if one:
-        return [f"{NUMBERS.get(one[1]) or c_name(one[1])} *{name}"]
+        const = "" if one[1] else "const "
+        return [f"{const}{c_type(one[2])} *{name}"]
     return [f"{NUMBERS[kind]} {name}"]
 
 
+def c_type(kind):
+    return NUMBERS.get(kind) or c_name(kind)
+
+
 def fields(body):
-    return re.findall(r"pub (\w+): (\w+)", body)
+    """The fields of a struct of Rattle as C has them."""
+    found = []
+    for name, kind in re.findall(r"pub (\w+): ([^,\n]+),", body):
+        many = re.fullmatch(r"\[(\w+); (\d+)\]", kind)
+        found.append(f"{c_type(many[1])} {name}[{many[2]}]" if many else f"{c_type(kind)} {name}")
+    return found
 
 
 def of_source(folder):
@@ -46,9 +56,16 @@ def of_source(folder):
         for name, parameters, answer in EXPORT.findall(text):
             words = [it.split(":") for it in parameters.split(",") if it.strip()]
             calls[name] = (NUMBERS[answer], [it for one, kind in words for it in c_words(one.strip(), kind.strip())])
-        for name, body in STRUCT.findall(text):
-            structs[c_name(name)] = [f"{NUMBERS[kind]} {field}" for field, kind in fields(body)]
+    for path in sorted([*folder.glob("*.rt"), *(TOP / "crates/fz_flat/src").glob("*.rt")]):
+        for name, body in STRUCT.findall(path.read_text()):
+            structs[c_name(name)] = fields(body)
     return calls, structs
+
+
+def kinds_of_header(text):
+    """The kinds of refusal that the header names, in the spelling of the source."""
+    found = re.findall(r"FZ_KIND_(\w+) = (\d+)", text)
+    return {"".join(it.capitalize() for it in name.split("_")): number for name, number in found}
 
 
 def of_header(text):
@@ -89,6 +106,7 @@ def compared():
     pairs += [(f"{name} of fz.h", structs.get(name), c_structs.get(name)) for name in sorted({*structs, *c_structs})]
     pairs.append(("the answers of fz.h", answers_of_source((source / "fault.rt").read_text()), answers_of_header(header)))
     kinds = dict(re.findall(r"Kind::(\w+) => (\d+),", (TOP / "crates/fz_base/src/kind.rt").read_text()))
+    pairs += [(f"the kind {name} of fz.h", number, kinds.get(name)) for name, number in kinds_of_header(header).items()]
     pairs += [(f"the kind {number} of fzfits", name, next((it for it, one in kinds.items() if int(one) == number), None)) for number, name in library.KINDS.items()]
     wanted = {**{-it: None for it in library.KINDS}, **library.ARGUMENTS}
     pairs.append(("the answers of fzfits", sorted(wanted), sorted(answers_of_header(header).values())))

@@ -13,9 +13,18 @@
  *   parts codec block bytepix bitpix BYTES count step                  ->  answer NUMBERS   (step numbers at a time)
  *   sum before BYTES                                                   ->  answer sum
  *   version                                                            ->  version
+ *   front_len BYTES start length hdu after_empty                       ->  answer more
+ *   hdu BYTES start length hdu after_empty                             ->  answer data_at data_len next_at header_len sort packed bitpix LENGTHS
+ *   plan BYTES start length hdu after_empty                            ->  answer PLAN
+ *   row PLAN tile BYTES                                                ->  answer start total read column
+ *   tile PLAN tile start total read column BYTES count                 ->  answer NUMBERS
  *
- * Without a room, out has FZ_TILE_ROOM. After another answer than 0 the program ends with a failure if *coded, *used, *mark or *sum is
- * not as it was, and after plio_encode if bytes of out are not that the call leaves as they are.
+ * A PLAN is rows_at heap_at heap_len row_bytes rows, at wide unit of each of three columns, codec block bytepix bitpix primary axes, and
+ * then so many lengths and so many of the tile. The BYTES of a header can be its cards, each after a /, with ~ for a blank; after a kind
+ * of refusal hdu and plan write at_sort and at of *fault.
+ *
+ * Without a room, out has FZ_TILE_ROOM. After another answer than 0 the program ends with a failure if *coded, *used, *mark, *sum or another
+ * result is not as it was, and after plio_encode if bytes of out are not that the call leaves as they are.
  */
 #include "fz.h"
 #include "guarded.h"
@@ -229,6 +238,153 @@ static void sum(int at_front, int is_shown) {
     free(data);
 }
 
+static struct fz_at place(void) {
+    struct fz_at at;
+    at.start = number();
+    at.length = number();
+    at.hdu = number();
+    at.after_empty = number();
+    return at;
+}
+
+static void front_len(int at_front, int is_shown) {
+    size_t len;
+    uint8_t *front = bytes(&len);
+    struct fz_at at = place();
+    struct call it = call_new(front, len, 0, sizeof(uint64_t), at_front);
+    int32_t answer = fz_front_len(it.in, len, &at, it.small);
+    answered(it, answer);
+    if (is_shown) printf("%" PRId32, answer);
+    if (is_shown && answer == 0) printf(" %" PRIu64, *(uint64_t *)it.small);
+    call_end(it);
+    free(front);
+}
+
+/* The end of a call that says where the HDU is refused, if it is. */
+static void refused(struct fz_fault fault, uint32_t hdu, int32_t answer, int is_shown) {
+    static const struct fz_fault none = {7, 7, 7, 7};
+    int is_kind = answer < 0 && answer > -100;
+    must(is_kind || (fault.at == none.at && fault.at_sort == none.at_sort && fault.hdu == none.hdu && fault.kind == none.kind), "a fault was written, and the answer is no kind");
+    must(!is_kind || (fault.hdu == hdu && fault.kind == (uint32_t)-answer), "the fault is another one than the answer");
+    if (is_kind && is_shown) printf(" %" PRIu32 " %" PRIu64, fault.at_sort, fault.at);
+}
+
+static void print_lengths(uint32_t axes, const uint32_t *lengths) {
+    uint32_t i;
+    for (i = 0; i < 9; i++) {
+        if (i < axes) printf(" %" PRIu32, lengths[i]);
+        else must(lengths[i] == 0, "a length after the axes is not 0");
+    }
+}
+
+static void hdu(int at_front, int is_shown) {
+    size_t len;
+    uint8_t *front = bytes(&len);
+    struct fz_at at = place();
+    struct fz_fault fault = {7, 7, 7, 7};
+    struct call it = call_new(front, len, 0, sizeof(struct fz_hdu), at_front);
+    struct fz_hdu *said = it.small;
+    int32_t answer = fz_hdu(it.in, len, &at, said, &fault);
+    answered(it, answer);
+    if (is_shown) printf("%" PRId32, answer);
+    refused(fault, at.hdu, answer, is_shown);
+    if (is_shown && answer == 0) {
+        printf(" %" PRIu64 " %" PRIu64 " %" PRIu64 " %" PRIu32 " %" PRIu32 " %" PRIu32, said->data_at, said->data_len, said->next_at, said->header_len, said->sort, said->packed);
+        printf(" %" PRId32 " %" PRIu32, said->bitpix, said->axes);
+        print_lengths(said->axes, said->lengths);
+    }
+    call_end(it);
+    free(front);
+}
+
+static void print_plan(const struct fz_plan *plan) {
+    const struct fz_arrays *columns[3] = {&plan->coded, &plan->stored, &plan->gzip};
+    int i;
+    printf(" %" PRIu64 " %" PRIu64 " %" PRIu64 " %" PRIu32 " %" PRIu32, plan->rows_at, plan->heap_at, plan->heap_len, plan->row_bytes, plan->rows);
+    for (i = 0; i < 3; i++) printf(" %" PRIu32 " %" PRIu32 " %" PRIu32, columns[i]->at, columns[i]->wide, columns[i]->unit);
+    printf(" %" PRIu32 " %" PRIu32 " %" PRIu32 " %" PRId32 " %" PRIu32 " %" PRIu32, plan->codec, plan->block, plan->bytepix, plan->bitpix, plan->primary, plan->axes);
+    print_lengths(plan->axes, plan->lengths);
+    print_lengths(plan->axes, plan->tile);
+}
+
+static struct fz_plan plan_words(void) {
+    struct fz_plan plan;
+    struct fz_arrays *columns[3] = {&plan.coded, &plan.stored, &plan.gzip};
+    uint32_t i;
+    memset(&plan, 0, sizeof plan);
+    plan.rows_at = number();
+    plan.heap_at = number();
+    plan.heap_len = number();
+    plan.row_bytes = number();
+    plan.rows = number();
+    for (i = 0; i < 3; i++) {
+        columns[i]->at = number();
+        columns[i]->wide = number();
+        columns[i]->unit = number();
+    }
+    plan.codec = number();
+    plan.block = number();
+    plan.bytepix = number();
+    plan.bitpix = number();
+    plan.primary = number();
+    plan.axes = number();
+    for (i = 0; i < plan.axes && i < 9; i++) plan.lengths[i] = number();
+    for (i = 0; i < plan.axes && i < 9; i++) plan.tile[i] = number();
+    return plan;
+}
+
+static void plan(int at_front, int is_shown) {
+    size_t len;
+    uint8_t *front = bytes(&len);
+    struct fz_at at = place();
+    struct fz_fault fault = {7, 7, 7, 7};
+    struct call it = call_new(front, len, 0, sizeof(struct fz_plan), at_front);
+    int32_t answer = fz_plan(it.in, len, &at, it.small, &fault);
+    answered(it, answer);
+    if (is_shown) printf("%" PRId32, answer);
+    refused(fault, at.hdu, answer, is_shown);
+    if (is_shown && answer == 0) print_plan(it.small);
+    call_end(it);
+    free(front);
+}
+
+static void row(int at_front, int is_shown) {
+    struct fz_plan plan = plan_words();
+    uint32_t tile = number();
+    size_t len;
+    uint8_t *bytes_of = bytes(&len);
+    struct call it = call_new(bytes_of, len, 0, sizeof(struct fz_record), at_front);
+    struct fz_record *found = it.small;
+    int32_t answer = fz_row(&plan, tile, it.in, len, found);
+    answered(it, answer);
+    if (is_shown) printf("%" PRId32, answer);
+    if (is_shown && answer == 0) printf(" %" PRIu64 " %" PRIu64 " %" PRIu64 " %" PRIu32, found->start, found->total, found->read, found->column);
+    call_end(it);
+    free(bytes_of);
+}
+
+static void tile(int at_front, int is_shown) {
+    struct fz_plan plan = plan_words();
+    uint32_t which = number();
+    struct fz_record chosen;
+    size_t len, count;
+    uint8_t *code;
+    struct call it;
+    int32_t answer;
+    chosen.start = number();
+    chosen.total = number();
+    chosen.read = number();
+    chosen.column = number();
+    code = bytes(&len);
+    count = number();
+    it = call_new(code, len, 4 * count, 0, at_front);
+    answer = fz_tile(&plan, which, &chosen, it.in, len, it.out, count);
+    if (is_shown) printf("%" PRId32, answer);
+    if (is_shown && answer == 0) print_numbers(it.out, count);
+    call_end(it);
+    free(code);
+}
+
 static void version(int is_shown) {
     if (is_shown) printf("%" PRIu32, fz_version());
 }
@@ -244,6 +400,11 @@ static void make_call(const char *name, int at_front, int is_shown) {
     else if (!strcmp(name, "parts")) parts(at_front, is_shown);
     else if (!strcmp(name, "sum")) sum(at_front, is_shown);
     else if (!strcmp(name, "version")) version(is_shown);
+    else if (!strcmp(name, "front_len")) front_len(at_front, is_shown);
+    else if (!strcmp(name, "hdu")) hdu(at_front, is_shown);
+    else if (!strcmp(name, "plan")) plan(at_front, is_shown);
+    else if (!strcmp(name, "row")) row(at_front, is_shown);
+    else if (!strcmp(name, "tile")) tile(at_front, is_shown);
     else if (!strcmp(name, "rice_encode")) {
         uint32_t width = number(), block = number();
         encode(at_front, is_shown, width, block);

@@ -16,11 +16,26 @@ static inline char *word(void) {
 
 static inline long long number(void) { return strtoll(word(), NULL, 10); }
 
+/* The blocks of a header: its cards, each after a /, with ~ for a blank. */
+static inline uint8_t *cards(char *text, size_t *len) {
+    size_t i, count = 0;
+    char *card;
+    uint8_t *made;
+    for (card = text; *card != 0; card++) count += *card == '/';
+    *len = (count + 35) / 36 * 2880;
+    made = memset(malloc(*len), ' ', *len);
+    strsep(&text, "/");
+    for (count = 0; (card = strsep(&text, "/")) != NULL; count++)
+        for (i = 0; card[i] != 0; i++) made[80 * count + i] = card[i] == '~' ? ' ' : (uint8_t)card[i];
+    return made;
+}
+
 /* The bytes that the line has here. */
 static inline uint8_t *bytes(size_t *len) {
     char *digits = word();
     size_t i;
     uint8_t *made;
+    if (*digits == '/') return cards(digits, len);
     *len = *digits == '-' ? 0 : strlen(digits) / 2;
     made = malloc(*len + 1);
     for (i = 0; i < *len; i++) {

@@ -1,3 +1,6 @@
+mod FrontLemmas
+mod ImageLemmas
+mod KindLemmas
 mod PairLemmas
 mod RangeLemmas
 mod SumLemmas

@@ -4,3 +4,5 @@ pub mod Tiles
 pub mod Codes
 pub mod Parts
 pub mod Sums
+pub mod Fronts
+pub mod Images

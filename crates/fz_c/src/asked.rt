@@ -1,10 +1,11 @@
 //! What a caller asks for by numbers: codecs, columns and tiles.
 ghost use Rattle.std.specs.Prelude.{◌≡◌, ◌↔◌, ◌+◌, ◌*◌, ◌^◌, ◌≤◌, IsTrue, MatchOption, unsigned_abs};
 ghost use Rattle.fz_tile.specs.Pixels.{IsBitpix, HoldTile, pixel_count};
-ghost use Rattle.fz_tile.specs.Codecs.{CanRead, CanWrite, IsBlock, ReadsCodes, WritesCodes};
+ghost use Rattle.fz_tile.specs.Codecs.{CanWrite, IsBlock, WritesCodes};
 ghost use Rattle.fz_tile.specs.Record.{read_len};
 ghost use Rattle.fz_c.specs.Asked.{codec_of, column_of, HasReader, HasNoReader, HasWriter, HasNoWriter};
 
+use fz_flat::can_read;
 use fz_tile::{Codec, Place2};
 
 /// The greatest BLOCKSIZE of a Rice code.
@@ -51,29 +52,6 @@ fn codec_from(number: u32, block: u32, bytepix: u32) -> Option<Codec>
         1 => Some(Codec::Rice { block, bytepix }),
         2 => Some(Codec::Plio),
         _ => None,
-    }
-}
-
-/// Tiles of such pixels can be read by the codec.
-fn can_read(codec: Codec, bitpix: i32) -> bool
-    ensures { IsTrue result ↔ CanRead codec bitpix }
-{
-    match bitpix {
-        8 | 16 | 32 => reads_codes(codec),
-        64 => is_plain(codec),
-        _ => false,
-    }
-}
-
-/// A reader takes these parameters of the codec.
-fn reads_codes(codec: Codec) -> bool
-    ensures { IsTrue result ↔ ReadsCodes codec }
-{
-    match codec {
-        Codec::Rice { block, bytepix } => {
-            is_block(block) && (bytepix == 1 || bytepix == 2 || bytepix == 4)
-        }
-        Codec::Plio | Codec::Plain => true,
     }
 }
 

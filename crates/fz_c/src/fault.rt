@@ -1,8 +1,9 @@
 //! Why a call gives nothing, and the number that C gets for it.
 ghost use Rattle.std.specs.Prelude.{◌≡◌};
 ghost use Rattle.fz_c.specs.Faults.{answer_of};
-ghost use Rattle.fz_c.specs.declared.fault.Fault.TheVariants.{Refused};
+ghost use Rattle.fz_c.specs.declared.fault.Fault.TheVariants.{Refused, Rejected};
 
+use fz_base::Kind;
 use fz_tile::TileFault;
 
 /// Why a call gives nothing.
@@ -26,6 +27,14 @@ pub enum Fault {
     ManyBytes,
     /// The code is not read on from this mark.
     NoPart,
+    /// The HDU, or the row, is refused as of this kind.
+    Rejected(Kind),
+    /// No HDU begins at this place of such a file.
+    NoHdu,
+    /// No packed image has this plan.
+    NoPlan,
+    /// The numbers have fewer places than the pixels of the tile.
+    FewPlaces,
 }
 
 impl Fault {
@@ -44,6 +53,10 @@ impl Fault {
             Fault::NumberRange => -106,
             Fault::ManyBytes => -107,
             Fault::NoPart => -108,
+            Fault::Rejected(kind) => rejection(kind),
+            Fault::NoHdu => -109,
+            Fault::NoPlan => -110,
+            Fault::FewPlaces => -111,
         }
     }
 }
@@ -59,4 +72,12 @@ fn refusal(fault: TileFault) -> i32
         TileFault::PixelRange => -24,
         TileFault::TileSize => -25,
     }
+}
+
+/// Minus the number of a kind of refusal.
+#[tactic(auto, using(crate::proofs::KindLemmas::small))]
+fn rejection(kind: Kind) -> i32
+    ensures { result ≡ answer_of (Rejected kind) }
+{
+    -(kind.number() as i32)
 }

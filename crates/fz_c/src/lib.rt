@@ -1,4 +1,5 @@
-//! The codecs of tiles, for programs in C and in whatever calls C (FITS 4.0, sections 10.1.3 and 10.4).
+//! The codecs of tiles, and packed images piece by piece, for programs in C and in whatever calls C (FITS
+//! 4.0, sections 10.1 and 10.4).
 //! `include/fz.h` has the declarations.
 //!
 //! No export has a `requires`: each tests its arguments, and answers 0 or a number below 0 that says why it
@@ -7,11 +8,13 @@
 //! or keeps anything from one call to the next.
 //!
 //! Reading order: `fault`, `asked`, `range`; then the exports: `version`, `tile`, `rice`, `plio`, `part`,
-//! `sum`.
+//! `sum`; `front`, `image`.
 #![tactic(auto)]
 
 mod asked;
 mod fault;
+mod front;
+mod image;
 mod part;
 mod plio;
 mod range;
@@ -20,6 +23,8 @@ mod sum;
 mod tile;
 mod version;
 
+pub use front::{fz_front_len, fz_hdu, fz_plan};
+pub use image::{fz_row, fz_tile};
 pub use part::{FzMark, fz_decode_part, fz_first_mark};
 pub use plio::{fz_plio_decode, fz_plio_encode};
 pub use rice::{fz_rice_decode, fz_rice_encode};

@@ -1,0 +1,5 @@
+mod DecodedLemmas
+mod FlatLemmas
+mod FrontFile
+mod FrontLemmas
+mod SaidLemmas
