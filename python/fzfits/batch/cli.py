@@ -97,7 +97,7 @@ def _parser(words: Sequence[str] = ()) -> argparse.ArgumentParser:
     words_of.without(lacks)
     lacks.add_argument("-0", "--null", action="store_true", help="print names only, as they are, with a null byte after each")
     forget = _verb(made, "forget", "remove files from the manifest that were never packed or whose packed file is gone", _forget)
-    forget.add_argument("--name", action="append", required=True, metavar="NAME", help="the name of a file, as fzbatch status prints it")
+    forget.add_argument("--name", action="append", required=True, metavar="NAME", help="a name of a file, as fzbatch status shows it")
     collect = _verb(made, "collect", "read the results of a Slurm array into the manifest", _collect)
     collect.add_argument("--drop", action="store_true", help="drop the tasks that have no result")
     collect.add_argument("--all", action="store_true", help="name all files, not only the first five of each cause")

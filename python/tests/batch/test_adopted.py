@@ -113,8 +113,8 @@ class Finds(Adopted):
         path = self.night / "a.fits.fz"
         strange_faults.cut_in_heap(path, None)
         said = self.run_it("adopt", self.night)[1]
-        self.assertIn("2 Truncated: the file ends", said)
-        self.assertIn("1 tiles, from row 11 on, are after the end of the file: 1,024 pixels are lost", said)
+        self.assertIn("2 Truncated: HDU 1, the last one, is cut off: ", said)
+        self.assertIn("the file ends before 1 tile (from row 11 on): 1,024 pixels are lost", said)
         rows = [json.loads(it) for it in self.run_it("status", self.night, "--json")[1].splitlines()]
         self.assertEqual(self.run_it("verify", self.night)[0], 1)
         self.assertEqual(next(it for it in rows if it["name"] == "a.fits.fz")["status"], "changed")

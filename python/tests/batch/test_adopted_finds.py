@@ -61,7 +61,7 @@ class AfterWhatIsNotDecoded(Alone):
         at = len(first + SMALL)
         for what, data, says in (
             ("cut off in a header", good[: at + 1000], "there is no HDU that can be read; 1,000 bytes follow"),
-            ("cut off in the data", good[:-100], "the file ends 100 bytes before HDU 3, its last one"),
+            ("cut off in the data", good[:-100], "HDU 3, the last one, is cut off: 100 bytes missing"),
             ("a bit of XTENSION", good[:at] + b"Y" + good[at + 1 :], "there is no HDU that can be read; 5,760 bytes follow"),
             ("more bytes at the end", good + b"x" * 2880, "there is no HDU that can be read; 2,880 bytes follow"),
         ):

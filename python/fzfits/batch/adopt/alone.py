@@ -4,6 +4,7 @@ from __future__ import annotations
 import os
 from typing import Callable, List, Optional, Tuple
 
+from ...advice import counted
 from ...checks import EMPTY, UNDECODED, has_own_sums
 from ...contents import content_of, undecoded_of
 from ...headers import Header, headers
@@ -176,7 +177,7 @@ class Alone:
             pixels = sum(boxes.number_of(boxes.of_row(axes, tile, it)) for it in rows)
             ends = [boxes.of_row(axes, tile, it) for it in (rows[0], rows[-1])]
             named = boxes.text_of([(min(a[0], b[0]), max(a[1], b[1])) for a, b in zip(*ends)]) if len(rows) == rows[-1] - rows[0] + 1 and len(axes) == 2 and tile[0] == axes[0] else ""
-            line = f"{len(rows)} tiles, from row {rows[0]} on, are after the end of the file: {pixels:,} pixels{' ' + named if named else ''} are lost"
+            line = f"the file ends before {counted(len(rows), 'tile')} (from row {rows[0]} on): {boxes.lost_of(pixels, named)}"
             self.found.append(Finding(CAUSE, line, LOST, self.header.number, self.header.name, rows[0], named, pixels))
         return rows
 

@@ -4,8 +4,19 @@ from __future__ import annotations
 import math
 from typing import Iterator, List, Sequence, Tuple
 
+from ...advice import counted
+
 # Along each axis the first and the last of a run of tiles, or of pixels.
 Spans = List[Tuple[int, int]]
+
+
+def lost_of(many: int, box: str = "", article: str = "") -> str:
+    """Pixels that are lost, in words.
+
+    >>> lost_of(1024), lost_of(1, "[5:5,3:3]", "the ")
+    ('1,024 pixels are lost', 'the 1 pixel [5:5,3:3] is lost')
+    """
+    return f"{article}{counted(many, 'pixel')}{' ' + box if box else ''} {'is' if many == 1 else 'are'} lost"
 
 
 def grid_of(axes: Sequence[int], tile: Sequence[int]) -> "List[int]":

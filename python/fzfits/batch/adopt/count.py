@@ -10,6 +10,7 @@ from .. import names
 from ..logged import Log
 from ..progress import amount, length
 from ..scan import Left
+from . import boxes
 from .rows import PART, Finding
 
 NAMED = 5
@@ -110,8 +111,7 @@ class Count:
         if self.causes:
             print("Not well:", file=to)
         for name, it in sorted(self.causes.items(), key=lambda it: -it[1].files):
-            pixels = f", {it.lost:,} pixels are lost" if it.lost else ""
-            print(f"  {_files(it.files)}: {name}{pixels}", file=to)
+            print(f"  {_files(it.files)}: {boxes.lost_of(it.lost) if it.lost else name}", file=to)
             print(textwrap.fill(f"What to do: {it.advice}.", WIDTH, initial_indent="    ", subsequent_indent="    ", break_long_words=False, break_on_hyphens=False), file=to)
             for path, line in it.named:
                 print(f"      {names.shown(path)}: {line}", file=to)
@@ -128,9 +128,9 @@ class Count:
     def _notes(self) -> "List[str]":
         said = list(self.notes)
         if self.outcomes[PART]:
-            said.insert(0, f"{_files(self.outcomes[PART])} have an HDU that fz does not decode (floats, HCOMPRESS, gzip, compressed tables): its checksums were compared.")
+            said.insert(0, f"{_files(self.outcomes[PART])} with an HDU that fz does not decode (floats, HCOMPRESS, gzip, compressed tables): its checksums were compared.")
         if self.others:
-            said.append(f"{_files(sum(self.others.values()))} with other names were left alone: {', '.join(f'{suffix} {count}' for suffix, count in self.others.items())}.")
+            said.append(f"{_files(sum(self.others.values()))} with other names, which fzbatch does not touch: {', '.join(f'{count:,} {suffix}' for suffix, count in self.others.items())}.")
         if self.bytes:
             rate = f", {amount(self.bytes / self.seconds)} in a second" if self.seconds > 1 else ""
             said.append(f"{amount(self.bytes)} were read in {length(self.seconds)}{rate}.")

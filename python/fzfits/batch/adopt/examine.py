@@ -7,6 +7,7 @@ import time
 from itertools import chain, islice
 from typing import Iterable, List, Optional
 
+from ...advice import counted
 from ...checks import UNDECODED, has_own_sums
 from ...headers import Header, headers
 from ...program import Outcome
@@ -138,7 +139,7 @@ class File:
             self.add("too many HDUs", f"{unseen:,} HDUs after HDU {MOST - 1:,} were not looked at one by one", TOO_MANY)
         end = last.end if last else 0
         if self.rejected in UNDECODED and end > self.size:
-            self.add("2 Truncated", f"the file ends {end - self.size:,} bytes before HDU {last.number if last else 0}, its last one", ANOTHER)
+            self.add("2 Truncated", f"HDU {last.number if last else 0}, the last one, is cut off: {counted(end - self.size)} missing", ANOTHER)
         elif self.rejected in UNDECODED and end < self.size:
             self.add("no HDU follows", f"from byte {end:,} on there is no HDU that can be read; {self.size - end:,} bytes follow", ANOTHER)
 
@@ -205,19 +206,25 @@ class File:
         place = REFUSED.fullmatch(ended.line)
         at = f", HDU {place[3]}, {place[4]} {place[5]}" if place else ""
         if kind in WHOLE:
-            self.add(f"{kind} {name}", self._of_whole(kind, name, heads) or f"fz does not take the file: {kind} {name}{at}", advice.of_refusal(ended.line))
+            self.add(f"{kind} {name}", self._of_whole(kind, name, heads) or f"fz does not take the file: {kind} {name}{at}", self._advice(ended))
         for it in heads:
             one = alone.Alone(self.fz, self.number, self.size, it)
             one.look()
             self._take(one)
         if not self.found and kind not in UNDECODED:
             # what is wrong is not in an HDU by itself, but in their order
-            self.add(f"{kind} {name}", f"fz does not take the file: {kind} {name}{at}", advice.of_refusal(ended.line), int(place[3]) if place else None)
+            self.add(f"{kind} {name}", f"fz does not take the file: {kind} {name}{at}", self._advice(ended), int(place[3]) if place else None)
+
+    def _advice(self, ended: Outcome) -> str:
+        """What to do about this very file, called FILE; or about the kind, if the file says no more."""
+        path = f"/proc/self/fd/{self.number}"
+        said = advice.of_file(ended, "verify", os.fsencode(path))[1].replace(path, "FILE")
+        return said.rstrip(".") or advice.of_refusal(ended.line)
 
     def _of_whole(self, kind: int, name: str, heads: "List[Header]") -> str:
         end = heads[-1].end if heads else 0
         if kind == 2 and end > self.size:
-            return f"{kind} {name}: the file ends {end - self.size:,} bytes before HDU {heads[-1].number}, its last one"
+            return f"{kind} {name}: HDU {heads[-1].number}, the last one, is cut off: {counted(end - self.size)} missing"
         if heads and end < self.size:
             return f"{kind} {name}: from byte {end:,} on there is no HDU that can be read; {self.size - end:,} bytes follow"
         return ""

@@ -153,7 +153,7 @@ class InPlace:
                     self._expect("unpack", source, max(now.size, wanted.size), out=self.part, above=above)
                     after = self._finished(above, wanted.mode & 0o777, wanted.mtime)
                     if after.sha256 != wanted.sha256:
-                        raise Undone("comes back otherwise", "what comes back is another file than the one that was packed", advice.ANOTHER_COPY)
+                        raise Undone("unpacked file differs from the original", "what comes back is another file than the one that was packed", advice.ANOTHER_COPY)
                     self._name(above, self.place.name)
                 finally:
                     files.remove(self.part, above)
@@ -244,7 +244,7 @@ class InPlace:
         try:
             self._expect("unpack", number, before.size, out=again)
             if files.look(again).sha256 != before.sha256:
-                raise Undone("comes back otherwise", "what comes back is another file than the one that was packed", "keep the plain file, and report it")
+                raise Undone("unpacked file differs from the original", "what comes back is another file than the one that was packed", "keep the plain file, and report it")
         finally:
             files.remove(again)
         self.did.looked = self.did.began

@@ -3,13 +3,13 @@ from __future__ import annotations
 
 import json
 from collections import Counter
-from html import escape
 from typing import Dict, List, Tuple
 
 from .. import names
 from ..manifest import now
 from ..progress import amount
-from ..report import HEAD, POLICY, STYLE, states_of
+from ..report import HEAD, POLICY, STYLE, files_of, name_of, states_of, text_of
+from . import boxes
 from .count import line_of
 from .rows import WELL
 from .store import Store
@@ -72,50 +72,43 @@ class Page:
         self._thin()
         parts = [self._head(), self._not_well(), self._folders(), self._notes(), self._of_runs()]
         body = "\n".join(it for it in parts if it)
-        return f"{HEAD}{POLICY}<title>Adopted {_name(self.root)}</title><style>{STYLE}</style></head><body>\n{body}\n</body></html>\n"
+        return f"{HEAD}{POLICY}<title>Adopted {name_of(self.root)}</title><style>{STYLE}</style></head><body>\n{body}\n</body></html>\n"
 
     def _head(self) -> str:
         bad = sum(count for status, count in self.states.items() if status not in WELL)
-        said = '<p class="good">Nothing is known to be wrong.</p>' if self.whole else f'<p class="bad">{bad:,} of {self.files:,} files are not well by the manifest; what is named below needs attention.</p>'
-        part = f" Of {self.states['part']:,} files some HDU is not decoded, since fz does not read its codec; its checksums were compared." if self.states["part"] else ""
+        said = '<p class="good">Nothing is known to be wrong.</p>' if self.whole else f'<p class="bad">Files that are not well by the manifest: {bad:,} of {self.files:,}. What is named below needs attention.</p>'
+        part = f" Files with an HDU that fz does not decode: {self.states['part']:,}; its checksums were compared." if self.states["part"] else ""
         strip = states_of(self.states)
-        return f'<h1>Adopted folder {_name(self.root)}</h1>\n<p class="note">State of {now()}. {self.files:,} files, {amount(self.bytes)}, in {self.folders:,} folders.{part}</p>\n{said}\n{strip}'
+        return f'<h1>Adopted folder {name_of(self.root)}</h1>\n<p class="note">State of {now()}. {files_of(self.files)}, {amount(self.bytes)}, folders: {self.folders:,}.{part}</p>\n{said}\n{strip}'
 
     def _not_well(self) -> str:
         lines = []
         for cause, (many, advice, lost, named) in sorted(self.causes.items(), key=lambda it: -it[1][0]):
-            pixels = f", {lost:,} pixels are lost" if lost else ""
-            lines.append(f"<h3>{_text(cause)}: {many:,} findings{pixels}</h3><p><b>What to do:</b> {_text(advice)}.</p>")
-            rows = "".join(f"<tr><td><code>{_name(path)}</code></td><td>{_text(line)}</td></tr>" for path, line in named)
+            said = boxes.lost_of(lost) if lost else cause
+            lines.append(f"<h3>{text_of(said)}: {many:,} {'finding' if many == 1 else 'findings'}</h3><p><b>What to do:</b> {text_of(advice)}.</p>")
+            rows = "".join(f"<tr><td><code>{name_of(path)}</code></td><td>{text_of(line)}</td></tr>" for path, line in named)
             more = f'<p class="note">and {many - len(named):,} more, which fzbatch missing names</p>' if many > len(named) else ""
             lines.append(f"<details{' open' if many <= 10 else ''}><summary>{len(named):,} of them</summary><table>{rows}</table>{more}</details>")
         return "<h2>Not well</h2>" + "\n".join(lines) if lines else ""
 
     def _folders(self) -> str:
         rows = "".join(
-            f'<tr><td><code>{_name(path)}</code></td><td class="n">{files:,}</td><td class="n">{amount(size)}</td><td class="n{" bad" if bad else ""}">{bad:,}</td></tr>'
+            f'<tr><td><code>{name_of(path)}</code></td><td class="n">{files:,}</td><td class="n">{amount(size)}</td><td class="n{" bad" if bad else ""}">{bad:,}</td></tr>'
             for bad, path, files, size, _ in self.nights
         )
-        said = f"{self.bad_folders:,} of {self.folders:,} folders have files that are not well."
+        said = f"Folders with files that are not well: {self.bad_folders:,} of {self.folders:,}."
         said += f" The table has the {len(self.nights):,} with the most of them, and then the largest." if self.folders > len(self.nights) else ""
-        return f'<h2>Folders</h2><p>{said}</p><table><tr><th>folder</th><th>files</th><th>size</th><th>not well</th></tr>{rows}</table>'
+        head = '<tr><th>folder</th><th class="n">files</th><th class="n">size</th><th class="n">not well</th></tr>'
+        return f'<h2>Folders</h2><p>{said}</p><div class="wide"><table>{head}{rows}</table></div>'
 
     def _notes(self) -> str:
-        return "<h2>To know</h2><ul>" + "".join(f"<li>{_text(it)}</li>" for it in self.notes[:NAMED]) + "</ul>" if self.notes else ""
+        return "<h2>To know</h2><ul>" + "".join(f"<li>{text_of(it)}</li>" for it in self.notes[:NAMED]) + "</ul>" if self.notes else ""
 
     def _of_runs(self) -> str:
-        return f"<h2>Runs</h2><table><tr><th>began</th><th></th><th>machine, process</th><th>said</th></tr>{''.join(self.runs[:RUNS])}</table>"
+        return f'<h2>Runs</h2><div class="wide"><table><tr><th>began</th><th></th><th>machine, process</th><th>said</th></tr>{"".join(self.runs[:RUNS])}</table></div>'
 
 
 def _run(it: "tuple[object, ...]") -> str:
     _, _, verb, host, process, _, began, ended, said = map(str, it)
-    state = _text(said) if ended != "None" else '<span class="bad">did not end by itself</span>'
-    return f"<tr><td>{_text(began)}</td><td>{_text(verb)}</td><td>{_text(host)} {_text(process)}</td><td>{state}</td></tr>"
-
-
-def _name(path: bytes) -> str:
-    return escape(names.shown(path))
-
-
-def _text(text: str) -> str:
-    return escape(names.told(text))
+    state = text_of(said) if ended != "None" else '<span class="bad">did not end by itself</span>'
+    return f"<tr><td>{text_of(began)}</td><td>{text_of(verb)}</td><td>{text_of(host)} {text_of(process)}</td><td>{state}</td></tr>"

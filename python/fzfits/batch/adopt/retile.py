@@ -72,7 +72,7 @@ class Retiled(InPlace):
             ended = self._expect("verify", made, os.fstat(made).st_size)
             both = [self._unpacked(it) for it in (source, made)]
             if both[0] != both[1]:
-                raise Undone("comes back otherwise", "the file that was packed again restores another one", "the old file stays; report it")
+                raise Undone("unpacked file differs from the original", "the file that was packed again restores another one", "the old file stays; report it")
             self.did.looked, self.did.hdus = self.did.began, hdus_text(made, ended)
         finally:
             os.close(made)

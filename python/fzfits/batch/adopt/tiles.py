@@ -93,5 +93,5 @@ class Image:
 
     def lose(self, why: str, row: int, box: str, lost: int) -> None:
         """Notes a tile that does not come back."""
-        line = f"row {row}, {why}: the {lost:,} pixels {box} are lost"
+        line = f"row {row}, {why}: " + boxes.lost_of(lost, box, "the ")
         self.made.findings.append(Finding(CAUSE, line, LOST, self.header.number, self.header.name, row, box, lost))
