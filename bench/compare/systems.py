@@ -7,10 +7,10 @@ import threading
 from dataclasses import dataclass, field
 from pathlib import Path
 
+sys.path.insert(0, str(Path(__file__).resolve().parents[2] / "tools"))
+from library import suites  # noqa: E402  # pylint: disable=wrong-import-position
+
 PACKAGES = ("libcfitsio-bin", "python3-astropy", "python3-fitsio")
-MIRROR = "http://deb.debian.org/debian"
-# What is in the folder of a suite once all is installed.
-READY = "var/lib/fz_compare"
 # What a tool may take, in seconds.
 LIMIT = 120
 VERSIONS = (
@@ -86,32 +86,13 @@ def run(words, limit=LIMIT):
     return Ran(child.returncode, used.ru_utime + used.ru_stime, said)
 
 
-def made_by(suite, root):
-    """The commands that unpack a suite with the tools. It is apt that installs them, since debootstrap knows no virtual packages."""
-    yield ["debootstrap", "--variant=minbase", suite, str(root), MIRROR]
-    yield ["cp", "/etc/resolv.conf", str(root / "etc")]
-    # a mirror that is a snapshot of some day says of its lists that they are too old
-    inside = ["chroot", str(root), "env", "DEBIAN_FRONTEND=noninteractive", "apt-get", "-q", "-o", "Acquire::Check-Valid-Until=false"]
-    yield [*inside, "update"]
-    yield [*inside, "install", "-y", "--no-install-recommends", *PACKAGES]
-
-
 def unpacked(suite, room):
     """Another suite, unpacked in the folder `room` if it is not there; None, with the reason, if that cannot be done."""
-    root = room / suite
-    if os.geteuid() != 0 or not shutil.which("debootstrap"):
-        print(f"bench/compare: left out, since this is not root or debootstrap is not installed: the tools of {suite}", file=sys.stderr)
+    why = suites.made(suite, room / suite, PACKAGES)
+    if why:
+        print(f"bench/compare: left out, since {why}: the tools of {suite}", file=sys.stderr)
         return None
-    if (root / "usr/bin/fpack").exists() and (root / READY).exists():
-        return System(suite, root)
-    shutil.rmtree(root, ignore_errors=True)
-    for words in made_by(suite, root):
-        ended = subprocess.run(words, stdin=subprocess.DEVNULL, stdout=subprocess.PIPE, stderr=subprocess.STDOUT, text=True, check=False)
-        if ended.returncode:
-            print(f"bench/compare: left out, since {words[0]} failed ({ended.stdout.splitlines()[-1:]}): the tools of {suite}", file=sys.stderr)
-            return None
-    (root / READY).touch()
-    return System(suite, root)
+    return System(suite, room / suite)
 
 
 def known(system):

@@ -1,4 +1,4 @@
-"""Other suites of Debian, each unpacked in a folder, in which a Python of it is run on a folder of this system."""
+"""Other suites of Debian, each unpacked in a folder, in which programs of it are run on folders of this system."""
 import contextlib
 import os
 import shutil
@@ -10,6 +10,8 @@ from pathlib import Path
 MIRROR = "http://deb.debian.org/debian"
 # What astropy's tests of tiled compression use of a suite.
 PACKAGES = ("python3-astropy", "python3-fitsio", "python3-pytest", "python3-pytest-astropy", "python3-hypothesis")
+# A mirror that is a snapshot of some day says of its lists that they are too old. A folder that can be made again needs no fsync.
+OPTIONS = ("-qq", "-o", "APT::Sandbox::User=root", "-o", "Acquire::Check-Valid-Until=false", "-o", "DPkg::Options::=--force-unsafe-io")
 
 
 @dataclass
@@ -20,58 +22,76 @@ class Place:
     words: list
 
 
-def mounted(root, work):
-    """Shows the folder `work`, /proc and /dev in a suite, and gives what was mounted."""
+def said(words, **more):
+    """Runs a command that asks nothing, with what it prints in one text."""
+    return subprocess.run(words, stdin=subprocess.DEVNULL, stdout=subprocess.PIPE, stderr=subprocess.STDOUT, text=True, errors="replace", check=False, **more)
+
+
+def mounted(root, folders):
+    """Shows the folders, /proc and /dev in a suite, and gives what was mounted."""
     found = []
-    for kind, source, below in (("--bind", str(work), str(work)), ("--bind", "/proc", "/proc"), ("--bind", "/dev", "/dev")):
-        target = root / below.lstrip("/")
+    for source in (*map(str, folders), "/proc", "/dev"):
+        target = root / source.lstrip("/")
         target.mkdir(parents=True, exist_ok=True)
-        subprocess.run(["mount", kind, source, str(target)], check=True)
+        subprocess.run(["mount", "--bind", source, str(target)], check=True)
         found.append(target)
     return found
 
 
-def made(suite, root):
-    """Unpacks a suite, unless it is there; why not, if that cannot be done."""
+def mounts_below(root):
+    """What is mounted in a folder."""
+    rows = [it.split() for it in Path("/proc/self/mounts").read_text().splitlines()]
+    return [it[1] for it in rows if it[1].startswith(f"{os.path.realpath(root)}/")]
+
+
+def is_whole(root):
+    """Whether debootstrap went to its end there: it removes its own folder last."""
+    return (root / "usr/bin/apt-get").exists() and not (root / "debootstrap").exists()
+
+
+def made(suite, root, packages=PACKAGES):
+    """Unpacks a suite with these packages, unless it is there; why not, if that cannot be done."""
     if os.geteuid() != 0:
         return "this is not root"
-    if not (root / "usr/bin/apt-get").exists():
+    if not is_whole(root):
         if not shutil.which("debootstrap"):
             return "debootstrap is not installed"
-        ran = subprocess.run(["debootstrap", "--variant=minbase", suite, str(root), MIRROR], stdout=subprocess.PIPE, stderr=subprocess.STDOUT, text=True, check=False)
+        if mounts_below(root):
+            return f"{mounts_below(root)[0]} is mounted in a suite that is not whole: umount it"
+        shutil.rmtree(root, ignore_errors=True)
+        ran = said(["debootstrap", "--variant=minbase", suite, str(root), MIRROR])
         if ran.returncode:
-            shutil.rmtree(root, ignore_errors=True)
             return f"debootstrap failed ({ran.stdout.splitlines()[-1:]})"
-    return installed(root)
+    return installed(root, packages)
 
 
-def installed(root):
-    """Installs what the tests need, unless it is there; why not, if that cannot be done."""
-    within = {"stdin": subprocess.DEVNULL, "stdout": subprocess.PIPE, "stderr": subprocess.STDOUT, "text": True, "check": False, "env": {**os.environ, "DEBIAN_FRONTEND": "noninteractive"}}
-    found = subprocess.run(["chroot", str(root), "dpkg-query", "-W", "-f", "${db:Status-Status}\n", *PACKAGES], **within)
-    if found.stdout.split() == ["installed"] * len(PACKAGES):
+def installed(root, packages):
+    """Installs packages, unless they are there; why not, if that cannot be done. It is apt that does it, since debootstrap knows no virtual packages."""
+    within = {"env": {**os.environ, "DEBIAN_FRONTEND": "noninteractive"}}
+    found = said(["chroot", str(root), "dpkg-query", "-W", "-f", "${db:Status-Status}\n", *packages], **within)
+    if found.stdout.split() == ["installed"] * len(packages):
         return None
-    apt = ["chroot", str(root), "apt-get", "-qq", "-o", "APT::Sandbox::User=root"]
-    for words in (["update"], ["install", "-y", "--no-install-recommends", *PACKAGES]):
-        ran = subprocess.run([*apt, *words], **within)
+    shutil.copy("/etc/resolv.conf", root / "etc")
+    for words in (["update"], ["install", "-y", "--no-install-recommends", *packages]):
+        ran = said(["chroot", str(root), "apt-get", *OPTIONS, *words], **within)
         if ran.returncode:
             return f"apt-get {words[0]} failed ({ran.stdout.splitlines()[-1:]})"
     return None
 
 
 @contextlib.contextmanager
-def unpacked(suite, room, work):
-    """The Python of a suite that is unpacked below `room`, and sees `work`; None, with the reason on standard error, if there is none."""
+def unpacked(suite, room, folders, packages=PACKAGES):
+    """The Python of a suite that is unpacked below `room`, and sees `folders`; None, with the reason on standard error, if there is none."""
     root = Path(room) / suite
     root.parent.mkdir(parents=True, exist_ok=True)
-    why = made(suite, root)
+    why = made(suite, root, packages)
     if why:
-        print(f"tools/check_plug: left out, since {why}: the tests of {suite}", file=sys.stderr)
+        print(f"{Path(sys.argv[0]).name}: left out, since {why}: what is of {suite}", file=sys.stderr)
         yield None
         return
     found = []
     try:
-        found += mounted(root, work)
+        found += mounted(root, folders)
         yield Place(suite, ["chroot", str(root), "/usr/bin/python3"])
     finally:
         for it in reversed(found):
