@@ -46,7 +46,8 @@ def of_fitsio():
         with fitsio.FITS(path) as found:
             return [it.read() for it in found if it.get_exttype() == "IMAGE_HDU" and it.has_data()]
 
-    return f"fitsio {fitsio.__version__} (cfitsio {fitsio.cfitsio_version()})", read
+    whole, part = str(fitsio.cfitsio_version()).split(".")  # such as 4.060
+    return f"fitsio {fitsio.__version__} (cfitsio {whole}.{int(part[:2])})", read
 
 
 def of_tiles():
