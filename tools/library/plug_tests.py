@@ -60,11 +60,12 @@ def versions(place, work):
 
 
 def end_of(case):
-    """How a test of a report ended."""
+    """How a test of a report ended. A report calls what astropy itself expects to fail, and so gives up, skipped too."""
     for how in ("failure", "error", "skipped"):
         found = case.find(how)
         if found is not None:
-            return End(how, (found.get("message") or "").strip().splitlines()[:1][0] if (found.get("message") or "").strip() else "")
+            why = (found.get("message") or "").strip().splitlines()
+            return End("expected" if found.get("type") == "pytest.xfail" else how, why[0] if why else "")
     return End("passed")
 
 
@@ -92,7 +93,7 @@ def both_ways(place, work):
 def counted(ran):
     """How many tests ended how."""
     found = Counter(it.how for it in ran.ended.values())
-    words = {"passed": "passed", "failure": "failed", "error": "ended with an error", "skipped": "skipped"}
+    words = {"passed": "passed", "failure": "failed", "error": "ended with an error", "skipped": "skipped", "expected": "expected to fail"}
     return ", ".join(f"{found[how]:,} {word}" for how, word in words.items() if found[how] or how in ("passed", "failure")) if found else f"no test ran ({ran.last})"
 
 
