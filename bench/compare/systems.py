@@ -104,5 +104,5 @@ def known(system):
     for line in run(system.words([python, "-W", "ignore", "-c", VERSIONS])).said.splitlines():
         name, *rest = line.split()
         if name in ("astropy", "fitsio"):
-            system.versions[name] = rest[0]
+            system.versions[name] = rest[0].partition("+")[0]  # such as 1.4.2+ds
     return system

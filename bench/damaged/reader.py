@@ -47,7 +47,7 @@ def of_fitsio():
             return [it.read() for it in found if it.get_exttype() == "IMAGE_HDU" and it.has_data()]
 
     whole, part = str(fitsio.cfitsio_version()).split(".")  # such as 4.060
-    return f"fitsio {fitsio.__version__} (cfitsio {whole}.{int(part[:2])})", read
+    return f"fitsio {fitsio.__version__.partition('+')[0]} (cfitsio {whole}.{int(part[:2])})", read
 
 
 def of_tiles():
