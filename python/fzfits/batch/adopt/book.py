@@ -152,6 +152,11 @@ class Book:
         """All runs: number, token, verb, host, process, program, when it began and ended, and its last line."""
         return list(self._sql.execute("SELECT number, token, verb, host, process, program, began, ended, said FROM runs ORDER BY number"))
 
+    def last_run(self) -> int:
+        """The number of the last run, or 0."""
+        found = self._sql.execute("SELECT coalesce(max(number), 0) FROM runs").fetchone()
+        return int(found[0])
+
     def leave_out(self, left: Any, others: "dict[str, int]") -> None:
         """Notes what the last look left out, if that is something else than what an earlier one did."""
         now_left = sorted((it.path, names.told(it.why), names.told(it.advice)) for it in left)

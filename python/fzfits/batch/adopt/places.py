@@ -4,16 +4,20 @@ from __future__ import annotations
 import os
 import re
 import stat
-from typing import Iterator, List, Optional, Sequence
+import time
+from typing import Dict, Iterator, List, Optional, Sequence
 
 from .. import files, inside, keep, lock, machine, names
 from ..scan import folders_of
 from ..wanted import Refuse
-from . import listing
+from . import copying, listing, lists
 from .named import beside
 from .store import Store
+from .walk import MANY
 
 LOCK, COPY, SUMS = b".lock", b".copy", b".SHA256SUMS"
+BEGINNINGS = {COPY: b"SQLite format 3\0", SUMS: keep.HEAD}
+PAUSE = 600.0
 
 
 def manifest_of(folder: bytes, given: "Sequence[bytes]") -> bytes:
@@ -90,17 +94,45 @@ def is_stale(path: bytes) -> bool:
         return True
 
 
-def keep_beside(store: Store) -> "List[str]":
-    """Writes the second copy and the list for sha256sum anew, after a run that changed the manifest."""
+def keep_beside(store: Store, jobs: int = 0) -> "List[str]":
+    """Writes the second copy and the list for sha256sum, after a run that changed the manifest: of a large folder only what changed in them."""
     store.save()
     for it in _unfinished(store.path):
         files.remove(it)
-    said = []
     rights = stat.S_IMODE(os.stat(store.path).st_mode) & 0o666
-    for ending, beginning, pieces in ((COPY, b"SQLite format 3\0", keep._bytes_of(store.path)), (SUMS, keep.HEAD, listing.pieces(store, machine.processors()))):
+    if store.files < MANY:
+        lists.remove(store.path)
+        return _kept(store, rights, {COPY: keep._bytes_of(store.path), SUMS: listing.pieces(store)})
+    # first, since it checks the rows that are copied then
+    lists.keep_each(store, rights, jobs or machine.processors())
+    beside: "Dict[bytes, Iterator[bytes]]" = {} if copying.follow(store.path, store.path + COPY, store.last_run()) else {COPY: keep._bytes_of(store.path)}
+    return _kept(store, rights, {**beside, SUMS: lists.about(store.path)})
+
+
+def _kept(store: Store, rights: int, beside: "Dict[bytes, Iterator[bytes]]") -> "List[str]":
+    """Writes whole files beside the manifest, each in the place of the one that was there, if that is of fzbatch."""
+    said = []
+    for ending, pieces in beside.items():
         path = store.path + ending
-        if keep.is_none_of_ours(path, beginning):
+        if keep.is_none_of_ours(path, BEGINNINGS[ending]):
             said.append(f"{names.shown(path)} is there, and fzbatch did not write it: it stays as it is, and none was written.")
         else:
             inside.replace(path, pieces, rights)
     return said
+
+
+class Beside:
+    """What lies beside a large manifest, while a run goes on: so a run that follows a killed one has little of it to write."""
+
+    def __init__(self, store: Store):
+        self.store, self._next = store, time.monotonic() + PAUSE
+
+    def keep_now_and_then(self) -> None:
+        """Writes it, if that was not done for ten minutes or for twenty times as long as it took."""
+        began = time.monotonic()
+        if began < self._next or self.store.files < MANY:
+            return
+        # other threads are at work, so no process is begun
+        keep_beside(self.store, 1)
+        ended = time.monotonic()
+        self._next = ended + max(PAUSE, 20 * (ended - began))

@@ -23,7 +23,7 @@ from ..scan import Left
 from ..survey import SKIPS
 from ..wanted import Refuse, place, signals
 from ..work import identity_of
-from . import engines, places, verdict
+from . import copying, engines, places, verdict
 from .count import Count
 from .messages import Asked, Found
 from .rows import WELL, Finding, Row
@@ -104,6 +104,7 @@ class Run:
             return places.opened(wanted.manifest, wanted.folder, writes, wanted.moved)
         copy = wanted.manifest + places.COPY
         if files.there(copy):
+            copying.settle(copy)
             raise Refuse(f"{names.shown(wanted.manifest)} is not there, and its second copy is: copy {names.shown(copy)} to it, or move the copy away, and fzbatch adopt begins anew")
         return Store(wanted.manifest)
 
@@ -160,7 +161,7 @@ class Run:
         return engines.local(self._asked(), waiting.tasks(), it.jobs, stopped)
 
     def _read(self, waiting: Waiting, writes: bool) -> None:
-        was, answered = place(self.wanted.folder), 0
+        was, answered, beside = place(self.wanted.folder), 0, places.Beside(self.store)
         bar = progress(self.wanted.verb, waiting.count, waiting.bytes, names.unescaped(self.err), self.wanted.quiet)
         with signals(self._signalled):
             try:
@@ -172,11 +173,23 @@ class Run:
                     answered += 1
                     self.count.bytes += found.size
                     bar.step(found.size)
+                    if writes:
+                        self._keep(beside)
             finally:
                 bar.close()
         self.count.untried = waiting.count - answered
         if self.count.untried and not self.count.stopped:
             self.count.stopped = "the engine ended before all files were read"
+
+    def _keep(self, beside: places.Beside) -> None:
+        try:
+            beside.keep_now_and_then()
+        except BadManifest as error:
+            self.store.give_up()
+            self.count.stopped = str(error)
+        except OSError:
+            # it is written once more at the end, which says if that is not possible
+            pass
 
     def _signalled(self, number: int) -> None:
         self.stop_signal = number

@@ -21,6 +21,7 @@ from .rows import COLUMNS, FOLDER_COLUMNS, GONE, NOT_WELL, WELL, Folder, Row
 SELECT = f"SELECT {', '.join(COLUMNS)}, hash FROM files"
 PUT = f"INSERT OR REPLACE INTO files ({', '.join(COLUMNS)}, hash) VALUES ({', '.join('?' * (len(COLUMNS) + 1))})"
 PUT_FOLDER = f"INSERT OR REPLACE INTO folders ({', '.join(FOLDER_COLUMNS)}, hash) VALUES ({', '.join('?' * (len(FOLDER_COLUMNS) + 1))})"
+STATUS, MADE_OF = map(COLUMNS.index, ("status", "made_of"))
 WIDE = 1 << 128
 # What of a file is hashed by a look: name, length and time.
 LOOK = b"%b\0%d %d"
@@ -142,19 +143,36 @@ class Store(Book):
             if row.status not in WELL or row.made_of:
                 forms.check_lines(row)
         except Odd as error:
-            raise BadManifest(f"the manifest {names.shown(self.path)}: {error}{WHAT_TO_DO}") from error
+            raise self._odd(error) from error
         return row
 
     def rows_of(self, folder: bytes) -> Iterator[Row]:
         """The rows of a folder, by their names. At their end their number and the sum of their hashes are compared with those of the folder."""
+        return (Row(*it) for it in self.checked(folder))
+
+    def checked(self, folder: bytes) -> "Iterator[Tuple[Any, ...]]":
+        """The same as bare values, in the order of COLUMNS: there may be millions of them."""
         self._flush()
         count = total = 0
+        number, check, hash_of = int.from_bytes, forms.check_row, checks.hash_of
         for found in self._sql.execute(f"{SELECT} WHERE folder = ? ORDER BY name", (folder,)):
-            count, total = count + 1, checks.added(total, found[-1])
-            yield self._checked(found)
+            values, digest = found[:-1], found[-1]
+            if digest != hash_of("files", values) or values[STATUS] not in WELL or values[MADE_OF]:
+                self._checked(found)
+            else:
+                try:
+                    check("files", values)
+                except Odd as error:
+                    raise self._odd(error) from error
+            count += 1
+            total += number(digest, "big")
+            yield values
         held = self.folder(folder)
-        if text_of(count, total) != (held.seal if held else "0 0"):
+        if text_of(count, total % checks.WIDE) != (held.seal if held else "0 0"):
             raise BadManifest(f"the manifest {names.shown(self.path)}: rows of the folder {names.shown(folder or b'.')} are gone or changed{WHAT_TO_DO}")
+
+    def _odd(self, error: Odd) -> BadManifest:
+        return BadManifest(f"the manifest {names.shown(self.path)}: {error}{WHAT_TO_DO}")
 
     def rows(self) -> Iterator[Row]:
         """All rows, one folder after another."""

@@ -40,11 +40,11 @@ class Seen:
     shut: bool = False
 
 
-def entries(root: bytes, path: bytes, seen: Optional[Seen] = None) -> Iterator[Entry]:
-    """Name, length and time of each file of a folder that is adopted. What else is in it goes into `seen`."""
+def entries(root: bytes, path: bytes, seen: Optional[Seen] = None, at: bytes = b"") -> Iterator[Entry]:
+    """Name, length and time of each file of a folder that is adopted. What else is in it goes into `seen`. `at` is another name of the folder."""
     seen = seen or Seen(path)
     try:
-        with os.scandir(os.path.join(root, path)) as found:
+        with os.scandir(at or os.path.join(root, path)) as found:
             for entry in found:
                 try:
                     it = entry.stat(follow_symlinks=False)
@@ -81,13 +81,13 @@ def _other(seen: Seen, path: bytes, entry: "os.DirEntry[bytes]", it: os.stat_res
         seen.left.append(Left(below, "is no file, but a pipe, a socket or a device", ADVICE[PIPE], PIPE))
 
 
-def see(root: bytes, path: bytes) -> Seen:
+def see(root: bytes, path: bytes, at: bytes = b"") -> Seen:
     """One folder."""
     seen = Seen(path)
     count = total = look = 0
     # this is done for each of some million names: what `look_of` does, without its call
     hashed, number = hashlib.blake2b, int.from_bytes
-    for name, size, mtime in entries(root, path, seen):
+    for name, size, mtime in entries(root, path, seen, at):
         count += 1
         total += size
         look += number(hashed(LOOK % (name, size, mtime), digest_size=16).digest(), "big")
@@ -96,8 +96,17 @@ def see(root: bytes, path: bytes) -> Seen:
 
 
 def see_each(root: bytes, paths: "list[bytes]") -> "list[Seen]":
-    """Some folders, one after another."""
-    return [see(root, it) for it in paths]
+    """Some folders, one after another, in a process of its own, which enters them: then the system has no path to follow for each name."""
+    return [see(root, it, _entered(os.path.join(root, it))) for it in paths]
+
+
+def _entered(folder: bytes) -> bytes:
+    """The name of a folder by which it is found fastest: that of the folder in which this process is, if it may be in it."""
+    try:
+        os.chdir(folder)
+    except OSError:
+        return folder
+    return b"."
 
 
 def walk(root: bytes, known: int, jobs: int) -> Iterator[Seen]:
