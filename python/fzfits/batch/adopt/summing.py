@@ -1,7 +1,8 @@
-"""The verdicts on DATASUM and CHECKSUM of an HDU that fz is not asked about: by numpy or libfz, if one of them is installed."""
+"""The verdicts on DATASUM and CHECKSUM of an HDU that fz is not asked about: by libfz or numpy, if one of them is installed."""
 from __future__ import annotations
 
 import os
+import sys
 from functools import lru_cache
 from typing import Callable, Optional, Tuple
 
@@ -10,15 +11,27 @@ from ...headers import Header
 
 PIECE = 1 << 20
 WRAP = 0xFFFFFFFF
+# numpy takes as long to import as Python itself takes to add so many bytes: so it is imported for those that follow.
+BEFORE_NUMPY = 16 << 20
+Added = Callable[[int, bytes], int]
+_left = [BEFORE_NUMPY]
+
+
+def _added(size: int) -> Added:
+    """What adds bytes to a sum, all but the last of them in whole words: the fastest that there is, if so many bytes come."""
+    found = _of_library()
+    if found is None and (_left[0] < size or "numpy" in sys.modules):
+        found = _of_numpy()
+    _left[0] -= size
+    return found or sums.added
 
 
 @lru_cache(maxsize=None)
-def _added() -> "Callable[[int, bytes], int]":
-    """What adds bytes to a sum, all but the last of them in whole words: the fastest that there is. (Python itself holds up other threads.)"""
+def _of_numpy() -> Optional[Added]:
     try:
         import numpy  # pylint: disable=import-outside-toplevel
     except ImportError:
-        return _of_library() or sums.added
+        return None
 
     def added(total: int, data: bytes) -> int:
         if len(data) % 4:
@@ -31,19 +44,26 @@ def _added() -> "Callable[[int, bytes], int]":
     return added
 
 
-def _of_library() -> "Optional[Callable[[int, bytes], int]]":
-    from ... import codec, library  # pylint: disable=import-outside-toplevel
+@lru_cache(maxsize=None)
+def _of_library() -> Optional[Added]:
+    from ... import library  # pylint: disable=import-outside-toplevel
 
     try:
-        library.load()
+        found = library.load()
     except library.NoLibrary:
         return None
-    return lambda total, data: codec.checksum(data, total)
+
+    def added(total: int, data: bytes) -> int:
+        made = library.U32()
+        library.check(found.fz_sum(total, data, len(data), made))
+        return int(made.value)
+
+    return added
 
 
 def sum_of(number: int, start: int, end: int) -> int:
     """The sum of the bytes of a part of an open file."""
-    total, added = 0, _added()
+    total, added = 0, _added(end - start)
     while start < end:
         piece = os.pread(number, min(PIECE, end - start), start)
         if not piece:
