@@ -17,6 +17,7 @@ from .commands import cut, drill, list, pack, retile, unpack, verify  # noqa: F4
 from .contents import Content, contents
 from .errors import FzError, Killed, NoMemory, NoProgram, NoSuchHdu, OverLimit, ReadFault, Refused, Unexpected, Usage, WriteFault
 from .mend import Change, Mended, mend
+from .opening import File, Image, open  # pylint: disable=redefined-builtin
 from .plan import Try, plan
 from .readers import Readable, readable, stored_tiles
 from .results import Drill, Hdu, Made, Place, Report, Verdict

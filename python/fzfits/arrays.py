@@ -6,7 +6,7 @@ astropy gives, so that a program that reads with astropy can read with this pack
 from __future__ import annotations
 
 import os
-from typing import Any, Optional, Tuple, Union
+from typing import Any, NamedTuple, Optional, Tuple, Union
 
 from .headers import Header, Name, header_of
 
@@ -15,6 +15,15 @@ STORED = {8: ">u1", 16: ">i2", 32: ">i4", 64: ">i8", -32: ">f4", -64: ">f8"}
 OFFSETS = {8: (-128, "i1"), 16: (1 << 15, "u2"), 32: (1 << 31, "u4"), 64: (1 << 63, "u8")}
 
 Number = Union[int, float]
+
+
+class Scaling(NamedTuple):
+    """What the numbers of an image stand for: the type of the physical values (`kind_of`), BSCALE, BZERO and BLANK."""
+
+    kind: str
+    scale: Number
+    zero: Number
+    blank: Optional[int]
 
 
 def numpy() -> Any:
@@ -90,8 +99,12 @@ def scaled(array: Any, header: Header) -> Any:
 
     Integers of the other sign are exact, and a BLANK is then left as any other number. Others are computed as astropy does it.
     """
-    np, kind = numpy(), kind_of(header)
-    scale, zero, blank = scaling_of(header)
+    return physical(array, Scaling(kind_of(header), *scaling_of(header)))
+
+
+def physical(array: Any, scaling: Scaling) -> Any:
+    """The same for a scaling that is known."""
+    np, (kind, scale, zero, blank) = numpy(), scaling
     if kind == array.dtype.str[1:] and scale == 1 and zero == 0:
         return array
     if kind[0] in "iu":

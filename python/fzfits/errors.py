@@ -6,7 +6,7 @@ file, and what to do. All can be pickled, so they come through process pools.
 from __future__ import annotations
 
 import os
-from typing import Optional, Sequence, Tuple
+from typing import Optional, Sequence, Tuple, Union
 
 from .headers import Card, Name
 from .results import Place, Verdict
@@ -55,18 +55,18 @@ class NoProgram(FzError):
     """The program fz was not found, or could not be started."""
 
 
-class NoSuchHdu(FzError, LookupError):
-    """The file has no HDU with that EXTNAME. `names` are those that it has."""
+class NoSuchHdu(FzError, KeyError):
+    """The file has no HDU with that EXTNAME or number. `names` are those that it has."""
 
-    def __init__(self, asked: str, names: Sequence[str] = (), **more: object) -> None:
+    def __init__(self, asked: Union[int, str], names: Sequence[str] = (), **more: object) -> None:
         super().__init__(asked, tuple(names), **more)
         self.asked, self.names = asked, tuple(names)
 
     def what(self) -> str:
-        return f"no HDU has the EXTNAME {self.asked}"
+        return f"there is no HDU {self.asked}" if isinstance(self.asked, int) else f"no HDU has the EXTNAME {self.asked}"
 
     def remedy(self) -> str:
-        return f"It has {', '.join(self.names) or 'none'}."
+        return f"The names are {', '.join(self.names)}." if isinstance(self.asked, int) and self.names else f"It has {', '.join(self.names) or 'none'}." if isinstance(self.asked, str) else ""
 
 
 class Refused(FzError):
