@@ -5,10 +5,11 @@ include/fz.h says what each call does; the structs here are its structs.
 from __future__ import annotations
 
 import ctypes
-from typing import Any, Optional
+from typing import Any, List, Optional, Sequence, Tuple
 
 from ..library import ARGUMENTS
 from .faults import Fault
+from .layer import Decoder
 from .plans import SORTS, Arrays, At, Plan, Record, Said
 
 U32, U64, I32, SIZE, POINTER = ctypes.c_uint32, ctypes.c_uint64, ctypes.c_int32, ctypes.c_size_t, ctypes.c_void_p
@@ -108,22 +109,29 @@ class ByLibrary:
             raise Fault(fault.kind, UNITS[fault.at_sort], fault.at)
         check(answer)
 
-    def record(self, plan: Plan, tile: int, pixels: int, rows: bytes, at: int) -> Record:
-        """Where the bytes of a tile are."""
-        found = FzRecord()
-        answer = self.row(plan.own, tile, rows[at : at + plan.row_bytes], plan.row_bytes, found)
-        if answer:
-            if -answer < 100:
-                raise Fault(-answer, "row", tile)
+    def records(self, plan: Plan, tiles: Sequence[int], pixels: Sequence[int], rows: bytes, first: int) -> Tuple[List[Record], Optional[Fault]]:
+        """Where the bytes of these tiles are."""
+        call, own, width, found = self.row, plan.own, plan.row_bytes, []
+        for tile in tiles:
+            at, record = (tile - first) * width, FzRecord()
+            answer = call(own, tile, rows[at : at + width], width, record)
+            if answer and -answer < 100:
+                return found, Fault(-answer, "row", tile)
             check(answer)
-        return found  # type: ignore[return-value]
+            found.append((record.start, record.total, record.read, record.column, record))
+        return found, None
 
-    def decode(self, plan: Plan, tile: int, record: Record, code: int, numbers: int, places: int) -> int:
-        """Decodes a tile."""
-        answer = self.tile(plan.own, tile, record, code, record.read, numbers, places)
-        if answer < -100:
-            check(answer)
-        return answer  # type: ignore[no-any-return]
+    def decoder(self, plan: Plan, base: int) -> Decoder:
+        """What decodes tiles."""
+        call, own = self.tile, plan.own
+
+        def decode(tile: int, record: Record, numbers: int, places: int) -> int:
+            answer = call(own, tile, record[4], base + record[0], record[2], numbers, places)
+            if answer < -100:
+                check(answer)
+            return answer  # type: ignore[no-any-return]
+
+        return decode
 
 
 def check(answer: int) -> None:

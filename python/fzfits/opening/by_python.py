@@ -1,10 +1,12 @@
 """Headers and rows read in Python, with the checks of `fz`, and tiles decoded by `fz_decode_tile` of libfz."""
 from __future__ import annotations
 
-from typing import Any, Optional
+from typing import Any, List, Optional, Sequence, Tuple
 
 from ..library import load
 from . import fronts, images, rows
+from .faults import Fault
+from .layer import Decoder
 from .plans import At, Plan, Record, Said
 
 
@@ -27,13 +29,19 @@ class ByPython:
         said, cards = fronts.said_of(front, at)
         return images.plan_of(cards, said, at)
 
-    def record(self, plan: Plan, tile: int, pixels: int, table: bytes, at: int) -> Record:
-        """Where the bytes of a tile are."""
-        return rows.record_of(plan, tile, pixels, table, at)
+    def records(self, plan: Plan, tiles: Sequence[int], pixels: Sequence[int], table: bytes, first: int) -> Tuple[List[Record], Optional[Fault]]:
+        """Where the bytes of these tiles are."""
+        return rows.records_of(plan, tiles, pixels, table, first)
 
-    def decode(self, plan: Plan, tile: int, record: Record, code: int, numbers: int, places: int) -> int:
-        """Decodes a tile."""
+    def decoder(self, plan: Plan, base: int) -> Decoder:
+        """What decodes tiles."""
         call = self.call
         if call is None:
             self.call = call = load().fz_decode_tile
-        return call(plan.codec, plan.block, plan.bytepix, plan.bitpix, record.column, code, record.read, record.total, numbers, places)  # type: ignore[no-any-return]
+        codec, block, bytepix, bitpix = plan.codec, plan.block, plan.bytepix, plan.bitpix
+
+        def decode(_: int, record: Record, numbers: int, places: int) -> int:
+            start, total, read, column, _ = record
+            return call(codec, block, bytepix, bitpix, column, base + start, read, total, numbers, places)  # type: ignore[no-any-return]
+
+        return decode

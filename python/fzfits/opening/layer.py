@@ -6,11 +6,15 @@ which reads headers and rows in Python and decodes tiles by `fz_decode_tile`. Bo
 from __future__ import annotations
 
 from functools import lru_cache
-from typing import Protocol
+from typing import Callable, List, Optional, Protocol, Sequence, Tuple
 
 from .. import errors
 from ..library import load
+from .faults import Fault
 from .plans import At, Plan, Record, Said
+
+# Decodes a tile by its record into so many 32-bit numbers at an address. Answers 0, or minus the number of the kind that it refuses.
+Decoder = Callable[[int, Record, int, int], int]
 
 
 class Layer(Protocol):
@@ -25,11 +29,11 @@ class Layer(Protocol):
     def plan(self, front: bytes, at: At) -> Plan:
         """The plan of the packed image of an HDU."""
 
-    def record(self, plan: Plan, tile: int, pixels: int, rows: bytes, at: int) -> Record:
-        """Where the bytes of a tile are. Its row begins at byte `at` of `rows`."""
+    def records(self, plan: Plan, tiles: Sequence[int], pixels: Sequence[int], rows: bytes, first: int) -> Tuple[List[Record], Optional[Fault]]:
+        """Where the bytes of these tiles are, which have so many pixels each, up to the first whose row is refused. `rows` begin with row `first`."""
 
-    def decode(self, plan: Plan, tile: int, record: Record, code: int, numbers: int, places: int) -> int:
-        """Decodes a tile: `code` is the address of its record, and `numbers` that of so many 32-bit numbers. Answers 0, or minus a kind."""
+    def decoder(self, plan: Plan, base: int) -> Decoder:
+        """What decodes tiles, of which byte 0 of the file would be at the address `base`."""
 
 
 @lru_cache(maxsize=None)

@@ -6,7 +6,7 @@ from __future__ import annotations
 
 import math
 from dataclasses import dataclass
-from typing import NamedTuple, Optional, Tuple
+from typing import Any, NamedTuple, Optional, Tuple
 
 SORTS = ("PRIMARY", "IMAGE", "BINTABLE", "OTHER")
 
@@ -70,10 +70,6 @@ class Plan:
         return math.prod(self.tile)
 
 
-class Record(NamedTuple):
-    """Where the bytes of a tile are: `read` of its `total` bytes are read, from byte `start` of the file; `column` is 0 for COMPRESSED_DATA."""
-
-    start: int
-    total: int
-    read: int
-    column: int
+# Where the bytes of a tile are: the byte of the file at which they begin, how many there are, how many of them are read, the number of
+# the column, 0 for COMPRESSED_DATA, and what a layer keeps of it. (A tuple, and no class: a line of 4,096 pixels takes 20 microseconds.)
+Record = Tuple[int, int, int, int, Any]

@@ -3,12 +3,12 @@ from __future__ import annotations
 
 import threading
 from concurrent.futures import ThreadPoolExecutor
-from typing import Any, Iterator, List, Optional, Sequence, Tuple
+from typing import Any, Iterator, List, NamedTuple, Optional, Sequence, Tuple, Union
 
 from ..arrays import numpy
 from ..boxes import Piece
 from .faults import Fault
-from .grid import Need, needs
+from .grid import Blocks, Lines, part_of
 from .layer import Layer
 from .plans import Plan, Record
 from .sources import Source
@@ -21,9 +21,14 @@ MOST_KEPT = 1 << 20
 # So many bytes of room are kept for the next call of a thread.
 MOST_SPARE = 1 << 24
 
-Found = Tuple[Need, Record]
-# Records that are read at once: the byte at which they begin, how many bytes there are, and the tiles.
-Group = Tuple[int, int, List[Found]]
+
+class Group(NamedTuple):
+    """Records that are read at once: the byte at which they begin, how many bytes there are, and which tiles of the part they are of."""
+
+    start: int
+    count: int
+    begin: int
+    end: int
 
 
 class Rooms(threading.local):
@@ -55,6 +60,7 @@ class Tiles:
 
     def __init__(self, source: Source, layer: Layer, plan: Plan) -> None:
         self.source, self.layer, self.plan = source, layer, plan
+        self.places = 2 if plan.bitpix == 64 else 1
         self.table: Optional[bytes] = None
 
     def rows(self, first: int, last: int) -> Tuple[bytes, int]:
@@ -66,30 +72,29 @@ class Tiles:
             return table, 0
         return self.source.read(plan.rows_at + first * plan.row_bytes, (last - first + 1) * plan.row_bytes), first
 
-    def records(self, wanted: Sequence[Need]) -> Tuple[List[Found], Optional[Fault]]:
+    def records(self, part: Union[Blocks, Lines]) -> Tuple[List[Record], Optional[Fault]]:
         """Where the bytes of these tiles are, up to the first whose row is refused, and why it is."""
-        plan, found = self.plan, []  # type: Plan, List[Found]
-        record, width = self.layer.record, plan.row_bytes
-        for run in runs_of(wanted, max(1, MOST_KEPT // width)):
-            rows, first = self.rows(run[0].tile, run[-1].tile)
-            try:
-                for it in run:
-                    found.append((it, record(plan, it.tile, it.pixels, rows, (it.tile - first) * width)))
-            except Fault as fault:
+        found: List[Record] = []
+        for begin, end in runs_of(part.tiles, max(1, MOST_KEPT // self.plan.row_bytes)):
+            rows, first = self.rows(part.tiles[begin], part.tiles[end - 1])
+            records, fault = self.layer.records(self.plan, part.tiles[begin:end], part.pixels[begin:end], rows, first)
+            found += records
+            if fault is not None:
                 return found, fault
         return found, None
 
     def read(self, pieces: Sequence[Piece], out: Any, workers: int = 1) -> None:
         """Puts the pixels of a part, forwards, into an array of its shape. Raises the `Fault` of the lowest row that is refused."""
-        found, fault = self.records(list(needs(pieces, self.plan.lengths, self.plan.tile)))
-        groups = list(groups_of(found, self.source.gap, -(-len(found) // (2 * workers)) if workers > 1 else len(found)))
+        part = part_of(pieces, self.plan.lengths, self.plan.tile)
+        records, fault = self.records(part)
+        groups = list(groups_of(records, self.source.gap, -(-len(records) // (2 * workers)) if workers > 1 else len(records)))
         if workers > 1 and len(groups) > 1:
             with ThreadPoolExecutor(min(workers, len(groups)), "fzfits") as pool:
-                for it in [pool.submit(self.decode, group, data, out) for group, data in self.fetched(groups)]:
+                for it in [pool.submit(self.decode, part, records, group, data, out) for group, data in self.fetched(groups)]:
                     it.result()
         else:
             for group, data in self.fetched(groups):
-                self.decode(group, data, out)
+                self.decode(part, records, group, data, out)
         if fault is not None:
             raise fault
 
@@ -99,83 +104,72 @@ class Tiles:
             data = self.source.read_all([it[:2] for it in some]) if self.source.far else [None] * len(some)
             yield from zip(some, data)
 
-    def decode(self, group: Group, data: Optional[bytes], out: Any) -> None:
+    def decode(self, part: Union[Blocks, Lines], records: Sequence[Record], group: Group, data: Optional[bytes], out: Any) -> None:
         """Decodes the tiles of a group, whose bytes are these or are read first, and puts their pixels into the array."""
-        start, count, found = group
-        per = 2 if self.plan.bitpix == 64 else 1
-        code, numbers = ROOMS.take("code", count if data is None else 1, "u1"), ROOMS.take("numbers", self.plan.most * per, "i4")
+        code = ROOMS.take("code", 1 if data else group.count, "u1")
+        numbers = ROOMS.take("numbers", self.plan.most * self.places * part.together, "i4")
         try:
             if data is None:
-                self.source.read_into(memoryview(code[0])[:count], start)
-                self.placed(found, code[1] - start, numbers, out)
+                self.source.read_into(memoryview(code[0])[: group.count], group.start)
+                self.placed(part, records, group, code[1], numbers, out)
             else:
-                kept = numpy().frombuffer(data, "u1")
-                self.placed(found, kept.ctypes.data - start, numbers, out)
+                self.placed(part, records, group, numpy().frombuffer(data, "u1").ctypes.data, numbers, out)
         finally:
             ROOMS.give("code", code)
             ROOMS.give("numbers", numbers)
 
-    def placed(self, found: Sequence[Found], base: int, room: Tuple[Any, int], out: Any) -> None:
-        """Decodes tiles, of which byte 0 of the file would be at the address `base`, and puts their pixels into the array."""
-        decode, plan, (numbers, address) = self.layer.decode, self.plan, room
-        per, form, pixels = 2 if plan.bitpix == 64 else 1, None, None
-        for need, record in found:
-            answer = decode(plan, need.tile, record, base + record.start, address, need.pixels * per)
-            if answer:
-                raise Fault(-answer, "row", need.tile)
-            if form != need[2:5:2] or per == 2:
-                form, pixels = need[2:5:2], shaped(numbers, need, per)
-            out[need.into] = pixels
-
-
-def shaped(numbers: Any, need: Need, per: int) -> Any:
-    """The wanted pixels of a tile: a view of its numbers, or of the numbers that two halves are."""
-    if per == 1:
-        return numbers[: need.pixels].reshape(need.shape)[need.wanted]
-    halves = numbers[: 2 * need.pixels].reshape(-1, 2)
-    return joined(halves).reshape(need.shape)[need.wanted]
+    def placed(self, part: Union[Blocks, Lines], records: Sequence[Record], group: Group, address: int, room: Tuple[Any, int], out: Any) -> None:
+        """Decodes the tiles of a group, whose bytes are at this address, some together, and puts their pixels into the array."""
+        numbers, width = room[0], self.plan.most * self.places
+        decode = self.layer.decoder(self.plan, address - group.start)
+        for begin in range(group.begin, group.end, part.together):
+            end, at = min(begin + part.together, group.end), room[1]
+            for tile, pixels, record in zip(part.tiles[begin:end], part.pixels[begin:end], records[begin:end]):
+                answer = decode(tile, record, at, pixels * self.places)
+                if answer:
+                    raise Fault(-answer, "row", tile)
+                at += 4 * width
+            part.put(begin, end - begin, numbers if self.places == 1 else joined(numbers), out)
 
 
 def joined(halves: Any) -> Any:
     """Pixels of 64 bits from their halves, the upper one first."""
-    return (halves[:, 0].astype("i8") << 32) | halves[:, 1].view("u4")
+    pairs = halves.reshape(-1, 2)
+    return (pairs[:, 0].astype("i8") << 32) | pairs[:, 1].view("u4")
 
 
-def runs_of(wanted: Sequence[Need], most: int) -> Iterator[Sequence[Need]]:
+def runs_of(tiles: Sequence[int], most: int) -> Iterator[Tuple[int, int]]:
     """The tiles in runs whose rows are so many at most, from the first to the last."""
     begin = 0
-    for at, it in enumerate(wanted):
-        if it.tile - wanted[begin].tile >= most:
-            yield wanted[begin:at]
-            begin = at
-    if wanted:
-        yield wanted[begin:]
+    if tiles[-1] - tiles[0] >= most:
+        for at, it in enumerate(tiles):
+            if it - tiles[begin] >= most:
+                yield begin, at
+                begin = at
+    yield begin, len(tiles)
 
 
-def groups_of(found: Sequence[Found], gap: int, most: int) -> Iterator[Group]:
+def groups_of(records: Sequence[Record], gap: int, most: int) -> Iterator[Group]:
     """The tiles whose records follow each other, with at most `gap` bytes between them; so many tiles at most."""
-    start = end = 0
-    group: List[Found] = []
-    for it in found:
-        record = it[1]
-        if group and (record.start < end or record.start > end + gap or end - start > MOST_READ or len(group) >= most):
-            yield start, end - start, group
-            group = []
-        if not group:
-            start = record.start
-        group.append(it)
-        end = record.start + record.read
-    if group:
-        yield start, end - start, group
+    start = end = begin = 0
+    for at, (first, _, read, _, _) in enumerate(records):
+        if at == begin:
+            start = first
+        elif first < end or first > end + gap or end - start > MOST_READ or at - begin >= most:
+            yield Group(start, end - start, begin, at)
+            begin, start = at, first
+        end = first + read
+    if records:
+        yield Group(start, end - start, begin, len(records))
 
 
 def batches_of(groups: Sequence[Group]) -> Iterator[Sequence[Group]]:
     """The groups in batches of so many bytes that they can be kept at once."""
     begin, size = 0, 0
     for at, it in enumerate(groups):
-        if size + it[1] > MOST_FAR and at > begin:
+        if size + it.count > MOST_FAR and at > begin:
             yield groups[begin:at]
             begin, size = at, 0
-        size += it[1]
+        size += it.count
     if groups:
         yield groups[begin:]
