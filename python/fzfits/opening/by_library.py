@@ -92,7 +92,7 @@ class ByLibrary:
         self.told(self.hdu, front, at, found)
         return Said(found.header_len, found.data_at, found.data_len, found.next_at, SORTS[found.sort], bool(found.packed), found.bitpix, tuple(found.lengths[: found.axes]))
 
-    def plan(self, front: bytes, at: At) -> Plan:
+    def plan(self, front: bytes, at: At, said: Said) -> Plan:
         """The plan of the packed image of an HDU."""
         found = FzPlan()
         self.told(self.of_plan, front, at, found)

@@ -22,12 +22,11 @@ class ByPython:
 
     def said(self, front: bytes, at: At) -> Said:
         """What a whole header says."""
-        return fronts.said_of(front, at)[0]
+        return fronts.said_of(front, at)
 
-    def plan(self, front: bytes, at: At) -> Plan:
+    def plan(self, front: bytes, at: At, said: Said) -> Plan:
         """The plan of the packed image of an HDU."""
-        said, cards = fronts.said_of(front, at)
-        return images.plan_of(cards, said, at)
+        return images.plan_of(said.own, said, at)
 
     def records(self, plan: Plan, tiles: Sequence[int], pixels: Sequence[int], table: bytes, first: int) -> Tuple[List[Record], Optional[Fault]]:
         """Where the bytes of these tiles are."""

@@ -113,7 +113,7 @@ class File(Mapping):  # type: ignore[type-arg]
     def pixels(self, at: At, said: Said, front: bytes) -> Union[Packed, Plain]:
         """The pixels of an HDU. Raises the `Fault` for which `fz cut` refuses it."""
         if said.sort not in ("PRIMARY", "IMAGE"):
-            return Packed(self.source, self.layer, self.layer.plan(front, at))
+            return Packed(self.source, self.layer, self.layer.plan(front, at, said))
         header = Hdu(self, at, said, front).table_header
         if not plain.is_image(header):
             raise Fault(Kind.NotPacked, "byte", at.start)

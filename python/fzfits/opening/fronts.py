@@ -59,7 +59,7 @@ def end_of(front: bytes, at: At, blocks: int) -> Optional[int]:
     return place // CARD if 0 <= place < last else None
 
 
-def said_of(front: bytes, at: At) -> Tuple[Said, Cards]:
+def said_of(front: bytes, at: At) -> Said:
     """What the header says, and its cards."""
     end = end_of(front, at, len(front) // BLOCK)
     if end is None:
@@ -79,7 +79,7 @@ def said_of(front: bytes, at: At) -> Tuple[Said, Cards]:
         raise Fault(Kind.Truncated, "byte", at.length)
     sort = sort_of(cards, at.hdu)
     is_packed = sort == "BINTABLE" and cards.first_true("ZIMAGE") is not None
-    return Said(header_len, at.start + header_len, data_len, next_at, sort, is_packed, bitpix, lengths), cards
+    return Said(header_len, at.start + header_len, data_len, next_at, sort, is_packed, bitpix, lengths, cards)
 
 
 def mandatory(cards: Cards, hdu: int) -> Tuple[int, Tuple[int, ...], Tuple[int, int]]:

@@ -8,7 +8,7 @@ from typing import TYPE_CHECKING, Any, Optional, Tuple
 from .. import arrays, boxes
 from ..contents import content_of
 from ..errors import Refused
-from ..headers import Header, card_of
+from ..headers import Header, Value, card_of, value_of
 from ..rows import pixels_of_row
 from . import restored
 from .cards import CARD, Cards
@@ -31,10 +31,18 @@ class Hdu:
 
     def __init__(self, file: "File", at: At, said: Said, raw_header: bytes) -> None:
         self.file, self.number, self.at, self.said, self.raw_header = file, at.hdu, at, said, raw_header
-        self.cards = Cards(raw_header, end_of(raw_header, at, len(raw_header) // BLOCK) or 0)
-        name = (self.cards.text(self.cards.find("EXTNAME")) or b"").decode("latin-1")
-        self.name = "" if name == "COMPRESSED_IMAGE" else name
-        self.version = self.cards.integer(self.cards.find("EXTVER")) or 1
+        self.cards: Cards = said.own or Cards(raw_header, end_of(raw_header, at, len(raw_header) // BLOCK) or 0)
+
+    @cached_property
+    def name(self) -> str:
+        """The text of EXTNAME, or the empty text."""
+        found = (self.cards.text(self.cards.find("EXTNAME")) or b"").decode("latin-1")
+        return "" if found == "COMPRESSED_IMAGE" else found
+
+    @property
+    def version(self) -> int:
+        """The value of EXTVER, or 1."""
+        return self.cards.integer(self.cards.find("EXTVER")) or 1
 
     @cached_property
     def table_header(self) -> Header:
@@ -96,6 +104,24 @@ class Section:
         return self.image.read(key)
 
 
+class Scaled:
+    """Those values of a header that say what the numbers stand for, as `fzfits.arrays` asks for them."""
+
+    is_packed = False
+
+    def __init__(self, bitpix: int, cards: Cards) -> None:
+        self.bitpix, self.cards = bitpix, cards
+
+    def integer(self, _: str) -> int:
+        """BITPIX."""
+        return self.bitpix
+
+    def value(self, keyword: str) -> Value:
+        """The value of the first card with this keyword, or None."""
+        field = self.cards.field(self.cards.find(keyword))
+        return None if field is None else value_of(field.decode("latin-1"))
+
+
 class Image(Hdu):
     """An image of an open file, packed or plain: a lazy array. Any number of threads may use it at once.
 
@@ -112,7 +138,8 @@ class Image(Hdu):
         self.ndim = len(self.shape)
         self.size: int = math.prod(self.shape)
         self.tiles: Tuple[int, ...] = tuple(-(-length // it) for length, it in zip(self.shape, self.chunks))
-        self.scaling = arrays.Scaling(arrays.kind_of(self.scaled_by), *arrays.scaling_of(self.scaled_by))
+        scaled = Scaled(pixels.bitpix, self.cards)
+        self.scaling = arrays.Scaling(arrays.kind_of(scaled), *arrays.scaling_of(scaled))  # type: ignore[arg-type]
         self.stored = arrays.STORED[pixels.bitpix][1:]
 
     @cached_property
@@ -121,13 +148,6 @@ class Image(Hdu):
         if self.said.is_packed:
             return restored.restored(self.raw_header, self.cards.count, self.number, self.at.start)
         return self.table_header
-
-    @property
-    def scaled_by(self) -> Header:
-        """Those cards of the header that say what the numbers stand for."""
-        wanted = (self.cards.find(it) for it in ("BITPIX", "ZBITPIX", "BSCALE", "BZERO", "BLANK", "XTENSION", "ZIMAGE"))
-        cards = (card_of(it, self.raw_header[CARD * it : CARD * it + CARD]) for it in wanted if it is not None)
-        return Header(self.number, self.at.start, b"", tuple(cards))
 
     @property
     def dtype(self) -> Any:

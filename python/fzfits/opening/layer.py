@@ -26,8 +26,8 @@ class Layer(Protocol):
     def said(self, front: bytes, at: At) -> Said:
         """What a whole header says."""
 
-    def plan(self, front: bytes, at: At) -> Plan:
-        """The plan of the packed image of an HDU."""
+    def plan(self, front: bytes, at: At, said: Said) -> Plan:
+        """The plan of the packed image of an HDU, of which `said` is what the header says."""
 
     def records(self, plan: Plan, tiles: Sequence[int], pixels: Sequence[int], rows: bytes, first: int) -> Tuple[List[Record], Optional[Fault]]:
         """Where the bytes of these tiles are, which have so many pixels each, up to the first whose row is refused. `rows` begin with row `first`."""

@@ -33,6 +33,7 @@ class Said:
     is_packed: bool
     bitpix: int
     lengths: Tuple[int, ...]
+    own: Any = None  # what a layer keeps of it
 
 
 class Arrays(NamedTuple):
@@ -62,7 +63,7 @@ class Plan:
     lengths: Tuple[int, ...]
     tile: Tuple[int, ...]
     primary: bool
-    own: object = None  # what a layer keeps of it
+    own: Any = None  # what a layer keeps of it
 
     @property
     def most(self) -> int:

@@ -84,6 +84,12 @@ class FileSource(Source):
         return held
 
     def read(self, start: int, count: int) -> bytes:
+        try:
+            found = os.pread(self.number().number, count, start)
+        except OSError as error:
+            raise ReadFault(error.strerror or str(error), error.errno, path=self.name, command="open") from error
+        if len(found) == count:
+            return found
         room = bytearray(count)
         self.read_into(memoryview(room), start)
         return bytes(room)
