@@ -87,7 +87,7 @@ class Unread(Hdu):
         """Raises why there are none."""
         raise self.refused
 
-    shape = dtype = chunks = tiles = ndim = size = nbytes = section = property(no_pixels)
+    axes = shape = dtype = chunks = tiles = ndim = size = nbytes = section = property(no_pixels)
     tile = read = to_dask = __getitem__ = __len__ = __array__ = no_pixels
 
     def __repr__(self) -> str:
@@ -189,7 +189,7 @@ class Image(Hdu):
             except Fault as fault:
                 raise self.at_row(fault) from None
         index = tuple(0 if it.drop else slice(None, None, -1 if it.back else 1) for it in pieces[::-1])
-        found = np.ascontiguousarray(out[index]) if any(it.back or it.drop for it in pieces) else out
+        found = np.array(out[index], order="C") if any(it.back or it.drop for it in pieces) else out
         if not (self.raw if raw is None else raw):
             found = arrays.physical(found, self.scaling)
         return found if found.ndim else found[()]
