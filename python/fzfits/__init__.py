@@ -6,10 +6,11 @@
     True
     >>> fzfits.section("packed/a.fits.fz", "SCI", np.s_[100:200, ::4]).shape      # doctest: +SKIP
     (100, 1024)
+    >>> fzfits.open("packed/a.fits.fz")["SCI"].section[100:200, ::4].shape        # doctest: +SKIP
+    (100, 1024)
     >>> fzfits.write("packed/b.fits.fz", array, header={"OBJECT": "M 31"})        # doctest: +SKIP
 
-Every packed or restored byte, and every one that is cut out of a packed image, is made by the program; this package finds it
-(`fzfits.program`), calls it, and turns what it prints into results (`Hdu`, `Verdict`, `Report`, `Made`) and errors (`FzError` and
+Every packed or restored byte is made by the program; this package finds it (`fzfits.program`), calls it, and turns what it prints into results (`Hdu`, `Verdict`, `Report`, `Made`) and errors (`FzError` and
 its subclasses) that say what to do. It needs nothing but Python; `section` gives arrays and HDUs if numpy and astropy are installed.
 """
 from .checks import Checked, check
@@ -20,6 +21,7 @@ from .mend import Change, Mended, mend
 from .opening import File, Image, open  # pylint: disable=redefined-builtin
 from .plan import Try, plan
 from .readers import Readable, readable, stored_tiles
+from .references import references
 from .results import Drill, Hdu, Made, Place, Report, Verdict
 from .section import cutout, section, section_cfitsio
 from .version import VERSION
@@ -27,9 +29,9 @@ from .writing import patch, write
 
 __version__ = VERSION
 
-# `list` is left out, so that `from fzfits import *` does not hide the one of Python.
+# `list` and `open` are left out, so that `from fzfits import *` does not hide those of Python.
 __all__ = [
-    "Change", "Checked", "Content", "Drill", "FzError", "Hdu", "Killed", "Made", "Mended", "NoMemory", "NoProgram", "NoSuchHdu", "OverLimit", "Place",
+    "Change", "Checked", "Content", "Drill", "File", "FzError", "Hdu", "Image", "Killed", "Made", "Mended", "NoMemory", "NoProgram", "NoSuchHdu", "OverLimit", "Place",
     "ReadFault", "Readable", "Refused", "Report", "Try", "Unexpected", "Usage", "Verdict", "WriteFault", "check", "contents", "cut", "cutout", "drill",
-    "mend", "pack", "patch", "plan", "readable", "retile", "section", "section_cfitsio", "stored_tiles", "unpack", "verify", "write",
+    "mend", "pack", "patch", "plan", "readable", "references", "retile", "section", "section_cfitsio", "stored_tiles", "unpack", "verify", "write",
 ]
