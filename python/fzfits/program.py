@@ -70,7 +70,8 @@ def find(program: Optional[Word] = None, environment: Optional[Mapping[str, str]
     environment = os.environ if environment is None else environment
     named = os.fsdecode(program) if program is not None else environment.get("FZ")  # type: ignore[arg-type]
     if named:
-        found = named if os.sep in named or is_program(named) else shutil.which(named, path=environment.get("PATH"))
+        # a name without a folder is never a file of the current one, which may be the folder of a stranger
+        found = named if os.sep in named else shutil.which(named, path=environment.get("PATH"))
         if found is None or not is_program(found):
             origin = "the argument program" if program is not None else "the environment variable FZ"
             raise NoProgram(f"{origin} names {named!r}, which is not a program")

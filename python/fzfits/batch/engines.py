@@ -10,6 +10,7 @@ import shlex
 import shutil
 import subprocess
 import sys
+import tempfile
 import threading
 import time
 from dataclasses import replace
@@ -78,10 +79,9 @@ def parallel(settings: Settings, tasks: Sequence[Task], options: Sequence[str], 
     # isolated: no module is imported from the folder in which a machine starts it
     code = f"import sys; sys.path.insert(0, {PACKAGE!r}); from fzfits.batch.engines import main; sys.exit(main(sys.argv[1:]))"
     command = f"{shlex.quote(sys.executable)} -I -c {shlex.quote(code)} {settings.word()}"
-    # parallel wants a HOME, and says so if there is none
-    environment = {"HOME": os.getcwd(), **os.environ}
     words = ["parallel", "--will-cite", "-N", str(TASKS_OF_A_JOB), *options, command]
-    with subprocess.Popen(words, stdin=subprocess.PIPE, stdout=subprocess.PIPE, env=environment, text=True) as it:
+    # parallel wants a HOME, and reads options there: without one it gets an empty folder, and not the current one, which may be that of a stranger
+    with tempfile.TemporaryDirectory(prefix="fzbatch-home-") as home, subprocess.Popen(words, stdin=subprocess.PIPE, stdout=subprocess.PIPE, env={"HOME": home, **os.environ}, text=True) as it:
         threading.Thread(target=_feed, args=(it, [task.word() for task in tasks]), daemon=True).start()
         assert it.stdout is not None
         for line in it.stdout:
