@@ -14,6 +14,9 @@ ANOTHER_COPY = "fetch the packed file from another copy; or, if the plain file i
 
 ANOTHER_PLAIN = "decide which one is right: fzbatch pack --update packs the plain file as it is now, in the place of the earlier packed file"
 LOST = "run fzbatch pack again if the plain file is there; otherwise fetch the packed file from another copy"
+# How the lines of two faults begin, which take other tests than most (`faults`).
+DIFFERS = "the unpacked file differs from the one that was packed"
+WRONG_INSIDE = "ZDATASUM or ZHECKSUM is not that of the image"
 BOTH_CHANGED = "the packed file is not there, and the plain file is another than the one that was packed"
 LOST_AND_CHANGED = "fetch the packed file or the plain file from another copy; fzbatch pack --update packs the plain file as it is now, if that is right"
 NO_LINKS = "fzbatch follows no links below its folders: replace the link by the folder or file that it leads to"

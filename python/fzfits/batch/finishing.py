@@ -2,9 +2,9 @@
 from __future__ import annotations
 
 import os
-from contextlib import ExitStack, suppress
+from contextlib import ExitStack, contextmanager, suppress
 from dataclasses import dataclass
-from typing import Callable, Optional, Sequence
+from typing import Callable, Iterator, Optional, Sequence
 
 from ..errors import NoProgram
 from . import advice, files, inside, tries
@@ -67,6 +67,25 @@ def _told(error: Exception) -> "tuple[str, str, str, str, int]":
         return "failed", said, said, advice.of_errno(error.errno or 0), 0
     # whatever a file of a stranger brings about: it is named, and the run goes on
     return "failed", "fault of fzbatch", f"{type(error).__name__}: {error}", "report it with the file", 0
+
+
+@contextmanager
+def of_plain() -> Iterator[None]:
+    """What the system says of a plain file is told of that file: a look at its packed file does not forget it."""
+    try:
+        yield
+    except OSError as error:
+        outcome, cause, line, what, kind = _told(error)
+        raise Stop(outcome, cause, f"the plain file: {line}", what, kind) from error
+
+
+@contextmanager
+def plain_file(settings: Settings, task: Task) -> Iterator[int]:
+    """The plain file of a task, open."""
+    with ExitStack() as stack:
+        with of_plain():
+            number = stack.enter_context(inside.file(settings.plain, task.path))
+        yield number
 
 
 def finish(settings: Settings, batch: Sequence[Done]) -> None:

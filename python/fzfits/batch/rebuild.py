@@ -11,7 +11,7 @@ import re
 from contextlib import suppress
 from typing import Optional
 
-from . import advice, files, keep, names
+from . import advice, faults, files, keep, names
 from .manifest import BadManifest, Manifest, Row, now
 from .messages import Result, Settings, Task
 from .opening import ANOTHER
@@ -114,13 +114,14 @@ def row_of(result: Result, old: Optional[Row], known: Optional[str]) -> Row:
         row = Row(result.path, packed_sha256=known, status="failed", cause=result.cause, line=result.line, advice=result.advice)
         if old is not None and old.done:
             row = Row(**vars(old))
-            row.cause, row.line, row.advice, row.fault = result.cause, result.line, result.advice, result.outcome if result.outcome in ("damaged", "lost", "differs") else "failed"
+            result.outcome = result.outcome if result.outcome in ("damaged", "lost", "differs") else "failed"
+            faults.add(row, result, faults.Place(b"", None))
         row.checked_at, row.check_line = now(), result.line
         return row
     if old is not None and old.done and (old.packed_sha256, old.sha256) == (result.packed_sha256, result.sha256):
         row = Row(**vars(old))
         row.packed_mtime = result.packed_mtime
-        if row.fault != "changed":
+        if not faults.needed(row) & faults.PLAIN:
             # that is said of the plain file, which was not read
             row.fault = row.cause = row.line = row.advice = ""
     else:

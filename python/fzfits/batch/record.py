@@ -3,11 +3,9 @@ from __future__ import annotations
 
 from typing import Optional
 
+from . import faults
 from .manifest import Manifest, Row, now
-from .messages import CAME_BACK, VERIFIED, Result
-
-
-WRONG_RESTORED = "wrong checksum in the restored file"
+from .messages import Result
 
 
 def record(manifest: Manifest, old: Optional[Row], result: Result, identity: str, options: str, plain: bytes = b"") -> Row:
@@ -16,25 +14,18 @@ def record(manifest: Manifest, old: Optional[Row], result: Result, identity: str
     if result.verb == "pack" and result.outcome in ("packed", "copied"):
         row = _packed(result, identity, options)
     elif result.good or result.outcome == "gone":
-        _good(row, result, plain == manifest.fact("source"))
+        _good(row, result, faults.Place(plain, manifest.fact("source")))
     elif row.done:
-        row.cause, row.line, row.advice = result.cause, result.line, result.advice
-        if not (result.verb == "restore" and result.outcome == "changed"):
-            row.fault = result.outcome
+        faults.add(row, result, faults.Place(plain, manifest.fact("source")))
         row.checked_at, row.check_line = now(), result.line
     else:
         row = Row(result.path, result.size, result.mtime, result.mode, result.looked, result.sha256, status="refused" if result.outcome == "refused" else "failed")
         row.kind, row.cause, row.line, row.advice = result.kind or None, result.cause, result.line, result.advice
         row.program, row.options, row.seconds, row.packed_at = identity, options, result.seconds, now()
+        # what SHA256SUMS says of a packed file that is another one
+        row.packed_sha256 = old.packed_sha256 if old is not None else None
     manifest.put(row)
     return row
-
-
-def _needed(row: Row) -> int:
-    """The tests that a packed file has to pass before the fault of its row is forgotten."""
-    if row.fault == "differs":
-        return VERIFIED | CAME_BACK if row.cause == WRONG_RESTORED else CAME_BACK
-    return VERIFIED if row.line.startswith("fz verify:") else CAME_BACK if row.line.startswith("fz unpack:") else 0
 
 
 def _packed(result: Result, identity: str, options: str) -> Row:
@@ -44,7 +35,7 @@ def _packed(result: Result, identity: str, options: str) -> Row:
     return row
 
 
-def _good(row: Row, result: Result, is_here: bool) -> None:
+def _good(row: Row, result: Result, place: faults.Place) -> None:
     if result.verb == "pack":
         row.size, row.mtime, row.mode, row.looked = result.size, result.mtime, result.mode, result.looked
     if result.outcome == "there" and result.packed_mtime is None:
@@ -52,10 +43,7 @@ def _good(row: Row, result: Result, is_here: bool) -> None:
         return
     if result.packed_mtime is not None:
         row.packed_size, row.packed_mtime = result.packed_size, result.packed_mtime
-    if row.fault == "changed" and (result.verb == "verify" or (result.verb == "restore" and not is_here)):
-        # it is the plain file that is another one, and that was not looked at
-        return
-    if _needed(row) & ~result.tests:
+    if faults.needed(row) & ~faults.given(row, result, place):
         # this look was weaker than the one that found the fault
         return
     row.fault = row.cause = row.line = row.advice = ""

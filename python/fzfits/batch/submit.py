@@ -5,7 +5,7 @@ import os
 import shlex
 from typing import Sequence, TextIO
 
-from . import advice, calls, files, inside, keep, lock, machine, names, rebuild, rooms, slurm, survey, tries, work
+from . import advice, calls, faults, files, inside, keep, lock, machine, names, rebuild, rooms, slurm, survey, tries, work
 from .loop import Loop
 from .manifest import BadManifest, Manifest, Row
 from .messages import Result, Settings, Task
@@ -132,10 +132,12 @@ def _fill(manifest: Manifest, settings: Settings, jobs: int, tally: Tally, old: 
                 tally.bad(result.path, result.cause, result.line, result.advice)
     for row in lost:
         line = "its packed file is not there, and SHA256SUMS or the second copy names it"
-        row.cause, row.line, row.advice, row.status = survey.LOST, line, advice.LOST, row.status or "failed"
-        row.fault = "lost" if row.done else ""
+        if row.done:
+            faults.add(row, Result(row.path, "verify", "lost", survey.LOST, line, advice.LOST), faults.Place(b"", None))
+        else:
+            row.cause, row.line, row.advice, row.status = survey.LOST, line, advice.LOST, row.status or "failed"
         manifest.put(row)
-        tally.bad(row.path, row.cause, row.line, row.advice)
+        tally.bad(row.path, survey.LOST, line, advice.LOST)
     found = {it.path for it in (*tasks, *lost)}
     for path, row in old.items():
         if not row.done and path not in found:

@@ -206,7 +206,7 @@ class Tries:
             try:
                 found = yield from looked(opened)
                 if sha256 is not None and found.sha256 != sha256:
-                    raise Stop("differs", "unpacked file differs from the original", "the unpacked file differs from the one that was packed", "keep the plain file. " + advice.ANOTHER_COPY)
+                    raise Stop("differs", "unpacked file differs from the original", advice.DIFFERS, "keep the plain file. " + advice.ANOTHER_COPY)
                 if with_sums:
                     yield from self.restored_sums(opened, found)
                 self.result.tests |= CAME_BACK if sha256 is not None else 0
@@ -223,7 +223,7 @@ class Tries:
         ended = yield from self.run("verify", (number,), found.size)
         self.result.sums_line = wrong_lines(ended) if ended.status == 1 else ""
         if ended.status == 1 and not (self.task.wrong_sums or self.settings.accept_wrong_sums):
-            raise Stop("differs", "wrong checksum in the restored file", f"ZDATASUM or ZHECKSUM is not that of the image: {wrong_lines(ended)}", advice.WRONG_RESTORED)
+            raise Stop("differs", "wrong checksum in the restored file", f"{advice.WRONG_INSIDE}: {wrong_lines(ended)}", advice.WRONG_RESTORED)
         self.result.wrong_sums = int(ended.status == 1)
         if ended.status != 1:
             self._expect(ended, "verify")

@@ -10,7 +10,7 @@ import os
 import time
 
 from . import advice, calls, files, inside, names, tries
-from .finishing import NO_PROGRAM, Done, Made, finish, guarded
+from .finishing import NO_PROGRAM, Done, Made, finish, guarded, of_plain, plain_file
 from .messages import CAME_BACK, Result, Settings, Task
 from .rooms import Rooms
 from .steps import Steps, alone, looked
@@ -60,10 +60,11 @@ class _Work:
     # the four verbs
 
     def pack(self) -> "Steps[None]":
-        with inside.file(self.settings.plain, self.task.path) as source:
+        with plain_file(self.settings, self.task) as source:
             # before it is read: a large file takes long, and may change meanwhile
             self.result.looked = time.time_ns()
-            before = yield from looked(source)
+            with of_plain():
+                before = yield from looked(source)
             self.result.size, self.result.mtime, self.result.sha256, self.result.mode = before.size, before.mtime, before.sha256, before.mode
             known = self.task.sha256
             if inside.state(self.settings.packed, self.packed_path) is None:
@@ -91,9 +92,10 @@ class _Work:
     def compare(self) -> "Steps[None]":
         with tries.opened(self.settings, self.task) as number:
             now = yield from self.fz.as_it_was(number)
-            plain = inside.state(self.settings.plain, self.task.path)
+            with of_plain():
+                plain = inside.state(self.settings.plain, self.task.path)
             if plain is not None:
-                with inside.file(self.settings.plain, self.task.path) as source:
+                with plain_file(self.settings, self.task) as source, of_plain():
                     found = yield from looked(source)
                 if found.sha256 != self.task.sha256:
                     raise Stop("changed", "plain file changed", "the plain file is another than the one that was packed", advice.ANOTHER_PLAIN)
@@ -190,7 +192,7 @@ class _Work:
             made, after, synced = yield from self.fz.unpack(number, now, above, part)
             try:
                 if after.sha256 != self.task.sha256:
-                    raise Stop("differs", "unpacked file differs from the original", "the unpacked file differs from the one that was packed", advice.ANOTHER_COPY)
+                    raise Stop("differs", "unpacked file differs from the original", advice.DIFFERS, advice.ANOTHER_COPY)
                 self.result.tests |= CAME_BACK
                 if self.task.mtime is not None:
                     os.utime(made, ns=(self.task.mtime, self.task.mtime))

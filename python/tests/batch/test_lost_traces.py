@@ -1,0 +1,127 @@
+"""What was known of an archive is not lost by an older manifest, a new one, or a clock. Each class is one find."""
+from __future__ import annotations
+
+import os
+import shutil
+import sys
+import unittest
+from pathlib import Path
+from unittest import mock
+
+sys.path[:0] = [str(Path(__file__).resolve().parents[1])]
+
+from batch.two_files import Archive, image  # noqa: E402
+from fzfits.batch import manifest  # noqa: E402
+
+
+class OlderManifest(Archive):
+    """A manifest whose second copy knows later runs is an older one, or that of another archive: nothing is called well by it."""
+
+    def lose(self, *names: str) -> None:
+        for it in names:
+            (self.plain / it).unlink()
+            (self.packed / f"{it}.fz").unlink()
+
+    def rejected(self) -> None:
+        """Each command ends with 2 and names the copy, and `rebuild` reads that one."""
+        before = (self.packed / "fzbatch.sqlite.copy").read_bytes()
+        for verb in ("missing", "status", "verify", "compare", "pack", "report"):
+            status, said = self.run_it(verb, self.plain, self.packed, *(("-o", self.room / "r.html") if verb == "report" else ()))
+            self.assertEqual((status, "fzbatch.sqlite.copy" in said, "fzbatch rebuild" in said), (2, True, True), f"{verb}: {said}")
+        self.assertEqual((self.packed / "fzbatch.sqlite.copy").read_bytes(), before)
+        self.named("c.fits", "rebuild", self.packed)
+        self.looks("c.fits")
+        self.named("c.fits", "verify", self.packed)
+
+    def test_from_a_backup(self) -> None:
+        self.packs()
+        shutil.copy(self.packed / "fzbatch.sqlite", self.room / "backup")
+        self.write("c.fits", image(5))
+        self.packs()
+        self.lose("c.fits")
+        shutil.copy(self.room / "backup", self.packed / "fzbatch.sqlite")
+        self.rejected()
+
+    def test_of_another_archive(self) -> None:
+        self.write("c.fits", image(5))
+        self.packs()
+        self.lose("c.fits")
+        other = self.room / "other"
+        other.mkdir()
+        self.assertEqual(self.run_it("pack", other, "--allow-empty")[0], 0)
+        shutil.copy(self.room / "other.fz" / "fzbatch.sqlite", self.packed / "fzbatch.sqlite")
+        self.rejected()
+
+    def test_a_copy_of_an_earlier_run_is_none(self) -> None:
+        """A run that was killed leaves an older copy, and a copy that is damaged says nothing."""
+        self.packs()
+        copy = self.packed / "fzbatch.sqlite.copy"
+        before = copy.read_bytes()
+        self.write("c.fits", image(5))
+        self.packs()
+        for it in (before, before[:3000], b"SQLite format 3\0", b""):
+            copy.write_bytes(it)
+            self.assertEqual(self.run_it("missing", self.plain, self.packed)[0], 0)
+        copy.unlink()
+        self.assertEqual(self.run_it("verify", self.packed)[0], 0)
+
+
+class BegunAnew(Archive):
+    """`pack` without a manifest and a second copy names what SHA256SUMS says was there, and keeps its line."""
+
+    def test_a_lost_file(self) -> None:
+        self.write("c.fits", image(5))
+        self.packs()
+        line = next(it for it in (self.packed / "SHA256SUMS").read_text().splitlines() if it.endswith("a.fits.fz"))
+        for it in ("fzbatch.sqlite", "fzbatch.sqlite.copy", "a.fits.fz", "c.fits.fz"):
+            (self.packed / it).unlink()
+        (self.plain / "a.fits").unlink()
+        for _ in range(2):
+            self.named("a.fits", "pack", self.plain)
+            self.looks("a.fits")
+            self.assertIn(line, (self.packed / "SHA256SUMS").read_text())
+        self.assertTrue((self.packed / "c.fits.fz").exists())
+        self.assertEqual(self.run_it("forget", self.packed, "--name", "a.fits")[0], 0)
+        self.packs()
+
+
+class CertifiedAnew(Archive):
+    """A packed file that SHA256SUMS names as another one is not certified after `pack` looked at it."""
+
+    def test_rebuild_pack_rebuild(self) -> None:
+        self.packs()
+        other = self.room / "other"
+        other.mkdir()
+        (other / "a.fits").write_bytes(image(77))
+        self.assertEqual(self.run_it("pack", other)[0], 0)
+        for it in ("fzbatch.sqlite", "fzbatch.sqlite.copy"):
+            (self.packed / it).unlink()
+        shutil.copy2(self.room / "other.fz" / "a.fits.fz", self.packed / "a.fits.fz")
+        self.named("a.fits", "rebuild", self.packed)
+        self.named("a.fits", "pack", self.plain)
+        (self.plain / "a.fits").unlink()
+        self.named("a.fits", "rebuild", self.packed, "--again")
+        self.looks("a.fits")
+
+
+class ClockThatGoesBack(Archive):
+    """An update that was killed is over when a later run of `pack` ends, whatever the clock says."""
+
+    def test_both_files_replaced(self) -> None:
+        self.packs()
+        with mock.patch.object(manifest, "now", lambda: "2999-01-01T00:00:00Z"), manifest.Manifest(os.fsencode(self.packed / "fzbatch.sqlite")) as it:
+            it.begin("0123456789abcdef", "pack --update", "here", 1)
+        self.write("c.fits", image(5))
+        self.packs()
+        other = self.room / "other"
+        other.mkdir()
+        (other / "a.fits").write_bytes(image(77))
+        self.assertEqual(self.run_it("pack", other)[0], 0)
+        shutil.copy2(other / "a.fits", self.plain / "a.fits")
+        shutil.copy2(self.room / "other.fz" / "a.fits.fz", self.packed / "a.fits.fz")
+        self.named("plain file changed", "pack", self.plain)
+        self.looks("a.fits")
+
+
+if __name__ == "__main__":
+    unittest.main()
