@@ -90,6 +90,10 @@ VALUES = attrgetter(*COLUMNS)
 PUT = f"INSERT OR REPLACE INTO files ({', '.join(COLUMNS)}, hash) VALUES ({', '.join('?' * (len(COLUMNS) + 1))})"
 
 
+# The runs of pack that were killed before one of pack that ends: their work was looked at.
+KILLED = "ended IS NULL AND verb LIKE 'pack%' AND (SELECT verb FROM runs WHERE token = ?) LIKE 'pack%'"
+
+
 def now() -> str:
     """The time in UTC, to the second."""
     return time.strftime("%Y-%m-%dT%H:%M:%SZ", time.gmtime())
@@ -295,6 +299,8 @@ class Manifest:
     def end(self, token: str, said: str) -> None:
         """Notes that a run ended by itself."""
         self._write("UPDATE runs SET ended = ?, said = ? WHERE token = ?", (now(), names.told(said), token))
+        # of several runs the clock may say another order
+        self._write(f"UPDATE runs SET ended = ?, said = ? WHERE {KILLED}", (now(), "did not end by itself", token))
         self.save()
 
     def runs(self) -> "list[tuple[str, str, str, int, str, Optional[str], Optional[str]]]":

@@ -11,7 +11,7 @@ import re
 from contextlib import suppress
 from typing import Optional
 
-from . import advice, faults, files, keep, names
+from . import advice, faults, files, keep, names, older
 from .manifest import BadManifest, Manifest, Row, now
 from .messages import Result, Settings, Task
 from .opening import ANOTHER
@@ -42,8 +42,9 @@ def known_rows(packed: bytes, again: bool) -> "tuple[dict[bytes, Row], dict[str,
     is_whole = False
     with suppress(BadManifest):
         if files.there(path):
-            Manifest(path, writes=False).close()
-            is_whole = True
+            with Manifest(path, writes=False) as it:
+                # of an older one the second copy knows more
+                is_whole = not older.is_older(it, packed)
     if is_whole and not again:
         raise BadManifest(f"the manifest {names.shown(path)} is whole: there is nothing to rebuild; --again reads all packed files once more")
     return old_rows(packed, names.MANIFEST if is_whole else names.COPY)

@@ -22,7 +22,7 @@ from .progress import progress
 from .record import record
 from .scan import NoSource, Scan
 from .tally import WORDS, Tally
-from .wanted import DISK_FAILED, DONE, IDLE, NOT_DONE, NOTHING_DONE, Refuse, Wanted, find_manifest, open_manifest, place, signals
+from .wanted import DISK_FAILED, DONE, IDLE, NOT_DONE, NOTHING_DONE, Refuse, Wanted, checked, find_manifest, open_manifest, place, signals
 
 # What the system says if a disk failed; after the first three nothing else can be written either.
 FULL = (errno.ENOSPC, errno.EROFS, errno.EDQUOT)
@@ -122,12 +122,12 @@ class _Run:
             copy = os.path.join(self.wanted.packed, names.COPY)
             if not files.there(path) and files.there(copy):
                 raise Refuse(f"{names.shown(path)} is not there, and its second copy is: fzbatch rebuild makes it again from the copy and the packed files (or move the copy away, and fzbatch pack begins anew)")
-            return Manifest(path)
+            return checked(Manifest(path), self.wanted.packed)
         find_manifest(self.wanted.packed)
         if lock.is_writable(self.wanted.packed) and os.access(path, os.W_OK):
-            return Manifest(path)
+            return checked(Manifest(path), self.wanted.packed)
         self.tally.notes.append(f"{names.shown(self.wanted.packed)} cannot be written, so the manifest does not record this run.")
-        return Manifest(path, writes=False)
+        return checked(Manifest(path, writes=False), self.wanted.packed)
 
     def _plan(self, found: Optional[Scan]) -> plan.Plan:
         if found is None:
@@ -137,6 +137,8 @@ class _Run:
             return todo
         todo = start.to_pack(self.wanted, found, self.rows, self.identity, self.tally)
         start.note_source(self.wanted, found, self.manifest, self.tally)
+        if not self.rows:
+            start.note_sums(self.wanted, found, self.manifest, self.tally)
         return todo
 
     # the tasks

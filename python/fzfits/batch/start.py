@@ -6,7 +6,7 @@ import stat
 from contextlib import suppress
 from typing import Iterable, Optional, Sequence
 
-from . import advice, files, inside, lock, names, plan, rooms, survey
+from . import advice, files, inside, keep, lock, names, plan, rooms, survey
 from .chosen import Chosen
 from .manifest import Manifest, Row
 from .scan import Scan, folders_of, scan, scan_packed
@@ -100,6 +100,19 @@ def note_source(wanted: Wanted, found: Scan, manifest: Manifest, tally: Tally) -
             manifest.tell(fact, int(on))
     manifest.leave_out(count_left(wanted, found, manifest.fact, tally), found.others)
     manifest.tell("source", wanted.plain)
+
+
+def note_sums(wanted: Wanted, found: Scan, manifest: Manifest, tally: Tally) -> None:
+    """Begun anew without a manifest: what SHA256SUMS names and is in no folder of plain files is named, and its SHA-256 is kept."""
+    for name, sha256 in sorted(keep.read_sums(wanted.packed).items()):
+        path = name[: -len(names.PACKED)]
+        if not name.endswith(names.PACKED) or names.fault_of(path) or path in found.files:
+            continue
+        line = "SHA256SUMS names its packed file, and the manifest is a new one"
+        if not survey.files_there(wanted.packed, name):
+            line = "its packed file is not there, and SHA256SUMS names it"
+        manifest.put(Row(path, packed_sha256=sha256, status="failed", cause=survey.LOST, line=line, advice=f"{advice.LOST}; fzbatch rebuild reads all packed files"))
+        tally.bad(path, survey.LOST, line, f"{advice.LOST}; {advice.FORGET}")
 
 
 def count_left(wanted: Wanted, found: Scan, fact, tally: Tally) -> "list":

@@ -13,6 +13,7 @@ from .record import record
 from .scan import Left
 from .steps import Steps
 from .tally import Tally
+from .wanted import checked
 
 DONE, NOT_DONE = 0, 1
 
@@ -35,7 +36,7 @@ def collect(packed: bytes, out: TextIO, drop: bool = False, all_names: bool = Fa
     """Reads the results of a Slurm array into the manifest. Tasks without a result are counted, and stay unless they are dropped."""
     if not files.there(slurm.tasks_file(packed)):
         raise BadManifest(f"no tasks of a Slurm array wait in {names.shown(packed)}")
-    with lock.held(os.path.join(packed, names.LOCK)), Manifest(os.path.join(packed, names.MANIFEST)) as manifest:
+    with lock.held(os.path.join(packed, names.LOCK)), checked(Manifest(os.path.join(packed, names.MANIFEST)), packed) as manifest:
         settings, tasks = slurm.read(packed)
         rows = {it.path: it for it in manifest.rows()}
         tally = Tally(settings.verb)

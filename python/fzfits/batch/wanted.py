@@ -6,7 +6,7 @@ import signal
 from dataclasses import dataclass, field
 from typing import TYPE_CHECKING, Callable, Optional
 
-from . import files, names
+from . import files, names, older
 from .manifest import Manifest
 
 if TYPE_CHECKING:
@@ -66,7 +66,17 @@ def find_manifest(packed: bytes) -> bytes:
 
 def open_manifest(packed: bytes, writes: bool = True) -> Manifest:
     """The manifest of a folder of packed files, which has to be there."""
-    return Manifest(find_manifest(packed), writes)
+    return checked(Manifest(find_manifest(packed), writes), packed)
+
+
+def checked(manifest: Manifest, packed: bytes) -> Manifest:
+    """The manifest, which is not older than its second copy. Raises `BadManifest` if it is."""
+    try:
+        older.check(manifest, packed)
+    except BaseException:
+        manifest.close()
+        raise
+    return manifest
 
 
 def place(path: bytes) -> Optional[tuple[int, int]]:
