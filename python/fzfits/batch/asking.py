@@ -59,6 +59,8 @@ def folders(asked: argparse.Namespace, reads: bool = True) -> "tuple[bytes, byte
             raise Refuse(f"name both folders: {said}fzbatch {asked.verb} {whole}")
     else:
         plain, packed = first, first + names.PACKED
+        # a link may lead into the other folder; of one that leads nowhere no folder is made
+        packed = os.path.realpath(packed) if os.path.isdir(packed) else packed
         _check_first(one, plain, packed, asked.verb)
     if not plain.startswith(b"/"):
         # as after rebuild: then the plain files are not looked at

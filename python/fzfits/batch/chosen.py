@@ -2,13 +2,18 @@
 from __future__ import annotations
 
 import os
+import re
 import sys
 from dataclasses import dataclass
 from fnmatch import fnmatchcase
 from typing import Container, Iterable, Optional
 
 from . import names
+from .scan import LINK, SHUT, Left
 from .wanted import Refuse
+
+# What a pattern has in the place of any characters.
+WILD = re.compile(rb"[*?\[]")
 
 
 @dataclass(frozen=True)
@@ -32,6 +37,20 @@ class Chosen:
             return False
         return not any(_fits(it, path) for it in self.exclude)
 
+    def leaves(self, left: Left) -> bool:
+        """Whether what was left out belongs to this part: also a folder that was not looked into, in which a wanted file may be."""
+        if self.has(left.path):
+            return True
+        is_folder = left.sort == SHUT or (left.sort == LINK and not names.is_fits(left.path) and not names.is_compressed_fits(left.path))
+        return is_folder and self._has_below(left.path + b"/")
+
+    def _has_below(self, folder: bytes) -> bool:
+        if self.listed is not None:
+            return any(it.startswith(folder) for it in self.listed)
+        if any(_fits(it, folder) or _fits(it, folder[:-1]) for it in self.exclude):
+            return False
+        return not self.include or any(_may_fit(it, folder) for it in self.include)
+
     def resolved(self, known: Container[bytes], roots: Iterable[bytes], where: str) -> "Chosen":
         """The same with the path in the archive of each name of the list. Raises `Refuse` if the archive has no such file."""
         if self.listed is None:
@@ -39,10 +58,12 @@ class Chosen:
         tops = [it for it in roots if it]
         found = {}
         for name in self.listed:
-            path = next((it for it in _forms(name, tops) if it in known), None)
-            if path is None:
+            paths = _meant(name, tops, known)
+            if not paths:
                 raise Refuse(f"{names.shown(name)} is not in {where}")
-            found[path] = name
+            if len(paths) > 1:
+                raise Refuse(f"{names.shown(name)} may be {' or '.join(map(names.shown, paths))} of {where}: give its whole path, or start this in another folder")
+            found[paths[0]] = name
         return Chosen(self.include, self.exclude, frozenset(found))
 
     def check(self, found: Iterable[bytes], where: str) -> None:
@@ -55,14 +76,24 @@ def _fits(pattern: bytes, path: bytes) -> bool:
     return fnmatchcase(path if b"/" in pattern else os.path.basename(path), pattern)
 
 
-def _forms(name: bytes, roots: Iterable[bytes]) -> Iterable[bytes]:
+def _may_fit(pattern: bytes, folder: bytes) -> bool:
+    """Whether a file below a folder may fit, by what the pattern begins with."""
+    if b"/" not in pattern:
+        return True
+    beginning = WILD.split(pattern)[0]
+    return beginning.startswith(folder) or folder.startswith(beginning)
+
+
+def _meant(name: bytes, roots: Iterable[bytes], known: Container[bytes]) -> "list[bytes]":
     """The paths in the archive that a name may mean: of a plain or a packed file, below its folder or as the shell sees it."""
     whole = os.path.join(os.path.realpath(os.path.dirname(name) or b"."), os.path.basename(name))
     below = [whole[len(it) + 1 :] for it in roots if whole.startswith(it.rstrip(b"/") + b"/")]
+    found: "list[bytes]" = []
     for it in (os.path.normpath(name), *below):
-        yield it
-        if it.endswith(names.PACKED):
-            yield it[: -len(names.PACKED)]
+        path = it if it in known else it.removesuffix(names.PACKED)
+        if path in known and path not in found:
+            found.append(path)
+    return found
 
 
 def list_of(path: str) -> "frozenset[bytes]":

@@ -4,6 +4,7 @@ from __future__ import annotations
 import os
 import stat
 from contextlib import suppress
+from dataclasses import replace
 from typing import Iterable, Optional, Sequence
 
 from . import advice, files, inside, keep, lock, names, plan, rooms, survey
@@ -119,7 +120,7 @@ def count_left(wanted: Wanted, found: Scan, fact, tally: Tally) -> "list":
     """Counts what is left out of the plain files, and gives it."""
     left, notes = survey.kept_left(fact, found.left)
     tally.notes += notes
-    tally.left = [it for it in left if wanted.chosen is None or wanted.chosen.has(it.path)]
+    tally.left = [it for it in left if wanted.chosen is None or wanted.chosen.leaves(it)]
     tally.others = dict(found.others.most_common())
     return left
 
@@ -156,13 +157,17 @@ def _gone(wanted: Wanted, rows: "Sequence[Row]", tally: Tally) -> None:
 
 
 def _strangers(wanted: Wanted, rows: "dict[bytes, Row]", tally: Tally, tried: "frozenset[bytes] | set[bytes]" = frozenset()) -> None:
-    """Names each packed file that the manifest does not know; one of a task is looked at by it."""
+    """Names each packed file that the manifest does not know, and what could not be looked into; a file of a task is looked at by it."""
     assert wanted.chosen is not None
     if not os.path.isdir(wanted.packed):
         return
-    for it in survey.names_of_unknown(rows, wanted.packed):
+    here = scan_packed(wanted.packed)
+    for it in survey.names_of_unknown(rows, here):
         if it not in tried and wanted.chosen.has(it[: -len(names.PACKED)]):
             tally.bad(it, *survey.UNKNOWN)
+    for left in survey.left_of_packed(rows, here):
+        if left.path not in tried and wanted.chosen.leaves(replace(left, path=left.path.removesuffix(names.PACKED))):
+            tally.bad(left.path, *survey.told_of(left))
 
 
 def is_restored(wanted: Wanted, path: bytes) -> bool:

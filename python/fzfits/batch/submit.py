@@ -10,7 +10,7 @@ from .loop import Loop
 from .manifest import BadManifest, Manifest, Row
 from .messages import Result, Settings, Task
 from .record import record
-from .scan import Left
+from .scan import Left, scan_packed
 from .steps import Steps
 from .tally import Tally
 from .wanted import checked
@@ -41,16 +41,18 @@ def collect(packed: bytes, out: TextIO, drop: bool = False, all_names: bool = Fa
         rows = {it.path: it for it in manifest.rows()}
         tally = Tally(settings.verb)
         results = slurm.result_of_each(packed, settings, tasks)
-        for result in results.values():
-            row = record(manifest, rows.get(result.path), result, settings.identity, " ".join(settings.options), settings.plain)
+        done = [(it, record(manifest, rows.get(it.path), it, settings.identity, " ".join(settings.options), settings.plain)) for it in results.values()]
+        looks = _others(manifest, packed, {it.path for it in tasks}, tally)
+        for result, row in done:
             if result.good and row.fault:
                 tally.bad(result.path, row.cause, row.line, row.advice)
+            elif result.good and result.path in looks:
+                tally.bad(result.path, *looks[result.path])
             elif result.good:
                 tally.good(result.outcome, row.size or 0, row.packed_size or 0)
             else:
                 tally.bad(result.path, result.cause, result.line, result.advice)
         manifest.save()
-        _others(manifest, packed, {it.path for it in tasks}, tally)
         tally.untried = sum(it.path not in results for it in tasks)
         tally.left = [Left(*it) for it in manifest.left_out()]
         tally.notes += survey.accepted(manifest.rows())
@@ -64,15 +66,24 @@ def collect(packed: bytes, out: TextIO, drop: bool = False, all_names: bool = Fa
     return DONE if tally.whole else NOT_DONE
 
 
-def _others(manifest: Manifest, packed: bytes, asked: "set[bytes]", tally: Tally) -> None:
-    """Names what was no task of the array and is not well: a file that was rejected before, say, or a stranger."""
+def _others(manifest: Manifest, packed: bytes, asked: "set[bytes]", tally: Tally) -> "dict[bytes, tuple[str, str, str]]":
+    """Names what was no task of the array and is not well: a file that was rejected before, say, or a stranger.
+
+    Gives what a look at the packed files of the tasks finds: one may be lost since its task ended.
+    """
     rows = {it.path: it for it in manifest.rows()}
+    here, found = scan_packed(packed), survey.Survey()
     for path, row in rows.items():
         if path not in asked and (row.fault or not row.done):
             tally.bad(path, row.cause or survey.NEVER, row.line, row.advice)
-    for name in survey.names_of_unknown(rows, packed):
-        if name[: -len(names.PACKED)] not in asked:
-            tally.bad(name, *survey.UNKNOWN)
+        elif row.done:
+            survey.look_at_packed(found, row, here, True)
+    looks = {it.path: (it.cause, it.line, it.advice) for it in found.findings}
+    strange = {**{it: survey.UNKNOWN for it in survey.names_of_unknown(rows, here)}, **{it.path: survey.told_of(it) for it in survey.left_of_packed(rows, here)}}
+    for path, told in (*strange.items(), *((it, looks[it]) for it in looks if it not in asked)):
+        if path.removesuffix(names.PACKED) not in asked:
+            tally.bad(path, *told)
+    return looks
 
 
 def rebuilt(settings: Settings, out: TextIO, jobs: int, ignore_copy: bool = False, again: bool = False, all_names: bool = False) -> int:
@@ -112,6 +123,8 @@ def rebuilt(settings: Settings, out: TextIO, jobs: int, ignore_copy: bool = Fals
             tally.notes.append(f"The manifest that was there has the name {names.shown(away)} now.")
         for name in strange:
             tally.bad(name, *survey.UNKNOWN)
+        for left in scan_packed(packed).left:
+            tally.bad(left.path, *survey.told_of(left))
         with Manifest(os.path.join(packed, names.MANIFEST)) as manifest:
             tally.notes += survey.notes_of(manifest, list(manifest.rows()), packed)
             tally.notes += keep.keep(manifest, packed)

@@ -71,26 +71,25 @@ def survey(manifest: Manifest, plain: bytes, packed: bytes, without_plain: bool 
         made.found = scan(plain)
     except NoSource:
         pass
-    if made.found is not None and not (made.found.files or made.found.left) and made.rows:
+    every = made.found.left if made.found else []
+    made.left, notes = kept_left(manifest.fact, every)
+    # what may be left out is no sign that the disk is there
+    has_plain = made.found is not None and bool(made.found.files or made.left)
+    if made.found is not None and not has_plain and made.rows:
         made.lost = "" if without_plain else f"{names.shown(plain)} has no FITS file: only files of the manifest were looked for"
     elif made.found is None:
         where = f"{names.shown(plain)} is not there" if plain else "the manifest does not say where the plain files are"
         made.lost = "" if without_plain else f"{where}: only files of the manifest were looked for"
-    if not made.rows and made.found is not None and not (made.found.files or made.found.left):
+    if not made.rows and made.found is not None and not has_plain:
         made.lost = "neither the manifest nor the folder of plain files has a file"
-    has_plain = bool(made.found and (made.found.files or made.found.left))
     here = scan_packed(packed)
     rows = {it.path: it for it in made.rows}
     for path in sorted({*rows, *(made.found.files if made.found else ())}):
         _look(made, path, rows.get(path), plain, here)
-    known = {names.packed_name(it.path) for it in made.rows if it.done}
-    for path in (it for it in here.files if it not in known):
+    for path in names_of_unknown(rows, here):
         made.add(path, *UNKNOWN)
-    for it in here.left:
-        if not it.path.removesuffix(names.PACKED) in rows:
-            made.add(it.path, "link or shut folder among the packed files", it.why, it.advice.split("; with")[0])
-    every = made.found.left if made.found else []
-    made.left, notes = kept_left(manifest.fact, every)
+    for it in left_of_packed(rows, here):
+        made.add(it.path, *told_of(it))
     made.skipped = sorted(set(every) - set(made.left), key=lambda it: it.path)
     made.others = dict(made.found.others.most_common()) if made.found else manifest.others()
     made.notes += notes + notes_of(manifest, made.rows, packed)
@@ -200,9 +199,17 @@ def update_was_killed(manifest: Manifest) -> bool:
     return False
 
 
-def names_of_unknown(rows: "dict[bytes, Row]", packed: bytes) -> "list[bytes]":
-    """The packed files that the manifest does not know."""
+def names_of_unknown(rows: "dict[bytes, Row]", here: Scan) -> "list[bytes]":
+    """The packed files that the manifest does not know, of those that are there."""
     known = {names.packed_name(it.path) for it in rows.values() if it.done}
-    return [it for it in scan_packed(packed).files if it not in known]
+    return [it for it in here.files if it not in known]
 
 
+def left_of_packed(rows: "dict[bytes, Row]", here: Scan) -> "list[Left]":
+    """What could not be looked into among the packed files, but for what is in the place of a packed file, of which its row tells."""
+    return [it for it in here.left if it.path.removesuffix(names.PACKED) not in rows]
+
+
+def told_of(left: Left) -> "tuple[str, str, str]":
+    """Cause, line and advice of a link or a shut folder among the packed files."""
+    return "link or shut folder among the packed files", left.why, left.advice.split("; with")[0]
