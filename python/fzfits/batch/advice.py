@@ -17,6 +17,7 @@ LOST = "run fzbatch pack again if the plain file is there; otherwise fetch the p
 # How the lines of two faults begin, which take other tests than most (`faults`).
 DIFFERS = "the unpacked file differs from the one that was packed"
 WRONG_INSIDE = "ZDATASUM or ZHECKSUM is not that of the image"
+LONGER = "the packed file is far longer than the one that was made, and was not read"
 BOTH_CHANGED = "the packed file is not there, and the plain file is another than the one that was packed"
 LOST_AND_CHANGED = "fetch the packed file or the plain file from another copy; fzbatch pack --update packs the plain file as it is now, if that is right"
 NO_LINKS = "fzbatch follows no links below its folders: replace the link by the folder or file that it leads to"

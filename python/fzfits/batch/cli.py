@@ -7,7 +7,7 @@ import os
 import secrets
 import sys
 from dataclasses import asdict
-from typing import Optional, Sequence
+from typing import NoReturn, Optional, Sequence
 
 from .. import program, version
 from ..errors import FzError
@@ -28,6 +28,13 @@ VERBS = {
 }
 ALL = (*VERBS, "status", "missing", "forget", "collect", "share", "rebuild", "report", "look", *adopted.OWN)
 EXAMPLES = {"restore": "One file: fzbatch restore night night.fz mef.fits"}
+
+
+class _Parser(argparse.ArgumentParser):
+    """Prints nothing that controls a terminal: a pattern of the shell gives it names of files that others made."""
+
+    def error(self, message: str) -> NoReturn:
+        super().error("\n".join(map(names.told, message.split("\n"))))
 
 
 def main(words: Optional[Sequence[str]] = None, program_name: str = PROGRAM) -> int:
@@ -84,7 +91,7 @@ def _shown(name: "str | bytes | int") -> str:
 
 def _parser(words: Sequence[str] = ()) -> argparse.ArgumentParser:
     """What reads the words. Of commands that are not among them there are no options."""
-    whole = argparse.ArgumentParser(prog=PROGRAM, description="Packs, verifies and restores folders of FITS files by calls of fz.")
+    whole = _Parser(prog=PROGRAM, description="Packs, verifies and restores folders of FITS files by calls of fz.")
     whole.add_argument("--version", action="version", version=version.shown("fzbatch"))
     made = verbs.Verbs(whole, verbs.given(words, ALL))
     for verb, says in VERBS.items():

@@ -9,7 +9,7 @@ from .manifest import Row
 from .progress import amount
 from .scan import Scan
 from .tally import Tally, counted
-from .wanted import DONE, IDLE, Wanted, open_manifest
+from .wanted import DONE, IDLE, NOT_DONE, Wanted, open_manifest
 
 
 def run(wanted: Wanted, found: Optional[Scan], identity: str, out: TextIO) -> int:
@@ -36,4 +36,4 @@ def run(wanted: Wanted, found: Optional[Scan], identity: str, out: TextIO) -> in
     size = sum(todo.sizes.get(it.path, 0) for it in tasks)
     there = tally.outcomes["there"] + len(todo.tasks) - len(tasks)
     print(f"{wanted.verb} --dry-run: {counted(len(tasks))} to do ({amount(size)}), {there} up to date, {tally.failed} failed before, {len(tally.left)} skipped; nothing was written", file=out)
-    return IDLE if wanted.tells_idle and not tasks and tally.whole else DONE
+    return NOT_DONE if not tally.whole else IDLE if wanted.tells_idle and not tasks else DONE

@@ -14,6 +14,7 @@ from typing import Iterator, Optional
 from . import inside
 
 PIECE = 1 << 20
+LONGER = 1 << 26
 # What may be the beginning of a card with a checksum.
 CARDS = (b"DATASUM = ", b"CHECKSUM= ")
 IMAGE_CARDS = (b"ZDATASUM= ", b"ZHECKSUM= ")
@@ -82,6 +83,11 @@ def look_at(number: int) -> Looked:
             return read.of(it)
         read.add(piece)
         at += len(piece)
+
+
+def is_longer(number: int, size: Optional[int]) -> bool:
+    """Whether an open file is so much longer than it was that it is another one, and need not be read: holes take long, and cost nothing to make."""
+    return size is not None and os.fstat(number).st_size > size + LONGER
 
 
 def look(path: bytes) -> Looked:

@@ -116,6 +116,7 @@ class Task(Message):
     mode: Optional[int] = None
     wrong_sums: int = 0
     shared: bool = False
+    packed_size: Optional[int] = None
 
     def check(self) -> None:
         fault = names.fault_of(self.path)

@@ -14,7 +14,7 @@ COPY = b"fzbatch.sqlite.copy"
 SUMS = b"SHA256SUMS"
 LOCK = b"fzbatch.lock"
 # Suffixes of programs that compress whole files.
-COMPRESSED = (b".gz", b".z", b".bz2", b".xz", b".zst", b".lz4", b".lz", b".lzma", b".zip", b".7z", b".br")
+COMPRESSED = (b".gz", b".z", b".bz2", b".xz", b".zst", b".zstd", b".lz4", b".lz", b".lzma", b".zip", b".7z", b".br")
 # A name that a FITS file may have after it was copied by hand: raw.fits~, raw.fits.1, raw.fits (1).
 NEARLY = re.compile(rb".*\.(fits|fit|fts)(\.fz)?[^a-z0-9].*", re.S)
 TASKS = b"fzbatch.tasks"

@@ -26,7 +26,7 @@ class Plan:
         """One more task."""
         known = row if row is not None and row.done else Row(path)
         number = len(self.tasks)
-        self.tasks.append(Task(path, number, known.sha256, known.packed_sha256, known.size, known.mtime, known.mode, known.wrong_sums, shared))
+        self.tasks.append(Task(path, number, known.sha256, known.packed_sha256, known.size, known.mtime, known.mode, known.wrong_sums, shared, known.packed_size))
         self.sizes[path] = size or 0
 
 

@@ -84,7 +84,7 @@ def tasks_of(packed: bytes, old: "dict[bytes, Row]") -> "tuple[list[Task], list[
         row = old.get(path)
         known = row.packed_sha256 if row is not None and row.done else sums.get(name)
         restores = row.sha256 if row is not None and row.done else None
-        tasks.append(Task(path, len(tasks), restores, known, row.size if row else None, None, None, row.wrong_sums if row else 0))
+        tasks.append(Task(path, len(tasks), restores, known, row.size if row else None, None, None, row.wrong_sums if row else 0, packed_size=row.packed_size if known and row else None))
     wanted = {it[: -len(names.PACKED)] for it in sums if it.endswith(names.PACKED)} | {path for path, it in old.items() if it.done}
     lost = []
     for path in sorted(wanted):
@@ -96,6 +96,8 @@ def tasks_of(packed: bytes, old: "dict[bytes, Row]") -> "tuple[list[Task], list[
 
 def look(settings: Settings, task: Task, result: Result, fz: Tries, number: int) -> "Steps[None]":
     """Reads one packed file, and fills the result with what a row needs."""
+    if files.is_longer(number, task.packed_size):
+        raise Stop("damaged", "packed file changed", advice.LONGER, advice.ANOTHER_COPY)
     now_ = yield from looked(number)
     result.packed_size, result.packed_mtime, result.packed_sha256, result.mode = now_.size, now_.mtime, now_.sha256, now_.mode
     if task.packed_sha256 is not None and now_.sha256 != task.packed_sha256:

@@ -43,11 +43,14 @@ def verdict_of(found: Survey) -> Verdict:
     # a link may go, since what it leads to stays; a file that was left out is only in the folder
     skipped = {it.path for it in found.skipped if it.sort == COMPRESSED}
     waiting = {it.path for it in found.rows if it.done and not is_compared(it)} - bad
+    others = sum(found.others.values())
+    apart = [_are(others, "of another name is in no packed file.", "of other names are in no packed file.")] if others else []
     count = len(bad | left | skipped | waiting)
     if not count:
         every = _files(len(found.rows))
         said = [f"Each of {every} was unpacked and compared with its original, and nothing changed since. First have a second copy of the packed files on another disk."]
-        return Verdict(True, f"{QUESTION} yes, all {every}", said)
+        but = f"; not {_are(others, 'of another name', 'of other names')}" if others else ""
+        return Verdict(True, f"{QUESTION} yes, all {every}{but}", said + apart)
     why = []
     if bad:
         why.append(_are(len(bad), "is not well: see below.", "are not well: see below."))
@@ -57,4 +60,4 @@ def verdict_of(found: Survey) -> Verdict:
         why.append(_are(len(skipped), "was left out, as --skip-compressed says, and is in no packed file.", "were left out, as --skip-compressed says, and are in no packed file."))
     if waiting:
         why.append(_are(len(waiting), "was not compared with its original yet: fzbatch compare does so.", "were not compared with their originals yet: fzbatch compare does so."))
-    return Verdict(False, f"{QUESTION} no, {_files(count)}", why)
+    return Verdict(False, f"{QUESTION} no, {_files(count)}", why + apart)

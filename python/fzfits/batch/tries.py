@@ -111,6 +111,8 @@ class Tries:
 
     def as_it_was(self, number: int) -> "Steps[files.Looked]":
         """Reads the open packed file of the task. `Stop` if it is not the one that was made."""
+        if files.is_longer(number, self.task.packed_size):
+            raise Stop("damaged", "packed file changed", advice.LONGER, advice.ANOTHER_COPY)
         now = yield from looked(number)
         self.result.packed_size, self.result.packed_mtime = now.size, now.mtime
         if now.sha256 != self.task.packed_sha256:

@@ -89,14 +89,19 @@ def place(path: bytes) -> Optional[tuple[int, int]]:
 
 
 class signals:
-    """While the block runs, SIGINT and SIGTERM stop the run after the files that are being done."""
+    """While the block runs, SIGINT and SIGTERM stop the run after the files that are being done; the second of a kind ends it at once."""
 
     def __init__(self, call: Callable[[int], None]):
         self.call, self.before = call, {}
 
     def __enter__(self) -> None:
         for number in (signal.SIGINT, signal.SIGTERM):
-            self.before[number] = signal.signal(number, lambda found, _: self.call(found))
+            self.before[number] = signal.signal(number, self._come)
+
+    def _come(self, number: int, _: object) -> None:
+        # a file may be so long that nothing else ends the run
+        signal.signal(number, signal.SIG_DFL)
+        self.call(number)
 
     def __exit__(self, *_: object) -> None:
         for number, handler in self.before.items():

@@ -120,6 +120,8 @@ class _Work:
 
     def _is_what_was_made(self) -> "Steps[bool]":
         with inside.file(self.settings.packed, self.packed_path) as number:
+            if files.is_longer(number, self.task.packed_size):
+                return False
             now = yield from looked(number)
         self.result.packed_size, self.result.packed_mtime, self.result.packed_sha256 = now.size, now.mtime, now.sha256
         return now.sha256 == self.task.packed_sha256
