@@ -39,15 +39,15 @@ class Chosen:
 
     def leaves(self, left: Left) -> bool:
         """Whether what was left out belongs to this part: also a folder that was not looked into, in which a wanted file may be."""
-        if self.has(left.path):
-            return True
         is_folder = left.sort == SHUT or (left.sort == LINK and not names.is_fits(left.path) and not names.is_compressed_fits(left.path))
-        return is_folder and self._has_below(left.path + b"/")
+        if is_folder and any(_fits(it, left.path + b"/") for it in self.exclude):
+            return False
+        return self.has(left.path) or (is_folder and self._has_below(left.path + b"/"))
 
     def _has_below(self, folder: bytes) -> bool:
         if self.listed is not None:
             return any(it.startswith(folder) for it in self.listed)
-        if any(_fits(it, folder) or _fits(it, folder[:-1]) for it in self.exclude):
+        if any(_fits(it, folder[:-1]) for it in self.exclude):
             return False
         return not self.include or any(_may_fit(it, folder) for it in self.include)
 

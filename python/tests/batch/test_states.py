@@ -98,6 +98,11 @@ class States(Archive):
             for it in names:
                 (packed / it).unlink()
 
+        def older() -> None:
+            before = (packed / "fzbatch.sqlite").read_bytes()
+            self.run_it("verify", plain)
+            (packed / "fzbatch.sqlite").write_bytes(before)
+
         def journal() -> None:
             ended = subprocess.run([sys.executable, "-c", KILLED_IN_COMMIT, str(packed / "fzbatch.sqlite")], check=False)
             self.assertEqual(ended.returncode, -signal.SIGKILL)
@@ -140,11 +145,13 @@ class States(Archive):
             "a folder is in the place of a packed file": lambda: in_the_place(os.mkdir),
             "a pipe is in the place of a packed file": lambda: in_the_place(os.mkfifo),
             "a folder of packed files is a link": folder_is_a_link,
+            "a link is among the packed files, and no file of the manifest": lambda: os.symlink("/dev/null", packed / "more.fits.fz"),
             "a packed file is not in the manifest": lambda: shutil.copy(packed / "a.fits.fz", packed / "n" / "x.fits.fz"),
             "two names have one packed file": two_names,
             "a row of the manifest is gone or changed": row_is_gone,
             "the manifest is damaged": lambda: (packed / "fzbatch.sqlite").write_bytes(b"garbage" * 999),
             "the manifest is empty": lambda: (packed / "fzbatch.sqlite").write_bytes(b""),
+            "an older manifest is in the place of the manifest": older,
             "the manifest is lost": lambda: lost("fzbatch.sqlite"),
             "the manifest and its second copy are lost": lambda: lost("fzbatch.sqlite", "fzbatch.sqlite.copy"),
             "a run was killed while it wrote the manifest": journal,
