@@ -90,8 +90,8 @@ VALUES = attrgetter(*COLUMNS)
 PUT = f"INSERT OR REPLACE INTO files ({', '.join(COLUMNS)}, hash) VALUES ({', '.join('?' * (len(COLUMNS) + 1))})"
 
 
-# The runs of pack that were killed before one of pack that ends: their work was looked at.
-KILLED = "ended IS NULL AND verb LIKE 'pack%' AND (SELECT verb FROM runs WHERE token = ?) LIKE 'pack%'"
+# What a run says that did not end, after a later one did.
+KILLED = "did not end by itself"
 
 
 def now() -> str:
@@ -299,9 +299,15 @@ class Manifest:
     def end(self, token: str, said: str) -> None:
         """Notes that a run ended by itself."""
         self._write("UPDATE runs SET ended = ?, said = ? WHERE token = ?", (now(), names.told(said), token))
-        # of several runs the clock may say another order
-        self._write(f"UPDATE runs SET ended = ?, said = ? WHERE {KILLED}", (now(), "did not end by itself", token))
+        # what earlier ones of pack left was looked at, whatever order the clock gives them
+        pack = "verb LIKE 'pack%'"
+        self._write(f"UPDATE runs SET ended = ?, said = ? WHERE ended IS NULL AND {pack} AND (SELECT {pack} FROM runs WHERE token = ?)", (now(), KILLED, token))
         self.save()
+
+    def take(self, runs: Any) -> None:
+        """Takes the runs of another manifest, which are over: so this one is not older than it."""
+        for *begun, ended, said in runs:
+            self._write("INSERT OR IGNORE INTO runs VALUES (?, ?, ?, ?, ?, ?, ?)", (*begun, ended or now(), said or KILLED))
 
     def runs(self) -> "list[tuple[str, str, str, int, str, Optional[str], Optional[str]]]":
         """All runs: token, verb, host, process, when it began and ended, and its last line."""

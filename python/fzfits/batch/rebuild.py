@@ -24,13 +24,14 @@ UNFINISHED = re.compile(re.escape(names.MANIFEST) + rb"\.rebuilt-[0-9a-f]{16}(-j
 
 
 def old_rows(packed: bytes, name: bytes = names.COPY) -> "tuple[dict[bytes, Row], dict[str, object], str]":
-    """The rows and the facts of the second copy of the manifest, and a line that says what became of it."""
+    """The rows, the facts and the runs of the second copy of the manifest, and a line that says what became of it."""
     path = os.path.join(packed, name)
     if not files.there(path):
         return {}, {}, f"{names.shown(path)} is not there: only the packed files were read, and SHA256SUMS."
     try:
         with Manifest(path, writes=False) as it:
             facts = {name: it.fact(name) for name in ("source", "skip_links", "skip_compressed")}
+            facts["runs"] = it.runs()
             return {row.path: row for row in it.rows()}, facts, f"{names.shown(path)} is whole: what it says of files that are still the same was taken."
     except BadManifest as error:
         return {}, {}, f"Of no use: {error}".partition(ANOTHER)[0] + "."

@@ -108,6 +108,7 @@ def rebuilt(settings: Settings, out: TextIO, jobs: int, ignore_copy: bool = Fals
                 for name, value in facts.items():
                     if isinstance(value, (int, bytes)):
                         manifest.tell(name, value)
+                manifest.take(facts.get("runs", ()))
                 _fill(manifest, settings, jobs, tally, old, tasks, lost)
                 manifest.save()
             # only now, so that a kill leaves the one that was there, or its second copy

@@ -266,7 +266,8 @@ class BothReplaced(Archive):
         self.write("a.fits", image(7), 30)
         self.packs("--update")
         new = (self.packed / "a.fits.fz").read_bytes()
-        (self.packed / "fzbatch.sqlite").write_bytes(before)
+        for it in ("fzbatch.sqlite", "fzbatch.sqlite.copy"):
+            (self.packed / it).write_bytes(before)
         (self.packed / "a.fits.fz").write_bytes(new)
         for _ in range(2):
             self.named("plain file changed", "pack", self.plain)

@@ -11,7 +11,7 @@ from unittest import mock
 sys.path[:0] = [str(Path(__file__).resolve().parents[1])]
 
 from batch.two_files import Archive, image  # noqa: E402
-from fzfits.batch import manifest  # noqa: E402
+from fzfits.batch import keep, manifest  # noqa: E402
 
 
 class OlderManifest(Archive):
@@ -51,6 +51,15 @@ class OlderManifest(Archive):
         self.assertEqual(self.run_it("pack", other, "--allow-empty")[0], 0)
         shutil.copy(self.room / "other.fz" / "fzbatch.sqlite", self.packed / "fzbatch.sqlite")
         self.rejected()
+
+    def test_a_rebuild_that_was_killed_is_not_older(self) -> None:
+        """It is killed after the new manifest got its name, and before the second copy is written."""
+        self.packs()
+        (self.packed / "fzbatch.sqlite").unlink()
+        with mock.patch.object(keep, "keep", side_effect=KeyboardInterrupt), self.assertRaises(KeyboardInterrupt):
+            self.run_it("rebuild", self.packed)
+        self.assertEqual(self.run_it("verify", self.packed)[0], 0)
+        self.packs()
 
     def test_a_copy_of_an_earlier_run_is_none(self) -> None:
         """A run that was killed leaves an older copy, and a copy that is damaged says nothing."""
