@@ -260,6 +260,8 @@ class Arrays(InAFolder):
         # the name of a file of results has the machine in it, so the order of the names is not that of time
         self.write(b"packed/fzbatch.results/0123456789abcdef.0.node1.7", packed.word().encode() + b"\n")
         self.write(b"packed/fzbatch.results/0123456789abcdef.0.node2.5", failed.word().encode() + b"\n")
+        self.write(b"packed/a.fits.fz", b"its")
+        os.utime(self.path(b"packed", b"a.fits.fz"), ns=(4, 4))
         to = io.StringIO()
         self.assertEqual(submit.collect(self.path(b"packed"), to), run.DONE, to.getvalue())
         with run.open_manifest(self.path(b"packed"), writes=False) as made:
