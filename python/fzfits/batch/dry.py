@@ -36,4 +36,4 @@ def run(wanted: Wanted, found: Optional[Scan], identity: str, out: TextIO) -> in
     size = sum(todo.sizes.get(it.path, 0) for it in tasks)
     there = tally.outcomes["there"] + len(todo.tasks) - len(tasks)
     print(f"{wanted.verb} --dry-run: {counted(len(tasks))} to do ({amount(size)}), {there} up to date, {tally.failed} failed before, {len(tally.left)} skipped; nothing was written", file=out)
-    return NOT_DONE if not tally.whole else IDLE if wanted.tells_idle and not tasks else DONE
+    return NOT_DONE if tally.failed else IDLE if wanted.tells_idle and not tasks and tally.whole else DONE
