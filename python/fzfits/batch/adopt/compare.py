@@ -13,6 +13,7 @@ from ... import program
 from .. import advice, calls, files, inside, machine, names, rooms
 from ..logged import Log
 from ..progress import progress
+from ..scan import Left
 from ..wanted import Refuse, signals
 from . import places, run
 from .calling import Fz, Undone
@@ -21,9 +22,14 @@ from .messages import Asked
 from .pairs import Compared, Pair, plain_name
 from .rows import Finding, Row
 from .scratch import scratch
+from .store import Store
+from .walk import entries, walk
 
 CHANGED = Finding("changed", "it is another file than the one that was adopted", "fzbatch adopt names what is wrong with it")
 NO_PLAIN = Finding("no plain file", "the plain file is not there", advice.WITHOUT_PLAIN.replace("fzbatch restore makes it again", "fz unpack makes one"))
+NOT_PACKED = Finding("no packed file", "it has no packed file in the folder", "fzbatch pack packs it; if its packed file was lost, fetch that from another copy")
+# What the name of a packed file may have after that of its plain file; a plain file may be in the folder too.
+PACKED = (b".fz", b"", b".FZ", b".Fz", b".fZ")
 ANOTHER_SORT = ("gzip", "compressed")
 
 
@@ -79,8 +85,23 @@ class Compare:
                     self._count(one)
                     bar.step(one.size)
                 bar.close()
+            if not self.count.stopped:
+                self._not_compared(store)
             self._sum_up()
         return 128 + self.stop_signal if self.stop_signal else run.DONE if self.count.whole else run.NOT_DONE
+
+    def _not_compared(self, store: Store) -> None:
+        """Names what no row of the manifest stands for: plain files without a packed one, and files of the folder that it does not know."""
+        for root, finding, form in ((self.wanted.plain, NOT_PACKED, PACKED), (self.wanted.folder, run.UNKNOWN, (b"",))):
+            left: "List[Left]" = []
+            for seen in walk(root, 0, 1):
+                left += seen.left
+                for name, _, _ in entries(root, seen.path):
+                    if not any(store.row(seen.path, name + it) is not None for it in form):
+                        self.count.not_well(os.path.join(seen.path, name), [finding])
+            kept, notes = run.kept_left(store, left)
+            self.count.left += kept
+            self.count.notes += [it for it in notes if left]
 
     def _sum_up(self) -> None:
         for outcome, what in (("pixels", "have the pixels and tables of their plain file, and another header: whether that is all that fpack was given is not known"), ("part", "have an HDU that fz does not decode, which was not compared"), ("compressed", "are compressed as a whole, and were not compared")):
@@ -142,13 +163,17 @@ class Compare:
 
     def _opened(self, folder: bytes, row: Row) -> "Tuple[Optional[int], Optional[int]]":
         made: "List[Optional[int]]" = []
-        for root, name in ((self.wanted.plain, plain_name(row.name)), (folder, row.name)):
+        for root, name in ((folder, row.name), (self.wanted.plain, plain_name(row.name))):
             try:
                 with inside.file(root, row.folder + b"/" + name if row.folder else name) as number:
                     made.append(os.dup(number))
             except FileNotFoundError:
                 made.append(None)
-        return made[0], made[1]
+            except BaseException:
+                for it in filter(None, made):
+                    os.close(it)
+                raise
+        return made[1], made[0]
 
     def _count(self, one: One) -> None:
         if one.found:

@@ -8,6 +8,7 @@ from typing import Dict, List, Optional, Tuple
 from ...checks import EMPTY, UNDECODED
 from ...headers import Header, headers
 from .. import advice, files, names
+from . import meaning
 from .alone import PIECE
 from .calling import Fz
 from .rows import Finding
@@ -104,6 +105,9 @@ class Pair:
         elif not same_bytes(number, self.plain, ((mine.data, mine.size), (other.data, other.size))):
             self.made.found.append(Finding(DIFFERS, "the data of this HDU are not those of the plain file", WHAT, hdu, names.told(mine.name)))
         elif mine.raw != other.raw:
+            said = meaning.other_than(mine, other)
+            if said:
+                self.made.found.append(Finding(DIFFERS, f"the data have the same bytes, and are others by the header: {said}", WHAT, hdu, names.told(mine.name)))
             self.made.headers += 1
 
     def _each(self) -> None:
@@ -133,7 +137,7 @@ class Pair:
                     at += len(piece)
             ended = self.fz.run("unpack", copy, self.plain_looked.size, out=out)
             if ended.status == 3:
-                self._not_decoded(header, ended.line)
+                self._not_decoded(header, other, ended.line)
                 return
             made = list(headers(out))[-1]
             number = os.open(out, os.O_RDONLY | os.O_CLOEXEC)
@@ -145,9 +149,12 @@ class Pair:
             files.remove(copy)
             files.remove(out)
 
-    def _not_decoded(self, header: Header, line: str) -> None:
+    def _not_decoded(self, header: Header, other: Optional[Header], line: str) -> None:
         kind, name = advice.kind_of(line)
         if kind in UNDECODED:
             self.made.skipped.append(header.number)
+            said = meaning.other_image(header, other)
+            if said:
+                self.made.found.append(Finding(DIFFERS, f"it is not decoded, and cannot be that of the plain file: {said}", WHAT, header.number, names.told(header.name)))
         else:
             self.made.found.append(Finding(DIFFERS, f"fz does not unpack it: {kind} {name}", advice.of_refusal(line), header.number, names.told(header.name)))
