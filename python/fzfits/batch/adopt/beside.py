@@ -29,7 +29,7 @@ from .alone import SUMS, WRONG_IMAGE
 from .count import Count
 from .in_place import Did, InPlace, Place
 from .messages import Asked
-from .rows import FAULTY, RIGHT, Finding, Row, packed_text
+from .rows import ACCEPTED, FAULTY, RIGHT, Finding, Row, packed_text
 from .scratch import scratch
 from .store import Store
 from .walk import entries, walk
@@ -79,8 +79,10 @@ class Beside:
         if not places.may_be_written(wanted.manifest):
             raise Refuse(f"{names.shown(wanted.manifest)} cannot be written: --manifest names another place")
         is_new = not files.there(wanted.manifest)
-        if is_new and (wanted.verb != "pack" or files.there(wanted.manifest + places.COPY)):
-            raise Refuse(f"{names.shown(wanted.manifest)} is not there" + (": fzbatch adopt makes it" if wanted.verb != "pack" else ", and its second copy is: copy it back, or move it away"))
+        if is_new and wanted.verb != "pack":
+            raise Refuse(f"{names.shown(wanted.manifest)} is not there: fzbatch adopt makes it")
+        if is_new:
+            places.check_new(wanted.manifest)
         before.check_options(wanted.options, self.program, "retile" if wanted.verb == "retile" else "pack")
         with closing(Log(wanted.log)) as self.count.log:
             with lock.held(wanted.manifest + places.LOCK), files.private():
@@ -139,7 +141,7 @@ class Beside:
                     continue
                 row = self.store.row(seen.path, names.packed_name(name))
                 number += 1
-                yield Place(seen.path, name, number, row.sha256.hex() if row else "", row.plain if row else None, adopted=self.store.row(seen.path, name))
+                yield Place(seen.path, name, number, row.sha256.hex() if row else "", row.plain if row else None, row.next.hex() if row else "", self.store.row(seen.path, name))
         if not seen_any:
             raise Refuse(f"{names.shown(self.wanted.folder)} has no FITS file: is its disk mounted?")
 
@@ -218,7 +220,7 @@ class Beside:
             made.size, made.mtime, made.made_of = did.packed.size, did.packed.mtime, did.made_of()
         if did.wrong_sums and made.status == RIGHT:
             # what was accepted is kept, and named as if it had been adopted
-            made.status, made.found = FAULTY, packed_text([Finding(SUMS, f"the plain file had a wrong checksum, which was accepted: {did.wrong_sums}", WRONG_IMAGE)])
+            made.status, made.found = FAULTY, packed_text([Finding(SUMS, f"{ACCEPTED}: {did.wrong_sums}", WRONG_IMAGE)])
         return made
 
     def _delete(self, it: InPlace) -> None:

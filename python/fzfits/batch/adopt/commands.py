@@ -8,7 +8,7 @@ import sys
 from dataclasses import asdict
 from typing import Callable, List, Optional, TextIO
 
-from .. import files, lock, machine, names
+from .. import files, inside, lock, machine, names
 from ..checks import Odd
 from ..opening import BadManifest
 from ..wanted import Refuse
@@ -126,7 +126,9 @@ class _Opened:
                 store.close()
                 raise Refuse(f"{names.shown(path)} is the manifest of {names.shown(folder or b'?')}, which is not in {names.shown(self.folder)}")
             found.append((folder, store))
-        self.uncovered = sorted(survey.uncovered(self.folder, {it for it, _ in found})) if len(found) > 1 else []
+        if len(found) > 1:
+            skips = all(store.fact("skip_links") for _, store in found)
+            self.uncovered = sorted(survey.uncovered(self.folder, {it for it, _ in found}, skips))
         return found
 
     def tell_uncovered(self, to: TextIO) -> int:
@@ -230,6 +232,8 @@ def forget(asked: argparse.Namespace) -> int:
             row = rows.get(name)
             if row is None or row.status != GONE:
                 raise Refuse(f"{name} is not among the files that are gone")
+            if inside.state(folder, row.path) is not None:
+                raise Refuse(f"{name} is there again, and is not forgotten: fzbatch adopt reads it, and says whether it is the file that was gone")
             store.forget(row.folder, row.name)
             print(f"forgotten: {name}")
         for it in places.keep_beside(store):

@@ -18,10 +18,11 @@ from .. import advice, files, inside, lock, names
 from ..inside import is_there, opened_in
 from ..rooms import Rooms
 from ..tries import wrong_lines
-from .alone import SUMS, hdus_text
+from . import known
+from .alone import hdus_text
 from .calling import Fz, Undone
 from .messages import Asked
-from .rows import GRAIN, NOT_WELL, Plain, Row
+from .rows import GRAIN, Plain, Row
 
 OTHER = "packed name is taken"
 WRITTEN = ("plain file is being written", "the plain file changed while it was packed", "run fzbatch again when nothing writes it")
@@ -117,11 +118,12 @@ class InPlace:
             source = opened_in(above, self.place.name)
             try:
                 before = self.did.plain = files.look_at(source)
-                self._is_known(above, before)
+                known.check_plain(self.place, before, self.accept)
                 if is_there(above, self.place.packed_name):
                     self._sums(source, before)
                     self._accept(above, before)
                     return
+                known.check_lost(self.place, before)
                 if not any(it.is_packable for it in headers(f"/proc/self/fd/{source}")):
                     self._expect("list", source, before.size)
                     self.did.outcome = "plain"
@@ -202,16 +204,6 @@ class InPlace:
             raise Undone("wrong checksum", f"fz {verb}: {wrong_lines(ended)}", advice.STATUSES[1])
         return ended
 
-    def _is_known(self, above: int, before: files.Looked) -> None:
-        """The plain file is the one that the manifest knows, if it knows one, and nothing is wrong with it."""
-        row, plain = self.place.adopted, self.place.plain
-        if row is not None and row.sha256.hex() != before.sha256:
-            raise Undone("plain file changed", "the plain file is another than the one that was adopted", "fetch the one that was adopted from another copy; fzbatch adopt --update takes the file as it is now, if that is right")
-        if row is not None and row.status in NOT_WELL and not (self.accept and {it.cause for it in row.findings} <= {SUMS}):
-            raise Undone("not well", "it is not well by the manifest, and stays as it is", "fzbatch missing says what is wrong; if the file is right again, run fzbatch adopt first")
-        if plain is not None and plain.sha256 != before.sha256 and not is_there(above, self.place.packed_name):
-            raise Undone("packed file is lost, and plain file changed", advice.BOTH_CHANGED, "fetch one of them from another copy; or fzbatch adopt, and then fzbatch forget, take the packed file out of the manifest")
-
     def _sums(self, source: int, before: files.Looked) -> None:
         """The checksums of the plain file are right, or are accepted."""
         if not before.has_sums:
@@ -255,8 +247,7 @@ class InPlace:
         made = opened_in(above, self.place.packed_name)
         try:
             after = files.look_at(made)
-            if self.place.plain is not None and self.place.plain.sha256 != before.sha256:
-                raise Undone("plain file changed", "the plain file is another than the one that was packed", "decide which one is right, and move the other one away")
+            known.check_there(self.place, before, after)
             try:
                 self._comes_back(made, before)
             except Undone as error:

@@ -42,6 +42,15 @@ def opened(path: bytes, folder: bytes, writes: bool = False, moved: bool = False
     return made
 
 
+def check_new(path: bytes) -> None:
+    """Raises `Refuse` if a manifest that is not there was lost: what it knew would be replaced by what the files are now."""
+    copy, listed = path + COPY, path + SUMS
+    if files.there(copy):
+        raise Refuse(f"{names.shown(path)} is not there, and its second copy is: copy {names.shown(copy)} to it, or move the copy away, and fzbatch adopt begins anew")
+    if files.there(listed) and not keep.is_none_of_ours(listed, keep.HEAD):
+        raise Refuse(f"{names.shown(path)} is not there, and its list for sha256sum is: sha256sum -c {names.shown(listed)} in the folder says what changed; move the list away, and fzbatch adopt begins anew")
+
+
 def is_archive(folder: bytes) -> bool:
     """Whether a folder is one of packed files that fzbatch pack made, also if its manifest was lost and something else of it was not."""
     sums = os.path.join(folder, names.SUMS)

@@ -15,6 +15,8 @@ NOT_WELL = (FAULTY, ROTTEN, CHANGED, RENAMED, GONE, UNREAD)
 STATUSES = WELL + NOT_WELL
 # A file whose time is so near to the moment in which it was read may have changed since with the same time.
 GRAIN = 2_000_000_000
+# How a line begins that is kept from then on: the packed file alone may not show what it is about.
+ACCEPTED = "the plain file had a wrong checksum, which was accepted"
 # The characters of the HDUs of a file, and of its findings: half of the longest text that a manifest has.
 ROOM = checks.LONGEST // 2
 
@@ -152,6 +154,11 @@ class Row:
     def findings(self) -> "List[Finding]":
         """What is wrong with it."""
         return findings_of(self.found)
+
+    @property
+    def accepted(self) -> "List[Finding]":
+        """What is said of a wrong checksum that was accepted when the file was packed: no later look at it takes that away."""
+        return [it for it in self.findings if self.made_of and it.line.startswith(ACCEPTED)]
 
 
 COLUMNS = tuple(it.name for it in fields(Row))

@@ -105,13 +105,13 @@ class Run:
         copy = wanted.manifest + places.COPY
         if files.there(copy):
             copying.settle(copy)
-            raise Refuse(f"{names.shown(wanted.manifest)} is not there, and its second copy is: copy {names.shown(copy)} to it, or move the copy away, and fzbatch adopt begins anew")
+        places.check_new(wanted.manifest)
         return Store(wanted.manifest)
 
     def _do(self, writes: bool) -> None:
         rooms.remove_of_killed(self.wanted.folder)
         days = 0.0 if self.wanted.verb == "verify" else self.wanted.days
-        waiting = Waiting(Look(days, self.wanted.verb == "verify"))
+        waiting = Waiting(Look(days, self.wanted.verb == "verify", self.wanted.update))
         try:
             self._wait_for(waiting)
             if writes:
@@ -207,7 +207,8 @@ class Run:
 
     def _record(self, found: Found, waiting: Waiting, writes: bool) -> bool:
         row = self.store.row(found.folder, found.name)
-        made = verdict.of(found, row, waiting.had, self.number, self.wanted.update)
+        packed = self.store.row(found.folder, names.packed_name(found.name)) if row is None else None
+        made = verdict.of(found, row, waiting.had, self.number, self.wanted.update, packed)
         if made is None:
             said = Finding("not read", f"{found.cause}: {found.line}" if found.line != found.cause else found.line, found.advice)
             self.unkept.not_well(found.path, [said])

@@ -5,7 +5,7 @@ import os
 from typing import Iterator, List, Set, Tuple
 
 from .. import names
-from ..scan import Left
+from ..scan import LINK, Left
 from . import run, verdict
 from .count import Count, line_of
 from .rows import GONE, UNREAD, Finding, Row
@@ -65,8 +65,11 @@ class Survey:
         return not self.left and not self.lost and next(self.findings(), None) is None
 
 
-def uncovered(root: bytes, folders: "Set[bytes]") -> "Iterator[str]":
-    """A line for each folder of `root` that has files and is in none of these adopted folders: its manifest may be lost."""
+def uncovered(root: bytes, folders: "Set[bytes]", skips_links: bool = False) -> "Iterator[str]":
+    """A line for each folder of `root` that has files and is in none of these adopted folders: its manifest may be lost.
+
+    What is left out of such a folder is named too, as links and pipes are.
+    """
     waiting = [b""]
     while waiting:
         path = waiting.pop()
@@ -74,8 +77,9 @@ def uncovered(root: bytes, folders: "Set[bytes]") -> "Iterator[str]":
             continue
         seen = see(root, path)
         waiting += seen.below
-        if seen.count or seen.shut:
-            yield f"{names.shown(path or b'.')}: {'it cannot be read' if seen.shut else f'{seen.count:,} files are in no manifest that was named'}"
+        yield from (left_line(it) for it in seen.left if not (skips_links and it.sort == LINK))
+        if seen.count:
+            yield f"{names.shown(path or b'.')}: {seen.count:,} files are in no manifest that was named"
 
 
 def counted(it: Survey, verb: str, all_names: bool) -> Count:

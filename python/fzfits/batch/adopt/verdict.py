@@ -6,7 +6,7 @@ from typing import Callable, List, Optional, Tuple
 
 from .. import names
 from .messages import Found
-from .rows import CHANGED, FAULTY, GONE, PART, RENAMED, RIGHT, ROTTEN, UNREAD, WELL, Finding, Row, findings_of, hdus_of, packed_text
+from .rows import CHANGED, FAULTY, GONE, PART, RENAMED, RIGHT, ROTTEN, UNREAD, WELL, Finding, Plain, Row, findings_of, hdus_of, packed_text
 
 ROT = "bytes changed, and neither length nor time: the disk, or a copy, damaged the file. Fetch it from another copy"
 OTHER = "find out who changed it; fzbatch adopt --update takes it as it is now, and fetching it from another copy ends this too"
@@ -14,7 +14,8 @@ NAME = "fzbatch adopt --update takes the new name; giving the file its old name 
 AGAIN = "it has the bytes that were adopted again, and what is in it was not looked at since"
 LOST = "fetch it from another copy, or fzbatch forget takes it out of the manifest"
 # The causes that say that a file is another one than was adopted.
-OURS = ("rotten", "changed", "has the bytes of another file", "renamed", "gone", "not read")
+ANOTHERS = "has the bytes of another file"
+OURS = ("rotten", "changed", ANOTHERS, "renamed", "gone", "not read")
 
 Had = Callable[[bytes, bytes, bytes], "Optional[Tuple[bytes, bytes, bool]]"]
 
@@ -34,11 +35,17 @@ def sort_of(found: "List[Finding]", hdus: str) -> str:
     return PART if any(it.undecoded for it in hdus_of(hdus)) else RIGHT
 
 
-def of(found: Found, row: Optional[Row], had: Had, run: int, update: bool) -> "Optional[Verdict]":
-    """What a result makes of a row. None for a new file that could not be read: there is nothing to be kept of it yet."""
+def of(found: Found, row: Optional[Row], had: Had, run: int, update: bool, packed: Optional[Row] = None) -> "Optional[Verdict]":
+    """What a result makes of a row. None for a new file that could not be read: there is nothing to be kept of it yet.
+
+    `packed` is the row of the packed file beside a new one, if the manifest knows that.
+    """
     if found.outcome == "unread":
         return _unread(found, row, run)
     if row is None:
+        plain = packed.plain if packed is not None and not update else None
+        if plain is not None and plain.sha256 != found.sha256.hex():
+            return Verdict(_not_what_was_packed(found, run, plain))
         return _new(found, had, run, update)
     if row.next and found.sha256 == row.next:
         # a run of retile was killed before it said so
@@ -60,6 +67,13 @@ def _unread(found: Found, row: Optional[Row], run: int) -> "Optional[Verdict]":
     return Verdict(replace(row, status=UNREAD, found=packed_text([said, *kept])))
 
 
+def _not_what_was_packed(found: Found, run: int, plain: Plain) -> Row:
+    """A new file beside the one that `pack --beside` made of another one of its name. The row has the SHA-256 that it should have."""
+    row = _made(found, run)
+    said = Finding("changed", f"it is another file than the one that {names.shown(names.packed_name(found.name))} was packed of", OTHER)
+    return replace(row, sha256=bytes.fromhex(plain.sha256), status=CHANGED, found=packed_text([said, *row.findings]))
+
+
 def _new(found: Found, had: Had, run: int, update: bool) -> Verdict:
     row = _made(found, run)
     own = row.findings
@@ -75,24 +89,32 @@ def _new(found: Found, had: Had, run: int, update: bool) -> Verdict:
             row.found = packed_text([Finding("renamed", f"it was {names.shown(before)}", NAME), *own])
         return Verdict(row, (other[0], other[1]))
     if not update:
-        row.status = CHANGED
-        row.found = packed_text([Finding("has the bytes of another file", f"it has the bytes that {names.shown(before)} had", OTHER), *own])
+        row.was, row.status = before, CHANGED
+        row.found = packed_text([_bytes_of(before), *own])
     return Verdict(row)
+
+
+def _bytes_of(before: bytes) -> Finding:
+    return Finding(ANOTHERS, f"it has the bytes that {names.shown(before)} had", OTHER)
 
 
 def _same(found: Found, row: Row, run: int, update: bool) -> Row:
     """It has the bytes that were adopted."""
     made = replace(row, size=found.size, mtime=found.mtime, looked=found.looked, next=b"", read_in=run)
+    is_copy = row.status == CHANGED and any(it == _bytes_of(row.was) for it in row.findings)
     if found.outcome == "read":
-        made.sort, made.hdus, own = found.sort, found.hdus, findings_of(found.found)
+        made.sort, made.hdus, own = found.sort, found.hdus, [*row.accepted, *findings_of(found.found)]
     else:
         own = [it for it in row.findings if it.cause not in OURS]
-        if row.status in (GONE, CHANGED, ROTTEN, UNREAD):
+        if not is_copy and row.status in (GONE, CHANGED, ROTTEN, UNREAD):
             # what was found of these bytes is not known any more
             made.status, made.found = UNREAD, packed_text([Finding("not read", AGAIN, "fzbatch adopt reads it"), *own])
             return made
     if made.was and update:
         made.was = b""
+    if is_copy and made.was:
+        made.status, made.found = CHANGED, packed_text([_bytes_of(made.was), *own])
+        return made
     renamed = [Finding("renamed", f"it was {names.shown(made.was)}", NAME)] if made.was else []
     made.found = packed_text([*renamed, *own])
     made.status = RENAMED if renamed else sort_of(own, made.hdus)
@@ -109,19 +131,19 @@ def _other(found: Found, row: Row, had: Had, run: int, update: bool) -> Row:
     other = had(found.sha256, found.folder, found.name)
     if other is not None:
         before = other[0] + b"/" + other[1] if other[0] else other[1]
-        said = Finding("has the bytes of another file", f"it has the bytes that {names.shown(before)} had", OTHER)
+        said = _bytes_of(before)
     elif rotten:
         said = Finding("rotten", "it has the length and the time that it had, and other bytes", ROT)
     else:
         length = "" if found.size == row.size else f", and {found.size:,} bytes in the place of {row.size:,}"
         said = Finding("changed", f"it is another file than the one that was adopted{length}", OTHER)
     status = ROTTEN if said.cause == "rotten" else CHANGED
-    return replace(row, size=found.size, mtime=found.mtime, looked=found.looked, status=status, found=packed_text([said, *findings_of(found.found)]), read_in=run)
+    return replace(row, size=found.size, mtime=found.mtime, looked=found.looked, status=status, found=packed_text([said, *row.accepted, *findings_of(found.found)]), read_in=run)
 
 
 def gone(row: Row) -> Row:
     """The row of a file that is not there."""
-    return replace(row, status=GONE, found=packed_text([Finding("gone", "it is not there", LOST)]))
+    return replace(row, status=GONE, found=packed_text([Finding("gone", "it is not there", LOST), *row.accepted]))
 
 
 def other_half(row: Row, of: "Callable[[bytes, bytes], Optional[Row]]") -> bool:

@@ -9,7 +9,7 @@ from typing import Callable, Iterator, List, Optional, Tuple
 
 from ..scan import Left
 from .messages import One
-from .rows import GONE, UNREAD, Row
+from .rows import CHANGED, GONE, RENAMED, UNREAD, Row
 from .store import Store, sum_of
 from .walk import Entry, Seen, entries, walk
 
@@ -31,11 +31,18 @@ DAY = 86_400_000_000_000
 class Look:
     """What a run looks for: new files, files that look otherwise, and of the others those that were not read for so many days.
 
-    `days` is None if no other file is read again. `only_known` is for a run that takes no new file in.
+    `days` is None if no other file is read again. `only_known` is for a run that takes no new file in, and `update` for one that takes
+    files as they are: it also reads those that are changed or renamed by the manifest.
     """
 
     days: Optional[float] = None
     only_known: bool = False
+    update: bool = False
+
+    @property
+    def again(self) -> "set[str]":
+        """The states of files that are read again, also if they look the same."""
+        return {GONE, UNREAD, CHANGED, RENAMED} if self.update else {GONE, UNREAD}
 
 
 @dataclass
@@ -92,7 +99,7 @@ class Waiting:
         held = store.folder(seen.path)
         if held is None:
             return not seen.count
-        same = not held.unsure and not {GONE, UNREAD} & set(held.of_status) and sum_of(held.look) == (seen.count, seen.look)
+        same = not held.unsure and not self.look.again & set(held.of_status) and sum_of(held.look) == (seen.count, seen.look)
         self.same += seen.count if same else 0
         return same
 
@@ -124,7 +131,7 @@ class Waiting:
 
     def _known(self, row: Row, file: Entry) -> None:
         otherwise = (row.size, row.mtime) != file[1:]
-        again = otherwise or row.unsure or row.status in (GONE, UNREAD)
+        again = otherwise or row.unsure or row.status in self.look.again
         if not again and not self._is_due(row):
             self.same += 1
             return
