@@ -10,9 +10,9 @@ from typing import Callable, Iterator, Optional
 from . import inside, names
 
 LINK, SHUT, PIPE, COMPRESSED, OURS, OTHER, TIME = "link", "shut", "pipe", "compressed", "ours", "other", "time"
-# No manifest has room for this time in nanoseconds, or for a later one.
+# No manifest has room for this time in nanoseconds, for a later one, or for one before its negative.
 LATEST = 1 << 63
-FAR = "has a time after the year 2262, for which the manifest has no room"
+FAR = "has a time after the year 2262 or before 1678, for which the manifest has no room"
 ADVICE = {
     TIME: "give it another time by touch, and run fzbatch again",
     LINK: "pack the folder or file that it leads to, or replace it by a file; with --skip-links links are left out",
@@ -58,6 +58,11 @@ class NoSource(Exception):
     """The folder is not there, is no folder, cannot be read, or is empty."""
 
 
+def is_far(time: int) -> bool:
+    """Whether no manifest has room for a time in nanoseconds."""
+    return not -LATEST <= time < LATEST
+
+
 def scan(root: bytes, wanted: Callable[[bytes], bool] = names.is_fits, compressed: Callable[[bytes], bool] = names.is_compressed_fits, ours: Callable[[bytes], bool] = names.is_ours) -> Scan:
     """Walks through a folder. Symbolic links are not followed, but named; what cannot be read is named."""
     found = Scan(root)
@@ -92,7 +97,7 @@ def _look(found: Scan, path: bytes, entry: os.DirEntry[bytes], wanted, compresse
         found.left.append(Left(path, f"cannot be read: {error.strerror}", ADVICE[SHUT], SHUT))
         return None
     if stat.S_ISREG(it.st_mode):
-        if is_wanted and it.st_mtime_ns >= LATEST:
+        if is_wanted and is_far(it.st_mtime_ns):
             found.left.append(Left(path, FAR, ADVICE[TIME], TIME))
         elif is_wanted:
             found.files[path] = Found(path, it.st_size, it.st_mtime_ns)
@@ -142,6 +147,13 @@ def scan_packed(root: bytes) -> Scan:
 
 
 def folders_of(root: bytes) -> Iterator[bytes]:
-    """All folders from this one on, as far as they can be read; links are not followed."""
-    for folder, _, _ in os.walk(root):
+    """All folders from this one on, as far as they can be read; links are not followed. (`os.walk` calls itself for each level.)"""
+    waiting = [root]
+    while waiting:
+        folder = waiting.pop()
+        try:
+            with os.scandir(folder) as found:
+                waiting += sorted((it.path for it in found if it.is_dir(follow_symlinks=False)), reverse=True)
+        except OSError:
+            continue
         yield folder

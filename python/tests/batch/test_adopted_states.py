@@ -83,10 +83,9 @@ class States(Adopted):
             data[len(data) // 2 : len(data) // 2 + 3000] = bytes(3000)
             self.manifest.write_bytes(data)
 
-        def lost(copy_too: bool) -> None:
-            self.manifest.unlink()
-            if copy_too:
-                Path(f"{self.manifest}.copy").unlink()
+        def lost(*endings: str) -> None:
+            for it in ("", *endings):
+                Path(f"{self.manifest}{it}").unlink()
 
         def killed() -> None:
             subprocess.run([sys.executable, "-c", KILLED_IN_COMMIT, self.manifest], check=False)
@@ -125,8 +124,9 @@ class States(Adopted):
             "a row of the manifest is gone or changed": row("DELETE FROM files WHERE name = CAST('small.fits' AS BLOB)"),
             "the manifest is damaged": damaged,
             "the manifest is empty": lambda: self.manifest.write_bytes(b"") and None,
-            "the manifest is lost": lambda: lost(False),
-            "the manifest and its second copy are lost": lambda: lost(True),
+            "the manifest is lost": lambda: lost(),
+            "the manifest and its second copy are lost": lambda: lost(".copy"),
+            "the manifest, its second copy and its list are lost": lambda: lost(".copy", ".SHA256SUMS"),
             "a run was killed while it wrote the manifest": killed,
             "the lock is a link": linked_lock,
         }[name]

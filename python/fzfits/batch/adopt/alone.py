@@ -1,6 +1,7 @@
 """One HDU by itself: it is given to fz alone, in a file for temporary files, so that no other HDU of its file is in the way."""
 from __future__ import annotations
 
+import math
 import os
 from typing import Callable, List, Optional, Tuple
 
@@ -142,7 +143,7 @@ class Alone:
                 self._accepted(ended)
                 return
             lost = []
-        image = Image(self.fz, copy, hdu, self.header)
+        image = Image(self.fz, copy, hdu, self.header, min(self.header.end, self.size) - self.header.start)
         made = image.decode(_others(lost, image.rows))
         self.hdu.tiles = made.decoded
         self.found += made.findings
@@ -165,32 +166,39 @@ class Alone:
         self._decode(copy, hdu)
         self.hdu.undecoded = why if self.hdu.tiles is None else f"{why}; the integers that stand for these floats decode"
 
-    def _cut_off(self) -> "Optional[List[int]]":
-        """The rows that are lost since the file ends before; None if it does not."""
+    def _cut_off(self) -> "Optional[List[Tuple[int, int]]]":
+        """The spans of rows that are lost since the file ends before; None if it does not."""
         if self.header.end <= self.size:
             return None
-        first, lost = heaps.after_the_end(self.number, self.header, self.size)
         axes, tile = self.header.axes, self.header.tile
-        many = self.header.integer("NAXIS2")
-        rows = sorted({*lost, *range(many if first is None else first, many)})
-        if rows:
-            pixels = sum(boxes.number_of(boxes.of_row(axes, tile, it)) for it in rows)
-            ends = [boxes.of_row(axes, tile, it) for it in (rows[0], rows[-1])]
-            named = boxes.text_of([(min(a[0], b[0]), max(a[1], b[1])) for a, b in zip(*ends)]) if len(rows) == rows[-1] - rows[0] + 1 and len(axes) == 2 and tile[0] == axes[0] else ""
-            line = f"the file ends before {counted(len(rows), 'tile')} (from row {rows[0]} on): {boxes.lost_of(pixels, named)}"
-            self.found.append(Finding(CAUSE, line, LOST, self.header.number, self.header.name, rows[0], named, pixels))
-        return rows
+        grid = boxes.grid_of(axes, tile)
+        # no tile has a row that is after those of the grid, whatever the header says
+        lost = heaps.after_the_end(self.number, self.header, self.size, min(self.header.integer("NAXIS2"), math.prod(grid)))
+        if lost:
+            found = (boxes.pixels(axes, tile, it) for first, last in lost for it in boxes.runs(grid, first, last))
+            one = next(found)
+            pixels = boxes.number_of(one) + sum(map(boxes.number_of, found))
+            is_band = len(lost) == 1 and len(axes) == 2 and grid[0] == 1
+            named, many = boxes.text_of(one) if is_band else "", sum(last - first + 1 for first, last in lost)
+            line = f"the file ends before {counted(many, 'tile')} (from row {lost[0][0]} on): {boxes.lost_of(pixels, named)}"
+            self.found.append(Finding(CAUSE, line, LOST, self.header.number, self.header.name, lost[0][0], named, pixels))
+        return lost
 
     def image_sums(self, copy: "bytes | int", hdu: int) -> None:
         """The checksums that the image had before it was packed are those of the image that comes back."""
-        if has_own_sums(self.header) and self.raw is self.header.raw:
+        if not has_own_sums(self.header) or self.raw is not self.header.raw:
+            return
+        said = self.fz.growth(copy)
+        if said:
+            self.add("file would grow", f"{said}: the checksums of its image were not compared", advice.OVER_TIME)
+        else:
             restored(self.fz, copy, {hdu: self.hdu}, self.header.end - self.header.start, 0 if hdu == 0 or self.header.card("ZSIMPLE") is None else 1)
 
     def _records(self, is_image: bool) -> None:
         """What shows of the records of a table that fz does not decode."""
         faults = 0
         for row, here in heaps.descriptors(self.number, self.header, heaps.columns(self.header), self.size):
-            said = heaps.fault_of(self.number, self.header, here, is_image)
+            said = heaps.fault_of(self.number, self.header, here, is_image, lambda: self.fz.left("inflating"))
             if said:
                 faults += 1
                 if faults <= NAMED:
@@ -199,13 +207,13 @@ class Alone:
             self.add("record is damaged", f"{faults - NAMED} more rows of this HDU", LOST)
 
 
-def _others(lost: "List[int]", many: int) -> "List[Tuple[int, int]]":
+def _others(lost: "List[Tuple[int, int]]", many: int) -> "List[Tuple[int, int]]":
     """The spans of rows that are not among those."""
     spans, at = [], 0
-    for it in [*lost, many]:
-        if at < it:
-            spans.append((at, it - 1))
-        at = it + 1
+    for first, last in [*lost, (many, many)]:
+        if at < first:
+            spans.append((at, first - 1))
+        at = last + 1
     return spans
 
 

@@ -102,7 +102,7 @@ class Book:
                 self._flush()
                 self._seal()
             self._sql.commit()
-        except sqlite3.Error as error:
+        except (sqlite3.Error, OverflowError) as error:
             raise self._unwritten(error) from error
         self._saved = time.monotonic()
 
@@ -113,7 +113,7 @@ class Book:
         try:
             self._sql.execute(statement, values)
             self.changed = True
-        except sqlite3.Error as error:
+        except (sqlite3.Error, OverflowError) as error:
             raise self._unwritten(error) from error
 
     def _flush(self) -> None:

@@ -44,10 +44,10 @@ def begins_so(head: bytes) -> "Optional[bytes]":
     return next((it for it in FORMATS if head.startswith(it)), None)
 
 
-def fault_of(number: int, size: int, kind: bytes) -> str:
+def fault_of(number: int, size: int, kind: bytes, check_time: "Callable[[], object]") -> str:
     """Why an open file cannot be decompressed, or the empty text: each of its members, and what is after the last one.
 
-    Raises `Grows` if it would become too long.
+    Raises `Grows` if it would become too long, and what `check_time` raises if it takes too long.
     """
     begin = FORMATS[kind]
     assert begin is not None
@@ -58,6 +58,7 @@ def fault_of(number: int, size: int, kind: bytes) -> str:
             return "the file ends before"
         at += len(piece)
         while piece:
+            check_time()
             if left.eof:
                 # the next member, after the zeros that fill the block of a tape
                 piece = piece.lstrip(b"\0")

@@ -58,7 +58,9 @@ def _read(asked: Asked, one: One, room: Rooms, number: int, found: Found) -> Non
     if asked.sha256_only and found.sha256 == one.sha256:
         found.outcome = "same"
         return
-    it = File(Fz(asked, room), number, looked)
+    fz = Fz(asked, room)
+    fz.begin(looked.size)
+    it = File(fz, number, looked)
     it.look()
     if not looked.is_still(os.fstat(number)):
         raise Undone("file is being written", "the file changed while it was read", "run fzbatch again when nothing writes it")
@@ -112,7 +114,7 @@ class File:
         self.sort = "gzip" if kind == compressed.GZIP else "compressed"
         why = compressed.NOT_READ if compressed.FORMATS[kind] is None else ""
         try:
-            said = "" if why else compressed.fault_of(self.number, self.size, kind)
+            said = "" if why else compressed.fault_of(self.number, self.size, kind, lambda: self.fz.left("decompressing"))
         except compressed.Grows:
             said, why = "", compressed.GROWS
         if said:
@@ -138,6 +140,8 @@ class File:
         if unseen:
             self.add("too many HDUs", f"{unseen:,} HDUs after HDU {MOST - 1:,} were not looked at one by one", TOO_MANY)
         end = last.end if last else 0
+        if self.rejected is None and end != self.size:
+            raise Undone("fz says nothing", f"fz does not reject the file, whose headers lead to byte {end:,} of {self.size:,}: is it the program fz?", "run fzbatch with the program fz (--fz, or FZ)")
         if self.rejected in UNDECODED and end > self.size:
             self.add("2 Truncated", f"HDU {last.number if last else 0}, the last one, is cut off: {counted(end - self.size)} missing", ANOTHER)
         elif self.rejected in UNDECODED and end < self.size:

@@ -177,9 +177,15 @@ def check_row(table: str, values: Sequence[Any]) -> None:
             raise Odd(f"a row of the table {table} has a value in {name} that fzbatch does not write")
 
 
+def _kinds(strict: bool) -> "list[tuple[str, str, str]]":
+    """What is in a manifest: the kind, the name, and the statement that made it."""
+    return [("index" if name == "not_well" else "table", name, made) for name, made in schema(strict).items()]
+
+
 def check_tables(sql: sqlite3.Connection) -> None:
     """Raises `Odd` if the database has anything else than these tables and the index."""
-    found = {name: made for name, made in sql.execute("SELECT name, sql FROM sqlite_master")}
-    if found not in (schema(True), schema(False)):
-        odd = sorted(names.told(str(it)) for it in set(found) ^ set(schema()))
+    found = [(kind, name, made) for kind, name, made in sql.execute("SELECT type, name, sql FROM sqlite_master")]
+    # a trigger may have the name of a table
+    if not any(sorted(map(str, found)) == sorted(map(str, _kinds(it))) for it in (True, False)):
+        odd = sorted({names.told(f"{kind} {name}") for kind, name, _ in {*found} ^ {*_kinds(STRICT)}})
         raise Odd(f"its tables are not those that fzbatch makes of an adopted folder{': ' + ', '.join(odd[:3]) if odd else ''}")

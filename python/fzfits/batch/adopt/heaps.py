@@ -4,7 +4,7 @@ from __future__ import annotations
 import os
 import zlib
 from dataclasses import dataclass
-from typing import Dict, Iterator, List, Optional, Tuple
+from typing import Callable, Dict, Iterator, List, Optional, Tuple
 
 from ...headers import Header
 from ...rows import FORM, MOST_COLUMNS, SIZES, columns_of
@@ -59,8 +59,11 @@ def descriptors(number: int, header: Header, found: "List[Column]", size: int) -
             return
 
 
-def fault_of(number: int, header: Header, here: "List[Tuple[Column, int, int]]", is_image: bool) -> str:
-    """What is wrong with the records of a row, as far as that shows without decoding; empty if nothing."""
+def fault_of(number: int, header: Header, here: "List[Tuple[Column, int, int]]", is_image: bool, check_time: "Callable[[], object]") -> str:
+    """What is wrong with the records of a row, as far as that shows without decoding; empty if nothing.
+
+    `check_time` raises if it takes too long: rows may share a record.
+    """
     heap = header.data + header.integer("THEAP", header.integer("NAXIS1") * header.integer("NAXIS2"))
     end = header.data + header.size
     if is_image and not here:
@@ -69,13 +72,13 @@ def fault_of(number: int, header: Header, here: "List[Tuple[Column, int, int]]",
         if length < 0 or at < heap or at + length > end:
             return f"its record ({column.name}) would be outside of the heap"
         if column.name == GZIP or column.codec.startswith("GZIP"):
-            said = gzip_fault(number, at, length)
+            said = gzip_fault(number, at, length, check_time)
             if said:
                 return f"its record ({column.name}) cannot be inflated: {said}"
     return ""
 
 
-def gzip_fault(number: int, at: int, length: int) -> str:
+def gzip_fault(number: int, at: int, length: int, check_time: "Callable[[], object]") -> str:
     """Why a gzip record cannot be inflated, or the empty text. Its CRC is compared too."""
     left, made = zlib.decompressobj(wbits=47), 0
     end = at + length
@@ -86,6 +89,7 @@ def gzip_fault(number: int, at: int, length: int) -> str:
                 return "the file ends before"
             at += len(piece)
             while piece:
+                check_time()
                 made += len(left.decompress(piece, PIECE))
                 piece = left.unconsumed_tail
                 if made > RATIO * length + PIECE:
@@ -95,11 +99,23 @@ def gzip_fault(number: int, at: int, length: int) -> str:
     return "" if left.eof else "it has no end"
 
 
-def after_the_end(number: int, header: Header, size: int) -> "Tuple[Optional[int], List[int]]":
-    """Of a table that is cut: the first row that is not there, and those before it whose record would end after the file does."""
-    lost, seen = [], 0
+def after_the_end(number: int, header: Header, size: int, many: int) -> "List[Tuple[int, int]]":
+    """Of a table of `many` rows that is cut: the spans of rows, first and last, that are not there or whose record would end after the file does."""
+    lost: "List[Tuple[int, int]]" = []
+    seen = 0
     for row, here in descriptors(number, header, columns(header), size):
+        if row >= many:
+            break
         seen = row + 1
         if any(at + length > size for _, length, at in here):
-            lost.append(row)
-    return (seen if seen < header.integer("NAXIS2") else None), lost
+            _add(lost, row, row)
+    if seen < many:
+        _add(lost, seen, many - 1)
+    return lost
+
+
+def _add(spans: "List[Tuple[int, int]]", first: int, last: int) -> None:
+    if spans and spans[-1][1] == first - 1:
+        spans[-1] = (spans[-1][0], last)
+    else:
+        spans.append((first, last))

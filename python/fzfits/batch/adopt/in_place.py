@@ -151,6 +151,7 @@ class InPlace:
                 if is_there(above, self.place.name):
                     self._same(above, wanted)
                     return
+                self.fz.check_growth(source, wanted.size)
                 try:
                     self._expect("unpack", source, max(now.size, wanted.size), out=self.part, above=above)
                     after = self._finished(above, wanted.mode & 0o777, wanted.mtime)
@@ -231,6 +232,7 @@ class InPlace:
 
     def _comes_back(self, number: int, before: files.Looked) -> None:
         """The packed file is right, and what comes back is the plain file, byte for byte."""
+        self.fz.check_growth(number, before.size)
         ended = self._expect("verify", number, before.size)
         again = self.room.name(before.size, b"again")
         try:

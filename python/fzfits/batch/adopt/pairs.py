@@ -55,6 +55,8 @@ class Pair:
         """Compares them."""
         if self.looked.sha256 == self.plain_looked.sha256:
             return self.made
+        self.fz.begin(max(self.looked.size, self.plain_looked.size))
+        self.fz.check_growth(self.packed, self.plain_looked.size)
         out = self.fz.room.name(self.plain_looked.size, b"again")
         try:
             ended = self.fz.run("unpack", self.packed, max(self.looked.size, self.plain_looked.size), out=out)

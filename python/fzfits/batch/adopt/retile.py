@@ -39,6 +39,7 @@ class Retiled(InPlace):
                     return
                 if before.sha256 != self.place.packed_sha256:
                     raise Undone("changed", "it is another file than the one that was adopted", "fzbatch adopt names what is wrong with it")
+                self.fz.check_growth(source)
                 self._expect("verify", source, before.size)
                 try:
                     self._expect("retile", source, before.size, *self.options, out=self.part, above=above)

@@ -102,9 +102,7 @@ class Run:
             if not writes:
                 self.count.notes.append(f"{names.shown(wanted.manifest)} cannot be written, so the manifest does not record this run.")
             return places.opened(wanted.manifest, wanted.folder, writes, wanted.moved)
-        copy = wanted.manifest + places.COPY
-        if files.there(copy):
-            copying.settle(copy)
+        copying.settle(wanted.manifest + places.COPY)
         places.check_new(wanted.manifest)
         return Store(wanted.manifest)
 

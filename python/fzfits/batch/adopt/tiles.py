@@ -11,9 +11,9 @@ from typing import List, Optional, Tuple
 
 from ...headers import Header
 from ...results import REFUSED
-from .. import advice, files
+from .. import advice, expansion, files
 from . import boxes
-from .calling import Fz
+from .calling import BESIDE, Fz
 from .rows import Finding
 
 # So many faulty rows of an image are named one by one.
@@ -36,8 +36,10 @@ class Tiles:
 class Image:
     """A packed image in a file that `fz` reads, as HDU `hdu` of it."""
 
-    def __init__(self, fz: Fz, path: bytes, hdu: int, header: Header):
+    def __init__(self, fz: Fz, path: bytes, hdu: int, header: Header, packed: int):
         self.fz, self.path, self.hdu, self.header = fz, path, hdu, header
+        # as many bytes as a box may have: no image that was packed has more for each byte of its file
+        self.most = expansion.believed(expansion.LONGEST, packed) + BESIDE
         self.axes, self.tile = header.axes, header.tile
         self.grid = boxes.grid_of(self.axes, self.tile)
         self.rows = math.prod(self.grid)
@@ -47,6 +49,9 @@ class Image:
         """Decodes the tiles from one row to another, both included, of each of these spans."""
         for first, last in spans:
             while first <= last:
+                if self._bytes(first, last) > self.most:
+                    self._rest(first, last, "which would be far longer than an image of this size")
+                    break
                 row, said = self._first_fault(first, last)
                 if row is None:
                     self.made.decoded += last - first + 1
@@ -55,9 +60,14 @@ class Image:
                 self._note(row, said)
                 first = row + 1
                 if self.made.faults >= NAMED:
-                    self._rest(first, last)
+                    self._rest(first, last, f"after {NAMED} faulty rows")
                     break
         return self.made
+
+    def _bytes(self, first: int, last: int) -> int:
+        """The bytes of the pixels of these tiles."""
+        pixels = sum(boxes.number_of(boxes.pixels(self.axes, self.tile, it)) for it in boxes.runs(self.grid, first, last))
+        return pixels * max(1, abs(self.header.integer("ZBITPIX")) // 8)
 
     def _first_fault(self, first: int, last: int) -> "Tuple[Optional[int], str]":
         for spans in boxes.runs(self.grid, first, last):
@@ -84,11 +94,11 @@ class Image:
         box = boxes.of_row(self.axes, self.tile, row)
         self.lose(f"{kind} {name}", row, boxes.text_of(box), boxes.number_of(box))
 
-    def _rest(self, first: int, last: int) -> None:
+    def _rest(self, first: int, last: int, why: str) -> None:
         if first > last:
             return
         lost = sum(boxes.number_of(boxes.pixels(self.axes, self.tile, it)) for it in boxes.runs(self.grid, first, last))
-        line = f"rows {first} to {last} were not tried, after {NAMED} faulty rows: up to {lost:,} pixels more are lost"
+        line = f"rows {first} to {last} were not tried, {why}: up to {lost:,} pixels more are lost"
         self.made.findings.append(Finding(CAUSE, line, LOST, self.header.number, self.header.name, first, "", lost))
 
     def lose(self, why: str, row: int, box: str, lost: int) -> None:

@@ -53,7 +53,7 @@ def entries(root: bytes, path: bytes, seen: Optional[Seen] = None, at: bytes = b
                     continue
                 name = entry.name
                 # most names are told by their end alone
-                if it.st_mode >> 12 == REGULAR and it.st_mtime_ns < LATEST and (name.endswith(names.SUFFIXES) or is_wanted(name)):
+                if it.st_mode >> 12 == REGULAR and -LATEST <= it.st_mtime_ns < LATEST and (name.endswith(names.SUFFIXES) or is_wanted(name)):
                     yield name, it.st_size, it.st_mtime_ns
                 else:
                     _other(seen, path, entry, it)
