@@ -124,7 +124,7 @@ class States(Adopted):
             "a row of the manifest is gone or changed": row("DELETE FROM files WHERE name = CAST('small.fits' AS BLOB)"),
             "the manifest is damaged": damaged,
             "the manifest is empty": lambda: self.manifest.write_bytes(b"") and None,
-            "the manifest is lost": lambda: lost(),
+            "the manifest is lost": lost,
             "the manifest and its second copy are lost": lambda: lost(".copy"),
             "the manifest, its second copy and its list are lost": lambda: lost(".copy", ".SHA256SUMS"),
             "a run was killed while it wrote the manifest": killed,

@@ -4,7 +4,7 @@ from __future__ import annotations
 import os
 import zlib
 from dataclasses import dataclass
-from typing import Callable, Dict, Iterator, List, Optional, Tuple
+from typing import Callable, Dict, Iterator, List, Tuple
 
 from ...headers import Header
 from ...rows import FORM, MOST_COLUMNS, SIZES, columns_of
