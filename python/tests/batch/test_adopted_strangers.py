@@ -81,7 +81,7 @@ class Rows(Strangers):
         self.put(EMPTY + cards_of(rows, 0, (1, rows), "RICE_1", 1))
         tracemalloc.start()
         try:
-            self.named("1000000000 tiles, from row 0 on, are after the end of the file: 1,000,000,000 pixels [1:1,1:1000000000] are lost", "adopt", self.night)
+            self.named("the file ends before 1,000,000,000 tiles (from row 0 on): 1,000,000,000 pixels [1:1,1:1000000000] are lost", "adopt", self.night)
             self.assertLess(tracemalloc.get_traced_memory()[1], 50 << 20)
         finally:
             tracemalloc.stop()
