@@ -219,6 +219,7 @@ class InPlace(Adopted):
         plain = self.room / "plain"
         shutil.copytree(self.night, plain)
         self.run_it("pack", "--beside", self.night, "--delete")
+        self.assertEqual(self.run_it("adopt", self.night)[0], 0)
         strange_faults.in_plain_data(plain / "a.fits", None)
         (plain / "n" / "b.fits").unlink()
         status, said = self.run_it("compare", plain, self.night)
@@ -231,7 +232,7 @@ class InPlace(Adopted):
         header[at + 80 : at + 83] = b"END"
         (plain / "a.fits").write_bytes(header)
         status, said = self.run_it("compare", plain, self.night, "--without-plain")
-        self.assertEqual((status, said.splitlines()[-1]), (0, "compare: 2 files, 2 well (1 alone, 1 pixels), 0 not well, 0 left out"))
+        self.assertEqual((status, said.splitlines()[-1]), (0, "compare: 3 files, 3 well (1 alone, 1 pixels, 1 same), 0 not well, 0 left out"))
 
 
 if __name__ == "__main__":
