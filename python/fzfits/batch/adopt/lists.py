@@ -131,8 +131,7 @@ def _part(path: bytes, rights: int, some: "List[Part]", store: Optional[Store] =
     try:
         for folder, seal, due in some:
             if not is_current(above, folder, seal):
-                _write(above, rights, store or _opened(path), folder, seal)
-                made.append(name_of(folder))
+                made += _write(above, rights, store or _opened(path), folder)
             elif due:
                 for _ in lines(store or _opened(path), folder):
                     pass
@@ -160,16 +159,21 @@ def is_current(above: int, folder: bytes, seal: str) -> bool:
         os.close(number)
 
 
-def _write(above: int, rights: int, store: Store, folder: bytes, seal: str) -> None:
+def _write(above: int, rights: int, store: Store, folder: bytes) -> "List[bytes]":
+    """Writes the list of a folder, as this very manifest has it, and gives its name; nothing if it has no such folder."""
+    held = store.folder(folder)
+    if held is None:
+        return []
+    seal = held.seal.encode()
     number = os.open(name_of(folder) + NEW, os.O_WRONLY | os.O_CREAT | os.O_EXCL | os.O_NOFOLLOW | os.O_CLOEXEC, 0o600, dir_fd=above)
     with os.fdopen(number, "wb") as to:
-        head = keep.HEAD + ROWS % (seal.encode(), 0)
-        to.write(head)
+        to.write(keep.HEAD + ROWS % (seal, 0))
         to.writelines(lines(store, folder))
         size = to.tell()
         to.seek(0)
-        to.write(keep.HEAD + ROWS % (seal.encode(), size))
+        to.write(keep.HEAD + ROWS % (seal, size))
         files.set_rights(number, rights)
+    return [name_of(folder)]
 
 
 def about(path: bytes) -> "Iterator[bytes]":

@@ -8,6 +8,7 @@ import time
 from typing import Dict, Iterator, List, Optional, Sequence
 
 from .. import files, inside, keep, lock, machine, names
+from ..opening import BadManifest
 from ..scan import folders_of
 from ..wanted import Refuse
 from . import copying, listing, lists
@@ -136,12 +137,20 @@ class Beside:
     def __init__(self, store: Store):
         self.store, self._next = store, time.monotonic() + PAUSE
 
-    def keep_now_and_then(self) -> None:
-        """Writes it, if that was not done for ten minutes or for twenty times as long as it took."""
+    def keep_now_and_then(self) -> str:
+        """Writes it, if that was not done for ten minutes or for twenty times as long as it took. Gives why the manifest cannot be used any more."""
         began = time.monotonic()
         if began < self._next or self.store.files < MANY:
-            return
-        # other threads are at work, so no process is begun
-        keep_beside(self.store, 1)
+            return ""
+        try:
+            # other threads are at work, so no process is begun
+            keep_beside(self.store, 1)
+        except BadManifest as error:
+            self.store.give_up()
+            return str(error)
+        except OSError:
+            # the end of the run tries it once more, and says if it is not possible
+            pass
         ended = time.monotonic()
         self._next = ended + max(PAUSE, 20 * (ended - began))
+        return ""

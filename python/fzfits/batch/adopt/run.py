@@ -172,22 +172,12 @@ class Run:
                     self.count.bytes += found.size
                     bar.step(found.size)
                     if writes:
-                        self._keep(beside)
+                        self.count.stopped = beside.keep_now_and_then() or self.count.stopped
             finally:
                 bar.close()
         self.count.untried = waiting.count - answered
         if self.count.untried and not self.count.stopped:
             self.count.stopped = "the engine ended before all files were read"
-
-    def _keep(self, beside: places.Beside) -> None:
-        try:
-            beside.keep_now_and_then()
-        except BadManifest as error:
-            self.store.give_up()
-            self.count.stopped = str(error)
-        except OSError:
-            # it is written once more at the end, which says if that is not possible
-            pass
 
     def _signalled(self, number: int) -> None:
         self.stop_signal = number
@@ -265,7 +255,7 @@ class Run:
         try:
             if self.number:
                 self.store.end(self.number, self.count.last_line())
-            if self.store.changed or places.is_stale(self.store.path):
+            if self.store.writes and (self.store.changed or places.is_stale(self.store.path)):
                 self.count.notes += places.keep_beside(self.store)
         except BadManifest as error:
             self.store.give_up()
