@@ -117,7 +117,9 @@ class Tally:
         yield from self.notes
         if self.packed_bytes:
             took = f", in {length(self.seconds)}" if self.seconds else ""
-            yield f"{amount(self.plain_bytes)} became {amount(self.packed_bytes)}, {self.plain_bytes / self.packed_bytes:.2f} to 1{took}."
+            plain, packed = amount(self.plain_bytes), amount(self.packed_bytes)
+            sizes = f"{plain} became {packed}" if self.verb == "pack" else f"Plain files {plain}, packed files {packed}"
+            yield f"{sizes}, {self.plain_bytes / self.packed_bytes:.2f} to 1{took}."
         if self.stopped:
             yield f"Stopped: {self.stopped}. Started again, fzbatch goes on from here."
 
