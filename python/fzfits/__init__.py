@@ -10,8 +10,9 @@
     (100, 1024)
     >>> fzfits.write("packed/b.fits.fz", array, header={"OBJECT": "M 31"})        # doctest: +SKIP
 
-Every packed or restored byte is made by the program; this package finds it (`fzfits.program`), calls it, and turns what it prints into results (`Hdu`, `Verdict`, `Report`, `Made`) and errors (`FzError` and
-its subclasses) that say what to do. It needs nothing but Python; `section` gives arrays and HDUs if numpy and astropy are installed.
+Every packed or restored byte is made by the program; this package finds it (`fzfits.program`), calls it, and turns what it prints into
+results (`Hdu`, `Verdict`, `Report`, `Made`) and errors (`FzError` and its subclasses) that say what to do. `open` and `fzfits.codec` decode
+in this process, by libfz. It needs nothing but Python; arrays need numpy, and HDUs of `section` astropy.
 """
 from .checks import Checked, check
 from .commands import cut, drill, list, pack, retile, unpack, verify  # noqa: F401  # pylint: disable=redefined-builtin
