@@ -82,7 +82,6 @@ def readers(path, fitsio, fits):
         print("left out: the program fz is not there")
 
 
-
 def milliseconds(read, places):
     """What a section costs."""
     begin, children = time.process_time(), os.times()
