@@ -23,7 +23,7 @@ STYLE = """
 @media (prefers-color-scheme: dark) { :root { --good: #5fd0a5; --bad: #ff8a80; } }
 body { font: 15px/1.5 system-ui, sans-serif; max-width: 64em; margin: 1.5em auto; padding: 0 1em; }
 h1 { font-size: 1.5em; margin: 0; overflow-wrap: anywhere; } h2 { font-size: 1.15em; margin: 2em 0 .4em; border-bottom: 1px solid var(--line); }
-h3 { font-size: 1em; margin: 1.2em 0 0; overflow-wrap: anywhere; } p { margin: .4em 0; } .note { opacity: .75; }
+h3 { font-size: 1em; margin: 1.2em 0 0; overflow-wrap: anywhere; } p { margin: .4em 0; } p, li, details td { overflow-wrap: anywhere; } .note { opacity: .75; }
 .verdict { font-size: 1.35em; font-weight: 600; margin: .6em 0 .2em; } .option { white-space: nowrap; } .good { color: var(--good); } .bad { color: var(--bad); }
 table { border-collapse: collapse; } .wide .n, .wide td:first-child { white-space: nowrap; } td, th { padding: .15em 1em .15em 0; text-align: left; vertical-align: top; }
 .n { text-align: right; font-variant-numeric: tabular-nums; } code { font-size: .92em; overflow-wrap: anywhere; }

@@ -58,7 +58,7 @@ def bars(name: str, rows: Sequence[Tuple[str, float, str]]) -> str:
         for it in axes.spines.values():
             it.set_visible(False)
 
-    return _chart(name, 0.35 + (0.09 + 0.18 * lines) * len(rows), draw) if rows else ""
+    return _chart(name, 0.3 + (0.1 + 0.15 * lines) * len(rows), draw) if rows else ""
 
 
 def ratios(name: str, values: Sequence[float], label: str) -> str:

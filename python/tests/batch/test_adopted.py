@@ -209,7 +209,7 @@ class Finds(Adopted):
             environment = {**os.environ, "FZ": FZ, "SLURM_ARRAY_TASK_ID": str(task), "SLURM_CPUS_PER_TASK": "2", "SLURM_MEM_PER_CPU": "200"}
             subprocess.run(["bash", "-c", line], env=environment, check=True, capture_output=True)
         status, said = self.run_it("status", self.night, "--manifest", manifests)
-        self.assertEqual((status, [it.split(",")[0] for it in said.splitlines() if it.startswith("status")]), (0, ["status: 1 files", "status: 1 files"]))
+        self.assertEqual((status, [it.split(",")[0] for it in said.splitlines() if it.startswith("status")]), (0, ["status: 1 file", "status: 1 file"]))
         self.assertEqual(self.run_it("missing", self.night, "--manifest", manifests), (0, ""))
         shutil.move(self.room / "small.fits", self.night)
         self.assertEqual(self.run_it("missing", self.night, "--manifest", manifests), (1, ".: 1 files are in no manifest that was named\n"))
@@ -232,7 +232,7 @@ class Finds(Adopted):
         page = self.room / "page.html"
         self.assertEqual(self.run_it("report", self.night, "-o", page)[0], 1)
         text = page.read_text(encoding="utf-8")
-        self.assertIn("1 of 4 files are not well", text)
+        self.assertIn("Files that are not well by the manifest: 1 of 4.", text)
         self.assertIn("CHECKSUM is not that of its bytes", text)
 
 

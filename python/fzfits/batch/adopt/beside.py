@@ -17,6 +17,7 @@ from dataclasses import dataclass, field
 from typing import Iterator, List, Optional, TextIO
 
 from ... import program
+from ...advice import counted
 from .. import before, calls, files, lock, machine, names, rooms
 from ..logged import Log
 from ..manifest import BadManifest
@@ -155,7 +156,7 @@ class Beside:
                 number += 1
                 yield Place(folder, row.name[: -len(names.PACKED)], number, row.sha256.hex(), row.plain)
         if others:
-            self.count.notes.append(f"{others:,} packed files were not made by fzbatch pack --beside, and were left alone: fz unpack restores one of them, and whether it is byte for byte what was packed is not known.")
+            self.count.notes.append(f"{counted(others, 'packed file')} not made by fzbatch pack --beside: left as they are. fz unpack restores such a file, and whether it is byte for byte what was packed is not known.")
         if not number:
             raise Refuse(f"the manifest of {names.shown(self.wanted.folder)} has no file that fzbatch pack --beside made")
 
@@ -255,9 +256,9 @@ class Beside:
 
     def _end(self) -> None:
         if self.packed_bytes:
-            self.count.notes.append(f"{self.plain_bytes:,} plain and {self.packed_bytes:,} packed bytes: {self.plain_bytes / self.packed_bytes:.2f} to 1; {self.removed:,} files were removed, whose other file was compared with them.")
+            self.count.notes.append(f"{self.plain_bytes:,} plain and {self.packed_bytes:,} packed bytes: {self.plain_bytes / self.packed_bytes:.2f} to 1; {counted(self.removed, 'file')} removed, after a comparison with the other one.")
         if self.count.outcomes["plain"]:
-            self.count.notes.append(f"{self.count.outcomes['plain']:,} files have no image of integers, and stay as they are.")
+            self.count.notes.append(f"{counted(self.count.outcomes['plain'], 'file')} without an image of integers: left as they are.")
         try:
             self.store.end(self.number, self.count.last_line())
             self.count.notes += places.keep_beside(self.store)

@@ -96,7 +96,8 @@ class Count:
     def last_line(self) -> str:
         """The counts, in one form for all commands."""
         kinds = ", ".join(f"{count} {outcome}" for outcome, count in sorted(self.outcomes.items()))
-        line = f"{self.verb}: {self.done + self.bad + self.untried} files, {self.done} well{f' ({kinds})' if kinds else ''}"
+        many = self.done + self.bad + self.untried
+        line = f"{self.verb}: {many} {'file' if many == 1 else 'files'}, {self.done} well{f' ({kinds})' if kinds else ''}"
         line += f", {self.bad} not well, {len(self.left)} left out"
         return line + (f", {self.untried} not tried" if self.untried else "")
 

@@ -15,6 +15,7 @@ from dataclasses import dataclass, field
 from typing import Iterator, List, Optional, TextIO
 
 from ... import program
+from ...advice import counted
 from .. import calls, files, lock, machine, names, rooms
 from ..logged import Log
 from ..manifest import BadManifest
@@ -119,7 +120,7 @@ class Run:
                 self._gone(waiting, writes)
             self._known(waiting)
             if waiting.same and self.wanted.verb == "adopt":
-                self.count.notes.append(f"{waiting.same:,} files look as they did, and were not read again: fzbatch verify reads all, and fzbatch adopt --reread DAYS those that were not read for so long.")
+                self.count.notes.append(f"{counted(waiting.same, 'file')} with the same length and time as before, not read again: fzbatch verify reads all, and fzbatch adopt --reread DAYS those that were not read for so long.")
             if writes:
                 self._end()
         finally:
