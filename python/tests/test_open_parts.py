@@ -188,6 +188,26 @@ class Parts(InAFolder):
                         refused += isinstance(found, tuple)
         self.assertGreater(refused, 20)
 
+    def test_a_tile_is_refused_for_pixels_that_are_not_wanted(self):
+        fits.PrimaryHDU(sky(random.Random(6), "i2", (3, 3000))).writeto("plain.fits")
+        fzfits.pack("plain.fits", "packed.fits")
+        whole = Path("packed.fits").read_bytes()
+        Path("damaged.fits").write_bytes(self.damaged_at_its_end(whole))
+        image = fzfits.open("damaged.fits").first
+        for _ in range(3):
+            self.assertTrue(np.array_equal(image.section[0, :50], fits.getdata("plain.fits")[0, :50]))
+            with self.assertRaises(errors.Refused) as caught:
+                image.section[:, :50]
+            self.assertEqual((caught.exception.kind, caught.exception.place.number), ("CodeShort", 2))
+        self.assertEqual(by_cut("damaged.fits", 1, np.s_[:, :50], (3000, 3))[0], "CodeShort")
+
+    def damaged_at_its_end(self, file):
+        """The file with a count of the last row's descriptor that is less by 40 bytes."""
+        hdu = next(it for it in hdus_of(file) if it.is_packed())
+        at = hdu.start + len(hdu.header) + 2 * hdu.integer("NAXIS1")
+        count = int.from_bytes(file[at : at + 4], "big") - 40
+        return file[:at] + count.to_bytes(4, "big") + file[at + 4 :]
+
     def part_for(self, rng):
         """The axes of the damaged image and a part of it; if it cannot be opened, the first pixel of two axes."""
         try:

@@ -30,7 +30,10 @@ class Need(NamedTuple):
 
 
 class Blocks:
-    """The tiles of a part, by their numbers, axis 1 fastest, with so many pixels each. `together` of them are decoded, and then `put`."""
+    """The tiles of a part, by their numbers, axis 1 fastest, with so many pixels each.
+
+    `wanted` says how many of the first pixels have all that are wanted. `together` of the tiles are decoded, and then `put`.
+    """
 
     together = 1
 
@@ -38,6 +41,7 @@ class Blocks:
         self.needs = needs(pieces, lengths, tile)
         self.tiles = [it.tile for it in self.needs]
         self.pixels = [it.pixels for it in self.needs]
+        self.wanted = [wanted_of(it) for it in self.needs]
 
     def put(self, begin: int, count: int, numbers: Any, out: Any) -> None:
         """Puts the pixels of a tile into the array; `numbers` has them at its front."""
@@ -56,11 +60,12 @@ class Lines:
         self.tiles, self.width = tiles, lengths[0]
         self.pixels = [self.width] * len(tiles)
         self.together = max(1, MOST_TOGETHER // self.width)
-        self.wanted = slice(pieces[0].first - 1, pieces[0].last, pieces[0].step)
+        self.wanted = [pieces[0].last] * len(tiles)
+        self.columns = slice(pieces[0].first - 1, pieces[0].last, pieces[0].step)
 
     def put(self, begin: int, count: int, numbers: Any, out: Any) -> None:
         """Puts the pixels of so many lines into the array; `numbers` has them one after another at its front."""
-        lines = numbers[: count * self.width].reshape(count, self.width)[:, self.wanted]
+        lines = numbers[: count * self.width].reshape(count, self.width)[:, self.columns]
         out.reshape(-1, out.shape[-1])[begin : begin + count] = lines
 
 
@@ -68,6 +73,14 @@ def part_of(pieces: Sequence[Piece], lengths: Sequence[int], tile: Sequence[int]
     """The tiles of a part."""
     is_lines = tile[0] == lengths[0] and all(it == 1 for it in tile[1:])
     return Lines(pieces, lengths) if is_lines else Blocks(pieces, lengths, tile)
+
+
+def wanted_of(need: Need) -> int:
+    """How many of the first pixels of a tile have all that are wanted."""
+    last = 0
+    for length, it in zip(need.shape, need.wanted):
+        last = last * length + it.stop - 1
+    return last + 1
 
 
 def along(piece: Piece, axis: int, tile: int) -> List[Along]:

@@ -7,6 +7,7 @@ from typing import Any, Iterator, List, NamedTuple, Optional, Sequence, Tuple, U
 
 from ..arrays import numpy
 from ..boxes import Piece
+from .beginnings import beginner
 from .faults import Fault
 from .grid import Blocks, Lines, part_of
 from .layer import Layer
@@ -62,6 +63,7 @@ class Tiles:
         self.source, self.layer, self.plan = source, layer, plan
         self.places = 2 if plan.bitpix == 64 else 1
         self.table: Optional[bytes] = None
+        self.seen = bytearray(plan.rows if plan.rows <= MOST_KEPT else 0)
 
     def rows(self, first: int, last: int) -> Tuple[bytes, int]:
         """The rows of these tiles, and the number of the first one that is there. A short table is kept."""
@@ -119,15 +121,23 @@ class Tiles:
             ROOMS.give("numbers", numbers)
 
     def placed(self, part: Union[Blocks, Lines], records: Sequence[Record], group: Group, address: int, room: Tuple[Any, int], out: Any) -> None:
-        """Decodes the tiles of a group, whose bytes are at this address, some together, and puts their pixels into the array."""
+        """Decodes the tiles of a group, whose bytes are at this address, some together, and puts their pixels into the array.
+
+        A tile is decoded whole the first time, since whether it is refused depends on all of it, and then as far as it is wanted.
+        """
         numbers, width = room[0], self.plan.most * self.places
-        decode = self.layer.decoder(self.plan, address - group.start)
+        decode, begins = self.layer.decoder(self.plan, address - group.start), beginner(self.plan, address - group.start)
+        seen, block = self.seen, self.plan.block
         for begin in range(group.begin, group.end, part.together):
             end, at = min(begin + part.together, group.end), room[1]
-            for tile, pixels, record in zip(part.tiles[begin:end], part.pixels[begin:end], records[begin:end]):
-                answer = decode(tile, record, at, pixels * self.places)
-                if answer:
-                    raise Fault(-answer, "row", tile)
+            for tile, pixels, wanted, record in zip(part.tiles[begin:end], part.pixels[begin:end], part.wanted[begin:end], records[begin:end]):
+                first = -(-wanted // block) * block if begins and seen and seen[tile] else pixels
+                if first >= pixels or not begins(record, at, first):  # type: ignore[misc]
+                    answer = decode(tile, record, at, pixels * self.places)
+                    if answer:
+                        raise Fault(-answer, "row", tile)
+                    if seen:
+                        seen[tile] = 1
                 at += 4 * width
             part.put(begin, end - begin, numbers if self.places == 1 else joined(numbers), out)
 
