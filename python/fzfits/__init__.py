@@ -14,19 +14,24 @@ Every packed or restored byte is made by the program; this package finds it (`fz
 results (`Hdu`, `Verdict`, `Report`, `Made`) and errors (`FzError` and its subclasses) that say what to do. `open` and `fzfits.codec` decode
 in this process, by libfz. It needs nothing but Python; arrays need numpy, and HDUs of `section` astropy.
 """
+from importlib import import_module
+from typing import TYPE_CHECKING, Any
+
 from .checks import Checked, check
 from .commands import cut, drill, list, pack, retile, unpack, verify  # noqa: F401  # pylint: disable=redefined-builtin
 from .contents import Content, contents
 from .errors import FzError, Killed, NoMemory, NoProgram, NoSuchHdu, OverLimit, ReadFault, Refused, Unexpected, Usage, WriteFault
 from .mend import Change, Mended, mend
-from .opening import File, Image, open  # pylint: disable=redefined-builtin
 from .plan import Try, plan
 from .readers import Readable, readable, stored_tiles
-from .references import references
 from .results import Drill, Hdu, Made, Place, Report, Verdict
 from .section import cutout, section, section_cfitsio
 from .version import VERSION
 from .writing import patch, write
+
+if TYPE_CHECKING:
+    from .opening import File, Image, open  # pylint: disable=redefined-builtin
+    from .reference import references
 
 __version__ = VERSION
 
@@ -36,3 +41,13 @@ __all__ = [
     "ReadFault", "Readable", "Refused", "Report", "Try", "Unexpected", "Usage", "Verdict", "WriteFault", "check", "contents", "cut", "cutout", "drill",
     "mend", "pack", "patch", "plan", "readable", "references", "retile", "section", "section_cfitsio", "stored_tiles", "unpack", "verify", "write",
 ]
+
+# What is imported when it is first used: the commands need nothing of it, and start without it.
+LATER = {"File": ".opening", "Image": ".opening", "open": ".opening", "references": ".reference"}
+
+
+def __getattr__(name: str) -> Any:
+    if name not in LATER:
+        raise AttributeError(f"module {__name__!r} has no attribute {name!r}")
+    found = globals()[name] = getattr(import_module(LATER[name], __name__), name)
+    return found
