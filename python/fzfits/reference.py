@@ -88,7 +88,7 @@ def chunks_of(image: Image, pixels: Packed, url: str) -> Iterator[Tuple[str, Any
     anew = 0
     for need, (start, total, read, column, _) in zip(tiles, records):
         place = tuple(into.start // length for into, length in zip(need.into, image.chunks))
-        if need.shape == image.chunks and column == 0 and read == total:
+        if need.shape == image.chunks and (column == 0 or pixels.plan.codec == PLAIN) and read == total:
             yield ".".join(map(str, place)), [url, start, total]
             continue
         anew += need.pixels * pixels.bitpix // 8

@@ -51,6 +51,7 @@ class Wheel(InAFolder):
         self.assertEqual(files["fzfits/REFUSALS.md"], (TOP / "docs" / "REFUSALS.md").read_bytes())
         self.assertEqual(files[f"{stem}/LICENSE"], (TOP / "LICENSE").read_bytes())
         self.assertIn(b"fzbatch = fzfits.batch.__main__:main", files[f"{stem}/entry_points.txt"])
+        self.assertIn(b"[xarray.backends]\nfz = fzfits.xarray:FzBackend", files[f"{stem}/entry_points.txt"])
         self.assertIn(b"Requires-Python: >=3.9\n", files[f"{stem}/METADATA"])
         self.assertNotRegex(files[f"{stem}/METADATA"].decode(), r"(?m)^Requires-Dist: (?!.*extra ==)")
         modules = {str(it.relative_to(TOP / "python")) for it in (TOP / "python" / "fzfits").rglob("*.py")}
