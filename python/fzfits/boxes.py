@@ -7,15 +7,13 @@ from __future__ import annotations
 
 import operator
 import re
-from dataclasses import dataclass, replace
-from typing import Sequence, Tuple
+from typing import NamedTuple, Sequence, Tuple
 
 PIECE = re.compile(r"\s*(?:(?P<low>\d+)\s*:\s*(?P<high>\d+)|(?P<back>-?)\s*\*)\s*(?::\s*(?P<step>\d+))?\s*")
 SECTION = re.compile(r"(?P<path>.*?)(?:\[(?P<first>[^\[\]]*)\])?(?:\[(?P<second>[^\[\]]*)\])?", re.DOTALL)
 
 
-@dataclass(frozen=True)
-class Piece:
+class Piece(NamedTuple):
     """What is wanted of one axis: pixels from `first` to `last`, counted from 1, in steps.
 
     `back` asks for them in reverse order, and `drop` for an array without this axis. `count` pixels are wanted, which may be none.
@@ -91,7 +89,7 @@ def of_cfitsio(text: str, axes: Sequence[int]) -> Tuple[Piece, ...]:
         back = bool(found["back"]) or bool(found["low"]) and int(found["low"]) > int(found["high"])
         # In reverse order cfitsio (4.2.0 and 4.6.2) counts the steps of axis 1 from its lower end, and the others from their upper end.
         forwards = piece_of(range(low - 1, high, step))
-        pieces.append(forwards if not back else replace(forwards, back=True) if at == 0 else piece_of(range(high - 1, low - 2, -step)))
+        pieces.append(forwards if not back else forwards._replace(back=True) if at == 0 else piece_of(range(high - 1, low - 2, -step)))
     return tuple(pieces)
 
 

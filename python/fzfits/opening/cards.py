@@ -5,6 +5,7 @@
 from __future__ import annotations
 
 import re
+from functools import lru_cache
 from typing import Dict, Iterator, Optional
 
 CARD = 80
@@ -15,6 +16,7 @@ BLANK = re.compile(rb" *(?:/.*)?", re.DOTALL)
 ZERO = re.compile(rb" *[+-]?(?:0+\.?0*|\.0+)(?:[ED][+-]?[0-9]+)? *(?:/.*)?", re.DOTALL)
 
 
+@lru_cache(maxsize=1 << 13)
 def keyword(name: str, number: Optional[int] = None) -> bytes:
     """The first 8 bytes of a card with this name, such as those of NAXIS1."""
     return f"{name}{'' if number is None else number}".encode("ascii").ljust(8)

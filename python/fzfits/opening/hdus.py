@@ -3,7 +3,7 @@ from __future__ import annotations
 
 import math
 from functools import cached_property
-from typing import TYPE_CHECKING, Any, Optional, Tuple
+from typing import TYPE_CHECKING, Any, Optional, Sequence, Tuple
 
 from .. import arrays, boxes
 from ..contents import content_of
@@ -104,6 +104,12 @@ class Section:
         return self.image.read(key)
 
 
+def turned(out: Any, pieces: Sequence[boxes.Piece]) -> Any:
+    """The array with axes reversed, and without those that a whole number was asked of."""
+    index = tuple(0 if it.drop else slice(None, None, -1 if it.back else 1) for it in pieces[::-1])
+    return arrays.numpy().array(out[index], order="C")
+
+
 class Scaled:
     """Those values of a header that say what the numbers stand for, as `fzfits.arrays` asks for them."""
 
@@ -188,8 +194,7 @@ class Image(Hdu):
                 self.pixels.read(pieces, out, self.file.workers if workers is None else workers)
             except Fault as fault:
                 raise self.at_row(fault) from None
-        index = tuple(0 if it.drop else slice(None, None, -1 if it.back else 1) for it in pieces[::-1])
-        found = np.array(out[index], order="C") if any(it.back or it.drop for it in pieces) else out
+        found = turned(out, pieces) if any([it.back or it.drop for it in pieces]) else out
         if not (self.raw if raw is None else raw):
             found = arrays.physical(found, self.scaling)
         return found if found.ndim else found[()]

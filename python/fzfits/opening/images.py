@@ -58,9 +58,9 @@ def tiles_of(lengths: Tuple[int, ...], tile: Tuple[int, ...]) -> int:
 
 def check_scaling(cards: Cards, fields: int) -> None:
     """No pixels were scaled or masked."""
-    for it, name in enumerate(cards.names()):
-        if name in (b"ZSCALE  ", b"ZZERO   ") or name.startswith(b"TTYPE") and names_scaling(cards, it, name, fields):
-            raise at_card(Kind.Quantised, it)
+    found = [it for name, it in cards.first.items() if name in (b"ZSCALE  ", b"ZZERO   ") or name[:5] == b"TTYPE" and names_scaling(cards, it, name, fields)]
+    if found:
+        raise at_card(Kind.Quantised, min(found))
 
 
 def names_scaling(cards: Cards, index: int, name: bytes, fields: int) -> bool:
@@ -156,7 +156,7 @@ def parameters_of(cards: Cards) -> Tuple[int, int]:
 
 def parameter(cards: Cards, name: bytes) -> Optional[int]:
     """The index of the card that has the value of a parameter, ZVALi for the least i with this ZNAMEi; None if there is no such parameter."""
-    found = ((PARAMETER_NAME.fullmatch(it), index) for index, it in enumerate(cards.names()) if it.startswith(b"ZNAME"))
+    found = ((PARAMETER_NAME.fullmatch(it), index) for it, index in cards.first.items() if it[:5] == b"ZNAME")
     numbers = [(int(it[1]), index) for it, index in found if it and cards.text(index) == name]
     if not numbers:
         return None

@@ -2,7 +2,6 @@
 from __future__ import annotations
 
 import re
-from collections import Counter
 from typing import Dict, NamedTuple, Optional
 
 from .cards import Cards
@@ -41,9 +40,7 @@ class Table(NamedTuple):
 
 def check_cards(cards: Cards) -> None:
     """A packed header says nothing twice; ZSIMPLE and ZTENSION are one name."""
-    counts = Counter(cards.names())
-    counts[b"ZSIMPLE "] += counts.pop(b"ZTENSION", 0)
-    if not any(many > 1 and ONCE.fullmatch(name) for name, many in counts.items()):
+    if len(cards.first) == cards.count and not (b"ZSIMPLE " in cards.first and b"ZTENSION" in cards.first):
         return
     seen = set()
     for it, name in enumerate(cards.names()):
