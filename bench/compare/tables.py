@@ -7,18 +7,19 @@ READ = ("right", "error", "wrong", "crashed")
 
 
 def of(systems, date, short, speed, returned, damaged, readers):
-    """All tables by their names. A system's C tools are named by their version."""
+    """The tables of the parts that are given, by their names; the summary is of all. A system's C tools are named by their version."""
     says = versions(systems, date, short)
     titles = {it.name: f"cfitsio {it.versions.get('cfitsio', '')} ({it.name})" for it in systems}
-    returned, damaged = ({titles.get(name, name): it for name, it in made.items()} for made in (returned, damaged))
-    speed = [(title, {titles.get(name, name): it for name, it in sizes.items()}, {job: {titles.get(name, name): it for name, it in ended.items()} for job, ended in jobs.items()}) for title, sizes, jobs in speed]
-    return {
-        "summary": summary(speed, returned, damaged, says),
-        "speed": f"{speeds(speed)}\n\n{says}",
-        "returned": counted("packer", returned, OUTCOMES, ("come back byte for byte", "rejected", "come back changed, status 0", "crashed")),
-        "damaged": counted("unpacker", damaged, DAMAGED, DAMAGED),
-        "readers": f"{counted('reader', readers, READ, ('reads right', 'fails', 'other pixels, no error', 'crashes'))}\n\n{says}",
+    returned, damaged = (made and {titles.get(name, name): it for name, it in made.items()} for made in (returned, damaged))
+    speed = speed and [(title, {titles.get(name, name): it for name, it in sizes.items()}, {job: {titles.get(name, name): it for name, it in ended.items()} for job, ended in jobs.items()}) for title, sizes, jobs in speed]
+    made = {
+        "summary": speed and returned and damaged and readers and summary(speed, returned, damaged, says),
+        "speed": speed and f"{speeds(speed)}\n\n{says}",
+        "returned": returned and counted("packer", returned, OUTCOMES, ("come back byte for byte", "rejected", "come back changed, status 0", "crashed")),
+        "damaged": damaged and counted("unpacker", damaged, DAMAGED, DAMAGED),
+        "readers": readers and f"{counted('reader', readers, READ, ('reads right', 'fails', 'other pixels, no error', 'crashes'))}\n\n{says}",
     }
+    return {name: it for name, it in made.items() if it}
 
 
 def versions(systems, date, short):
