@@ -79,12 +79,16 @@ def main():
     arguments.add_argument("--workers", type=int, default=2)
     arguments.add_argument("--nbytes", type=int, default=1 << 20)
     arguments.add_argument("--no-bar", action="store_true")
+    arguments.add_argument("--by", choices=("fzfits.open", "astropy"), help="only this one")
     given = arguments.parse_args()
     given.folder.mkdir(parents=True, exist_ok=True)
     paths = night(given.folder, given.images, given.side)
     wanted = sum(fzfits.open(it).first[...].astype("f8") for it in paths) / len(paths)
     with LocalCluster(n_workers=given.workers, threads_per_worker=1, processes=True, dashboard_address=None) as cluster, Client(cluster) as client:
-        for name, lazy in (("fzfits.open", by_open(paths, given.nbytes)), ("astropy", by_astropy(paths, given.side))):
+        ways = {"fzfits.open": by_open(paths, given.nbytes), "astropy": by_astropy(paths, given.side)}
+        for name, lazy in ways.items():
+            if given.by not in (None, name):
+                continue
             found, clock, processors = timed(client, lazy, not given.no_bar)
             print(f"{name:12} {clock:6.2f} s on the clock, {processors:6.2f} s of processors, {len(lazy.__dask_graph__())} tasks, the same mean: {np.allclose(found, wanted, rtol=1e-12)}")
     print(f"{given.images} images of {given.side} x {given.side}, {given.workers} workers, load {os.getloadavg()[0]:.0f}")
