@@ -96,7 +96,10 @@ class ManyFiles(Adopted):
 
     def setUp(self) -> None:
         super().setUp()
-        (self.night / "n" / "plain.fits").write_bytes((SAMPLES / "small.fits").read_bytes())
+        plain = self.night / "n" / "plain.fits"
+        plain.write_bytes((SAMPLES / "small.fits").read_bytes())
+        # so long ago that the next run need not read it again
+        os.utime(plain, (1_500_000_100, 1_500_000_100))
         for each, name, value in ((places, "MANY", 1), (lists, "AT_ONCE", 1), (lists, "TURNS", 1)):
             patch = unittest.mock.patch.object(each, name, value)
             patch.start()
