@@ -10,7 +10,8 @@ from typing import Optional
 from urllib.parse import quote
 
 from . import checks, inside, names
-from .manifest import SCHEMAS, BadManifest, Manifest
+from .layout import SCHEMAS
+from .manifest import BadManifest, Manifest
 
 # A file with more runs is none that fzbatch wrote in this life of a disk.
 MOST = 1_000_000
