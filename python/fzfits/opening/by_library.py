@@ -96,10 +96,10 @@ class ByLibrary:
         """The plan of the packed image of an HDU."""
         found = FzPlan()
         self.told(self.of_plan, front, at, found)
-        columns = (arrays_of(it) for it in (found.coded, found.stored, found.gzip))
+        coded, stored, gzip = (arrays_of(it) for it in (found.coded, found.stored, found.gzip))
         lengths, tile = tuple(found.lengths[: found.axes]), tuple(found.tile[: found.axes])
         where = found.rows_at, found.heap_at, found.heap_len, found.row_bytes, found.rows
-        return Plan(*where, *columns, found.codec, found.block, found.bytepix, found.bitpix, lengths, tile, bool(found.primary), found)  # type: ignore[arg-type]
+        return Plan(*where, coded, stored, gzip, found.codec, found.block, found.bytepix, found.bitpix, lengths, tile, bool(found.primary), found)
 
     def told(self, call: Any, front: bytes, at: At, found: Any) -> None:
         """Calls, and raises the fault that the call tells."""
@@ -111,7 +111,8 @@ class ByLibrary:
 
     def records(self, plan: Plan, tiles: Sequence[int], pixels: Sequence[int], rows: bytes, first: int) -> Tuple[List[Record], Optional[Fault]]:
         """Where the bytes of these tiles are."""
-        call, own, width, found = self.row, plan.own, plan.row_bytes, []
+        call, own, width = self.row, plan.own, plan.row_bytes
+        found: List[Record] = []
         for tile in tiles:
             at, record = (tile - first) * width, FzRecord()
             answer = call(own, tile, rows[at : at + width], width, record)

@@ -34,9 +34,9 @@ class ByPython:
 
     def decoder(self, plan: Plan, base: int) -> Decoder:
         """What decodes tiles."""
-        call = self.call
-        if call is None:
-            self.call = call = load().fz_decode_tile
+        if self.call is None:
+            self.call = load().fz_decode_tile
+        call: Any = self.call
         codec, block, bytepix, bitpix = plan.codec, plan.block, plan.bytepix, plan.bitpix
 
         def decode(_: int, record: Record, numbers: int, places: int) -> int:

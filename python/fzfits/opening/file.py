@@ -123,7 +123,7 @@ class File(Mapping):  # type: ignore[type-arg]
     def first(self) -> Image:
         """The first packed image, or else the first plain one. Raises why there is none."""
         others = [it for it in self.values() if it.said.is_packed or isinstance(it, Image)]
-        found = next((it for it in others if it.said.is_packed), others[0] if others else None)
+        found: Union[Image, Unread, None] = next((it for it in others if it.said.is_packed), others[0] if others else None)
         if found is None:
             raise self.refused or refused(Fault(Kind.NotPacked, "byte", self.source.length), len(self), self.name)
         if isinstance(found, Unread):

@@ -46,9 +46,9 @@ def plan_of(cards: Cards, said: Said, at: At) -> Plan:
 
 def made(said: Said, table: Table, codec: int, parameters: Tuple[int, int], bitpix: int, lengths: Tuple[int, ...], tile: Tuple[int, ...], primary: bool) -> Plan:
     """The plan, of what was checked."""
-    columns = (table.columns.get(it) for it in (b"COMPRESSED_DATA", b"UNCOMPRESSED_DATA", b"GZIP_COMPRESSED_DATA"))
+    coded, stored, gzip = (table.columns.get(it) for it in (b"COMPRESSED_DATA", b"UNCOMPRESSED_DATA", b"GZIP_COMPRESSED_DATA"))
     where = said.data_at, said.data_at + table.heap, said.data_len - table.heap, said.lengths[0], said.lengths[1]
-    return Plan(*where, *columns, codec, *parameters, bitpix, lengths, tile, primary)  # type: ignore[arg-type]
+    return Plan(*where, coded, stored, gzip, codec, *parameters, bitpix, lengths, tile, primary)
 
 
 def tiles_of(lengths: Tuple[int, ...], tile: Tuple[int, ...]) -> int:

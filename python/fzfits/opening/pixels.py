@@ -1,7 +1,7 @@
 """The pixels of an image, packed or plain: parts of them, forwards, as the numbers that the file stores."""
 from __future__ import annotations
 
-from typing import Any, Sequence, Tuple
+from typing import Any, List, Sequence, Tuple
 
 from .. import arrays, plain
 from ..boxes import Piece
@@ -55,7 +55,8 @@ class Cursor:
 
 def tile_of(lengths: Sequence[int], size: int) -> Tuple[int, ...]:
     """Whole lines of about `PIECE` bytes, axis 1 first."""
-    found, left = [], PIECE // size
+    found: List[int] = []
+    left = PIECE // size
     for it in lengths:
         found.append(it if len(found) == 0 else max(1, min(it, left)))
         left //= it

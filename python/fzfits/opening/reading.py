@@ -27,7 +27,7 @@ class Group(NamedTuple):
     """Records that are read at once: the byte at which they begin, how many bytes there are, and which tiles of the part they are of."""
 
     start: int
-    count: int
+    count: int  # type: ignore[assignment]
     begin: int
     end: int
 
@@ -103,7 +103,7 @@ class Tiles:
     def fetched(self, groups: Sequence[Group]) -> Iterator[Tuple[Group, Optional[bytes]]]:
         """The groups, with their bytes if these are better fetched together, as from far away."""
         for some in batches_of(groups) if self.source.far else [groups]:
-            data = self.source.read_all([it[:2] for it in some]) if self.source.far else [None] * len(some)
+            data: Sequence[Optional[bytes]] = self.source.read_all([it[:2] for it in some]) if self.source.far else len(some) * (None,)
             yield from zip(some, data)
 
     def decode(self, part: Union[Blocks, Lines], records: Sequence[Record], group: Group, data: Optional[bytes], out: Any) -> None:

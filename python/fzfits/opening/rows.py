@@ -16,7 +16,10 @@ NARROW, WIDE = Struct(">II"), Struct(">QQ")
 
 def descriptor(column: Optional[Arrays], rows: bytes, at: int) -> Tuple[int, int]:
     """The count and the offset of a column in the row that begins here; 0 and 0 if there is no such column."""
-    return (0, 0) if column is None else (WIDE if column.wide else NARROW).unpack_from(rows, at + column.at)
+    if column is None:
+        return 0, 0
+    count, offset = (WIDE if column.wide else NARROW).unpack_from(rows, at + column.at)
+    return count, offset
 
 
 def record_of(plan: Plan, tile: int, pixels: int, rows: bytes, at: int) -> Record:
