@@ -61,7 +61,7 @@ def error_class() -> Any:
         except (ImportError, AttributeError):
             continue
 
-        class DamagedTile(BadCode, own):  # type: ignore[misc]
+        class DamagedTile(BadCode, own):  # type: ignore[misc, valid-type]
             """A tile that astropy was to decode is damaged."""
 
             def what(self) -> str:
@@ -76,7 +76,8 @@ def error_class() -> Any:
 
 def damaged(number: int, kind: str, meaning: str) -> BadCode:
     """What a damaged tile raises."""
-    return error_class()(number, kind, meaning=meaning)
+    made: BadCode = error_class()(number, kind, meaning=meaning)
+    return made
 
 
 def numbers_of(buffer: Any, kind: str) -> Any:
@@ -101,7 +102,8 @@ def rice_over(own: Any) -> Any:
         def encode(self, buf: Any) -> bytes:
             """The code of the numbers."""
             kind = "u1" if self.bytepix == 1 else f"i{self.bytepix}"
-            return codec.rice_encode(numbers_of(buf, kind), self.bytepix, self.blocksize)
+            made: bytes = codec.rice_encode(numbers_of(buf, kind), self.bytepix, self.blocksize)
+            return made
 
     return Rice1
 

@@ -22,7 +22,7 @@ class Piece(NamedTuple):
     first: int
     last: int
     step: int
-    count: int
+    count: int  # type: ignore[assignment]
     back: bool = False
     drop: bool = False
 

@@ -58,7 +58,7 @@ def bytes_in(data: Any) -> Place:
 class Spare(threading.local):
     """Room for 32-bit numbers that are converted at once: each thread keeps one, with its address, while no call has it."""
 
-    kept: Any = None
+    kept: Optional[Place] = None
 
     def take(self, count: int) -> Place:
         """Room for so many numbers or more, which nobody else has until it is given back."""
@@ -137,7 +137,7 @@ class Numbers:
     def check_out(self, count: Optional[int]) -> int:
         """How many pixels `out` holds. Raises `BadArgument` if it cannot hold those that are wanted."""
         if np is not None:
-            self.view = np.asarray(self.out if isinstance(self.out, np.ndarray) else memoryview(self.out))
+            self.view: Any = np.asarray(self.out if isinstance(self.out, np.ndarray) else memoryview(self.out))
             size, fits, writable = self.view.size, np.can_cast(DTYPES[self.bits], self.view.dtype), self.view.flags.writeable
         else:
             self.view = memoryview(self.out)
@@ -146,7 +146,7 @@ class Numbers:
             raise BadArgument(f"out has {size} numbers, and {count} are wanted", None)
         if not fits or not writable:
             raise BadArgument(f"out is read-only, or its type does not hold {self.bits}-bit pixels", None)
-        return size
+        return int(size)
 
     def room(self, code: Any) -> Place:
         """The place that libfz writes to: `out` itself if it has the form for it and shares no byte with the code."""

@@ -19,7 +19,7 @@ for something that there is not, and `NoLibrary` that libfz is not there. docs/L
 from __future__ import annotations
 
 import ctypes
-from typing import Any, NamedTuple, Optional
+from typing import Any, Dict, NamedTuple, Optional
 
 from .buffers import BITS, SPARE, Numbers, Room, bits_of, bytes_in, narrow, np, numbers_in
 from .errors import BadArgument
@@ -140,7 +140,7 @@ def encode_tile(numbers: Any, *, codec: str = "RICE_1", bitpix: Optional[int] = 
     return Record("UNCOMPRESSED_DATA" if coded.column else "COMPRESSED_DATA", room.first(coded.len))
 
 
-def named(numbers: dict, name: str, what: str) -> int:
+def named(numbers: Dict[str, int], name: str, what: str) -> int:
     """The number of a name."""
     if name not in numbers:
         raise BadArgument(f"{what} is {name!r}, and not one of {', '.join(numbers)}", None)

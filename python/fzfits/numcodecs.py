@@ -15,7 +15,7 @@ from numcodecs.compat import ndarray_copy
 from . import codec
 
 
-class FzRice(Codec):
+class FzRice(Codec):  # type: ignore[misc]
     """RICE_1 (FITS 4.0, section 10.4.1)."""
 
     codec_id = "fz_rice"
@@ -25,14 +25,15 @@ class FzRice(Codec):
 
     def encode(self, buf: Any) -> bytes:
         """The Rice code of the pixels."""
-        return codec.rice_encode(pixels(buf, "u1" if self.bytepix == 1 else f"i{self.bytepix}"), self.bytepix, self.block)
+        made: bytes = codec.rice_encode(pixels(buf, "u1" if self.bytepix == 1 else f"i{self.bytepix}"), self.bytepix, self.block)
+        return made
 
     def decode(self, buf: Any, out: Optional[Any] = None) -> Any:
         """The pixels of the code."""
         return given(codec.rice_decode(buf, self.count, self.bytepix, self.block), out)
 
 
-class FzPlio(Codec):
+class FzPlio(Codec):  # type: ignore[misc]
     """PLIO_1 (FITS 4.0, section 10.4.4): pixels of 4 bytes from 0 to 16,777,215."""
 
     codec_id = "fz_plio"
@@ -42,7 +43,8 @@ class FzPlio(Codec):
 
     def encode(self, buf: Any) -> bytes:
         """The line list of the pixels."""
-        return codec.plio_encode(pixels(buf, "i4"))
+        made: bytes = codec.plio_encode(pixels(buf, "i4"))
+        return made
 
     def decode(self, buf: Any, out: Optional[Any] = None) -> Any:
         """The pixels of the line list."""

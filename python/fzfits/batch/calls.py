@@ -101,7 +101,7 @@ class _Shared:
 
     def of(self, path: str) -> Program:
         """The program of this path, for this thread."""
-        made = getattr(self._local, "made", {})
+        made: "dict[str, Program]" = getattr(self._local, "made", {})
         if path not in made:
             made[path] = Program(path)
             self._local.made = made

@@ -7,7 +7,7 @@ import os
 import secrets
 import sys
 from dataclasses import asdict
-from typing import NoReturn, Optional, Sequence
+from typing import Any, Callable, NoReturn, Optional, Sequence
 
 from .. import program, version
 from ..errors import FzError
@@ -121,7 +121,7 @@ def _parser(words: Sequence[str] = ()) -> argparse.ArgumentParser:
     return whole
 
 
-def _look_words(given) -> None:
+def _look_words(given: Any) -> None:
     from ..pictures import drawing  # pylint: disable=import-outside-toplevel
 
     says = "write a picture of a FITS file, packed or plain, or a page of small pictures of a folder"
@@ -138,8 +138,8 @@ def _look_words(given) -> None:
     made.set_defaults(call=_look)
 
 
-def _verb(given, name: str, says: str, call, example: Optional[str] = None) -> argparse.ArgumentParser:
-    made = given.add_parser(name, help=says, description=says[0].upper() + says[1:] + ".", epilog=example)
+def _verb(given: Any, name: str, says: str, call: Callable[[argparse.Namespace], int], example: Optional[str] = None) -> argparse.ArgumentParser:
+    made: argparse.ArgumentParser = given.add_parser(name, help=says, description=says[0].upper() + says[1:] + ".", epilog=example)
     made.add_argument("dir", metavar="DIR", type=os.fsencode, help="the folder of plain files; or, if it has a manifest, that of packed files")
     made.add_argument("packed", metavar="PACKED", nargs="?", type=os.fsencode, help="the folder of packed files (DIR with .fz after it)")
     if name in asking.READS:

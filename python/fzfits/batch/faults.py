@@ -31,7 +31,7 @@ class Place:
 
     @property
     def is_source(self) -> bool:
-        return self.plain == self.source
+        return bool(self.plain == self.source)
 
     @property
     def words(self) -> str:

@@ -9,7 +9,7 @@ import os
 import time
 from collections import defaultdict
 from html import escape
-from typing import Dict, List, Sequence
+from typing import Any, Callable, Dict, List, Sequence
 
 from . import names, tally
 from .manifest import Row
@@ -67,7 +67,7 @@ def files(found: Survey) -> str:
     rows = [*found.rows, *(Row(it) for it in sorted(causes.keys() - {row.path for row in found.rows}))]
     rows.sort(key=lambda it: (it.path not in causes, it.path))
     shown = rows[:LISTED]
-    keys = {
+    keys: Dict[str, Callable[[int], Any]] = {
         "name": lambda it: shown[it].path,
         "plain": lambda it: -(shown[it].size or 0),
         "best": lambda it: -ratio_of(shown[it]),

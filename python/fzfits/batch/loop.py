@@ -29,7 +29,7 @@ class Loop:
     def __enter__(self) -> "Loop":
         return self
 
-    def __exit__(self, *_: object) -> None:
+    def __exit__(self, *_error: object) -> None:
         for _ in self._threads:
             self._asked.put(None)
         for it in self._threads:

@@ -8,7 +8,7 @@ import base64
 import binascii
 import json
 from dataclasses import asdict, dataclass, field, fields
-from typing import Any, Optional
+from typing import Any, Optional, Type, TypeVar
 
 from . import checks, names
 
@@ -44,6 +44,9 @@ def is_of(value: Any, kind: str) -> bool:
     return type(value) is {"bytes": bytes, "str": str, "bool": bool}[kind]
 
 
+M = TypeVar("M", bound="Message")
+
+
 class Message:
     """Something that goes to another process as a word or a line of text."""
 
@@ -53,7 +56,7 @@ class Message:
         return base64.urlsafe_b64encode(text.encode()).decode()
 
     @classmethod
-    def of(cls, line: str):
+    def of(cls: "Type[M]", line: str) -> "M":
         """From such a word. Raises `BadMessage` if a field has another type or form than fzbatch gives it."""
         try:
             found = json.loads(base64.urlsafe_b64decode(line.strip()[:LONGEST]))

@@ -3,6 +3,7 @@ from __future__ import annotations
 
 import os
 import re
+from typing import Any
 
 PLAIN = (b".fits", b".fit", b".fts")
 SUFFIXES = PLAIN + tuple(it + b".fz" for it in PLAIN)
@@ -116,7 +117,7 @@ def _spelled(character: str) -> str:
     return f"\\x{number:02x}" if number < 0x100 else f"\\u{number:04x}" if number < 0x10000 else f"\\U{number:08x}"
 
 
-def unescaped(stream):
+def unescaped(stream: Any) -> Any:
     """The stream itself, for what controls a terminal on purpose: a bar that shows how far a run is."""
     return stream.raw if isinstance(stream, Escaping) else stream
 
@@ -124,11 +125,12 @@ def unescaped(stream):
 class Escaping:
     """A stream for text that others wrote: all but line feeds is shown as `told` shows it. `raw` is the stream itself."""
 
-    def __init__(self, raw) -> None:
+    def __init__(self, raw: Any) -> None:
         self.raw = raw
 
     def write(self, text: str) -> int:
-        return self.raw.write("\n".join(map(told, text.split("\n"))))
+        count: int = self.raw.write("\n".join(map(told, text.split("\n"))))
+        return count
 
-    def __getattr__(self, name: str):
+    def __getattr__(self, name: str) -> Any:
         return getattr(self.raw, name)

@@ -73,8 +73,8 @@ def _check(path: bytes, writes: bool) -> None:
     is_new = not files.there(path)
     if not is_new:
         inside.is_own(path)
-        with open(path, "rb") as it:
-            head = it.read(100)
+        with open(path, "rb") as file:
+            head = file.read(100)
         if not head and files.there(path + COPY):
             raise BadManifest(f"the manifest {names.shown(path)} is empty, and its second copy is there: a full disk or a loss of power may have emptied it. Move it away, and start this again, which says what the copy is good for")
         if len(head) >= 20 and head[:16] == b"SQLite format 3\0" and head[18:20] != b"\1\1":

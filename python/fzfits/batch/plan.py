@@ -2,7 +2,7 @@
 from __future__ import annotations
 
 from collections import Counter
-from dataclasses import dataclass, field
+from dataclasses import dataclass, field, replace
 from typing import Callable, Iterable, Optional
 
 from . import inside, names
@@ -69,7 +69,7 @@ def _mark_shared(plan: Plan, rows: dict[bytes, Row], packed: bytes) -> None:
     for number, it in enumerate(plan.tasks):
         place = places.get(it.path)
         if place is not None and count[place] > 1:
-            plan.tasks[number] = Task(**{**vars(it), "shared": True})
+            plan.tasks[number] = replace(it, shared=True)
 
 
 def _place(packed: bytes, path: bytes) -> Optional[tuple[int, int]]:

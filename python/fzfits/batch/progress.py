@@ -4,7 +4,7 @@ from __future__ import annotations
 
 import threading
 import time
-from typing import Protocol, TextIO
+from typing import Any, Protocol, TextIO
 
 SECOND, MINUTE = 1.0, 60.0
 
@@ -89,7 +89,7 @@ class Lines:
 class Tqdm:
     """A bar of tqdm, in bytes."""
 
-    def __init__(self, module, verb: str, count: int, size: int, to: TextIO):
+    def __init__(self, module: Any, verb: str, count: int, size: int, to: TextIO):
         self._bar = module.tqdm(total=size, unit="B", unit_scale=True, desc=verb, file=to, dynamic_ncols=True)
         self.count, self.done, self.failed = count, 0, 0
 
@@ -107,7 +107,7 @@ class Tqdm:
 class Rich:
     """A bar of rich, in bytes."""
 
-    def __init__(self, module, verb: str, size: int, to: TextIO):
+    def __init__(self, module: Any, verb: str, size: int, to: TextIO):
         from rich.console import Console
 
         columns = (module.TextColumn("{task.description}"), module.BarColumn(), module.DownloadColumn(), module.TransferSpeedColumn(), module.TimeRemainingColumn())

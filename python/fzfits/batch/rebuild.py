@@ -76,7 +76,8 @@ def tasks_of(packed: bytes, old: "dict[bytes, Row]") -> "tuple[list[Task], list[
     """A task for each packed file, a row for each that is known and lost, and the names that are those of no packed file of fzbatch."""
     sums = keep.read_sums(packed)
     here = scan_packed(packed).files
-    tasks, strange = [], []
+    tasks: "list[Task]" = []
+    strange = []
     for name in here:
         path = name[: -len(names.PACKED)]
         if names.fault_of(path) or not name.endswith(names.PACKED):

@@ -5,7 +5,7 @@ import calendar
 import re
 from collections import Counter
 from html import escape
-from typing import Iterable, List, Sequence, Tuple
+from typing import Any, Callable, Iterable, List, Sequence, Tuple
 
 from ..pictures import INSTALL, NoPicture, charts
 from . import listed, names
@@ -61,7 +61,7 @@ def states_of(states: "Counter[str]") -> str:
     return _chart(charts.bars, "states", [(state, count, f"{count:,}") for state, count in sorted(states.items(), key=lambda it: -it[1])])
 
 
-def _chart(draw, *words) -> str:
+def _chart(draw: Callable[..., str], *words: Any) -> str:
     """A chart, or why there is none."""
     try:
         return draw(*words)

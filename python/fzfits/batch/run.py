@@ -10,6 +10,7 @@ import secrets
 import signal
 import socket
 import time
+from dataclasses import replace
 from typing import Iterator, Optional, TextIO
 
 from .. import program
@@ -148,8 +149,8 @@ class _Run:
         it = self.wanted
         memory = it.memory or (machine.limit_of_a_job(jobs) if jobs else 0)
         made = Settings(it.verb, it.plain, it.packed, self.token, self.program, self.identity, it.options, memory)
-        more = {"compare": it.compare, "replace": it.update, "accept_wrong_sums": it.accept_wrong_sums, "sha256_only": it.sha256_only, "after_update": self.after_update}
-        return Settings(**{**vars(made), **more, "without_plain": it.without_plain, "time_limit": it.time_limit})
+        made = replace(made, compare=it.compare, replace=it.update, accept_wrong_sums=it.accept_wrong_sums, sha256_only=it.sha256_only, after_update=self.after_update)
+        return replace(made, without_plain=it.without_plain, time_limit=it.time_limit)
 
     def _results(self, todo: plan.Plan) -> Iterator[Result]:
         it, stopped = self.wanted, lambda: bool(self.tally.stopped)
@@ -200,7 +201,7 @@ class _Run:
         self.stop_signal = number
         self.tally.stopped = f"by {signal.Signals(number).name}"
 
-    def _must_stop(self, result: Result, roots: dict[bytes, object]) -> bool:
+    def _must_stop(self, result: Result, roots: dict[bytes, Optional[tuple[int, int]]]) -> bool:
         """Whether a bad result says nothing of its file, since the run is being stopped or a disk went away."""
         if result.outcome == "killed" and self.tally.stopped:
             return True

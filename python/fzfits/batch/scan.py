@@ -23,6 +23,9 @@ ADVICE = {
     OURS: "among the packed files fzbatch uses this name for itself: give it another one, and run fzbatch pack again",
 }
 
+# Whether a name or a path is of some sort.
+Chooses = Callable[[bytes], bool]
+
 
 @dataclass(frozen=True)
 class Found:
@@ -63,7 +66,7 @@ def is_far(time: int) -> bool:
     return not -LATEST <= time < LATEST
 
 
-def scan(root: bytes, wanted: Callable[[bytes], bool] = names.is_fits, compressed: Callable[[bytes], bool] = names.is_compressed_fits, ours: Callable[[bytes], bool] = names.is_ours) -> Scan:
+def scan(root: bytes, wanted: Chooses = names.is_fits, compressed: Chooses = names.is_compressed_fits, ours: Chooses = names.is_ours) -> Scan:
     """Walks through a folder. Symbolic links are not followed, but named; what cannot be read is named."""
     found = Scan(root)
     try:
@@ -82,7 +85,7 @@ def scan(root: bytes, wanted: Callable[[bytes], bool] = names.is_fits, compresse
     return found
 
 
-def _look(found: Scan, path: bytes, entry: os.DirEntry[bytes], wanted, compressed, ours) -> Optional[tuple[bytes, list[os.DirEntry[bytes]]]]:
+def _look(found: Scan, path: bytes, entry: os.DirEntry[bytes], wanted: Chooses, compressed: Chooses, ours: Chooses) -> Optional[tuple[bytes, list[os.DirEntry[bytes]]]]:
     """Notes one entry of a folder, and gives what is in it if it is a folder itself."""
     is_wanted = wanted(entry.name)
     try:
@@ -122,7 +125,7 @@ def _begins_as_fits(root: bytes, path: bytes) -> bool:
         return False
 
 
-def _link(found: Scan, path: bytes, entry: os.DirEntry[bytes], wanted) -> None:
+def _link(found: Scan, path: bytes, entry: os.DirEntry[bytes], wanted: Chooses) -> None:
     """A symbolic link is named if its name is that of a FITS file, or if it leads to a folder or to nothing."""
     try:
         folder = stat.S_ISDIR(entry.stat(follow_symlinks=True).st_mode)

@@ -3,7 +3,7 @@ from __future__ import annotations
 
 import ctypes
 import os
-from typing import Optional, Sequence
+from typing import Any, Optional, Sequence
 
 # More than any C library needs for the list of what is done with files.
 ACTIONS = 1024
@@ -34,7 +34,7 @@ def environment() -> "ctypes.Array[ctypes.c_char_p]":
 def spawn(path: bytes, words: Sequence[bytes], variables: "ctypes.Array[ctypes.c_char_p]", numbers: "Sequence[tuple[int, int]]") -> int:
     """Starts a program, and gives its process. Standard input is empty; it has each open file under the number that is given with it."""
     if LIBC is None:
-        actions: list = [(os.POSIX_SPAWN_OPEN, 0, os.devnull, os.O_RDONLY, 0), *((os.POSIX_SPAWN_DUP2, it, to) for it, to in numbers)]
+        actions: "list[Any]" = [(os.POSIX_SPAWN_OPEN, 0, os.devnull, os.O_RDONLY, 0), *((os.POSIX_SPAWN_DUP2, it, to) for it, to in numbers)]
         return os.posix_spawn(path, list(words), os.environ, file_actions=actions)
     made = ctypes.create_string_buffer(ACTIONS)
     _expect(LIBC.posix_spawn_file_actions_init(made), path)

@@ -5,12 +5,12 @@ import os
 import stat
 from contextlib import suppress
 from dataclasses import replace
-from typing import Iterable, Optional, Sequence
+from typing import Any, Callable, Iterable, Optional, Sequence
 
 from . import advice, files, inside, keep, lock, names, plan, rooms, survey
 from .chosen import Chosen
 from .manifest import Manifest, Row
-from .scan import Scan, folders_of, scan, scan_packed
+from .scan import Left, Scan, folders_of, scan, scan_packed
 from .tally import Tally
 from .wanted import Refuse, Wanted, find_manifest
 
@@ -116,7 +116,7 @@ def note_sums(wanted: Wanted, found: Scan, manifest: Manifest, tally: Tally) -> 
         tally.bad(path, survey.LOST, line, f"{advice.LOST}; {advice.FORGET}")
 
 
-def count_left(wanted: Wanted, found: Scan, fact, tally: Tally) -> "list":
+def count_left(wanted: Wanted, found: Scan, fact: Callable[[str], Any], tally: Tally) -> "list[Left]":
     """Counts what is left out of the plain files, and gives it."""
     left, notes = survey.kept_left(fact, found.left)
     tally.notes += notes

@@ -3,6 +3,7 @@ from __future__ import annotations
 
 import os
 import shlex
+from dataclasses import replace
 from typing import Sequence, TextIO
 
 from . import advice, calls, faults, files, inside, keep, lock, machine, names, rebuild, rooms, slurm, survey, tries, work
@@ -122,8 +123,8 @@ def rebuilt(settings: Settings, out: TextIO, jobs: int, ignore_copy: bool = Fals
         os.close(above)
         if away:
             tally.notes.append(f"The manifest that was there has the name {names.shown(away)} now.")
-        for name in strange:
-            tally.bad(name, *survey.UNKNOWN)
+        for it in strange:
+            tally.bad(it, *survey.UNKNOWN)
         for left in scan_packed(packed).left:
             tally.bad(left.path, *survey.told_of(left))
         with Manifest(os.path.join(packed, names.MANIFEST)) as manifest:
@@ -153,7 +154,7 @@ def _fill(manifest: Manifest, settings: Settings, jobs: int, tally: Tally, old: 
             row.cause, row.line, row.advice, row.status = survey.LOST, line, advice.LOST, row.status or "failed"
         manifest.put(row)
         tally.bad(row.path, survey.LOST, line, advice.LOST)
-    found = {it.path for it in (*tasks, *lost)}
+    found = {it.path for it in tasks} | {it.path for it in lost}
     for path, row in old.items():
         if not row.done and path not in found:
             manifest.put(row)
@@ -170,6 +171,6 @@ def _read(settings: Settings, task: Task, scratch: rooms.Rooms) -> "Steps[tuple[
 def settings_for_rebuild(packed: bytes, program: str, token: str, jobs: int, memory: int, accept: bool, limit: float) -> Settings:
     """The settings of a run that reads packed files only."""
     made = Settings("verify", packed, packed, token, program, "", memory=memory or machine.limit_of_a_job(jobs))
-    return Settings(**{**vars(made), "accept_wrong_sums": accept, "time_limit": limit})
+    return replace(made, accept_wrong_sums=accept, time_limit=limit)
 
 

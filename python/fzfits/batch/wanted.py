@@ -4,7 +4,7 @@ from __future__ import annotations
 import os
 import signal
 from dataclasses import dataclass, field
-from typing import TYPE_CHECKING, Callable, Optional
+from typing import TYPE_CHECKING, Any, Callable, Optional
 
 from . import files, names, older
 from .manifest import Manifest
@@ -92,7 +92,8 @@ class signals:
     """While the block runs, SIGINT and SIGTERM stop the run after the files that are being done; the second of a kind ends it at once."""
 
     def __init__(self, call: Callable[[int], None]):
-        self.call, self.before = call, {}
+        self.call = call
+        self.before: "dict[int, Any]" = {}
 
     def __enter__(self) -> None:
         for number in (signal.SIGINT, signal.SIGTERM):

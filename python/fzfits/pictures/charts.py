@@ -5,7 +5,7 @@ import io
 import re
 import textwrap
 import warnings
-from typing import Any, Sequence, Tuple
+from typing import Any, Dict, Sequence, Tuple
 
 from . import library, plain_text
 
@@ -18,7 +18,7 @@ OTHER = "#cf4a3f"
 WIDE, LETTERS = 4.8, 26
 # Ratios that are marked on a logarithmic axis.
 ROUND = (0.1, 0.2, 0.3, 0.5, 0.7, 0.8, 1, 1.2, 1.5, 2, 2.5, 3, 4, 5, 7, 10, 15, 20, 30, 50, 70, 100, 200, 500, 1000)
-STYLE = {
+STYLE: Dict[str, Any] = {
     "svg.fonttype": "none", "font.family": "sans-serif", "font.size": 10, "text.color": INK, "axes.labelcolor": INK, "axes.edgecolor": INK,
     "xtick.color": INK, "ytick.color": INK, "axes.spines.top": False, "axes.spines.right": False, "figure.facecolor": "none", "axes.facecolor": "none",
 }

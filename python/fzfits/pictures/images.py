@@ -70,8 +70,8 @@ def of_file(path: Name, extension: commands.Extension = None) -> List[Header]:
     number = commands.number_of(path, extension)
     header = next((it for it in found if it.number == number), None)
     if header is None or not is_shown(header):
-        images = ", ".join(f"{it.number} {it.name}".strip() for it in found if is_shown(it)) or "none"
-        raise NoPicture(f"HDU {extension} is no image; images are: {images}")
+        there = ", ".join(f"{it.number} {it.name}".strip() for it in found if is_shown(it)) or "none"
+        raise NoPicture(f"HDU {extension} is no image; images are: {there}")
     return [header]
 
 

@@ -61,7 +61,8 @@ def wrong(said: str, status: int) -> int:
 def one(path: str, asked: argparse.Namespace) -> int:
     """Does the command for one file. What is wrong with it is printed, and does not stop the others."""
     try:
-        return asked.call(path, asked)
+        status: int = asked.call(path, asked)
+        return status
     except (NoProgram, BrokenPipeError):
         raise
     except (FzError, OSError) as error:

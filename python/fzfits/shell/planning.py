@@ -22,7 +22,7 @@ def row_of(it: Try) -> "tuple[str, ...]":
 def best_of(tries: Sequence[Try]) -> "Try | None":
     """The smallest file, of those that the most readers read."""
     done = [it for it in tries if not it.refused]
-    return min(done, key=lambda it: (-len(it.by), it.size), default=None)
+    return min(done, key=lambda it: (-len(it.by), it.size)) if done else None
 
 
 def plan_file(path: str, _asked: argparse.Namespace) -> int:

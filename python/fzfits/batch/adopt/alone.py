@@ -85,7 +85,7 @@ class Alone:
 
     # copies
 
-    def _in_a_copy(self, fill: Callable[[int], None], call: Callable[[bytes, int], None]) -> None:
+    def _in_a_copy(self, fill: Callable[[int], None], call: Callable[[bytes, int], object]) -> None:
         copy = self.fz.room.name(self.header.end - self.header.start, b"in")
         try:
             to = os.open(copy, os.O_WRONLY | os.O_CREAT | os.O_EXCL | os.O_NOFOLLOW | os.O_CLOEXEC, 0o600)

@@ -250,7 +250,7 @@ class Beside:
                 self.count.stopped = self.count.stopped or f"{did.line}: {did.advice}"
         else:
             self.count.well(path, did.outcome)
-            self.count.bytes += did.plain.size if did.plain else 0
+            self.count.size += did.plain.size if did.plain else 0
             self.plain_bytes += did.plain.size if did.plain and did.packed else 0
             self.packed_bytes += did.packed.size if did.packed else 0
 

@@ -138,7 +138,7 @@ class Book:
 
     def begin(self, token: str, verb: str, host: str, process: int, program: str) -> int:
         """Notes that a run begins, and gives its number."""
-        number = self._sql.execute("SELECT coalesce(max(number), 0) + 1 FROM runs").fetchone()[0]
+        number: int = self._sql.execute("SELECT coalesce(max(number), 0) + 1 FROM runs").fetchone()[0]
         self._write("INSERT INTO runs VALUES (?, ?, ?, ?, ?, ?, ?, NULL, NULL)", (number, token, verb, names.told(host), process, program, now()))
         self.save()
         return number

@@ -72,10 +72,11 @@ class Fz:
         With `above`, an open folder, `out` is a name in it, and `source` an open file.
         """
         limits = ("--memory", str(self.asked.memory)) if self.asked.memory and verb != "list" else ()
-        name, numbers = (source, ()) if isinstance(source, bytes) else (self.program.first, (source,))
+        name: "str | bytes" = source if isinstance(source, bytes) else self.program.first
+        numbers: "tuple[int, ...]" = () if isinstance(source, bytes) else (source,)
         if above is not None:
             numbers, out = (*numbers, above), os.path.join(self.program.second, out)
-        words = [verb, *options, *limits, "--", name, *((out,) if out else ())]
+        words: "list[str | bytes]" = [verb, *options, *limits, "--", name, *((out,) if out else ())]
         try:
             ended = self.program.run(words, numbers, min(self.limit(size), self.left(f"fz {verb}")))
         except calls.OverTime as error:

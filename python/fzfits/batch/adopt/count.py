@@ -43,7 +43,7 @@ class Count:
     outcomes: "Counter[str]" = field(default_factory=Counter)
     causes: "dict[str, Cause]" = field(default_factory=dict)
     bad: int = 0
-    bytes: int = 0
+    size: int = 0
     left: List[Left] = field(default_factory=list)
     others: "dict[str, int]" = field(default_factory=dict)
     notes: List[str] = field(default_factory=list)
@@ -132,9 +132,9 @@ class Count:
             said.insert(0, f"{_files(self.outcomes[PART])} with an HDU that fz does not decode (floats, HCOMPRESS, gzip, compressed tables): its checksums were compared.")
         if self.others:
             said.append(f"{_files(sum(self.others.values()))} with other names, which fzbatch does not touch: {', '.join(f'{count:,} {suffix}' for suffix, count in self.others.items())}.")
-        if self.bytes:
-            rate = f", {amount(self.bytes / self.seconds)} in a second" if self.seconds > 1 else ""
-            said.append(f"{amount(self.bytes)} were read in {length(self.seconds)}{rate}.")
+        if self.size:
+            rate = f", {amount(self.size / self.seconds)} in a second" if self.seconds > 1 else ""
+            said.append(f"{amount(self.size)} were read in {length(self.seconds)}{rate}.")
         if self.lost:
             said.append(f"{self.lost}.")
         if self.stopped:

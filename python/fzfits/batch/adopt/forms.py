@@ -104,7 +104,7 @@ def list_of(kind: type) -> Callable[[Any], bool]:
 
 
 def _typed(it: Any) -> bool:
-    kinds = {"str": text, "int": whole, "Optional[int]": or_none(whole), "List[int]": lambda value: isinstance(value, list) and all(map(whole, value))}
+    kinds: "dict[str, Callable[[Any], bool]]" = {"str": text, "int": whole, "Optional[int]": or_none(whole), "List[int]": lambda value: isinstance(value, list) and all(map(whole, value))}
     return all(kinds[str(type(it).__dataclass_fields__[name].type)](value) for name, value in vars(it).items())
 
 

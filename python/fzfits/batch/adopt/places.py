@@ -69,7 +69,7 @@ def archive_around(folder: bytes) -> "Optional[bytes]":
 
 def archive_in(folder: bytes) -> "Optional[bytes]":
     """The first folder of packed files below a folder."""
-    return next(filter(is_archive, folders_of(folder)), None)
+    return next((it for it in folders_of(folder) if is_archive(it)), None)
 
 
 def many(given: "Sequence[bytes]") -> "List[bytes]":

@@ -161,7 +161,7 @@ class Run:
 
     def _read(self, waiting: Waiting, writes: bool) -> None:
         was, answered, beside = place(self.wanted.folder), 0, places.Beside(self.store)
-        bar = progress(self.wanted.verb, waiting.count, waiting.bytes, names.unescaped(self.err), self.wanted.quiet)
+        bar = progress(self.wanted.verb, waiting.count, waiting.size, names.unescaped(self.err), self.wanted.quiet)
         with signals(self._signalled):
             try:
                 for found in self._results(waiting):
@@ -170,7 +170,7 @@ class Run:
                     if not self._record(found, waiting, writes):
                         continue
                     answered += 1
-                    self.count.bytes += found.size
+                    self.count.size += found.size
                     bar.step(found.size)
                     if writes:
                         self.count.stopped = beside.keep_now_and_then() or self.count.stopped
@@ -248,7 +248,7 @@ class Run:
     def _count_rows(self) -> None:
         """What the manifest says of all files, also of those that were not read in this run."""
         told, self.count = self.count, of_store(self.store, self.wanted.verb, self.wanted.all_names)
-        self.count.notes, self.count.stopped, self.count.untried, self.count.bytes = told.notes, told.stopped, told.untried, told.bytes
+        self.count.notes, self.count.stopped, self.count.untried, self.count.size = told.notes, told.stopped, told.untried, told.size
         self.count.log = told.log
         self.count.add(self.unkept)
 

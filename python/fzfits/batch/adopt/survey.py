@@ -52,9 +52,9 @@ class Survey:
                 elif self._is_news(self.store.row(it.folder, it.name)):
                     yield it.path, [LOOKS]
         for folder, name in self.waiting.still_gone():
-            row = self.store.row(folder, name)
-            if row is not None and row.status != GONE and not verdict.other_half(row, self.waiting.row_there(self.store)):
-                yield row.path, [NOT_THERE]
+            gone = self.store.row(folder, name)
+            if gone is not None and gone.status != GONE and not verdict.other_half(gone, self.waiting.row_there(self.store)):
+                yield gone.path, [NOT_THERE]
 
     def _is_news(self, row: "Row | None") -> bool:
         return row is not None and row.status not in (GONE, UNREAD) and self.waiting.looks_otherwise(row)
@@ -89,9 +89,8 @@ def counted(it: Survey, verb: str, all_names: bool) -> Count:
         for status, many in folder.of_status.items():
             if status in ("right", "part"):
                 made.good(status, many)
-    seen = set()
     for path, found in it.findings():
-        if found[0] in (LOOKS, NOT_THERE) and path not in seen:
+        if found[0] in (LOOKS, NOT_THERE):
             row = run.row_of(it.store, path)
             if row is not None and row.status in made.outcomes:
                 made.outcomes[row.status] -= 1

@@ -51,7 +51,7 @@ class Waiting:
 
     look: Look
     count: int = 0
-    bytes: int = 0
+    size: int = 0
     same: int = 0
     here: int = 0
     new: int = 0
@@ -146,7 +146,7 @@ class Waiting:
 
     def _wait(self, folder: bytes, file: Entry, sha256: bytes) -> None:
         self.count += 1
-        self.bytes += file[1]
+        self.size += file[1]
         self._sql.execute("INSERT OR REPLACE INTO todo VALUES (?, ?, ?, ?, ?)", (folder, *file, sha256))
 
     def _gone(self, row: Row) -> None:

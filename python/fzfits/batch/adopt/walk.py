@@ -32,7 +32,7 @@ class Seen:
 
     path: bytes
     count: int = 0
-    bytes: int = 0
+    size: int = 0
     look: int = 0
     below: "list[bytes]" = field(default_factory=list)
     left: "list[Left]" = field(default_factory=list)
@@ -91,7 +91,7 @@ def see(root: bytes, path: bytes, at: bytes = b"") -> Seen:
         count += 1
         total += size
         look += number(hashed(LOOK % (name, size, mtime), digest_size=16).digest(), "big")
-    seen.count, seen.bytes, seen.look = count, total, look % WIDE
+    seen.count, seen.size, seen.look = count, total, look % WIDE
     return seen
 
 

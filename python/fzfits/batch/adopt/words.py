@@ -3,7 +3,7 @@ from __future__ import annotations
 
 import argparse
 import os
-from typing import Callable, List, Optional
+from typing import Any, Callable, List, Optional
 
 from .. import files, names, words_of
 from . import named
@@ -13,7 +13,7 @@ OWN = ("adopt", "retile")
 BOTH = ("verify", "compare", "status", "missing", "report", "forget")
 
 
-def add(verbs: "argparse._SubParsersAction[argparse.ArgumentParser]") -> None:
+def add(verbs: Any) -> None:
     """Adds the commands of adopted folders, and the option that names their manifest to the others."""
     made = _verb(verbs, "adopt", "take a folder of FITS files of any packer under a manifest beside it: each file and each tile is checked, and nothing in the folder is changed")
     _everyday(made)
