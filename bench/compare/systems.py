@@ -11,6 +11,8 @@ sys.path.insert(0, str(Path(__file__).resolve().parents[2] / "tools"))
 from library import suites  # noqa: E402  # pylint: disable=wrong-import-position
 
 PACKAGES = ("libcfitsio-bin", "python3-astropy", "python3-fitsio")
+# With what tools/check_plug uses of a suite, which is in the same folder.
+PREPARED = (*PACKAGES, *(it for it in suites.PACKAGES if it not in PACKAGES))
 # What a tool may take, in seconds.
 LIMIT = 120
 VERSIONS = (
@@ -51,20 +53,30 @@ class System:
         return self.root / str(folder).lstrip("/")
 
     def shares(self, work):
-        """Has this system see the working folder, under the same name."""
+        """Has this system see the working folder, under the same name. Whether that can be done."""
         self.below(work).mkdir(parents=True, exist_ok=True)
-        subprocess.run(["mount", "--bind", str(work), str(self.below(work))], check=True)
+        ended = run(["mount", "--bind", work, self.below(work)])
+        if ended.status:
+            told(f"left out, since {work} cannot be shown there ({ended.said.strip()}): the tools of {self.name}")
+        return ended.status == 0
 
     def leaves(self, work):
         """Takes the working folder out of this system again."""
         if self.root and os.path.ismount(self.below(work)):
             subprocess.run(["umount", str(self.below(work))], check=False)
+        if self.root and self.below(work).is_dir() and not os.path.ismount(self.below(work)):
+            self.below(work).rmdir()
 
     def path(self, name):
         """The path of a tool, or nothing."""
         if self.root is None:
             return shutil.which(name)
         return f"/usr/bin/{name}" if (self.root / "usr/bin" / name).exists() else None
+
+
+def told(text):
+    """Says on standard error what is going on."""
+    print(f"bench/compare: {text}", file=sys.stderr, flush=True)
 
 
 def own():
@@ -86,11 +98,11 @@ def run(words, limit=LIMIT):
     return Ran(child.returncode, used.ru_utime + used.ru_stime, said)
 
 
-def unpacked(suite, room):
+def unpacked(suite, room, packages=PACKAGES):
     """Another suite, unpacked in the folder `room` if it is not there; None, with the reason, if that cannot be done."""
-    why = suites.made(suite, room / suite, PACKAGES)
+    why = suites.made(suite, room / suite, packages)
     if why:
-        print(f"bench/compare: left out, since {why}: the tools of {suite}", file=sys.stderr)
+        told(f"left out, since {why}: the tools of {suite}")
         return None
     return System(suite, room / suite)
 
