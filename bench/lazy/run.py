@@ -3,7 +3,8 @@
 
 The image, 4,096 pixels square with 16 bits, is made in FOLDER and packed by fpack, in rows and in squares of 100 x 100. Each reader reads
 the same N sections at random places; readers take turns, and the least of the passes counts, in milliseconds of processors for a
-section. Every section that `fzfits.open` reads is compared with the plain image. Readers that are not installed are left out by name.
+section, and the ratio to what fitsio takes. Every section that `fzfits.open` reads is compared with the plain image. Readers that are not
+installed are left out by name.
 Needs numpy and fpack; FZ_LIBRARY names libfz.
 """
 import argparse
@@ -92,6 +93,14 @@ def milliseconds(read, places):
     return (time.process_time() - begin + more) / len(places) * 1000
 
 
+def ratios(name, least):
+    """What `fzfits.open` takes of what fitsio takes, both kept open and both opened each time."""
+    for how in ("kept", "each time"):
+        theirs = next((it for it in least if it.startswith("fitsio") and it.endswith(how)), None)
+        if theirs:
+            yield f"{name:8} {least[f'fzfits.open, {how}'] / least[theirs]:8.2f} of what {theirs} takes"
+
+
 def main():
     warnings.simplefilter("ignore")
     arguments = argparse.ArgumentParser(description=__doc__, formatter_class=argparse.RawDescriptionHelpFormatter)
@@ -116,6 +125,8 @@ def main():
                 least[what] = min(least.get(what, 1e9), milliseconds(read, places[:few]))
         for what, took in least.items():
             print(f"{name:8} {took:8.3f} ms  {what}")
+        for line in ratios(name, least):
+            print(line, flush=True)
     print(f"load {os.getloadavg()[0]:.0f}; {given.sections} sections, all as in the plain image")
 
 
