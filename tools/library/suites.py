@@ -60,6 +60,9 @@ def made(suite, root, packages=PACKAGES):
             return f"{mounts_below(root)[0]} is mounted in a suite that is not whole: umount it"
         shutil.rmtree(root, ignore_errors=True)
         ran = said(["debootstrap", "--variant=minbase", suite, str(root), MIRROR])
+        for it in reversed(mounts_below(root)):
+            # a busy system can leave /proc there
+            said(["umount", it])
         if ran.returncode:
             return f"debootstrap failed ({ran.stdout.splitlines()[-1:]})"
     return installed(root, packages)
