@@ -16,7 +16,7 @@ def of(systems, date, short, speed, returned, damaged, readers):
         "summary": speed and returned and damaged and readers and summary(speed, returned, damaged, says),
         "speed": speed and f"{speeds(speed)}\n\n{says}",
         "returned": returned and counted("packer", returned, OUTCOMES, ("come back byte for byte", "rejected", "come back changed, status 0", "crashed")),
-        "damaged": damaged and counted("unpacker", damaged, DAMAGED, DAMAGED),
+        "damaged": damaged and f"{counted('unpacker', damaged, DAMAGED, DAMAGED)}\n\n{says}",
         "readers": readers and f"{counted('reader', readers, READ, ('reads right', 'fails', 'other pixels, no error', 'crashes'))}\n\n{says}",
     }
     return {name: it for name, it in made.items() if it}
