@@ -9,13 +9,14 @@ from typing import Callable, Iterator, Optional
 
 from . import inside, names
 
-LINK, SHUT, PIPE, COMPRESSED, OURS, OTHER, TIME = "link", "shut", "pipe", "compressed", "ours", "other", "time"
+LINK, SHUT, PIPE, COMPRESSED, OURS, OTHER, TIME, ONLY = "link", "shut", "pipe", "compressed", "ours", "other", "time", "only"
 # No manifest has room for this time in nanoseconds, for a later one, or for one before its negative.
 LATEST = 1 << 63
 FAR = "has a time after the year 2262 or before 1678, for which the manifest has no room"
 ADVICE = {
     TIME: "give it another time by touch, and run fzbatch again",
     LINK: "pack the folder or file that it leads to, or replace it by a file; with --skip-links links are left out",
+    ONLY: "replace the link by the file that it leads to, or give that a name that ends with .fits, .fit or .fts, and run fzbatch pack again",
     SHUT: "allow it to be read, and run fzbatch again",
     PIPE: "copy it to a file",
     COMPRESSED: "it is in no archive of fzbatch: decompress it into the folder, and run fzbatch pack again; with --skip-compressed such files are left out",
@@ -111,7 +112,7 @@ def _look(found: Scan, path: bytes, entry: os.DirEntry[bytes], wanted: Chooses, 
         else:
             found.others[names.suffix_of(entry.name)] += 1
     elif stat.S_ISLNK(it.st_mode):
-        _link(found, path, entry, lambda name: wanted(name) or compressed(name))
+        _link(found, path, entry, lambda name: wanted(name) or compressed(name), compressed is names.is_compressed_fits)
     elif is_wanted or compressed(entry.name):
         found.left.append(Left(path, "is no file, but a pipe, a socket or a device", ADVICE[PIPE], PIPE))
     return None
@@ -125,7 +126,7 @@ def _begins_as_fits(root: bytes, path: bytes) -> bool:
         return False
 
 
-def _link(found: Scan, path: bytes, entry: os.DirEntry[bytes], wanted: Chooses) -> None:
+def _link(found: Scan, path: bytes, entry: os.DirEntry[bytes], wanted: Chooses, of_plain: bool) -> None:
     """A symbolic link is named if its name is that of a FITS file, or if it leads to a folder or to nothing."""
     try:
         folder = stat.S_ISDIR(entry.stat(follow_symlinks=True).st_mode)
@@ -136,7 +137,17 @@ def _link(found: Scan, path: bytes, entry: os.DirEntry[bytes], wanted: Chooses) 
             target = names.shown(os.readlink(os.path.join(found.root, path)))
         except OSError:
             target = "?"
+        if of_plain and not folder and _is_only_here(found.root, path, wanted):
+            found.left.append(Left(path, f"is a symbolic link to {target}, a file of this folder whose name is not that of a FITS file, so it is in no archive", ADVICE[ONLY], ONLY))
+            return
         found.left.append(Left(path, f"is a symbolic link to {target}", ADVICE[LINK], LINK))
+
+
+def _is_only_here(root: bytes, path: bytes, wanted) -> bool:
+    """Whether a link leads to a file of the same folder that is not looked at by its own name: it goes with the folder."""
+    target = os.path.realpath(os.path.join(root, path))
+    inside_it = target.startswith(os.path.realpath(root).rstrip(b"/") + b"/")
+    return inside_it and os.path.isfile(target) and not wanted(os.path.basename(target))
 
 
 def is_packed(name: bytes) -> bool:

@@ -108,6 +108,30 @@ class OnlyALink(Archive):
         self.assertEqual(self.run_it("missing", "--without-plain", self.plain, self.packed)[0], 0)
 
 
+class OnlyByALink(Archive):
+    """A link to a file of the same folder whose name is not that of a FITS file: with the folder goes what it leads to."""
+
+    def test_it_is_not_left_out(self) -> None:
+        store = self.plain / ".store"
+        store.mkdir()
+        self.write(".store/0001", image(5))
+        os.symlink(".store/0001", self.plain / "c.fits")
+        os.symlink("c.fits", self.plain / "d.fits")
+        self.named("c.fits: is a symbolic link to .store/0001, a file of this folder whose name is not", "pack", self.plain, "--skip-links")
+        self.assertEqual(self.run_it("compare", self.plain)[0], 0)
+        self.looks("a file of this folder whose name is not that of a FITS file")
+        self.assertIn("Safe to delete the originals: no, 2 files", self.run_it("report", self.plain, "-o", self.room / "s.html")[1])
+
+    def test_links_that_lose_nothing(self) -> None:
+        (self.victim / "0001").write_bytes(image(5))
+        for name, target in (("c.fits", "n/b.fits"), ("d.fits", self.victim / "0001"), ("e.fits", "/nowhere"), ("f", "n")):
+            os.symlink(target, self.plain / name)
+        self.packs("--skip-links")
+        self.assertEqual(self.run_it("compare", self.plain)[0], 0)
+        self.assertEqual(self.run_it("missing", self.plain)[0], 0)
+        self.assertIn("Safe to delete the originals: yes, all 2 files\n", self.run_it("report", self.plain, "-o", self.room / "s.html")[1])
+
+
 class LinkToDir(Archive):
     """The folder of packed files is not in that of plain files, also if a link leads there."""
 
