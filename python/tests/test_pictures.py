@@ -13,7 +13,7 @@ import fzfits
 from fzfits import pictures
 from fzfits.batch import report, safe
 from fzfits.batch.manifest import Row
-from fzfits.batch.scan import Left, Scan
+from fzfits.batch.scan import Found, Left, Scan
 from fzfits.batch.survey import Finding, Survey
 from fzfits.pictures import NoPicture, charts, drawing, images, page
 
@@ -177,7 +177,7 @@ class Verdicts(unittest.TestCase):
     """The line whether the originals may be deleted."""
 
     def verdict(self, *rows, **more):
-        return safe.verdict_of(Survey(list(rows), found=Scan(b"/plain"), **more))
+        return safe.verdict_of(Survey(list(rows), found=Scan(b"/plain", {it.path: Found(it.path, 1, 1) for it in rows}), **more))
 
     def test_yes_only_if_all_were_compared(self):
         same, right = Row(b"a.fits", status="packed", check_line="same"), Row(b"b.fits", status="packed", check_line="right")
@@ -193,6 +193,10 @@ class Verdicts(unittest.TestCase):
     def test_not_known_without_the_originals(self):
         self.assertEqual(safe.verdict_of(Survey([Row(b"a.fits", status="packed", check_line="same")])).safe, False)
         self.assertEqual(self.verdict(lost="the folder has no FITS file").line, "Safe to delete the originals: not known")
+        rows = [Row(it, status="packed", check_line="same") for it in (b"a.fits", b"b.fits")]
+        none, one = Scan(b"/plain"), Scan(b"/plain", {b"a.fits": Found(b"a.fits", 1, 1)})
+        self.assertEqual(safe.verdict_of(Survey(rows, found=none)).line, "Safe to delete the originals: not known")
+        self.assertEqual(safe.verdict_of(Survey(rows, found=one)).line, "Safe to delete the originals: yes, all 1 file; not 1 file that is not there")
 
 
 if __name__ == "__main__":

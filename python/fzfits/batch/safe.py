@@ -39,6 +39,10 @@ def verdict_of(found: Survey) -> Verdict:
     if found.found is None or found.lost:
         return Verdict(False, f"{QUESTION} not known", [f"{found.lost or 'The originals are not there, so they were not looked at'}."])
     bad = {it.path for it in found.findings}
+    # nothing is known of these now: their disk may not be mounted
+    gone = {it.path for it in found.rows if it.done and it.path not in found.found.files} - bad
+    if gone and len(gone) == len(found.rows):
+        return Verdict(False, f"{QUESTION} not known", ["The originals are not there, so they were not looked at."])
     left = {it.path for it in found.left}
     # a link may go, since what it leads to stays; a file that was left out is only in the folder
     skipped = {it.path for it in found.skipped if it.sort == COMPRESSED}
@@ -46,10 +50,13 @@ def verdict_of(found: Survey) -> Verdict:
     others = sum(found.others.values())
     apart = [_are(others, "of another name is in no packed file.", "of other names are in no packed file.")] if others else []
     count = len(bad | left | skipped | waiting)
+    if gone:
+        apart.insert(0, _are(len(gone), "has no original here any more, so whether that changed was not looked at.", "have no originals here any more, so whether these changed was not looked at."))
     if not count:
-        every = _files(len(found.rows))
+        every = _files(len(found.rows) - len(gone))
         said = [f"Each of {every} was unpacked and compared with its original, and nothing changed since. First have a second copy of the packed files on another disk."]
-        but = f"; not {_are(others, 'of another name', 'of other names')}" if others else ""
+        but = f"; not {_are(len(gone), 'that is not there', 'that are not there')}" if gone else ""
+        but += f"; not {_are(others, 'of another name', 'of other names')}" if others else ""
         return Verdict(True, f"{QUESTION} yes, all {every}{but}", said + apart)
     why = []
     if bad:

@@ -105,6 +105,20 @@ class SafeToDelete(Archive):
         self.assertIn("Safe to delete the originals: yes", self.run_it("report", self.plain, "-o", self.room / "r.html")[1])
 
 
+    def test_originals_that_are_not_there(self) -> None:
+        self.packs()
+        self.assertEqual(self.run_it("compare", self.plain)[0], 0)
+        report = ("report", self.plain, "-o", self.room / "r.html")
+        self.assertIn("Safe to delete the originals: yes, all 2 files\n", self.run_it(*report)[1])
+        (self.plain / "n" / "b.fits").rename(self.victim / "b.fits")
+        status, said = self.run_it(*report)
+        self.assertEqual((status, "yes, all 1 file; not 1 file that is not there" in said), (0, True), said)
+        self.assertIn("1 file has no original here any more, so whether that changed was not looked at.", (self.room / "r.html").read_text())
+        (self.plain / "a.fits").unlink()
+        status, said = self.run_it(*report, "--without-plain")
+        self.assertEqual((status, "Safe to delete the originals: not known" in said), (0, True), said)
+
+
 class SlurmArrays(Archive):
     """A run with --engine slurm names what needs no task and is not well; so does `collect`."""
 
