@@ -7,12 +7,12 @@ import stat
 from typing import Iterable, Iterator
 
 from . import files, inside, names
-from .manifest import Manifest, Row
+from .manifest import BadManifest, Manifest, Row
 
 HEAD = b"# SHA-256 of the packed files of this folder, written by fzbatch. To compare: sha256sum -c SHA256SUMS\n"
 UNFINISHED = re.compile(rb"(fzbatch\.sqlite\.copy|SHA256SUMS|fzbatch\.tasks)\.[0-9a-f]{12}\.new")
 # A path has at most 4 kB, each byte of which is written as two.
-LONGEST, MOST = 16 << 10, 1 << 32
+LONGEST = 16 << 10
 LINE = re.compile(rb"(\\?)([0-9a-f]{64}) [ *](.+)")
 
 
@@ -72,19 +72,23 @@ def line_of(path: bytes, sha256: str) -> bytes:
 
 
 def read_sums(packed: bytes) -> "dict[bytes, str]":
-    """SHA256SUMS as it was written by fzbatch: the SHA-256 of each packed file; nothing if there is none, or another file."""
+    """SHA256SUMS as it was written by fzbatch: the SHA-256 of each packed file; nothing if there is none, or another file.
+
+    Raises `BadManifest` for a line that is none: of the file that it was about nothing would be known, not even that it is lost.
+    """
     path = os.path.join(packed, names.SUMS)
     if not files.there(path) or is_none_of_ours(path, HEAD):
         return {}
     found = {}
     with open(path, "rb") as it:
-        while it.tell() < MOST:
-            # a line without an end is none that fzbatch wrote, and neither is what follows
-            line = it.readline(LONGEST)
-            if not line.endswith(b"\n"):
-                break
-            parts = LINE.fullmatch(line[:-1])
-            if parts:
-                name = re.sub(rb"\\(.)", lambda it: b"\n" if it[1] == b"n" else it[1], parts[3], flags=re.S) if parts[1] else parts[3]
-                found[name] = parts[2].decode()
+        it.seek(len(HEAD))
+        number = 1
+        # a line without an end is none that fzbatch wrote
+        while line := it.readline(LONGEST):
+            number += 1
+            parts = LINE.fullmatch(line[:-1]) if line.endswith(b"\n") else None
+            if parts is None:
+                raise BadManifest(f"line {number} of {names.shown(path)} is none that fzbatch wrote, so it is not known of which file it was: keep the file elsewhere, correct the line or take it out, and start this again")
+            name = re.sub(rb"\\(.)", lambda it: b"\n" if it[1] == b"n" else it[1], parts[3], flags=re.S) if parts[1] else parts[3]
+            found[name] = parts[2].decode()
     return found

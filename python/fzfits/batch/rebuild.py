@@ -74,7 +74,10 @@ def remove_unfinished(packed: bytes) -> None:
 
 def tasks_of(packed: bytes, old: "dict[bytes, Row]") -> "tuple[list[Task], list[Row], list[bytes]]":
     """A task for each packed file, a row for each that is known and lost, and the names that are those of no packed file of fzbatch."""
-    sums = keep.read_sums(packed)
+    sums: "dict[bytes, str]" = {}
+    # the second copy says of each file what SHA256SUMS does
+    with suppress(*((BadManifest,) if old else ())):
+        sums = keep.read_sums(packed)
     here = scan_packed(packed).files
     tasks: "list[Task]" = []
     strange = []

@@ -123,6 +123,9 @@ class _Run:
             copy = os.path.join(self.wanted.packed, names.COPY)
             if not files.there(path) and files.there(copy):
                 raise Refuse(f"{names.shown(path)} is not there, and its second copy is: fzbatch rebuild makes it again from the copy and the packed files (or move the copy away, and fzbatch pack begins anew)")
+            if not files.there(path):
+                # what it says of packed files is kept, so it has to be whole
+                keep.read_sums(self.wanted.packed)
             return checked(Manifest(path), self.wanted.packed)
         find_manifest(self.wanted.packed)
         if lock.is_writable(self.wanted.packed) and os.access(path, os.W_OK):

@@ -94,6 +94,35 @@ class BegunAnew(Archive):
         self.packs()
 
 
+class DamagedSums(Archive):
+    """A line of SHA256SUMS that is damaged hides no packed file that is lost."""
+
+    def test_rebuild_and_pack(self) -> None:
+        self.packs()
+        path = self.packed / "SHA256SUMS"
+        data = path.read_bytes()
+        at = data.index(b"  a.fits.fz")
+        for it in ("fzbatch.sqlite", "fzbatch.sqlite.copy", "a.fits.fz"):
+            (self.packed / it).unlink()
+        for bad in (data[: at - 1] + b"g" + data[at:], data[:at] + b"\xa0 " + data[at + 2 :], data[:-1]):
+            path.write_bytes(bad)
+            for words in (("rebuild", self.packed), ("pack", self.plain), ("rebuild", self.packed)):
+                status, said = self.run_it(*words)
+                self.assertEqual((status, "SHA256SUMS is none that fzbatch wrote" in said), (2, True), said)
+                self.assertEqual((path.read_bytes(), (self.packed / "fzbatch.sqlite").exists()), (bad, False))
+        path.write_bytes(data)
+        self.named("a.fits", "rebuild", self.packed)
+
+    def test_the_second_copy_says_the_same(self) -> None:
+        self.packs()
+        path = self.packed / "SHA256SUMS"
+        path.write_bytes(path.read_bytes()[:-1])
+        for it in ("fzbatch.sqlite", "a.fits.fz"):
+            (self.packed / it).unlink()
+        self.named("a.fits", "rebuild", self.packed)
+        self.assertTrue(path.read_bytes().endswith(b"\n"))
+
+
 class CertifiedAnew(Archive):
     """A packed file that SHA256SUMS names as another one is not certified after `pack` looked at it."""
 

@@ -87,7 +87,12 @@ class Names(InAFolder):
     @given(some.binary(max_size=300))
     def test_sums_of_others_are_read_without_a_fault(self, data: bytes) -> None:
         (self.room / "SHA256SUMS").write_bytes(keep.HEAD + data)
-        keep.read_sums(os.fsencode(self.room))
+        try:
+            found = keep.read_sums(os.fsencode(self.room))
+        except manifest.BadManifest as error:
+            self.assertIn("is none that fzbatch wrote", str(error))
+        else:
+            self.assertEqual(len(found) > 0, bool(data))
 
 
 class Messages(unittest.TestCase):
