@@ -10,6 +10,7 @@ from unittest import mock
 
 sys.path[:0] = [str(Path(__file__).resolve().parents[1])]
 
+from batch.test_finds import flip  # noqa: E402
 from batch.two_files import Archive, image  # noqa: E402
 from fzfits.batch import keep, manifest  # noqa: E402
 
@@ -41,6 +42,22 @@ class OlderManifest(Archive):
         self.lose("c.fits")
         shutil.copy(self.room / "backup", self.packed / "fzbatch.sqlite")
         self.rejected()
+
+    def test_of_the_same_run_before_its_end(self) -> None:
+        """A backup that was made while the run was at work: what that run found later is not in it."""
+        self.packs()
+        self.assertEqual(self.run_it("verify", self.packed, "--engine", "slurm")[0], 0)
+        shutil.copy(self.packed / "fzbatch.sqlite", self.room / "backup")
+        flip(self.packed / "a.fits.fz")
+        self.assertEqual(self.run_it("share", self.plain, self.packed)[0], 1)
+        self.named("a.fits", "collect", self.packed)
+        self.looks("a.fits")
+        shutil.copy(self.room / "backup", self.packed / "fzbatch.sqlite")
+        for verb in ("missing", "status", "pack"):
+            status, said = self.run_it(verb, self.plain, self.packed)
+            self.assertEqual((status, "knows later runs" in said), (2, True), f"{verb}: {said}")
+        self.named("a.fits", "rebuild", self.packed)
+        self.looks("a.fits")
 
     def test_of_another_archive(self) -> None:
         self.write("c.fits", image(5))
