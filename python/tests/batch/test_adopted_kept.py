@@ -127,6 +127,37 @@ class LostManifest(Whole):
         self.assertEqual(self.run_it("adopt", self.night)[0], 0)
 
 
+class OlderManifest(Whole):
+    """A manifest whose second copy knows later runs, or the end of one, is an older one: what was found since is not forgotten."""
+
+    def test_from_a_backup(self) -> None:
+        path, copy = self.night / "small.fits", Path(f"{self.manifest}.copy")
+        shutil.copy(self.manifest, self.room / "backup")
+        data, it = bytearray(path.read_bytes()), path.stat()
+        data[3000] ^= 1
+        path.write_bytes(data)
+        os.utime(path, ns=(it.st_atime_ns, it.st_mtime_ns))
+        self.named("small.fits", "verify", self.night)
+        kept = copy.read_bytes()
+        shutil.copy(self.room / "backup", self.manifest)
+        for words in (("missing",), ("status",), ("report", "-o", self.room / "r.html"), ("adopt",), ("verify",), ("pack", "--beside"), ("forget", "--name", "small.fits")):
+            self.named("is an older one", words[0], self.night, *words[1:], status=2)
+        self.named("is an older one", "missing", self.night, "--manifest", self.manifest, "--manifest", self.manifest, status=2)
+        self.assertEqual(copy.read_bytes(), kept)
+        # as the message says
+        self.manifest.unlink()
+        shutil.copy(copy, self.manifest)
+        self.named("small.fits: it has the length and the time that it had, and other bytes", "missing", self.night)
+
+    def test_a_copy_that_is_older_or_damaged_says_nothing(self) -> None:
+        copy = Path(f"{self.manifest}.copy")
+        before = copy.read_bytes()
+        self.assertEqual(self.run_it("verify", self.night)[0], 0)
+        for it in (before, before[:3000], b"SQLite format 3\0", b""):
+            copy.write_bytes(it)
+            self.assertEqual(self.run_it("missing", self.night)[0], 0)
+
+
 class ForgetWhatIsBack(Whole):
     """A file that is back is not taken out of the manifest: another one in its place would be adopted as it is."""
 

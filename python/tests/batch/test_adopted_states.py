@@ -87,6 +87,11 @@ class States(Adopted):
             for it in ("", *endings):
                 Path(f"{self.manifest}{it}").unlink()
 
+        def older() -> None:
+            before = self.manifest.read_bytes()
+            self.run_it("verify", night)
+            self.manifest.write_bytes(before)
+
         def killed() -> None:
             subprocess.run([sys.executable, "-c", KILLED_IN_COMMIT, self.manifest], check=False)
             self.assertTrue(Path(f"{self.manifest}-journal").exists())
@@ -124,6 +129,7 @@ class States(Adopted):
             "a row of the manifest is gone or changed": row("DELETE FROM files WHERE name = CAST('small.fits' AS BLOB)"),
             "the manifest is damaged": damaged,
             "the manifest is empty": lambda: self.manifest.write_bytes(b"") and None,
+            "an older manifest is in the place of the manifest": older,
             "the manifest is lost": lost,
             "the manifest and its second copy are lost": lambda: lost(".copy"),
             "the manifest, its second copy and its list are lost": lambda: lost(".copy", ".SHA256SUMS"),

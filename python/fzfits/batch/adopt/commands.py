@@ -121,6 +121,7 @@ class _Opened:
                 found.append((self.folder, places.opened(path, self.folder)))
                 continue
             store = Store(path, writes=False)
+            places.check_not_older(store)
             folder = store.fact("folder")
             if not isinstance(folder, bytes) or not (folder == self.folder or folder.startswith(self.folder.rstrip(b"/") + b"/")):
                 store.close()

@@ -7,11 +7,11 @@ import stat
 import time
 from typing import Dict, Iterator, List, Optional, Sequence
 
-from .. import files, inside, keep, lock, machine, names
+from .. import files, inside, keep, lock, machine, names, older
 from ..opening import BadManifest
 from ..scan import folders_of
 from ..wanted import Refuse
-from . import copying, listing, lists
+from . import copying, forms, listing, lists
 from .named import beside
 from .store import Store
 from .walk import MANY
@@ -36,11 +36,22 @@ def opened(path: bytes, folder: bytes, writes: bool = False, moved: bool = False
     if not files.there(path):
         raise Refuse(f"{names.shown(path)} is not there: fzbatch adopt {names.shown(folder)} makes it")
     made = Store(path, writes)
+    check_not_older(made)
     known = made.fact("folder")
     if known is not None and known != folder and not moved:
         made.close()
         raise Refuse(f"{names.shown(path)} is the manifest of {names.shown(known)}, and not of {names.shown(folder)}: after a folder was moved, fzbatch adopt --moved says so")
     return made
+
+
+def check_not_older(store: Store) -> None:
+    """Closes the manifest and raises `BadManifest` if its second copy knows a run, or the end of one, that it does not: a backup of it came back."""
+    copy = store.path + COPY
+    if older.runs_of(copy, forms.check_tables) <= older.known((it[1], it[7]) for it in store.runs()):
+        return
+    store.close()
+    said = f"the manifest {names.shown(store.path)} is an older one, or that of another folder: {names.shown(copy)}, its second copy, knows later runs"
+    raise BadManifest(f"{said}. If the copy is the right one, move the manifest away and copy the copy to its name; otherwise move the copy away")
 
 
 def check_new(path: bytes) -> None:
