@@ -158,6 +158,16 @@ class OlderManifest(Whole):
             self.assertEqual(self.run_it("missing", self.night)[0], 0)
 
 
+class NoManifest(Whole):
+    """A folder of manifests that has none, as on a disk that is not mounted, does not mean the one beside the folder."""
+
+    def test_it_is_named(self) -> None:
+        many = self.room / "many"
+        many.mkdir()
+        for verb in ("status", "missing", "report"):
+            self.named("many: no manifest", verb, self.night, "--manifest", many, status=2)
+
+
 class ForgetWhatIsBack(Whole):
     """A file that is back is not taken out of the manifest: another one in its place would be adopted as it is."""
 

@@ -89,7 +89,10 @@ def many(given: "Sequence[bytes]") -> "List[bytes]":
     for it in given:
         path = os.path.realpath(it)
         if os.path.isdir(path):
-            found += [os.path.join(path, name) for name in sorted(os.listdir(path)) if name.endswith(b".sqlite")]
+            here = [os.path.join(path, name) for name in sorted(os.listdir(path)) if name.endswith(b".sqlite")]
+            if not here:
+                raise Refuse(f"--manifest {names.shown(it)}: no manifest (a file whose name ends with .sqlite) is in this folder: is its disk mounted?")
+            found += here
         else:
             found.append(path)
     return found
