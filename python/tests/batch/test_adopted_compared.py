@@ -63,6 +63,13 @@ class EachPlainFile(Compared):
         self.assertEqual(self.run_it("forget", self.night, "--name", "a.fits.fz")[0], 0)
         self.named("a.fits: it has no packed file", "compare", self.plain, self.night)
 
+    def test_a_packed_file_among_the_plain_ones(self) -> None:
+        """It is compared with no other file, so only the very same one stands for it."""
+        shutil.copy(self.night / "a.fits.fz", self.plain / "a.fits.fz")
+        self.assertEqual(self.run_it("compare", self.plain, self.night)[0], 0)
+        (self.plain / "a.fits.fz").write_bytes(image(7))
+        self.named("a.fits.fz: it has no packed file", "compare", self.plain, self.night)
+
     def test_links(self) -> None:
         self.put("b.fits", image(2), packed=False)
         (self.plain / "b.fits").rename(self.room / "b.fits")

@@ -97,11 +97,22 @@ class Compare:
             for seen in walk(root, 0, 1):
                 left += seen.left
                 for name, _, _ in entries(root, seen.path):
-                    if not any(store.row(seen.path, name + it) is not None for it in form):
+                    if not any(self._stands_for(store, root, seen.path, name, it) for it in form):
                         self.count.not_well(os.path.join(seen.path, name), [finding])
             kept, notes = run.kept_left(store, left)
             self.count.left += kept
             self.count.notes += [it for it in notes if left]
+
+    def _stands_for(self, store: Store, root: bytes, folder: bytes, name: bytes, ending: bytes) -> bool:
+        """Whether a file of the manifest stands for one of these folders: of a packed one beside plain files only the very same file does."""
+        row = store.row(folder, name + ending)
+        if row is None or ending or root == self.wanted.folder or not name.lower().endswith(names.PACKED):
+            return row is not None
+        try:
+            with inside.file(root, row.path) as number:
+                return files.look_at(number).sha256 == row.sha256.hex()
+        except OSError:
+            return False
 
     def _sum_up(self) -> None:
         for outcome, what in (("pixels", "have the pixels and tables of their plain file, and another header: whether that is all that fpack was given is not known"), ("part", "have an HDU that fz does not decode, which was not compared"), ("compressed", "are compressed as a whole, and were not compared")):
