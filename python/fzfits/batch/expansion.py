@@ -9,7 +9,7 @@ BLOCK, CARD, BLOCKS_OF_A_HEADER = 2880, 80, 256
 RATIO = 1000
 # No file is longer; a header may say more, in numbers of thousands of digits.
 LONGEST = 1 << 62
-KEYS = re.compile(rb"(Z?NAXIS[0-9]{0,3}|Z?BITPIX|PCOUNT|GCOUNT) *= +(-?[0-9]{1,18}) *(?:/.*)?")
+KEYS = re.compile(rb"(Z?NAXIS[0-9]{0,3}|Z?BITPIX|PCOUNT|GCOUNT) *= +([+-]?[0-9]{1,18}) *(?:/.*)?")
 PACKED = re.compile(rb"ZIMAGE  = +T *(?:/.*)?")
 # How the cards begin that are looked at more closely: most others are passed by without a pattern.
 SIZES, ZIMAGE, END = (b"NAXIS", b"ZNAXIS", b"BITPIX", b"ZBITPIX", b"PCOUNT", b"GCOUNT"), b"ZIMAGE  =", b"END     "

@@ -12,6 +12,7 @@ from pathlib import Path
 sys.path[:0] = [str(Path(__file__).resolve().parents[1])]
 
 from batch.two_files import FZ, SAMPLES, Archive  # noqa: E402
+from fzfits.batch import expansion  # noqa: E402
 from making.fits import BLOCK, card, filled, header  # noqa: E402
 
 
@@ -53,6 +54,19 @@ class SmallInputLargeCost(Archive):
         path.write_text(f"#!/bin/sh\n{text}\n")
         path.chmod(0o755)
         return str(path)
+
+    def test_a_length_may_have_its_sign(self) -> None:
+        """What a packed file would become is known as `fz` reads its header."""
+        cards = [card("SIMPLE", True), card("BITPIX", 8), card("NAXIS", 0)]
+        more = [b"XTENSION= 'BINTABLE'".ljust(80), card("BITPIX", 8), card("NAXIS", 2), card("NAXIS1", 8), card("NAXIS2", 1), card("PCOUNT", 0), card("GCOUNT", 1), card("ZIMAGE", True), card("ZBITPIX", 8), card("ZNAXIS", 1)]
+        found = []
+        for length in ("900000000", "+900000000"):
+            path = self.room / "signs"
+            path.write_bytes(header(cards) + header([*more, f"ZNAXIS1 = {length:>20}".ljust(80).encode()]) + bytes(2880))
+            with path.open("rb") as it:
+                found.append(expansion.warning(expansion.unpacked(it.fileno(), path.stat().st_size), path.stat().st_size))
+        self.assertIn("it would unpack to 900,00", found[0])
+        self.assertEqual(found[0], found[1])
 
     def test_pipes_do_not_hold_a_run(self) -> None:
         self.packs()
