@@ -17,6 +17,8 @@ BAD = ("refused", "failed", "changed", "damaged", "lost", "differs", "gone", "ki
 VERBS = ("pack", "verify", "compare", "restore")
 VERIFIED, CAME_BACK = 1, 2
 LONGEST = 1 << 20
+# No text of a result is longer.
+LONG = 20_000
 
 
 class BadMessage(Exception):
@@ -174,6 +176,7 @@ class Result(Message):
         self.escape()
 
     def escape(self) -> None:
-        """Shows characters that control a terminal by their numbers, in all text."""
+        """Shows characters that control a terminal by their numbers, in all text, and cuts what no row of a manifest has room for."""
         for name in ("cause", "line", "advice", "sums_line", "warning"):
-            setattr(self, name, names.told(getattr(self, name)))
+            text = names.told(getattr(self, name))
+            setattr(self, name, text if len(text) <= LONG else f"{text[:LONG]} ..")

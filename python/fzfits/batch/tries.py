@@ -16,6 +16,8 @@ WRONG_OPTIONS = "wrong options"
 # A run of fz may take so long, and a second more for each million bytes.
 LEAST_SECONDS = 300.0
 BYTES_OF_A_SECOND = 1e6
+# So many HDUs with a wrong checksum are named of a file.
+NAMED = 20
 
 
 class Stop(Exception):
@@ -41,8 +43,10 @@ def opened(settings: Settings, task: Task) -> Iterator[int]:
 
 
 def wrong_lines(ended: Outcome) -> str:
-    """The lines of `fz verify` about wrong checksums."""
-    return "; ".join(it for it in ended.lines if "wrong" in it)
+    """The lines of `fz verify` about wrong checksums: the first of them, and how many more there are."""
+    found = [it for it in ended.lines if "wrong" in it]
+    more = [f"and {len(found) - NAMED:,} more HDUs"] if len(found) > NAMED else []
+    return "; ".join(found[:NAMED] + more)
 
 
 def is_the_plain_file(settings: Settings, task: Task, result: Result) -> None:

@@ -12,7 +12,7 @@ from pathlib import Path
 sys.path[:0] = [str(Path(__file__).resolve().parents[1])]
 
 from batch.two_files import FZ, SAMPLES, Archive  # noqa: E402
-from fzfits.batch import expansion  # noqa: E402
+from fzfits.batch import checks, expansion, manifest, messages, record  # noqa: E402
 from making.fits import BLOCK, card, filled, header  # noqa: E402
 
 
@@ -67,6 +67,19 @@ class SmallInputLargeCost(Archive):
                 found.append(expansion.warning(expansion.unpacked(it.fileno(), path.stat().st_size), path.stat().st_size))
         self.assertIn("it would unpack to 900,00", found[0])
         self.assertEqual(found[0], found[1])
+
+    def test_many_wrong_checksums_are_one_short_line(self) -> None:
+        """A row of the manifest has room for it, so the run goes on."""
+        cards = [b"XTENSION= 'IMAGE   '".ljust(80), card("BITPIX", 8), card("NAXIS", 0), card("PCOUNT", 0), card("GCOUNT", 1), card("DATASUM", "7")]
+        self.write("many.fits", header([card("SIMPLE", True), card("BITPIX", 8), card("NAXIS", 0)]) + header(cards) * 300)
+        for words, wanted in (((), 1), (("--accept-wrong-sums",), 0), ((), 0)):
+            status, said = self.run_it("pack", self.plain, *words)
+            self.assertEqual((status, "and 280 more HDUs" in said, "3 files" in said), (wanted, True, True), said)
+        self.assertEqual(self.run_it("verify", self.packed)[0], 0)
+        long = messages.Result(b"a.fits", "pack", line="x" * checks.LONGEST, sums_line="x" * checks.LONGEST + "x")
+        long.escape()
+        with manifest.Manifest(os.fsencode(self.packed / "fzbatch.sqlite")) as it:
+            self.assertEqual(record.record(it, None, long, "", "").line[-5:], "xx ..")
 
     def test_pipes_do_not_hold_a_run(self) -> None:
         self.packs()
