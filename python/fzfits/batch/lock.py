@@ -54,14 +54,14 @@ def held(path: bytes, shared: bool = False) -> Iterator[None]:
         os.close(number)
 
 
-def folder(number: int) -> bool:
-    """Takes the lock of an open folder until it is closed: False if another run has it, which may have another manifest."""
+def takes(number: int) -> bool:
+    """Takes the lock of an open file or folder until it is closed: False if another run has it, which may have another manifest."""
     try:
         fcntl.flock(number, fcntl.LOCK_EX | fcntl.LOCK_NB)
     except BlockingIOError:
         return False
     except OSError:
-        # a disk whose folders have no locks
+        # a disk without such locks
         pass
     return True
 

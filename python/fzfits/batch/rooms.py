@@ -1,7 +1,8 @@
 """Scratch folders: one in memory for small files, so that no disk waits for them, and one on a disk for large ones.
 
-A folder of a run has a file `room` with the folder of packed files and the token of the run. The next run, which has the lock of that
-folder, removes a folder of a killed run only if that file says that it was one, and only files with names that a run gives.
+A folder of a run has a file `room` with the folder of packed files and the token of the run, and the run holds the lock of that file.
+The next run removes a folder of a killed run only if that file says that it was one, if nobody holds its lock (a run that only compares
+may be at work beside this one), and only files with names that a run gives.
 """
 from __future__ import annotations
 
@@ -14,7 +15,7 @@ import threading
 from contextlib import contextmanager
 from typing import Iterator, Optional
 
-from . import files, inside
+from . import files, inside, lock
 
 MEMORY = b"/dev/shm"
 # Files up to this size are small, if the memory has room for that many of them.
@@ -31,6 +32,7 @@ class Rooms:
         self.packed, self.token = packed, token
         self.small = 0 if os.environ.get("TMPDIR") else min(SMALL, _free(MEMORY) // (16 * max(1, jobs)))
         self._made: dict[Optional[bytes], bytes] = {}
+        self._held: "list[int]" = []
         self._lock = threading.Lock()
         self._count = 0
 
@@ -49,8 +51,10 @@ class Rooms:
 
     def _make(self, where: Optional[bytes]) -> bytes:
         path = os.fsencode(tempfile.mkdtemp(prefix=f"fzbatch-{self.token}-", dir=os.fsdecode(where) if where else None))
-        with open(os.path.join(path, MARK), "xb") as to:
-            to.write(_mark(self.packed, self.token))
+        number = os.open(os.path.join(path, MARK), os.O_WRONLY | os.O_CREAT | os.O_EXCL | os.O_CLOEXEC, 0o600)
+        self._held.append(number)
+        lock.takes(number)
+        os.write(number, _mark(self.packed, self.token))
         return path
 
     def close(self) -> None:
@@ -58,6 +62,8 @@ class Rooms:
         for it in self._made.values():
             shutil.rmtree(it, ignore_errors=True)
         self._made.clear()
+        while self._held:
+            os.close(self._held.pop())
 
 
 @contextmanager
@@ -96,7 +102,8 @@ def _remove(path: bytes, mark: bytes) -> None:
         found = os.fstat(above)
         with inside.file(path, MARK) as number:
             said = os.pread(number, 8192, 0)
-        if found.st_uid != os.geteuid() or stat.S_IMODE(found.st_mode) != 0o700 or not mark.startswith(said):
+            is_at_work = not lock.takes(number)
+        if is_at_work or found.st_uid != os.geteuid() or stat.S_IMODE(found.st_mode) != 0o700 or not mark.startswith(said):
             return
         for name in sorted(os.listdir(above), key=lambda it: os.fsencode(it) == MARK):
             if INSIDE.fullmatch(os.fsencode(name)):

@@ -15,7 +15,7 @@ sys.path[:0] = [str(Path(__file__).resolve().parents[1])]
 
 from batch import hostile  # noqa: E402
 from batch.two_files import KILLED_IN_COMMIT, Archive, image  # noqa: E402
-from fzfits.batch import manifest  # noqa: E402
+from fzfits.batch import manifest, rooms  # noqa: E402
 
 
 class WhatAKilledRunLeaves(Archive):
@@ -153,6 +153,21 @@ class ManifestsOfOtherTypes(Archive):
             make(self.packed, self.victim)
             self.starts("verify", self.packed, env={"TMPDIR": str(scratch)})
             self.assertEqual([(it / "kept").read_text() for it in theirs], ["kept", "kept"])
+
+    def test_folders_of_a_run_that_is_at_work(self) -> None:
+        """Such as that of `compare` of an adopted folder, which holds no lock of the manifest."""
+        for small in (1 << 20, 0):
+            made = rooms.Rooms(b"/a/folder", "0123456789abcdef")
+            self.addCleanup(made.close)
+            made.small = small
+            path = made.name(10, b"again")
+            Path(os.fsdecode(path)).write_bytes(b"at work")
+            rooms.remove_of_killed(b"/a/folder")
+            self.assertTrue(os.path.exists(path))
+            # a run that was killed has nothing open
+            os.close(made._held.pop())
+            rooms.remove_of_killed(b"/a/folder")
+            self.assertFalse(os.path.exists(os.path.dirname(path)))
 
     def test_other_types(self) -> None:
         for column in ("path", "size", "mtime", "sha256", "packed_size", "status", "seconds", "wrong_sums", "packed_at", "line"):

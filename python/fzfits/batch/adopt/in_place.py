@@ -169,7 +169,7 @@ class InPlace:
         did, place = self.did, self.place
         assert did.plain is not None and did.packed is not None
         with inside.folder(self.asked.folder, place.folder) as above, suppress(FileNotFoundError):
-            if not lock.folder(above):
+            if not lock.takes(above):
                 return False
             for one, looked in ((place.name, did.plain), (place.packed_name, did.packed)):
                 it = os.stat(one, dir_fd=above, follow_symlinks=False)
