@@ -2,6 +2,8 @@
 from __future__ import annotations
 
 import dataclasses
+import hashlib
+import json
 import os
 import shlex
 import shutil
@@ -18,6 +20,7 @@ from batch.test_adopted import FZ, SAMPLES, Adopted  # noqa: E402
 from fzfits.batch import files  # noqa: E402
 from fzfits.batch.adopt.in_place import InPlace as OneFile, Place  # noqa: E402
 from fzfits.batch.adopt.messages import Asked  # noqa: E402
+from fzfits.batch.adopt.store import Store  # noqa: E402
 from fzfits.batch.rooms import Rooms  # noqa: E402
 from making import strange_faults  # noqa: E402
 
@@ -186,6 +189,18 @@ class InPlace(Adopted):
             self.assertEqual(status, 1)
             for it in ("a.fits", "a.fits.fz"):
                 self.assertIn(f"{it}: it is not there", said)
+
+    def test_a_manifest_of_others_has_no_packed_file_removed(self) -> None:
+        self.run_it("pack", "--beside", self.night)
+        other = self.before["n/b.fits"][0]
+        (self.night / "a.fits").write_bytes(other)
+        with Store(os.fsencode(self.manifest)) as it:
+            row = it.row(b"", b"a.fits.fz")
+            assert row is not None
+            row.made_of = json.dumps({**json.loads(row.made_of), "sha256": hashlib.sha256(other).hexdigest(), "size": len(other)})
+            it.put(row)
+        status, said = self.run_it("restore", "--beside", self.night, "--delete")
+        self.assertEqual((status, "a.fits: what comes back is another file" in said, (self.night / "a.fits.fz").exists()), (1, True, True), said)
 
     def test_a_wrong_checksum_is_not_packed(self) -> None:
         shutil.copy(SAMPLES / "sums.fits", self.night / "wrong.fits")

@@ -148,10 +148,12 @@ class InPlace:
                 self.did.looked = self.did.began
                 if now.sha256 != self.place.packed_sha256:
                     raise Undone("packed file changed", "the packed file is another than the one that was made", advice.ANOTHER_COPY)
+                self.fz.check_growth(source, wanted.size)
                 if is_there(above, self.place.name):
                     self._same(above, wanted)
+                    # the manifest may be that of others, and the packed file be removed
+                    self._restores(source, max(now.size, wanted.size), wanted.sha256)
                     return
-                self.fz.check_growth(source, wanted.size)
                 try:
                     self._expect("unpack", source, max(now.size, wanted.size), out=self.part, above=above)
                     after = self._finished(above, wanted.mode & 0o777, wanted.mtime)
@@ -234,15 +236,19 @@ class InPlace:
         """The packed file is right, and what comes back is the plain file, byte for byte."""
         self.fz.check_growth(number, before.size)
         ended = self._expect("verify", number, before.size)
-        again = self.room.name(before.size, b"again")
+        self._restores(number, before.size, before.sha256)
+        self.did.looked = self.did.began
+        self.did.hdus = hdus_text(number, ended)
+
+    def _restores(self, number: int, size: int, sha256: str) -> None:
+        """Unpacks an open packed file into the folder for temporary files, and compares what comes back."""
+        again = self.room.name(size, b"again")
         try:
-            self._expect("unpack", number, before.size, out=again)
-            if files.look(again).sha256 != before.sha256:
+            self._expect("unpack", number, size, out=again)
+            if files.look(again).sha256 != sha256:
                 raise Undone("unpacked file differs from the original", "what comes back is another file than the one that was packed", "keep the plain file, and report it")
         finally:
             files.remove(again)
-        self.did.looked = self.did.began
-        self.did.hdus = hdus_text(number, ended)
 
     def _accept(self, above: int, before: files.Looked) -> None:
         """A packed file is there, of a killed run or of another packer: it is taken if the plain file comes back from it."""
