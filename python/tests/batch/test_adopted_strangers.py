@@ -87,6 +87,15 @@ class Rows(Strangers):
             tracemalloc.stop()
 
 
+    def test_a_row_that_no_memory_has_room_for(self) -> None:
+        for width in (10**10, 10**15):
+            head = cards_of(5, 0, (1, 5), "GZIP_1", 1)
+            at = head.index(b"NAXIS1  =")
+            self.put(EMPTY + head[:at] + card("NAXIS1", width) + head[at + 80 :] + bytes(2880))
+            status, said = self.run_it("adopt", self.night, "--reread", "0")
+            self.assertEqual((status, "big.fits.fz" in said, "Memory" in said, "Overflow" in said), (1, True, False, False), said)
+
+
 class Records(Strangers):
     """Records of gzip that rows share, and files with many faulty tiles, have no more time than a file has."""
 

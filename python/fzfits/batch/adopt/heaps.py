@@ -45,7 +45,9 @@ def descriptors(number: int, header: Header, found: "List[Column]", size: int) -
     heap = header.data + header.integer("THEAP", width * many)
     for first in range(0, many if width > 0 else 0, ROWS_AT_ONCE):
         count = min(ROWS_AT_ONCE, many - first)
-        piece = os.pread(number, width * count, header.data + first * width)
+        at = header.data + first * width
+        # a header may claim rows that no memory has room for
+        piece = os.pread(number, max(0, min(width * count, size - at)), at)
         for row in range(len(piece) // width):
             line = piece[row * width : (row + 1) * width]
             here = []
