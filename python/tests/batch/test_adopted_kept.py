@@ -10,9 +10,10 @@ from pathlib import Path
 
 sys.path[:0] = [str(Path(__file__).resolve().parents[1])]
 
-from batch.test_adopted import FZ  # noqa: E402
+from batch.test_adopted import FZ, SAMPLES  # noqa: E402
 from batch.test_adopted_called_well import Whole  # noqa: E402
 from batch.two_files import image  # noqa: E402
+from making.fits import card, filled, header  # noqa: E402
 
 
 def write(path: Path, data: bytes, time: int = 1) -> None:
@@ -125,6 +126,56 @@ class LostManifest(Whole):
         self.assertEqual(listed.read_bytes(), kept)
         listed.unlink()
         self.assertEqual(self.run_it("adopt", self.night)[0], 0)
+
+
+class OnlyInThePackedFile(Whole):
+    """`retile` replaces no file that has what the file which it stands for has not: it would be gone."""
+
+    def setUp(self) -> None:
+        super().setUp()
+        subprocess.run([FZ, "pack", SAMPLES / "star_field.fits", self.room / "packed"], check=True)
+        self.head, self.table = (self.room / "packed").read_bytes()[:2880], (self.room / "packed").read_bytes()[2880:]
+
+    def retiles(self, data: bytes, said: str = "") -> None:
+        """It is adopted, and named by `retile`, or packed again if nothing is said."""
+        path = self.night / "new.fits.fz"
+        write(path, data)
+        self.assertEqual(self.run_it("adopt", self.night, "--update", "--reread", "0")[0], 0)
+        self.named(said or "retiled", "retile", self.night, "--tile", "20,20", status=int(bool(said)))
+        self.assertEqual(path.read_bytes() == data, bool(said))
+
+    def with_card(self, text: str) -> bytes:
+        """The packed file with one more card in its table, after TFORM2."""
+        at = self.table.index(b"TFORM2") + 80
+        cards = self.table[: self.table.index(b"END     ") + 80]
+        made = cards[:at] + text.encode().ljust(80) + cards[at:]
+        return self.head + made + b" " * (-len(made) % 2880) + self.table[len(cards) + -len(cards) % 2880 :]
+
+    def test_a_card_of_the_first_header(self) -> None:
+        cards = [card("SIMPLE", True), card("BITPIX", 8), card("NAXIS", 0), card("EXTEND", True)]
+        self.retiles(header([*cards, card("OBSERVER", "Herschel")]) + self.table, "HDU 0 has a card OBSERVER")
+        self.retiles(header([*cards, b"HISTORY made by hand".ljust(80)]) + self.table, "HDU 0 has a card 'HISTORY made by hand'")
+        fpack = [b"COMMENT   FITS (Flexible Image Transport System) format is defined in 'Astronomy".ljust(80), b"COMMENT   and Astrophysics', volume 376, page 359; bibcode: 2001A&A...376..359H".ljust(80)]
+        self.retiles(header([*cards, *fpack]) + self.table)
+
+    def test_a_card_of_the_table(self) -> None:
+        self.retiles(self.with_card("ZBLANK  =                   -5"), "HDU 1 has a card ZBLANK")
+        self.retiles(self.with_card("OBSERVER= 'Herschel'"))
+        self.retiles(self.with_card("EXTNAME = 'COMPRESSED_IMAGE'   / of fpack"))
+
+    def test_a_column_of_the_table(self) -> None:
+        cards = self.table[: self.table.index(b"END     ")]
+        read = {it: int(cards[cards.index(it.ljust(8).encode() + b"=") + 10 :][:20]) for it in ("NAXIS1", "NAXIS2", "PCOUNT", "TFIELDS")}
+        made = []
+        for at in range(0, len(cards), 80):
+            name = cards[at : at + 8].rstrip().decode()
+            more = {"NAXIS1": 8, "TFIELDS": 1}.get(name)
+            made.append(card(name, read[name] + more) if more else cards[at : at + 80])
+            made += [b"TTYPE3  = 'QUALITY'".ljust(80), b"TFORM3  = '1D'".ljust(80)] if name == "TFORM2" else []
+        rows = self.table[len(cards) + 80 + -(len(cards) + 80) % 2880 :]
+        wide, many = read["NAXIS1"], read["NAXIS2"]
+        table = b"".join(rows[it * wide : (it + 1) * wide] + bytes(8) for it in range(many)) + rows[wide * many : wide * many + read["PCOUNT"]]
+        self.retiles(self.head + header(made) + filled(table), "HDU 1 has a column QUALITY")
 
 
 class OlderManifest(Whole):

@@ -9,17 +9,22 @@ from __future__ import annotations
 import os
 from typing import Iterator, List
 
+from ...headers import headers
 from .. import advice, files, inside
 from ..inside import opened_in
 from ..opening import BadManifest
 from ..rooms import Rooms
 from ..tries import wrong_lines
+from . import only_packed
 from .alone import hdus_text
 from .beside import Beside
 from .calling import Undone
 from .in_place import Did, InPlace, Place
 from .messages import Asked
 from .rows import PART, RIGHT, Finding, Row
+
+# It has what the file that it stands for has not.
+ONLY = "something would be lost"
 
 
 class Retiled(InPlace):
@@ -71,20 +76,23 @@ class Retiled(InPlace):
         made = opened_in(above, self.part)
         try:
             ended = self._expect("verify", made, os.fstat(made).st_size)
-            both = [self._unpacked(it) for it in (source, made)]
+            both = [self._unpacked(it, it == source) for it in (source, made)]
             if both[0] != both[1]:
                 raise Undone("unpacked file differs from the original", "the file that was packed again restores another one", "the old file stays; report it")
             self.did.looked, self.did.hdus = self.did.began, hdus_text(made, ended)
         finally:
             os.close(made)
 
-    def _unpacked(self, number: int) -> str:
+    def _unpacked(self, number: int, is_old: bool) -> str:
         out = self.room.name(os.fstat(number).st_size, b"again")
         try:
             self._expect("unpack", number, os.fstat(number).st_size, out=out)
             checked = self.fz.run("verify", out, os.fstat(number).st_size)
             if checked.status == 1:
                 raise Undone("image checksum is wrong", wrong_lines(checked), "fetch the file from another copy")
+            lost = only_packed.lost(list(headers(f"/proc/self/fd/{number}")), list(headers(out))) if is_old else ""
+            if lost:
+                raise Undone(ONLY, f"{lost}, which the file that it stands for has not, and a new one would not have", "the old file stays; if that may be lost, fz retile makes another file of it")
             return files.look(out).sha256
         finally:
             files.remove(out)
