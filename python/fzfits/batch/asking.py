@@ -97,6 +97,8 @@ def source_of(packed: bytes) -> bytes:
 def wanted_of(asked: argparse.Namespace) -> Wanted:
     """What a run is asked for. Raises `Refuse` if that makes no sense."""
     plain, packed = folders(asked, asked.verb in ("verify", "compare"))
+    if asked.verb == "pack" and _has_manifest(plain):
+        raise Refuse(f"{names.shown(plain)} has a manifest ({names.MANIFEST.decode()}), so it is a folder of packed files: the folder of plain files is named first, as in fzbatch pack {typed(packed)} {typed(plain)} (if it is none, move the manifest away)")
     wanted = Wanted(asked.verb, plain, packed, program=asked.fz, memory=asked.memory, jobs=asked.jobs, engine=asked.engine)
     wanted.time_limit = max(0.0, asked.time_limit)
     wanted.scheduler, wanted.allow_empty, wanted.all_names = asked.scheduler, asked.allow_empty, asked.all

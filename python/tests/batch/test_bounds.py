@@ -12,7 +12,7 @@ from pathlib import Path
 
 sys.path[:0] = [str(Path(__file__).resolve().parents[1])]
 
-from batch.two_files import FZ, FZBATCH, Archive  # noqa: E402
+from batch.two_files import FZ, FZBATCH, Archive, tree  # noqa: E402
 from fzfits.batch import wanted  # noqa: E402
 
 # A file with holes of this length takes minutes to be read.
@@ -70,6 +70,18 @@ class Parser(Archive):
         for words in (("verify", self.packed, "-\x1b]0;title\x07"), ("status", self.packed, "--all\x1b[31m"), ("verify", self.packed, "--jobs", "\x1b[31m"), ("nothing\x1b[31m",)):
             status, said = self.starts(*words)
             self.assertEqual((status, "\x1b" in said, "\x07" in said), (2, False, False), repr(said))
+
+
+class SwappedFolders(Archive):
+    """`pack` of a folder of packed files into that of the plain ones is a slip: nothing is written among the originals."""
+
+    def test_it_is_rejected(self) -> None:
+        self.packs()
+        before = tree(self.plain)
+        status, said = self.run_it("pack", self.packed, self.plain)
+        self.assertEqual((status, "is a folder of packed files" in said), (2, True), said)
+        self.assertEqual(tree(self.plain), before)
+        self.packs()
 
 
 class DryRun(Archive):
