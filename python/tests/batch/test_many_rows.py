@@ -42,11 +42,15 @@ class ManyRows(Adopted):
         sql.close()
 
     def finds(self, statuses: "dict[tuple[str, ...], int]") -> None:
-        """Each command has this status, on the same manifest."""
-        kept = self.manifest.read_bytes()
+        """Each command has this status, on the same manifest and the same files beside it."""
+        # the second copy and the list are not older than the manifest, so nothing writes them anew; none of them knows the run of the command before
+        kept = [(it, it.read_bytes(), it.stat()) for it in (Path(f"{self.manifest}{end.decode()}") for end in (places.COPY, places.SUMS))]
+        changed = self.manifest.read_bytes()
         for words, status in statuses.items():
-            self.manifest.write_bytes(kept)
-            # the second copy and the list are not older, so nothing writes them anew
+            for path, held, was in kept:
+                path.write_bytes(held)
+                os.utime(path, ns=(was.st_atime_ns, was.st_mtime_ns))
+            self.manifest.write_bytes(changed)
             os.utime(self.manifest, ns=self.times)
             found, said = self.run_it(*words, self.night)
             self.assertEqual(found, status, f"{words}: {said}")
