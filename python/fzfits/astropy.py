@@ -6,7 +6,8 @@
 From then on astropy decodes and encodes RICE_1 and PLIO_1 by libfz, in all threads of this process: faster, and a damaged tile raises
 `fzfits.errors.BadCode` (a ValueError, and of the class that astropy raises) in the place of wrong pixels. What astropy writes is read by everybody as before. It needs
 astropy 5.3 or later, whose codecs are classes; what it replaces is no public part of astropy, so an astropy that has moved it makes
-`install` raise `NotSupported`, and changes nothing.
+`install` raise `NotSupported`, and changes nothing. Images of integers are decoded by `fzfits.astropy_images`, if this astropy has the
+function whose place it takes.
 """
 from __future__ import annotations
 
@@ -17,13 +18,14 @@ from typing import Any, Dict, Optional
 
 import numpy as np
 
-from . import codec
+from . import astropy_images, codec
 from .errors import BadArgument, BadCode, FzError
-from .library import load
+from .library import check, load
 
 # Where astropy has the table of its codecs: from 6.1 on, and before.
 MODULES = ("astropy.io.fits.hdu.compressed._tiled_compression", "astropy.io.fits._tiled_compression.tiled_compression")
 TABLE = "ALGORITHMS"
+PACKAGE = "astropy.io.fits"
 # What astropy raises if a tile is damaged, in a module beside that one, and how its texts begin.
 ERROR = "_compression", "CfitsioException"
 TEXTS = {21: "decompression error: hit end of compressed byte stream"}
@@ -31,25 +33,33 @@ TEXT = "decompression error"
 RANGE = "data out of range for PLIO compression"
 NAMES = ("RICE_1", "RICE_ONE", "PLIO_1")
 
-# The codecs that were replaced, by their names, while libfz is in their place.
+# The codecs that were replaced, by their names, while libfz is in their place; and the function that decodes images, by the modules that name it.
 _OWN: Dict[str, Any] = {}
+_READERS: Dict[str, Any] = {}
 
 
 class NotSupported(FzError):
     """This astropy has no codecs that can be replaced."""
 
 
-def table() -> Dict[str, Any]:
-    """The table of astropy's codecs. Raises `NotSupported`."""
+def home() -> Any:
+    """The module of astropy that has the table of its codecs. Raises `NotSupported`."""
     for name in MODULES:
         try:
-            found = getattr(importlib.import_module(name), TABLE, None)
+            module = importlib.import_module(name)
         except ImportError:
             continue
+        found = getattr(module, TABLE, None)
         if isinstance(found, dict) and "RICE_1" in found and "PLIO_1" in found:
-            return found
+            return module
     version = getattr(sys.modules.get("astropy"), "__version__", "not installed")
     raise NotSupported(f"astropy is {version}, and its codecs were not found", advice="fzfits.astropy needs astropy 5.3 or later.")
+
+
+def table() -> Dict[str, Any]:
+    """The table of astropy's codecs. Raises `NotSupported`."""
+    found: Dict[str, Any] = getattr(home(), TABLE)
+    return found
 
 
 @lru_cache(maxsize=None)
@@ -78,6 +88,14 @@ def damaged(number: int, kind: str, meaning: str) -> BadCode:
     """What a damaged tile raises."""
     made: BadCode = error_class()(number, kind, meaning=meaning)
     return made
+
+
+def raise_damaged(answer: int) -> None:
+    """Raises what an answer of libfz means that is not 0."""
+    try:
+        check(answer)
+    except BadCode as error:
+        raise damaged(error.number, error.kind, error.meaning) from None
 
 
 def numbers_of(buffer: Any, kind: str) -> Any:
@@ -141,6 +159,18 @@ def install() -> None:
     _OWN.update({name: codecs[name] for name in NAMES if name in codecs})
     rice, plio = rice_over(_OWN["RICE_1"]), plio_over(_OWN["PLIO_1"])
     codecs.update({name: plio if name == "PLIO_1" else rice for name in _OWN})
+    put_reader(home())
+
+
+def put_reader(module: Any) -> None:
+    """Puts the function that decodes images in the place of astropy's, wherever that is named, unless this astropy has another one."""
+    if not astropy_images.is_known(module):
+        return
+    own, ours = getattr(module, astropy_images.NAME), astropy_images.over(module, raise_damaged)
+    for name, it in list(sys.modules.items()):
+        if name.startswith(f"{PACKAGE}.") and getattr(it, astropy_images.NAME, None) is own:
+            _READERS[name] = own
+            setattr(it, astropy_images.NAME, ours)
 
 
 def uninstall() -> None:
@@ -148,6 +178,9 @@ def uninstall() -> None:
     if _OWN:
         table().update(_OWN)
         _OWN.clear()
+    for name, own in _READERS.items():
+        setattr(sys.modules[name], astropy_images.NAME, own)
+    _READERS.clear()
 
 
 def is_installed() -> bool:
