@@ -14,7 +14,7 @@ from __future__ import annotations
 import importlib
 import sys
 from functools import lru_cache
-from typing import Any, Dict, Optional
+from typing import Any, Dict, Optional, Tuple
 
 import numpy as np
 
@@ -33,9 +33,9 @@ TEXT = "decompression error"
 RANGE = "data out of range for PLIO compression"
 NAMES = ("RICE_1", "RICE_ONE", "PLIO_1")
 
-# The codecs that were replaced, by their names, while libfz is in their place; and the function that decodes images, by the modules that name it.
+# The codecs that were replaced, by their names, while libfz is in their place; and the functions that were, by the modules that name them.
 _OWN: Dict[str, Any] = {}
-_READERS: Dict[str, Any] = {}
+_READERS: Dict[Tuple[str, str], Any] = {}
 
 
 class NotSupported(FzError):
@@ -163,14 +163,15 @@ def install() -> None:
 
 
 def put_reader(module: Any) -> None:
-    """Puts the function that decodes images in the place of astropy's, wherever that is named, unless this astropy has another one."""
+    """Puts the functions that decode images and read records in the place of astropy's, wherever they are named, unless this astropy has others."""
     if not astropy_images.is_known(module):
         return
-    own, ours = getattr(module, astropy_images.NAME), astropy_images.over(module, raise_damaged)
-    for name, it in list(sys.modules.items()):
-        if name.startswith(f"{PACKAGE}.") and getattr(it, astropy_images.NAME, None) is own:
-            _READERS[name] = own
-            setattr(it, astropy_images.NAME, ours)
+    for name, over in ((astropy_images.RECORD, astropy_images.record_over), (astropy_images.NAME, astropy_images.over)):
+        own, ours = getattr(module, name), over(module, raise_damaged)
+        for place, it in list(sys.modules.items()):
+            if place.startswith(f"{PACKAGE}.") and getattr(it, name, None) is own:
+                _READERS[place, name] = own
+                setattr(it, name, ours)
 
 
 def uninstall() -> None:
@@ -178,8 +179,8 @@ def uninstall() -> None:
     if _OWN:
         table().update(_OWN)
         _OWN.clear()
-    for name, own in _READERS.items():
-        setattr(sys.modules[name], astropy_images.NAME, own)
+    for (place, name), own in _READERS.items():
+        setattr(sys.modules[place], name, own)
     _READERS.clear()
 
 

@@ -5,6 +5,7 @@ or of a section. astropy's own takes as long for what it does around a short til
 once, libfz decodes some tiles one after the other, and one assignment puts them where they belong. That is for images of 8, 16 or 32 bits
 in RICE_1 or PLIO_1 that are not quantised, if each tile that is asked for has its code within the heap. Any other image, a few tiles, and
 any header of which it is not plain what astropy makes, go to astropy's own function: so what comes back is the same, and so is each error.
+But `record_over` adds numbers of a descriptor without the limit of 32 bits that they have in astropy.
 """
 from __future__ import annotations
 
@@ -24,7 +25,11 @@ from .library import load
 # The function, what it is passed, and what it calls itself and this module too.
 NAME = "decompress_image_data_section"
 ARGUMENTS = ["compressed_data", "compression_type", "compressed_header", "bintable", "image_header", "first_tile_index", "last_tile_index"]
-HELPERS = "_check_compressed_header", "_header_to_settings", "_tile_shape", "_data_shape"
+HELPERS = "_check_compressed_header", "_header_to_settings", "_tile_shape", "_data_shape", "_get_data_from_heap"
+# The one of these that reads a record: it is replaced, too.
+RECORD = HELPERS[-1]
+# What is at fault if a number of a descriptor is below 0.
+DESCRIPTOR_RANGE = -18
 COLUMN = "COMPRESSED_DATA"
 # The tiles of a quantised image, or of one whose undefined pixels differ from tile to tile, are more than their codes.
 MORE = {"ZSCALE", "ZBLANK"}
@@ -81,6 +86,23 @@ def over(home: Any, damaged: Callable[[int], None]) -> Any:
     return decompress_image_data_section
 
 
+def record_over(home: Any, damaged: Callable[[int], None]) -> Any:
+    """What takes the place of the function that reads one record.
+
+    astropy adds numbers of a descriptor with their own 32 bits. A sum beyond them raises, so that a section after byte 2^31 of a file is
+    not read; or it becomes negative, and numpy then reads before the file, from memory that may not be there. A sum of Python has no end.
+    """
+    own = getattr(home, RECORD)
+
+    @functools.wraps(own)
+    def _get_data_from_heap(hdu: Any, size: Any, offset: Any, *given: Any, **named: Any) -> Any:
+        if min(size, offset) < 0:
+            damaged(DESCRIPTOR_RANGE)
+        return own(hdu, int(size), int(offset), *given, **named)
+
+    return _get_data_from_heap
+
+
 def asked_of(home: Any, rows: Any, codec: str, header: Any, bintable: Any, image_header: Any, first: Any, last: Any) -> Optional[Asked]:
     """What is asked for, or None if it is for astropy's own function."""
     names = rows.dtype.names
@@ -134,9 +156,6 @@ def codes_of(descriptors: Any, heap_len: int, bintable: Any, unit: int, is_whole
     """The codes of tiles, or None if one of them has none, or not within the heap. Of a whole image the heap is read at once, as astropy does it."""
     (counts, starts), heap_at = descriptors.astype(np.int64).T, bintable._data_offset + bintable._theap
     if counts.min() < 1 or counts.max() > heap_len // unit or starts.min() < 0 or (starts > heap_len - unit * counts).any() or type(heap_at) is not int:
-        return None
-    # astropy's sums have the bits of a descriptor, and beyond them are its own
-    if heap_at + heap_len > np.iinfo(descriptors.dtype).max:
         return None
     if not is_whole:
         return read(bintable, np.dtype(f">u{unit}"), (heap_at + starts).tolist(), counts.tolist())

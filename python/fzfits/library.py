@@ -25,7 +25,7 @@ PLACES = (HERE / "_lib" / SONAME, HERE / "_lib" / "libfz.so", HERE.parents[1] / 
 TO_DO = f"make lib builds it in a checkout and make install installs it; or set {NAMED_BY} to its path."
 
 # The kinds of what a call refuses, for the case that docs/REFUSALS.md is nowhere; the answer is minus the number.
-KINDS = {21: "CodeShort", 22: "CodeValue", 23: "LineList", 24: "PixelRange", 25: "TileSize"}
+KINDS = {18: "DescriptorRange", 21: "CodeShort", 22: "CodeValue", 23: "LineList", 24: "PixelRange", 25: "TileSize"}
 # The other answers: the caller asks for something that there is not.
 ARGUMENTS = {
     -101: "no such codec, or not with this block, bytepix or BITPIX: block is 1 to 32,767 and bytepix 1, 2 or 4 (the bytes of a pixel, if a tile is encoded), and 64 bits are only stored",

@@ -182,6 +182,24 @@ class Images(InAFolder):
                 self.assertEqual(loop.call_count, 2 if is_ours else 0)
                 self.assertTrue(not is_ours or now[0][0] == "DamagedTile")
 
+    def test_a_descriptor_that_leads_before_the_file(self):
+        image = np.tile(np.arange(32, dtype="i2"), (12, 1))
+        before = "DescriptorRange", "DescriptorRange"
+        for start, texts in ((b"\x7f\xff\xff\xff", ("CodeShort", "buffer is too small")), (b"\xff\xff\xff\xf0", before), (b"\x80\0\0\0", before)):
+            self.write(image, (1, 32))
+            self.hurt(8 * 3 + 4, start)
+            for fewest in (1, 16):
+                with plugged(), mock.patch.object(images, "FEWEST_TILES", fewest):
+                    for text, (_, said) in zip(texts, self.told()):
+                        self.assertIn(text, said)
+
+    def test_a_heap_after_byte_2_to_the_31(self):
+        found = []
+        own = mock.Mock(side_effect=lambda hdu, size, offset, *more: found.append((type(offset), 2 * 10**9 + offset)))
+        with mock.patch.object(plug.home(), images.RECORD, own):
+            images.record_over(plug.home(), plug.raise_damaged)(None, np.int32(5), np.int32(2 * 10**9), np.uint8)
+        self.assertEqual(found, [(int, 4 * 10**9)])
+
     def test_put_in_and_taken_out(self):
         from astropy.io.fits.hdu.compressed import section
 
