@@ -113,12 +113,12 @@ class InPlace(Adopted):
         self.run_it("adopt", self.night)
         (self.night / "other.fits").rename(self.night / "a.fits")
         self.run_it("adopt", self.night)
-        (self.night / "a.fits").rename(self.night / "other.fits")
+        (self.night / "a.fits").rename(self.night / "third.fits")
         self.run_it("adopt", self.night)
         status, said = self.run_it("pack", "--beside", self.night, "--delete", "--accept-wrong-sums")
         self.assertEqual(status, 1)
-        self.assertIn("other.fits: it is not well by the manifest", said)
-        self.assertTrue((self.night / "other.fits").exists() and not (self.night / "other.fits.fz").exists())
+        self.assertIn("third.fits: it is not well by the manifest", said)
+        self.assertTrue((self.night / "third.fits").exists() and not (self.night / "third.fits.fz").exists())
         self.assertEqual(self.run_it("missing", self.night)[0], 1)
 
     def test_a_lost_packed_file_and_a_plain_one_that_changed(self) -> None:

@@ -150,7 +150,8 @@ class Beside:
         number = others = 0
         for folder in [it.path for it in self.store.folders()]:
             for row in list(self.store.rows_of(folder)):
-                if row.plain is None:
+                # a file that was given another name may have no .fz any more
+                if row.plain is None or not row.name.endswith(names.PACKED):
                     others += row.sort == "packed"
                     continue
                 number += 1

@@ -195,9 +195,7 @@ class Run:
         return bool(self.count.stopped)
 
     def _record(self, found: Found, waiting: Waiting, writes: bool) -> bool:
-        row = self.store.row(found.folder, found.name)
-        packed = self.store.row(found.folder, names.packed_name(found.name)) if row is None else None
-        made = verdict.of(found, row, waiting.had, self.number, self.wanted.update, packed)
+        made = verdict.of(found, self.store.row, waiting.had, self.number, self.wanted.update)
         if made is None:
             said = Finding("not read", f"{found.cause}: {found.line}" if found.line != found.cause else found.line, found.advice)
             self.unkept.not_well(found.path, [said])

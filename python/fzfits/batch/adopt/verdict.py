@@ -18,6 +18,8 @@ ANOTHERS = "has the bytes of another file"
 OURS = ("rotten", "changed", ANOTHERS, "renamed", "gone", "not read")
 
 Had = Callable[[bytes, bytes, bytes], "Optional[Tuple[bytes, bytes, bool]]"]
+# The row of a file, by its folder and its name.
+Rows = Callable[[bytes, bytes], Optional[Row]]
 
 
 @dataclass
@@ -35,18 +37,17 @@ def sort_of(found: "List[Finding]", hdus: str) -> str:
     return PART if any(it.undecoded for it in hdus_of(hdus)) else RIGHT
 
 
-def of(found: Found, row: Optional[Row], had: Had, run: int, update: bool, packed: Optional[Row] = None) -> "Optional[Verdict]":
-    """What a result makes of a row. None for a new file that could not be read: there is nothing to be kept of it yet.
-
-    `packed` is the row of the packed file beside a new one, if the manifest knows that.
-    """
+def of(found: Found, rows: Rows, had: Had, run: int, update: bool) -> "Optional[Verdict]":
+    """What a result makes of a row. None for a new file that could not be read: there is nothing to be kept of it yet."""
+    row = rows(found.folder, found.name)
     if found.outcome == "unread":
         return _unread(found, row, run)
     if row is None:
+        packed = rows(found.folder, names.packed_name(found.name))
         plain = packed.plain if packed is not None and not update else None
         if plain is not None and plain.sha256 != found.sha256.hex():
             return Verdict(_not_what_was_packed(found, run, plain))
-        return _new(found, had, run, update)
+        return _new(found, rows, had, run, update)
     if row.next and found.sha256 == row.next:
         # a run of retile was killed before it said so
         row = replace(row, sha256=row.next)
@@ -74,7 +75,7 @@ def _not_what_was_packed(found: Found, run: int, plain: Plain) -> Row:
     return replace(row, sha256=bytes.fromhex(plain.sha256), status=CHANGED, found=packed_text([said, *row.findings]))
 
 
-def _new(found: Found, had: Had, run: int, update: bool) -> Verdict:
+def _new(found: Found, rows: Rows, had: Had, run: int, update: bool) -> Verdict:
     row = _made(found, run)
     own = row.findings
     row.status = sort_of(own, row.hdus)
@@ -84,14 +85,21 @@ def _new(found: Found, had: Had, run: int, update: bool) -> Verdict:
     before = other[0] + b"/" + other[1] if other[0] else other[1]
     if other[2]:
         # the file that had these bytes is gone: it has another name now
-        if not update:
-            row.was, row.status = before, RENAMED
-            row.found = packed_text([Finding("renamed", f"it was {names.shown(before)}", NAME), *own])
-        return Verdict(row, (other[0], other[1]))
+        return Verdict(_with_new_name(row, rows(other[0], other[1]), before, update), (other[0], other[1]))
     if not update:
         row.was, row.status = before, CHANGED
         row.found = packed_text([_bytes_of(before), *own])
     return Verdict(row)
+
+
+def _with_new_name(row: Row, old: Optional[Row], before: bytes, update: bool) -> Row:
+    """The row of a file under its new name, with what only the old row knows. Its first name is the one that it should have."""
+    own = row.findings
+    if old is not None:
+        row.made_of, row.adopted, own = old.made_of, old.adopted, [*old.accepted, *own]
+        before = old.was if old.was and old.status in (RENAMED, GONE) else before
+    row.was = b"" if update or before == row.path else before
+    return _named(row, own)
 
 
 def _bytes_of(before: bytes) -> Finding:
@@ -115,10 +123,15 @@ def _same(found: Found, row: Row, run: int, update: bool) -> Row:
     if is_copy and made.was:
         made.status, made.found = CHANGED, packed_text([_bytes_of(made.was), *own])
         return made
-    renamed = [Finding("renamed", f"it was {names.shown(made.was)}", NAME)] if made.was else []
-    made.found = packed_text([*renamed, *own])
-    made.status = RENAMED if renamed else sort_of(own, made.hdus)
-    return made
+    return _named(made, own)
+
+
+def _named(row: Row, own: "List[Finding]") -> Row:
+    """The row with its state and its findings, first that it has another name, if it has."""
+    renamed = [Finding("renamed", f"it was {names.shown(row.was)}", NAME)] if row.was else []
+    row.found = packed_text([*renamed, *own])
+    row.status = RENAMED if renamed else sort_of(own, row.hdus)
+    return row
 
 
 def _other(found: Found, row: Row, had: Had, run: int, update: bool) -> Row:
