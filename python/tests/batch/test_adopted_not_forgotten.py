@@ -9,6 +9,7 @@ sys.path[:0] = [str(Path(__file__).resolve().parents[1])]
 
 from batch.test_adopted_called_well import Whole  # noqa: E402
 from batch.test_adopted_kept import write  # noqa: E402
+from batch.test_finds import flip  # noqa: E402
 from batch.two_files import image  # noqa: E402
 
 
@@ -65,6 +66,34 @@ class NewName(Whole):
         path.rename(other)
         self.named("p.fits: it was small.fits", "adopt", self.night)
         other.rename(path)
+        self.assertEqual(self.run_it("adopt", self.night)[0], 0)
+        self.assertEqual(self.run_it("missing", self.night), (0, ""))
+
+
+class Restored(Whole):
+    """A plain file that was restored is known by its SHA-256, also after its packed file was removed."""
+
+    def setUp(self) -> None:
+        super().setUp()
+        self.path = self.night / "small.fits"
+        self.assertEqual(self.run_it("pack", "--beside", "--delete", self.night)[0], 0)
+        self.assertEqual(self.run_it("restore", "--beside", "--delete", self.night)[0], 0)
+        self.assertTrue(self.path.exists())
+
+    def test_rot_is_found(self) -> None:
+        flip(self.path)
+        self.named("small.fits: it was restored, and", "missing", self.night)
+        self.named("small.fits: it has the length and the time that it had, and other bytes", "adopt", self.night)
+
+    def test_another_file(self) -> None:
+        write(self.path, image(9))
+        for words in (("pack", "--beside", "--delete"), ("verify",), ("adopt",)):
+            self.named("small.fits", *words, self.night)
+        self.assertTrue(self.path.exists())
+
+    def test_it_is_adopted_or_packed_again(self) -> None:
+        self.assertEqual(self.run_it("pack", "--beside", self.night)[0], 0)
+        self.assertEqual(self.run_it("restore", "--beside", "--delete", self.night)[0], 0)
         self.assertEqual(self.run_it("adopt", self.night)[0], 0)
         self.assertEqual(self.run_it("missing", self.night), (0, ""))
 

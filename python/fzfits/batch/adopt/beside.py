@@ -30,7 +30,7 @@ from .alone import SUMS, WRONG_IMAGE
 from .count import Count
 from .in_place import Did, InPlace, Place
 from .messages import Asked
-from .rows import ACCEPTED, FAULTY, RIGHT, Finding, Row, packed_text
+from .rows import ACCEPTED, FAULTY, RESTORED, RIGHT, UNREAD, Finding, Row, packed_text
 from .scratch import scratch
 from .store import Store
 from .walk import entries, walk
@@ -202,6 +202,8 @@ class Beside:
                     self.store.forget(it.place.folder, it.place.packed_name)
                 else:
                     self.store.put(self._row(it.did))
+                if it.did.plain is not None and self.wanted.verb == "restore" and self.store.row(it.place.folder, it.place.name) is None:
+                    self.store.put(self._row_of_plain(it.did, it.did.plain))
             self.store.save()
         except BadManifest as error:
             self.store.give_up()
@@ -224,6 +226,10 @@ class Beside:
             # what was accepted is kept, and named as if it had been adopted
             made.status, made.found = FAULTY, packed_text([Finding(SUMS, f"{ACCEPTED}: {did.wrong_sums}", WRONG_IMAGE)])
         return made
+
+    def _row_of_plain(self, did: Did, plain: files.Looked) -> Row:
+        """A restored file is adopted with the SHA-256 that it had when it was packed: the row that has it is gone with the packed file."""
+        return Row(did.place.folder, did.place.name, plain.size, plain.mtime, did.began, bytes.fromhex(plain.sha256), "plain", UNREAD, found=packed_text([RESTORED]), adopted=self.number, read_in=self.number)
 
     def _delete(self, it: InPlace) -> None:
         place = it.place

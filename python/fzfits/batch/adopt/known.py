@@ -6,7 +6,7 @@ from typing import TYPE_CHECKING
 from .. import advice, files, names
 from .alone import SUMS
 from .calling import Undone
-from .rows import NOT_WELL
+from .rows import NOT_WELL, RESTORED
 
 if TYPE_CHECKING:
     from .in_place import Place
@@ -19,7 +19,7 @@ def check_plain(place: "Place", before: files.Looked, accept: bool) -> None:
     row = place.adopted
     if row is not None and row.sha256.hex() != before.sha256:
         raise Undone("plain file changed", "the plain file is another than the one that was adopted", "fetch the one that was adopted from another copy; fzbatch adopt --update takes the file as it is now, if that is right")
-    if row is not None and row.status in NOT_WELL and not (accept and {it.cause for it in row.findings} <= {SUMS}):
+    if row is not None and row.status in NOT_WELL and row.findings != [RESTORED] and not (accept and {it.cause for it in row.findings} <= {SUMS}):
         raise Undone("not well", "it is not well by the manifest, and stays as it is", "fzbatch missing says what is wrong; if the file is right again, run fzbatch adopt first")
 
 

@@ -99,6 +99,10 @@ def findings_of(text: str) -> "List[Finding]":
     return [Finding(**it) for it in json.loads(text)]
 
 
+# What is said of a plain file that restore made, until adopt has read it.
+RESTORED = Finding("not read", "it was restored, and what is in it was not looked at since", "fzbatch adopt reads it")
+
+
 @dataclass
 class Plain:
     """A plain file that was packed beside itself: SHA-256, length, time in nanoseconds, and rights."""
