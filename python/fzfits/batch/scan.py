@@ -137,13 +137,13 @@ def _link(found: Scan, path: bytes, entry: os.DirEntry[bytes], wanted: Chooses, 
             target = names.shown(os.readlink(os.path.join(found.root, path)))
         except OSError:
             target = "?"
-        if of_plain and not folder and _is_only_here(found.root, path, wanted):
+        if of_plain and not folder and is_only_here(found.root, path, wanted):
             found.left.append(Left(path, f"is a symbolic link to {target}, a file of this folder whose name is not that of a FITS file, so it is in no archive", ADVICE[ONLY], ONLY))
             return
         found.left.append(Left(path, f"is a symbolic link to {target}", ADVICE[LINK], LINK))
 
 
-def _is_only_here(root: bytes, path: bytes, wanted) -> bool:
+def is_only_here(root: bytes, path: bytes, wanted: Chooses) -> bool:
     """Whether a link leads to a file of the same folder that is not looked at by its own name: it goes with the folder."""
     target = os.path.realpath(os.path.join(root, path))
     inside_it = target.startswith(os.path.realpath(root).rstrip(b"/") + b"/")

@@ -11,7 +11,7 @@ from dataclasses import dataclass, field
 from typing import Iterator, Optional, Tuple
 
 from .. import names
-from ..scan import ADVICE, FAR, LATEST, LINK, PIPE, SHUT, TIME, Left
+from ..scan import ADVICE, FAR, LATEST, LINK, ONLY, PIPE, SHUT, TIME, Left, is_only_here
 from .named import is_wanted
 from .store import LOOK, WIDE
 
@@ -56,29 +56,37 @@ def entries(root: bytes, path: bytes, seen: Optional[Seen] = None, at: bytes = b
                 if it.st_mode >> 12 == REGULAR and -LATEST <= it.st_mtime_ns < LATEST and (name.endswith(names.SUFFIXES) or is_wanted(name)):
                     yield name, it.st_size, it.st_mtime_ns
                 else:
-                    _other(seen, path, entry, it)
+                    _other(seen, root, entry, it)
     except OSError as error:
         seen.shut = True
         seen.left.append(Left(path or b".", f"cannot be read: {error.strerror}", ADVICE[SHUT], SHUT))
 
 
-def _other(seen: Seen, path: bytes, entry: "os.DirEntry[bytes]", it: os.stat_result) -> None:
-    below = os.path.join(path, entry.name)
+def _other(seen: Seen, root: bytes, entry: "os.DirEntry[bytes]", it: os.stat_result) -> None:
+    below = os.path.join(seen.path, entry.name)
     if stat.S_ISDIR(it.st_mode):
         seen.below.append(below)
     elif stat.S_ISLNK(it.st_mode):
-        try:
-            leads = stat.S_ISDIR(entry.stat(follow_symlinks=True).st_mode)
-        except OSError:
-            leads = False
-        if leads or is_wanted(entry.name):
-            seen.left.append(Left(below, "is a symbolic link", ADVICE[LINK].replace("pack the", "adopt the"), LINK))
+        _link(seen, root, below, entry)
     elif stat.S_ISREG(it.st_mode) and is_wanted(entry.name):
         seen.left.append(Left(below, FAR, ADVICE[TIME], TIME))
     elif stat.S_ISREG(it.st_mode):
         seen.others[names.suffix_of(entry.name)] += 1
     elif is_wanted(entry.name):
         seen.left.append(Left(below, "is no file, but a pipe, a socket or a device", ADVICE[PIPE], PIPE))
+
+
+def _link(seen: Seen, root: bytes, below: bytes, entry: "os.DirEntry[bytes]") -> None:
+    """A link that leads to a folder, or has the name of a file that is adopted."""
+    try:
+        leads = stat.S_ISDIR(entry.stat(follow_symlinks=True).st_mode)
+    except OSError:
+        leads = False
+    if is_wanted(entry.name) and not leads and is_only_here(root, below, is_wanted):
+        why = "is a symbolic link to a file of this folder whose name is not that of a FITS file, so it is in no manifest"
+        seen.left.append(Left(below, why, ADVICE[ONLY].replace("fzbatch pack", "fzbatch adopt"), ONLY))
+    elif leads or is_wanted(entry.name):
+        seen.left.append(Left(below, "is a symbolic link", ADVICE[LINK].replace("pack the", "adopt the"), LINK))
 
 
 def see(root: bytes, path: bytes, at: bytes = b"") -> Seen:
