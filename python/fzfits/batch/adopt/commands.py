@@ -6,7 +6,7 @@ import json
 import os
 import sys
 from dataclasses import asdict
-from typing import Callable, List, Optional, TextIO
+from typing import Callable, Iterator, List, Optional, Set, TextIO, Tuple
 
 from .. import files, inside, lock, machine, names
 from ..checks import Odd
@@ -110,36 +110,47 @@ class _Opened:
         whole.check(asked)
         self.folder, self.jobs = folder_of(asked), machine.processors()
         self.manifests = places.many(asked.manifest) or [places.manifest_of(self.folder, [])]
-        # lines about folders that none of several manifests has
-        self.uncovered: "List[str]" = []
+        self.several = len(self.manifests) > 1 or any(map(os.path.isdir, asked.manifest))
+        self._folders: "Set[bytes]" = set()
+        self._skips = True
 
-    def each(self) -> "List[tuple[bytes, Store]]":
-        """The one manifest of the folder, or those of folders in it."""
-        found = []
+    def each(self) -> "Iterator[Tuple[bytes, Store]]":
+        """The one manifest of the folder, or those of folders in it: one at a time is open, since there may be thousands."""
         for path in self.manifests:
-            if len(self.manifests) == 1:
-                found.append((self.folder, places.opened(path, self.folder)))
-                continue
-            store = Store(path, writes=False)
-            places.check_not_older(store)
-            folder = store.fact("folder")
-            if not isinstance(folder, bytes) or not (folder == self.folder or folder.startswith(self.folder.rstrip(b"/") + b"/")):
-                store.close()
-                raise Refuse(f"{names.shown(path)} is the manifest of {names.shown(folder or b'?')}, which is not in {names.shown(self.folder)}")
-            found.append((folder, store))
-        if len(found) > 1:
-            skips = all(store.fact("skip_links") for _, store in found)
-            self.uncovered = sorted(survey.uncovered(self.folder, {it for it, _ in found}, skips))
-        return found
+            with places.opened(path, self.folder) if not self.several else self._of_several(path) as store:
+                folder = store.fact("folder") if self.several else self.folder
+                self._folders.add(folder)
+                self._skips = self._skips and bool(store.fact("skip_links"))
+                yield folder, store
+
+    def _of_several(self, path: bytes) -> Store:
+        if not files.there(path):
+            raise Refuse(f"{names.shown(path)} is not there: fzbatch adopt makes it")
+        store = Store(path, writes=False)
+        places.check_not_older(store)
+        folder = store.fact("folder")
+        if not isinstance(folder, bytes) or not (folder == self.folder or folder.startswith(self.folder.rstrip(b"/") + b"/")):
+            store.close()
+            raise Refuse(f"{names.shown(path)} is the manifest of {names.shown(folder or b'?')}, which is not in {names.shown(self.folder)}")
+        return store
+
+    def before(self, folder: bytes) -> bytes:
+        """What the paths of one of several folders have before them."""
+        return b"" if folder == self.folder else os.path.relpath(folder, self.folder) + b"/"
+
+    def uncovered(self) -> "List[str]":
+        """Lines about folders that none of several manifests has, after `each` gave them all."""
+        return sorted(survey.uncovered(self.folder, self._folders, self._skips)) if self.several else []
 
     def tell_uncovered(self, to: TextIO) -> int:
-        """Prints the folders that none of the manifests has, and gives the status."""
-        for line in self.uncovered:
+        """Prints these, and gives the status."""
+        lines = self.uncovered()
+        for line in lines:
             print(line, file=to)
-        return NOT_DONE if self.uncovered else DONE
+        return NOT_DONE if lines else DONE
 
 
-def _told(row: Row) -> "dict[str, object]":
+def _told(row: Row, before: bytes) -> "dict[str, object]":
     """A row for JSON: names as bash reads them, hashes as digits, and what is JSON already as it is."""
     try:
         forms.check_lines(row)
@@ -147,6 +158,8 @@ def _told(row: Row) -> "dict[str, object]":
         raise BadManifest(f"{names.shown(row.path)}: {error}") from error
     texts = {it: names.shown(getattr(row, it)) if getattr(row, it) else "" for it in ("folder", "name", "was")}
     lines = {it: json.loads(getattr(row, it)) if getattr(row, it) else None for it in ("hdus", "found", "made_of")}
+    if before:
+        texts["folder"] = names.shown((before + row.folder).rstrip(b"/"))
     return {**asdict(row), **texts, **lines, "sha256": row.sha256.hex(), "next": row.next.hex()}
 
 
@@ -155,20 +168,19 @@ def status(asked: argparse.Namespace) -> int:
     worst = DONE
     found = _Opened(asked)
     for folder, store in found.each():
-        with store:
-            it = survey.Survey(store, folder, found.jobs)
-            try:
-                if asked.json:
-                    for row in store.rows():
-                        print(json.dumps(_told(row)))
-                    worst = max(worst, DONE if it.whole else NOT_DONE)
-                    continue
-                counted = survey.counted(it, "status", asked.all)
-            finally:
-                it.close()
-            for _, _, verb, _, _, _, began, ended, said in store.runs()[-1:]:
-                counted.notes += [f"The last run: {verb} at {began}: {said}"] if ended else []
-        if len(found.manifests) > 1:
+        it = survey.Survey(store, folder, found.jobs)
+        try:
+            if asked.json:
+                for row in store.rows():
+                    print(json.dumps(_told(row, found.before(folder))))
+                worst = max(worst, DONE if it.whole else NOT_DONE)
+                continue
+            counted = survey.counted(it, "status", asked.all)
+        finally:
+            it.close()
+        for _, _, verb, _, _, _, began, ended, said in store.runs()[-1:]:
+            counted.notes += [f"The last run: {verb} at {began}: {said}"] if ended else []
+        if found.several:
             print(f"{names.shown(folder)}:")
         counted.print(sys.stdout)
         worst = max(worst, DONE if counted.whole else NOT_DONE)
@@ -180,26 +192,25 @@ def missing(asked: argparse.Namespace) -> int:
     worst = DONE
     found = _Opened(asked)
     for folder, store in found.each():
-        before = b"" if folder == found.folder else os.path.relpath(folder, found.folder) + b"/"
-        with store:
-            it = survey.Survey(store, folder, found.jobs)
-            try:
-                for path, what in it.findings():
-                    worst = NOT_DONE
-                    if asked.null:
-                        sys.stdout.buffer.write(before + path + b"\0")
-                    else:
-                        print(f"{names.shown(before + path)}: {'; '.join(map(survey.line_of, what))}")
-                for left in it.left:
-                    worst = NOT_DONE
-                    print(survey.left_line(left), file=sys.stderr if asked.null else sys.stdout)
-                for note in it.notes:
-                    print(f"fzbatch: {note}", file=sys.stderr)
-                if it.lost:
-                    worst = NOT_DONE
-                    print(f"fzbatch: {it.lost}", file=sys.stderr)
-            finally:
-                it.close()
+        before = found.before(folder)
+        it = survey.Survey(store, folder, found.jobs)
+        try:
+            for path, what in it.findings():
+                worst = NOT_DONE
+                if asked.null:
+                    sys.stdout.buffer.write(before + path + b"\0")
+                else:
+                    print(f"{names.shown(before + path)}: {'; '.join(map(survey.line_of, what))}")
+            for left in it.left:
+                worst = NOT_DONE
+                print(survey.left_line(left, before), file=sys.stderr if asked.null else sys.stdout)
+            for note in it.notes:
+                print(f"fzbatch: {note}", file=sys.stderr)
+            if it.lost:
+                worst = NOT_DONE
+                print(f"fzbatch: {it.lost}", file=sys.stderr)
+        finally:
+            it.close()
     return max(worst, found.tell_uncovered(to=sys.stderr if asked.null else sys.stdout))
 
 
@@ -208,17 +219,16 @@ def report(asked: argparse.Namespace) -> int:
     found = _Opened(asked)
     made = page.Page(found.folder)
     for folder, store in found.each():
-        with store:
-            it = survey.Survey(store, folder, found.jobs)
-            try:
-                made.add(folder, store, it)
-            finally:
-                it.close()
-    made.leave_out(found.uncovered)
+        it = survey.Survey(store, folder, found.jobs)
+        try:
+            made.add(folder, store, it, found.before(folder))
+        finally:
+            it.close()
+    uncovered = found.uncovered()
+    made.leave_out(uncovered)
     if not files.write_over_own(asked.out, made.text().encode(errors="backslashreplace"), len(page.HEAD)):
         raise Refuse(f"{names.shown(asked.out)} is there, and is no page of fzbatch: give another name")
-    print(names.shown(asked.out))
-    found.tell_uncovered(to=sys.stdout)
+    print("\n".join([names.shown(asked.out), *uncovered]))
     return DONE if made.whole else NOT_DONE
 
 

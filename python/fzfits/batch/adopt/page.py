@@ -32,25 +32,25 @@ class Page:
         self.notes: List[str] = []
         self.runs: List[str] = []
 
-    def add(self, folder: bytes, store: Store, found: Survey) -> None:
-        """Takes in one folder."""
+    def add(self, folder: bytes, store: Store, found: Survey, before: bytes = b"") -> None:
+        """Takes in one folder. `before` is what its paths have before them on the page."""
         self.files, self.bytes = self.files + store.files, self.bytes + store.bytes
         for it in store.folders():
             counts = it.of_status
             self.states.update(counts)
             bad = sum(count for status, count in counts.items() if status not in WELL)
             self.folders, self.bad_folders = self.folders + 1, self.bad_folders + bool(bad)
-            self._night((bad, it.path or folder, it.files, it.bytes, json.dumps(counts)))
+            self._night((bad, before + it.path if it.path else folder, it.files, it.bytes, json.dumps(counts)))
         for path, what in found.findings():
             self.whole = False
             for one in what:
                 many, advice, lost, named = self.causes.get(one.cause, (0, one.advice, 0, []))
                 if len(named) < NAMED:
-                    named.append((path, line_of(one)[:LONGEST]))
+                    named.append((before + path, line_of(one)[:LONGEST]))
                 self.causes[one.cause] = (many + 1, advice, lost + one.lost, named)
         self.whole = self.whole and not found.left and not found.lost
         self.notes += [*found.notes, *([found.lost + "."] if found.lost else [])]
-        self.notes += [f"Left out: {names.shown(it.path)} {it.why}." for it in found.left[:NAMED]]
+        self.notes += [f"Left out: {names.shown(before + it.path)} {it.why}." for it in found.left[:NAMED]]
         self.runs += [_run(it) for it in store.runs()[-RUNS:][::-1]]
 
     def leave_out(self, lines: "List[str]") -> None:

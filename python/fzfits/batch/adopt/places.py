@@ -17,6 +17,8 @@ from .store import Store
 from .walk import MANY
 
 LOCK, COPY, SUMS = b".lock", b".copy", b".SHA256SUMS"
+# How the name of a manifest ends in a folder of manifests.
+SQLITE = b".sqlite"
 BEGINNINGS = {COPY: b"SQLite format 3\0", SUMS: keep.HEAD}
 PAUSE = 600.0
 
@@ -84,18 +86,25 @@ def archive_in(folder: bytes) -> "Optional[bytes]":
 
 
 def many(given: "Sequence[bytes]") -> "List[bytes]":
-    """The manifests that are named, and those of the folders that are named."""
+    """The manifests that are named, and those of the folders that are named, each once."""
     found = []
     for it in given:
         path = os.path.realpath(it)
-        if os.path.isdir(path):
-            here = [os.path.join(path, name) for name in sorted(os.listdir(path)) if name.endswith(b".sqlite")]
-            if not here:
-                raise Refuse(f"--manifest {names.shown(it)}: no manifest (a file whose name ends with .sqlite) is in this folder: is its disk mounted?")
-            found += here
-        else:
-            found.append(path)
-    return found
+        found += _in_folder(path, it) if os.path.isdir(path) else [path]
+    return list(dict.fromkeys(found))
+
+
+def _in_folder(folder: bytes, given: bytes) -> "List[bytes]":
+    """The manifests of a folder. One that was lost, and left its second copy or its list there, is an error: what it knew is not looked at."""
+    listed = sorted(os.listdir(folder))
+    for ending in (COPY, SUMS):
+        for name in listed:
+            if name.endswith(SQLITE + ending) and name[: -len(ending)] not in listed:
+                check_new(os.path.join(folder, name[: -len(ending)]))
+    here = [os.path.join(folder, name) for name in listed if name.endswith(SQLITE)]
+    if not here:
+        raise Refuse(f"--manifest {names.shown(given)}: no manifest (a file whose name ends with .sqlite) is in this folder: is its disk mounted?")
+    return here
 
 
 def may_be_written(path: bytes) -> bool:

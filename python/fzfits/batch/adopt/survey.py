@@ -98,9 +98,9 @@ def counted(it: Survey, verb: str, all_names: bool) -> Count:
     return made
 
 
-def left_line(it: Left) -> str:
-    """What was left out, on one line."""
-    return f"{names.shown(it.path)}: {it.why}"
+def left_line(it: Left, before: bytes = b"") -> str:
+    """What was left out, on one line. `before` is what its path has before it."""
+    return f"{names.shown(before + it.path)}: {it.why}"
 
 
 __all__ = ["Survey", "counted", "left_line", "line_of"]
