@@ -93,6 +93,13 @@ class CompressedAsAWhole(Alone):
                 self.says(name, made[:at] + bytes([made[at] ^ 1]) + made[at + 1 :], 1, "it cannot be decompressed")
                 self.says(name, made[:at], 1, "it cannot be decompressed: it has no end")
 
+    def test_what_comes_out_is_no_fits_file(self) -> None:
+        for data, said in ((b"", "it is empty once"), (b"<html>404 Not Found</html>", "it is no FITS file once"), (self.raw[:4000], "it is cut off: 4,000 bytes come out")):
+            for name, made in (("a.fits.gz", gzip.compress(data)), ("a.fits.bz2", bz2.compress(data)), ("a.fits.xz", lzma.compress(data)), ("a.fits", gzip.compress(data))):
+                with self.subTest(said=said, name=name):
+                    self.says(name, made, 1, said)
+        self.says("a.fits.gz", gzip.compress(self.raw[:5]) + gzip.compress(self.raw[5:]), 0)
+
     def test_what_is_not_read_is_not_right(self) -> None:
         self.says("a.fits.zst", b"\x28\xb5\x2f\xfd" + bytes(100), 0, "2 well (1 part, 1 right)")
         with mock.patch.multiple(compressed, RATIO=1, MORE=0):

@@ -110,7 +110,7 @@ class File:
             self._fits()
 
     def _compressed(self, kind: bytes) -> None:
-        """Of a file that is compressed as a whole: that it can be decompressed. What is in it is not looked at."""
+        """Of a file that is compressed as a whole: that a FITS file comes out of it, by its first and last bytes. More of it is not looked at."""
         self.sort = "gzip" if kind == compressed.GZIP else "compressed"
         why = compressed.NOT_READ if compressed.FORMATS[kind] is None else ""
         try:
@@ -118,7 +118,7 @@ class File:
         except compressed.Grows:
             said, why = "", compressed.GROWS
         if said:
-            self.add(f"{self.sort} file is damaged", f"it cannot be decompressed: {said}", ANOTHER)
+            self.add(f"{self.sort} file is damaged", said, ANOTHER)
         if why:
             self.hdus.append(Hdu(0, "compressed file", undecoded=why))
 
