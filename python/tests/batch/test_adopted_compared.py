@@ -1,6 +1,8 @@
 """`compare PLAIN FOLDER` says that all is well only if each plain file has been compared. Each class is one find."""
 from __future__ import annotations
 
+import bz2
+import gzip
 import os
 import shutil
 import subprocess
@@ -13,7 +15,7 @@ sys.path[:0] = [str(Path(__file__).resolve().parents[1])]
 from batch.test_adopted import FZ  # noqa: E402
 from batch.test_adopted_called_well import Whole  # noqa: E402
 from batch.two_files import image  # noqa: E402
-from making.fits import card  # noqa: E402
+from making.fits import card, filled, header  # noqa: E402
 
 
 class Compared(Whole):
@@ -119,6 +121,55 @@ class SameBytes(Compared):
         self.assertEqual(self.run_it("compare", self.plain, self.night)[0], 0)
         self.assertIn("NAXIS1", self.says(("NAXIS1", 30), ("NAXIS2", 40)))
         self.assertTrue(self.says(("NAXIS1", 30), ("NAXIS2", 40)).startswith("1 "))
+
+    def test_a_table_that_is_not_decoded(self) -> None:
+        cards = [card("XTENSION", "BINTABLE"), card("BITPIX", 8), card("NAXIS", 2), card("NAXIS1", 6), card("NAXIS2", 480), card("PCOUNT", 0), card("GCOUNT", 1), card("TFIELDS", 2)]
+        first = header([card("SIMPLE", True), card("BITPIX", 8), card("NAXIS", 0)])
+
+        def table(wide: int, many: int, *forms: str, more: "tuple[bytes, ...]" = ()) -> bytes:
+            made = [*cards[:3], card("NAXIS1", wide), card("NAXIS2", many), *cards[5:7], card("TFIELDS", len(forms)), *(card(f"TFORM{it}", form) for it, form in enumerate(forms, 1)), *more]
+            return first + header(made) + filled(bytes(wide * many))
+
+        packed = [*cards[:3], card("NAXIS1", 16), card("NAXIS2", 0), *cards[5:], card("TFORM1", "1PB(0)"), card("TFORM2", "1PB(0)"), card("ZTABLE", True), card("ZTILELEN", 480)]
+        packed += [card("ZNAXIS1", 6), card("ZNAXIS2", 480), card("ZPCOUNT", 0), card("ZFORM1", "1J"), card("ZFORM2", "1I"), card("ZCTYP1", "RICE_1"), card("ZCTYP2", "RICE_1")]
+        path = self.night / "a.fits.fz"
+        path.write_bytes(first + header(packed))
+        os.utime(path, (2, 2))
+        self.assertEqual(self.run_it("adopt", "--update", self.night)[0], 0)
+        for data, status, said in (
+            (table(6, 480, "1J", "1I"), 0, "1 part"),
+            (table(6, 481, "1J", "1I"), 1, "NAXIS2 is 480, and 481 in the plain file"),
+            (table(8, 480, "1J", "1J"), 1, "NAXIS1 is 6, and 8 in the plain file"),
+            (table(6, 480, "1I", "1J"), 1, "TFORM1 is 1J, and 1I in the plain file"),
+            (table(6, 480, "1J", "1B", "1B"), 1, "TFIELDS is 2, and 3 in the plain file"),
+            (table(6, 480, "1J", "1I", more=(card("TZERO2", 32768),)), 1, "TZERO2 is 0, and 32768 in the plain file"),
+            (first + image(1).replace(b"SIMPLE  =                    T", b"XTENSION= 'IMAGE   '          "), 1, "it is BINTABLE, and IMAGE in the plain file"),
+        ):
+            with self.subTest(said=said):
+                (self.plain / "a.fits").write_bytes(data)
+                self.named(said, "compare", self.plain, self.night, status=status)
+
+
+class CompressedAsAWhole(Compared):
+    """What comes out of a file that is compressed as a whole is compared with the file of its name, if there is one."""
+
+    def compares(self, status: int, said: str, data: bytes) -> None:
+        (self.plain / "raw.fits.gz").write_bytes(data)
+        self.named(said, "compare", self.plain, self.night, status=status)
+
+    def test_each(self) -> None:
+        path = self.night / "raw.fits.gz"
+        path.write_bytes(gzip.compress(image(5)))
+        self.adopted()
+        self.compares(0, "2 well (2 same)", path.read_bytes())
+        self.compares(0, "2 well (2 same)", gzip.compress(image(5), 1, mtime=7))
+        self.compares(0, "2 well (2 same)", image(5))
+        self.compares(0, "2 well (2 same)", bz2.compress(image(5)))
+        other = "what comes out of it is not what comes out of the other file of its name"
+        self.compares(1, other, gzip.compress(image(6)))
+        self.compares(1, other, image(6))
+        self.compares(1, "what comes out of both could not be compared", path.read_bytes()[:-9])
+        self.compares(1, "what comes out of both could not be compared", b"PK\3\4" + bytes(100))
 
 
 class Descriptors(Compared):

@@ -15,11 +15,11 @@ from ..logged import Log
 from ..progress import progress
 from ..scan import Left
 from ..wanted import Refuse, signals
-from . import places, run
+from . import compressed, places, run
 from .calling import Fz, Undone
 from .count import Count
 from .messages import Asked
-from .pairs import Compared, Pair, plain_name
+from .pairs import DIFFERS, WHAT, Compared, Pair, plain_name
 from .rows import Finding, Row
 from .scratch import scratch
 from .store import Store
@@ -161,7 +161,7 @@ class Compare:
             if looked.sha256 != row.sha256.hex():
                 one.found = [CHANGED]
             elif row.sort in ANOTHER_SORT:
-                one.outcome = "compressed"
+                one.outcome, one.found = self._compressed(Fz(asked, room), packed, looked, plain)
             elif plain is None:
                 one.outcome, one.found = ("alone", []) if self.wanted.without_plain else ("", [NO_PLAIN])
             else:
@@ -171,6 +171,21 @@ class Compare:
             for it in (plain, packed):
                 if it is not None:
                     os.close(it)
+
+    @staticmethod
+    def _compressed(fz: Fz, packed: int, looked: files.Looked, plain: Optional[int]) -> "Tuple[str, List[Finding]]":
+        """A file that is compressed as a whole, beside one of the same name: what comes out of both is compared, if that is known."""
+        if plain is None:
+            return "compressed", []
+        other = files.look_at(plain)
+        if looked.sha256 == other.sha256:
+            return "same", []
+        fz.begin(max(looked.size, other.size))
+        mine, theirs = (compressed.content_of(it, of, lambda: fz.left("decompressing")) for it, of in ((packed, looked), (plain, other)))
+        if mine is not None and mine == theirs:
+            return "same", []
+        said = "what comes out of it is not what comes out of the other file of its name" if mine and theirs else "the other file of its name has other bytes, and what comes out of both could not be compared"
+        return "", [Finding(DIFFERS, said, WHAT)]
 
     def _opened(self, folder: bytes, row: Row) -> "Tuple[Optional[int], Optional[int]]":
         made: "List[Optional[int]]" = []

@@ -128,7 +128,8 @@ class Count:
 
     def _notes(self) -> "List[str]":
         said = list(self.notes)
-        if self.outcomes[PART]:
+        # compare has a line of its own, and compares no checksums
+        if self.outcomes[PART] and self.verb != "compare":
             said.insert(0, f"{_files(self.outcomes[PART])} with an HDU that fz does not decode (floats, HCOMPRESS, gzip, compressed tables): its checksums were compared.")
         if self.others:
             said.append(f"{_files(sum(self.others.values()))} with other names, which fzbatch does not touch: {', '.join(f'{count:,} {suffix}' for suffix, count in self.others.items())}.")

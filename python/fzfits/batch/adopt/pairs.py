@@ -155,7 +155,7 @@ class Pair:
         kind, name = advice.kind_of(line)
         if kind in UNDECODED:
             self.made.skipped.append(header.number)
-            said = meaning.other_image(header, other)
+            said = meaning.other_packed(header, other)
             if said:
                 self.made.found.append(Finding(DIFFERS, f"it is not decoded, and cannot be that of the plain file: {said}", WHAT, header.number, names.told(header.name)))
         else:
