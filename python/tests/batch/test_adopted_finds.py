@@ -5,6 +5,7 @@ import bz2
 import gzip
 import lzma
 import shutil
+import subprocess
 import sys
 import time
 import unittest
@@ -13,7 +14,8 @@ from unittest import mock
 
 sys.path[:0] = [str(Path(__file__).resolve().parents[1])]
 
-from batch.test_adopted import SAMPLES, Adopted  # noqa: E402
+from batch.test_adopted import FZ, SAMPLES, Adopted  # noqa: E402
+from batch.two_files import image  # noqa: E402
 from fzfits.batch import calls  # noqa: E402
 from fzfits.batch.adopt import compressed, examine  # noqa: E402
 from fzfits.headers import headers  # noqa: E402
@@ -67,6 +69,47 @@ class AfterWhatIsNotDecoded(Alone):
         ):
             with self.subTest(what=what):
                 self.says("a.fits.fz", data, 1, says)
+
+
+class TwoSorts(Alone):
+    """astropy from 6 on writes ZSIMPLE beside ZTENSION: that is no fault, and hides none."""
+
+    def setUp(self) -> None:
+        super().setUp()
+        first, pixels = header([card("SIMPLE", True), card("BITPIX", 8), card("NAXIS", 0)]), image(3)[2880:]
+        cards = [CARDS[0], card("BITPIX", 16), card("NAXIS", 2), card("NAXIS1", 40), card("NAXIS2", 30), *CARDS[4:], card("DATASUM", str(sum_of([pixels])))]
+        (self.room / "plain").mkdir()
+        self.plain = self.room / "plain" / "a.fits"
+        self.plain.write_bytes(first + header(cards) + pixels)
+        subprocess.run([FZ, "pack", self.plain, self.room / "packed"], check=True)
+        data = bytearray((self.room / "packed").read_bytes())
+        at = data.index(b"END     ", 2880)
+        data[at : at + 160] = b"ZSIMPLE =                    T".ljust(80) + b"END".ljust(80)
+        self.both = bytes(data)
+
+    def with_card(self, keyword: str, text: str) -> bytes:
+        at = self.both.index(keyword.ljust(8).encode() + b"=")
+        return self.both[:at] + text.encode().ljust(80) + self.both[at + 80 :]
+
+    def test_it_is_right(self) -> None:
+        self.says("a.fits.fz", self.both, 0, "2 well (2 right)")
+        self.says("a.fits.fz", self.with_card("ZCMPTYPE", "ZCMPTYPE= 'HCOMPRESS_1'"), 0, "2 well (1 part, 1 right)")
+
+    def test_what_is_wrong_is_found(self) -> None:
+        self.says("a.fits.fz", self.with_card("ZDATASUM", "ZDATASUM= '123'"), 1, "HDU 1: ZDATASUM is not that of the pixels")
+        self.says("a.fits.fz", self.both[:-2880], 1, "cut off")
+        self.says("a.fits.fz", self.both + b"x" * 2880, 1, "2,880 bytes follow")
+        self.says("a.fits.fz", self.with_card("ZBITPIX", "ZTENSION= 'IMAGE   '"), 1, "HDU 1")
+        at = self.both.index(b"ZBITPIX")
+        self.says("a.fits.fz", self.both[:at] + self.both[at : at + 80] + self.both[at:], 1, "HDU 1")
+
+    def test_compare(self) -> None:
+        (self.night / "z.fits").unlink()
+        (self.night / "a.fits.fz").write_bytes(self.both)
+        self.assertEqual(self.run_it("adopt", self.night)[0], 0)
+        self.assertEqual(self.run_it("compare", self.plain.parent, self.night)[0], 0)
+        self.plain.write_bytes(self.plain.read_bytes()[:-2880] + bytes(2880))
+        self.assertEqual(self.run_it("compare", self.plain.parent, self.night)[0], 1)
 
 
 class CompressedAsAWhole(Alone):

@@ -19,7 +19,6 @@ from .rows import Finding, Hdu, fitting, packed_text
 from .tiles import CAUSE, LOST, Image
 
 PIECE = 1 << 20
-DUPLICATE = 5
 SUMS = "checksum is wrong"
 WRONG_TABLE = "fetch the file from another copy: a bit of this HDU changed since its checksums were made"
 WRONG_IMAGE = "the image is not the one that was packed: fetch the file from another copy"
@@ -57,8 +56,8 @@ class Alone:
     def __init__(self, fz: Fz, number: int, size: int, header: Header):
         self.fz, self.number, self.size, self.header = fz, number, size, header
         self.hdu, self.found = hdu_of(header), []  # type: Tuple[Hdu, List[Finding]]
-        # the header that a copy has
-        self.raw = header.raw
+        # the header that a copy has, and whether its image is of the integers that stand for floats
+        self.raw, self.are_integers = rewrite.with_one_sort(header) or header.raw, False
 
     def add(self, cause: str, line: str, what: str, row: Optional[int] = None, lost: int = 0) -> None:
         """Notes something that is wrong."""
@@ -76,8 +75,8 @@ class Alone:
                 self._records(False)
         elif not self.hdu.undecoded:
             self._in_a_copy(self._whole, self._decode)
-        elif (integers := rewrite.as_integers(self.header)) is not None:
-            self.raw = integers
+        elif (integers := rewrite.as_integers(self.header, self.raw)) is not None:
+            self.raw, self.are_integers = integers, True
             self._in_a_copy(self._whole, self._decode_integers)
         else:
             self._records(True)
@@ -151,15 +150,6 @@ class Alone:
             self.hdu.undecoded = f"{made.gzip} tiles are of gzip, which fz does not read"
             self._records(True)
 
-    def _rejected(self, ended: Outcome) -> None:
-        """fz does not take the header: once more with another one, if it is known how."""
-        raw = rewrite.with_one_sort(self.header) if advice.kind_of(ended.line)[0] == DUPLICATE and self.raw is self.header.raw else None
-        if raw is None:
-            self._accepted(ended)
-            return
-        self.raw = raw
-        self._in_a_copy(self._whole, self._decode)
-
     def _decode_integers(self, copy: bytes, hdu: int) -> None:
         """The integers that stand for floats: their tiles decode, or are named."""
         why = self.hdu.undecoded
@@ -186,13 +176,14 @@ class Alone:
 
     def image_sums(self, copy: "bytes | int", hdu: int) -> None:
         """The checksums that the image had before it was packed are those of the image that comes back."""
-        if not has_own_sums(self.header) or self.raw is not self.header.raw:
+        if not has_own_sums(self.header) or self.are_integers:
             return
         said = self.fz.growth(copy)
         if said:
             self.add("file would grow", f"{said}: the checksums of its image were not compared", advice.OVER_TIME)
         else:
-            restored(self.fz, copy, {hdu: self.hdu}, self.header.end - self.header.start, 0 if hdu == 0 or self.header.card("ZSIMPLE") is None else 1)
+            is_primary = self.raw is self.header.raw and self.header.card("ZSIMPLE") is not None
+            restored(self.fz, copy, {hdu: self.hdu}, self.header.end - self.header.start, 1 if hdu and is_primary else 0)
 
     def _records(self, is_image: bool) -> None:
         """What shows of the records of a table that fz does not decode."""

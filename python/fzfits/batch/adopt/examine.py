@@ -14,15 +14,16 @@ from ...program import Outcome
 from ...results import REFUSED, verdict_of
 from .. import advice, expansion, files, inside, names
 from ..rooms import Rooms
-from . import alone, boxes, cards, compressed, summing
+from . import alone, boxes, cards, compressed, rewrite, summing
 from .calling import Fz, Undone
 from .messages import Asked, Found, One
 from .rows import Finding, Hdu, fitting, packed_text
 
 # More HDUs than this are looked at by fz alone, as far as it takes the file.
 MOST = 4096
-# Kinds that speak of the file as a whole.
+# Kinds that speak of the file as a whole, and that of a card that occurs twice.
 WHOLE = (1, 2, 3, 8)
+DUPLICATE = 5
 ANOTHER = "fetch the file from another copy"
 TOO_MANY = "look at it with the program that wrote it; fzbatch keeps its SHA-256"
 
@@ -78,6 +79,12 @@ def _read(asked: Asked, one: One, room: Rooms, number: int, found: Found) -> Non
     found.outcome, found.sort, found.hdus, found.found = "read", it.sort, packed_text(hdus), packed_text(told)
 
 
+def _has_two_sorts(heads: "List[Header]", hdu: int, card: int) -> bool:
+    """Whether a card of an HDU is its second one that says the sort of the image, as astropy writes both."""
+    it = next((it for it in heads if it.number == hdu), None)
+    return it is not None and rewrite.with_one_sort(it) is not None and card < len(it.cards) and it.cards[card].keyword in rewrite.SORTS
+
+
 def _shift(heads: "List[Header]") -> int:
     """How many HDUs before a packed primary image are not in the file that comes back."""
     return 1 if len(heads) > 1 and heads[1].is_packed and heads[1].card("ZSIMPLE") is not None else 0
@@ -91,8 +98,9 @@ class File:
         self.sort = "plain"
         self.hdus: List[Hdu] = []
         self.found: List[Finding] = []
-        # the kind by which fz rejects the file as a whole
+        # the kind by which fz rejects the file as a whole, and whether that is no fault of the file
         self.rejected: Optional[int] = None
+        self.is_excused = False
 
     def add(self, cause: str, line: str, what: str, hdu: Optional[int] = None) -> None:
         """Notes something that is wrong with the file as a whole."""
@@ -142,9 +150,9 @@ class File:
         end = last.end if last else 0
         if self.rejected is None and end != self.size:
             raise Undone("fz says nothing", f"fz does not reject the file, whose headers lead to byte {end:,} of {self.size:,}: is it the program fz?", "run fzbatch with the program fz (--fz, or FZ)")
-        if self.rejected in UNDECODED and end > self.size:
+        if self.is_excused and end > self.size:
             self.add("2 Truncated", f"HDU {last.number if last else 0}, the last one, is cut off: {counted(end - self.size)} missing", ANOTHER)
-        elif self.rejected in UNDECODED and end < self.size:
+        elif self.is_excused and end < self.size:
             self.add("no HDU follows", f"from byte {end:,} on there is no HDU that can be read; {self.size - end:,} bytes follow", ANOTHER)
 
     def _believed(self) -> int:
@@ -206,8 +214,8 @@ class File:
     def _each(self, heads: "List[Header]", ended: Outcome) -> None:
         """fz rejects the file for one HDU, or for what is between them: each HDU is looked at by itself."""
         kind, name = advice.kind_of(ended.line)
-        self.rejected = kind
         place = REFUSED.fullmatch(ended.line)
+        self.rejected, self.is_excused = kind, kind in UNDECODED or (kind == DUPLICATE and place is not None and _has_two_sorts(heads, int(place[3]), int(place[5])))
         at = f", HDU {place[3]}, {place[4]} {place[5]}" if place else ""
         if kind in WHOLE:
             self.add(f"{kind} {name}", self._of_whole(kind, name, heads) or f"fz does not take the file: {kind} {name}{at}", self._advice(ended))
@@ -215,7 +223,7 @@ class File:
             one = alone.Alone(self.fz, self.number, self.size, it)
             one.look()
             self._take(one)
-        if not self.found and kind not in UNDECODED:
+        if not self.found and not self.is_excused:
             # what is wrong is not in an HDU by itself, but in their order
             self.add(f"{kind} {name}", f"fz does not take the file: {kind} {name}{at}", self._advice(ended), int(place[3]) if place else None)
 

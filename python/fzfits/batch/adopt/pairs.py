@@ -8,7 +8,7 @@ from typing import Dict, List, Optional, Tuple
 from ...checks import EMPTY, UNDECODED
 from ...headers import Header, headers
 from .. import advice, files, names
-from . import meaning
+from . import meaning, rewrite
 from .alone import PIECE
 from .calling import Fz
 from .rows import Finding
@@ -116,7 +116,7 @@ class Pair:
         """fz does not unpack the file as a whole: its packed images one by one, and the other HDUs as they are."""
         heads = list(headers(self._path(self.packed)))
         theirs = {it.number: it for it in headers(self._path(self.plain))}
-        shift = 1 if len(heads) > 1 and heads[1].is_packed and heads[1].card("ZSIMPLE") is not None else 0
+        shift = 1 if len(heads) > 1 and heads[1].is_packed and heads[1].card("ZSIMPLE") is not None and heads[1].card("ZTENSION") is None else 0
         for it in heads[shift:]:
             other = theirs.pop(it.number - shift, None)
             if it.is_packed or it.value("ZTABLE") is True:
@@ -130,7 +130,8 @@ class Pair:
         try:
             with open(copy, "xb") as to:
                 to.write(EMPTY)
-                at = header.start
+                to.write(rewrite.with_one_sort(header) or header.raw)
+                at = header.data
                 while at < header.end:
                     piece = os.pread(self.packed, min(PIECE, header.end - at), at)
                     if not piece:

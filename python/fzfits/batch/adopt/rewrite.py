@@ -10,13 +10,15 @@ from ...headers import CARD, Header
 QUANTISED = ("ZSCALE", "ZZERO", "ZBLANK", "NULL_PIXEL_MASK")
 RICE = ("RICE_1", "RICE_ONE")
 BLANK = b" " * CARD
+# How the sort of the image is said: of a primary one, and of an extension.
+SORTS = ("ZSIMPLE", "ZTENSION")
 
 
-def as_integers(header: Header) -> Optional[bytes]:
-    """Of floats that were made integers and packed by Rice codes: the header of these integers. None for other images."""
+def as_integers(header: Header, before: bytes) -> Optional[bytes]:
+    """Of floats that were made integers and packed by Rice codes: the header of these integers, made of the bytes `before`. None for other images."""
     if header.value("ZCMPTYPE") not in RICE:
         return None
-    raw = bytearray(header.raw)
+    raw = bytearray(before)
     for it in header.cards:
         at = slice(it.number * CARD, (it.number + 1) * CARD)
         if it.keyword == "ZBITPIX" and header.integer("ZBITPIX") < 0:
@@ -29,10 +31,12 @@ def as_integers(header: Header) -> Optional[bytes]:
 
 
 def with_one_sort(header: Header) -> Optional[bytes]:
-    """astropy from 6 on writes ZSIMPLE beside ZTENSION: the header without ZSIMPLE. None if it has not both."""
-    simple = header.card("ZSIMPLE")
-    if simple is None or header.card("ZTENSION") is None:
+    """astropy from 6 on writes ZSIMPLE beside ZTENSION: the header without ZSIMPLE. None if it has not one of each."""
+    both = [it for it in header.cards if it.keyword in SORTS]
+    if not header.is_packed or sorted(it.keyword for it in both) != [*SORTS]:
         return None
     raw = bytearray(header.raw)
-    raw[simple.number * CARD : (simple.number + 1) * CARD] = BLANK
+    for it in both:
+        if it.keyword == SORTS[0]:
+            raw[it.number * CARD : (it.number + 1) * CARD] = BLANK
     return bytes(raw)
