@@ -78,7 +78,8 @@ def _called(asked: argparse.Namespace, program_name: str) -> int:
         return run.NOT_DONE
     except OSError as error:
         if error.strerror in run.DISK:
-            print(f"{program_name}: {_shown(error.filename or '')}: {error.strerror}", file=sys.stderr)
+            where = _shown(error.filename) if error.filename else "standard output, or a file of this run"
+            print(f"{program_name}: {where}: {error.strerror}", file=sys.stderr)
             return run.DISK_FAILED
         said = f"{_shown(error.filename)}: {error.strerror}" if error.filename else str(error)
     print(f"{program_name}: {said}", file=sys.stderr)
@@ -126,7 +127,7 @@ def _look_words(given: Any) -> None:
 
     says = "write a picture of a FITS file, packed or plain, or a page of small pictures of a folder"
     made = given.add_parser("look", help=says, description=says[0].upper() + says[1:] + ".")
-    made.add_argument("file", metavar="FILE", type=os.fsencode, help="a FITS file, or a folder of such")
+    made.add_argument("file", metavar="FILE", type=words_of.path, help="a FITS file, or a folder of such")
     made.add_argument("--hdu", metavar="K", help="the number of the HDU, or its EXTNAME (all images of the file)")
     made.add_argument("--box", default="", metavar="LO:HI,..", help="a part of the image, counted from 1, axis 1 first; of a cube the third piece names the plane")
     made.add_argument("--size", type=int, default=800, metavar="N", help="pixels of the longer side of the image (800)")
@@ -140,8 +141,8 @@ def _look_words(given: Any) -> None:
 
 def _verb(given: Any, name: str, says: str, call: Callable[[argparse.Namespace], int], example: Optional[str] = None) -> argparse.ArgumentParser:
     made: argparse.ArgumentParser = given.add_parser(name, help=says, description=says[0].upper() + says[1:] + ".", epilog=example)
-    made.add_argument("dir", metavar="DIR", type=os.fsencode, help="the folder of plain files; or, if it has a manifest, that of packed files")
-    made.add_argument("packed", metavar="PACKED", nargs="?", type=os.fsencode, help="the folder of packed files (DIR with .fz after it)")
+    made.add_argument("dir", metavar="DIR", type=words_of.path, help="the folder of plain files; or, if it has a manifest, that of packed files")
+    made.add_argument("packed", metavar="PACKED", nargs="?", type=words_of.path, help="the folder of packed files (DIR with .fz after it)")
     if name in asking.READS:
         made.add_argument("files", metavar="FILE", nargs="*", type=os.fsencode, help="single files, plain or packed, by their paths below either folder (all files)")
     made.set_defaults(call=call, files=[])

@@ -23,6 +23,13 @@ def job_words(made: argparse.ArgumentParser) -> None:
     made.add_argument("--all", action="store_true", help="name all files in the summary, not only the first five of each cause")
 
 
+def path(text: str) -> bytes:
+    """The name of a folder or of a manifest. An empty one would be that of the folder in which fzbatch is called."""
+    if not text:
+        raise argparse.ArgumentTypeError("a name is empty: has a variable of the shell no value?")
+    return os.fsencode(text)
+
+
 def count(text: str) -> int:
     """A number of jobs."""
     found = int(text) if text.isascii() and text.isdigit() else 0

@@ -113,5 +113,22 @@ class OtherNames(Archive):
         self.assertIn("Safe to delete the originals: yes, all 2 files; not 2 files of other names", said)
 
 
+class EmptyName(Archive):
+    """A name that is empty, as that of a variable without a value, does not mean the folder in which fzbatch is called."""
+
+    def test_it_is_an_error(self) -> None:
+        self.packs()
+        before = tree(self.room)
+        here = os.getcwd()
+        self.addCleanup(os.chdir, here)
+        os.chdir(self.plain)
+        calls = [(verb, "") for verb in ("adopt", "retile", "pack", "verify", "compare", "restore", "status", "missing", "report", "look")]
+        calls += [("pack", "--beside", "--delete", ""), ("restore", "", str(self.packed)), ("pack", str(self.plain), ""), ("status", str(self.plain), "--manifest", "")]
+        for words in calls:
+            status, said = self.starts(*words)
+            self.assertEqual((status, "a name is empty" in said), (2, True), f"{words}: {said}")
+        self.assertEqual(tree(self.room), before)
+
+
 if __name__ == "__main__":
     unittest.main()

@@ -37,15 +37,15 @@ def add(verbs: Any) -> None:
     for name, other in (("pack", "plain"), ("restore", "packed")):
         verbs.choices[name].add_argument("--beside", action="store_true", help="in one folder: F.fits.fz beside F.fits, with the manifest beside the folder")
         verbs.choices[name].add_argument("--delete", action="store_true", help=f"with --beside: remove each {other} file, after the other one was compared with it and is on the disk")
-        verbs.choices[name].add_argument("--manifest", action="append", default=[], type=os.fsencode, metavar="PATH", help="with --beside: the manifest, if it is not beside the folder")
+        verbs.choices[name].add_argument("--manifest", action="append", default=[], type=words_of.path, metavar="PATH", help="with --beside: the manifest, if it is not beside the folder")
     for name in BOTH:
-        verbs.choices[name].add_argument("--manifest", action="append", default=[], type=os.fsencode, metavar="PATH", help="the manifest of an adopted folder, if it is not beside it")
+        verbs.choices[name].add_argument("--manifest", action="append", default=[], type=words_of.path, metavar="PATH", help="the manifest of an adopted folder, if it is not beside it")
 
 
 def _verb(verbs: "argparse._SubParsersAction[argparse.ArgumentParser]", name: str, says: str) -> argparse.ArgumentParser:
     made = verbs.add_parser(name, help=says, description=says[0].upper() + says[1:] + ".")
-    made.add_argument("dir", metavar="FOLDER", type=os.fsencode, help="the folder of FITS files, which is only read")
-    made.add_argument("--manifest", action="append", default=[], type=os.fsencode, metavar="PATH", help="the manifest (FOLDER with .fzbatch.sqlite after it)")
+    made.add_argument("dir", metavar="FOLDER", type=words_of.path, help="the folder of FITS files, which is only read")
+    made.add_argument("--manifest", action="append", default=[], type=words_of.path, metavar="PATH", help="the manifest (FOLDER with .fzbatch.sqlite after it)")
     made.set_defaults(files=[])
     return made
 
