@@ -202,7 +202,13 @@ class ManyManifests(Whole):
         for verb in ("missing", "status", "report"):
             more = ("-o", self.room / "r.html") if verb == "report" else ()
             self.assertEqual(self.run_it(verb, archive, "--manifest", manifests, *more)[0], 0, verb)
+        # what is beside a manifest says that there was one; without that, its folder is named as one that no manifest has
         (manifests / "2.sqlite").unlink()
+        for verb in ("missing", "status", "report"):
+            more = ("-o", self.room / "r.html") if verb == "report" else ()
+            self.assertEqual(self.run_it(verb, archive, "--manifest", manifests, *more)[0], 2, verb)
+        for it in manifests.glob("2.sqlite.*"):
+            it.unlink()
         for verb in ("missing", "status", "report"):
             more = ("-o", self.room / "r.html") if verb == "report" else ()
             self.assertEqual(self.run_it(verb, archive, "--manifest", manifests, *more)[0], 1, verb)
