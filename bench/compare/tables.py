@@ -79,13 +79,13 @@ def summary(speed, returned, damaged, says):
 
     most = {it: max(ended[it].memory for _, _, jobs in speed for ended in jobs.values() if it in ended) for it in ("fz", name)}
     whole = sum(damaged[VERIFY].values())
-    notice = f"; `verify` notices {'all' if damaged[VERIFY]['rejected'] == whole else damaged[VERIFY]['rejected']} with `--sums`"
+    notice = f"; if they were packed with `--sums`, `verify` notices {'all' if damaged[VERIFY]['rejected'] == whole else damaged[VERIFY]['rejected']}"
     packed = {it: sum(sizes[it] for _, sizes, _ in speed) / 1e6 for it in ("fz", name, "plain")}
     rows = [
         ("`pack`, one worker", gains("pack", "pack"), "1"),
         ("`unpack`, one worker", gains("unpack", "unpack"), "1"),
         (f"packed size of {packed['plain']:.1f} MB", f"{packed['fz']:.2f} MB", f"{packed[name]:.2f} MB"),
-        ("memory", f"{most['fz']:.0f} MB at most; `--memory` bounds its buffers: proved (`retile` has two sets, each within it)", f"{most[name]:.0f} MB at most"),
+        ("memory", f"{most['fz']:.0f} MB at most; `--memory` bounds its buffers: proved (`retile` has two sets of buffers, each within the limit)", f"{most[name]:.0f} MB at most"),
         (f"of {sum(returned['fz'].values())} files, many of them with a fault", *(f"{returned[it]['same']} come back byte for byte, {returned[it]['rejected']} are rejected, {returned[it]['other']} come back changed{crashes(returned[it])}" for it in ("fz", name))),
         (f"of {sum(damaged['fz'].values()):,} files with one flipped bit, unpacked", *(f"{damaged[it]['rejected']} rejected, {damaged[it]['other pixels, status 0']} come back with other pixels{crashes(damaged[it])}{notice if it == 'fz' else ''}" for it in ("fz", name))),
         ("codecs; floats and tables", "RICE_1, PLIO_1; copied as they are", "these, GZIP, HCOMPRESS_1; packed, floats with a loss unless `-q 0`"),
