@@ -13,6 +13,7 @@ mod NamesAnswers
 mod Opening
 mod PackAnswers
 mod PatchAnswers
+mod PatchKept
 mod PatchRuns
 mod RequestAnswers
 mod RetileAnswers

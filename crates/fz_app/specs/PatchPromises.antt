@@ -12,7 +12,9 @@ use Rattle.fz_base.specs.declared.failure.Stop.TheVariants.{OverLimit as StopLim
 use Rattle.fz_block.specs.declared.header.Header.{Header}
 use Rattle.fz_grid.specs.Region.{lengths_of}
 use Rattle.fz_patch.specs.Clauses.{AnswersPatch, IsPatchedBy, IsUnwritten, KeepsPatchBuffers, LeavesSafe, TellsPatchFault, greatest_patch_bound}
+use Rattle.fz_patch.specs.Kept.{LeavesRest}
 use Rattle.fz_target.specs.Ends.{SameCounts}
+use Rattle.fz_target.specs.Reads.{ReadsGiven}
 use Rattle.fz_target.specs.Told.{IfBoth}
 use Rattle.fz_laws.specs.PatchBuffers.{patch_bound, patch_takings}
 use Rattle.fz_laws.specs.PatchChecks.{patch_target}
@@ -64,6 +66,11 @@ IsReplacedFor words held given held' status =
 abbrev pub IsLeftSafe : List (List ℕ) → Option (List ℕ) → Option (List ℕ) → Option (List ℕ) → Amended → Amended → Type 0
 IsLeftSafe words held given held' before now = IfPatch words (λ asked. IfBoth held given (LeavesSafe (job_asked asked) held' before now))
 
+-- Kept: whatever the status, and whatever PATCH holds or shows, only bytes of FILE that have a place in a patch were changed.
+abbrev pub IsKeptBeside : List (List ℕ) → Option (List ℕ) → Option (List ℕ) → Option ℕ → Option (List ℕ) → Amended → Amended → Type 0
+IsKeptBeside words held given attached held' before now =
+    IfPatch words (λ asked. IfSome held (LeavesRest (job_asked asked) attached given held' before.writes now.writes))
+
 -- First fault: after Done the patch has none, and Refused gives it.
 abbrev pub HasPatchFault : List (List ℕ) → Option (List ℕ) → Option (List ℕ) → Status → Type 0
 HasPatchFault words held given status = IfPatchRan words status (λ asked answer. TellsPatchFault (job_asked asked) held given answer)
@@ -80,6 +87,10 @@ IsUnwrittenFor words held given meter Same status =
 -- Unread: below one block nothing is read of either file, whatever the status.
 abbrev pub IsPatchUnread : List (List ℕ) → Option (List (ℕ × ℕ)) → Option (List (ℕ × ℕ)) → Option (List (ℕ × ℕ)) → Option (List (ℕ × ℕ)) → Gauge → Type 0
 IsPatchUnread words ranges ranges' given given' meter = IfPatch words (λ asked. patch_limit asked meter < 2880 → (ranges' ≡ ranges) × (given' ≡ given))
+
+-- Given: every byte that was read of PATCH, whatever the status.
+abbrev pub PatchReadsGiven : List (List ℕ) → Option (List ℕ) → Option (List ℕ) → Option (List (ℕ × ℕ)) → Option (List (ℕ × ℕ)) → Type 0
+PatchReadsGiven words held given ranges ranges' = IfPatch words (λ asked. ReadsGiven held given (job_asked asked) ranges ranges')
 
 -- Complete: if no count of faults rose, and the limit is at least the bound of the patch, the status is Done, Refused or NoMemory.
 abbrev pub IsPatchComplete : List (List ℕ) → Option (List ℕ) → Option (List ℕ) → Tally → Tally → Tally → Tally → Gauge → Status → Type 0

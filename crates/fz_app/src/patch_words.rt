@@ -1,18 +1,20 @@
 //! The top call of `patch`.
-ghost use Rattle.std.specs.Prelude.{◌≡◌, ◌≢◌, ◌-◌, ◌<◌, Some, IfOk, map, take};
+ghost use Rattle.std.specs.Prelude.{◌≡◌, ◌≢◌, ◌-◌, ◌<◌, Some, IfOk, IfSome, map, take};
 ghost use Rattle.fz_base.specs.Counts.{nameless};
 ghost use Rattle.fz_base.specs.Told.{StaysTold};
 ghost use Rattle.fz_grid.specs.Region.{lengths_of};
 ghost use Rattle.fz_head.specs.Planned.{IsTile};
+ghost use Rattle.fz_patch.specs.Kept.{LeavesRest};
+ghost use Rattle.fz_target.specs.Reads.{ReadsGiven};
 ghost use Rattle.fz_words.specs.Lawful.{IsLawfulPatch};
 ghost use Rattle.fz_words.specs.Parts.{texts_of};
 ghost use Rattle.fz_words.specs.PatchJobs.{patch_job_of};
 ghost use Rattle.fz_words.specs.Seen.{patch_asked_of};
 ghost use Rattle.fz_app.specs.Answer.{IsPromisedTo};
 ghost use Rattle.fz_app.specs.Lines.{GotLine, status_line};
-ghost use Rattle.fz_app.specs.PatchPromises.{ArePatchCountsKept, ArePatchNames, HasPatchFault, IsLeftSafe, IsPatchComplete, IsPatchUsage};
+ghost use Rattle.fz_app.specs.PatchPromises.{ArePatchCountsKept, ArePatchNames, HasPatchFault, IsKeptBeside, IsLeftSafe, IsPatchComplete, IsPatchUsage};
 ghost use Rattle.fz_app.specs.PatchPromises.{IsPatchUnread, IsPatchedFor, IsReplacedFor, IsUnwrittenFor, OpensBoth, PatchEnds};
-ghost use Rattle.fz_app.specs.PatchPromises.{PatchHasCause, PatchIsBounded, PatchNames, patch_limit};
+ghost use Rattle.fz_app.specs.PatchPromises.{PatchHasCause, PatchIsBounded, PatchNames, PatchReadsGiven, job_asked, patch_limit};
 ghost use Rattle.fz_app.specs.declared.status.Status.TheVariants.{Different as IsDifferentStatus, Usage as IsUsageStatus};
 
 use crate::run_job::{attach_by_name, report};
@@ -50,7 +52,10 @@ pub fn run_patch<R: Threads + Sync, S: Source, D: Store, T: Text>(
         (D.tally store.old).amended (D.tally store.new).amended }
     ensures unwritten { IsUnwrittenFor (texts_of words.now) (D.held store.old) (S.held patch.old) meter.old
         ((D.held store.new ≡ D.held store.old) × ((D.tally store.new).amended ≡ (D.tally store.old).amended)) result }
+    ensures kept { IsKeptBeside (texts_of words.now) (D.held store.old) (S.held patch.old) (S.attached patch.new) (D.held store.new)
+        (D.tally store.old).amended (D.tally store.new).amended }
     ensures unread { IsPatchUnread (texts_of words.now) (D.ranges store.old) (D.ranges store.new) (S.ranges patch.old) (S.ranges patch.new) meter.old }
+    ensures given_touched { PatchReadsGiven (texts_of words.now) (D.held store.old) (S.held patch.old) (S.ranges patch.old) (S.ranges patch.new) }
     ensures first_fault { HasPatchFault (texts_of words.now) (D.held store.old) (S.held patch.old) result }
     ensures complete { IsPatchComplete (texts_of words.now) (D.held store.old) (S.held patch.old) (nameless (D.tally store.old))
         (nameless (D.tally store.new)) (nameless (S.tally patch.old)) (nameless (S.tally patch.new)) meter.old result }
@@ -87,7 +92,10 @@ fn answer_to<R: Threads + Sync, S: Source, D: Store>(
     requires unused { (meter.old.live ≡ 0) × (meter.old.peak ≡ 0) }
     ensures promised { IsPromisedTo (patch_job_of (texts_of words.now)) result (λ asked. PatchEnds asked (D.held store.old) (D.held store.new)
         (S.held patch.old) (D.tally store.old) (D.tally store.new) (S.tally patch.old) (S.tally patch.new) meter.old meter.new) }
+    ensures kept { IsKeptBeside (texts_of words.now) (D.held store.old) (S.held patch.old) (S.attached patch.new) (D.held store.new)
+        (D.tally store.old).amended (D.tally store.new).amended }
     ensures unread { IsPatchUnread (texts_of words.now) (D.ranges store.old) (D.ranges store.new) (S.ranges patch.old) (S.ranges patch.new) meter.old }
+    ensures given_touched { PatchReadsGiven (texts_of words.now) (D.held store.old) (S.held patch.old) (S.ranges patch.old) (S.ranges patch.new) }
     ensures untouched { result ≡ IsUsageStatus → (store.new ≡ store.old) × (patch.new ≡ patch.old) × (meter.new ≡ meter.old) }
     ensures never_different { result ≢ IsDifferentStatus }
     ensures held { (S.held patch.new ≡ S.held patch.old) × StaysTold (D.held store.old) (D.held store.new) }
@@ -113,6 +121,10 @@ fn patch_asked<R: Threads + Sync, S: Source, D: Store>(
         (D.tally store.new) (S.tally patch.old) (S.tally patch.new) meter.old meter.new result }
     ensures unread { patch_limit (patch_asked_of request.now) meter.old < 2880
         → (D.ranges store.new ≡ D.ranges store.old) × (S.ranges patch.new ≡ S.ranges patch.old) }
+    ensures kept { IfSome (D.held store.old) (LeavesRest (job_asked (patch_asked_of request.now)) (S.attached patch.new) (S.held patch.old)
+        (D.held store.new) (D.tally store.old).amended.writes (D.tally store.new).amended.writes) }
+    ensures given_touched { ReadsGiven (D.held store.old) (S.held patch.old) (job_asked (patch_asked_of request.now))
+        (S.ranges patch.old) (S.ranges patch.new) }
     ensures held { (S.held patch.new ≡ S.held patch.old) × StaysTold (D.held store.old) (D.held store.new) }
 {
     meter.narrow(request.memory);

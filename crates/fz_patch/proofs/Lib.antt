@@ -1,5 +1,6 @@
 pub mod AmendWrites
 pub mod Amended
+pub mod Beside
 pub mod Boxes
 pub mod CardSteps
 pub mod CodeSlots
@@ -21,6 +22,9 @@ pub mod FramePatch
 pub mod FrameWork
 pub mod HeapCodes
 pub mod HeapWritten
+pub mod KeptCards
+pub mod KeptFound
+pub mod KeptSteps
 pub mod LineReads
 pub mod NewCodes
 pub mod NewTile
@@ -37,6 +41,7 @@ pub mod StepRequires
 pub mod StepSums
 pub mod SumCards
 pub mod Summed
+pub mod SumsTold
 pub mod Targeted
 pub mod TilesLeft
 pub mod Written

@@ -2,3 +2,4 @@ pub mod Cards
 pub mod Clauses
 pub mod Compared
 pub mod Jobs
+pub mod Kept

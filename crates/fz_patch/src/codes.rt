@@ -1,6 +1,7 @@
 //! The new codes, from the heap's end on: the second pass over the tiles with a pixel in the box.
-ghost use Rattle.std.specs.Prelude.{ℕ, ◌≡◌, ◌+◌, ◌≤◌, ◌^◌, ℤ, List, length as len, IfSome, OnOk};
+ghost use Rattle.std.specs.Prelude.{ℕ, ◌≡◌, ◌+◌, ◌<◌, ◌≤◌, ◌^◌, ℤ, List, length as len, IfSome, OnOk};
 ghost use Rattle.fz_base.specs.Keeps.{SourceStays};
+ghost use Rattle.fz_base.specs.Source.{LogsWithin};
 ghost use Rattle.fz_base.specs.Stop.{IfRefused, IsRefused};
 ghost use Rattle.fz_base.specs.Store.{HasAtLeast, IsSettled};
 ghost use Rattle.fz_base.specs.Told.{StaysTold};
@@ -9,17 +10,19 @@ ghost use Rattle.fz_fetch.specs.Rows.{StandsWithin};
 ghost use Rattle.fz_files.specs.Packed.{heap_of};
 ghost use Rattle.fz_laws.specs.FirstPatchFault.{BoxHasNumbers};
 ghost use Rattle.fz_laws.specs.NewNumbers.{box_tiles};
-ghost use Rattle.fz_laws.specs.Writes.{grown_end, heap_writes, new_codes, zero_writes};
+ghost use Rattle.fz_laws.specs.Writes.{grown_end, heap_end as heap_end_of, heap_writes, new_codes, zero_writes};
+ghost use Rattle.fz_patch.specs.Kept.{KeepsBytes};
 ghost use Rattle.fz_pool.specs.Round.{coded_tile};
 ghost use Rattle.fz_target.specs.Ends.{AmendsStore, Patches};
 ghost use Rattle.fz_target.specs.Measures.{HasRoom};
+ghost use Rattle.fz_target.specs.Reads.{pixels_end};
 ghost use Rattle.fz_target.specs.Steps.{ComesInWork, KeepsHeader, KeepsReach, Wrote, WroteSome};
 ghost use Rattle.fz_target.specs.Targets.{GivesWithin, IsGivenTo, IsTarget, IsTargetIn, given_at};
 ghost use Rattle.fz_target.specs.Told.{IfBoth};
 ghost use Rattle.fz_pool.specs.Window.{WindowStays};
 
 use crate::settled::settle;
-use fz_base::{Source, Stop, Store, amend_at};
+use fz_base::{Source, Stop, Store, amend_at, log_law, places_law};
 use fz_block::BLOCK_LEN;
 use fz_pool::{Slot, Window};
 use fz_target::{Measure, Target, changed, code_slot, prepare_tile, tiles_in_box};
@@ -62,12 +65,18 @@ pub(crate) fn write_codes<R: Threads + Sync, D: Store, S: Source>(
     ensures settled { OnOk result (IsSettled (D.tally store.new).amended) }
     ensures grown { OnOk result (HasAtLeast (D.attached store.new) (grown_end target.now.header found.now.bytes)) }
     ensures late { IfRefused result (ComesInWork target.now.header.hdu) }
+    // Of FILE only: all bytes before the heap's end are kept.
+    ensures kept { IfSome (D.held store.old) (λ f. KeepsBytes (λ i. i < heap_end_of target.now.image.table) f (D.held store.new)
+        (D.tally store.old).amended.writes (D.tally store.new).amended.writes) }
+    ensures pixels_read { LogsWithin target.now.pixels_at (pixels_end target.now) (S.ranges patch.old) (S.ranges patch.new) }
     ensures header { OnOk result (KeepsHeader target.now.header (D.held store.old) (D.held store.new)) }
     ensures reach { KeepsReach (D.attached store.old) (D.attached store.new) }
     ensures stays { SourceStays S.held S.attached S.ranges patch.old patch.new × WindowStays window.old window.new
         × StaysTold (D.held store.old) (D.held store.new) × (len copy.new ≡ len copy.old) }
     ensures cause { Patches (D.tally store.old) (D.tally store.new) (S.tally patch.old) (S.tally patch.new) result }
 {
+    log_law();
+    places_law();
     let mut at = target.heap_end();
     let end = at + found.bytes;
     for tile in tiles_in_box(target) {

@@ -1,32 +1,39 @@
 //! The call: all checks of headers, all buffers, and then the writes.
-ghost use Rattle.std.specs.Prelude.{ℕ, ◌≡◌, ◌⊎◌, ◌+◌, ◌<◌, ◌≤◌, ◌^◌, max, sum, false, Option, Ok, Some, length as len, IfOk, IfSome, OnErr, OnOk};
+ghost use Rattle.std.specs.Prelude.{ℕ, ◌≡◌, ◌⊎◌, ◌∷◌, [], ◌+◌, ◌<◌, ◌≤◌, ◌^◌, max, sum, false, Option, Ok, Err, Some, length as len, IfOk, IfSome, OnErr, OnOk};
 ghost use Rattle.fz_base.specs.Counts.{CountsKept};
 ghost use Rattle.fz_base.specs.Keeps.{SourceStays};
 ghost use Rattle.fz_base.specs.Meter.{taken};
+ghost use Rattle.fz_base.specs.Ranges.{LogsIn};
 ghost use Rattle.fz_base.specs.Refusal.{first_refusal};
+ghost use Rattle.fz_base.specs.Source.{LogsWithin};
 ghost use Rattle.fz_base.specs.Stop.{IfRefused, IsRefused, ReadsAndTakes, TellsLimit};
 ghost use Rattle.fz_base.specs.Store.{StoreKept};
 ghost use Rattle.fz_base.specs.Takings.{TellsFirstPast, highest, piled};
 ghost use Rattle.fz_base.specs.Told.{StaysTold};
+ghost use Rattle.fz_base.specs.declared.fault.Fault.{Fault as FaultOf};
 ghost use Rattle.fz_block.specs.Checks.{hdu_at, header_blocks_of};
 ghost use Rattle.fz_block.specs.Facts.{IsHeaderOf};
 ghost use Rattle.fz_block.specs.Header.{next_start_of};
 ghost use Rattle.fz_block.specs.Takings.{header_taking};
+ghost use Rattle.fz_files.specs.FirstFault.{picked_tiles_of};
 ghost use Rattle.fz_files.specs.Restored.{header_in, pixels_of};
 ghost use Rattle.fz_checks.specs.WorkBuffers.{work_buffers};
 ghost use Rattle.fz_job.specs.Clauses.{IfOverLimit};
 ghost use Rattle.fz_laws.specs.PatchBuffers.{given_takings, patch_takings};
-ghost use Rattle.fz_laws.specs.PatchChecks.{own_checks};
+ghost use Rattle.fz_laws.specs.Given.{given_header};
+ghost use Rattle.fz_laws.specs.PatchChecks.{own_checks, patch_target};
 ghost use Rattle.fz_patch.specs.Clauses.{AnswersPatch, HasPatchCause, IsPatchedBy, IsUnwritten, KeepsPatchBuffers, LeavesSafe, TellsPatchFault};
 ghost use Rattle.fz_patch.specs.Clauses.{IsUnpassed, greatest_patch_bound, later_takings};
 ghost use Rattle.fz_target.specs.Ends.{WorksInPlace};
 ghost use Rattle.fz_patch.specs.Jobs.{ForJobs, IsWanted, IsReadAgain, NamesWanted};
+ghost use Rattle.fz_patch.specs.Kept.{IsKept, KeepsBytes, LeavesRest};
+ghost use Rattle.fz_target.specs.Reads.{ReadsGiven, found_alone, given_data, given_header_range, pixels_end};
 ghost use Rattle.fz_target.specs.Steps.{ComesInWork, KeepsReach};
 ghost use Rattle.fz_target.specs.Targets.{GivesWithin, IsCorner, IsFoundIn, job_at};
 ghost use Rattle.fz_target.specs.Told.{IfBoth};
 
 use crate::steps::write_patch;
-use fz_base::{Meter, NoMemory, Source, Stop, Store, takings_law};
+use fz_base::{Meter, NoMemory, Source, Stop, Store, log_law, ranges_law, takings_law};
 use fz_block::{BLOCK_LEN, Header, ReadHeader, found_hdus_law, hdu_at_law, header_at};
 use fz_job::{Wants, Workspace, survey_every, survey_law, survey_to_amend, workspace_law};
 use fz_laws::{one_patch_law, patch_buffers_law, safe_patch_law};
@@ -87,6 +94,11 @@ pub fn patch<R: Threads + Sync, D: Store, S: Source>(
     // Of FILE only, whatever PATCH gives: a refusal after some writes is that of a row of the image, or of its HDU.
     ensures named { IfSome (D.held store.old) (λ g. NamesWanted hdu ((D.held store.new ≡ D.held store.old)
         × ((D.tally store.new).amended ≡ (D.tally store.old).amended)) g result) }
+    // Of FILE only, whatever PATCH holds or shows: only bytes that have a place in a patch are changed.
+    ensures kept { IfSome (D.held store.old) (LeavesRest (job_at hdu corner.now) (S.attached patch.old) (S.held patch.old) (D.held store.new)
+        (D.tally store.old).amended.writes (D.tally store.new).amended.writes) }
+    // Every byte that was read of PATCH, whatever the answer.
+    ensures given_touched { ReadsGiven (D.held store.old) (S.held patch.old) (job_at hdu corner.now) (S.ranges patch.old) (S.ranges patch.new) }
     ensures first_fault { TellsPatchFault (job_at hdu corner.now) (D.held store.old) (S.held patch.old) result }
     // If no count of faults rose and the limit is at least the bound, only the first fault decides.
     ensures answered { AnswersPatch (job_at hdu corner.now) (D.held store.old) (S.held patch.old) (D.tally store.old) (D.tally store.new)
@@ -139,6 +151,10 @@ fn with_block<R: Threads + Sync, D: Store, S: Source>(
         ((D.held store.new ≡ D.held store.old) × ((D.tally store.new).amended ≡ (D.tally store.old).amended)) result }
     ensures named { IfSome (D.held store.old) (λ g. NamesWanted hdu ((D.held store.new ≡ D.held store.old)
         × ((D.tally store.new).amended ≡ (D.tally store.old).amended)) g result) }
+    ensures kept { IfSome (D.held store.old) (LeavesRest (job_at hdu patching.now.asked.corner.now) (S.attached patch.old) (S.held patch.old)
+        (D.held store.new) (D.tally store.old).amended.writes (D.tally store.new).amended.writes) }
+    ensures given_touched { ReadsGiven (D.held store.old) (S.held patch.old) (job_at hdu patching.now.asked.corner.now)
+        (S.ranges patch.old) (S.ranges patch.new) }
     ensures first_fault { TellsPatchFault (job_at hdu patching.now.asked.corner.now) (D.held store.old) (S.held patch.old) result }
     ensures first_past { IfBoth (D.held store.old) (S.held patch.old)
         (λ g p. TellsFirstPast meter.old.limit (later_takings g p (job_at hdu patching.now.asked.corner.now)) result) }
@@ -244,6 +260,16 @@ fn with_header<R: Threads + Sync, D: Store, S: Source>(
         (given_takings g p (job_at wanted patching.now.asked.corner.now) header.now
         (first_refusal (own_checks g header.now (job_at wanted patching.now.asked.corner.now))))) }
     ensures over_limit { IfOverLimit result ((D.held store.new ≡ D.held store.old) × (D.tally store.new ≡ D.tally store.old)) }
+    ensures kept { IfSome (D.held store.old) (λ g. (wanted : Option ℕ) → IsWanted wanted header.now g
+        → LeavesRest (job_at wanted patching.now.asked.corner.now) (S.attached patch.old) (S.held patch.old) (D.held store.new)
+        (D.tally store.old).amended.writes (D.tally store.new).amended.writes g) }
+    ensures given_within { IfSome (S.held patch.old) (λ p. LogsIn (given_header_range p ∷ given_data (given_header p))
+        (S.ranges patch.old) (S.ranges patch.new)) }
+    ensures given_alone { IfSome (D.held store.old) (λ g. (wanted : Option ℕ) (x : FaultOf) → IsWanted wanted header.now g
+        → found_alone g (job_at wanted patching.now.asked.corner.now) ≡ Err x → S.ranges patch.new ≡ S.ranges patch.old) }
+    ensures given_refused { IfBoth (D.held store.old) (S.held patch.old) (λ g p. (wanted : Option ℕ) (x : FaultOf) → IsWanted wanted header.now g
+        → patch_target g p (job_at wanted patching.now.asked.corner.now) ≡ Err x
+        → LogsIn (given_header_range p ∷ []) (S.ranges patch.old) (S.ranges patch.new)) }
     ensures first_fault { IfBoth (D.held store.old) (S.held patch.old) (λ g p. (wanted : Option ℕ) → IsWanted wanted header.now g
         → TellsPatchFault (job_at wanted patching.now.asked.corner.now) (Some g) (Some p) result) }
     ensures first_past { IfBoth (D.held store.old) (S.held patch.old) (λ g p. (wanted : Option ℕ) → IsWanted wanted header.now g
@@ -271,6 +297,7 @@ fn with_header<R: Threads + Sync, D: Store, S: Source>(
     // The HDU that is wanted passes the checks of its image; and no taking passes the bound.
     found_hdus_law();
     hdu_at_law();
+    ranges_law();
     takings_law();
     workspace_law();
     let target = find_target(&patching.asked, patch, meter, header, buf, block)?;
@@ -316,6 +343,10 @@ fn work<R: Threads + Sync, D: Store, S: Source>(
         (meter.old.live + sum (work_buffers 0 false (Some (pixels_of target.now.image.plan 0)) 1))) }
     ensures late { IfRefused result (λ x. ((D.held store.new ≡ D.held store.old) × (D.tally store.new ≡ D.tally store.old))
         ⊎ ComesInWork target.now.header.hdu x) }
+    ensures kept { IfSome (D.held store.old) (λ f. KeepsBytes
+        (IsKept buf.old target.now.header target.now.image.table (picked_tiles_of target.now.image.plan target.now.sieve))
+        f (D.held store.new) (D.tally store.old).amended.writes (D.tally store.new).amended.writes) }
+    ensures pixels_read { LogsWithin target.now.pixels_at (pixels_end target.now) (S.ranges patch.old) (S.ranges patch.new) }
     ensures risen { meter.old.peak ≤ meter.new.peak }
     ensures reach { KeepsReach (D.attached store.old) (D.attached store.new) }
     ensures stays { SourceStays S.held S.attached S.ranges patch.old patch.new
@@ -325,6 +356,7 @@ fn work<R: Threads + Sync, D: Store, S: Source>(
 {
     // How long the slots are that were filled, and that what was taken comes back.
     workspace_law();
+    log_law();
     sizes_law();
     let mut window = match Window::new(alloc, 1) {
         Ok(window) => window,

@@ -1,12 +1,15 @@
 //! The rows, by which tiles have their new codes: the third pass over the tiles with a pixel in the box.
 ghost use Rattle.std.specs.Prelude.{ℕ, ◌≡◌, ◌+◌, ◌-◌, ◌*◌, ◌<◌, ◌≤◌, ◌^◌, ℤ, List, zip, if◌then◌else◌, length as len, IfSome, OnErr, OnOk};
 ghost use Rattle.fz_base.specs.Keeps.{SourceStays};
+ghost use Rattle.fz_base.specs.Ranges.{LiesIn};
 ghost use Rattle.fz_base.specs.Sink.{written};
+ghost use Rattle.fz_base.specs.Source.{LogsWithin};
 ghost use Rattle.fz_base.specs.Stop.{Amends, IfRefused, IsRefused};
 ghost use Rattle.fz_base.specs.Store.{HasAtLeast, IsSettled, MayAmend, amend_of, amended_by};
 ghost use Rattle.fz_base.specs.Told.{StaysTold};
 ghost use Rattle.fz_job.specs.Images.{HaveRoom};
 ghost use Rattle.fz_fetch.specs.Rows.{StandsWithin};
+ghost use Rattle.fz_files.specs.FirstFault.{picked_tiles_of};
 ghost use Rattle.fz_files.specs.Packed.{heap_of, row_of};
 ghost use Rattle.fz_laws.specs.FirstPatchFault.{BoxHasNumbers};
 ghost use Rattle.fz_laws.specs.NewNumbers.{box_tiles};
@@ -14,8 +17,10 @@ ghost use Rattle.fz_laws.specs.Writes.{new_codes, row_writes};
 ghost use Rattle.fz_pool.specs.Round.{coded_tile};
 ghost use Rattle.fz_table.specs.Rows.{descriptor_len, row_start};
 ghost use Rattle.fz_patch.specs.Compared.{DescribesCodes, HeapEndsWith};
+ghost use Rattle.fz_patch.specs.Kept.{KeepsBytes, row_ranges};
 ghost use Rattle.fz_target.specs.Ends.{Patches};
 ghost use Rattle.fz_target.specs.Measures.{measure_of};
+ghost use Rattle.fz_target.specs.Reads.{pixels_end};
 ghost use Rattle.fz_target.specs.Steps.{ComesInWork, KeepsHeader, KeepsReach, Wrote, WroteSome};
 ghost use Rattle.fz_target.specs.Targets.{GivesWithin, IsGivenTo, IsTarget, IsTargetIn, given_at, plan_to_write};
 ghost use Rattle.fz_target.specs.Told.{IfBoth};
@@ -23,7 +28,7 @@ ghost use Rattle.fz_pool.specs.Window.{WindowStays};
 
 use crate::codes::code_in;
 use crate::settled::settle;
-use fz_base::{Source, Stop, Store, amend_at, has_bytes};
+use fz_base::{Source, Stop, Store, amend_at, has_bytes, log_law, places_law};
 use fz_pool::{Slot, Window};
 use fz_table::{Descriptor, write_row};
 use fz_target::{
@@ -83,12 +88,19 @@ pub(crate) fn write_rows<R: Threads + Sync, D: Store, S: Source>(
         (target.now.image.table.heap_len - found.now.bytes) f
         (D.held store.old) (D.held store.new) (D.tally store.old).amended.writes (D.tally store.new).amended.writes) }
     ensures late { IfRefused result (ComesInWork target.now.header.hdu) }
+    // Of FILE only: all bytes but those of the rows of the tiles in the box are kept.
+    ensures kept { IfSome (D.held store.old) (λ f. KeepsBytes
+        (λ i. ¬ LiesIn (row_ranges target.now.image.table (picked_tiles_of target.now.image.plan target.now.sieve)) i) f (D.held store.new)
+        (D.tally store.old).amended.writes (D.tally store.new).amended.writes) }
+    ensures pixels_read { LogsWithin target.now.pixels_at (pixels_end target.now) (S.ranges patch.old) (S.ranges patch.new) }
     ensures header { OnOk result (KeepsHeader target.now.header (D.held store.old) (D.held store.new)) }
     ensures reach { KeepsReach (D.attached store.old) (D.attached store.new) }
     ensures stays { SourceStays S.held S.attached S.ranges patch.old patch.new × WindowStays window.old window.new
         × StaysTold (D.held store.old) (D.held store.new) × (len copy.new ≡ len copy.old) }
     ensures cause { Patches (D.tally store.old) (D.tally store.new) (S.tally patch.old) (S.tally patch.new) result }
 {
+    log_law();
+    places_law();
     let end = target.image.table.heap_len;
     let mut offset = end - found.bytes;
     for tile in tiles_in_box(target) {

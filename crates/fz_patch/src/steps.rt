@@ -1,12 +1,16 @@
 //! The three passes and the writes, in their order.
-ghost use Rattle.std.specs.Prelude.{◌≡◌, ◌⊎◌, ◌≤◌, Some, length as len, OnOk};
+ghost use Rattle.std.specs.Prelude.{◌≡◌, ◌⊎◌, ◌≤◌, Some, length as len, IfSome, OnOk};
 ghost use Rattle.fz_base.specs.Keeps.{SourceStays};
+ghost use Rattle.fz_base.specs.Source.{LogsWithin};
 ghost use Rattle.fz_base.specs.Stop.{IfRefused, IsRefused};
 ghost use Rattle.fz_base.specs.Told.{StaysTold};
+ghost use Rattle.fz_files.specs.FirstFault.{picked_tiles_of};
 ghost use Rattle.fz_job.specs.Images.{HaveRoom};
 ghost use Rattle.fz_patch.specs.Clauses.{IsPatchedBy, LeavesSafe, TellsPatchFault};
 ghost use Rattle.fz_target.specs.Ends.{Patches};
 ghost use Rattle.fz_patch.specs.Jobs.{ForJobs};
+ghost use Rattle.fz_patch.specs.Kept.{IsKept, KeepsBytes};
+ghost use Rattle.fz_target.specs.Reads.{pixels_end};
 ghost use Rattle.fz_target.specs.Steps.{ComesInWork, KeepsReach};
 ghost use Rattle.fz_target.specs.Targets.{GivesWithin, IsFoundIn};
 ghost use Rattle.fz_pool.specs.Window.{WindowStays};
@@ -17,7 +21,7 @@ use crate::column::find_forms;
 use crate::places::find_places;
 use crate::rows::write_rows;
 use crate::sums::write_sums;
-use fz_base::{Source, Stop, Store};
+use fz_base::{Source, Stop, Store, log_law, places_law};
 use fz_card::card_laws;
 use fz_head::sum_cards_law;
 use fz_laws::{card_in_file_law, grown_header_law, safe_patch_law, whole_patch_law};
@@ -52,6 +56,11 @@ pub(crate) fn write_patch<R: Threads + Sync, D: Store, S: Source>(
         (λ job file by. (D.held store.new ≡ D.held store.old) × (D.tally store.new ≡ D.tally store.old)) }
     ensures late { IfRefused result (λ x. ((D.held store.new ≡ D.held store.old) × (D.tally store.new ≡ D.tally store.old))
         ⊎ ComesInWork target.now.header.hdu x) }
+    // Of FILE only, whatever PATCH gives: only bytes that have a place in a patch of the target are changed.
+    ensures kept { IfSome (D.held store.old) (λ f. KeepsBytes
+        (IsKept buf.old target.now.header target.now.image.table (picked_tiles_of target.now.image.plan target.now.sieve))
+        f (D.held store.new) (D.tally store.old).amended.writes (D.tally store.new).amended.writes) }
+    ensures pixels_read { LogsWithin target.now.pixels_at (pixels_end target.now) (S.ranges patch.old) (S.ranges patch.new) }
     ensures buf { len buf.new ≡ len buf.old }
     ensures window { WindowStays window.old window.new }
     ensures copy { len copy.new ≡ len copy.old }
@@ -60,10 +69,13 @@ pub(crate) fn write_patch<R: Threads + Sync, D: Store, S: Source>(
     ensures patch { SourceStays S.held S.attached S.ranges patch.old patch.new }
     ensures cause { Patches (D.tally store.old) (D.tally store.new) (S.tally patch.old) (S.tally patch.new) result }
 {
-    // What the header says with other cards, that the file is safe after each write, and that it is patched after all.
+    // What the header says with other cards, that the file is safe after each write, and that it is patched after all;
+    // and which bytes are kept and read.
     card_in_file_law();
     card_laws();
     grown_header_law();
+    log_law();
+    places_law();
     safe_patch_law();
     sum_cards_law();
     sum_law();

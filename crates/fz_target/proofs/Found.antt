@@ -133,7 +133,7 @@ module _ (len : ℕ) (corner buf : List ℕ) (h : Header) where
 abbrev pub bad_patch : Fault
 bad_patch = refusal 0 (Byte 0) BadPatch
 
-found_ok : (p : Plan) (patch : List ℕ) (q : Header) → given_found p patch ≡ Ok q → (given_header patch ≡ Ok q) × (may_be_given p (given_header patch) ≡ true)
+pub found_ok : (p : Plan) (patch : List ℕ) (q : Header) → given_found p patch ≡ Ok q → (given_header patch ≡ Ok q) × (may_be_given p (given_header patch) ≡ true)
 found_ok p patch q e = by_header (given_header patch) refl e
   where
     by_test : (r : Result Header Fault) (b : Bool) → may_be_given p r ≡ b → (if b then r else Err bad_patch) ≡ Ok q → (r ≡ Ok q) × (may_be_given p r ≡ true)

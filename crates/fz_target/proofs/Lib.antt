@@ -9,6 +9,7 @@ pub mod FormTests
 pub mod Found
 pub mod FoundTargets
 pub mod GivenLines
+pub mod GivenRead
 pub mod GrownTargets
 pub mod LinePieces
 pub mod LineReads
@@ -19,5 +20,6 @@ pub mod Peaks
 pub mod Pieces
 pub mod Room
 pub mod Targeted
+pub mod TileReads
 pub mod TilesLeft
 pub mod Unrefused

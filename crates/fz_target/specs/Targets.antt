@@ -81,6 +81,17 @@ pub record IsGivenTo (corner patch : List ℕ) (t : Target) : Type 0 where
   pub numbers :
       (given_at corner patch).array.numbers ≡ stored_pixels (pixel_bits t.image.plan) (product (sieve_lengths t.sieve)) (drop t.pixels_at patch)
 
+-- a box of these lengths at a corner, whatever its pixels are
+abbrev pub box_at : List ℕ → List ℕ → Given
+box_at corner lengths = record { corner = corner; array = record { lengths = lengths; numbers = [] } }
+
+-- The pixels that are replaced are those of a box at the corner: if PATCH shows its bytes, with the lengths of its image.
+pub record IsBoxAt (corner : List ℕ) (given : Option (List ℕ)) (t : Target) : Type 0 where
+  pub lengths : List ℕ
+  pub sieve : t.sieve ≡ box_sieve (box_at corner lengths)
+  pub along : sieve_lengths t.sieve ≡ lengths
+  pub shown : IfSome given (λ patch. lengths ≡ (given_at corner patch).array.lengths)
+
 -- The target by the bytes of a file, which may have some of the writes already.
 pub record IsTargetIn (file : List ℕ) (t : Target) : Type 0 where
   pub said : IsSaid file t.header t.image

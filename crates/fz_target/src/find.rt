@@ -1,19 +1,23 @@
 //! The packed image that is patched, found by all checks of headers.
-ghost use Rattle.std.specs.Prelude.{ℕ, ◌≡◌, ◌+◌, ◌≤◌, ◌^◌, max, List, Option, Ok, Some, IfOk, IfSome, OnOk, length as len};
+ghost use Rattle.std.specs.Prelude.{ℕ, ◌≡◌, ◌+◌, ◌≤◌, ◌^◌, max, List, Option, Ok, Some, None, IfOk, IfSome, OnOk, length as len};
 ghost use Rattle.fz_base.specs.Keeps.{SourceStays};
 ghost use Rattle.fz_base.specs.Refusal.{IsFirstOf, first_refusal, refusal};
+ghost use Rattle.fz_base.specs.Source.{LogsWithin};
 ghost use Rattle.fz_base.specs.Stop.{IsDefined, ReadsAndTakes, TellsLimit};
 ghost use Rattle.fz_base.specs.Takings.{TellsFirstPast, highest};
 ghost use Rattle.fz_base.specs.declared.failure.Stop.TheVariants.{Refused};
+ghost use Rattle.fz_base.specs.declared.fault.Fault.{Fault as FaultOf};
 ghost use Rattle.fz_base.specs.declared.fault.Place.TheVariants.{Card as AtCard};
 ghost use Rattle.fz_base.specs.declared.kind.Kind.TheVariants.{BadCard};
+ghost use Rattle.fz_block.specs.Checks.{header_touched};
 ghost use Rattle.fz_block.specs.Facts.{IsHeaderOf};
 ghost use Rattle.fz_block.specs.Header.{next_start_of};
 ghost use Rattle.fz_grid.specs.Region.{IsWithin};
 ghost use Rattle.fz_laws.specs.PatchChecks.{if_patchable, own_checks};
 ghost use Rattle.fz_laws.specs.PatchForm.{is_wide_table};
 ghost use Rattle.fz_laws.specs.Given.{box_region};
-ghost use Rattle.fz_target.specs.Targets.{GivesWithin, HasHeader, IsCorner, IsGivenTo, IsOwnImage, IsTarget, IsTargetIn};
+ghost use Rattle.fz_target.specs.Reads.{HasDataOf};
+ghost use Rattle.fz_target.specs.Targets.{GivesWithin, HasHeader, IsBoxAt, IsCorner, IsGivenTo, IsOwnImage, IsTarget, IsTargetIn};
 ghost use Rattle.fz_target.specs.Targets.{given_taking, header_of, job_at, placed, region_sieve};
 
 use crate::form::{check_form, is_wide};
@@ -61,7 +65,16 @@ pub fn find_target<S: Source>(
     ensures own { IfOk result (λ t. IsOwnImage asked.now.length asked.now.corner.now buf.now header.now t.image × (is_wide_table buf.now ≡ t.wide)) }
     ensures said { IfOk result (λ t. (file : List ℕ) → HasHeader asked.now.length header.now buf.now file → IsTargetIn file t) }
     ensures given { IfOk result (λ t. GivesWithin (S.attached patch.old) t × IfSome (S.held patch.old) (λ p. IsGivenTo asked.now.corner.now p t)) }
+    // Whatever PATCH shows: what is replaced is a box at the corner, of which the pixels are the data of PATCH.
+    ensures box_at { IfOk result (IsBoxAt asked.now.corner.now (S.held patch.old)) }
+    ensures begins { IfOk result (λ t. IfSome (S.held patch.old) (λ p. HasDataOf p t)) }
     ensures block { len block.new ≡ 2880 }
+    ensures passes { OnOk result ((file : List ℕ) (wanted : Option ℕ) → HasHeader asked.now.length header.now buf.now file
+        → first_refusal (own_checks file header.now (job_at wanted asked.now.corner.now)) ≡ None) }
+    // PATCH is not read if FILE alone is refused.
+    ensures alone { (file : List ℕ) (wanted : Option ℕ) (x : FaultOf) → HasHeader asked.now.length header.now buf.now file
+        → first_refusal (own_checks file header.now (job_at wanted asked.now.corner.now)) ≡ Some x → S.ranges patch.new ≡ S.ranges patch.old }
+    ensures read { IfSome (S.held patch.old) (λ p. LogsWithin 0 (header_touched 0 0 p) (S.ranges patch.old) (S.ranges patch.new)) }
     ensures risen { meter.old.peak ≤ meter.new.peak }
     ensures first_past { (file : List ℕ) (wanted : Option ℕ) → HasHeader asked.now.length header.now buf.now file
         → IfSome (S.held patch.old) (λ p. TellsFirstPast meter.old.limit

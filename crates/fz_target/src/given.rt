@@ -2,12 +2,13 @@
 ghost use Rattle.std.specs.Prelude.{◌≡◌, ◌+◌, ◌≤◌, ◌^◌, max, Ok, Some, IfOk, IfSome, OnOk, length as len};
 ghost use Rattle.fz_base.specs.Keeps.{SourceStays};
 ghost use Rattle.fz_base.specs.Refusal.{refusal};
+ghost use Rattle.fz_base.specs.Source.{LogsWithin};
 ghost use Rattle.fz_base.specs.Stop.{IsDefined, ReadsAndTakes, TellsLimit};
 ghost use Rattle.fz_base.specs.Takings.{TellsFirstPast, highest};
 ghost use Rattle.fz_base.specs.declared.failure.Stop.TheVariants.{Refused};
 ghost use Rattle.fz_base.specs.declared.fault.Place.TheVariants.{Byte as AtByte};
 ghost use Rattle.fz_base.specs.declared.kind.Kind.TheVariants.{BadPatch as IsBadPatch};
-ghost use Rattle.fz_block.specs.Checks.{header_blocks_of};
+ghost use Rattle.fz_block.specs.Checks.{header_blocks_of, header_touched};
 ghost use Rattle.fz_block.specs.Header.{next_start_of};
 ghost use Rattle.fz_block.specs.Takings.{header_taking};
 ghost use Rattle.fz_laws.specs.PatchChecks.{may_be_given};
@@ -35,6 +36,7 @@ pub(crate) fn read_given<S: Source>(
     ensures given { IfOk result (IsGivenImage plan.now) }
     ensures within { IfOk result (λ q. (next_start_of q ≤ patch_length) × (next_start_of q ≤ 2 ^ 62)) }
     ensures block { len block.new ≡ 2880 }
+    ensures read { IfSome (S.held patch.old) (λ p. LogsWithin 0 (header_touched 0 0 p) (S.ranges patch.old) (S.ranges patch.new)) }
     ensures risen { meter.old.peak ≤ meter.new.peak }
     ensures first_past { IfSome (S.held patch.old)
         (λ p. TellsFirstPast meter.old.limit (header_taking meter.old.live (header_blocks_of 0 0 p)) result) }

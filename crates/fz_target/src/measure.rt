@@ -1,10 +1,12 @@
 //! What the new codes need: the first pass over the tiles with a pixel in the box. Nothing is written.
 ghost use Rattle.std.specs.Prelude.{ℕ, ◌≡◌, ◌<◌, ◌≤◌, ◌^◌, ℤ, List, length as len, Some, None, IfOk, IfSome, OnOk};
 ghost use Rattle.fz_base.specs.Keeps.{SourceStays};
+ghost use Rattle.fz_base.specs.Ranges.{LogsIn};
+ghost use Rattle.fz_base.specs.Source.{LogsWithin};
 ghost use Rattle.fz_base.specs.Stop.{IfRefused};
-ghost use Rattle.fz_job.specs.Images.{HaveRoom};
+ghost use Rattle.fz_job.specs.Images.{HaveRoom, fetched_ranges};
 ghost use Rattle.fz_fetch.specs.Rows.{StandsWithin};
-ghost use Rattle.fz_files.specs.FirstFault.{IsFirstRowFault, picked_rows};
+ghost use Rattle.fz_files.specs.FirstFault.{IsFirstRowFault, picked_rows, picked_tiles_of};
 ghost use Rattle.fz_files.specs.Packed.{coded_count as coded_count_of, stored_count as stored_count_of};
 ghost use Rattle.fz_head.specs.Planned.{pixel_len as pixel_len_of};
 ghost use Rattle.fz_laws.specs.FirstPatchFault.{BoxHasNumbers, IsBoxFault};
@@ -13,6 +15,7 @@ ghost use Rattle.fz_laws.specs.Writes.{new_codes};
 ghost use Rattle.fz_pool.specs.Round.{coded_tile};
 ghost use Rattle.fz_target.specs.Ends.{ReadsTiles};
 ghost use Rattle.fz_target.specs.Measures.{HasRoom, has_room as has_room_of, is_measured as is_measured_of, measure_of, measured_with};
+ghost use Rattle.fz_target.specs.Reads.{pixels_end};
 ghost use Rattle.fz_target.specs.Targets.{GivesWithin, IsGivenTo, IsTarget, IsTargetIn, given_at};
 ghost use Rattle.fz_target.specs.Told.{IfBoth};
 ghost use Rattle.fz_pool.specs.Window.{WindowStays};
@@ -20,7 +23,7 @@ ghost use Rattle.fz_pool.specs.Window.{WindowStays};
 use crate::target::Target;
 use crate::tile::prepare_tile;
 use crate::walk::{code_slot, tiles_in_box};
-use fz_base::{Fault, Kind, Place, Source, Stop};
+use fz_base::{Fault, Kind, Place, Source, Stop, log_law, ranges_law};
 use fz_head::coded_unit;
 use fz_pool::{Slot, Window};
 use fz_tile::{Place2, plain_len};
@@ -67,11 +70,16 @@ pub fn measure_codes<R: Threads + Sync, D: Source, S: Source>(
     ensures room { IfOk result (λ m. HasRoom target.now m) }
     ensures fault { IfRefused result (λ x. IfBoth (D.held store.old) (S.held patch.old) (λ f p. (corner : List ℕ)
         → IsGivenTo corner p target.now → IsBoxFault f target.now.header (given_at corner p) (Some x))) }
+    ensures read { IfSome (D.held store.old) (λ f. LogsIn (fetched_ranges f target.now.header (picked_tiles_of target.now.image.plan target.now.sieve))
+        (D.ranges store.old) (D.ranges store.new)) }
+    ensures pixels_read { LogsWithin target.now.pixels_at (pixels_end target.now) (S.ranges patch.old) (S.ranges patch.new) }
     ensures stays { SourceStays D.held D.attached D.ranges store.old store.new
         × SourceStays S.held S.attached S.ranges patch.old patch.new × WindowStays window.old window.new
         × (len copy.new ≡ len copy.old) }
     ensures cause { ReadsTiles (D.tally store.old) (D.tally store.new) (S.tally patch.old) (S.tally patch.new) result }
 {
+    log_law();
+    ranges_law();
     let mut found = Measure {
         bytes: 0,
         coded: 0,

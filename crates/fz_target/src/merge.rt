@@ -1,6 +1,7 @@
 //! The pixels of PATCH, read to their places in a tile.
 ghost use Rattle.std.specs.Prelude.{ℕ, ◌≡◌, ◌+◌, ◌*◌, ◌/◌, ◌^◌, ◌≤◌, ℤ, List, length as len, IfSome, OnOk, unsigned_abs};
 ghost use Rattle.fz_base.specs.Keeps.{SourceStays};
+ghost use Rattle.fz_base.specs.Source.{LogsWithin};
 ghost use Rattle.fz_base.specs.Stop.{OnlyReads};
 ghost use Rattle.fz_fetch.specs.Fetched.{HoldsPixels};
 ghost use Rattle.fz_files.specs.Packed.{pixel_bits};
@@ -10,11 +11,12 @@ ghost use Rattle.fz_grid.specs.Sieve.{sieve_lengths};
 ghost use Rattle.fz_grid.specs.Line.{IsLineWithin};
 ghost use Rattle.fz_laws.specs.NewNumbers.{new_numbers};
 ghost use Rattle.fz_tile.specs.Pixels.{IsBitpix, place_count as place_count_of};
+ghost use Rattle.fz_target.specs.Reads.{pixels_end};
 ghost use Rattle.fz_target.specs.Targets.{GivesWithin, IsGivenTo, IsTarget, given_at};
 ghost use Rattle.fz_target.specs.Tiles.{HasPiece, IsBoxTile};
 
 use crate::target::Target;
-use fz_base::{Source, Stop};
+use fz_base::{Source, Stop, log_law};
 use fz_grid::{Line, place_law, shape_law, tile_lines, tile_pixels_law};
 use fz_laws::new_numbers_law;
 use fz_tile::{plain_law, plain_len, read_plain, slice_law};
@@ -38,10 +40,12 @@ pub(crate) fn put_given<S: Source>(
         → HoldsPixels target.now.image.plan tile numbers.old xs
         → HoldsPixels target.now.image.plan tile numbers.new (new_numbers target.now.image.plan (given_at corner p) tile xs))) }
     ensures pixels { OnOk result ((xs : List ℤ) × HoldsPixels target.now.image.plan tile numbers.new xs) }
+    ensures pixels_read { LogsWithin target.now.pixels_at (pixels_end target.now) (S.ranges patch.old) (S.ranges patch.new) }
     ensures stays { SourceStays S.held S.attached S.ranges patch.old patch.new × (len numbers.new ≡ len numbers.old)
         × (len copy.new ≡ len copy.old) }
     ensures cause { OnlyReads (S.tally patch.old) (S.tally patch.new) result }
 {
+    log_law();
     new_numbers_law();
     place_law();
     shape_law();
@@ -70,10 +74,12 @@ fn put_line<S: Source>(
     requires step { line.now.step ≡ 1 }
     requires copy { 4096 ≤ len copy.old }
     ensures piece { OnOk result (HasPiece target.now line.now.in_tile line.now.in_cutout line.now.count (S.held patch.old) numbers.old numbers.new) }
+    ensures pixels_read { LogsWithin target.now.pixels_at (pixels_end target.now) (S.ranges patch.old) (S.ranges patch.new) }
     ensures stays { SourceStays S.held S.attached S.ranges patch.old patch.new × (len numbers.new ≡ len numbers.old)
         × (len copy.new ≡ len copy.old) }
     ensures cause { OnlyReads (S.tally patch.old) (S.tally patch.new) result }
 {
+    log_law();
     let count = u64::from(line.count);
     let most = copy.len() as u64 / plain_len(target.image.plan.bitpix, 1);
     let mut done = 0;
@@ -110,10 +116,12 @@ fn put_piece<S: Source>(
     requires here { from + count ≤ product (sieve_lengths target.now.sieve) }
     requires there { (to + count ≤ 2 ^ 26) × (2 * (to + count) ≤ len numbers.old) }
     ensures piece { OnOk result (HasPiece target.now to from count (S.held patch.old) numbers.old numbers.new) }
+    ensures pixels_read { LogsWithin target.now.pixels_at (pixels_end target.now) (S.ranges patch.old) (S.ranges patch.new) }
     ensures stays { SourceStays S.held S.attached S.ranges patch.old patch.new × (len numbers.new ≡ len numbers.old)
         × (len copy.new ≡ len copy.old) }
     ensures cause { OnlyReads (S.tally patch.old) (S.tally patch.new) result }
 {
+    log_law();
     plain_law();
     slice_law();
     let bitpix = target.image.plan.bitpix;

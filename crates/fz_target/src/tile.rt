@@ -1,9 +1,11 @@
 //! One tile: its old pixels are decoded, those of PATCH put over them, and the new ones encoded.
 ghost use Rattle.std.specs.Prelude.{ℕ, ◌≡◌, ◌∷◌, [], ◌<◌, ◌≤◌, ◌^◌, List, ℤ, length as len, slice_get, Some, None, IfSome, OnOk};
 ghost use Rattle.fz_base.specs.Keeps.{SourceStays};
+ghost use Rattle.fz_base.specs.Ranges.{LogsIn};
+ghost use Rattle.fz_base.specs.Source.{LogsWithin};
 ghost use Rattle.fz_base.specs.Stop.{IfRefused, IsRefused, OnlyReads};
 ghost use Rattle.fz_fetch.specs.Fetched.{HasTile};
-ghost use Rattle.fz_job.specs.Images.{HasSlotFor, HaveRoom};
+ghost use Rattle.fz_job.specs.Images.{HasSlotFor, HaveRoom, fetched_ranges};
 ghost use Rattle.fz_fetch.specs.Rows.{StandsWithin};
 ghost use Rattle.fz_files.specs.FirstFault.{IsFirstRowFault, image_row};
 ghost use Rattle.fz_files.specs.Packed.{tiles_in};
@@ -12,6 +14,7 @@ ghost use Rattle.fz_pool.specs.Window.{IsPut, slot_size, WindowStays};
 ghost use Rattle.fz_pool.specs.declared.slot.Slot.{Slot as SlotOf};
 ghost use Rattle.fz_table.specs.Records.{IsOfRow};
 ghost use Rattle.fz_target.specs.Ends.{ReadsTiles};
+ghost use Rattle.fz_target.specs.Reads.{pixels_end};
 ghost use Rattle.fz_target.specs.Targets.{GivesWithin, IsGivenTo, IsTarget, IsTargetIn, given_at};
 ghost use Rattle.fz_target.specs.Tiles.{HasFirst, HasNewCode, HasSomeCode, IsBoxTile, IsFilledSlot, encoding_job};
 ghost use Rattle.fz_target.specs.Told.{IfBoth};
@@ -51,6 +54,8 @@ pub fn prepare_tile<R: Threads + Sync, D: Source, S: Source>(
     ensures fault { IfRefused result (λ x. IfSome (D.held store.old) (λ f. IsFirstRowFault f (image_row target.now.header tile ∷ []) (Some x))) }
     ensures row { IfRefused result (IsOfRow target.now.header.hdu tile) }
     ensures unrefused { IsRefused result → IfSome (D.held store.old) (λ f. (xs : List ℤ) → ¬ RowStandsFor f target.now.header tile xs) }
+    ensures read { IfSome (D.held store.old) (λ f. LogsIn (fetched_ranges f target.now.header (tile ∷ [])) (D.ranges store.old) (D.ranges store.new)) }
+    ensures pixels_read { LogsWithin target.now.pixels_at (pixels_end target.now) (S.ranges patch.old) (S.ranges patch.new) }
     ensures stays { SourceStays D.held D.attached D.ranges store.old store.new
         × SourceStays S.held S.attached S.ranges patch.old patch.new × WindowStays window.old window.new
         × (len copy.new ≡ len copy.old) }
@@ -94,6 +99,7 @@ fn fill_first<S: Source>(
     requires window { HaveRoom target.now.image window.old × (1 ≤ window.old.workers) }
     requires pixels { (xs : List ℤ) × HasFirst (λ (x : SlotOf). HasTile target.now.image.plan tile x xs) window.old }
     requires copy { 4096 ≤ len copy.old }
+    ensures pixels_read { LogsWithin target.now.pixels_at (pixels_end target.now) (S.ranges patch.old) (S.ranges patch.new) }
     ensures put { OnOk result ((x : SlotOf) × (y : SlotOf) × (slice_get window.old.slots 0 ≡ Some x) × IsPut window.old 0 y window.new
         × IsFilledSlot target.now tile (S.held patch.old) x y) }
     ensures stays { SourceStays S.held S.attached S.ranges patch.old patch.new × WindowStays window.old window.new
@@ -119,6 +125,7 @@ fn fill_slot<S: Source>(
     requires room { HasSlotFor (pixels_of target.now.image.plan 0) (slot_size slot.old) }
     requires pixels { (xs : List ℤ) × HasTile target.now.image.plan tile slot.old xs }
     requires copy { 4096 ≤ len copy.old }
+    ensures pixels_read { LogsWithin target.now.pixels_at (pixels_end target.now) (S.ranges patch.old) (S.ranges patch.new) }
     ensures filled { OnOk result (IsFilledSlot target.now tile (S.held patch.old) slot.old slot.new) }
     ensures stays { SourceStays S.held S.attached S.ranges patch.old patch.new
         × (slot_size slot.new ≡ slot_size slot.old) × (len copy.new ≡ len copy.old) }

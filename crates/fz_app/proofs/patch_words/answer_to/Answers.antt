@@ -18,3 +18,11 @@ returns-in-Ok-clause-never_different g c = subst (λ (s : Status). s ≢ Differe
 pub returns-in-Ok-clause-unread : goal.returns-in-Ok-clause-unread
 returns-in-Ok-clause-unread g c =
     if_asked _ (patch_asked_of c.in-Ok.request) _ (sym c.read_patch_words.ensures.job ∙ ap patch_asked_in c.in-Ok.is) c.patch_asked.ensures.unread
+
+pub returns-in-Ok-clause-kept : goal.returns-in-Ok-clause-kept
+returns-in-Ok-clause-kept g c =
+    if_asked _ (patch_asked_of c.in-Ok.request) _ (sym c.read_patch_words.ensures.job ∙ ap patch_asked_in c.in-Ok.is) c.patch_asked.ensures.kept
+
+pub returns-in-Ok-clause-given_touched : goal.returns-in-Ok-clause-given_touched
+returns-in-Ok-clause-given_touched g c =
+    if_asked _ (patch_asked_of c.in-Ok.request) _ (sym c.read_patch_words.ensures.job ∙ ap patch_asked_in c.in-Ok.is) c.patch_asked.ensures.given_touched

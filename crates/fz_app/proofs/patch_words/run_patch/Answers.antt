@@ -43,3 +43,9 @@ returns-clause-counts g c =
     (λ is. ap (λ s. g.D.Source.tally s) (c.answer_to-status.ensures.untouched is).0)
     (λ is. ap (λ s. g.S.Source.tally s) (c.answer_to-status.ensures.untouched is).1)
     c.report.ensures.counts
+
+pub returns-clause-kept : goal.returns-clause-kept
+returns-clause-kept g c = c.answer_to-status.ensures.kept
+
+pub returns-clause-given_touched : goal.returns-clause-given_touched
+returns-clause-given_touched g c = c.answer_to-status.ensures.given_touched

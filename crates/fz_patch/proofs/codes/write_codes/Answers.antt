@@ -1,5 +1,5 @@
 -- One code after another, and then zeros.
-use Rattle.std.proofs.Common.{◌≡◌, ◌≢◌, ℕ, ◌+◌, List, ◌∷◌, ◌++◌, length, Option, Result, Err, inl, refl, sym, ap, ◌∙◌, subst, arith, rules, inr}
+use Rattle.std.proofs.Common.{◌≡◌, ◌≢◌, ℕ, ◌+◌, ◌<◌, List, ◌∷◌, ◌++◌, length, Option, Result, Err, inl, refl, sym, ap, ◌∙◌, subst, arith, rules, inr}
 use Rattle.std.proofs.lemmas.Result.{on_ok_weaker}
 use Rattle.fz_base.specs.Counts.{Amend, Tally}
 use Rattle.fz_base.specs.Stop.{IfRefused}
@@ -11,14 +11,17 @@ use Rattle.fz_pool.specs.Window.{Pool}
 use Rattle.fz_tile.specs.TileCode.{TileCode}
 use Rattle.fz_laws.specs.Writes.{grown_end, zero_writes}
 use Rattle.fz_target.specs.Ends.{Patches}
+use Rattle.fz_target.specs.Reads.{pixels_end}
 use Rattle.fz_target.specs.Steps.{ComesInWork, Wrote, WroteSome}
 use Rattle.fz_target.specs.Targets.{IsGivenTo, given_at}
 use Rattle.fz_target.specs.Tiles.{HasNewCode}
 use Rattle.fz_target.specs.Told.{IfBoth}
 use Rattle.fz_patch.proofs.Amended.{at-least, kept-then, one-amends, reach-is, reach-of, reach-then, same-amended, same-counts, same-is, same-then, kept-read, kept-same, settled-amends}
+use Rattle.fz_patch.proofs.Beside.{keeps_failed, keeps_one, keeps_same, keeps_some, keeps_still, keeps_then}
 use Rattle.fz_patch.proofs.CodeSlots.{first_has}
 use Rattle.fz_patch.proofs.CodedEnds.{end_near, ends_of, row_of_tile, zeros_near}
 use Rattle.fz_patch.proofs.CodedRefusals.{Unrefused, by_fit, by_numbers, by_stop, code_too_long, codes_too_short, row_refused, some_codes_same, wrote_same}
+use Rattle.fz_patch.proofs.KeptCards.{zeros_outside}
 use Rattle.fz_patch.proofs.NewCodes.{HeaderIsStill, codes_begin, codes_failed, codes_go_on, codes_stop, header_zeros, heap_end_of, zeros_done, zeros_failed, CodesState}
 use Rattle.fz_patch.proofs.EndsJoined.{amend_patches, amends_unrefused, none_refused, reach_end, reach_table, read_writes, refused_patches, refused_weaker, settled_writes, start_reach, tile_patches, told_long}
 use Rattle.fz_patch.proofs.EndsTold.{told-is, told-then, told-written, told-amended, told-some}
@@ -49,6 +52,8 @@ loop-tile-init g c =
       kept = kept-same (g.D.Source.tally store);
       counts = same-counts (g.D.Source.tally store);
       boxes = given_boxes t c.into_iter-tile-iterator.result c.tiles_in_box-tile-items.result same c.tiles_in_box-tile-items.ensures.each;
+      pixels_read = c.log_law.ensures.none t.pixels_at (pixels_end t) (g.S.Source.ranges c.args.patch.now);
+      bytes_kept = keeps_same (λ i. i < heap_end_of t) (g.D.Source.held store) (g.D.Source.held store) (g.D.Source.tally store).amended.writes (g.D.Source.tally store).amended.writes refl refl;
       state = codes_begin t (g.S.Source.held c.args.patch.now) (g.D.Source.held store) (g.D.Source.tally store).amended.writes (sieve_tiles_left c.into_iter-tile-iterator.result) c.heap_end-at.result
           tiles c.heap_end-at.ensures c.requires.said;
     }
@@ -119,6 +124,10 @@ loop-tile-preserved g c =
       kept = kept-then _ _ _ old.kept (kept-then _ _ _ (kept-read _ _ done.cause.store_kept) put.cause.kept);
       counts = same-then _ _ _ old.counts (same-then _ _ _ same_counts (same-amended _ _ _ put.cause.ok));
       boxes = later_boxes t tile left after next old.boxes;
+      pixels_read = c.log_law.ensures.both t.pixels_at (pixels_end t) (g.S.Source.ranges c.args.patch.now) (g.S.Source.ranges c.loop-tile.patch) (g.S.Source.ranges c.prepare_tile.new.patch) old.pixels_read done.pixels_read;
+      bytes_kept = keeps_then (λ i. i < heap_end_of t) held (g.D.Source.held start) (g.D.Source.held now) log (g.D.Source.tally start).amended.writes (g.D.Source.tally now).amended.writes old.bytes_kept
+          (keeps_one c.places_law.ensures.outside c.places_law.ensures.long (λ i. i < heap_end_of t) (amend_of at bytes) (g.D.Source.held start) (g.D.Source.held now) (g.D.Source.tally start).amended.writes (g.D.Source.tally now).amended.writes
+          (λ i less. inl (omega (arith, less, old.low))) made (ap (λ (k : Tally). k.amended.writes) put.cause.ok ∙ ap (with_write (amend_of at bytes)) (read_writes (g.D.Source.tally start) (g.D.Source.tally read) done.cause.store_kept)));
       state = subst (λ k. CodesState t given held (g.D.Source.held now) log (g.D.Source.tally now).amended.writes after (at + k)) count
           (codes_go_on t given held (g.D.Source.held start) (g.D.Source.held now) log (g.D.Source.tally start).amended.writes (g.D.Source.tally now).amended.writes tile after at bytes w c.requires.target
           (row_of_tile t tile c.requires.target box) old.low (omega (arith, count, c.code_slot-slot.ensures.some))
@@ -580,3 +589,78 @@ prepare_tile-requires-clause-copy g c =
 
 pub returns-clause-settled : goal.returns-clause-settled
 returns-clause-settled g c = all_settled _ _ c.settle.result c.settle.ensures.cause
+
+-- ---- what is kept, and what is read of PATCH
+
+pub returns-in_err-prepare_tile-clause-kept : goal.returns-in_err-prepare_tile-clause-kept
+returns-in_err-prepare_tile-clause-kept g c =
+    let start = c.loop-tile.store in
+    let read = c.prepare_tile.new.store in
+    let done = c.in_err-prepare_tile.ensures in
+    keeps_still (λ i. i < heap_end_of c.args.target.now) (g.D.Source.held c.args.store.now) (g.D.Source.held start) (g.D.Source.held read) (g.D.Source.tally c.args.store.now).amended.writes (g.D.Source.tally start).amended.writes
+    (g.D.Source.tally read).amended.writes done.stays.0.held_is (read_writes (g.D.Source.tally start) (g.D.Source.tally read) done.cause.store_kept) c.loop-tile.invariant.bytes_kept
+
+pub returns-in_err-prepare_tile-clause-pixels_read : goal.returns-in_err-prepare_tile-clause-pixels_read
+returns-in_err-prepare_tile-clause-pixels_read g c =
+    let t = c.args.target.now in
+    c.log_law.ensures.both t.pixels_at (pixels_end t) (g.S.Source.ranges c.args.patch.now) (g.S.Source.ranges c.loop-tile.patch) (g.S.Source.ranges c.prepare_tile.new.patch) c.loop-tile.invariant.pixels_read c.in_err-prepare_tile.ensures.pixels_read
+
+pub returns-then-count-room-clause-kept : goal.returns-then-count-room-clause-kept
+returns-then-count-room-clause-kept g c =
+    let start = c.loop-tile.store in
+    let read = c.prepare_tile.new.store in
+    let done = c.in_ok-prepare_tile.ensures in
+    keeps_still (λ i. i < heap_end_of c.args.target.now) (g.D.Source.held c.args.store.now) (g.D.Source.held start) (g.D.Source.held read) (g.D.Source.tally c.args.store.now).amended.writes (g.D.Source.tally start).amended.writes
+    (g.D.Source.tally read).amended.writes done.stays.0.held_is (read_writes (g.D.Source.tally start) (g.D.Source.tally read) done.cause.store_kept) c.loop-tile.invariant.bytes_kept
+
+pub returns-then-count-room-clause-pixels_read : goal.returns-then-count-room-clause-pixels_read
+returns-then-count-room-clause-pixels_read g c =
+    let t = c.args.target.now in
+    c.log_law.ensures.both t.pixels_at (pixels_end t) (g.S.Source.ranges c.args.patch.now) (g.S.Source.ranges c.loop-tile.patch) (g.S.Source.ranges c.prepare_tile.new.patch) c.loop-tile.invariant.pixels_read c.in_ok-prepare_tile.ensures.pixels_read
+
+pub returns-in_err-amend_at-clause-kept : goal.returns-in_err-amend_at-clause-kept
+returns-in_err-amend_at-clause-kept g c =
+    let t = c.args.target.now in
+    let bytes : List ℕ = c.code_in.result.now in
+    let start = c.loop-tile.store in
+    let read = c.prepare_tile.new.store in
+    let now = c.amend_at.new.store in
+    let done = c.in_ok-prepare_tile.ensures in
+    let put = c.in_err-amend_at.ensures in
+    let old = c.loop-tile.invariant in
+    keeps_then (λ i. i < heap_end_of t) (g.D.Source.held c.args.store.now) (g.D.Source.held start) (g.D.Source.held now) (g.D.Source.tally c.args.store.now).amended.writes (g.D.Source.tally start).amended.writes
+    (g.D.Source.tally now).amended.writes old.bytes_kept
+    (keeps_failed c.places_law.ensures.outside c.places_law.ensures.long (λ i. i < heap_end_of t) (amend_of c.loop-tile.at bytes) (g.D.Source.held start) (g.D.Source.held now) (g.D.Source.tally start).amended.writes
+    (g.D.Source.tally now).amended.writes (λ i less. inl (omega (arith, less, old.low)))
+    (subst (λ (h : Option (List ℕ)). MayAmend c.loop-tile.at (length bytes) h (g.D.Source.held now)) done.stays.0.held_is put.partly)
+    (put.cause.unlogged ∙ read_writes (g.D.Source.tally start) (g.D.Source.tally read) done.cause.store_kept))
+
+pub returns-in_err-amend_at-clause-pixels_read : goal.returns-in_err-amend_at-clause-pixels_read
+returns-in_err-amend_at-clause-pixels_read g c =
+    let t = c.args.target.now in
+    c.log_law.ensures.both t.pixels_at (pixels_end t) (g.S.Source.ranges c.args.patch.now) (g.S.Source.ranges c.loop-tile.patch) (g.S.Source.ranges c.prepare_tile.new.patch) c.loop-tile.invariant.pixels_read c.in_ok-prepare_tile.ensures.pixels_read
+
+pub returns-in_err-write_zeros-clause-kept : goal.returns-in_err-write_zeros-clause-kept
+returns-in_err-write_zeros-clause-kept g c =
+    let t = c.args.target.now in
+    let start = c.loop-tile.store in
+    let now = c.write_zeros.new.store in
+    let old = c.loop-tile.invariant in
+    keeps_then (λ i. i < heap_end_of t) (g.D.Source.held c.args.store.now) (g.D.Source.held start) (g.D.Source.held now) (g.D.Source.tally c.args.store.now).amended.writes (g.D.Source.tally start).amended.writes
+    (g.D.Source.tally now).amended.writes old.bytes_kept
+    (keeps_some c.places_law.ensures.outside c.places_law.ensures.long (λ i. i < heap_end_of t) (zero_writes c.loop-tile.at c.grown_end.result) (g.D.Source.held start) (g.D.Source.held now) (g.D.Source.tally start).amended.writes
+    (g.D.Source.tally now).amended.writes (λ i less. zeros_outside c.loop-tile.at c.grown_end.result (heap_end_of t) i old.low less) c.in_err-write_zeros.ensures.some)
+
+pub returns-clause-kept : goal.returns-clause-kept
+returns-clause-kept g c =
+    let t = c.args.target.now in
+    let start = c.loop-tile.store in
+    let zeros = c.write_zeros.new.store in
+    let now = c.settle.new.store in
+    let old = c.loop-tile.invariant in
+    keeps_still (λ i. i < heap_end_of t) (g.D.Source.held c.args.store.now) (g.D.Source.held zeros) (g.D.Source.held now) (g.D.Source.tally c.args.store.now).amended.writes (g.D.Source.tally zeros).amended.writes
+    (g.D.Source.tally now).amended.writes c.settle.ensures.store.held_is (settled_writes (g.D.Source.tally zeros) (g.D.Source.tally now) c.settle.result c.settle.ensures.cause)
+    (keeps_then (λ i. i < heap_end_of t) (g.D.Source.held c.args.store.now) (g.D.Source.held start) (g.D.Source.held zeros) (g.D.Source.tally c.args.store.now).amended.writes (g.D.Source.tally start).amended.writes
+    (g.D.Source.tally zeros).amended.writes old.bytes_kept
+    (keeps_some c.places_law.ensures.outside c.places_law.ensures.long (λ i. i < heap_end_of t) (zero_writes c.loop-tile.at c.grown_end.result) (g.D.Source.held start) (g.D.Source.held zeros) (g.D.Source.tally start).amended.writes
+    (g.D.Source.tally zeros).amended.writes (λ i less. zeros_outside c.loop-tile.at c.grown_end.result (heap_end_of t) i old.low less) c.in_ok-write_zeros.ensures.some))

@@ -19,6 +19,7 @@ use Rattle.fz_patch.proofs.EndsJoined.{counts_same}
 use Rattle.fz_patch.proofs.EndsTold.{if_both}
 use Rattle.fz_patch.proofs.FramePatch.{answers, bound_block, cause_after, first_short, peak_after, peak_reached, peak_stays, refilled_len}
 use Rattle.fz_patch.proofs.FramePatch.{short_untold, short_unwritten, unwritten_after}
+use Rattle.fz_patch.proofs.KeptFound.{none_read, rest_untouched}
 use Rattle.fz_patch.proofs.patch_file.patch.Goals as goal
 
 pub returns-in_err-block-clause-safe : goal.returns-in_err-block-clause-safe
@@ -158,3 +159,19 @@ returns-clause-exact_peak g c =
 
 pub returns-clause-counts : goal.returns-clause-counts
 returns-clause-counts g c = (c.with_block-answer.ensures.cause.store_kept, c.with_block-answer.ensures.cause.patch_kept)
+
+-- ---- what is kept of FILE, and what is read of PATCH
+
+pub returns-in_err-block-clause-kept : goal.returns-in_err-block-clause-kept
+returns-in_err-block-clause-kept g c =
+    rest_untouched (job_at c.args.hdu c.args.corner.now) (g.S.Source.attached c.args.patch.now) (g.S.Source.held c.args.patch.now) (g.D.Source.held c.args.store.now) _ (g.D.Source.tally c.args.store.now).amended.writes _ refl refl
+
+pub returns-in_err-block-clause-given_touched : goal.returns-in_err-block-clause-given_touched
+returns-in_err-block-clause-given_touched g c =
+    none_read (g.D.Source.held c.args.store.now) (g.S.Source.held c.args.patch.now) (job_at c.args.hdu c.args.corner.now) (g.S.Source.ranges c.args.patch.now)
+
+pub returns-clause-kept : goal.returns-clause-kept
+returns-clause-kept g c = c.with_block-answer.ensures.kept
+
+pub returns-clause-given_touched : goal.returns-clause-given_touched
+returns-clause-given_touched g c = c.with_block-answer.ensures.given_touched

@@ -1,13 +1,15 @@
 -- The looks at the headers stop, or the header that is wanted is kept, and then the work says the rest.
-use Rattle.std.proofs.Common.{◌≡◌, ℕ, ◌+◌, ◌-◌, ◌≤◌, max, List, length, Option, Some, None, Result, Ok, Err, refl, sym, ap, ◌∙◌, subst, arith, rules}
+use Rattle.std.proofs.Common.{◌≡◌, ℕ, ◌+◌, ◌-◌, ◌≤◌, max, List, [], ◌∷◌, length, Option, Some, None, Result, Ok, Err, refl, sym, ap, ◌∙◌, subst, arith, rules}
 use Rattle.std.specs.Prelude.{IfSome, OnOk}
 use Rattle.fz_base.specs.Buffer.{refilled}
-use Rattle.fz_base.specs.Counts.{Tally}
+use Rattle.fz_base.specs.Counts.{Amend, Tally}
 use Rattle.fz_base.specs.Meter.{Gauge, taken}
+use Rattle.fz_base.specs.Ranges.{LogsIn}
 use Rattle.fz_base.specs.Refusal.{first_refusal}
 use Rattle.fz_base.specs.Stop.{IsDefined, ReadsAndTakes, StoppedTaking, TellsLimit}
 use Rattle.fz_base.specs.Takings.{TellsFirstPast, first_past, highest}
 use Rattle.fz_base.specs.declared.failure.Stop.{Stop}
+use Rattle.fz_base.specs.declared.fault.Fault.{Fault}
 use Rattle.fz_block.specs.Checks.{header_blocks_of}
 use Rattle.fz_block.specs.Takings.{header_taking}
 use Rattle.fz_block.specs.declared.header.Header.{Header}
@@ -17,10 +19,12 @@ use Rattle.fz_job.specs.Surveys.{amend_surveyed, survey_takings}
 use Rattle.fz_job.specs.declared.checks.JobChecks.TheVariants.{Amend as AmendLook, Every}
 use Rattle.fz_job.specs.declared.survey.Survey.{Survey}
 use Rattle.fz_laws.specs.PatchBuffers.{given_takings}
-use Rattle.fz_laws.specs.PatchChecks.{own_checks}
+use Rattle.fz_laws.specs.PatchChecks.{own_checks, patch_target}
 use Rattle.fz_patch.specs.Clauses.{IsPatchedBy, LeavesSafe, TellsPatchFault, greatest_patch_bound, later_takings}
 use Rattle.fz_target.specs.Ends.{WorksInPlace}
 use Rattle.fz_patch.specs.Jobs.{IsWanted}
+use Rattle.fz_patch.specs.Kept.{LeavesRest}
+use Rattle.fz_target.specs.Reads.{found_alone, given_header_range}
 use Rattle.fz_target.specs.Steps.{KeepsReach}
 use Rattle.fz_target.specs.Targets.{job_at}
 use Rattle.fz_target.specs.Told.{IfBoth}
@@ -29,6 +33,7 @@ use Rattle.fz_patch.proofs.FrameBlock.{HasFound, HasLooked, SaysSame, again_high
 use Rattle.fz_patch.proofs.FrameBlock.{past_later, unpassed_here}
 use Rattle.fz_patch.proofs.FrameHeader.{bound_headers, stop_limit}
 use Rattle.fz_patch.proofs.FramePatch.{refilled_len}
+use Rattle.fz_patch.proofs.KeptFound.{none_read, of_job, reads_wanted, rest_untouched}
 use Rattle.fz_patch.proofs.patch_file.with_block.Goals as goal
 
 -- ---- the first look stopped
@@ -558,3 +563,85 @@ returns-clause-cause g c =
     let p : Tally = g.S.Source.tally c.args.patch.now in
     let p' : Tally = g.S.Source.tally c.with_header-answer.new.patch in
     subst (λ (t : Tally). WorksInPlace t s' p p' c.args.meter.now.limit c.with_header-answer.result) tally (subst (λ (n : ℕ). WorksInPlace (g.D.Source.tally c.read_again.new.store) s' p p' n c.with_header-answer.result) limit3 c.with_header-answer.ensures.cause)
+
+-- ---- what is kept of FILE, and what is read of PATCH
+
+pub returns-in_err-survey_every-clause-kept : goal.returns-in_err-survey_every-clause-kept
+returns-in_err-survey_every-clause-kept g c =
+    let held : g.D.Source.held c.survey_every.new.source ≡ g.D.Source.held c.args.store.now = search rules in
+    let amended : (g.D.Source.tally c.survey_every.new.source).amended ≡ (g.D.Source.tally c.args.store.now).amended = still_amended (g.D.Source.tally c.args.store.now) (g.D.Source.tally c.args.store.now) (g.D.Source.tally c.survey_every.new.source) refl c.in_err-survey_every.ensures.cause.kept in
+    rest_untouched (job_at c.args.hdu c.args.patching.now.asked.corner.now) (g.S.Source.attached c.args.patch.now) (g.S.Source.held c.args.patch.now) (g.D.Source.held c.args.store.now) _ (g.D.Source.tally c.args.store.now).amended.writes _ held
+    (ap (λ a. a.writes) amended)
+
+pub returns-in_err-survey_every-clause-given_touched : goal.returns-in_err-survey_every-clause-given_touched
+returns-in_err-survey_every-clause-given_touched g c =
+    none_read (g.D.Source.held c.args.store.now) (g.S.Source.held c.args.patch.now) (job_at c.args.hdu c.args.patching.now.asked.corner.now) (g.S.Source.ranges c.args.patch.now)
+
+pub returns-in_err-found-clause-kept : goal.returns-in_err-found-clause-kept
+returns-in_err-found-clause-kept g c =
+    let held : g.D.Source.held c.survey_to_amend.new.source ≡ g.D.Source.held c.args.store.now = search rules in
+    let amended : (g.D.Source.tally c.survey_to_amend.new.source).amended ≡ (g.D.Source.tally c.args.store.now).amended = still_amended (g.D.Source.tally c.args.store.now) (g.D.Source.tally c.survey_every.new.source) (g.D.Source.tally c.survey_to_amend.new.source) c.in_ok-survey_every.ensures.cause.ok c.in_err-found.ensures.cause.kept in
+    rest_untouched (job_at c.args.hdu c.args.patching.now.asked.corner.now) (g.S.Source.attached c.args.patch.now) (g.S.Source.held c.args.patch.now) (g.D.Source.held c.args.store.now) _ (g.D.Source.tally c.args.store.now).amended.writes _ held
+    (ap (λ a. a.writes) amended)
+
+pub returns-in_err-found-clause-given_touched : goal.returns-in_err-found-clause-given_touched
+returns-in_err-found-clause-given_touched g c =
+    none_read (g.D.Source.held c.args.store.now) (g.S.Source.held c.args.patch.now) (job_at c.args.hdu c.args.patching.now.asked.corner.now) (g.S.Source.ranges c.args.patch.now)
+
+pub returns-in_err-kept-clause-kept : goal.returns-in_err-kept-clause-kept
+returns-in_err-kept-clause-kept g c =
+    let held : g.D.Source.held c.read_again.new.store ≡ g.D.Source.held c.args.store.now = search rules in
+    let amended : (g.D.Source.tally c.read_again.new.store).amended ≡ (g.D.Source.tally c.args.store.now).amended = still_amended (g.D.Source.tally c.args.store.now) (g.D.Source.tally c.survey_to_amend.new.source) (g.D.Source.tally c.read_again.new.store) (c.in_ok-found.ensures.cause.ok ∙ c.in_ok-survey_every.ensures.cause.ok) c.in_err-kept.ensures.cause.kept in
+    rest_untouched (job_at c.args.hdu c.args.patching.now.asked.corner.now) (g.S.Source.attached c.args.patch.now) (g.S.Source.held c.args.patch.now) (g.D.Source.held c.args.store.now) _ (g.D.Source.tally c.args.store.now).amended.writes _ held
+    (ap (λ a. a.writes) amended)
+
+pub returns-in_err-kept-clause-given_touched : goal.returns-in_err-kept-clause-given_touched
+returns-in_err-kept-clause-given_touched g c =
+    none_read (g.D.Source.held c.args.store.now) (g.S.Source.held c.args.patch.now) (job_at c.args.hdu c.args.patching.now.asked.corner.now) (g.S.Source.ranges c.args.patch.now)
+
+pub returns-clause-kept : goal.returns-clause-kept
+returns-clause-kept g c =
+    let live1 : c.survey_every.new.meter.live ≡ c.args.meter.now.live = c.in_ok-survey_every.ensures.stays.1 in
+    let limit1 : c.survey_every.new.meter.limit ≡ c.args.meter.now.limit = c.in_ok-survey_every.ensures.stays.2 in
+    let look : IfSome (g.D.Source.held c.args.store.now) (HasLooked c.args.meter.now.live c.args.meter.now.limit) = looked c.survey_law.ensures.every c.args.meter.now.live c.args.meter.now.limit (g.D.Source.held c.args.store.now) _ c.requires.one_block c.in_ok-survey_every.ensures.exact c.in_ok-survey_every.ensures.first_past in
+    let held1 : g.D.Source.held c.survey_every.new.source ≡ g.D.Source.held c.args.store.now = search rules in
+    let exact2 : IfSome (g.D.Source.held c.args.store.now) (λ f. amend_surveyed c.args.hdu f ≡ Ok c.in_ok-found.found) = rw held1 at c.in_ok-found.ensures.exact in
+    let none2 : IfSome (g.D.Source.held c.args.store.now) (λ f. first_past c.args.meter.now.limit (survey_takings (AmendLook c.args.hdu) c.args.meter.now.live f) ≡ None) = same_past c.args.hdu c.args.meter.now.limit c.survey_every.new.meter.limit c.args.meter.now.live c.survey_every.new.meter.live (g.D.Source.held c.args.store.now) (g.D.Source.held c.survey_every.new.source) held1 limit1 live1 c.in_ok-found.ensures.first_past in
+    let known : IfSome (g.D.Source.held c.args.store.now) (HasFound c.args.meter.now.live c.args.meter.now.limit c.args.hdu c.in_ok-found.found) = found c.hdu_at_law.ensures.walk c.found_hdus_law.ensures.last c.survey_law.ensures.amend c.args.meter.now.live c.args.meter.now.limit c.args.hdu c.in_ok-found.found (g.D.Source.held c.args.store.now) c.requires.one_block look exact2 none2 in
+    let held2 : g.D.Source.held c.survey_to_amend.new.source ≡ g.D.Source.held c.args.store.now = search rules in
+    let same3 : IfSome (g.D.Source.held c.args.store.now) (SaysSame c.in_ok-found.found (Ok c.in_ok-kept.kept)) = rw held2 at c.in_ok-kept.ensures.same in
+    let wanted : IfSome (g.D.Source.held c.args.store.now) (IsWanted c.args.hdu c.in_ok-kept.kept.facts) = wanted_of c.args.meter.now.live c.args.meter.now.limit c.args.hdu c.in_ok-found.found (g.D.Source.held c.args.store.now) c.in_ok-kept.kept known same3 in
+    let held3 : g.D.Source.held c.read_again.new.store ≡ g.D.Source.held c.args.store.now = search rules in
+    let tally : g.D.Source.tally c.read_again.new.store ≡ g.D.Source.tally c.args.store.now = c.in_ok-kept.ensures.cause.ok ∙ c.in_ok-found.ensures.cause.ok ∙ c.in_ok-survey_every.ensures.cause.ok in
+    let corner : List ℕ = c.args.patching.now.asked.corner.now in
+    let attached : Option ℕ = g.S.Source.attached c.args.patch.now in
+    let given : Option (List ℕ) = g.S.Source.held c.args.patch.now in
+    let now : Option (List ℕ) = g.D.Source.held c.with_header-answer.new.store in
+    let log : Option (List Amend) = (g.D.Source.tally c.args.store.now).amended.writes in
+    let log3 : Option (List Amend) = (g.D.Source.tally c.read_again.new.store).amended.writes in
+    let log' : Option (List Amend) = (g.D.Source.tally c.with_header-answer.new.store).amended.writes in
+    of_job c.args.hdu c.in_ok-kept.kept.facts (g.D.Source.held c.args.store.now) (λ any. LeavesRest (job_at any corner) attached given now log log') wanted
+    (subst (λ (l : Option (List Amend)). IfSome (g.D.Source.held c.args.store.now) (λ f. (any : Option ℕ) → IsWanted any c.in_ok-kept.kept.facts f → LeavesRest (job_at any corner) attached given now l log' f)) (ap (λ (t : Tally). t.amended.writes) tally)
+    (subst (λ (h : Option (List ℕ)). IfSome h (λ f. (any : Option ℕ) → IsWanted any c.in_ok-kept.kept.facts f → LeavesRest (job_at any corner) attached given now log3 log' f)) held3 c.with_header-answer.ensures.kept))
+
+pub returns-clause-given_touched : goal.returns-clause-given_touched
+returns-clause-given_touched g c =
+    let live1 : c.survey_every.new.meter.live ≡ c.args.meter.now.live = c.in_ok-survey_every.ensures.stays.1 in
+    let limit1 : c.survey_every.new.meter.limit ≡ c.args.meter.now.limit = c.in_ok-survey_every.ensures.stays.2 in
+    let look : IfSome (g.D.Source.held c.args.store.now) (HasLooked c.args.meter.now.live c.args.meter.now.limit) = looked c.survey_law.ensures.every c.args.meter.now.live c.args.meter.now.limit (g.D.Source.held c.args.store.now) _ c.requires.one_block c.in_ok-survey_every.ensures.exact c.in_ok-survey_every.ensures.first_past in
+    let held1 : g.D.Source.held c.survey_every.new.source ≡ g.D.Source.held c.args.store.now = search rules in
+    let exact2 : IfSome (g.D.Source.held c.args.store.now) (λ f. amend_surveyed c.args.hdu f ≡ Ok c.in_ok-found.found) = rw held1 at c.in_ok-found.ensures.exact in
+    let none2 : IfSome (g.D.Source.held c.args.store.now) (λ f. first_past c.args.meter.now.limit (survey_takings (AmendLook c.args.hdu) c.args.meter.now.live f) ≡ None) = same_past c.args.hdu c.args.meter.now.limit c.survey_every.new.meter.limit c.args.meter.now.live c.survey_every.new.meter.live (g.D.Source.held c.args.store.now) (g.D.Source.held c.survey_every.new.source) held1 limit1 live1 c.in_ok-found.ensures.first_past in
+    let known : IfSome (g.D.Source.held c.args.store.now) (HasFound c.args.meter.now.live c.args.meter.now.limit c.args.hdu c.in_ok-found.found) = found c.hdu_at_law.ensures.walk c.found_hdus_law.ensures.last c.survey_law.ensures.amend c.args.meter.now.live c.args.meter.now.limit c.args.hdu c.in_ok-found.found (g.D.Source.held c.args.store.now) c.requires.one_block look exact2 none2 in
+    let held2 : g.D.Source.held c.survey_to_amend.new.source ≡ g.D.Source.held c.args.store.now = search rules in
+    let same3 : IfSome (g.D.Source.held c.args.store.now) (SaysSame c.in_ok-found.found (Ok c.in_ok-kept.kept)) = rw held2 at c.in_ok-kept.ensures.same in
+    let wanted : IfSome (g.D.Source.held c.args.store.now) (IsWanted c.args.hdu c.in_ok-kept.kept.facts) = wanted_of c.args.meter.now.live c.args.meter.now.limit c.args.hdu c.in_ok-found.found (g.D.Source.held c.args.store.now) c.in_ok-kept.kept known same3 in
+    let held3 : g.D.Source.held c.read_again.new.store ≡ g.D.Source.held c.args.store.now = search rules in
+    let corner : List ℕ = c.args.patching.now.asked.corner.now in
+    let given : Option (List ℕ) = g.S.Source.held c.args.patch.now in
+    let before : Option (List (ℕ × ℕ)) = g.S.Source.ranges c.args.patch.now in
+    let now : Option (List (ℕ × ℕ)) = g.S.Source.ranges c.with_header-answer.new.patch in
+    let h : Header = c.in_ok-kept.kept.facts in
+    reads_wanted c.args.hdu corner h (g.D.Source.held c.args.store.now) given before now wanted c.with_header-answer.ensures.given_within
+    (subst (λ (o : Option (List ℕ)). IfSome o (λ f. (any : Option ℕ) (x : Fault) → IsWanted any h f → found_alone f (job_at any corner) ≡ Err x → now ≡ before)) held3 c.with_header-answer.ensures.given_alone)
+    (subst (λ (o : Option (List ℕ)). IfBoth o given (λ f p. (any : Option ℕ) (x : Fault) → IsWanted any h f → patch_target f p (job_at any corner) ≡ Err x → LogsIn (given_header_range p ∷ []) before now)) held3 c.with_header-answer.ensures.given_refused)

@@ -1,7 +1,8 @@
 -- The target is found or not, and then the work says the rest.
-use Rattle.std.proofs.Common.{◌≡◌, ◌⊎◌, inl, ℕ, ◌+◌, ◌≤◌, max, List, length, sum, Option, Some, Result, Ok, Err, refl, sym, ap, ◌∙◌, subst, arith, rules}
+use Rattle.std.proofs.Common.{◌≡◌, ◌⊎◌, inl, ℕ, ◌+◌, ◌≤◌, max, List, [], ◌∷◌, length, sum, Option, Some, Result, Ok, Err, refl, sym, ap, ◌∙◌, subst, arith, rules}
 use Rattle.std.specs.Prelude.{OnOk, false}
-use Rattle.fz_base.specs.Counts.{Tally}
+use Rattle.fz_base.specs.Counts.{Amend, Tally}
+use Rattle.fz_base.specs.Ranges.{LogsIn}
 use Rattle.fz_base.specs.Refusal.{first_refusal}
 use Rattle.fz_base.specs.Stop.{IfRefused, IsDefined, TellsLimit}
 use Rattle.fz_base.specs.Takings.{TellsFirstPast, highest, piled}
@@ -14,7 +15,9 @@ use Rattle.fz_checks.specs.WorkBuffers.{work_buffers}
 use Rattle.fz_laws.specs.PatchBuffers.{given_takings}
 use Rattle.fz_laws.specs.PatchChecks.{if_patchable, own_checks, patch_target}
 use Rattle.fz_patch.specs.Clauses.{IsPatchedBy, IsUnpassed, LeavesSafe, TellsPatchFault, greatest_patch_bound}
+use Rattle.fz_patch.specs.Kept.{KeepsBytes}
 use Rattle.fz_target.specs.Ends.{WorksInPlace}
+use Rattle.fz_target.specs.Reads.{found_alone, given_header_range}
 use Rattle.fz_target.specs.Steps.{ComesInWork}
 use Rattle.fz_target.specs.Targets.{GivesWithin, IsTargetIn, given_taking, job_at}
 use Rattle.fz_target.specs.declared.target.Target.{Target}
@@ -23,6 +26,8 @@ use Rattle.fz_patch.proofs.FrameBlock.{either_way}
 use Rattle.fz_patch.proofs.FrameHeader.{bound_headers, bound_work, few_pixels, find_high, find_past, found_by, given_works, has_of, kept_is, of_jobs, stop_limit, target_is, tile_of, told_stop, work_high, work_limit, work_low, work_past}
 use Rattle.fz_patch.proofs.FramePatch.{over_short}
 use Rattle.fz_patch.proofs.FrameWork.{if_refused}
+use Rattle.fz_patch.proofs.KeptFound.{alone_found, alone_stops, header_only, header_read, not_both, only_changed, pixels_too}
+use Rattle.fz_patch.proofs.KeptSteps.{KeptBy}
 use Rattle.fz_patch.proofs.patch_file.with_header.Goals as goal
 
 -- ---- the header is that of the file
@@ -274,3 +279,71 @@ returns-clause-cause g c =
     let same : g.S.Source.tally c.find_target.new.patch ≡ g.S.Source.tally c.args.patch.now = c.in_ok-target.ensures.cause.ok in
     subst (λ (p : Tally). WorksInPlace s s' p p' c.args.meter.now.limit c.work.result) same
     (subst (λ (n : ℕ). WorksInPlace s s' (g.S.Source.tally c.find_target.new.patch) p' n c.work.result) c.in_ok-target.ensures.stays.2 c.work.ensures.cause)
+
+-- ---- what is kept of FILE
+
+pub returns-in_err-target-clause-kept : goal.returns-in_err-target-clause-kept
+returns-in_err-target-clause-kept g c = if_some (g.D.Source.held c.args.store.now) _ (λ f is wanted w. inl (is, refl))
+
+pub returns-clause-kept : goal.returns-clause-kept
+returns-clause-kept g c =
+    let held : Option (List ℕ) = g.D.Source.held c.args.store.now in
+    let log : Option (List Amend) = (g.D.Source.tally c.args.store.now).amended.writes in
+    let log' : Option (List Amend) = (g.D.Source.tally c.work.new.store).amended.writes in
+    let t : Target = c.in_ok-target.target in
+    let done = c.in_ok-target.ensures in
+    if_some held _
+    (λ f is wanted w.
+    let has = (has_of c.hdu_at_law.ensures.walk c.found_hdus_law.ensures.last (g.D.Source.held c.args.store.now) c.args.patching.now.asked.length c.args.header.now c.args.buf.now
+    (g.met.D.Source.agrees c.args.store.now c.args.patching.now.asked.length c.requires.attached) c.requires.read f wanted is w) in
+    only_changed t c.args.header.now c.args.buf.now c.args.patching.now.asked.corner.now f wanted (g.S.Source.attached c.args.patch.now) (g.S.Source.held c.args.patch.now) (g.D.Source.held c.work.new.store) log log'
+    w (done.passes f wanted has) done.target.1 done.target.0 (done.said f has) has.header_is done.box_at done.given.0
+    (some_of held (λ x. KeepsBytes (KeptBy t c.args.buf.now) x (g.D.Source.held c.work.new.store) log log') f is c.work.ensures.kept))
+
+-- ---- what is read of PATCH
+
+pub returns-in_err-target-clause-given_within : goal.returns-in_err-target-clause-given_within
+returns-in_err-target-clause-given_within g c =
+    header_read c.ranges_law.ensures.within (g.S.Source.held c.args.patch.now) (g.S.Source.ranges c.args.patch.now) (g.S.Source.ranges c.find_target.new.patch) c.in_err-target.ensures.read
+
+pub returns-in_err-target-clause-given_alone : goal.returns-in_err-target-clause-given_alone
+returns-in_err-target-clause-given_alone g c =
+    if_some (g.D.Source.held c.args.store.now) _
+    (λ f is wanted x w e.
+    c.in_err-target.ensures.alone f wanted x (has_of c.hdu_at_law.ensures.walk c.found_hdus_law.ensures.last (g.D.Source.held c.args.store.now) c.args.patching.now.asked.length c.args.header.now c.args.buf.now
+    (g.met.D.Source.agrees c.args.store.now c.args.patching.now.asked.length c.requires.attached) c.requires.read f wanted is w)
+    (alone_stops f wanted c.args.patching.now.asked.corner.now c.args.header.now x w e))
+
+pub returns-in_err-target-clause-given_refused : goal.returns-in_err-target-clause-given_refused
+returns-in_err-target-clause-given_refused g c =
+    let given : Option (List ℕ) = g.S.Source.held c.args.patch.now in
+    let before : Option (List (ℕ × ℕ)) = g.S.Source.ranges c.args.patch.now in
+    let now : Option (List (ℕ × ℕ)) = g.S.Source.ranges c.find_target.new.patch in
+    if_both (g.D.Source.held c.args.store.now) given _
+    (λ f p is by wanted x w e. some_of given (λ q. LogsIn (given_header_range q ∷ []) before now) p by (header_only c.ranges_law.ensures.within given before now c.in_err-target.ensures.read))
+
+pub returns-clause-given_within : goal.returns-clause-given_within
+returns-clause-given_within g c =
+    pixels_too c.ranges_law.ensures.within c.ranges_law.ensures.join c.in_ok-target.target (g.S.Source.held c.args.patch.now) (g.S.Source.ranges c.args.patch.now) (g.S.Source.ranges c.find_target.new.patch) (g.S.Source.ranges c.work.new.patch)
+    c.in_ok-target.ensures.begins c.in_ok-target.ensures.read c.work.ensures.pixels_read
+
+pub returns-clause-given_alone : goal.returns-clause-given_alone
+returns-clause-given_alone g c =
+    let corner : List ℕ = c.args.patching.now.asked.corner.now in
+    if_some (g.D.Source.held c.args.store.now) _
+    (λ f is wanted x w e.
+    let has = (has_of c.hdu_at_law.ensures.walk c.found_hdus_law.ensures.last (g.D.Source.held c.args.store.now) c.args.patching.now.asked.length c.args.header.now c.args.buf.now
+    (g.met.D.Source.agrees c.args.store.now c.args.patching.now.asked.length c.requires.attached) c.requires.read f wanted is w) in
+    absurd (not_both (found_alone f (job_at wanted corner)) c.args.header.now x (alone_found f wanted corner c.args.header.now w (c.in_ok-target.ensures.passes f wanted has)) e))
+
+pub returns-clause-given_refused : goal.returns-clause-given_refused
+returns-clause-given_refused g c =
+    let corner : List ℕ = c.args.patching.now.asked.corner.now in
+    let given : Option (List ℕ) = g.S.Source.held c.args.patch.now in
+    if_both (g.D.Source.held c.args.store.now) given _
+    (λ f p is by wanted x w e.
+    let has = (has_of c.hdu_at_law.ensures.walk c.found_hdus_law.ensures.last (g.D.Source.held c.args.store.now) c.args.patching.now.asked.length c.args.header.now c.args.buf.now
+    (g.met.D.Source.agrees c.args.store.now c.args.patching.now.asked.length c.requires.attached) c.requires.read f wanted is w) in
+    let found : if_patchable f p (job_at wanted corner) (Ok c.args.header.now) ≡ Ok c.in_ok-target.target.header =
+    some_of given (λ q. if_patchable f q (job_at wanted corner) (Ok c.args.header.now) ≡ Ok c.in_ok-target.target.header) p by (c.in_ok-target.ensures.exact f wanted has) in
+    absurd (not_both (patch_target f p (job_at wanted corner)) c.in_ok-target.target.header x (target_is c.args.header.now f p corner wanted w ∙ found) e))

@@ -18,6 +18,7 @@ use Rattle.fz_job.specs.declared.workspace.Wants.{Wants}
 use Rattle.fz_job.specs.declared.workspace.Workspace.{Workspace}
 use Rattle.fz_target.specs.Ends.{WorksInPlace}
 use Rattle.fz_patch.specs.Clauses.{LeavesSafe, TellsPatchFault}
+use Rattle.fz_patch.proofs.Beside.{keeps_same}
 use Rattle.fz_patch.proofs.FramePatch.{over_short, refilled_len, short_untold}
 use Rattle.fz_patch.proofs.FrameWork.{filled_slots, for_jobs, if_refused, meter_back, over_patches, past_patches, past_short, patches_work, still_held, works_short}
 use Rattle.fz_patch.proofs.patch_file.work.Goals as goal
@@ -207,3 +208,17 @@ returns-clause-risen g c =
 
 pub returns-clause-cause : goal.returns-clause-cause
 returns-clause-cause g c = patches_work _ _ _ _ c.args.meter.now.limit c.write_patch-answer.result c.write_patch-answer.ensures.cause
+
+-- ---- what is kept
+
+pub returns-in-Err-clause-kept : goal.returns-in-Err-clause-kept
+returns-in-Err-clause-kept g c = keeps_same _ (g.D.Source.held c.args.store.now) _ (g.D.Source.tally c.args.store.now).amended.writes _ refl refl
+
+pub returns-in_err-space-clause-kept : goal.returns-in_err-space-clause-kept
+returns-in_err-space-clause-kept g c = keeps_same _ (g.D.Source.held c.args.store.now) _ (g.D.Source.tally c.args.store.now).amended.writes _ refl refl
+
+pub returns-clause-kept : goal.returns-clause-kept
+returns-clause-kept g c = c.write_patch-answer.ensures.kept
+
+pub returns-clause-pixels_read : goal.returns-clause-pixels_read
+returns-clause-pixels_read g c = c.write_patch-answer.ensures.pixels_read

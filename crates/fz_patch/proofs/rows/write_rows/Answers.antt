@@ -16,11 +16,13 @@ use Rattle.fz_table.specs.Rows.{row_start}
 use Rattle.fz_tile.specs.TileCode.{TileCode}
 use Rattle.fz_target.specs.Ends.{Patches}
 use Rattle.fz_target.specs.Measures.{is_measured}
+use Rattle.fz_target.specs.Reads.{pixels_end}
 use Rattle.fz_target.specs.Steps.{ComesInWork}
 use Rattle.fz_target.specs.Targets.{IsGivenTo, given_at, plan_to_write}
 use Rattle.fz_target.specs.Tiles.{HasNewCode}
 use Rattle.fz_target.specs.Told.{IfBoth}
 use Rattle.fz_patch.proofs.Amended.{at-least, kept-read, kept-same, kept-then, one-amends, reach-is, reach-then, read-amends, same-amended, same-counts, same-is, same-then, settled-amends}
+use Rattle.fz_patch.proofs.Beside.{keeps_failed, keeps_one, keeps_same, keeps_still, keeps_then}
 use Rattle.fz_patch.proofs.Boxes.{AreAbove}
 use Rattle.fz_patch.proofs.CodeSlots.{first_has}
 use Rattle.fz_patch.proofs.CodedEnds.{row_of_tile}
@@ -28,6 +30,7 @@ use Rattle.fz_patch.proofs.CodedRefusals.{by_fit, by_numbers, by_stop, later_row
 use Rattle.fz_patch.proofs.CodedRows.{not_below, picked_above, row_in_file, row_some}
 use Rattle.fz_patch.proofs.Described.{AreDescribed, described_failed, described_more, described_none, described_stop}
 use Rattle.fz_patch.proofs.HeapCodes.{UnrefusedRows, also_rows, by_heap, row_other, row_unmeasured, rows_too_short}
+use Rattle.fz_patch.proofs.KeptCards.{IsNoBoxRow, row_outside}
 use Rattle.fz_patch.proofs.NewCodes.{HeaderIsStill, heap_end_of}
 use Rattle.fz_patch.proofs.EndsJoined.{amend_patches, amends_unrefused, none_refused, reach_table, read_writes, refused_patches, refused_weaker, settled_writes, start_reach, tile_patches, told_long}
 use Rattle.fz_patch.proofs.EndsTold.{told-is, told-then, told-written, told-amended}
@@ -57,6 +60,8 @@ loop-tile-init g c =
       kept = kept-same (g.D.Source.tally store);
       counts = same-counts (g.D.Source.tally store);
       boxes = given_boxes t c.into_iter-tile-iterator.result c.tiles_in_box-tile-items.result same c.tiles_in_box-tile-items.ensures.each;
+      pixels_read = c.log_law.ensures.none t.pixels_at (pixels_end t) (g.S.Source.ranges c.args.patch.now);
+      bytes_kept = keeps_same (IsNoBoxRow t) (g.D.Source.held store) (g.D.Source.held store) (g.D.Source.tally store).amended.writes (g.D.Source.tally store).amended.writes refl refl;
       state = rows_begin t (t.image.table.heap_len - c.args.found.now.bytes) (g.S.Source.held c.args.patch.now) (g.D.Source.held store) (g.D.Source.tally store).amended.writes (sieve_tiles_left c.into_iter-tile-iterator.result)
           tiles (subst (AreAbove 0) tiles (picked_above t.image.plan t.sieve)) c.requires.said;
       described = described_none t c.args.found.now (t.image.table.heap_len - c.args.found.now.bytes) (g.D.Source.held store) (g.D.Source.tally store).amended.writes;
@@ -186,6 +191,10 @@ loop-tile-preserved g c =
       kept = kept-then _ _ _ old.kept (kept-then _ _ _ (kept-read _ _ done.cause.store_kept) (kept-then _ _ _ (kept-read _ _ seen.cause.kept) put.cause.kept));
       counts = same-then _ _ _ old.counts (same-then _ _ _ same_counts (same-amended _ _ _ put.cause.ok));
       boxes = later_boxes t tile left after next old.boxes;
+      pixels_read = c.log_law.ensures.both t.pixels_at (pixels_end t) (g.S.Source.ranges c.args.patch.now) (g.S.Source.ranges c.loop-tile.patch) (g.S.Source.ranges c.prepare_tile.new.patch) old.pixels_read done.pixels_read;
+      bytes_kept = keeps_then (IsNoBoxRow t) held (g.D.Source.held now) (g.D.Source.held new_store) log (g.D.Source.tally now).amended.writes (g.D.Source.tally new_store).amended.writes old.bytes_kept
+          (keeps_one c.places_law.ensures.outside c.places_law.ensures.long (IsNoBoxRow t) (amend_of (row_start t.image.table tile) bytes) (g.D.Source.held now) (g.D.Source.held new_store) (g.D.Source.tally now).amended.writes
+          (g.D.Source.tally new_store).amended.writes (λ i not. row_outside t.image.table _ state.front after tile bytes i parts put.count not) made (ap (λ (k : Tally). k.amended.writes) put.cause.ok ∙ ap (with_write (amend_of (row_start t.image.table tile) bytes)) logged));
       state = subst (λ k. RowsState t start given held (g.D.Source.held new_store) log (g.D.Source.tally new_store).amended.writes after (offset + k)) (sym c.from-count.ensures)
           (rows_go_on t start given held (g.D.Source.held now) (g.D.Source.held new_store) log (g.D.Source.tally now).amended.writes (g.D.Source.tally new_store).amended.writes tile after offset bytes slot.job.len w
           c.requires.target less (omega (arith, put.count, row_some t c.requires.target)) put.count
@@ -985,3 +994,105 @@ prepare_tile-requires-clause-copy g c =
 
 pub returns-clause-settled : goal.returns-clause-settled
 returns-clause-settled g c = all_settled _ _ c.settle.result c.settle.ensures.cause
+
+-- ---- what is kept, and what is read of PATCH
+
+pub returns-in_err-prepare_tile-clause-kept : goal.returns-in_err-prepare_tile-clause-kept
+returns-in_err-prepare_tile-clause-kept g c =
+    let start = c.loop-tile.store in
+    let read = c.prepare_tile.new.store in
+    let now = c.prepare_tile.new.store in
+    keeps_still (IsNoBoxRow c.args.target.now) (g.D.Source.held c.args.store.now) (g.D.Source.held start) (g.D.Source.held now) (g.D.Source.tally c.args.store.now).amended.writes (g.D.Source.tally start).amended.writes
+    (g.D.Source.tally now).amended.writes (c.in_err-prepare_tile.ensures.stays.0.held_is) (read_writes (g.D.Source.tally start) (g.D.Source.tally read) c.in_err-prepare_tile.ensures.cause.store_kept) c.loop-tile.invariant.bytes_kept
+
+pub returns-in_err-prepare_tile-clause-pixels_read : goal.returns-in_err-prepare_tile-clause-pixels_read
+returns-in_err-prepare_tile-clause-pixels_read g c =
+    let t = c.args.target.now in
+    c.log_law.ensures.both t.pixels_at (pixels_end t) (g.S.Source.ranges c.args.patch.now) (g.S.Source.ranges c.loop-tile.patch) (g.S.Source.ranges c.prepare_tile.new.patch) c.loop-tile.invariant.pixels_read c.in_err-prepare_tile.ensures.pixels_read
+
+pub returns-then-count-room-clause-kept : goal.returns-then-count-room-clause-kept
+returns-then-count-room-clause-kept g c =
+    let start = c.loop-tile.store in
+    let read = c.prepare_tile.new.store in
+    let now = c.prepare_tile.new.store in
+    keeps_still (IsNoBoxRow c.args.target.now) (g.D.Source.held c.args.store.now) (g.D.Source.held start) (g.D.Source.held now) (g.D.Source.tally c.args.store.now).amended.writes (g.D.Source.tally start).amended.writes
+    (g.D.Source.tally now).amended.writes (c.in_ok-prepare_tile.ensures.stays.0.held_is) (read_writes (g.D.Source.tally start) (g.D.Source.tally read) c.in_ok-prepare_tile.ensures.cause.store_kept) c.loop-tile.invariant.bytes_kept
+
+pub returns-then-count-room-clause-pixels_read : goal.returns-then-count-room-clause-pixels_read
+returns-then-count-room-clause-pixels_read g c =
+    let t = c.args.target.now in
+    c.log_law.ensures.both t.pixels_at (pixels_end t) (g.S.Source.ranges c.args.patch.now) (g.S.Source.ranges c.loop-tile.patch) (g.S.Source.ranges c.prepare_tile.new.patch) c.loop-tile.invariant.pixels_read c.in_ok-prepare_tile.ensures.pixels_read
+
+pub returns-then-not-is_measured-clause-kept : goal.returns-then-not-is_measured-clause-kept
+returns-then-not-is_measured-clause-kept g c =
+    let start = c.loop-tile.store in
+    let read = c.prepare_tile.new.store in
+    let now = c.prepare_tile.new.store in
+    keeps_still (IsNoBoxRow c.args.target.now) (g.D.Source.held c.args.store.now) (g.D.Source.held start) (g.D.Source.held now) (g.D.Source.tally c.args.store.now).amended.writes (g.D.Source.tally start).amended.writes
+    (g.D.Source.tally now).amended.writes (c.in_ok-prepare_tile.ensures.stays.0.held_is) (read_writes (g.D.Source.tally start) (g.D.Source.tally read) c.in_ok-prepare_tile.ensures.cause.store_kept) c.loop-tile.invariant.bytes_kept
+
+pub returns-then-not-is_measured-clause-pixels_read : goal.returns-then-not-is_measured-clause-pixels_read
+returns-then-not-is_measured-clause-pixels_read g c =
+    let t = c.args.target.now in
+    c.log_law.ensures.both t.pixels_at (pixels_end t) (g.S.Source.ranges c.args.patch.now) (g.S.Source.ranges c.loop-tile.patch) (g.S.Source.ranges c.prepare_tile.new.patch) c.loop-tile.invariant.pixels_read c.in_ok-prepare_tile.ensures.pixels_read
+
+pub returns-in_err-is_there-clause-kept : goal.returns-in_err-is_there-clause-kept
+returns-in_err-is_there-clause-kept g c =
+    let start = c.loop-tile.store in
+    let read = c.prepare_tile.new.store in
+    let now = c.has_bytes.new.source in
+    keeps_still (IsNoBoxRow c.args.target.now) (g.D.Source.held c.args.store.now) (g.D.Source.held start) (g.D.Source.held now) (g.D.Source.tally c.args.store.now).amended.writes (g.D.Source.tally start).amended.writes
+    (g.D.Source.tally now).amended.writes (c.in_err-is_there.ensures.source.held_is ∙ c.in_ok-prepare_tile.ensures.stays.0.held_is) (read_writes (g.D.Source.tally read) (g.D.Source.tally now) c.in_err-is_there.ensures.cause.kept ∙ read_writes (g.D.Source.tally start) (g.D.Source.tally read) c.in_ok-prepare_tile.ensures.cause.store_kept) c.loop-tile.invariant.bytes_kept
+
+pub returns-in_err-is_there-clause-pixels_read : goal.returns-in_err-is_there-clause-pixels_read
+returns-in_err-is_there-clause-pixels_read g c =
+    let t = c.args.target.now in
+    c.log_law.ensures.both t.pixels_at (pixels_end t) (g.S.Source.ranges c.args.patch.now) (g.S.Source.ranges c.loop-tile.patch) (g.S.Source.ranges c.prepare_tile.new.patch) c.loop-tile.invariant.pixels_read c.in_ok-prepare_tile.ensures.pixels_read
+
+pub returns-then-not-is_there-clause-kept : goal.returns-then-not-is_there-clause-kept
+returns-then-not-is_there-clause-kept g c =
+    let start = c.loop-tile.store in
+    let read = c.prepare_tile.new.store in
+    let now = c.has_bytes.new.source in
+    keeps_still (IsNoBoxRow c.args.target.now) (g.D.Source.held c.args.store.now) (g.D.Source.held start) (g.D.Source.held now) (g.D.Source.tally c.args.store.now).amended.writes (g.D.Source.tally start).amended.writes
+    (g.D.Source.tally now).amended.writes (c.in_ok-is_there.ensures.source.held_is ∙ c.in_ok-prepare_tile.ensures.stays.0.held_is) (read_writes (g.D.Source.tally read) (g.D.Source.tally now) c.in_ok-is_there.ensures.cause.kept ∙ read_writes (g.D.Source.tally start) (g.D.Source.tally read) c.in_ok-prepare_tile.ensures.cause.store_kept) c.loop-tile.invariant.bytes_kept
+
+pub returns-then-not-is_there-clause-pixels_read : goal.returns-then-not-is_there-clause-pixels_read
+returns-then-not-is_there-clause-pixels_read g c =
+    let t = c.args.target.now in
+    c.log_law.ensures.both t.pixels_at (pixels_end t) (g.S.Source.ranges c.args.patch.now) (g.S.Source.ranges c.loop-tile.patch) (g.S.Source.ranges c.prepare_tile.new.patch) c.loop-tile.invariant.pixels_read c.in_ok-prepare_tile.ensures.pixels_read
+
+pub returns-in_err-write_tile-clause-kept : goal.returns-in_err-write_tile-clause-kept
+returns-in_err-write_tile-clause-kept g c =
+    let t = c.args.target.now in
+    let start = c.loop-tile.store in
+    let read = c.prepare_tile.new.store in
+    let back = c.has_bytes.new.source in
+    let now = c.write_tile.new.store in
+    let done = c.in_ok-prepare_tile.ensures in
+    let seen = c.in_ok-is_there.ensures in
+    let put = c.in_err-write_tile.ensures in
+    let old = c.loop-tile.invariant in
+    let tile : ℕ = c.in-Some.tile in
+    let after : List ℕ = sieve_tiles_left c.next.new.self in
+    let bytes : List ℕ = row_of (plan_to_write t) c.loop-tile.offset (coded_tile c.code_slot-slot.result.now) in
+    let held_is : g.D.Source.held back ≡ g.D.Source.held start = seen.source.held_is ∙ done.stays.0.held_is in
+    let parts = old.state.parts ∙ ap (λ l. old.state.front ++ l) c.in-Some.ensures.steps in
+    keeps_then (IsNoBoxRow t) (g.D.Source.held c.args.store.now) (g.D.Source.held start) (g.D.Source.held now) (g.D.Source.tally c.args.store.now).amended.writes (g.D.Source.tally start).amended.writes
+    (g.D.Source.tally now).amended.writes old.bytes_kept
+    (keeps_failed c.places_law.ensures.outside c.places_law.ensures.long (IsNoBoxRow t) (amend_of (row_start t.image.table tile) bytes) (g.D.Source.held start) (g.D.Source.held now) (g.D.Source.tally start).amended.writes
+    (g.D.Source.tally now).amended.writes (λ i not. row_outside t.image.table _ old.state.front after tile bytes i parts put.count not)
+    (subst (λ (h : Option (List ℕ)). MayAmend (row_start t.image.table tile) (length bytes) h (g.D.Source.held now)) held_is put.partly)
+    (put.cause.unlogged ∙ (read_writes (g.D.Source.tally read) (g.D.Source.tally back) seen.cause.kept ∙ read_writes (g.D.Source.tally start) (g.D.Source.tally read) done.cause.store_kept)))
+
+pub returns-in_err-write_tile-clause-pixels_read : goal.returns-in_err-write_tile-clause-pixels_read
+returns-in_err-write_tile-clause-pixels_read g c =
+    let t = c.args.target.now in
+    c.log_law.ensures.both t.pixels_at (pixels_end t) (g.S.Source.ranges c.args.patch.now) (g.S.Source.ranges c.loop-tile.patch) (g.S.Source.ranges c.prepare_tile.new.patch) c.loop-tile.invariant.pixels_read c.in_ok-prepare_tile.ensures.pixels_read
+
+pub returns-clause-kept : goal.returns-clause-kept
+returns-clause-kept g c =
+    let start = c.loop-tile.store in
+    let now = c.settle.new.store in
+    keeps_still (IsNoBoxRow c.args.target.now) (g.D.Source.held c.args.store.now) (g.D.Source.held start) (g.D.Source.held now) (g.D.Source.tally c.args.store.now).amended.writes (g.D.Source.tally start).amended.writes
+    (g.D.Source.tally now).amended.writes c.settle.ensures.store.held_is (settled_writes (g.D.Source.tally start) (g.D.Source.tally now) c.settle.result c.settle.ensures.cause) c.loop-tile.invariant.bytes_kept

@@ -1,13 +1,17 @@
 -- The rows of the first tiles are written, and nothing else; PATCH and the buffers are as at the start.
 use Rattle.std.proofs.Common.{◌≡◌, ◌-◌, ◌≤◌, length}
 use Rattle.std.specs.List.{AllByRecursion}
+use Rattle.fz_base.specs.Source.{LogsWithin}
 use Rattle.fz_base.specs.Store.{HasAtLeast, StoreKept}
 use Rattle.fz_base.specs.Told.{StaysTold}
 use Rattle.fz_grid.specs.SieveWalks.{sieve_tiles_left}
 use Rattle.fz_target.specs.Ends.{SameCounts}
+use Rattle.fz_target.specs.Reads.{pixels_end}
 use Rattle.fz_target.specs.Steps.{KeepsReach}
 use Rattle.fz_target.specs.Tiles.{IsBoxTile}
+use Rattle.fz_patch.proofs.Beside.{Keeps}
 use Rattle.fz_patch.proofs.Described.{AreDescribed}
+use Rattle.fz_patch.proofs.KeptCards.{IsNoBoxRow}
 use Rattle.fz_patch.proofs.NewCodes.{heap_end_of}
 use Rattle.fz_patch.proofs.RowCodes.{RowsState}
 use Rattle.fz_pool.specs.Window.{WindowStays}
@@ -28,6 +32,8 @@ invariant-loop-tile g l = record {
   kept : StoreKept (g.D.Source.tally l.fn.store) (g.D.Source.tally l.store);
   counts : SameCounts (g.D.Source.tally l.fn.store) (g.D.Source.tally l.store);
   boxes : AllByRecursion (IsBoxTile l.target) (sieve_tiles_left l.tile-iterator);
+  pixels_read : LogsWithin l.target.pixels_at (pixels_end l.target) (g.S.Source.ranges l.fn.patch) (g.S.Source.ranges l.patch);
+  bytes_kept : Keeps (IsNoBoxRow l.target) (g.D.Source.held l.fn.store) (g.D.Source.held l.store) (g.D.Source.tally l.fn.store).amended.writes (g.D.Source.tally l.store).amended.writes;
   state : RowsState l.target (l.target.image.table.heap_len - l.found.bytes) (g.S.Source.held l.fn.patch) (g.D.Source.held l.fn.store) (g.D.Source.held l.store) (g.D.Source.tally l.fn.store).amended.writes
       (g.D.Source.tally l.store).amended.writes (sieve_tiles_left l.tile-iterator) l.offset;
   described : AreDescribed l.target l.found (l.target.image.table.heap_len - l.found.bytes) (g.D.Source.held l.fn.store) (g.D.Source.held l.store) (g.D.Source.tally l.fn.store).amended.writes

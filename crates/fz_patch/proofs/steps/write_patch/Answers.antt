@@ -3,6 +3,7 @@ use Rattle.std.proofs.Common.{◌≡◌, ◌⊎◌, inl, inr, ℕ, ◌+◌, ◌-
 use Rattle.std.specs.Option.{option_map}
 use Rattle.std.proofs.lemmas.Result.{on_ok_weaker}
 use Rattle.fz_base.specs.Counts.{Amend, Tally}
+use Rattle.fz_base.specs.Source.{LogsWithin}
 use Rattle.fz_base.specs.Stop.{IfRefused, IsRefused}
 use Rattle.fz_base.specs.Store.{HasAtLeast, IsSettled, StoreKept}
 use Rattle.fz_base.specs.declared.failure.Stop.{Stop}
@@ -25,12 +26,16 @@ use Rattle.fz_patch.specs.Compared.{HeapEndsWith}
 use Rattle.fz_target.specs.Ends.{Patches, SameCounts}
 use Rattle.fz_patch.specs.Jobs.{ForJobs}
 use Rattle.fz_target.specs.Measures.{measure_of}
+use Rattle.fz_target.specs.Reads.{pixels_end}
 use Rattle.fz_target.specs.Steps.{ComesInWork, KeepsHeader, Wrote, WroteSome}
 use Rattle.fz_target.specs.Targets.{GivesWithin, IsGivenTo, IsTargetIn, given_at, grown_by, job_at, plan_to_write}
 use Rattle.fz_target.specs.Told.{IfBoth}
 use Rattle.fz_target.specs.declared.measure.Measure.{Measure}
 use Rattle.fz_target.specs.declared.target.Target.{Target}
 use Rattle.fz_job.specs.Images.{HaveRoom}
+use Rattle.fz_patch.proofs.Beside.{Keeps, keeps_same}
+use Rattle.fz_patch.proofs.KeptCards.{SumCardsAreWhole}
+use Rattle.fz_patch.proofs.KeptSteps.{KeptBy, after_cards, after_codes, after_rows, after_sums}
 use Rattle.fz_patch.proofs.StepRequires.{heap_says, kept_header, said_after}
 use Rattle.fz_patch.proofs.CodedEnds.{ends_of, zeros_near}
 use Rattle.fz_patch.proofs.SumCards.{header_long}
@@ -1207,3 +1212,166 @@ pub returns-in_err-write_rows-clause-patched : goal.returns-in_err-write_rows-cl
 returns-in_err-write_rows-clause-patched g c =
     let stopped : c.from_residual-in_err-write_rows.result ≡ Err c.in_err-write_rows.field-0.0 = search rules in
     never_ok _ c.from_residual-in_err-write_rows.result c.in_err-write_rows.field-0.0 stopped
+
+-- ---- what is kept, and what is read of PATCH
+
+pub returns-in_err-found-clause-kept : goal.returns-in_err-found-clause-kept
+returns-in_err-found-clause-kept g c =
+    let t = c.args.target.now in
+    let buf : List ℕ = c.args.buf.now in
+    let held : Option (List ℕ) = g.D.Source.held c.args.store.now in
+    let log : Option (List Amend) = (g.D.Source.tally c.args.store.now).amended.writes in
+    keeps_same (KeptBy t buf) held (g.D.Source.held c.measure_codes.new.store) log (g.D.Source.tally c.measure_codes.new.store).amended.writes c.in_err-found.ensures.stays.0.held_is
+    (read_writes (g.D.Source.tally c.args.store.now) (g.D.Source.tally c.measure_codes.new.store) c.in_err-found.ensures.cause.store_kept)
+
+pub returns-in_err-found-clause-pixels_read : goal.returns-in_err-found-clause-pixels_read
+returns-in_err-found-clause-pixels_read g c =
+    c.in_err-found.ensures.pixels_read
+
+pub returns-in_err-forms-clause-kept : goal.returns-in_err-forms-clause-kept
+returns-in_err-forms-clause-kept g c =
+    let t = c.args.target.now in
+    let buf : List ℕ = c.args.buf.now in
+    let held : Option (List ℕ) = g.D.Source.held c.args.store.now in
+    let log : Option (List Amend) = (g.D.Source.tally c.args.store.now).amended.writes in
+    keeps_same (KeptBy t buf) held (g.D.Source.held c.find_forms.new.store) log (g.D.Source.tally c.find_forms.new.store).amended.writes
+    (c.in_err-forms.ensures.stays.0.held_is ∙ c.in_ok-found.ensures.stays.0.held_is)
+    (read_writes (g.D.Source.tally c.measure_codes.new.store) (g.D.Source.tally c.find_forms.new.store) c.in_err-forms.ensures.cause.kept ∙ ap (λ (k : Tally). k.amended.writes) c.in_ok-found.ensures.cause.ok.0)
+
+pub returns-in_err-forms-clause-pixels_read : goal.returns-in_err-forms-clause-pixels_read
+returns-in_err-forms-clause-pixels_read g c =
+    c.in_ok-found.ensures.pixels_read
+
+pub returns-in_err-write_codes-clause-kept : goal.returns-in_err-write_codes-clause-kept
+returns-in_err-write_codes-clause-kept g c =
+    let t = c.args.target.now in
+    let buf : List ℕ = c.args.buf.now in
+    let held : Option (List ℕ) = g.D.Source.held c.args.store.now in
+    let log : Option (List Amend) = (g.D.Source.tally c.args.store.now).amended.writes in
+    let m : Measure = c.in_ok-found.found in
+    let s2 = c.find_forms.new.store in
+    let s3 = c.write_codes.new.store in
+    let held2 : g.D.Source.held s2 ≡ held = c.in_ok-forms.ensures.stays.0.held_is ∙ c.in_ok-found.ensures.stays.0.held_is in
+    let log2 : (g.D.Source.tally s2).amended.writes ≡ log = ap (λ (k : Tally). k.amended.writes) (c.in_ok-forms.ensures.cause.ok ∙ c.in_ok-found.ensures.cause.ok.0) in
+    after_codes t buf held (g.D.Source.held s2) (g.D.Source.held s3) log (g.D.Source.tally s2).amended.writes (g.D.Source.tally s3).amended.writes held2 log2 c.in_err-write_codes.ensures.kept
+
+pub returns-in_err-write_codes-clause-pixels_read : goal.returns-in_err-write_codes-clause-pixels_read
+returns-in_err-write_codes-clause-pixels_read g c =
+    let t = c.args.target.now in
+    c.log_law.ensures.both t.pixels_at (pixels_end t) (g.S.Source.ranges c.args.patch.now) (g.S.Source.ranges c.measure_codes.new.patch) (g.S.Source.ranges c.write_codes.new.patch) c.in_ok-found.ensures.pixels_read c.in_err-write_codes.ensures.pixels_read
+
+pub returns-in_err-write_cards-clause-kept : goal.returns-in_err-write_cards-clause-kept
+returns-in_err-write_cards-clause-kept g c =
+    let t = c.args.target.now in
+    let buf : List ℕ = c.args.buf.now in
+    let held : Option (List ℕ) = g.D.Source.held c.args.store.now in
+    let log : Option (List Amend) = (g.D.Source.tally c.args.store.now).amended.writes in
+    let m : Measure = c.in_ok-found.found in
+    let s2 = c.find_forms.new.store in
+    let s3 = c.write_codes.new.store in
+    let held2 : g.D.Source.held s2 ≡ held = c.in_ok-forms.ensures.stays.0.held_is ∙ c.in_ok-found.ensures.stays.0.held_is in
+    let log2 : (g.D.Source.tally s2).amended.writes ≡ log = ap (λ (k : Tally). k.amended.writes) (c.in_ok-forms.ensures.cause.ok ∙ c.in_ok-found.ensures.cause.ok.0) in
+    let laws : StepLaws = record {
+      count = c.grown_header_law.ensures.count;
+      forms = c.grown_header_law.ensures.forms;
+      sums = c.grown_header_law.ensures.sums;
+      more = c.grown_header_law.ensures.more;
+      says = c.grown_header_law.ensures.says;
+      there = c.with_card_law.ensures.there;
+      others = c.with_card_law.ensures.others;
+      long = c.with_card_law.ensures.long;
+    } in
+    let first : Keeps (KeptBy t buf) held (g.D.Source.held s3) log (g.D.Source.tally s3).amended.writes =
+    after_codes t buf held (g.D.Source.held s2) (g.D.Source.held s3) log (g.D.Source.tally s2).amended.writes (g.D.Source.tally s3).amended.writes held2 log2 c.in_ok-write_codes.ensures.kept in
+    let s4 = c.write_cards.new.store in
+    let second : Keeps (KeptBy t buf) held (g.D.Source.held s4) log (g.D.Source.tally s4).amended.writes =
+    after_cards c.places_law.ensures.outside c.places_law.ensures.long laws t buf c.find_places-places.result m c.in_ok-forms.forms c.requires.found.target c.requires.found.by c.find_places-places.ensures c.in_ok-found.ensures.room c.in_ok-forms.ensures.small held (g.D.Source.held s3) (g.D.Source.held s4) log
+    (g.D.Source.tally s3).amended.writes (g.D.Source.tally s4).amended.writes first c.in_err-write_cards.ensures.some in
+    second
+
+pub returns-in_err-write_cards-clause-pixels_read : goal.returns-in_err-write_cards-clause-pixels_read
+returns-in_err-write_cards-clause-pixels_read g c =
+    let t = c.args.target.now in
+    let two = c.log_law.ensures.both t.pixels_at (pixels_end t) (g.S.Source.ranges c.args.patch.now) (g.S.Source.ranges c.measure_codes.new.patch) (g.S.Source.ranges c.write_codes.new.patch) c.in_ok-found.ensures.pixels_read c.in_ok-write_codes.ensures.pixels_read in
+    two
+
+pub returns-in_err-write_rows-clause-kept : goal.returns-in_err-write_rows-clause-kept
+returns-in_err-write_rows-clause-kept g c =
+    let t = c.args.target.now in
+    let buf : List ℕ = c.args.buf.now in
+    let held : Option (List ℕ) = g.D.Source.held c.args.store.now in
+    let log : Option (List Amend) = (g.D.Source.tally c.args.store.now).amended.writes in
+    let m : Measure = c.in_ok-found.found in
+    let s2 = c.find_forms.new.store in
+    let s3 = c.write_codes.new.store in
+    let held2 : g.D.Source.held s2 ≡ held = c.in_ok-forms.ensures.stays.0.held_is ∙ c.in_ok-found.ensures.stays.0.held_is in
+    let log2 : (g.D.Source.tally s2).amended.writes ≡ log = ap (λ (k : Tally). k.amended.writes) (c.in_ok-forms.ensures.cause.ok ∙ c.in_ok-found.ensures.cause.ok.0) in
+    let laws : StepLaws = record {
+      count = c.grown_header_law.ensures.count;
+      forms = c.grown_header_law.ensures.forms;
+      sums = c.grown_header_law.ensures.sums;
+      more = c.grown_header_law.ensures.more;
+      says = c.grown_header_law.ensures.says;
+      there = c.with_card_law.ensures.there;
+      others = c.with_card_law.ensures.others;
+      long = c.with_card_law.ensures.long;
+    } in
+    let first : Keeps (KeptBy t buf) held (g.D.Source.held s3) log (g.D.Source.tally s3).amended.writes =
+    after_codes t buf held (g.D.Source.held s2) (g.D.Source.held s3) log (g.D.Source.tally s2).amended.writes (g.D.Source.tally s3).amended.writes held2 log2 c.in_ok-write_codes.ensures.kept in
+    let s4 = c.write_cards.new.store in
+    let second : Keeps (KeptBy t buf) held (g.D.Source.held s4) log (g.D.Source.tally s4).amended.writes =
+    after_cards c.places_law.ensures.outside c.places_law.ensures.long laws t buf c.find_places-places.result m c.in_ok-forms.forms c.requires.found.target c.requires.found.by c.find_places-places.ensures c.in_ok-found.ensures.room c.in_ok-forms.ensures.small held (g.D.Source.held s3) (g.D.Source.held s4) log
+    (g.D.Source.tally s3).amended.writes (g.D.Source.tally s4).amended.writes first c.in_ok-write_cards.ensures.some in
+    let s5 = c.write_rows.new.store in
+    let third : Keeps (KeptBy t buf) held (g.D.Source.held s5) log (g.D.Source.tally s5).amended.writes =
+    after_rows t c.grown-grown.result m.bytes buf held (g.D.Source.held s4) (g.D.Source.held s5) log (g.D.Source.tally s4).amended.writes (g.D.Source.tally s5).amended.writes c.grown-grown.ensures.same second c.in_err-write_rows.ensures.kept in
+    third
+
+pub returns-in_err-write_rows-clause-pixels_read : goal.returns-in_err-write_rows-clause-pixels_read
+returns-in_err-write_rows-clause-pixels_read g c =
+    let t = c.args.target.now in
+    let two = c.log_law.ensures.both t.pixels_at (pixels_end t) (g.S.Source.ranges c.args.patch.now) (g.S.Source.ranges c.measure_codes.new.patch) (g.S.Source.ranges c.write_codes.new.patch) c.in_ok-found.ensures.pixels_read c.in_ok-write_codes.ensures.pixels_read in
+    c.log_law.ensures.both t.pixels_at (pixels_end t) (g.S.Source.ranges c.args.patch.now) (g.S.Source.ranges c.write_codes.new.patch) (g.S.Source.ranges c.write_rows.new.patch) two
+    (subst (λ (u : Target). LogsWithin u.pixels_at (pixels_end u) (g.S.Source.ranges c.write_codes.new.patch) (g.S.Source.ranges c.write_rows.new.patch)) c.grown-grown.ensures.same c.in_err-write_rows.ensures.pixels_read)
+
+pub returns-clause-kept : goal.returns-clause-kept
+returns-clause-kept g c =
+    let t = c.args.target.now in
+    let buf : List ℕ = c.args.buf.now in
+    let held : Option (List ℕ) = g.D.Source.held c.args.store.now in
+    let log : Option (List Amend) = (g.D.Source.tally c.args.store.now).amended.writes in
+    let m : Measure = c.in_ok-found.found in
+    let s2 = c.find_forms.new.store in
+    let s3 = c.write_codes.new.store in
+    let held2 : g.D.Source.held s2 ≡ held = c.in_ok-forms.ensures.stays.0.held_is ∙ c.in_ok-found.ensures.stays.0.held_is in
+    let log2 : (g.D.Source.tally s2).amended.writes ≡ log = ap (λ (k : Tally). k.amended.writes) (c.in_ok-forms.ensures.cause.ok ∙ c.in_ok-found.ensures.cause.ok.0) in
+    let laws : StepLaws = record {
+      count = c.grown_header_law.ensures.count;
+      forms = c.grown_header_law.ensures.forms;
+      sums = c.grown_header_law.ensures.sums;
+      more = c.grown_header_law.ensures.more;
+      says = c.grown_header_law.ensures.says;
+      there = c.with_card_law.ensures.there;
+      others = c.with_card_law.ensures.others;
+      long = c.with_card_law.ensures.long;
+    } in
+    let first : Keeps (KeptBy t buf) held (g.D.Source.held s3) log (g.D.Source.tally s3).amended.writes =
+    after_codes t buf held (g.D.Source.held s2) (g.D.Source.held s3) log (g.D.Source.tally s2).amended.writes (g.D.Source.tally s3).amended.writes held2 log2 c.in_ok-write_codes.ensures.kept in
+    let s4 = c.write_cards.new.store in
+    let second : Keeps (KeptBy t buf) held (g.D.Source.held s4) log (g.D.Source.tally s4).amended.writes =
+    after_cards c.places_law.ensures.outside c.places_law.ensures.long laws t buf c.find_places-places.result m c.in_ok-forms.forms c.requires.found.target c.requires.found.by c.find_places-places.ensures c.in_ok-found.ensures.room c.in_ok-forms.ensures.small held (g.D.Source.held s3) (g.D.Source.held s4) log
+    (g.D.Source.tally s3).amended.writes (g.D.Source.tally s4).amended.writes first c.in_ok-write_cards.ensures.some in
+    let s5 = c.write_rows.new.store in
+    let third : Keeps (KeptBy t buf) held (g.D.Source.held s5) log (g.D.Source.tally s5).amended.writes =
+    after_rows t c.grown-grown.result m.bytes buf held (g.D.Source.held s4) (g.D.Source.held s5) log (g.D.Source.tally s4).amended.writes (g.D.Source.tally s5).amended.writes c.grown-grown.ensures.same second c.in_ok-write_rows.ensures.kept in
+    let s6 = c.write_sums.new.store in
+    let whole : SumCardsAreWhole = record { datasum = λ sum few. (c.sum_cards_law.ensures.datasum sum few).whole; checksum = λ sum. (c.sum_cards_law.ensures.checksum sum).whole; fits = c.sum_law.ensures.fits } in
+    after_sums c.places_law.ensures.outside c.places_law.ensures.long laws t buf c.find_places-places.result m c.in_ok-forms.forms c.requires.found.target c.requires.found.by c.find_places-places.ensures c.in_ok-found.ensures.room c.in_ok-forms.ensures.small whole c.grown-grown.result c.write_cards.new.buf held
+    (g.D.Source.held s5) (g.D.Source.held s6) log (g.D.Source.tally s5).amended.writes (g.D.Source.tally s6).amended.writes c.grown-grown.ensures.same c.in_ok-write_cards.ensures.header third c.write_sums.ensures.some
+
+pub returns-clause-pixels_read : goal.returns-clause-pixels_read
+returns-clause-pixels_read g c =
+    let t = c.args.target.now in
+    let two = c.log_law.ensures.both t.pixels_at (pixels_end t) (g.S.Source.ranges c.args.patch.now) (g.S.Source.ranges c.measure_codes.new.patch) (g.S.Source.ranges c.write_codes.new.patch) c.in_ok-found.ensures.pixels_read c.in_ok-write_codes.ensures.pixels_read in
+    c.log_law.ensures.both t.pixels_at (pixels_end t) (g.S.Source.ranges c.args.patch.now) (g.S.Source.ranges c.write_codes.new.patch) (g.S.Source.ranges c.write_rows.new.patch) two
+    (subst (λ (u : Target). LogsWithin u.pixels_at (pixels_end u) (g.S.Source.ranges c.write_codes.new.patch) (g.S.Source.ranges c.write_rows.new.patch)) c.grown-grown.ensures.same c.in_ok-write_rows.ensures.pixels_read)

@@ -20,6 +20,7 @@ use Rattle.fz_target.specs.declared.target.Target.{Target}
 use Rattle.fz_target.proofs.EndsTold.{if_some, some_of}
 use Rattle.fz_target.proofs.Found.{ends_here, found_target, given_all, given_stopped, gives_within, limit_stopped, pass_all, past_given, past_none, past_stopped, peak_given, peak_none, stop_ends, stop_own, target_in}
 use Rattle.fz_target.proofs.FoundTargets.{box_is, first_step, given_parts, lengths_are, shape_is, sieve_given, within_given}
+use Rattle.fz_target.proofs.GivenRead.{begins_here, box_shown, no_header_read, no_own_fault}
 use Rattle.fz_target.proofs.Peaks.{reached_after}
 use Rattle.fz_target.proofs.find.find_target.Goals as goal
 
@@ -173,3 +174,47 @@ returns-clause-peak g c = λ file wanted has.
 pub returns-clause-exact_peak : goal.returns-clause-exact_peak
 returns-clause-exact_peak g c = λ file wanted has.
     reached_after (g.S.Source.held c.args.patch.now) c.args.meter.now.live c.args.meter.now.peak c.read_given.new.meter.peak (own_checks file c.args.header.now (job_at wanted c.args.asked.now.corner.now)) (c.in-Ok.ensures.exact file wanted has) c.in_ok-given.ensures.exact_peak
+
+-- ---- what is read of PATCH, and the box
+
+pub returns-in_err-given-clause-alone : goal.returns-in_err-given-clause-alone
+returns-in_err-given-clause-alone g c = λ file wanted x has stops. absurd (no_own_fault x (own_checks file c.args.header.now (job_at wanted c.args.asked.now.corner.now)) (c.in-Ok.ensures.exact file wanted has) stops)
+
+pub returns-in-Err-check_ends-clause-alone : goal.returns-in-Err-check_ends-clause-alone
+returns-in-Err-check_ends-clause-alone g c = λ file wanted x has stops. absurd (no_own_fault x (own_checks file c.args.header.now (job_at wanted c.args.asked.now.corner.now)) (c.in-Ok.ensures.exact file wanted has) stops)
+
+pub returns-clause-alone : goal.returns-clause-alone
+returns-clause-alone g c = λ file wanted x has stops. absurd (no_own_fault x (own_checks file c.args.header.now (job_at wanted c.args.asked.now.corner.now)) (c.in-Ok.ensures.exact file wanted has) stops)
+
+pub returns-in-Err-clause-read : goal.returns-in-Err-clause-read
+returns-in-Err-clause-read g c = no_header_read (g.S.Source.held c.args.patch.now) (g.S.Source.ranges c.args.patch.now)
+
+pub returns-clause-box_at : goal.returns-clause-box_at
+returns-clause-box_at g c =
+    let q = c.in_ok-given.given in
+    let own = c.in-Ok.ensures.image in
+    let given = c.in_ok-given.ensures.given in
+    let parts = given_parts c.in-Ok.image.plan q given.may in
+    let long : length (lengths_of q.axes) ≡ length c.args.asked.now.corner.now = given.axes ∙ (parts.axes ∙ sym own.axes) in
+    let box : c.sieve_of-sieve.result ≡ box_sieve (placed c.args.asked.now.corner.now q.axes) = c.sieve_of-sieve.ensures ∙ (ap region_sieve c.region_of-region.ensures ∙ box_is c.args.asked.now.corner.now q.axes long) in
+    record {
+      lengths = lengths_of q.axes;
+      sieve = box;
+      along = ap sieve_lengths box ∙ lengths_are c.args.asked.now.corner.now q.axes long parts.some;
+      shown = box_shown c.in-Ok.image.plan q c.args.asked.now.corner.now (g.S.Source.held c.args.patch.now) c.in_ok-given.ensures.exact;
+    }
+
+pub returns-clause-begins : goal.returns-clause-begins
+returns-clause-begins g c =
+    let t : Target = record { header = c.args.header.now; image = c.in-Ok.image; wide = c.is_wide.result; sieve = c.sieve_of-sieve.result; pixels_at = c.data_start.result } in
+    let q = c.in_ok-given.given in
+    let own = c.in-Ok.ensures.image in
+    let given = c.in_ok-given.ensures.given in
+    let parts = given_parts c.in-Ok.image.plan q given.may in
+    let long : length (lengths_of q.axes) ≡ length c.args.asked.now.corner.now = given.axes ∙ (parts.axes ∙ sym own.axes) in
+    let box : c.sieve_of-sieve.result ≡ box_sieve (placed c.args.asked.now.corner.now q.axes) = c.sieve_of-sieve.ensures ∙ (ap region_sieve c.region_of-region.ensures ∙ box_is c.args.asked.now.corner.now q.axes long) in
+    let lens : sieve_lengths c.sieve_of-sieve.result ≡ lengths_of q.axes = ap sieve_lengths box ∙ lengths_are c.args.asked.now.corner.now q.axes long parts.some in
+    begins_here t q (g.S.Source.held c.args.patch.now) c.data_start.ensures lens given.data_is c.in_ok-given.ensures.exact
+
+pub returns-clause-passes : goal.returns-clause-passes
+returns-clause-passes g c = λ file wanted has. c.in-Ok.ensures.exact file wanted has

@@ -2,12 +2,13 @@
 use Rattle.std.proofs.Common.{◌≡◌, ℕ, List, [], ◌∷◌, ◌++◌, length, Option, Some, IfSome, Result, Err, refl, sym, ap, ◌∙◌, subst, arith, rules}
 use Rattle.fz_base.specs.Stop.{IfRefused}
 use Rattle.fz_base.specs.declared.failure.Stop.{Stop}
-use Rattle.fz_files.specs.FirstFault.{IsFirstRowFault, image_row}
+use Rattle.fz_files.specs.FirstFault.{IsFirstRowFault, image_row, picked_tiles_of}
 use Rattle.fz_grid.specs.SieveWalks.{sieve_tiles_left}
 use Rattle.fz_pool.specs.Round.{coded_tile}
 use Rattle.fz_pool.specs.Window.{Pool}
 use Rattle.fz_tile.specs.TileCode.{TileCode}
 use Rattle.fz_laws.specs.FirstPatchFault.{IsBoxFault}
+use Rattle.fz_target.specs.Reads.{pixels_end}
 use Rattle.fz_target.specs.Targets.{IsGivenTo, given_at}
 use Rattle.fz_target.specs.Tiles.{HasNewCode}
 use Rattle.fz_target.specs.Told.{IfBoth}
@@ -17,6 +18,7 @@ use Rattle.fz_target.proofs.CodedCounts.{coded_low, slot_long, stored_low}
 use Rattle.fz_target.proofs.EndsJoined.{refused_as, refused_weaker}
 use Rattle.fz_target.proofs.Measuring.{AreSound, MeasureState, all_measured, all_sound, bytes_few, fault_found, measure_begin, measure_go_on, tiles_few}
 use Rattle.fz_target.proofs.Room.{no_room}
+use Rattle.fz_target.proofs.TileReads.{none_fetched, one_fetched}
 use Rattle.fz_target.proofs.TilesLeft.{all_taken, given_boxes, given_tiles, later_boxes, next_box}
 use Rattle.fz_target.proofs.measure.measure_codes.Goals as goal
 
@@ -36,6 +38,8 @@ loop-tile-init g c =
       window = record { sizes = refl; workers = refl };
       copy = refl;
       boxes = given_boxes t c.into_iter-tile-iterator.result c.tiles_in_box-tile-items.result same c.tiles_in_box-tile-items.ensures.each;
+      read = none_fetched (g.D.Source.held c.args.store.now) t.header (picked_tiles_of t.image.plan t.sieve) (g.D.Source.ranges c.args.store.now);
+      pixels_read = c.log_law.ensures.none t.pixels_at (pixels_end t) (g.S.Source.ranges c.args.patch.now);
       state = measure_begin t (g.S.Source.held c.args.patch.now) (g.D.Source.held c.args.store.now) (sieve_tiles_left c.into_iter-tile-iterator.result) (record { bytes = 0; coded = 0; stored = 0 })
           (given_tiles c.into_iter-tile-iterator.result c.tiles_in_box-tile-items.result _ same c.tiles_in_box-tile-items.ensures.tiles) refl;
     }
@@ -85,6 +89,9 @@ loop-tile-preserved g c =
       window = record { sizes = done.stays.2.sizes ∙ old.window.sizes; workers = done.stays.2.workers ∙ old.window.workers };
       copy = done.stays.3 ∙ old.copy;
       boxes = later_boxes t tile left after next old.boxes;
+      read = one_fetched c.ranges_law.ensures.join held (g.D.Source.held c.loop-tile.store) t.header (picked_tiles_of t.image.plan t.sieve) old.state.front tile after (g.D.Source.ranges c.args.store.now) (g.D.Source.ranges c.loop-tile.store)
+          (g.D.Source.ranges c.prepare_tile.new.store) (old.state.parts ∙ ap (λ l. old.state.front ++ l) next) old.held old.read done.read;
+      pixels_read = c.log_law.ensures.both t.pixels_at (pixels_end t) (g.S.Source.ranges c.args.patch.now) (g.S.Source.ranges c.loop-tile.patch) (g.S.Source.ranges c.prepare_tile.new.patch) old.pixels_read done.pixels_read;
       state = measure_go_on t given held tile after c.loop-tile.found c.with_tile-found.result code w c.requires.said new sound (λ e has. (first_has w slot e c.code_slot-slot.ensures.first has).0)
           c.with_tile-found.ensures (omega (arith, count, c.code_slot-slot.ensures.most)) (coded_low t.image.plan code) (stored_low t.image.plan code) (subst (λ (l : List ℕ). MeasureState t given held l c.loop-tile.found) next old.state);
     }
@@ -143,3 +150,31 @@ returns-clause-room g c =
       coded = state.coded;
       stored = state.stored;
     }
+
+-- ---- what is read
+
+pub returns-in_err-prepare_tile-clause-read : goal.returns-in_err-prepare_tile-clause-read
+returns-in_err-prepare_tile-clause-read g c =
+    let t = c.args.target.now in
+    let old = c.loop-tile.invariant in
+    one_fetched c.ranges_law.ensures.join (g.D.Source.held c.args.store.now) (g.D.Source.held c.loop-tile.store) t.header (picked_tiles_of t.image.plan t.sieve) old.state.front c.in-Some.tile (sieve_tiles_left c.next.new.self)
+    (g.D.Source.ranges c.args.store.now) (g.D.Source.ranges c.loop-tile.store) (g.D.Source.ranges c.prepare_tile.new.store) (old.state.parts ∙ ap (λ l. old.state.front ++ l) c.in-Some.ensures.steps) old.held old.read
+    c.in_err-prepare_tile.ensures.read
+
+pub returns-in_err-prepare_tile-clause-pixels_read : goal.returns-in_err-prepare_tile-clause-pixels_read
+returns-in_err-prepare_tile-clause-pixels_read g c =
+    let t = c.args.target.now in
+    c.log_law.ensures.both t.pixels_at (pixels_end t) (g.S.Source.ranges c.args.patch.now) (g.S.Source.ranges c.loop-tile.patch) (g.S.Source.ranges c.prepare_tile.new.patch) c.loop-tile.invariant.pixels_read
+    c.in_err-prepare_tile.ensures.pixels_read
+
+pub returns-then-not-has_room-clause-read : goal.returns-then-not-has_room-clause-read
+returns-then-not-has_room-clause-read g c = c.loop-tile.invariant.read
+
+pub returns-then-not-has_room-clause-pixels_read : goal.returns-then-not-has_room-clause-pixels_read
+returns-then-not-has_room-clause-pixels_read g c = c.loop-tile.invariant.pixels_read
+
+pub returns-clause-read : goal.returns-clause-read
+returns-clause-read g c = c.loop-tile.invariant.read
+
+pub returns-clause-pixels_read : goal.returns-clause-pixels_read
+returns-clause-pixels_read g c = c.loop-tile.invariant.pixels_read

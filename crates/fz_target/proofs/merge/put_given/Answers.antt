@@ -11,6 +11,7 @@ use Rattle.fz_grid.specs.Line.{IsLineWithin, lines_in_cutout, lines_in_tile}
 use Rattle.fz_grid.specs.LineWalks.{lines_left}
 use Rattle.fz_grid.specs.declared.line.Line.{Line}
 use Rattle.fz_files.specs.Restored.{pixels_of}
+use Rattle.fz_target.specs.Reads.{pixels_end}
 use Rattle.fz_target.specs.Tiles.{HasPiece}
 use Rattle.fz_target.proofs.GivenLines.{all_begin, all_over, all_step, line_first, some_step}
 use Rattle.fz_target.proofs.merge.put_given.Goals as goal
@@ -36,6 +37,7 @@ loop-line-init g c =
       attached = refl;
       told = λ told. told;
       reads = refl;
+      pixels_read = c.log_law.ensures.none t.pixels_at (pixels_end t) (g.S.Source.ranges c.args.patch.now);
       copy = refl;
       numbers = refl;
       steps = subst (AllByRecursion (λ (line : Line). line.step ≡ slice_index t.sieve.step 0)) (sym given) c.tile_lines-line-items.ensures.step;
@@ -87,6 +89,7 @@ loop-line-preserved g c =
       attached = search rules;
       told = λ told. c.in_ok-put_line.ensures.stays.0.told (c.loop-line.invariant.told told);
       reads = search rules;
+      pixels_read = c.log_law.ensures.both t.pixels_at (pixels_end t) (g.S.Source.ranges c.args.patch.now) (g.S.Source.ranges c.loop-line.patch) (g.S.Source.ranges c.put_line.new.patch) c.loop-line.invariant.pixels_read c.put_line.ensures.pixels_read;
       copy = search rules;
       numbers = search rules;
       steps = steps.1;
@@ -99,3 +102,8 @@ pub returns-clause-new : goal.returns-clause-new
 returns-clause-new g c =
     let none : lines_left c.loop-line.line-iterator ≡ [] = c.in-None.ensures.steps.0 in
     all_over c.args.target.now c.args.tile c.requires.tile.near c.place_law.ensures.pixels (g.S.Source.held c.args.patch.now) (lines_left c.loop-line.line-iterator) c.args.numbers.now c.loop-line.numbers none c.loop-line.invariant.put
+
+pub returns-in_err-put_line-clause-pixels_read : goal.returns-in_err-put_line-clause-pixels_read
+returns-in_err-put_line-clause-pixels_read g c =
+    let t = c.args.target.now in
+    c.log_law.ensures.both t.pixels_at (pixels_end t) (g.S.Source.ranges c.args.patch.now) (g.S.Source.ranges c.loop-line.patch) (g.S.Source.ranges c.put_line.new.patch) c.loop-line.invariant.pixels_read c.put_line.ensures.pixels_read

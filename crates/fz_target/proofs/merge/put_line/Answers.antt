@@ -2,6 +2,7 @@
 use Rattle.std.proofs.Common.{◌≡◌, ℕ, ◌+◌, ◌-◌, ◌*◌, ◌/◌, ◌≤◌, ℤ, length, unsigned_abs, refl, sym, ap, subst, ◌∙◌, arith, rules}
 use Rattle.fz_grid.specs.declared.line.Line.{Line}
 use Rattle.fz_tile.specs.Pixels.{IsBitpix}
+use Rattle.fz_target.specs.Reads.{pixels_end}
 use Rattle.fz_target.specs.Tiles.{HasPiece}
 use Rattle.fz_target.proofs.GivenLines.{line_ends}
 use Rattle.fz_target.proofs.LinePieces.{piece_more, piece_none}
@@ -20,6 +21,7 @@ loop-done-init g c = record {
   attached = refl;
   told = λ told. told;
   reads = refl;
+  pixels_read = c.log_law.ensures.none c.args.target.now.pixels_at (pixels_end c.args.target.now) (g.S.Source.ranges c.args.patch.now);
   copy = refl;
   numbers = refl;
   few = omega arith;
@@ -71,6 +73,7 @@ loop-done-preserved g c =
       attached = search rules;
       told = λ told. c.in_ok-put_piece.ensures.stays.0.told (c.loop-done.invariant.told told);
       reads = search rules;
+      pixels_read = c.log_law.ensures.both t.pixels_at (pixels_end t) (g.S.Source.ranges c.args.patch.now) (g.S.Source.ranges c.loop-done.patch) (g.S.Source.ranges c.put_piece.new.patch) c.loop-done.invariant.pixels_read c.put_piece.ensures.pixels_read;
       copy = search rules;
       numbers = search rules;
       few = search rules;
@@ -83,3 +86,8 @@ returns-clause-piece g c =
     let line : Line = c.args.line.now in
     let all : c.loop-done.done ≡ line.count = omega (arith, c.loop-done-test.false, c.loop-done.invariant.few, c.from-count.ensures) in
     subst (λ n. HasPiece t line.in_tile line.in_cutout n (g.S.Source.held c.args.patch.now) c.args.numbers.now c.loop-done.numbers) all c.loop-done.invariant.put
+
+pub returns-in_err-put_piece-clause-pixels_read : goal.returns-in_err-put_piece-clause-pixels_read
+returns-in_err-put_piece-clause-pixels_read g c =
+    let t = c.args.target.now in
+    c.log_law.ensures.both t.pixels_at (pixels_end t) (g.S.Source.ranges c.args.patch.now) (g.S.Source.ranges c.loop-done.patch) (g.S.Source.ranges c.put_piece.new.patch) c.loop-done.invariant.pixels_read c.put_piece.ensures.pixels_read

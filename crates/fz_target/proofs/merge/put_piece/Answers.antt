@@ -1,10 +1,11 @@
 -- The bytes of the pixels are read, and their numbers put between those before them and those after them.
-use Rattle.std.proofs.Common.{◌≡◌, ℕ, ◌+◌, ◌-◌, ◌*◌, ◌/◌, ◌≤◌, ℤ, List, ◌++◌, length, take, drop, unsigned_abs, w32, of_z, to_z, sym, ap, subst, ◌∙◌, arith, rules}
-use Rattle.fz_base.specs.Source.{Reads}
+use Rattle.std.proofs.Common.{◌≡◌, ℕ, ◌+◌, ◌-◌, ◌*◌, ◌/◌, ◌≤◌, ℤ, List, ◌++◌, length, take, drop, unsigned_abs, w32, of_z, to_z, Option, refl, sym, ap, subst, ◌∙◌, arith, rules, length-take-le}
+use Rattle.fz_base.specs.Source.{MayLog, Reads}
 use Rattle.fz_tile.specs.Pixels.{HoldPixels, HoldWhole, IsBitpix, pixel_count, place_count}
 use Rattle.fz_tile.specs.Plain.{stored_pixels}
+use Rattle.fz_target.proofs.GivenRead.{piece_read, read_logs}
 use Rattle.fz_target.proofs.LinePieces.{one_piece}
-use Rattle.fz_target.proofs.LineReads.{back_of, places_slice, put_back, size_is, slice_pixels, slice_whole}
+use Rattle.fz_target.proofs.LineReads.{back_of, places_slice, put_back, size_few, size_is, slice_pixels, slice_whole}
 use Rattle.fz_target.proofs.Pieces.{count_both}
 use Rattle.fz_target.proofs.merge.put_piece.Goals as goal
 
@@ -80,3 +81,39 @@ returns-clause-piece g c =
     one_piece t to c.args.from c.slice_law.ensures.pixels count held ns _ ms bytes long read all
     (put_back c.place_count-first.result c.place_count-end.result ns ms (omega (arith, first, end, count_both bits to count))
     ∙ (λ i. take (first i) ns ++ (ms ++ drop (end i) ns)))
+
+-- ---- what is read
+
+pub returns-in_err-map_err-clause-pixels_read : goal.returns-in_err-map_err-clause-pixels_read
+returns-in_err-map_err-clause-pixels_read g c =
+    let t = c.args.target.now in
+    let bitpix : ℤ = t.image.plan.bitpix in
+    let is : IsBitpix bitpix = c.requires.target.readable.codec.size in
+    let size : c.plain_len-size.result ≡ unsigned_abs bitpix / 8 = size_is bitpix c.plain_len-size.result is c.plain_len-size.ensures in
+    let few = size_few bitpix is in
+    let at : ℕ = t.pixels_at + c.plain_len-size.result * c.args.from in
+    let part : List ℕ = take (c.plain_len-size.result * c.args.count) c.args.copy.now in
+    let len : ℕ = length part in
+    let filled : len ≡ c.plain_len-size.result * c.args.count =
+    length-take-le (c.plain_len-size.result * c.args.count) c.args.copy.now (omega (arith, c.requires.room, ap (λ n. n * c.args.count) size)) in
+    let old : Option (List (ℕ × ℕ)) = g.S.Source.ranges c.args.patch.now in
+    let new : Option (List (ℕ × ℕ)) = g.S.Source.ranges c.read_at.new.self in
+    let may : MayLog at len old new = read_logs c.read_at.result at len old new c.read_at.ensures.logged c.read_at.ensures.log_err in
+    piece_read c.log_law.ensures.one t c.plain_len-size.result c.args.from c.args.count at len old new size (omega (arith, size, few.0)) c.requires.some c.requires.here refl filled may
+
+pub returns-clause-pixels_read : goal.returns-clause-pixels_read
+returns-clause-pixels_read g c =
+    let t = c.args.target.now in
+    let bitpix : ℤ = t.image.plan.bitpix in
+    let is : IsBitpix bitpix = c.requires.target.readable.codec.size in
+    let size : c.plain_len-size.result ≡ unsigned_abs bitpix / 8 = size_is bitpix c.plain_len-size.result is c.plain_len-size.ensures in
+    let few = size_few bitpix is in
+    let at : ℕ = t.pixels_at + c.plain_len-size.result * c.args.from in
+    let part : List ℕ = take (c.plain_len-size.result * c.args.count) c.args.copy.now in
+    let len : ℕ = length part in
+    let filled : len ≡ c.plain_len-size.result * c.args.count =
+    length-take-le (c.plain_len-size.result * c.args.count) c.args.copy.now (omega (arith, c.requires.room, ap (λ n. n * c.args.count) size)) in
+    let old : Option (List (ℕ × ℕ)) = g.S.Source.ranges c.args.patch.now in
+    let new : Option (List (ℕ × ℕ)) = g.S.Source.ranges c.read_at.new.self in
+    let may : MayLog at len old new = read_logs c.read_at.result at len old new c.read_at.ensures.logged c.read_at.ensures.log_err in
+    piece_read c.log_law.ensures.one t c.plain_len-size.result c.args.from c.args.count at len old new size (omega (arith, size, few.0)) c.requires.some c.requires.here refl filled may

@@ -1,10 +1,12 @@
 -- The tile is fetched, filled and encoded.
 use Rattle.std.proofs.Common.{◌≡◌, ℕ, ◌+◌, ◌*◌, ◌≤◌, ℤ, List, [], ◌∷◌, length, Option, Result, Err, IfSome, refl, sym, ap, ◌∙◌, subst, arith, rules}
+use Rattle.fz_base.specs.Stop.{IfRefused}
 use Rattle.fz_base.specs.declared.failure.Stop.{Stop}
 use Rattle.fz_fetch.specs.Fetched.{AreFetched}
 use Rattle.fz_job.specs.Images.{HaveRoom}
 use Rattle.fz_pool.specs.Window.{IsFilled, IsPut, Pool}
 use Rattle.fz_pool.specs.declared.slot.Slot.{Slot}
+use Rattle.fz_table.specs.Records.{IsOfRow}
 use Rattle.fz_target.specs.Ends.{ReadsTiles}
 use Rattle.fz_target.specs.Tiles.{IsFilledSlot}
 use Rattle.fz_target.proofs.EndsJoined.{refused_weaker}
@@ -56,3 +58,10 @@ returns-in-Ok-clause-code g c =
 pub returns-in-Ok-clause-sound : goal.returns-in-Ok-clause-sound
 returns-in-Ok-clause-sound g c =
     row_sound (g.D.Source.held c.args.store.now) c.args.target.now.header c.args.target.now.image.plan c.args.tile c.fetch_tiles.new.window.slots c.in_ok-fetch_tiles.ensures.fetched
+
+pub returns-in_err-fetch_tiles-clause-row : goal.returns-in_err-fetch_tiles-clause-row
+returns-in_err-fetch_tiles-clause-row g c =
+    let stop : Stop = c.in_err-fetch_tiles.field-0.0 in
+    let stopped : c.from_residual.result ≡ Err stop = search rules in
+    subst (λ (r : Result (Unit {0}) Stop). IfRefused r (IsOfRow c.args.target.now.header.hdu c.args.tile)) (sym stopped)
+    (refused_weaker {X = Unit {0}} (Err stop) (of_one_row c.args.target.now.header.hdu c.args.tile) c.in_err-fetch_tiles.ensures.row)
