@@ -68,7 +68,9 @@ enum fz_answer {
     FZ_NO_PART = -108,      /* the code is not read on from this mark: fz_decode_tile says why */
     FZ_NO_HDU = -109,       /* no HDU begins at this place of a file of this length */
     FZ_NO_PLAN = -110,      /* no packed image has this plan */
-    FZ_FEW_PLACES = -111    /* numbers_len is less than the places of the pixels of the tile */
+    FZ_FEW_PLACES = -111,   /* numbers_len is less than the places of the pixels of the tile */
+    FZ_NO_BOX = -112,       /* the box has no pixel along an axis, or one outside the image, or other axes */
+    FZ_FEW_ROWS = -113      /* the row of a tile is not among the bytes of the rows */
 };
 
 /* The kinds of refusal (docs/REFUSALS.md). A call that reads a header or a row answers minus one of these
@@ -210,7 +212,7 @@ int32_t fz_sum(uint32_t before, const uint8_t *bytes, size_t bytes_len, uint32_t
  *      which says where the next HDU begins; so up to HDU k.
  *   2. fz_plan once, with the front of HDU k.
  *   3. For a tile: read its row (row_bytes bytes at rows_at + row_bytes * tile), call fz_row, read the
- *      record (read bytes at start), call fz_tile.
+ *      record (read bytes at start), call fz_tile. For a box: fz_box_needs, fz_box_reads and fz_box.
  *
  * A plan may be kept and copied as long as the file stays as it is. A call that takes one tests it. */
 
@@ -316,6 +318,64 @@ int32_t fz_row(const struct fz_plan *plan, uint32_t tile, const uint8_t *row, si
  * numbers has some values. */
 int32_t fz_tile(const struct fz_plan *plan, uint32_t tile, const struct fz_record *chosen,
                 const uint8_t *code, size_t code_len, int32_t *numbers, size_t numbers_len);
+
+/* A box of an image with a step along each axis, axis 1 first, counted from 0. Its pixels along an axis
+ * are first, first + step and so on up to last. What is after the axes is not looked at. */
+struct fz_box {
+    uint32_t axes;     /* as many as the image has */
+    uint32_t first[9];
+    uint32_t last[9];  /* at least first, and a pixel of the image */
+    uint32_t step[9];  /* 1 or more */
+};
+
+/* What is read for a box, and how much room there has to be. */
+struct fz_needs {
+    uint64_t rows_at;  /* the byte of the file at which the row of its first tile begins */
+    uint64_t rows_len; /* the bytes from there to the end of the row of its last tile */
+    uint64_t numbers;  /* the places of its pixels: one for each, and two for each of 64 bits */
+    uint32_t tiles;    /* how many tiles have a pixel of the box */
+    uint32_t places;   /* the places of the largest tile of the image */
+};
+
+/* Writes to *needs what a box needs.
+ *
+ * FZ_NO_PLAN, FZ_NO_BOX. After these *needs is as it was. */
+int32_t fz_box_needs(const struct fz_plan *plan, const struct fz_box *part, struct fz_needs *needs);
+
+/* Writes where the bytes of each tile are that has a pixel of the box, in the order of the tiles, to the
+ * front of reads. What is after them stays. These are the records that `fz cut` reads for the box.
+ *
+ * from, rows  the bytes of the file from byte from on, as many as there are: at least those of
+ *             fz_box_needs
+ * reads_len   at least the tiles of fz_box_needs
+ *
+ * A kind of refusal or FZ_FEW_ROWS: *tile gets the number of the first tile whose row is refused or not
+ * there. FZ_NO_PLAN, FZ_NO_BOX, FZ_NO_ROOM. After these reads has some records. *tile is as it was but
+ * after a kind or FZ_FEW_ROWS. */
+int32_t fz_box_reads(const struct fz_plan *plan, const struct fz_box *part, uint64_t from,
+                     const uint8_t *rows, size_t rows_len, struct fz_record *reads, size_t reads_len,
+                     uint32_t *tile);
+
+/* Writes the pixels of the box to the front of out, axis 1 fastest, as fz_decode_tile writes those of a
+ * tile. What is after them stays.
+ *
+ * from, rows  as for fz_box_reads
+ * at, codes   the bytes of the file from byte at on, up to the last one that is read of a record (read
+ *             bytes at start). No other bytes than those of records are looked at: what is between them
+ *             need not be the file's.
+ * numbers     room for a tile: numbers_len is at least the places of fz_box_needs
+ * out_len     at least the numbers of fz_box_needs
+ *
+ * If the whole file is in memory, it is both rows and codes, and from and at are 0.
+ *
+ * A kind of refusal, FZ_FEW_ROWS or FZ_FEW_BYTES: *tile gets the number of the first tile whose row or
+ * record is refused or not there. FZ_NO_PLAN, FZ_NO_BOX, FZ_FEW_PLACES, FZ_NO_ROOM. After all of these
+ * numbers and out have some values, and after 0 numbers has. *tile is as it was but after a kind,
+ * FZ_FEW_ROWS or FZ_FEW_BYTES. */
+int32_t fz_box(const struct fz_plan *plan, const struct fz_box *part, uint64_t from,
+               const uint8_t *rows, size_t rows_len, uint64_t at, const uint8_t *codes,
+               size_t codes_len, int32_t *numbers, size_t numbers_len, int32_t *out, size_t out_len,
+               uint32_t *tile);
 
 #ifdef __cplusplus
 }

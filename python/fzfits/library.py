@@ -39,6 +39,8 @@ ARGUMENTS = {
     -109: "no HDU begins at this byte of a file of this length",
     -110: "this is no plan of a packed image",
     -111: "numbers has fewer places than the pixels of the tile",
+    -112: "the box has no pixel along an axis, or one outside the image, or not as many axes",
+    -113: "the row of a tile is not among the bytes of the rows",
 }
 
 

@@ -18,10 +18,13 @@
  *   plan BYTES start length hdu after_empty                            ->  answer PLAN
  *   row PLAN tile BYTES                                                ->  answer start total read column
  *   tile PLAN tile start total read column BYTES count                 ->  answer NUMBERS
+ *   box_needs PLAN BOX                                                 ->  answer rows_at rows_len numbers tiles places
+ *   box_reads PLAN BOX from BYTES room                                 ->  answer (start total read column) of each record
+ *   box PLAN BOX from BYTES at BYTES places room                       ->  answer NUMBERS
  *
  * A PLAN is rows_at heap_at heap_len row_bytes rows, at wide unit of each of three columns, codec block bytepix bitpix primary axes, and
- * then so many lengths and so many of the tile. The BYTES of a header can be its cards, each after a /, with ~ for a blank; after a kind
- * of refusal hdu and plan write at_sort and at of *fault.
+ * then so many lengths and so many of the tile. A BOX is axes, and then so many of first, of last and of step. The BYTES of a header can be its cards, each after a /, with ~ for a blank; after a kind
+ * of refusal hdu and plan write at_sort and at of *fault, and where box_reads and box stop at a tile they write its number.
  *
  * Without a room, out has FZ_TILE_ROOM. After another answer than 0 the program ends with a failure if *coded, *used, *mark, *sum or another
  * result is not as it was, and after plio_encode if bytes of out are not that the call leaves as they are.
@@ -385,6 +388,84 @@ static void tile(int at_front, int is_shown) {
     free(code);
 }
 
+static struct fz_box box_words(void) {
+    struct fz_box box;
+    uint32_t i;
+    memset(&box, 0, sizeof box);
+    box.axes = number();
+    for (i = 0; i < box.axes && i < 9; i++) box.first[i] = number();
+    for (i = 0; i < box.axes && i < 9; i++) box.last[i] = number();
+    for (i = 0; i < box.axes && i < 9; i++) box.step[i] = number();
+    return box;
+}
+
+static void box_needs(int at_front, int is_shown) {
+    struct fz_plan plan = plan_words();
+    struct fz_box box = box_words();
+    struct call it = call_new("", 0, 0, sizeof(struct fz_needs), at_front);
+    struct fz_needs *needs = it.small;
+    int32_t answer = fz_box_needs(&plan, &box, needs);
+    answered(it, answer);
+    if (is_shown) printf("%" PRId32, answer);
+    if (is_shown && answer == 0) printf(" %" PRIu64 " %" PRIu64 " %" PRIu64 " %" PRIu32 " %" PRIu32, needs->rows_at, needs->rows_len, needs->numbers, needs->tiles, needs->places);
+    call_end(it);
+}
+
+/* The end of a call that says at which tile it stops, if it does. */
+static void stopped(uint32_t tile, int32_t answer, int is_shown) {
+    int is_tile = answer == FZ_FEW_ROWS || answer == FZ_FEW_BYTES || (answer < 0 && answer > -100);
+    must(is_tile || tile == 7777, "a tile was written, and the answer is of no tile");
+    if (is_tile && is_shown) printf(" %" PRIu32, tile);
+}
+
+static void box_reads(int at_front, int is_shown) {
+    struct fz_plan plan = plan_words();
+    struct fz_box box = box_words();
+    uint64_t from = number();
+    uint32_t tile = 7777;
+    size_t len, room, i;
+    uint8_t *rows = bytes(&len);
+    struct call it;
+    struct fz_record *reads;
+    int32_t answer;
+    room = number();
+    it = call_new(rows, len, room * sizeof *reads, 0, at_front);
+    reads = it.out;
+    answer = fz_box_reads(&plan, &box, from, it.in, len, reads, room, &tile);
+    if (is_shown) printf("%" PRId32, answer);
+    stopped(tile, answer, is_shown);
+    for (i = 0; is_shown && answer == 0 && i < room && reads[i].column < 2; i++)
+        printf(" %" PRIu64 " %" PRIu64 " %" PRIu64 " %" PRIu32, reads[i].start, reads[i].total, reads[i].read, reads[i].column);
+    must(answer != 0 || is_as_it_was(reads + i, (is_shown ? room - i : 0) * sizeof *reads), "records after those of the box were written");
+    call_end(it);
+    free(rows);
+}
+
+static void box(int at_front, int is_shown) {
+    struct fz_plan plan = plan_words();
+    struct fz_box part = box_words();
+    uint64_t from = number(), at;
+    uint32_t tile = 7777;
+    size_t rows_len, codes_len, places, room;
+    uint8_t *rows = bytes(&rows_len), *codes;
+    struct call it, other;
+    int32_t answer;
+    at = number();
+    codes = bytes(&codes_len);
+    places = number();
+    room = number();
+    it = call_new(rows, rows_len, 4 * room, 0, at_front);
+    other = call_new(codes, codes_len, 4 * places, 0, at_front);
+    answer = fz_box(&plan, &part, from, it.in, rows_len, at, other.in, codes_len, other.out, places, it.out, room, &tile);
+    if (is_shown) printf("%" PRId32, answer);
+    stopped(tile, answer, is_shown);
+    if (is_shown && answer == 0) print_numbers(it.out, room);
+    call_end(it);
+    call_end(other);
+    free(rows);
+    free(codes);
+}
+
 static void version(int is_shown) {
     if (is_shown) printf("%" PRIu32, fz_version());
 }
@@ -405,6 +486,9 @@ static void make_call(const char *name, int at_front, int is_shown) {
     else if (!strcmp(name, "plan")) plan(at_front, is_shown);
     else if (!strcmp(name, "row")) row(at_front, is_shown);
     else if (!strcmp(name, "tile")) tile(at_front, is_shown);
+    else if (!strcmp(name, "box_needs")) box_needs(at_front, is_shown);
+    else if (!strcmp(name, "box_reads")) box_reads(at_front, is_shown);
+    else if (!strcmp(name, "box")) box(at_front, is_shown);
     else if (!strcmp(name, "rice_encode")) {
         uint32_t width = number(), block = number();
         encode(at_front, is_shown, width, block);

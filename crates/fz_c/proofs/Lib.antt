@@ -1,3 +1,4 @@
+mod BoxLemmas
 mod FrontLemmas
 mod ImageLemmas
 mod KindLemmas

@@ -8,7 +8,7 @@ use Rattle.fz_tile.specs.declared.fault.TileFault.{TileFault}
 use Rattle.fz_tile.specs.declared.fault.TileFault.TheVariants.{CodeShort, CodeValue, LineList, PixelRange, TileSize}
 use Rattle.fz_c.specs.declared.fault.Fault.{Fault}
 use Rattle.fz_c.specs.declared.fault.Fault.TheVariants.{Refused, NoCodec, NoColumn, NoTile, FewBytes, NoRoom, NumberRange, ManyBytes, NoPart}
-use Rattle.fz_c.specs.declared.fault.Fault.TheVariants.{Rejected, NoHdu, NoPlan, FewPlaces}
+use Rattle.fz_c.specs.declared.fault.Fault.TheVariants.{Rejected, NoHdu, NoPlan, FewPlaces, NoBox, FewRows}
 
 -- the kind of a refused record
 abbrev pub kind_of : TileFault → Kind
@@ -33,6 +33,8 @@ answer_of (Rejected kind) = neg_ℤ (pos (kind_number kind))
 answer_of NoHdu = neg_ℤ (pos 109)
 answer_of NoPlan = neg_ℤ (pos 110)
 answer_of FewPlaces = neg_ℤ (pos 111)
+answer_of NoBox = neg_ℤ (pos 112)
+answer_of FewRows = neg_ℤ (pos 113)
 
 -- a version of three numbers as one
 abbrev pub version_number : ℕ → ℕ → ℕ → ℕ

@@ -6,3 +6,4 @@ pub mod Parts
 pub mod Sums
 pub mod Fronts
 pub mod Images
+pub mod Boxes

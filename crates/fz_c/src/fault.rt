@@ -35,6 +35,10 @@ pub enum Fault {
     NoPlan,
     /// The numbers have fewer places than the pixels of the tile.
     FewPlaces,
+    /// The box has no pixel of the image, or one outside it.
+    NoBox,
+    /// The row of a tile is not among the bytes of the rows.
+    FewRows,
 }
 
 impl Fault {
@@ -57,6 +61,8 @@ impl Fault {
             Fault::NoHdu => -109,
             Fault::NoPlan => -110,
             Fault::FewPlaces => -111,
+            Fault::NoBox => -112,
+            Fault::FewRows => -113,
         }
     }
 }

@@ -8,10 +8,11 @@
 //! or keeps anything from one call to the next.
 //!
 //! Reading order: `fault`, `asked`, `range`; then the exports: `version`, `tile`, `rice`, `plio`, `part`,
-//! `sum`; `front`, `image`.
+//! `sum`; `front`, `image`, `boxes`.
 #![tactic(auto)]
 
 mod asked;
+mod boxes;
 mod fault;
 mod front;
 mod image;
@@ -23,6 +24,7 @@ mod sum;
 mod tile;
 mod version;
 
+pub use boxes::{fz_box, fz_box_needs, fz_box_reads};
 pub use front::{fz_front_len, fz_hdu, fz_plan};
 pub use image::{fz_row, fz_tile};
 pub use part::{FzMark, fz_decode_part, fz_first_mark};

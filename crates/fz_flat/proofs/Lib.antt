@@ -1,5 +1,10 @@
+mod BoxLemmas
+mod CutLemmas
 mod DecodedLemmas
 mod FlatLemmas
 mod FrontFile
 mod FrontLemmas
+mod PixelLemmas
+mod PlacedLemmas
 mod SaidLemmas
+mod WholeLemmas

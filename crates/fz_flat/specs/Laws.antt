@@ -1,13 +1,16 @@
 -- What the definitions of this crate promise of a file, of whose bytes only some are there.
-use Rattle.std.specs.Prelude.{ℕ, ◌≡◌, ◌⊎◌, ◌==◌, ◌≤◌, List, length, take, drop, Result, Ok, Err, ⊤}
+use Rattle.std.specs.Prelude.{ℕ, ◌≡◌, ◌⊎◌, ◌==◌, ◌≤◌, List, [], ◌∷◌, ◌++◌, length, take, drop, Result, Ok, Err, ⊤}
 use Rattle.fz_base.specs.declared.fault.Fault.{Fault}
 use Rattle.fz_block.specs.Walk.{hdu_of}
 use Rattle.fz_block.specs.declared.header.Header.{Header}
-use Rattle.fz_table.specs.Records.{record_at}
+use Rattle.fz_table.specs.Reads.{row_ranges, tile_ranges}
+use Rattle.fz_table.specs.Records.{record_at, record_bytes}
 use Rattle.fz_table.specs.Rows.{IsTable, row_start}
+use Rattle.fz_table.specs.declared.record.Record.{Record}
 use Rattle.fz_head.specs.Packable.{is_packed}
 use Rattle.fz_checks.specs.JobChecks.{IsImageOf, image_to_amend}
 use Rattle.fz_checks.specs.declared.job_checks.PackedImage.{PackedImage}
+use Rattle.fz_flat.specs.Boxes.{HasRecord, HasRow, SaysRecord, bytes_of, said_at}
 use Rattle.fz_flat.specs.Hdus.{flat_hdu}
 use Rattle.fz_flat.specs.Lawful.{IsPackedImage}
 use Rattle.fz_flat.specs.Rows.{row_says}
@@ -30,6 +33,29 @@ abbrev pub RowLaw : Type 0
 RowLaw =
     (file row : List ℕ) (hdu t : ℕ) (image : PackedImage) → IsTable image.table → AreFrom file (row_start image.table t) row
     → image.table.row_bytes ≤ length row → row_says hdu image row t ≡ record_at file hdu image.table t (tile_of image.plan t)
+
+-- a row that was read says what it says in the file
+abbrev pub SaidLaw : Type 0
+SaidLaw =
+    (file rows : List ℕ) (from t : ℕ) (image : PackedImage) → IsTable image.table → AreFrom file from rows → HasRow image from rows t
+    → said_at image from rows t ≡ record_at file 0 image.table t (tile_of image.plan t)
+
+-- a record that it says is the one that the row says in the file, whatever the number of the HDU
+abbrev pub FoundLaw : Type 0
+FoundLaw =
+    (file rows : List ℕ) (from hdu t : ℕ) (image : PackedImage) (found : Record) → IsTable image.table → AreFrom file from rows
+    → SaysRecord image from rows t found → record_at file hdu image.table t (tile_of image.plan t) ≡ Ok found
+
+-- so what the reading of the tile touches is its row's descriptors and what is read of this record
+abbrev pub RangesLaw : Type 0
+RangesLaw =
+    (file rows : List ℕ) (from hdu t : ℕ) (image : PackedImage) (found : Record) → IsTable image.table → AreFrom file from rows
+    → SaysRecord image from rows t found
+    → tile_ranges file hdu image.table t (tile_of image.plan t) ≡ row_ranges image.table t ++ (found.start, found.read) ∷ []
+
+-- and the bytes of a record are those of the file
+abbrev pub BytesLaw : Type 0
+BytesLaw = (file codes : List ℕ) (at : ℕ) (found : Record) → AreFrom file at codes → HasRecord at codes found → bytes_of at codes found ≡ record_bytes file found
 
 -- these bytes are the front of an HDU of the file
 pub record IsFrontOf (file : List ℕ) (at : FzAt) (front : List ℕ) : Type 0 where

@@ -5,4 +5,7 @@ pub mod Hdus
 pub mod Fronts
 pub mod Rows
 pub mod Decoded
+pub mod Boxes
+pub mod Placed
+pub mod Cutting
 pub mod Laws

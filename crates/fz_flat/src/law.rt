@@ -4,7 +4,7 @@ ghost use Rattle.fz_block.specs.Checks.{hdu_at, header_blocks_of};
 ghost use Rattle.fz_checks.specs.declared.job_checks.PackedImage.{PackedImage};
 ghost use Rattle.fz_flat.specs.Fronts.{blocks_there, hdu_there, image_there_of};
 ghost use Rattle.fz_flat.specs.Lawful.{IsPackedImage};
-ghost use Rattle.fz_flat.specs.Laws.{IsFrontOf, PackedLaw, RowLaw, SaysBlocks, SaysHdu, SaysImage};
+ghost use Rattle.fz_flat.specs.Laws.{BytesLaw, FoundLaw, IsFrontOf, PackedLaw, RangesLaw, RowLaw, SaidLaw, SaysBlocks, SaysHdu, SaysImage};
 ghost use Rattle.fz_flat.specs.Plans.{flat_plan, image_there};
 ghost use Rattle.fz_flat.specs.declared.place.FzAt.{FzAt};
 
@@ -35,4 +35,14 @@ pub fn file_law()
     ensures { RowLaw }
 {
     row_in_law();
+}
+
+/// What is read of a box in a file is what the file says.
+pub fn box_law()
+    ensures rows { SaidLaw }
+    ensures found { FoundLaw }
+    ensures ranges { RangesLaw }
+    ensures records { BytesLaw }
+{
+    file_law();
 }
