@@ -7,7 +7,7 @@ from collections import Counter
 from dataclasses import dataclass, field
 from typing import Callable, Iterator, Optional
 
-from . import inside, names
+from . import beginnings, names
 
 LINK, SHUT, PIPE, COMPRESSED, OURS, OTHER, TIME, ONLY = "link", "shut", "pipe", "compressed", "ours", "other", "time", "only"
 # No manifest has room for this time in nanoseconds, for a later one, or for one before its negative.
@@ -22,6 +22,11 @@ ADVICE = {
     COMPRESSED: "it is in no archive of fzbatch: decompress it into the folder, and run fzbatch pack again; with --skip-compressed such files are left out",
     OTHER: "give it a name that ends with .fits, .fit or .fts, or move it away, and run fzbatch pack again; with --skip-compressed such files are left out",
     OURS: "among the packed files fzbatch uses this name for itself: give it another one, and run fzbatch pack again",
+}
+# What has the suffix of a FITS file in its name, and more after it: why it is left out, and what to do.
+NEARLY = {
+    beginnings.PLAIN: ("is a FITS file, and its name is not that of one", ADVICE[OTHER]),
+    beginnings.PACKED: ("is a FITS file that another program compressed, by its first bytes, and is in no archive", ADVICE[COMPRESSED]),
 }
 
 # Whether a name or a path is of some sort.
@@ -107,8 +112,9 @@ def _look(found: Scan, path: bytes, entry: os.DirEntry[bytes], wanted: Chooses, 
             found.files[path] = Found(path, it.st_size, it.st_mtime_ns)
         elif compressed(entry.name):
             found.left.append(Left(path, "is a FITS file that another program compressed, and is in no archive", ADVICE[COMPRESSED], COMPRESSED))
-        elif compressed is names.is_compressed_fits and names.is_nearly_fits(entry.name) and _begins_as_fits(found.root, path):
-            found.left.append(Left(path, "is a FITS file, and its name is not that of one", ADVICE[OTHER], COMPRESSED))
+        elif compressed is names.is_compressed_fits and names.is_nearly_fits(entry.name) and (what := beginnings.of(found.root, path)):
+            why, advice = NEARLY[what]
+            found.left.append(Left(path, why, advice, COMPRESSED))
         else:
             found.others[names.suffix_of(entry.name)] += 1
     elif stat.S_ISLNK(it.st_mode):
@@ -116,14 +122,6 @@ def _look(found: Scan, path: bytes, entry: os.DirEntry[bytes], wanted: Chooses, 
     elif is_wanted or compressed(entry.name):
         found.left.append(Left(path, "is no file, but a pipe, a socket or a device", ADVICE[PIPE], PIPE))
     return None
-
-
-def _begins_as_fits(root: bytes, path: bytes) -> bool:
-    try:
-        with inside.file(root, path) as number:
-            return os.pread(number, 10, 0) == b"SIMPLE  = "
-    except OSError:
-        return False
 
 
 def _link(found: Scan, path: bytes, entry: os.DirEntry[bytes], wanted: Chooses, of_plain: bool) -> None:

@@ -1,6 +1,9 @@
 """What a run did not look at is named: behind a pattern, a link, a shut folder, in a Slurm array, or under a name that means two files."""
 from __future__ import annotations
 
+import bz2
+import gzip
+import lzma
 import os
 import shutil
 import subprocess
@@ -91,6 +94,28 @@ class NothingLeft(Archive):
         self.assertEqual(self.run_it("share", self.plain, self.packed)[0], 0)
         (self.packed / "a.fits.fz").unlink()
         self.named("a.fits", "collect", self.packed)
+
+
+class CompressedByItsFirstBytes(Archive):
+    """A FITS file that another program compressed has more after that in its name, as wget and browsers give it: it is in no archive."""
+
+    def test_it_is_named(self) -> None:
+        data = image(9)
+        made = {"raw.fits.gz.1": gzip.compress(data), "raw.fits.1.gz": gzip.compress(data), "raw.fits (1).bz2": bz2.compress(data), "raw.fits.xz~": lzma.compress(data), "raw.fits.zst.part": b"\x28\xb5\x2f\xfd"}
+        damaged = bytearray(made["raw.fits.gz.1"])
+        damaged[3] ^= 255
+        made["raw.fits.gz.old"] = bytes(damaged)
+        for name, it in made.items():
+            (self.plain / name).write_bytes(it)
+        (self.plain / "raw.fits.log.gz").write_bytes(gzip.compress(b"10:00 exposure begins\n"))
+        for words in (("pack", self.plain, "--all"), ("missing", self.plain)):
+            status, said = self.run_it(*words)
+            self.assertEqual((status, said.count("another program compressed, by its first bytes")), (1, len(made)), said)
+            self.assertIn("1 file with other names, which fzbatch does not touch: 1 .log.gz.", said)
+        self.assertEqual(self.run_it("compare", self.plain)[0], 0)
+        self.assertIn("Safe to delete the originals: no, 6 files", self.run_it("report", self.plain, "-o", self.room / "r.html")[1])
+        self.packs("--skip-compressed")
+        self.assertEqual(self.run_it("missing", self.plain)[0], 0)
 
 
 class OnlyALink(Archive):
