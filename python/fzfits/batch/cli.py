@@ -12,7 +12,7 @@ from typing import Any, Callable, NoReturn, Optional, Sequence
 from .. import program, version
 from ..errors import FzError
 from ..pictures import NoPicture
-from . import asking, calls, engines, files, keep, lock, names, run, slurm, survey, verbs, words_of, work
+from . import asking, calls, engines, files, lock, names, run, slurm, survey, verbs, words_of, work
 from .adopt import words as adopted
 from .manifest import BadManifest
 from .messages import Settings
@@ -211,19 +211,9 @@ def _missing(asked: argparse.Namespace) -> int:
 
 
 def _forget(asked: argparse.Namespace) -> int:
-    _, packed = _folders(asked)
-    with lock.held(os.path.join(packed, names.LOCK)), run.open_manifest(packed) as manifest:
-        rows = {names.shown(it.path): it for it in manifest.rows()}
-        for name in asked.name:
-            row = rows.get(name)
-            if row is None:
-                raise run.Refuse(f"{name} is not in the manifest")
-            if row.done and survey.files_there(packed, names.packed_name(row.path)):
-                raise run.Refuse(f"{name} has a packed file, and is not forgotten")
-            manifest.forget(row.path)
-            print(f"forgotten: {name}")
-        for it in keep.keep(manifest, packed):
-            print(it)
+    from . import forget  # pylint: disable=import-outside-toplevel
+
+    forget.forget(_folders(asked)[1], asked.name, sys.stdout)
     return run.DONE
 
 

@@ -5,6 +5,9 @@ and a row that is gone are noticed. Others may have written the file: everything
 """
 from __future__ import annotations
 
+import os
+import secrets
+import socket
 import sqlite3
 import time
 from typing import Any, Iterator, Optional
@@ -227,6 +230,12 @@ class Manifest:
         # what earlier ones of pack left was looked at, whatever order the clock gives them
         pack = "verb LIKE 'pack%'"
         self._write(f"UPDATE runs SET ended = ?, said = ? WHERE ended IS NULL AND {pack} AND (SELECT {pack} FROM runs WHERE token = ?)", (now(), KILLED, token))
+        self.save()
+
+    def note(self, verb: str, began: str, said: str) -> None:
+        """Notes a run that is over, and saves it with what it changed: so a manifest from before it is an older one."""
+        ended = (secrets.token_hex(8), verb, names.told(socket.gethostname()), os.getpid(), began, now(), names.told(said))
+        self._write("INSERT INTO runs VALUES (?, ?, ?, ?, ?, ?, ?)", ended)
         self.save()
 
     def take(self, runs: Any) -> None:

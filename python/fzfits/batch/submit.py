@@ -8,7 +8,7 @@ from typing import Sequence, TextIO
 
 from . import advice, calls, faults, files, inside, keep, lock, machine, names, rebuild, rooms, slurm, survey, tries, work
 from .loop import Loop
-from .manifest import BadManifest, Manifest, Row
+from .manifest import BadManifest, Manifest, Row, now
 from .messages import Result, Settings, Task
 from .record import record
 from .scan import Left, scan_packed
@@ -38,6 +38,7 @@ def collect(packed: bytes, out: TextIO, drop: bool = False, all_names: bool = Fa
     if not files.there(slurm.tasks_file(packed)):
         raise BadManifest(f"no tasks of a Slurm array wait in {names.shown(packed)}")
     with lock.held(os.path.join(packed, names.LOCK)), checked(Manifest(os.path.join(packed, names.MANIFEST)), packed) as manifest:
+        began = now()
         settings, tasks = slurm.read(packed)
         rows = {it.path: it for it in manifest.rows()}
         tally = Tally(settings.verb)
@@ -61,6 +62,8 @@ def collect(packed: bytes, out: TextIO, drop: bool = False, all_names: bool = Fa
             manifest.end(settings.token, tally.last_line())
             slurm.clear(packed, settings.token)
         else:
+            if results:
+                manifest.note("collect", began, tally.last_line())
             tally.notes.append("The tasks stay: start the array again and collect once more, or end them by fzbatch collect --drop.")
         tally.notes += keep.keep(manifest, packed)
     tally.print(out, all_names)
@@ -101,6 +104,7 @@ def rebuilt(settings: Settings, out: TextIO, jobs: int, ignore_copy: bool = Fals
         if not tasks and not lost:
             raise BadManifest(f"{names.shown(packed)} has no packed file: is its disk mounted?")
         tally.notes.append(said)
+        began = now()
         rebuild.remove_unfinished(packed)
         rooms.remove_of_killed(packed)
         new = os.path.join(packed, names.MANIFEST + b".rebuilt-%s" % settings.token.encode())
@@ -111,7 +115,11 @@ def rebuilt(settings: Settings, out: TextIO, jobs: int, ignore_copy: bool = Fals
                         manifest.tell(name, value)
                 manifest.take(facts.get("runs", ()))
                 _fill(manifest, settings, jobs, tally, old, tasks, lost)
-                manifest.save()
+                for it in strange:
+                    tally.bad(it, *survey.UNKNOWN)
+                for left in scan_packed(packed).left:
+                    tally.bad(left.path, *survey.told_of(left))
+                manifest.note("rebuild", began, tally.last_line())
             # only now, so that a kill leaves the one that was there, or its second copy
             away = rebuild.move_away(packed)
             os.rename(new, os.path.join(packed, names.MANIFEST))
@@ -123,10 +131,6 @@ def rebuilt(settings: Settings, out: TextIO, jobs: int, ignore_copy: bool = Fals
         os.close(above)
         if away:
             tally.notes.append(f"The manifest that was there has the name {names.shown(away)} now.")
-        for it in strange:
-            tally.bad(it, *survey.UNKNOWN)
-        for left in scan_packed(packed).left:
-            tally.bad(left.path, *survey.told_of(left))
         with Manifest(os.path.join(packed, names.MANIFEST)) as manifest:
             tally.notes += survey.notes_of(manifest, list(manifest.rows()), packed)
             tally.notes += keep.keep(manifest, packed)

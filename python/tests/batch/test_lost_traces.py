@@ -69,6 +69,45 @@ class OlderManifest(Archive):
         shutil.copy(self.room / "other.fz" / "fzbatch.sqlite", self.packed / "fzbatch.sqlite")
         self.rejected()
 
+    def older(self, *words: object, status: int) -> None:
+        """After a command the manifest from before it is an older one."""
+        shutil.copy(self.packed / "fzbatch.sqlite", self.room / "backup")
+        found, said = self.run_it(*words)
+        self.assertEqual(found, status, said)
+        after = (self.packed / "fzbatch.sqlite").read_bytes()
+        shutil.copy(self.room / "backup", self.packed / "fzbatch.sqlite")
+        for verb in ("missing", "status", "verify", "pack"):
+            found, said = self.run_it(verb, self.plain, self.packed)
+            self.assertEqual((found, "knows later runs" in said), (2, True), f"{words}, then {verb}: {said}")
+        (self.packed / "fzbatch.sqlite").write_bytes(after)
+
+    def test_from_before_a_rebuild(self) -> None:
+        """What the rebuild found is not forgotten by a backup of the manifest from before it."""
+        self.packs()
+        flip(self.packed / "a.fits.fz")
+        self.older("rebuild", self.packed, "--again", status=1)
+        self.looks("a.fits")
+
+    def test_from_before_a_forget(self) -> None:
+        self.packs()
+        self.lose("a.fits")
+        status, said = self.run_it("forget", self.packed, "--name", "a.fits", "--name", "n/b.fits")
+        self.assertEqual((status, "n/b.fits has a packed file" in said), (2, True), said)
+        self.looks("a.fits")
+        self.older("forget", self.packed, "--name", "a.fits", status=0)
+        self.assertEqual(self.run_it("missing", self.plain)[0], 0)
+
+    def test_from_before_a_part_was_collected(self) -> None:
+        self.packs()
+        self.assertEqual(self.run_it("verify", self.packed, "--engine", "slurm")[0], 0)
+        flip(self.packed / "a.fits.fz")
+        with mock.patch.dict(os.environ, {"SLURM_ARRAY_TASK_ID": "0", "SLURM_ARRAY_TASK_COUNT": "2"}):
+            self.assertEqual(self.run_it("share", self.plain, self.packed)[0], 1)
+        shutil.copy(self.packed / "fzbatch.sqlite", self.room / "backup")
+        self.named("a.fits", "collect", self.packed)
+        shutil.copy(self.room / "backup", self.packed / "fzbatch.sqlite")
+        self.assertEqual(self.run_it("missing", self.packed)[0], 2)
+
     def test_a_rebuild_that_was_killed_is_not_older(self) -> None:
         """It is killed after the new manifest got its name, and before the second copy is written."""
         self.packs()
