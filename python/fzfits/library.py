@@ -25,7 +25,9 @@ PLACES = (HERE / "_lib" / SONAME, HERE / "_lib" / "libfz.so", HERE.parents[1] / 
 TO_DO = f"make lib builds it in a checkout and make install installs it; or set {NAMED_BY} to its path."
 
 # The kinds of what a call refuses, for the case that docs/REFUSALS.md is nowhere; the answer is minus the number.
-KINDS = {18: "DescriptorRange", 21: "CodeShort", 22: "CodeValue", 23: "LineList", 24: "PixelRange", 25: "TileSize"}
+KINDS = {21: "CodeShort", 22: "CodeValue", 23: "LineList", 24: "PixelRange", 25: "TileSize"}
+# What fzfits.astropy says of a row before any call is made.
+ROW_KINDS = {18: "DescriptorRange"}
 # The other answers: the caller asks for something that there is not.
 ARGUMENTS = {
     -101: "no such codec, or not with this block, bytepix or BITPIX: block is 1 to 32,767 and bytepix 1, 2 or 4 (the bytes of a pixel, if a tile is encoded), and 64 bits are only stored",
@@ -112,7 +114,8 @@ def check(answer: int) -> None:
     """Raises what an answer below 0 means: `BadCode` if the bytes are at fault, `BadArgument` if the caller is."""
     if answer >= 0:
         return
-    if -answer in KINDS:
+    kinds = {**KINDS, **ROW_KINDS}
+    if -answer in kinds:
         told = kind(-answer)
-        raise BadCode(-answer, told.name if told else KINDS[-answer], meaning=told.text if told else "")
+        raise BadCode(-answer, told.name if told else kinds[-answer], meaning=told.text if told else "")
     raise BadArgument(ARGUMENTS.get(answer, f"libfz answers {answer}"), answer)
