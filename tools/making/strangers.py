@@ -112,6 +112,9 @@ def zipped(source, target, _rng, _number):
     Path(target).write_bytes(gzip.compress(Path(source).read_bytes()))
 
 
+# Floats are dithered from a seed of their own, and not from the clock: whether a damaged code still decodes is then the same in each run.
+DITHERED = "-r", "-q1", "4"
+
 # Each kind: its plain file, whether that has checksums, how it is packed, and the suffix of its name.
 KINDS = {
     "plain with sums": ("int16", True, None, ".fits"),
@@ -131,12 +134,12 @@ KINDS = {
     "fpack gzip, no sums": ("int16", False, fpacked("-g", "-C"), ".fits.fz"),
     "fpack gzip2, no sums": ("int32", False, fpacked("-g2", "-C"), ".fits.fz"),
     "fpack hcompress": ("int16", True, fpacked("-h"), ".fits.fz"),
-    "fpack float": ("float32", True, fpacked("-r"), ".fits.fz"),
-    "fpack float, no sums": ("float32", False, fpacked("-r", "-C"), ".fits.fz"),
+    "fpack float": ("float32", True, fpacked(*DITHERED), ".fits.fz"),
+    "fpack float, no sums": ("float32", False, fpacked(*DITHERED, "-C"), ".fits.fz"),
     "fpack float lossless": ("float32", True, fpacked("-g", "-q", "0"), ".fits.fz"),
     "fpack several": ("several", True, fpacked("-r"), ".fits.fz"),
-    "fpack floats among": ("floats among", True, fpacked("-r"), ".fits.fz"),
-    "fpack floats among, own sums only": ("floats among", True, fpacked("-r", "-C"), ".fits.fz"),
+    "fpack floats among": ("floats among", True, fpacked(*DITHERED), ".fits.fz"),
+    "fpack floats among, own sums only": ("floats among", True, fpacked(*DITHERED, "-C"), ".fits.fz"),
     "fpack table": ("table", True, fpacked("-table"), ".fits.fz"),
     "astropy rice": ("int16", False, by_astropy("RICE_1", True), ".fits.fz"),
     "astropy rice, no sums": ("int16", False, by_astropy("RICE_1", False), ".fits.fz"),
